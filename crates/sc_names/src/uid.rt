@@ -1,0 +1,27 @@
+//! Uids of entities.
+ghost use Rattle.std.specs.Prelude.{◌≡◌, IfOk};
+
+use crate::name::Name;
+use sc_lists::Text;
+use std::alloc::{AllocError, Global};
+
+/// An entity's uid: its type's name and its id. Uids are ordered by type, then id, both by bytes.
+#[derive(Debug, PartialEq, Eq, PartialOrd, Ord, Drop)]
+pub struct Uid {
+    /// The name of the entity's type.
+    pub type_name: Name,
+    /// The entity's id, any text.
+    pub id: Text,
+}
+
+impl Uid {
+    /// A copy, which equals the uid.
+    pub fn try_clone(&self, alloc: Global) -> Result<Uid, AllocError>
+        ensures { IfOk result (λ uid. uid ≡ self.now) }
+    {
+        Ok(Uid {
+            type_name: self.type_name.try_clone(alloc)?,
+            id: self.id.try_clone(alloc)?,
+        })
+    }
+}
