@@ -1,0 +1,41 @@
+-- What a schema declares.
+use Rattle.std.specs.Prelude.{◌≡◌, ◌&&◌, ℕ, List, [], ◌∷◌, map, Bool, true, false, Option, Some, None, option_map, find, if◌then◌else◌}
+use Rattle.std.specs.List.{flat_map, list_any}
+use Rattle.std.specs.Str.{bytes_eq}
+use Rattle.sc_names.specs.declared.uid.Uid.{Uid}
+use Rattle.sc_schema.specs.declared.ty.Ty.{Ty}
+use Rattle.sc_schema.specs.declared.ty.Ty.TheVariants.{Record}
+use Rattle.sc_schema.specs.declared.declarations.EntityType.{EntityType}
+use Rattle.sc_schema.specs.declared.declarations.Action.{Action}
+use Rattle.sc_schema.specs.declared.declarations.Env.{Env}
+
+-- the entity types, ascending by name, and the actions, ascending by uid
+pub record Declarations : Type 0 where
+  pub types : List EntityType
+  pub actions : List Action
+
+abbrev pub environment : Action → List ℕ → List ℕ → Env
+environment a principal resource = record { principal = principal; action = a.uid; resource = resource }
+
+-- the environments of requests for one action
+abbrev pub environments_for : Action → List Env
+environments_for a = flat_map (λ p. map (environment a p) a.resources) a.principals
+
+-- the environments, in the order of action, principal type and resource type
+abbrev pub environments : Declarations → List Env
+environments s = flat_map environments_for s.actions
+
+abbrev pub uid_eq : Uid → Uid → Bool
+uid_eq a b = bytes_eq a.type_name b.type_name && bytes_eq a.id b.id
+
+-- the declaration of an entity type
+abbrev pub entity_type : Declarations → List ℕ → Option EntityType
+entity_type s name = find (λ t. bytes_eq name t.name) s.types
+
+-- the declaration of an action
+abbrev pub action : Declarations → Uid → Option Action
+action s u = find (λ a. uid_eq u a.uid) s.actions
+
+-- whether a type is one of actions
+abbrev pub is_action_type : Declarations → List ℕ → Bool
+is_action_type s name = list_any (λ a. bytes_eq name a.uid.type_name) s.actions

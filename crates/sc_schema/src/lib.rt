@@ -1,0 +1,10 @@
+//! Schemas: types, entity types, actions and the environments of requests.
+#![tactic(auto)]
+
+mod declarations;
+mod schema;
+mod ty;
+
+pub use declarations::{Action, EntityType, Env};
+pub use schema::{Schema, environments};
+pub use ty::{Attributes, Presence, Ty};
