@@ -1,6 +1,7 @@
 -- What a schema declares.
-use Rattle.std.specs.Prelude.{◌≡◌, ◌&&◌, ℕ, List, [], ◌∷◌, map, Bool, true, false, Option, Some, None, option_map, find, if◌then◌else◌}
+use Rattle.std.specs.Prelude.{◌&&◌, ℕ, List, [], map, Bool, Option, Some, None, option_map, option_and_then, find, if◌then◌else◌}
 use Rattle.std.specs.List.{flat_map, list_any}
+use Rattle.std.specs.Option.{option_map_or}
 use Rattle.std.specs.Str.{bytes_eq}
 use Rattle.sc_names.specs.declared.uid.Uid.{Uid}
 use Rattle.sc_schema.specs.declared.ty.Ty.{Ty}
@@ -39,3 +40,23 @@ action s u = find (λ a. uid_eq u a.uid) s.actions
 -- whether a type is one of actions
 abbrev pub is_action_type : Declarations → List ℕ → Bool
 is_action_type s name = list_any (λ a. bytes_eq name a.uid.type_name) s.actions
+
+-- the type of an entity's attributes: its type's shape, and none for an action
+abbrev pub attrs_of : Declarations → List ℕ → Option Ty
+attrs_of s name = if is_action_type s name then Some (Record []) else option_map (λ (t : EntityType). t.shape) (entity_type s name)
+
+-- the type of the values of an entity's tags, where entities of its type have tags
+abbrev pub tags_of : Declarations → List ℕ → Option Ty
+tags_of s name = if is_action_type s name then None else option_and_then (λ (t : EntityType). t.tags) (entity_type s name)
+
+-- the types that an entity's ancestors may have: those that its type declares, and for an action those of the actions
+-- that actions of its type are in
+abbrev pub ancestor_types : Declarations → List ℕ → List (List ℕ)
+ancestor_types s name =
+    if is_action_type s name
+    then flat_map (λ (a : Action). if bytes_eq name a.uid.type_name then map (λ (u : Uid). u.type_name) a.ancestors else []) s.actions
+    else option_map_or (λ (t : EntityType). t.ancestors) (entity_type s name) []
+
+-- the type of the context of requests for an action
+abbrev pub context_of : Declarations → Uid → Option Ty
+context_of s u = option_map (λ (a : Action). a.context) (action s u)
