@@ -1,0 +1,19 @@
+-- Counts of faults: a failure is never answered without one.
+use Rattle.std.specs.Prelude.{ℕ, ◌+◌, ◌-◌, ◌^◌, ◌≤◌, min}
+
+-- where a count stands still
+abbrev pub last_count : ℕ
+last_count = 2 ^ 64 - 1
+
+-- the count after one more fault
+abbrev pub next_count : ℕ → ℕ
+next_count count = min (count + 1) last_count
+
+-- there was a fault: the count went up, or stands at its last value
+abbrev pub Rose : ℕ → ℕ → Type 0
+Rose before now = next_count before ≤ now
+
+-- what a call does to a count: it never falls, and it rose where the call failed
+pub record Counts (before now : ℕ) (failed : Type 0) : Type 0 where
+  pub later : before ≤ now
+  pub rose : failed → Rose before now

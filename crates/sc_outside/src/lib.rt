@@ -1,0 +1,19 @@
+//! What lies outside the program: named files, and a place to write to.
+//!
+//! `Files` tells what a file holds and `Sink` what was written, where that can be told: of files and
+//! a sink in memory it is, of those of the system nothing is. Either way a failure is answered only
+//! where a count of faults rose in that call.
+#![tactic(auto)]
+
+mod count;
+mod faults;
+mod memory;
+mod never_fails;
+mod system;
+mod traits;
+
+pub use faults::{FileFault, SinkFault};
+pub use memory::{MemFiles, MemSink};
+pub use never_fails::NeverFails;
+pub use system::{RealFiles, RealSink};
+pub use traits::{Files, Sink};

@@ -1,0 +1,49 @@
+//! What the program reads from, and what it writes to.
+ghost use Rattle.std.specs.Prelude.{◌≡◌, ◌≤◌, ℕ, List, length, Option, Err, IfOk, IfSome};
+ghost use Rattle.sc_outside.specs.Counts.{Counts, last_count};
+ghost use Rattle.sc_outside.specs.Reads.{Reads};
+ghost use Rattle.sc_outside.specs.Writes.{Writes};
+
+use crate::faults::{FileFault, SinkFault};
+use std::alloc::Global;
+
+/// Named files.
+pub trait Files {
+    /// What the file of a name holds, where that is told.
+    ghost content: { Self → List ℕ → Option (List ℕ) };
+
+    /// How often the source failed, up to 18446744073709551615.
+    ghost faults: { Self → ℕ };
+
+    /// All bytes of a file, which may have `limit` of them.
+    ///
+    /// `TooLong` comes where it has more, and `Failed` only where the source failed in this call.
+    fn read(&mut self, alloc: Global, name: &str, limit: u64) -> Result<Vec<u8>, FileFault>
+        ensures told { IfSome (content self.old name.now) (λ bytes. Reads bytes limit result) }
+        ensures within { IfOk result (λ bytes. length bytes.items ≤ limit) }
+        ensures keeps { (other : List ℕ) → content self.new other ≡ content self.old other }
+        ensures counts { Counts (faults self.old) (faults self.new) (result ≡ Err FileFault.Failed) };
+
+    /// A count stands still at its last value.
+    ghost bounded: { (s : Self) → faults s ≤ last_count };
+}
+
+/// A place to write to.
+pub trait Sink {
+    /// All that was written, where that is told.
+    ghost written: { Self → Option (List ℕ) };
+
+    /// How often the sink failed, up to 18446744073709551615.
+    ghost faults: { Self → ℕ };
+
+    /// Writes a piece behind all that was written.
+    ///
+    /// `Failed` comes only where the sink failed in this call, and then a front of the piece may have
+    /// been written. Where memory runs out nothing was.
+    fn write(&mut self, piece: &[u8]) -> Result<(), SinkFault>
+        ensures text { Writes (written self.old) (written self.new) piece.now result }
+        ensures counts { Counts (faults self.old) (faults self.new) (result ≡ Err SinkFault.Failed) };
+
+    /// A count stands still at its last value.
+    ghost bounded: { (s : Self) → faults s ≤ last_count };
+}
