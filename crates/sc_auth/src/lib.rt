@@ -1,0 +1,6 @@
+//! What policies decide in a world.
+#![tactic(auto)]
+
+mod decision;
+
+pub use decision::Decision;

@@ -1,0 +1,25 @@
+//! Why an expression has no value.
+use thiserror::Error;
+
+/// Why an expression has no value.
+#[derive(Clone, Copy, Debug, PartialEq, Eq, PartialOrd, Ord, Error)]
+pub enum EvalError {
+    /// A value is of another kind than its place asks for.
+    #[error("a value of another kind")]
+    TypeError,
+    /// A number leaves 64 bits.
+    #[error("a number past 64 bits")]
+    Overflow,
+    /// An attribute or a tag is read from an entity that isn't stored.
+    #[error("no such entity")]
+    EntityMissing,
+    /// A record or an entity lacks an attribute.
+    #[error("no such attribute")]
+    AttrMissing,
+    /// An entity lacks a tag.
+    #[error("no such tag")]
+    TagMissing,
+    /// The text of a decimal number or of an address doesn't read.
+    #[error("a text that doesn't read")]
+    BadText,
+}

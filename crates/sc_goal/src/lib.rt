@@ -1,0 +1,6 @@
+//! The questions that are asked of policy sets.
+#![tactic(auto)]
+
+mod question;
+
+pub use question::Question;
