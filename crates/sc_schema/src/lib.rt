@@ -6,5 +6,5 @@ mod schema;
 mod ty;
 
 pub use declarations::{Action, EntityType, Env};
-pub use schema::{Schema, environments};
+pub use schema::{Schema, context_of, environments};
 pub use ty::{Attributes, Presence, Ty};

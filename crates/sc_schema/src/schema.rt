@@ -1,12 +1,13 @@
 //! Schemas.
-ghost use Rattle.std.specs.Prelude.{◌≡◌, ◌++◌, map, IfOk, OnOk};
+ghost use Rattle.std.specs.Prelude.{◌≡◌, ◌++◌, map, find, IfOk, OnOk};
 ghost use Rattle.std.specs.List.{flat_map};
-ghost use Rattle.sc_names.specs.declared.uid.Uid.{Uid};
-ghost use Rattle.sc_schema.specs.Declarations.{Declarations, environments_for, environments, environment};
+ghost use Rattle.std.specs.Option.{option_copied};
+ghost use Rattle.sc_schema.specs.Declarations.{Declarations, environments_for, environments, environment, context_of, uid_eq};
 
 use crate::declarations::{Action, EntityType, Env};
+use crate::ty::Ty;
 use sc_lists::Seq;
-use sc_names::Name;
+use sc_names::{Name, Uid};
 use std::alloc::{AllocError, Global};
 use std::marker::Model;
 
@@ -70,6 +71,33 @@ pub fn environments(s: &Schema) -> &[Env]
     ensures { result.now ≡ environments s.now }
 {
     s.environment_list.as_slice()
+}
+
+/// The type of the context of requests for an action. None exactly where the action isn't declared.
+pub fn context_of<'s>(s: &'s Schema, action: &Uid) -> Option<&'s Ty>
+    ensures { option_copied result ≡ context_of s.now action.now }
+{
+    match action_among(s.declared_actions(), action) {
+        Some(declared) => Some(&declared.context),
+        None => None,
+    }
+}
+
+fn action_among<'s>(actions: &'s [Action], uid: &Uid) -> Option<&'s Action>
+    ensures { option_copied result ≡ find (λ a. uid_eq uid.now a.uid) actions.now }
+{
+    for action in actions {
+        if is_same(uid, &action.uid) {
+            return Some(action);
+        }
+    }
+    None
+}
+
+fn is_same(a: &Uid, b: &Uid) -> bool
+    ensures { result ≡ uid_eq a.now b.now }
+{
+    a.type_name.as_str() == b.type_name.as_str() && a.id.is_same(&b.id)
 }
 
 fn environments_of(alloc: Global, actions: &[Action]) -> Result<Seq<Env>, AllocError>

@@ -1,0 +1,9 @@
+//! The problem whether some well-formed world makes a goal true: its terms, its listed atoms, and
+//! the clauses that define them.
+#![tactic(auto)]
+
+mod problem;
+mod term;
+
+pub use problem::{Problem, close, defining};
+pub use term::Term;
