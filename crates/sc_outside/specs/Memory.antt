@@ -1,5 +1,5 @@
 -- Files and a sink in memory, of which the calls of given numbers fail.
-use Rattle.std.specs.Prelude.{◌≡◌, ◌⊎◌, ◌++◌, ℕ, List, take, nat_eq, Vec, String, Option, Some, None, option_map, Contains, Result, Ok, Err}
+use Rattle.std.specs.Prelude.{◌≡◌, ◌++◌, ℕ, List, take, nat_eq, Vec, String, Option, Some, None, option_map, Result, Ok, Err}
 use Rattle.std.specs.Global.{Global}
 use Rattle.std.specs.List.{find}
 use Rattle.std.specs.BTreeMap.{BTreeMap, get_by_text}
