@@ -1,3 +1,4 @@
 pub mod Counts
+pub mod Memory
 pub mod Reads
 pub mod Writes

@@ -1,7 +1,6 @@
 -- What a source of files tells of them.
-use Rattle.std.specs.Prelude.{◌≡◌, ◌≤◌, ◌<◌, ℕ, List, length, Vec, String, Option, option_map, Result, Ok, Err, ⊤}
+use Rattle.std.specs.Prelude.{◌≡◌, ◌≤◌, ◌<◌, ℕ, List, length, Vec, Result, Ok, Err, ⊤}
 use Rattle.std.specs.Global.{Global}
-use Rattle.std.specs.BTreeMap.{BTreeMap, get_by_text}
 use Rattle.sc_outside.specs.declared.faults.FileFault.{FileFault}
 use Rattle.sc_outside.specs.declared.faults.FileFault.TheVariants.{Failed, TooLong, NoMemory}
 
@@ -11,7 +10,3 @@ Reads content limit (Ok bytes) = (bytes.items ≡ content) × (length content �
 Reads content limit (Err TooLong) = limit < length content
 Reads content limit (Err Failed) = ⊤
 Reads content limit (Err NoMemory) = ⊤
-
--- what the file of a name holds, where there is one
-abbrev pub content_in : BTreeMap (String Global) (Vec ℕ Global) → List ℕ → Option (List ℕ)
-content_in files name = option_map (λ bytes. bytes.items) (get_by_text files name)

@@ -1,4 +1,5 @@
 //! Why a file wasn't read, or a piece wasn't written.
+use std::alloc::AllocError;
 use thiserror::Error;
 
 /// Why a file wasn't read.
@@ -15,6 +16,17 @@ pub enum FileFault {
     NoMemory,
 }
 
+impl From<AllocError> for FileFault {
+    ghost use Rattle.std.specs.Prelude.{◌≡◌};
+    ghost use Rattle.sc_outside.specs.declared.faults.FileFault.TheVariants.{NoMemory};
+
+    ghost from_gives = { λ _ fault. fault ≡ NoMemory };
+
+    fn from(_error: AllocError) -> FileFault {
+        FileFault::NoMemory
+    }
+}
+
 /// Why a piece wasn't written.
 #[derive(Clone, Copy, Debug, PartialEq, Eq, Error)]
 pub enum SinkFault {
@@ -24,4 +36,15 @@ pub enum SinkFault {
     /// Memory ran out.
     #[error("out of memory")]
     NoMemory,
+}
+
+impl From<AllocError> for SinkFault {
+    ghost use Rattle.std.specs.Prelude.{◌≡◌};
+    ghost use Rattle.sc_outside.specs.declared.faults.SinkFault.TheVariants.{NoMemory};
+
+    ghost from_gives = { λ _ fault. fault ≡ NoMemory };
+
+    fn from(_error: AllocError) -> SinkFault {
+        SinkFault::NoMemory
+    }
 }

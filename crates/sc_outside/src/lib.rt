@@ -10,6 +10,8 @@ mod faults;
 mod memory;
 mod never_fails;
 mod system;
+#[cfg(test)]
+mod tests;
 mod traits;
 
 pub use faults::{FileFault, SinkFault};

@@ -1,7 +1,9 @@
 //! Files and a sink in memory, of which the calls of given numbers fail.
-ghost use Rattle.std.specs.Prelude.{◌≡◌, ◌≢◌, ℕ, List, [], Some, Err};
-ghost use Rattle.sc_outside.specs.Counts.{next_count};
-ghost use Rattle.sc_outside.specs.Reads.{Reads, content_in};
+ghost use Rattle.std.specs.Prelude.{◌≡◌, ◌≢◌, ◌≤◌, ◌↔◌, ◌⊎◌, ℕ, List, [], length, Some, None, Err, Contains, IfOk, IfSome};
+ghost use Rattle.sc_outside.specs.Counts.{Counts, next_count};
+ghost use Rattle.sc_outside.specs.Memory.{content_in, kept_of, KeepsOf};
+ghost use Rattle.sc_outside.specs.Reads.{Reads};
+ghost use Rattle.sc_outside.specs.Writes.{Writes};
 
 use crate::count::FaultCount;
 use crate::faults::{FileFault, SinkFault};
@@ -22,6 +24,8 @@ impl MemFiles {
     /// These files, each with its bytes. The calls whose number, counted from 0, is in `failing` fail.
     pub fn new(files: BTreeMap<String, Vec<u8>>, failing: Vec<u64>) -> MemFiles
         ensures content { (name : List ℕ) → ⟦<MemFiles as Files>⟧.content result name ≡ content_in files name }
+        ensures failing { result.failing ≡ failing }
+        ensures calls { result.calls ≡ 0 }
         ensures faults { ⟦<MemFiles as Files>⟧.faults result ≡ 0 }
     {
         MemFiles {
@@ -30,15 +34,6 @@ impl MemFiles {
             calls: 0,
             faults: FaultCount::new(),
         }
-    }
-
-    fn fail(&mut self) -> FileFault
-        ensures fault { result ≡ FileFault.Failed }
-        ensures files { self.new.files ≡ self.old.files }
-        ensures counted { self.new.faults.count ≡ next_count self.old.faults.count }
-    {
-        self.faults.raise();
-        FileFault::Failed
     }
 }
 
@@ -49,15 +44,29 @@ impl Files for MemFiles {
 
     ghost bounded = { λ s. s.faults.within };
 
-    fn read(&mut self, alloc: Global, name: &str, limit: u64) -> Result<Vec<u8>, FileFault> {
+    fn read(&mut self, alloc: Global, name: &str, limit: u64) -> Result<Vec<u8>, FileFault>
+        ensures told { IfSome (content_in self.old.files name.now) (λ bytes. Reads bytes limit result) }
+        ensures within { IfOk result (λ bytes. length bytes.items ≤ limit) }
+        ensures keeps { (other : List ℕ) → content_in self.new.files other ≡ content_in self.old.files other }
+        ensures counts { Counts self.old.faults.count self.new.faults.count (result ≡ Err FileFault.Failed) }
+
+        // It fails exactly where it is told to, or the name isn't there.
+        ensures fails { (result ≡ Err FileFault.Failed) ↔ ((Contains self.old.failing.items self.old.calls) ⊎ (content_in self.old.files name.now ≡ None)) }
+        ensures failing { self.new.failing ≡ self.old.failing }
+        ensures calls { self.new.calls ≡ next_count self.old.calls }
+    {
         let call = self.calls;
         self.calls = call.saturating_add(1);
         if self.failing.contains(&call) {
-            return Err(self.fail());
+            self.faults.raise();
+            return Err(FileFault::Failed);
         }
         match self.files.get(name) {
             Some(bytes) => copy_within(alloc, bytes, limit),
-            None => Err(self.fail()),
+            None => {
+                self.faults.raise();
+                Err(FileFault::Failed)
+            }
         }
     }
 }
@@ -70,10 +79,7 @@ pub(crate) fn copy_within(alloc: Global, bytes: &[u8], limit: u64) -> Result<Vec
     if bytes.len() as u64 > limit {
         return Err(FileFault::TooLong);
     }
-    match Vec::from_slice(alloc, bytes) {
-        Ok(copy) => Ok(copy),
-        Err(_) => Err(FileFault::NoMemory),
-    }
+    Ok(Vec::from_slice(alloc, bytes)?)
 }
 
 /// A sink in memory. Of the calls of given numbers only a front of the piece is kept.
@@ -87,9 +93,11 @@ pub struct MemSink {
 
 impl MemSink {
     /// An empty sink. A call whose number, counted from 0, is in `failing` fails, and keeps at most as
-    /// many bytes as stand beside its number.
+    /// many bytes as stand beside its number there.
     pub fn new(alloc: Global, failing: Vec<(u64, usize)>) -> MemSink
         ensures written { ⟦<MemSink as Sink>⟧.written result ≡ Some [] }
+        ensures failing { result.failing ≡ failing }
+        ensures calls { result.calls ≡ 0 }
         ensures faults { ⟦<MemSink as Sink>⟧.faults result ≡ 0 }
     {
         MemSink {
@@ -108,16 +116,6 @@ impl MemSink {
     }
 }
 
-/// How many bytes the call of a number keeps, where it fails.
-fn kept_of(failing: &[(u64, usize)], call: u64) -> Option<usize> {
-    for (number, kept) in failing {
-        if *number == call {
-            return Some(*kept);
-        }
-    }
-    None
-}
-
 impl Sink for MemSink {
     ghost written = { λ s. Some s.written.items };
 
@@ -125,20 +123,32 @@ impl Sink for MemSink {
 
     ghost bounded = { λ s. s.faults.within };
 
-    fn write(&mut self, piece: &[u8]) -> Result<(), SinkFault> {
+    fn write(&mut self, piece: &[u8]) -> Result<(), SinkFault>
+        ensures text { Writes (Some self.old.written.items) (Some self.new.written.items) piece.now result }
+        ensures counts { Counts self.old.faults.count self.new.faults.count (result ≡ Err SinkFault.Failed) }
+
+        // It fails exactly where it is told to.
+        ensures kept { KeepsOf (kept_of self.old.failing.items self.old.calls) self.old.written.items self.new.written.items piece.now result }
+        ensures failing { self.new.failing ≡ self.old.failing }
+        ensures calls { self.new.calls ≡ next_count self.old.calls }
+    {
         let call = self.calls;
         self.calls = call.saturating_add(1);
-        let Some(kept) = kept_of(&self.failing, call) else {
-            return match self.written.extend_from_slice(piece) {
-                Ok(()) => Ok(()),
-                Err(_) => Err(SinkFault::NoMemory),
-            };
+        let Some(kept) = kept_by(&self.failing, call) else {
+            self.written.extend_from_slice(piece)?;
+            return Ok(());
         };
         let front = &piece[..kept.min(piece.len())];
-        if self.written.extend_from_slice(front).is_err() {
-            return Err(SinkFault::NoMemory);
-        }
+        self.written.extend_from_slice(front)?;
         self.faults.raise();
         Err(SinkFault::Failed)
     }
+}
+
+/// How many bytes the call of a number keeps, where it fails.
+fn kept_by(failing: &[(u64, usize)], call: u64) -> Option<usize>
+    ensures { result ≡ kept_of failing.now call }
+{
+    let (_, kept) = failing.iter().find(|(number, _)| *number == call)?;
+    Some(*kept)
 }

@@ -1,7 +1,7 @@
 //! Files and a sink that never fail.
 ghost use Rattle.std.specs.Prelude.{◌≡◌, [], Some, unwrap_or};
 ghost use Rattle.std.proofs.Common.{rules};
-ghost use Rattle.sc_outside.specs.Reads.{content_in};
+ghost use Rattle.sc_outside.specs.Memory.{content_in};
 
 use crate::faults::{FileFault, SinkFault};
 use crate::memory::copy_within;
@@ -55,9 +55,7 @@ impl Sink for NeverFails<Vec<u8>> {
     ghost bounded = { λ _. Prim.search rules };
 
     fn write(&mut self, piece: &[u8]) -> Result<(), SinkFault> {
-        match self.inner.extend_from_slice(piece) {
-            Ok(()) => Ok(()),
-            Err(_) => Err(SinkFault::NoMemory),
-        }
+        self.inner.extend_from_slice(piece)?;
+        Ok(())
     }
 }

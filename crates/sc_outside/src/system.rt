@@ -1,17 +1,17 @@
 //! The files and the standard output of the system. Nothing is told of their bytes.
-ghost use Rattle.std.specs.Prelude.{◌≡◌, None};
-ghost use Rattle.sc_outside.specs.Counts.{next_count};
+ghost use Rattle.std.specs.Prelude.{◌≡◌, ◌≢◌, ◌≤◌, ◌+◌, ◌↔◌, length, max, vec_capacity, Err, None, IfOk, OnErr};
+ghost use Rattle.std.specs.IoError.{error_kind};
 
 use crate::count::FaultCount;
 use crate::faults::{FileFault, SinkFault};
 use crate::traits::{Files, Sink};
-use std::alloc::Global;
+use std::alloc::{AllocError, Global};
 use std::fs::File;
-use std::io::{ErrorKind, Read, Write};
+use std::io::{ErrorKind, Read};
 use std::{io, rt};
 
-/// How many bytes a read takes at most.
-const PIECE: u64 = 8192;
+/// How many bytes are taken at a time, at most.
+const PIECE: usize = 8192;
 
 /// The files of the system.
 #[derive(Drop)]
@@ -23,20 +23,12 @@ pub struct RealFiles<'a, R> {
 impl<'a, R: rt::Files> RealFiles<'a, R> {
     /// The files that this runtime opens.
     pub fn new(rt: &'a R) -> RealFiles<'a, R>
-        ensures faults { result.faults.count ≡ 0 }
+        ensures faults { ⟦<RealFiles<'a, R> as Files>⟧.faults result ≡ 0 }
     {
         RealFiles {
             rt,
             faults: FaultCount::new(),
         }
-    }
-
-    fn fail(&mut self) -> FileFault
-        ensures fault { result ≡ FileFault.Failed }
-        ensures counted { self.new.faults.count ≡ next_count self.old.faults.count }
-    {
-        self.faults.raise();
-        FileFault::Failed
     }
 }
 
@@ -47,36 +39,68 @@ impl<R: rt::Files> Files for RealFiles<'_, R> {
 
     ghost bounded = { λ s. s.faults.within };
 
-    /// Takes at most `limit` bytes and one more, which tells that the file is too long.
     fn read(&mut self, alloc: Global, name: &str, limit: u64) -> Result<Vec<u8>, FileFault> {
-        let mut file = match File::open(self.rt, name) {
-            Ok(file) => file,
-            Err(error) if error.kind() == ErrorKind::OutOfMemory => {
-                return Err(FileFault::NoMemory);
-            }
-            Err(_) => return Err(self.fail()),
-        };
-        let mut bytes = Vec::new(alloc);
-        let mut buffer = [0u8; PIECE as usize];
-        for _ in 0..u64::MAX {
-            let room = limit - bytes.len() as u64;
-            let most = room.saturating_add(1).min(PIECE) as usize;
-            let count = match file.read(&mut buffer[..most]) {
-                Ok(count) => count,
-                Err(error) if error.kind() == ErrorKind::Interrupted => continue,
-                Err(_) => return Err(self.fail()),
-            };
-            if count == 0 {
-                return Ok(bytes);
-            }
-            if count as u64 > room {
-                return Err(FileFault::TooLong);
-            }
-            if bytes.extend_from_slice(&buffer[..count]).is_err() {
-                return Err(FileFault::NoMemory);
-            }
+        let read = bytes_of(self.rt, alloc, name, limit);
+        if matches!(&read, Err(FileFault::Failed)) {
+            self.faults.raise();
         }
-        Err(self.fail())
+        read
+    }
+}
+
+/// All bytes of a file. Of a file with more than `limit` bytes one more than these is taken, which
+/// tells that it is too long.
+fn bytes_of<R: rt::Files>(
+    rt: &R,
+    alloc: Global,
+    name: &str,
+    limit: u64,
+) -> Result<Vec<u8>, FileFault>
+    ensures within { IfOk result (λ bytes. length bytes.items ≤ limit) }
+{
+    let mut file = match File::open(rt, name) {
+        Ok(file) => file,
+        Err(error) => return Err(fault_of(&error)),
+    };
+    let mut bytes = Vec::new(alloc);
+    let mut piece = [0u8; PIECE];
+    for _ in 0..u64::MAX {
+        let room = limit - bytes.len() as u64;
+        let most = room.saturating_add(1).min(PIECE as u64) as usize;
+        match file.read(&mut piece[..most]) {
+            Ok(0) => return Ok(bytes),
+            Ok(count) if count as u64 > room => return Err(FileFault::TooLong),
+            Ok(count) => {
+                make_room(&mut bytes, count, room as usize)?;
+                bytes.extend_from_slice(&piece[..count])?;
+            }
+            Err(error) if error.kind() == ErrorKind::Interrupted => {}
+            Err(error) => return Err(fault_of(&error)),
+        }
+    }
+    Err(FileFault::Failed)
+}
+
+/// Makes room for `count` more bytes, and for at most `room`: the room grows as the bytes do.
+fn make_room(bytes: &mut Vec<u8>, count: usize, room: usize) -> Result<(), AllocError>
+    ensures items { bytes.new.items ≡ bytes.old.items }
+    ensures capacity { vec_capacity bytes.new ≤ max (vec_capacity bytes.old) (length bytes.old.items + room) }
+{
+    if bytes.capacity() - bytes.len() >= count {
+        return Ok(());
+    }
+    let more = count.max(bytes.len()).min(room);
+    bytes.reserve_exact(more)
+}
+
+/// The fault that an error of the system is. Its want of memory isn't a failure.
+fn fault_of(error: &io::Error) -> FileFault
+    ensures memory { (result ≡ FileFault.NoMemory) ↔ (error_kind error.now ≡ ErrorKind.OutOfMemory) }
+    ensures never_long { result ≢ FileFault.TooLong }
+{
+    match error.kind() {
+        ErrorKind::OutOfMemory => FileFault::NoMemory,
+        _ => FileFault::Failed,
     }
 }
 
@@ -90,20 +114,12 @@ pub struct RealSink<'a, R> {
 impl<'a, R: Print> RealSink<'a, R> {
     /// The standard output of this runtime.
     pub fn new(rt: &'a R) -> RealSink<'a, R>
-        ensures faults { result.faults.count ≡ 0 }
+        ensures faults { ⟦<RealSink<'a, R> as Sink>⟧.faults result ≡ 0 }
     {
         RealSink {
             rt,
             faults: FaultCount::new(),
         }
-    }
-
-    fn fail(&mut self) -> SinkFault
-        ensures fault { result ≡ SinkFault.Failed }
-        ensures counted { self.new.faults.count ≡ next_count self.old.faults.count }
-    {
-        self.faults.raise();
-        SinkFault::Failed
     }
 }
 
@@ -114,19 +130,13 @@ impl<R: Print> Sink for RealSink<'_, R> {
 
     ghost bounded = { λ s. s.faults.within };
 
+    /// Writes until all is written, again where a write was interrupted. A write that takes nothing
+    /// is a failure.
     fn write(&mut self, piece: &[u8]) -> Result<(), SinkFault> {
-        let mut rest = piece;
-        for _ in 0..u64::MAX {
-            if rest.is_empty() {
-                return Ok(());
-            }
-            match io::writer(self.rt).write(rest) {
-                Ok(0) => return Err(self.fail()),
-                Ok(count) => rest = &rest[count..],
-                Err(error) if error.kind() == ErrorKind::Interrupted => {}
-                Err(_) => return Err(self.fail()),
-            }
+        if self.rt.write_all(piece).is_err() {
+            self.faults.raise();
+            return Err(SinkFault::Failed);
         }
-        Err(self.fail())
+        Ok(())
     }
 }
