@@ -1,1 +1,2 @@
 pub mod ProblemLaws
+pub mod TermLaws

@@ -1,5 +1,6 @@
 -- What it takes to be a value: numbers in range, texts of scalar values, sets and records in order.
-use Rattle.std.specs.Prelude.{◌≤◌, ◌<◌, ◌^◌, ℕ, List, All, FitsSigned, ⊤}
+use Rattle.std.specs.Prelude.{◌≤◌, ◌<◌, ◌^◌, ℕ, List, FitsSigned, ⊤}
+use Rattle.std.specs.List.{AllByRecursion}
 use Rattle.std.specs.List.Sorted.{IsStrictlySortedBy}
 use Rattle.std.specs.Map.{keys_of}
 use Rattle.std.specs.Int.{w64}
@@ -29,7 +30,7 @@ IsProperLevel (v.Long n) = FitsSigned w64 n
 IsProperLevel (v.String text) = IsUtf8 text
 IsProperLevel (v.Entity u) = IsUidText u
 IsProperLevel (v.Set members) = IsStrictlySortedBy value_cmp members
-IsProperLevel (v.Record fields) = IsStrictlySortedBy text_cmp (keys_of fields) × All IsUtf8 (keys_of fields)
+IsProperLevel (v.Record fields) = IsStrictlySortedBy text_cmp (keys_of fields) × AllByRecursion IsUtf8 (keys_of fields)
 IsProperLevel (v.Decimal n) = FitsSigned w64 n
 IsProperLevel (v.Ip ip) = IsIp ip
 

@@ -1,0 +1,3 @@
+pub mod ContextLaws
+pub mod WorldLaws
+pub mod TruthLaws
