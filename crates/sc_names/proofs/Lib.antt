@@ -1,1 +1,4 @@
+pub mod BadNameLaws
+pub mod PathLaws
+pub mod ScanningLaws
 pub mod UidLaws

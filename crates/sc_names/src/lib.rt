@@ -5,9 +5,13 @@
 mod ident;
 mod name;
 mod order;
+mod path;
+#[cfg(test)]
+mod tests;
 mod uid;
 
-pub use ident::{is_ident, is_reserved, is_word};
+pub use ident::{Ident, is_ident, is_reserved, is_word, read_ident};
 pub use name::Name;
 pub use order::{compare, order_laws};
+pub use path::{BadName, bad_name_laws, read_name};
 pub use uid::Uid;
