@@ -1,4 +1,5 @@
 pub mod BadNameLaws
+pub mod EscapeLaws
 pub mod PathLaws
 pub mod ScanningLaws
 pub mod UidLaws

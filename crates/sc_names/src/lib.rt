@@ -2,6 +2,7 @@
 //! order of uids.
 #![tactic(auto)]
 
+mod escape;
 mod ident;
 mod name;
 mod order;
@@ -10,6 +11,7 @@ mod path;
 mod tests;
 mod uid;
 
+pub use escape::{put_escaped, put_uid, uid_text, uid_text_laws};
 pub use ident::{Ident, is_ident, is_reserved, is_word, read_ident};
 pub use name::Name;
 pub use order::{compare, order_laws};

@@ -1,5 +1,9 @@
-use crate::{BadName, is_ident, is_reserved, is_word, read_ident, read_name};
-use sc_lists::Fault;
+use crate::{
+    BadName, Name, Uid, is_ident, is_reserved, is_word, put_escaped, read_ident, read_name,
+    uid_text,
+};
+use sc_lists::{Fault, Text};
+use std::alloc::{AllocError, Global};
 use std::test::Fail;
 
 #[test]
@@ -63,4 +67,34 @@ fn places_of_bad_names(rt: HostRuntime) {
         };
         assert_eq!(rt; told, Some(at), "{text}");
     }
+}
+
+fn uid_of(alloc: Global, type_name: &str, id: &str) -> Result<Uid, AllocError> {
+    Ok(Uid {
+        type_name: Name::from_text(Text::from_str(alloc, type_name)?),
+        id: Text::from_str(alloc, id)?,
+    })
+}
+
+#[test]
+fn texts_of_uids(rt: HostRuntime) -> Result<(), Fail> {
+    let alloc = rt.alloc();
+    for (type_name, id, text) in [
+        ("User", "ann", r#"User::"ann""#),
+        ("Shop::User", "", r#"Shop::User::"""#),
+        ("Action", "read it's * / é", r#"Action::"read it's * / é""#),
+        ("A", "\\\"\n\r\t\0", r#"A::"\\\"\n\r\t\0""#),
+        (
+            "A",
+            "\u{1}\u{f}\u{10}\u{1f}\u{7f}\u{80}",
+            "A::\"\\u{1}\\u{f}\\u{10}\\u{1f}\\u{7f}\u{80}\"",
+        ),
+    ] {
+        let uid = uid_of(alloc, type_name, id)?;
+        assert_eq!(rt; uid_text(alloc, &uid)?.as_str(), text);
+    }
+    let mut out = String::from_str(alloc, "/a")?;
+    put_escaped(&mut out, "/b\"\u{0}1")?;
+    assert_eq!(rt; out.as_str(), r#"/a/b\"\01"#);
+    Ok(())
 }
