@@ -1,1 +1,6 @@
+pub mod BadNameLaws
+pub mod EscapeLaws
+pub mod LitsLaws
+pub mod PathLaws
+pub mod ScanningLaws
 pub mod UidLaws

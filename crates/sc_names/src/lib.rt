@@ -2,12 +2,20 @@
 //! order of uids.
 #![tactic(auto)]
 
+mod escape;
 mod ident;
+mod lits;
 mod name;
 mod order;
+mod path;
+#[cfg(test)]
+mod tests;
 mod uid;
 
-pub use ident::{is_ident, is_reserved, is_word};
+pub use escape::{put_escaped, put_uid, uid_text, uid_text_laws};
+pub use ident::{Ident, is_ident, is_reserved, is_word, read_ident};
+pub use lits::{Lits, lits_of, lits_union};
 pub use name::Name;
 pub use order::{compare, order_laws};
+pub use path::{BadName, bad_name_laws, read_name};
 pub use uid::Uid;
