@@ -51,17 +51,21 @@ schema_data p =
     namespace_data (object (members_with empty_data p.types)) p.action
     (applies_data (object (members_with bool_data p.attributes)) p.principal p.resource)
 
--- the types are named right and in the order in which members are read, the principal's and the resource's are two of
--- them, and the context has at most a thousand attributes, in that order too
-pub record IsForm (p : Parts) : Type 0 where
-  pub types : AllByRecursion IsTypeName p.types
+-- the names are texts, and those of members stand in the order of their bytes, in which members are read
+pub record AreTexts (p : Parts) : Type 0 where
   pub types_ascend : IsStrictlySortedBy text_cmp p.types
   pub action : IsUtf8 p.action
+  pub attributes : AllByRecursion IsUtf8 p.attributes
+  pub attributes_ascend : IsStrictlySortedBy text_cmp p.attributes
+
+-- the types are named right, the principal's and the resource's are two of them, and the context has at most a thousand
+-- attributes
+pub record IsForm (p : Parts) : Type 0 where
+  pub texts : AreTexts p
+  pub types : AllByRecursion IsTypeName p.types
   pub principal : IsTrue (list_any (bytes_eq p.principal) p.types)
   pub resource : IsTrue (list_any (bytes_eq p.resource) p.types)
   pub differ : p.principal ≢ p.resource
-  pub attributes : AllByRecursion IsUtf8 p.attributes
-  pub attributes_ascend : IsStrictlySortedBy text_cmp p.attributes
   pub size : length p.attributes ≤ 1000
 
 -- the bytes are a file that gives these names
@@ -79,7 +83,7 @@ abbrev pub schema_of : Parts → Declarations
 schema_of p =
     record {
       types = map plain_type p.types;
-      actions = plain_action p.action p.principal p.resource p.attributes ∷ []
+      actions = plain_action p.action p.principal p.resource p.attributes ∷ [];
     }
 
 -- the bytes spell the schema
@@ -87,3 +91,11 @@ pub record SpellsSchema (bytes : List ℕ) (s : Declarations) : Type 0 where
   pub parts : Parts
   pub spelled : Spells bytes parts
   pub schema : s ≡ schema_of parts
+
+-- the bytes spell no schema
+abbrev pub SpellsNone : List ℕ → Type 0
+SpellsNone bytes = (s : Declarations) → SpellsSchema bytes s → ⊥
+
+-- the bytes spell one schema at most
+abbrev pub SpellsOne : List ℕ → Type 0
+SpellsOne bytes = (s t : Declarations) → SpellsSchema bytes s → SpellsSchema bytes t → s ≡ t
