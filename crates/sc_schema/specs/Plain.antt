@@ -13,7 +13,7 @@ use Rattle.sc_schema.specs.declared.ty.Ty.TheVariants.{Bool, Record}
 use Rattle.sc_schema.specs.declared.declarations.EntityType.{EntityType}
 use Rattle.sc_schema.specs.declared.declarations.Action.{Action}
 use Rattle.sc_schema.specs.declared.declarations.Env.{Env}
-use Rattle.sc_schema.specs.Declarations.{Declarations, entity_type, environments}
+use Rattle.sc_schema.specs.Declarations.{Declarations, environment, environments, entity_type, attrs_of, tags_of, ancestor_types, context_of}
 
 -- the type of the action
 abbrev pub action_type : List ℕ
@@ -72,3 +72,23 @@ pub record IsPlain (s : Declarations) : Type 0 where
 pub record HasOneEnvironment (s : Declarations) : Type 0 where
   pub env : Env
   pub only : environments s ≡ env ∷ []
+
+-- a type is there, and no ancestors, attributes and tags are declared of its entities
+pub record IsBare (s : Declarations) (type_name : List ℕ) : Type 0 where
+  pub attrs : attrs_of s type_name ≡ Some (Record [])
+  pub tags : tags_of s type_name ≡ None
+  pub ancestors : ancestor_types s type_name ≡ []
+
+-- the action of a plain schema
+abbrev pub action_of : {s : Declarations} → IsPlain s → Action
+action_of h = plain_action h.id h.principal h.resource h.attributes
+
+-- what is looked up in a plain schema
+pub record PlainLookups (s : Declarations) (h : IsPlain s) : Type 0 where
+  pub environments : environments s ≡ environment (action_of h) h.principal h.resource ∷ []
+  pub context : context_of s (action_of h).uid ≡ Some (bool_record h.attributes)
+  pub action : IsBare s action_type
+  pub principal : IsBare s h.principal
+  pub resource : IsBare s h.resource
+  pub principal_name : IsTypeName h.principal
+  pub resource_name : IsTypeName h.resource

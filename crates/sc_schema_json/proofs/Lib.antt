@@ -1,0 +1,3 @@
+pub mod MembersLaws
+pub mod FormLaws
+pub mod PlainLaws

@@ -1,0 +1,80 @@
+-- What is looked up in a plain schema.
+use Rattle.std.proofs.Common.{◌≡◌, ◌≢◌, ◌∙◌, ap, sym, subst, refl, ℕ, List, [], ◌∷◌, Bool, true, false, ◌&&◌, Option, Some, None, find, IsSome, if◌then◌else◌}
+use Rattle.std.specs.List.{AllByRecursion}
+use Rattle.std.specs.Option.{option_map_or}
+use Rattle.std.specs.Prelude.{option_map, option_and_then}
+use Rattle.std.specs.Str.{bytes_eq}
+use Rattle.std.proofs.lemmas.Slice.Eq.{bytes_eq-Decides}
+use Rattle.sc_names.specs.declared.uid.Uid.{Uid}
+use Rattle.sc_schema.specs.declared.ty.Ty.TheVariants.{Record}
+use Rattle.sc_schema.specs.declared.declarations.EntityType.{EntityType}
+use Rattle.sc_schema.specs.declared.declarations.Action.{Action}
+use Rattle.sc_schema.specs.Declarations.{Declarations, environment, environments, uid_eq, entity_type, is_action_type, context_of}
+use Rattle.sc_schema.specs.Plain.{action_type, bool_record, IsTypeName, IsPlainType, IsPlain, HasOneEnvironment, IsBare, action_of, PlainLookups}
+
+bytes_eq-other : (xs ys : List ℕ) → xs ≢ ys → bytes_eq xs ys ≡ false
+bytes_eq-other xs ys differ = decided (bytes_eq xs ys) ((bytes_eq-Decides xs ys).0) where
+  decided : (b : Bool) → (b ≡ true → xs ≡ ys) → b ≡ false
+  decided true is = absurd (differ (is refl))
+  decided false is = refl
+
+bytes_eq-same : (xs : List ℕ) → bytes_eq xs xs ≡ true
+bytes_eq-same xs = (bytes_eq-Decides xs xs).1 refl
+
+-- what a look-up among plain types finds
+record IsFound (name : List ℕ) (found : Option EntityType) : Type 0 where
+  named : IsTypeName name
+  shape : option_map (λ (t : EntityType). t.shape) found ≡ Some (Record [])
+  tags : option_and_then (λ (t : EntityType). t.tags) found ≡ None
+  ancestors : option_map_or (λ (t : EntityType). t.ancestors) found [] ≡ []
+
+found-here : (name : List ℕ) (t : EntityType) → name ≡ t.name → IsPlainType t → IsFound name (Some t)
+found-here name t is plain =
+    record { named = rw is plain.name; shape = ap Some plain.shape; tags = plain.tags; ancestors = plain.ancestors }
+
+found-first : (name : List ℕ) (t : EntityType) (later : Option EntityType) (b : Bool) → (b ≡ true → name ≡ t.name) → IsPlainType t → (IsSome later → IsFound name later) → IsSome (if b then Some t else later) → IsFound name (if b then Some t else later)
+found-first name t later true is plain rest some = found-here name t (is refl) plain
+found-first name t later false is plain rest some = rest some
+
+found : (name : List ℕ) (types : List EntityType) → AllByRecursion IsPlainType types → IsSome (find (λ (t : EntityType). bytes_eq name t.name) types) → IsFound name (find (λ (t : EntityType). bytes_eq name t.name) types)
+found name [] plain some = absurd cc
+found name (t ∷ types) plain some =
+    found-first name t _ (bytes_eq name t.name) ((bytes_eq-Decides name t.name).0) plain.0 (found name types plain.1) some
+
+-- no declared type is that of the action
+is_action_type-declared : (s : Declarations) (h : IsPlain s) (name : List ℕ) → IsTypeName name → is_action_type s name ≡ false
+is_action_type-declared s h name named = rw (h.actions, bytes_eq-other name action_type named.no_action) refl
+
+IsBare-declared : (s : Declarations) (h : IsPlain s) (name : List ℕ) → IsFound name (entity_type s name) → IsBare s name
+IsBare-declared s h name is =
+    let other = is_action_type-declared s h name is.named in
+    record { attrs = rw other is.shape; tags = rw other is.tags; ancestors = rw other is.ancestors }
+
+IsBare-action : (s : Declarations) → IsPlain s → IsBare s action_type
+IsBare-action s h = record { attrs = rw h.actions refl; tags = rw h.actions refl; ancestors = rw h.actions refl }
+
+uid_eq-same : (u : Uid) → uid_eq u u ≡ true
+uid_eq-same u = rw (bytes_eq-same u.type_name, bytes_eq-same u.id) refl
+
+context_of-plain : (s : Declarations) (h : IsPlain s) → context_of s (action_of h).uid ≡ Some (bool_record h.attributes)
+context_of-plain s h = rw (h.actions, uid_eq-same (action_of h).uid) refl
+
+environments-plain : (s : Declarations) (h : IsPlain s) → environments s ≡ environment (action_of h) h.principal h.resource ∷ []
+environments-plain s h = rw h.actions refl
+
+pub HasOneEnvironment-plain : (s : Declarations) → IsPlain s → HasOneEnvironment s
+HasOneEnvironment-plain s h = record { env = environment (action_of h) h.principal h.resource; only = environments-plain s h }
+
+pub PlainLookups-plain : (s : Declarations) (h : IsPlain s) → PlainLookups s h
+PlainLookups-plain s h =
+    let principal = found h.principal s.types h.types h.principal_declared in
+    let resource = found h.resource s.types h.types h.resource_declared in
+    record {
+      environments = environments-plain s h;
+      context = context_of-plain s h;
+      action = IsBare-action s h;
+      principal = IsBare-declared s h h.principal principal;
+      resource = IsBare-declared s h h.resource resource;
+      principal_name = principal.named;
+      resource_name = resource.named;
+    }
