@@ -9,7 +9,7 @@ ghost use Rattle.sc_footprint.specs.Problems.{Posed, is_goal, atoms, goal_litera
 use crate::term::Term;
 use sc_clauses::{Clause, Lit};
 use sc_lists::{Seq, Text};
-use sc_names::Uid;
+use sc_names::Lits;
 use sc_schema::{Env, Presence, Schema, Ty, context_of};
 use std::alloc::{AllocError, Global};
 use std::marker::Model;
@@ -19,7 +19,7 @@ use std::marker::Model;
 pub struct Problem<'a> {
     schema: &'a Schema,
     env: &'a Env,
-    literals: &'a Seq<Uid>,
+    literals: &'a Lits,
     goal: Term,
     literal: Lit,
     count: u64,
@@ -78,7 +78,7 @@ impl<'a> Problem<'a> {
     }
 
     /// The uids that each world stores.
-    pub fn lits(&self) -> &Seq<Uid>
+    pub fn lits(&self) -> &Lits
         ensures { result.now ≡ self.now.literals }
     {
         self.literals
@@ -90,7 +90,7 @@ pub fn close<'a>(
     goal: Term,
     schema: &'a Schema,
     env: &'a Env,
-    literals: &'a Seq<Uid>,
+    literals: &'a Lits,
 ) -> Problem<'a>
     requires { IsTrue (is_goal schema.now env.now goal) }
     ensures { result ≡ record { schema = schema.now; env = env.now; literals = literals.now; goal = goal } }

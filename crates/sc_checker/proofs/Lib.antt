@@ -1,0 +1,5 @@
+pub mod KnownLaws
+pub mod RefutationLaws
+pub mod VerdictLaws
+pub mod Soundness
+pub mod DefiningLaws

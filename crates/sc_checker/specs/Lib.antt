@@ -1,0 +1,5 @@
+pub mod Writable
+pub mod Refutations
+pub mod Known
+pub mod Verdicts
+pub mod Truths

@@ -1,0 +1,11 @@
+//! Logs of a refutation, their text, and the checker, which trusts nothing but the clauses that
+//! define a problem: where it accepts a log, the goal is true in no well-formed world.
+#![tactic(auto)]
+
+mod checking;
+mod known;
+mod log;
+mod refuting;
+
+pub use checking::{Reason, Verdict, check};
+pub use log::{Instance, Learned, Log, Step, Word, is_writable};
