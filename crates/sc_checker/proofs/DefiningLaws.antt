@@ -30,7 +30,7 @@ below_at : (b rest : Bool) (k n : ℕ) → b || rest ≡ true → (rest ≡ true
 below_at true rest k n e later = omega arith
 below_at false rest k n e later = let below : k < n = later e in omega arith
 
-place_below : (name : List ℕ) (names : List (List ℕ)) → list_any (bytes_eq name) names ≡ true → position_or_len (bytes_eq name) names < length names
+pub place_below : (name : List ℕ) (names : List (List ℕ)) → list_any (bytes_eq name) names ≡ true → position_or_len (bytes_eq name) names < length names
 place_below name [] e = absurd (true≢false (sym e))
 place_below name (n ∷ names) e = below_at (bytes_eq name n) (list_any (bytes_eq name) names) (position_or_len (bytes_eq name) names) (length names) e (λ h. place_below name names h)
 
@@ -40,7 +40,7 @@ found_at name n fields true rest k is e later = ap (λ (x : List ℕ). Some (of_
 found_at name n fields false rest k is e later = let next : 1 + k ≡ suc k = omega arith in rw next (later e)
 
 -- the field of a name stands at the name's place
-field_found : (name : List ℕ) (names : List (List ℕ)) → list_any (bytes_eq name) names ≡ true → slice_get (map of_context names) (position_or_len (bytes_eq name) names) ≡ Some (of_context name)
+pub field_found : (name : List ℕ) (names : List (List ℕ)) → list_any (bytes_eq name) names ≡ true → slice_get (map of_context names) (position_or_len (bytes_eq name) names) ≡ Some (of_context name)
 field_found name [] e = absurd (true≢false (sym e))
 field_found name (n ∷ names) e =
     found_at name n (map of_context names) (bytes_eq name n) (list_any (bytes_eq name) names) (position_or_len (bytes_eq name) names) refl e (λ h. field_found name names h)
@@ -56,7 +56,7 @@ true_is_true w =
     ap (λ (z : Denotation). truth_in (out-Value (z w))) (ap (fold-Term Denotation val_step) (sym rolls-True) ∙ fold-roll-Term Denotation val_step t.True)
     ∙ ap truth_in (out_Bool true)
 
-false_is_false : (goal : Term) (w : World) → out-Term goal ≡ t.False → is_true goal w ≡ false
+pub false_is_false : (goal : Term) (w : World) → out-Term goal ≡ t.False → is_true goal w ≡ false
 unfolding val
 false_is_false goal w is =
     ap (λ (z : Denotation). truth_in (out-Value (z w))) (ap (fold-Term Denotation val_step) (sym (roll-out-Term goal) ∙ ap roll-Term is) ∙ fold-roll-Term Denotation val_step t.False)
@@ -70,12 +70,12 @@ is_context_at x t.Principal is e = absurd (true≢false (sym e))
 is_context_at x t.Resource is e = absurd (true≢false (sym e))
 is_context_at x (t.Field y name) is e = absurd (true≢false (sym e))
 
-field_is : (goal x : Term) (name : List ℕ) → out-Term goal ≡ t.Field x name → is_context (out-Term x) ≡ true → goal ≡ of_context name
+pub field_is : (goal x : Term) (name : List ℕ) → out-Term goal ≡ t.Field x name → is_context (out-Term x) ≡ true → goal ≡ of_context name
 field_is goal x name is e = sym (roll-out-Term goal) ∙ ap roll-Term is ∙ rolls-Field x name ∙ ap (λ (y : Term). Field y name) (is_context_at x (out-Term x) refl e)
 
 -- ---- the goal's literal
 
-length_map : {X Y : Type 0} (f : X → Y) (xs : List X) → length (map f xs) ≡ length xs
+pub length_map : {X Y : Type 0} (f : X → Y) (xs : List X) → length (map f xs) ≡ length xs
 length_map f [] = refl
 length_map f (x ∷ xs) = ap suc (length_map f xs)
 

@@ -1,3 +1,4 @@
 pub mod ContextLaws
 pub mod WorldLaws
 pub mod TruthLaws
+pub mod SolvingLaws

@@ -2,5 +2,7 @@
 #![tactic(auto)]
 
 mod rebuilding;
+mod solving;
 
 pub use rebuilding::rebuild;
+pub use solving::{Solved, solve};
