@@ -1,11 +1,10 @@
 -- A text stands for one number at most, and the point that is found first is the one between its parts.
-use Rattle.std.proofs.Common.{◌≡◌, ℕ, ◌+◌, ◌-◌, ◌*◌, ◌^◌, ◌<◌, ◌≤◌, ◌≢◌, List, [], ◌∷◌, ◌++◌, length, get_or, Option, Some, None, MatchOption, refl, arith, lit<, ℤ, pos, neg_ℤ, ◌+ℤ◌, ◌-ℤ◌, zero, suc, FitsSigned, w64,  ap, sym, ◌∙◌, Bor, subst}
+use Rattle.std.proofs.Common.{◌≡◌, ℕ, ◌+◌, ◌-◌, ◌*◌, ◌^◌, ◌<◌, ◌≤◌, ◌≢◌, List, [], ◌∷◌, ◌++◌, length, get_or, Option, Some, None, refl, arith, lit<, ℤ, pos, neg_ℤ, ◌+ℤ◌, ◌-ℤ◌, zero, suc, FitsSigned, w64, ap, sym, ◌∙◌, Bor, subst}
 use Rattle.std.proofs.lemmas.Str.Pattern.{IsSplitOnceResult, split_after}
 use Rattle.std.proofs.lemmas.Str.Parse.{digit_at}
 use Rattle.std.proofs.lemmas.Int.Digits.{digits_value-lt}
 use Rattle.std.specs.Option.{SomeIff, IfSome, IfNone}
 use Rattle.std.specs.Str.Parse.{IsNumeral, AllDigits, digits_value}
-use Rattle.std.proofs.Math.Nat.{mul-lt-mul_of_pos_right}
 use Rattle.std.proofs.lemmas.Int.{ints}
 use Rattle.sc_decimal.specs.DecimalText.{plain, minus, IsMagnitude, IsSigned, IsDecimalText}
 
@@ -74,9 +73,9 @@ magnitude_only text m n x y =
 pub no_minus : (text rest : List ℕ) (n : ℕ) → text ≡ 45 ∷ rest → IsMagnitude text n → ⊥
 no_minus text rest n e x = first x.whole x.fraction rest x.whole_digits (sym x.parts ∙ e)
   where
-  first : (w f rest : List ℕ) → IsNumeral 10 w → w ++ (46 ∷ f) ≡ 45 ∷ rest → ⊥
-  first [] f rest h e = omega arith
-  first (a ∷ w) f rest h e = let c : a ≡ 45 = cc in let r = digit_at (a ∷ w) 0 h.1 (omega arith) in omega arith
+    first : (w f rest : List ℕ) → IsNumeral 10 w → w ++ (46 ∷ f) ≡ 45 ∷ rest → ⊥
+    first [] f rest h e = omega arith
+    first (a ∷ w) f rest h e = let c : a ≡ 45 = cc in let r = digit_at (a ∷ w) 0 h.1 (omega arith) in omega arith
 
 -- behind a minus stands a magnitude
 behind_minus : (text rest : List ℕ) (z : ℤ) → text ≡ 45 ∷ rest → IsSigned text z → (n : ℕ) × IsMagnitude rest n × (z ≡ neg_ℤ (pos n))
@@ -117,34 +116,48 @@ plain_none text e none z d =
 
 -- a text with a minus and a magnitude stands for that number below 0, if it is in range
 pub minus_some : (text rest : List ℕ) (n : ℕ) (r : Option ℤ) → text ≡ 45 ∷ rest → IsMagnitude rest n → SomeIff r (FitsSigned w64 (pos 0 -ℤ pos n)) (pos 0 -ℤ pos n) → IfSome r (λ z. IsDecimalText text z) × IfNone r ((z : ℤ) → IsDecimalText text z → ⊥)
-minus_some text rest n None e x h = (tt, λ z d.
-    let b = behind_minus text rest z e d.signed in
-    let same : b.0 ≡ n = magnitude_only rest b.0 n b.1 x in
-    let P : ℤ → Type 0 = λ y. FitsSigned w64 y in
-    h (subst P (b.2 ∙ (ap (λ k. neg_ℤ (pos k)) same ∙ sym (neg_is n))) d.in_range))
-minus_some text rest n (Some z) e x h = (record {
+minus_some text rest n None e x h = (
+  tt,
+  λ z d.
+      let b = behind_minus text rest z e d.signed in
+      let same : b.0 ≡ n = magnitude_only rest b.0 n b.1 x in
+      let P : ℤ → Type 0 = λ y. FitsSigned w64 y in
+      h (subst P (b.2 ∙ (ap (λ k. neg_ℤ (pos k)) same ∙ sym (neg_is n))) d.in_range),
+)
+minus_some text rest n (Some z) e x h = (
+  record {
     signed = minus e x (h.1 ∙ neg_is n);
-    in_range = let P : ℤ → Type 0 = λ y. FitsSigned w64 y in subst P (sym h.1) h.0 }, tt)
+    in_range = let P : ℤ → Type 0 = λ y. FitsSigned w64 y in subst P (sym h.1) h.0;
+  },
+  tt,
+)
 
 pub plain_some : (text : List ℕ) (n : ℕ) (r : Option ℤ) → ((rest : List ℕ) → text ≢ 45 ∷ rest) → IsMagnitude text n → SomeIff r (FitsSigned w64 (pos 0 +ℤ pos n)) (pos 0 +ℤ pos n) → IfSome r (λ z. IsDecimalText text z) × IfNone r ((z : ℤ) → IsDecimalText text z → ⊥)
-plain_some text n None e x h = (tt, λ z d.
-    let b = without_minus text z e d.signed in
-    let same : b.0 ≡ n = magnitude_only text b.0 n b.1 x in
-    let P : ℤ → Type 0 = λ y. FitsSigned w64 y in
-    h (subst P (b.2 ∙ (ap pos same ∙ sym (plus_is n))) d.in_range))
-plain_some text n (Some z) e x h = (record {
+plain_some text n None e x h = (
+  tt,
+  λ z d.
+      let b = without_minus text z e d.signed in
+      let same : b.0 ≡ n = magnitude_only text b.0 n b.1 x in
+      let P : ℤ → Type 0 = λ y. FitsSigned w64 y in
+      h (subst P (b.2 ∙ (ap pos same ∙ sym (plus_is n))) d.in_range),
+)
+plain_some text n (Some z) e x h = (
+  record {
     signed = plain x (h.1 ∙ plus_is n);
-    in_range = let P : ℤ → Type 0 = λ y. FitsSigned w64 y in subst P (sym h.1) h.0 }, tt)
+    in_range = let P : ℤ → Type 0 = λ y. FitsSigned w64 y in subst P (sym h.1) h.0;
+  },
+  tt,
+)
 
 -- a text stands for one number at most
 pub decimal_only : (text : List ℕ) (y z : ℤ) → IsDecimalText text y → IsDecimalText text z → y ≡ z
 decimal_only text y z c d = signed_only c.signed d.signed
   where
-  signed_only : IsSigned text y → IsSigned text z → y ≡ z
-  signed_only (plain {n = m} x p) (plain {n = n} v q) = p ∙ (ap pos (magnitude_only text m n x v) ∙ sym q)
-  signed_only (plain {n = m} x p) (minus {rest = rest} e v q) = absurd (no_minus text rest m e x)
-  signed_only (minus {rest = rest} e x p) (plain {n = n} v q) = absurd (no_minus text rest n e v)
-  signed_only (minus {rest = rest} {n = m} e x p) (minus {rest = other} {n = n} f v q) =
-    let same : other ≡ rest = cc in
-    let P : List ℕ → Type 0 = λ l. IsMagnitude l n in
-    p ∙ (ap (λ k. neg_ℤ (pos k)) (magnitude_only rest m n x (subst P same v)) ∙ sym q)
+    signed_only : IsSigned text y → IsSigned text z → y ≡ z
+    signed_only (plain {n = m} x p) (plain {n = n} v q) = p ∙ (ap pos (magnitude_only text m n x v) ∙ sym q)
+    signed_only (plain {n = m} x p) (minus {rest = rest} e v q) = absurd (no_minus text rest m e x)
+    signed_only (minus {rest = rest} e x p) (plain {n = n} v q) = absurd (no_minus text rest n e v)
+    signed_only (minus {rest = rest} {n = m} e x p) (minus {rest = other} {n = n} f v q) =
+        let same : other ≡ rest = cc in
+        let P : List ℕ → Type 0 = λ l. IsMagnitude l n in
+        p ∙ (ap (λ k. neg_ℤ (pos k)) (magnitude_only rest m n x (subst P same v)) ∙ sym q)

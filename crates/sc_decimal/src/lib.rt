@@ -2,8 +2,14 @@
 //! written, and their order.
 #![tactic(auto)]
 
+mod compare;
 mod decimal;
 mod read;
+#[cfg(test)]
+mod tests;
+mod write;
 
+pub use compare::{le, lt};
 pub use decimal::Decimal;
 pub use read::{BadDecimal, read_decimal};
+pub use write::write_decimal;

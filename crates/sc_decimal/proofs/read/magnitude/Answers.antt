@@ -1,5 +1,4 @@
-use Rattle.std.proofs.Common.{◌≡◌, ℕ, ◌<◌, ◌≤◌, ◌^◌, ◌*◌, ◌-◌, length, arith}
-use Rattle.std.specs.Str.Parse.{IsNumeral, digits_value}
+use Rattle.std.proofs.Common.{arith}
 use Rattle.sc_decimal.proofs.DecimalLaws.{sum_of_parts, no_point, none_from_some_iff}
 use Rattle.sc_decimal.proofs.read.magnitude.Goals as goal
 

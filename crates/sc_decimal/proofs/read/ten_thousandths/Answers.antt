@@ -1,5 +1,4 @@
-use Rattle.std.proofs.Common.{◌≡◌, ℕ, ◌<◌, ◌≤◌, ◌^◌, ◌*◌, ◌-◌, length, arith, Fits}
-use Rattle.std.specs.Str.Parse.{IsNumeral, digits_value}
+use Rattle.std.proofs.Common.{◌<◌, ◌*◌, arith}
 use Rattle.sc_decimal.proofs.DecimalLaws.{fraction-lt, number-lt}
 use Rattle.sc_decimal.proofs.read.ten_thousandths.Goals as goal
 
