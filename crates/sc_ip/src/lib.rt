@@ -1,6 +1,10 @@
-//! Addresses of the internet protocol, each with a prefix.
+//! Addresses of the internet protocol, each with a prefix: which texts stand for them, how they
+//! are written, and which of their ranges lie within one another.
 #![tactic(auto)]
 
 mod ip;
+mod notation;
+mod range;
 
 pub use ip::Ip;
+pub use range::{in_range, is_loopback, is_multicast, is_v4};

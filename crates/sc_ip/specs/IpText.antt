@@ -1,0 +1,77 @@
+-- The texts of addresses: which text stands for which address, and the text that is written. 46, 47 and 58 are the
+-- bytes of a dot, a slash and a colon.
+use Rattle.std.specs.Prelude.{◌≡◌, ℕ, ◌+◌, ◌-◌, ◌*◌, ◌/◌, ◌%◌, ◌^◌, ◌<◌, ◌≤◌, List, [], ◌∷◌, ◌++◌, length, map, replicate, false}
+use Rattle.std.specs.List.{join_with_byte}
+use Rattle.std.specs.Str.Parse.{IsNumeral, digits_value}
+use Rattle.std.specs.Int.Digits.{number_from_digits}
+use Rattle.std.specs.Fmt.{decimal, digits}
+use Rattle.sc_ip.specs.declared.ip.Ip.{Ip}
+use Rattle.sc_ip.specs.declared.ip.Ip.TheVariants.{V4, V6}
+
+-- a number to 255 in decimal, without leading zeros
+abbrev pub IsDecimalGroup : List ℕ → ℕ → Type 0
+IsDecimalGroup text n = (n < 256) × (text ≡ decimal n)
+
+-- one to four hexadecimal digits, in either case
+abbrev pub IsHexadecimalGroup : List ℕ → ℕ → Type 0
+IsHexadecimalGroup text n = IsNumeral 16 text × (length text ≤ 4) × (n ≡ digits_value 16 text)
+
+-- groups that stand for these numbers, with a separator between each two
+abbrev pub AreGroups : ℕ → (List ℕ → ℕ → Type 0) → List ℕ → List ℕ → Type 0
+AreGroups separator IsGroup text [] = text ≡ []
+AreGroups separator IsGroup text (n ∷ []) = IsGroup text n
+AreGroups separator IsGroup text (n ∷ m ∷ others) =
+    (group : List ℕ) × (rest : List ℕ) × (text ≡ group ++ (separator ∷ rest)) × IsGroup group n × AreGroups separator IsGroup rest (m ∷ others)
+
+-- four decimal groups between dots
+pub record IsV4Text (text : List ℕ) (address : ℕ) : Type 0 where
+  pub numbers : List ℕ
+  pub groups : AreGroups 46 IsDecimalGroup text numbers
+  pub four : length numbers ≡ 4
+  pub value : address ≡ number_from_digits 256 numbers
+
+-- eight hexadecimal groups between colons
+pub record IsFullText (text : List ℕ) (address : ℕ) : Type 0 where
+  pub numbers : List ℕ
+  pub groups : AreGroups 58 IsHexadecimalGroup text numbers
+  pub eight : length numbers ≡ 8
+  pub value : address ≡ number_from_digits 65536 numbers
+
+-- at most seven groups, and two colons for the others, which are zero
+pub record IsGapText (text : List ℕ) (address : ℕ) : Type 0 where
+  pub before : List ℕ
+  pub after : List ℕ
+  pub front : List ℕ
+  pub back : List ℕ
+  pub parts : text ≡ front ++ (58 ∷ 58 ∷ back)
+  pub front_groups : AreGroups 58 IsHexadecimalGroup front before
+  pub back_groups : AreGroups 58 IsHexadecimalGroup back after
+  pub at_most_seven : length before + length after ≤ 7
+  pub value : address ≡ number_from_digits 65536 (before ++ (replicate (8 - (length before + length after)) 0 ++ after))
+
+pub data IsV6Text : List ℕ → ℕ → Type 0 where
+  full : {text : List ℕ} {address : ℕ} → IsFullText text address → IsV6Text text address
+  gap : {text : List ℕ} {address : ℕ} → IsGapText text address → IsV6Text text address
+
+-- the text of an address, and then nothing, for the whole width, or a slash and a prefix without leading zeros
+pub data IsPrefixed : ℕ → List ℕ → List ℕ → ℕ → Type 0 where
+  alone : {width prefix : ℕ} {text address : List ℕ} → text ≡ address → prefix ≡ width → IsPrefixed width text address prefix
+  behind : {width prefix : ℕ} {text address : List ℕ} → text ≡ address ++ (47 ∷ decimal prefix) → prefix ≤ width → IsPrefixed width text address prefix
+
+-- the text stands for the address with its prefix
+pub data IsIpText : List ℕ → Ip → Type 0 where
+  v4 : {text part : List ℕ} {address prefix : ℕ} {a : Ip} → IsPrefixed 32 text part prefix → IsV4Text part address → a ≡ V4 address prefix → IsIpText text a
+  v6 : {text part : List ℕ} {address prefix : ℕ} {a : Ip} → IsPrefixed 128 text part prefix → IsV6Text part address → a ≡ V6 address prefix → IsIpText text a
+
+-- the groups of an address, the highest first
+abbrev pub bytes_of : ℕ → List ℕ
+bytes_of a = (a / 256 ^ 3) ∷ (a / 256 ^ 2 % 256) ∷ (a / 256 % 256) ∷ (a % 256) ∷ []
+
+abbrev pub groups_of : ℕ → List ℕ
+groups_of a = (a / 65536 ^ 7) ∷ (a / 65536 ^ 6 % 65536) ∷ (a / 65536 ^ 5 % 65536) ∷ (a / 65536 ^ 4 % 65536)
+    ∷ (a / 65536 ^ 3 % 65536) ∷ (a / 65536 ^ 2 % 65536) ∷ (a / 65536 % 65536) ∷ (a % 65536) ∷ []
+
+-- the text that is written: all groups, without leading zeros and in lower case, a slash and the prefix
+abbrev pub ip_text : Ip → List ℕ
+ip_text (V4 address prefix) = join_with_byte 46 (map decimal (bytes_of address)) ++ (47 ∷ decimal prefix)
+ip_text (V6 address prefix) = join_with_byte 58 (map (digits 16 false) (groups_of address)) ++ (47 ∷ decimal prefix)
