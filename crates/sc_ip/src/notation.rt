@@ -1,5 +1,5 @@
 //! How the groups of an address are written.
-ghost use Rattle.std.specs.Prelude.{◌≡◌, ℕ, ◌<◌, IfSome, IfNone};
+ghost use Rattle.std.specs.Prelude.{◌≡◌, ℕ, ◌<◌, length, slice_index, IfSome, IfNone, IsTrue, ◌↔◌};
 ghost use Rattle.std.specs.Fmt.{decimal};
 ghost use Rattle.sc_ip.specs.IpText.{IsHexadecimalGroup};
 
@@ -52,10 +52,20 @@ pub fn read_number(text: &str) -> Option<u8>
     ensures some { IfSome result (λ n. text.now ≡ decimal n) }
     ensures none { IfNone result ((n : ℕ) → n < 256 → text.now ≡ decimal n → ⊥) }
 {
-    if text.starts_with('+') || text.len() > 1 && text.starts_with('0') {
+    if text.starts_with('+') {
+        return None;
+    }
+    if has_leading_zero(text) {
         return None;
     }
     text.parse().ok()
+}
+
+/// Whether a zero comes first, and not alone.
+fn has_leading_zero(text: &str) -> bool
+    ensures { IsTrue result ↔ ((1 < length text.now) × (slice_index text.now 0 ≡ 48)) }
+{
+    text.len() > 1 && text.starts_with('0')
 }
 
 /// The number that one to four hexadecimal digits stand for.
