@@ -1,2 +1,3 @@
 pub mod RangeLaws
 pub mod NotationLaws
+pub mod GroupLaws

@@ -3,7 +3,6 @@ use Rattle.std.proofs.Common.{◌≡◌, ◌≢◌, ℕ, ◌+◌, ◌-◌, ◌*�
 use Rattle.std.specs.Str.Parse.{IsNumeral, AllDigits, digits_value, ParsesUnsigned}
 use Rattle.std.specs.Char.{digit_value}
 use Rattle.std.specs.Fmt.{decimal}
-use Rattle.std.specs.List.{All}
 use Rattle.std.specs.Result.{result_ok}
 use Rattle.std.proofs.lemmas.Str.Parse.{IsNumeralModel, numerals_by_value, tells_digits, parse_plain, digit_at}
 use Rattle.std.proofs.lemmas.Fmt.{decimal_digit, decimal_is_IsNumeral, decimal-digits_value, first_decimal, decimal_nonempty, decimal_injective}
@@ -58,7 +57,3 @@ hexadecimal_none bs (Err e) plus h = λ n g.
     let same = without_leading_plus_none bs plus in
     let P : List ℕ → Type 0 = λ l. IsNumeral 16 l × (digits_value 16 l < 65536) in
     h (subst P (sym same) (g.0, hexadecimal-lt bs g.0.1 g.1))
-
--- the list lacks the byte
-pub Lacks : ℕ → List ℕ → Type 0
-Lacks c l = All (λ b. b ≢ c) l

@@ -1,6 +1,6 @@
 -- The two notations of an address's groups.
 use Rattle.std.specs.Prelude.{◌≡◌, ℕ, ◌+◌, ◌<◌, List, length}
-use Rattle.std.specs.Int.Digits.{number_from_digits_after}
+use Rattle.std.specs.Int.Digits.{number_from_digits, number_from_digits_after}
 use Rattle.sc_ip.specs.IpText.{IsDecimalGroup, IsHexadecimalGroup, AreGroups}
 use Rattle.sc_ip.specs.declared.notation.Notation.{Notation}
 use Rattle.sc_ip.specs.declared.notation.Notation.TheVariants.{Decimal, Hexadecimal}
@@ -21,3 +21,18 @@ IsGroupOf Hexadecimal = IsHexadecimalGroup
 
 abbrev pub AreGroupsOf : Notation → List ℕ → List ℕ → Type 0
 AreGroupsOf notation = AreGroups (separator_of notation) (IsGroupOf notation)
+
+-- what groups leave, one by one, of the number so far
+pub record Adds (notation : Notation) (text : List ℕ) (value count new_value new_count : ℕ) : Type 0 where
+  pub numbers : List ℕ
+  pub groups : AreGroupsOf notation text numbers
+  pub some : 0 < length numbers
+  pub value_is : new_value ≡ number_from_digits_after (base_of notation) value numbers
+  pub count_is : new_count ≡ count + length numbers
+
+-- the number that a text of groups, perhaps none, stands for, and how many they are
+pub record Counts (notation : Notation) (text : List ℕ) (value count : ℕ) : Type 0 where
+  pub numbers : List ℕ
+  pub groups : AreGroupsOf notation text numbers
+  pub value_is : value ≡ number_from_digits (base_of notation) numbers
+  pub count_is : count ≡ length numbers

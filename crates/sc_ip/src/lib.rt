@@ -2,6 +2,7 @@
 //! are written, and which of their ranges lie within one another.
 #![tactic(auto)]
 
+mod groups;
 mod ip;
 mod notation;
 mod range;

@@ -38,6 +38,7 @@ impl Notation {
     /// The number that a group stands for.
     pub fn read_group(self, text: &str) -> Option<u16>
         ensures some { IfSome result (λ n. IsGroupOf self text.now n) }
+        ensures in_range { IfSome result (λ n. n < base_of self) }
         ensures none { IfNone result ((n : ℕ) → IsGroupOf self text.now n → ⊥) }
     {
         match self {
