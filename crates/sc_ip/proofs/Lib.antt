@@ -1,3 +1,5 @@
 pub mod RangeLaws
 pub mod NotationLaws
 pub mod GroupLaws
+pub mod AddressLaws
+pub mod PrefixLaws

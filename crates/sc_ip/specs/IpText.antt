@@ -7,6 +7,7 @@ use Rattle.std.specs.Int.Digits.{number_from_digits}
 use Rattle.std.specs.Fmt.{decimal, digits}
 use Rattle.sc_ip.specs.declared.ip.Ip.{Ip}
 use Rattle.sc_ip.specs.declared.ip.Ip.TheVariants.{V4, V6}
+use Rattle.sc_ip.specs.Addresses.{width_of}
 
 -- a number to 255 in decimal, without leading zeros
 abbrev pub IsDecimalGroup : List ℕ → ℕ → Type 0
@@ -37,13 +38,10 @@ pub record IsFullText (text : List ℕ) (address : ℕ) : Type 0 where
   pub eight : length numbers ≡ 8
   pub value : address ≡ number_from_digits 65536 numbers
 
--- at most seven groups, and two colons for the others, which are zero
-pub record IsGapText (text : List ℕ) (address : ℕ) : Type 0 where
+-- at most seven groups, in front of two colons and behind, which stand for the others, all zero
+pub record IsGap (front back : List ℕ) (address : ℕ) : Type 0 where
   pub before : List ℕ
   pub after : List ℕ
-  pub front : List ℕ
-  pub back : List ℕ
-  pub parts : text ≡ front ++ (58 ∷ 58 ∷ back)
   pub front_groups : AreGroups 58 IsHexadecimalGroup front before
   pub back_groups : AreGroups 58 IsHexadecimalGroup back after
   pub at_most_seven : length before + length after ≤ 7
@@ -51,17 +49,21 @@ pub record IsGapText (text : List ℕ) (address : ℕ) : Type 0 where
 
 pub data IsV6Text : List ℕ → ℕ → Type 0 where
   full : {text : List ℕ} {address : ℕ} → IsFullText text address → IsV6Text text address
-  gap : {text : List ℕ} {address : ℕ} → IsGapText text address → IsV6Text text address
+  gap : {text front back : List ℕ} {address : ℕ} → text ≡ front ++ (58 ∷ 58 ∷ back) → IsGap front back address → IsV6Text text address
 
--- the text of an address, and then nothing, for the whole width, or a slash and a prefix without leading zeros
-pub data IsPrefixed : ℕ → List ℕ → List ℕ → ℕ → Type 0 where
-  alone : {width prefix : ℕ} {text address : List ℕ} → text ≡ address → prefix ≡ width → IsPrefixed width text address prefix
-  behind : {width prefix : ℕ} {text address : List ℕ} → text ≡ address ++ (47 ∷ decimal prefix) → prefix ≤ width → IsPrefixed width text address prefix
+-- an address without a prefix, which is of all bits
+pub data IsAddressText : List ℕ → Ip → Type 0 where
+  v4 : {text : List ℕ} {address : ℕ} {a : Ip} → IsV4Text text address → a ≡ V4 address 32 → IsAddressText text a
+  v6 : {text : List ℕ} {address : ℕ} {a : Ip} → IsV6Text text address → a ≡ V6 address 128 → IsAddressText text a
 
--- the text stands for the address with its prefix
+abbrev pub with_prefix : Ip → ℕ → Ip
+with_prefix (V4 address old) prefix = V4 address prefix
+with_prefix (V6 address old) prefix = V6 address prefix
+
+-- the text stands for the address with its prefix: an address alone, or a slash and a prefix without leading zeros behind
 pub data IsIpText : List ℕ → Ip → Type 0 where
-  v4 : {text part : List ℕ} {address prefix : ℕ} {a : Ip} → IsPrefixed 32 text part prefix → IsV4Text part address → a ≡ V4 address prefix → IsIpText text a
-  v6 : {text part : List ℕ} {address prefix : ℕ} {a : Ip} → IsPrefixed 128 text part prefix → IsV6Text part address → a ≡ V6 address prefix → IsIpText text a
+  alone : {text : List ℕ} {a : Ip} → IsAddressText text a → IsIpText text a
+  prefixed : {text part : List ℕ} {prefix : ℕ} {a b : Ip} → text ≡ part ++ (47 ∷ decimal prefix) → IsAddressText part b → prefix ≤ width_of b → a ≡ with_prefix b prefix → IsIpText text a
 
 -- the groups of an address, the highest first
 abbrev pub bytes_of : ℕ → List ℕ

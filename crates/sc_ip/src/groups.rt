@@ -1,5 +1,5 @@
 //! Reads the groups of an address.
-ghost use Rattle.std.specs.Prelude.{◌≡◌, ℕ, ◌+◌, ◌*◌, ◌^◌, ◌<◌, ◌≤◌, List, length, IfSome, IfNone};
+ghost use Rattle.std.specs.Prelude.{◌≡◌, ℕ, ◌+◌, ◌-◌, ◌*◌, ◌^◌, ◌<◌, ◌≤◌, List, length, IfSome, IfNone};
 ghost use Rattle.sc_ip.specs.Notations.{base_of, AreGroupsOf, IsGroupOf, Adds, Counts};
 
 use crate::notation::Notation;
@@ -35,6 +35,17 @@ impl Groups {
             value: self.value * notation.base() + u128::from(group),
             count: self.count + 1,
         }
+    }
+
+    /// The number with zero groups behind, so that there are eight.
+    pub fn filled(self) -> u128
+        ensures value { result ≡ self.value * 65536 ^ (8 - self.count) }
+        ensures in_range { result + 65536 ^ (8 - self.count) ≤ 2 ^ 128 }
+    {
+        if self.count == 0 {
+            return 0;
+        }
+        self.value * 65_536_u128.pow(8 - self.count)
     }
 }
 

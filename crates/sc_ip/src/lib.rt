@@ -6,6 +6,8 @@ mod groups;
 mod ip;
 mod notation;
 mod range;
+mod read;
 
 pub use ip::Ip;
 pub use range::{in_range, is_loopback, is_multicast, is_v4};
+pub use read::{BadIp, read_ip};

@@ -51,6 +51,7 @@ impl Notation {
 /// The number to 255 that decimal digits without leading zeros stand for.
 pub fn read_number(text: &str) -> Option<u8>
     ensures some { IfSome result (λ n. text.now ≡ decimal n) }
+    ensures in_range { IfSome result (λ n. n < 256) }
     ensures none { IfNone result ((n : ℕ) → n < 256 → text.now ≡ decimal n → ⊥) }
 {
     if text.starts_with('+') {
