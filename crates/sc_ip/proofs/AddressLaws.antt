@@ -89,12 +89,13 @@ gap_is front back v m u n r f b few is = record {
   back_groups = b.groups;
   at_most_seven = let i = f.count_is in let j = b.count_is in omega arith;
   value =
-    let i = f.count_is in let j = b.count_is in
-    let places_are : 8 - (length f.numbers + length b.numbers) + length b.numbers ≡ 8 - m = omega arith in
-    let e : 65536 ^ (8 - (length f.numbers + length b.numbers) + length b.numbers) ≡ 65536 ^ (8 - m) = ap (λ k. 65536 ^ k) places_are in
-    let g = gap_number f.numbers b.numbers (8 - (length f.numbers + length b.numbers)) in
-    is ∙ (ap (λ p. p * 65536 ^ (8 - m) + u) f.value_is ∙ (ap (λ p. number_from_digits 65536 f.numbers * 65536 ^ (8 - m) + p) b.value_is
-    ∙ sym (g ∙ ap (λ p. number_from_digits 65536 f.numbers * p + number_from_digits 65536 b.numbers) e))) }
+      let i = f.count_is in let j = b.count_is in
+      let places_are : 8 - (length f.numbers + length b.numbers) + length b.numbers ≡ 8 - m = omega arith in
+      let e : 65536 ^ (8 - (length f.numbers + length b.numbers) + length b.numbers) ≡ 65536 ^ (8 - m) = ap (λ k. 65536 ^ k) places_are in
+      let g = gap_number f.numbers b.numbers (8 - (length f.numbers + length b.numbers)) in
+      is ∙ (ap (λ p. p * 65536 ^ (8 - m) + u) f.value_is ∙ (ap (λ p. number_from_digits 65536 f.numbers * 65536 ^ (8 - m) + p) b.value_is
+      ∙ sym (g ∙ ap (λ p. number_from_digits 65536 f.numbers * p + number_from_digits 65536 b.numbers) e)));
+}
 
 pub gap_count : (front back : List ℕ) (v m u n a : ℕ) → Counts Hexadecimal front v m → Counts Hexadecimal back u n → IsGap front back a → m + n ≤ 7
 gap_count front back v m u n a f b g =
@@ -250,10 +251,10 @@ v6_lacks c high other text a (gap {front = us} {back = vs} p g) =
 one_version : (text : List ℕ) (a b : ℕ) → IsV4Text text a → IsV6Text text b → ⊥
 one_version text a b f g = dotted f.numbers f.groups f.four
   where
-  dotted : (ns : List ℕ) → AreGroupsOf Decimal text ns → length ns ≡ 4 → ⊥
-  dotted [] h four = omega arith
-  dotted (n ∷ []) h four = omega arith
-  dotted (n ∷ m ∷ ns) h four = no_cut 46 h.0 h.1 text (v6_lacks 46 (lit≤ tt) (λ e. omega arith) text b g) h.2
+    dotted : (ns : List ℕ) → AreGroupsOf Decimal text ns → length ns ≡ 4 → ⊥
+    dotted [] h four = omega arith
+    dotted (n ∷ []) h four = omega arith
+    dotted (n ∷ m ∷ ns) h four = no_cut 46 h.0 h.1 text (v6_lacks 46 (lit≤ tt) (λ e. omega arith) text b g) h.2
 
 pub address_lacks_slash : (text : List ℕ) (a : Ip) → IsAddressText text a → Lacks 47 text
 address_lacks_slash text a (v4 f e) = groups_lack Decimal 47 (lit≤ tt) (λ i. omega arith) text f.numbers f.groups

@@ -162,9 +162,9 @@ pub adds_more : (w : Notation) (text group rest : List ℕ) (n v c new_v new_c :
     → Adds w rest (v * base_of w + n) (c + 1) new_v new_c → Adds w text v c new_v new_c
 adds_more w text group rest n v c new_v new_c e g a = put a.numbers a.groups a.some a.value_is a.count_is
   where
-  put : (ns : List ℕ) → AreGroupsOf w rest ns → 0 < length ns → new_v ≡ number_from_digits_after (base_of w) (v * base_of w + n) ns → new_c ≡ c + 1 + length ns → Adds w text v c new_v new_c
-  put [] gs some value count = absurd (omega arith)
-  put (m ∷ ns) gs some value count = record { numbers = n ∷ m ∷ ns; groups = (group, rest, e, g, gs); some = omega arith; value_is = value; count_is = omega arith }
+    put : (ns : List ℕ) → AreGroupsOf w rest ns → 0 < length ns → new_v ≡ number_from_digits_after (base_of w) (v * base_of w + n) ns → new_c ≡ c + 1 + length ns → Adds w text v c new_v new_c
+    put [] gs some value count = absurd (omega arith)
+    put (m ∷ ns) gs some value count = record { numbers = n ∷ m ∷ ns; groups = (group, rest, e, g, gs); some = omega arith; value_is = value; count_is = omega arith }
 
 separator-lt : (w : Notation) → separator_of w < 128
 separator-lt Decimal = lit< tt

@@ -3,3 +3,4 @@ pub mod NotationLaws
 pub mod GroupLaws
 pub mod AddressLaws
 pub mod PrefixLaws
+pub mod WrittenLaws

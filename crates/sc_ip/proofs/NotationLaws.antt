@@ -22,12 +22,14 @@ number_reads {E} bs (Ok x) plus lead h =
     (sym back ∙ ap decimal (sym p.1), tt)
 number_reads {E} bs (Err e) plus lead h =
     let own = numerals_by_value (AllDigits 10) tells_digits in
-    let p = parse_plain own {E = E} 8 bs (Err e) h plus in
-    (tt, λ n small is.
-      let d = decimal_is_IsNumeral n (omega arith) in
-      let P : List ℕ → Type 0 = λ l. IsNumeral 10 l × (digits_value 10 l ≡ n) in
-      let b = subst P (sym is) d in
-      p (b.0.1, b.0.0, (let v = b.1 in omega arith)))
+    let p = parse_plain own {E = E} 8 bs (Err e) h plus in (
+      tt,
+      λ n small is.
+          let d = decimal_is_IsNumeral n (omega arith) in
+          let P : List ℕ → Type 0 = λ l. IsNumeral 10 l × (digits_value 10 l ≡ n) in
+          let b = subst P (sym is) d in
+          p (b.0.1, b.0.0, (let v = b.1 in omega arith)),
+    )
 
 -- a decimal text begins with no plus, and with a zero only alone
 pub no_plus : (bs : List ℕ) (n : ℕ) → n < 256 → bs ≡ decimal n → get_or bs 0 0 ≢ 43

@@ -67,11 +67,10 @@ pub data IsIpText : List ℕ → Ip → Type 0 where
 
 -- the groups of an address, the highest first
 abbrev pub bytes_of : ℕ → List ℕ
-bytes_of a = (a / 256 ^ 3) ∷ (a / 256 ^ 2 % 256) ∷ (a / 256 % 256) ∷ (a % 256) ∷ []
+bytes_of address = map (λ place. address / 256 ^ place % 256) (3 ∷ 2 ∷ 1 ∷ 0 ∷ [])
 
 abbrev pub groups_of : ℕ → List ℕ
-groups_of a = (a / 65536 ^ 7) ∷ (a / 65536 ^ 6 % 65536) ∷ (a / 65536 ^ 5 % 65536) ∷ (a / 65536 ^ 4 % 65536)
-    ∷ (a / 65536 ^ 3 % 65536) ∷ (a / 65536 ^ 2 % 65536) ∷ (a / 65536 % 65536) ∷ (a % 65536) ∷ []
+groups_of address = map (λ place. address / 65536 ^ place % 65536) (7 ∷ 6 ∷ 5 ∷ 4 ∷ 3 ∷ 2 ∷ 1 ∷ 0 ∷ [])
 
 -- the text that is written: all groups, without leading zeros and in lower case, a slash and the prefix
 abbrev pub ip_text : Ip → List ℕ

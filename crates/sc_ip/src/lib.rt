@@ -7,7 +7,11 @@ mod ip;
 mod notation;
 mod range;
 mod read;
+#[cfg(test)]
+mod tests;
+mod write;
 
 pub use ip::Ip;
 pub use range::{in_range, is_loopback, is_multicast, is_v4};
 pub use read::{BadIp, read_ip};
+pub use write::write_ip;

@@ -18,7 +18,7 @@ pub returns-in_ok-number-in-Some-clause-some : goal.returns-in_ok-number-in-Some
 returns-in_ok-number-in-Some-clause-some t c =
     let parts = parts_at c.args.notation _ c.args.text.now (c.in-Some.group, c.in-Some.rest) c.separator.ensures c.in-Some.ensures.cases in
     some_more c.args.notation c.args.text.now _ _ c.in_ok-number-in-Some.number c.args.before.value c.args.before.count _ c.read_after.result (λ g. g.value) (λ g. g.count)
-      parts.0 c.in_ok-number-in-Some.ensures.some c.followed_by.ensures.count (rw c.followed_by.ensures.value at c.read_after.ensures.some)
+    parts.0 c.in_ok-number-in-Some.ensures.some c.followed_by.ensures.count (rw c.followed_by.ensures.value at c.read_after.ensures.some)
 
 pub returns-in_ok-number-in-Some-clause-none : goal.returns-in_ok-number-in-Some-clause-none
 returns-in_ok-number-in-Some-clause-none t c =

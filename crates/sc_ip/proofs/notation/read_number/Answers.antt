@@ -16,11 +16,11 @@ returns-then-has_leading_zero-clause-none c n small is =
 pub returns-clause-some : goal.returns-clause-some
 returns-clause-some c = rw c.ok.ensures.value
     (number_reads c.args.text.now c.parse.result
-      (λ e. false≢true ((starts_char 43 c.args.text.now false c.if-starts_with.ensures.cases (lit< tt) (lit< tt)).1 e))
-      (λ long e. false≢true (c.if-has_leading_zero.ensures.1 (long, e))) c.parse.ensures.value.0).0
+    (λ e. false≢true ((starts_char 43 c.args.text.now false c.if-starts_with.ensures.cases (lit< tt) (lit< tt)).1 e))
+    (λ long e. false≢true (c.if-has_leading_zero.ensures.1 (long, e))) c.parse.ensures.value.0).0
 
 pub returns-clause-none : goal.returns-clause-none
 returns-clause-none c = rw c.ok.ensures.value
     (number_reads c.args.text.now c.parse.result
-      (λ e. false≢true ((starts_char 43 c.args.text.now false c.if-starts_with.ensures.cases (lit< tt) (lit< tt)).1 e))
-      (λ long e. false≢true (c.if-has_leading_zero.ensures.1 (long, e))) c.parse.ensures.value.0).1
+    (λ e. false≢true ((starts_char 43 c.args.text.now false c.if-starts_with.ensures.cases (lit< tt) (lit< tt)).1 e))
+    (λ long e. false≢true (c.if-has_leading_zero.ensures.1 (long, e))) c.parse.ensures.value.0).1

@@ -10,8 +10,8 @@ returns-then-front-back-gt7-clause-none c a g =
 pub overflow_add-result : goal.overflow_add-result
 overflow_add-result c =
     let h : c.filled.result + c.in_ok-back.back.value < 2 ^ 128 =
-      rw c.filled.ensures.value (gap_fits c.in_ok-front.front.value c.in_ok-back.back.value c.in_ok-front.front.count c.in_ok-back.back.count
-        (rw c.filled.ensures.value at c.filled.ensures.in_range) c.in_ok-back.back.in_range (omega arith)) in
+    rw c.filled.ensures.value (gap_fits c.in_ok-front.front.value c.in_ok-back.back.value c.in_ok-front.front.count c.in_ok-back.back.count
+    (rw c.filled.ensures.value at c.filled.ensures.in_range) c.in_ok-back.back.in_range (omega arith)) in
     omega arith
 
 pub returns-clause-some : goal.returns-clause-some

@@ -21,4 +21,4 @@ returns-in-None-clause-some c = IfSome_then c.read_full.result c.read_full.ensur
 pub returns-in-None-clause-none : goal.returns-in-None-clause-none
 returns-in-None-clause-none c =
     IfNone-weaker c.read_full.result _ _ c.read_full.ensures.none
-      (λ none a t. none a (v6_without_gap c.args.text.now a (split_text_parts (58 ∷ 58 ∷ []) c.args.text.now None c.in-None.ensures.cases) t))
+    (λ none a t. none a (v6_without_gap c.args.text.now a (split_text_parts (58 ∷ 58 ∷ []) c.args.text.now None c.in-None.ensures.cases) t))
