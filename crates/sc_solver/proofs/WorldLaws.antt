@@ -68,11 +68,11 @@ passed false x y e = refl
 context-plain : {s : Declarations} (h : IsPlain s) → context_of s (plain_env h).action ≡ Some (bool_record h.attributes)
 context-plain {s} h = rw h.actions (ap (option_map (λ (a : Action). a.context)) (chosen _ _ _ (uid-plain h)))
 
-names-bools : (names : List (List ℕ)) → map (λ (a : _). a.0) (map bool_field names) ≡ names
+pub names-bools : (names : List (List ℕ)) → map (λ (a : _). a.0) (map bool_field names) ≡ names
 names-bools [] = refl
 names-bools (x ∷ names) = ap (λ ns. x ∷ ns) (names-bools names)
 
-out_Record : (attributes : _) → out-Ty (Record attributes) ≡ t.Record attributes
+pub out_Record : (attributes : _) → out-Ty (Record attributes) ≡ t.Record attributes
 out_Record attributes = ap out-Ty (sym (rolls-Record attributes)) ∙ out-roll-Ty (t.Record attributes)
 
 pub names-plain : {s : Declarations} (h : IsPlain s) (env : Env) → plain_env h ≡ env → context_names s env ≡ h.attributes

@@ -1,0 +1,2 @@
+pub mod DecimalLaws
+pub mod WrittenLaws

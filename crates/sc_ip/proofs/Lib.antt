@@ -1,0 +1,6 @@
+pub mod RangeLaws
+pub mod NotationLaws
+pub mod GroupLaws
+pub mod AddressLaws
+pub mod PrefixLaws
+pub mod WrittenLaws
