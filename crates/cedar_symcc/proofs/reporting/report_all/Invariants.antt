@@ -1,0 +1,11 @@
+use Rattle.std.proofs.Common.{◌≤◌, ◌≡◌}
+use Rattle.sc_schema.specs.Declarations.{environments}
+use Rattle.cedar_symcc.specs.Progress.{Progress}
+use Rattle.cedar_symcc.specs.Runs.{asked}
+use Rattle.cedar_symcc.proofs.reporting.report_all.Given as goal
+
+abbrev pub invariant-loop-env : goal.invariant-loop-env
+invariant-loop-env g l = record {
+  progress : Progress (asked l.inputs.schema l.inputs.attribute) l.envs l.env-index (g.O.Sink.written l.initial.out) (g.O.Sink.written l.out) l.found;
+  later : g.O.Sink.faults l.initial.out ≤ g.O.Sink.faults l.out;
+}

@@ -1,0 +1,41 @@
+use Rattle.cedar_symcc.proofs.RunLaws.{all-hold, some-fails, complete, unusable, no-command, schema-is-long, schema-is-not, policies-are-long, policies-are-not, read-rose, write-rose, is-too-long, is-not-form}
+use Rattle.cedar_symcc.proofs.running.run.Goals as goal
+
+pub returns-clause-holds : goal.returns-clause-holds
+returns-clause-holds g c = all-hold _ c.ends-code.ensures
+
+pub returns-clause-counterexample : goal.returns-clause-counterexample
+returns-clause-counterexample g c = some-fails _ c.ends-code.ensures
+
+pub returns-clause-complete : goal.returns-clause-complete
+returns-clause-complete g c = λ x f h. complete _ c.ends-code.ensures x f h
+
+pub returns-clause-unusable : goal.returns-clause-unusable
+returns-clause-unusable g c = λ x. unusable _ c.ends-code.ensures x
+
+pub returns-clause-usage : goal.returns-clause-usage
+returns-clause-usage g c = no-command _ c.ends-code.ensures
+
+pub returns-clause-schema_is_long : goal.returns-clause-schema_is_long
+returns-clause-schema_is_long g c = λ x f. schema-is-long _ c.ends-code.ensures x f
+
+pub returns-clause-schema_is_not : goal.returns-clause-schema_is_not
+returns-clause-schema_is_not g c = λ x f. schema-is-not _ c.ends-code.ensures x f
+
+pub returns-clause-policies_are_long : goal.returns-clause-policies_are_long
+returns-clause-policies_are_long g c = λ x f. policies-are-long _ c.ends-code.ensures x f
+
+pub returns-clause-policies_are_not : goal.returns-clause-policies_are_not
+returns-clause-policies_are_not g c = λ x f. policies-are-not _ c.ends-code.ensures x f
+
+pub returns-clause-read_fault : goal.returns-clause-read_fault
+returns-clause-read_fault g c = read-rose _ c.ends-code.ensures
+
+pub returns-clause-write_fault : goal.returns-clause-write_fault
+returns-clause-write_fault g c = write-rose _ c.ends-code.ensures
+
+pub returns-clause-too_long : goal.returns-clause-too_long
+returns-clause-too_long g c = is-too-long _ c.ends-code.ensures
+
+pub returns-clause-not_form : goal.returns-clause-not_form
+returns-clause-not_form g c = is-not-form _ c.ends-code.ensures

@@ -1,0 +1,9 @@
+pub mod Commands
+pub mod Policies
+pub mod Reports
+pub mod Refusals
+pub mod Progress
+pub mod Runs
+pub mod Analyses
+pub mod Readings
+pub mod View

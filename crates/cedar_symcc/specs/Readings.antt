@@ -1,0 +1,89 @@
+-- Why reading ends.
+use Rattle.std.specs.Prelude.{◌≡◌, ◌<◌, ℕ, List, Option, IfSome, length, ⊤}
+use Rattle.sc_lists.specs.declared.fault.Fault.{Fault}
+use Rattle.sc_lists.specs.declared.fault.Fault.TheVariants.{Told, NoMemory}
+use Rattle.sc_schema.specs.Declarations.{Declarations}
+use Rattle.sc_schema.specs.Plain.{IsPlain}
+use Rattle.sc_schema_json.specs.Form.{SpellsSchema}
+use Rattle.cedar_symcc.specs.Analyses.{IsDeclared}
+use Rattle.cedar_symcc.specs.Commands.{Command}
+use Rattle.cedar_symcc.specs.Policies.{SpellsPolicies, declared_names}
+use Rattle.cedar_symcc.specs.Refusals.{limit}
+use Rattle.cedar_symcc.specs.Refusals as spec
+use Rattle.cedar_symcc.specs.View.{refusal_view}
+use Rattle.cedar_symcc.specs.declared.refusal.FileName.{FileName}
+use Rattle.cedar_symcc.specs.declared.refusal.FileName.TheVariants.{Schema, Policies}
+use Rattle.cedar_symcc.specs.declared.reporting.Inputs.{Inputs}
+use Rattle.cedar_symcc.specs.declared.refusal.Refusal.{Refusal}
+use Rattle.cedar_symcc.specs.declared.refusal.Refusal.TheVariants.{Usage, ReadFault, TooLong, NotForm}
+
+-- reading a file fails where the source did, or where its content, being told, is too long
+abbrev pub FailsReading_at : Option (List ℕ) → Type 0 → FileName → Refusal → Type 0
+FailsReading_at told rose file Usage = ⊥
+FailsReading_at told rose file (ReadFault f) = (f ≡ file) × rose
+FailsReading_at told rose file (TooLong f) = (f ≡ file) × IfSome told (λ content. limit < length content)
+FailsReading_at told rose file (NotForm f) = ⊥
+
+abbrev pub FailsReading : Option (List ℕ) → Type 0 → FileName → Fault Refusal → Type 0
+FailsReading told rose file (Told r) = FailsReading_at told rose file r
+FailsReading told rose file NoMemory = ⊤
+
+-- the bytes of the policy file spell no policies
+abbrev pub FailsPolicies_at : List (List ℕ) → List ℕ → Refusal → Type 0
+FailsPolicies_at declared bytes (NotForm Policies) = (o : Option (List ℕ)) → SpellsPolicies declared bytes o → ⊥
+FailsPolicies_at declared bytes (NotForm Schema) = ⊥
+FailsPolicies_at declared bytes Usage = ⊥
+FailsPolicies_at declared bytes (ReadFault f) = ⊥
+FailsPolicies_at declared bytes (TooLong f) = ⊥
+
+abbrev pub FailsPolicies : List (List ℕ) → List ℕ → Fault Refusal → Type 0
+FailsPolicies declared bytes (Told r) = FailsPolicies_at declared bytes r
+FailsPolicies declared bytes NoMemory = ⊤
+
+-- the bytes of the schema file spell no schema
+abbrev pub FailsSchema_at : List ℕ → Refusal → Type 0
+FailsSchema_at bytes (NotForm Schema) = (s : Declarations) → SpellsSchema bytes s → ⊥
+FailsSchema_at bytes (NotForm Policies) = ⊥
+FailsSchema_at bytes Usage = ⊥
+FailsSchema_at bytes (ReadFault f) = ⊥
+FailsSchema_at bytes (TooLong f) = ⊥
+
+abbrev pub FailsSchema : List ℕ → Fault Refusal → Type 0
+FailsSchema bytes (Told r) = FailsSchema_at bytes r
+FailsSchema bytes NoMemory = ⊤
+
+-- a refusal that may come, or want of memory
+abbrev pub FailsWith : (spec.Refusal → Type 0) → Fault Refusal → Type 0
+FailsWith P (Told r) = P (refusal_view r)
+FailsWith P NoMemory = ⊤
+
+-- the refusals that the policy file of a command may lead to, where the schema is read
+abbrev pub RefusesPolicies : spec.Content → Command → Type 0 → Declarations → spec.Refusal → Type 0
+RefusesPolicies content c rose s spec.usage = ⊥
+RefusesPolicies content c rose s (spec.read_fault spec.schema_file) = ⊥
+RefusesPolicies content c rose s (spec.read_fault spec.policies_file) = rose
+RefusesPolicies content c rose s (spec.too_long spec.schema_file) = ⊥
+RefusesPolicies content c rose s (spec.too_long spec.policies_file) = spec.IsTooLong content c.policies
+RefusesPolicies content c rose s (spec.not_form spec.schema_file) = ⊥
+RefusesPolicies content c rose s (spec.not_form spec.policies_file) =
+    (bytes : List ℕ) × spec.IsContent content c.policies bytes × ((o : Option (List ℕ)) → SpellsPolicies (declared_names s) bytes o → ⊥)
+
+-- what a command's inputs are: both files are read, the schema is plain and the attribute declared
+pub record ReadsInputs (content : spec.Content) (c : Command) (i : Inputs) : Type 0 where
+  pub schema : spec.ReadsSchema content c i.schema
+  pub policies : spec.ReadsPolicies content c (declared_names i.schema) i.attribute
+  pub plain : IsPlain i.schema
+  pub declared : IsDeclared i.schema i.attribute
+  pub budget : i.budget ≡ c.budget
+
+-- the refusals that the files of a command may lead to
+abbrev pub RefusesFiles : spec.Content → Command → Type 0 → spec.Refusal → Type 0
+RefusesFiles content c rose spec.usage = ⊥
+RefusesFiles content c rose (spec.read_fault spec.schema_file) = rose
+RefusesFiles content c rose (spec.read_fault spec.policies_file) = ((s : Declarations) × spec.ReadsSchema content c s) × rose
+RefusesFiles content c rose (spec.too_long spec.schema_file) = spec.IsTooLong content c.schema
+RefusesFiles content c rose (spec.too_long spec.policies_file) = ((s : Declarations) × spec.ReadsSchema content c s) × spec.IsTooLong content c.policies
+RefusesFiles content c rose (spec.not_form spec.schema_file) =
+    (bytes : List ℕ) × spec.IsContent content c.schema bytes × ((s : Declarations) → SpellsSchema bytes s → ⊥)
+RefusesFiles content c rose (spec.not_form spec.policies_file) =
+    (s : Declarations) × spec.ReadsSchema content c s × ((bytes : List ℕ) × spec.IsContent content c.policies bytes × ((o : Option (List ℕ)) → SpellsPolicies (declared_names s) bytes o → ⊥))

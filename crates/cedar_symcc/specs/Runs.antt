@@ -1,0 +1,143 @@
+-- How a run ends.
+use Rattle.std.specs.Prelude.{◌≡◌, ◌≤◌, ◌<◌, ◌⊎◌, ℕ, List, [], ◌∷◌, map, Option, Some, length, take, false}
+use Rattle.std.specs.List.{Contains}
+use Rattle.sc_outside.specs.Writes.{appended}
+use Rattle.sc_goal.specs.declared.question.Question.TheVariants.{AlwaysDenies}
+use Rattle.sc_schema.specs.declared.declarations.Env.{Env}
+use Rattle.sc_schema.specs.Declarations.{Declarations, environments}
+use Rattle.sc_schema_json.specs.Form.{SpellsSchema}
+use Rattle.sc_world.specs.declared.world.World.{World}
+use Rattle.cedar_symcc.specs.Commands.{Command, Commands}
+use Rattle.cedar_symcc.specs.Policies.{SpellsPolicies, policies_of, declared_names}
+use Rattle.cedar_symcc.specs.Progress.{Reported}
+use Rattle.cedar_symcc.specs.Refusals.{Refusal, IsRefusal, code_of, refusal_text, Content, IsContent, IsTooLong, ReadsSchema, ReadsPolicies, limit}
+use Rattle.cedar_symcc.specs.Reports.{Asked, Line, holds, counterexample, IsReport, AlwaysHas, Violates, report_text}
+
+-- What a run sees and does: what the files hold, the words, whether the counts of faults rose, what was written before it
+-- and is written after it, and the status.
+pub record Run : Type 1 where
+  pub content : Content
+  pub words : List (List ℕ)
+  pub read_rose : Type 0
+  pub write_rose : Type 0
+  pub before : Option (List ℕ)
+  pub after : Option (List ℕ)
+  pub code : ℕ
+
+abbrev pub run_of : Content → List (List ℕ) → Type 0 → Type 0 → Option (List ℕ) → Option (List ℕ) → ℕ → Run
+run_of content words read_rose write_rose before after code =
+    record { content = content; words = words; read_rose = read_rose; write_rose = write_rose; before = before; after = after; code = code }
+
+-- what is asked under a schema of the policies that a file spells
+abbrev pub asked : Declarations → Option (List ℕ) → Asked
+asked s o = record { schema = s; question = AlwaysDenies; first = policies_of o; second = [] }
+
+-- the words are a command, and its files were read and spell a schema and policies
+pub record ReadsAll (content : Content) (words : List (List ℕ)) (s : Declarations) (o : Option (List ℕ)) : Type 0 where
+  pub command : Command
+  pub commands : Commands words command
+  pub schema : ReadsSchema content command s
+  pub policies : ReadsPolicies content command (declared_names s) o
+
+-- a refusal's line is written whole, or a front of it; or the report is written, as far as it came; or memory ran out
+-- before anything was written
+pub data Ends (r : Run) : Type 0 where
+  refused : (a : Refusal) → IsRefusal r.content r.words r.read_rose a → r.code ≡ code_of a → r.after ≡ appended r.before (refusal_text a) → Ends r
+  refusal_cut : (a : Refusal) (n : ℕ) → IsRefusal r.content r.words r.read_rose a → r.write_rose → r.code ≡ 21 → r.after ≡ appended r.before (take n (refusal_text a)) → Ends r
+  reported : (s : Declarations) (o : Option (List ℕ)) → ReadsAll r.content r.words s o → Reported (asked s o) r.before r.after r.write_rose r.code → Ends r
+  no_memory : r.code ≡ 30 → r.after ≡ r.before → Ends r
+
+-- each environment is reported to hold: every well-formed world of it has the property
+pub record AllHold (r : Run) : Type 0 where
+  pub schema : Declarations
+  pub policies : Option (List ℕ)
+  pub reads : ReadsAll r.content r.words schema policies
+  pub lines : List Line
+  pub report : IsReport (asked schema policies) (environments schema) lines
+  pub text : r.after ≡ appended r.before (report_text lines)
+  pub always : (env : Env) → Contains (environments schema) env → AlwaysHas (asked schema policies) env
+
+-- a line prints a world: it is a well-formed world of the line's environment that lacks the property; and each line that
+-- says so of an environment that it holds is right
+pub record SomeFails (r : Run) : Type 0 where
+  pub schema : Declarations
+  pub policies : Option (List ℕ)
+  pub reads : ReadsAll r.content r.words schema policies
+  pub lines : List Line
+  pub report : IsReport (asked schema policies) (environments schema) lines
+  pub text : r.after ≡ appended r.before (report_text lines)
+  pub env : Env
+  pub world : World
+  pub printed : Contains lines (record { env = env; verdict = counterexample world })
+  pub violates : Violates (asked schema policies) env world
+
+-- the words are a command, both files are told and short enough, and they spell a schema and policies
+pub record IsReadable (r : Run) : Type 0 where
+  pub command : Command
+  pub commands : Commands r.words command
+  pub schema_bytes : List ℕ
+  pub policy_bytes : List ℕ
+  pub schema_told : r.content command.schema ≡ Some schema_bytes
+  pub policies_told : r.content command.policies ≡ Some policy_bytes
+  pub schema_short : length schema_bytes ≤ limit
+  pub policies_short : length policy_bytes ≤ limit
+  pub schema : Declarations
+  pub policies : Option (List ℕ)
+  pub schema_spelled : SpellsSchema schema_bytes schema
+  pub policies_spelled : SpellsPolicies (declared_names schema) policy_bytes policies
+
+-- one of the statuses of a whole report, or want of memory
+abbrev pub IsWhole : ℕ → Type 0
+IsWhole code = (code ≡ 0) ⊎ ((code ≡ 1) ⊎ (code ≡ 30))
+
+-- this status, unless the write failed or memory ran out
+abbrev pub MustBe : ℕ → ℕ → Type 0
+MustBe n code = (code ≡ n) ⊎ ((code ≡ 21) ⊎ (code ≡ 30))
+
+-- a file of the command is told and longer than its limit, and the files before it are read
+pub data TooLong (r : Run) : Type 0 where
+  schema_long : (c : Command) → Commands r.words c → IsTooLong r.content c.schema → TooLong r
+  policies_long : (c : Command) → Commands r.words c → (s : Declarations) → ReadsSchema r.content c s → IsTooLong r.content c.policies → TooLong r
+
+-- a file of the command isn't of the form, and the files before it are read
+pub data NotForm (r : Run) : Type 0 where
+  schema_not : (c : Command) → Commands r.words c → (bytes : List ℕ) → IsContent r.content c.schema bytes → ((s : Declarations) → SpellsSchema bytes s → ⊥) → NotForm r
+  policies_not : (c : Command) → Commands r.words c → (s : Declarations) → ReadsSchema r.content c s → (bytes : List ℕ) → IsContent r.content c.policies bytes
+      → ((o : Option (List ℕ)) → SpellsPolicies (declared_names s) bytes o → ⊥) → NotForm r
+
+-- the words are a command whose schema file is told
+pub record SchemaTold (r : Run) : Type 0 where
+  pub command : Command
+  pub commands : Commands r.words command
+  pub bytes : List ℕ
+  pub told : r.content command.schema ≡ Some bytes
+
+-- and of the form, and the policy file is told too
+pub record PoliciesTold (r : Run) : Type 0 where
+  pub command : Command
+  pub commands : Commands r.words command
+  pub schema_bytes : List ℕ
+  pub schema_told : r.content command.schema ≡ Some schema_bytes
+  pub schema_short : length schema_bytes ≤ limit
+  pub schema : Declarations
+  pub spelled : SpellsSchema schema_bytes schema
+  pub bytes : List ℕ
+  pub told : r.content command.policies ≡ Some bytes
+
+abbrev pub SchemaIsLong : Run → Type 0
+SchemaIsLong r = (t : SchemaTold r) × (limit < length t.bytes)
+
+abbrev pub SchemaIsNot : Run → Type 0
+SchemaIsNot r = (t : SchemaTold r) × (length t.bytes ≤ limit) × ((s : Declarations) → SpellsSchema t.bytes s → ⊥)
+
+abbrev pub PoliciesAreLong : Run → Type 0
+PoliciesAreLong r = (t : PoliciesTold r) × (limit < length t.bytes)
+
+abbrev pub PoliciesAreNot : Run → Type 0
+PoliciesAreNot r = (t : PoliciesTold r) × (length t.bytes ≤ limit) × ((o : Option (List ℕ)) → SpellsPolicies (declared_names t.schema) t.bytes o → ⊥)
+
+-- how a refusal ends: its line is written whole, or a front of it, or memory runs out and nothing is written
+abbrev pub Refuses : Refusal → Option (List ℕ) → Option (List ℕ) → Type 0 → ℕ → Type 0
+Refuses a old new rose code =
+    ((code ≡ code_of a) × (new ≡ appended old (refusal_text a)))
+    ⊎ ((rose × (code ≡ 21) × ((n : ℕ) × (new ≡ appended old (take n (refusal_text a))))) ⊎ ((code ≡ 30) × (new ≡ old)))

@@ -1,0 +1,58 @@
+//! Reads the policy files that are served so far.
+ghost use Rattle.std.specs.Prelude.{◌≡◌, ◌≢◌, ◌↔◌, ◌++◌, ℕ, List, map, Some, IfSome, IfNone, IsTrue};
+ghost use Rattle.cedar_symcc.specs.Policies.{policy_front, IsPolicyEnd, IsPolicyText, IsPolicyOn, SpellsPolicies};
+
+use sc_lists::Text;
+use sc_names::is_ident;
+use sc_schema::{Presence, Ty};
+
+fn strip<'b>(bytes: &'b [u8], front: &[u8]) -> Option<&'b [u8]>
+    ensures found { IfSome result (λ rest. bytes.now ≡ front.now ++ rest.now) }
+    ensures none { IfNone result ((rest : List ℕ) → bytes.now ≢ front.now ++ rest) }
+{
+    bytes.strip_prefix(front)
+}
+
+#[tactic(auto, unfolding(crate::specs::Policies::policy_front))]
+fn policy_front() -> &'static [u8]
+    ensures { result.now ≡ policy_front }
+{
+    b"permit(principal, action, resource) when { context."
+}
+
+fn ends_policy(rest: &[u8]) -> bool
+    ensures { IsTrue result ↔ IsPolicyEnd rest.now }
+{
+    rest == b" };".as_slice() || rest == b" };\n".as_slice()
+}
+
+fn is_policy_text(bytes: &[u8], name: &str) -> bool
+    ensures { IsTrue result ↔ IsPolicyText bytes.now name.now }
+{
+    let Some(rest) = strip(bytes, policy_front()) else {
+        return false;
+    };
+    let Some(rest) = strip(rest, name.as_bytes()) else {
+        return false;
+    };
+    ends_policy(rest)
+}
+
+fn is_policy_on(bytes: &[u8], name: &str) -> bool
+    ensures { IsTrue result ↔ IsPolicyOn bytes.now name.now }
+{
+    is_ident(name) && is_policy_text(bytes, name)
+}
+
+/// The attribute that the one policy reads.
+pub fn attribute_of<'d>(bytes: &[u8], declared: &'d [(Text, Presence, Ty)]) -> Option<&'d Text>
+    ensures found { IfSome result (λ name. SpellsPolicies (map (λ a. a.0) declared.now) bytes.now (Some name.now)) }
+    ensures none { IfNone result ((name : List ℕ) → SpellsPolicies (map (λ a. a.0) declared.now) bytes.now (Some name) → ⊥) }
+{
+    for field in declared {
+        if is_policy_on(bytes, field.0.as_str()) {
+            return Some(&field.0);
+        }
+    }
+    None
+}

@@ -1,0 +1,168 @@
+//! Reads what a command names.
+ghost use Rattle.std.specs.Prelude.{◌≡◌, ◌≤◌, ◌<◌, ◌⊎◌, ℕ, List, Option, Err, map, IfOk, IfSome, IfErr, length};
+ghost use Rattle.sc_outside.specs.Counts.{Rose};
+ghost use Rattle.sc_schema.specs.Declarations.{Declarations};
+ghost use Rattle.sc_footprint.specs.Problems.{names_in};
+ghost use Rattle.sc_schema.specs.declared.ty.Ty.{out-Ty};
+ghost use Rattle.sc_schema.specs.Plain.{IsPlain};
+ghost use Rattle.sc_schema_json.specs.Form.{SpellsSchema};
+ghost use Rattle.cedar_symcc.specs.Analyses.{IsDeclared};
+ghost use Rattle.cedar_symcc.specs.Commands.{command_view, words_view};
+ghost use Rattle.cedar_symcc.specs.Policies.{SpellsPolicies, declared_names};
+ghost use Rattle.cedar_symcc.specs.Readings.{FailsReading, FailsPolicies, FailsSchema, FailsWith, RefusesPolicies, RefusesFiles, ReadsInputs};
+ghost use Rattle.cedar_symcc.specs.Refusals.{IsContent, IsRefusal, ReadsPolicies};
+ghost use Rattle.cedar_symcc.specs.Runs.{ReadsAll};
+ghost use Rattle.cedar_symcc.specs.View.{file_view};
+
+use crate::policies::attribute_of;
+use crate::refusal::{FileName, Refusal};
+use crate::reporting::Inputs;
+use crate::words::{Analyse, command_of};
+use sc_lists::{Fault, Text};
+use sc_outside::{FileFault, Files};
+use sc_schema::{Presence, Schema, Ty};
+use sc_schema_json::read_schema;
+use std::alloc::Global;
+
+/// How many bytes a file may have.
+const LIMIT: u64 = 16_777_216;
+
+/// The bytes of a file.
+fn content_of<F: Files>(
+    alloc: Global,
+    files: &mut F,
+    name: &str,
+    file: FileName,
+) -> Result<Vec<u8>, Fault<Refusal>>
+    ensures found { IfOk result (λ v. IsContent (F.content files.old) name.now v.items) }
+    ensures fails { IfErr result (FailsReading (F.content files.old name.now) (Rose (F.faults files.old) (F.faults files.new)) file) }
+    ensures keeps { (other : List ℕ) → F.content files.new other ≡ F.content files.old other }
+    ensures later { F.faults files.old ≤ F.faults files.new }
+{
+    match files.read(alloc, name, LIMIT) {
+        Ok(bytes) => Ok(bytes),
+        Err(FileFault::Failed) => Err(Fault::Told(Refusal::ReadFault(file))),
+        Err(FileFault::TooLong) => Err(Fault::Told(Refusal::TooLong(file))),
+        Err(FileFault::NoMemory) => Err(Fault::NoMemory),
+    }
+}
+
+/// The attributes of the context of requests for the first action.
+fn context_fields(schema: &Schema) -> &[(Text, Presence, Ty)]
+    ensures { map (λ a. a.0) result.now ≡ declared_names schema.now }
+{
+    match schema.declared_actions().first() {
+        Some(action) => fields_of(&action.context),
+        None => &[],
+    }
+}
+
+fn fields_of(ty: &Ty) -> &[(Text, Presence, Ty)]
+    ensures { map (λ a. a.0) result.now ≡ names_in (out-Ty ty.now) }
+{
+    match ty {
+        Ty::Record(attributes) => attributes.as_slice(),
+        _ => &[],
+    }
+}
+
+/// The attribute that the policies read, or none where there is no policy.
+fn attribute_in(
+    alloc: Global,
+    bytes: &[u8],
+    schema: &Schema,
+) -> Result<Option<Text>, Fault<Refusal>>
+    ensures spelled { IfOk result (λ o. SpellsPolicies (declared_names schema.now) bytes.now o) }
+    ensures declared { IfOk result (IsDeclared schema.now) }
+    ensures fails { IfErr result (FailsPolicies (declared_names schema.now) bytes.now) }
+{
+    if bytes.is_empty() {
+        return Ok(None);
+    }
+    match attribute_of(bytes, context_fields(schema)) {
+        Some(name) => match name.try_clone(alloc) {
+            Ok(name) => Ok(Some(name)),
+            Err(_) => Err(Fault::NoMemory),
+        },
+        None => Err(Fault::Told(Refusal::NotForm(FileName::Policies))),
+    }
+}
+
+/// The schema that the bytes spell.
+fn schema_in(alloc: Global, bytes: &[u8]) -> Result<Schema, Fault<Refusal>>
+    ensures spelled { IfOk result (SpellsSchema bytes.now) }
+    ensures plain { IfOk result IsPlain }
+    ensures fails { IfErr result (FailsSchema bytes.now) }
+{
+    match read_schema(alloc, bytes) {
+        Ok(schema) => Ok(schema),
+        Err(Fault::Told(_)) => Err(Fault::Told(Refusal::NotForm(FileName::Schema))),
+        Err(Fault::NoMemory) => Err(Fault::NoMemory),
+    }
+}
+
+/// The inputs, where the schema is read.
+fn with_schema<F: Files>(
+    alloc: Global,
+    files: &mut F,
+    command: &Analyse<'_>,
+    schema: Schema,
+) -> Result<Inputs, Fault<Refusal>>
+    requires { IsPlain schema }
+    ensures schema { IfOk result (λ i. i.schema ≡ schema) }
+    ensures policies { IfOk result (λ i. ReadsPolicies (F.content files.old) (command_view command.now) (declared_names schema) i.attribute) }
+    ensures declared { IfOk result (λ i. IsDeclared schema i.attribute) }
+    ensures budget { IfOk result (λ i. i.budget ≡ command.now.budget) }
+    ensures fails { IfErr result (FailsWith (RefusesPolicies (F.content files.old) (command_view command.now) (Rose (F.faults files.old) (F.faults files.new)) schema)) }
+    ensures later { F.faults files.old ≤ F.faults files.new }
+{
+    match content_of(alloc, files, command.policies, FileName::Policies) {
+        Ok(bytes) => match attribute_in(alloc, &bytes, &schema) {
+            Ok(attribute) => Ok(Inputs {
+                schema,
+                attribute,
+                budget: command.budget,
+            }),
+            Err(fault) => Err(fault),
+        },
+        Err(fault) => Err(fault),
+    }
+}
+
+/// The inputs of a command.
+fn with_command<F: Files>(
+    alloc: Global,
+    files: &mut F,
+    command: &Analyse<'_>,
+) -> Result<Inputs, Fault<Refusal>>
+    ensures reads { IfOk result (ReadsInputs (F.content files.old) (command_view command.now)) }
+    ensures fails { IfErr result (FailsWith (RefusesFiles (F.content files.old) (command_view command.now) (Rose (F.faults files.old) (F.faults files.new)))) }
+    ensures later { F.faults files.old ≤ F.faults files.new }
+{
+    match content_of(alloc, files, command.schema, FileName::Schema) {
+        Ok(bytes) => match schema_in(alloc, &bytes) {
+            Ok(schema) => with_schema(alloc, files, command, schema),
+            Err(fault) => Err(fault),
+        },
+        Err(fault) => Err(fault),
+    }
+}
+
+/// The inputs that the words and the files give.
+pub fn inputs_of<F: Files>(
+    alloc: Global,
+    words: &[String],
+    files: &mut F,
+) -> Result<Inputs, Fault<Refusal>>
+    ensures reads { IfOk result (λ i. ReadsAll (F.content files.old) (words_view words.now) i.schema i.attribute) }
+    ensures plain { IfOk result (λ i. IsPlain i.schema) }
+    ensures declared { IfOk result (λ i. IsDeclared i.schema i.attribute) }
+    ensures units { IfOk result (λ i. 1 ≤ i.budget) }
+    ensures fails { IfErr result (FailsWith (IsRefusal (F.content files.old) (words_view words.now) (Rose (F.faults files.old) (F.faults files.new)))) }
+    ensures later { F.faults files.old ≤ F.faults files.new }
+{
+    match command_of(words) {
+        Some(command) => with_command(alloc, files, &command),
+        None => Err(Fault::Told(Refusal::Usage)),
+    }
+}

@@ -1,0 +1,84 @@
+//! The answers other than a report.
+ghost use Rattle.std.specs.Prelude.{◌≡◌, ◌++◌, OnOk, IfOk, codes};
+ghost use Rattle.cedar_symcc.specs.Refusals.{code_of, refusal_text, file_name};
+ghost use Rattle.cedar_symcc.specs.View.{file_view, refusal_view};
+
+use std::alloc::{AllocError, Global};
+
+/// One of the files that a command names.
+#[derive(Clone, Copy, Debug, PartialEq, Eq)]
+pub enum FileName {
+    /// The schema file.
+    Schema,
+    /// The policy file.
+    Policies,
+}
+
+/// An answer other than a report.
+#[derive(Clone, Copy, Debug, PartialEq, Eq)]
+pub enum Refusal {
+    /// The words are no command.
+    Usage,
+    /// A file couldn't be read.
+    ReadFault(FileName),
+    /// A file is longer than its limit.
+    TooLong(FileName),
+    /// A file isn't of the form that is served so far.
+    NotForm(FileName),
+}
+
+/// The status of a refusal.
+pub fn code(refusal: Refusal) -> u8
+    ensures { result ≡ code_of (refusal_view refusal) }
+{
+    match refusal {
+        Refusal::Usage => 10,
+        Refusal::ReadFault(_) => 20,
+        Refusal::TooLong(_) => 22,
+        Refusal::NotForm(_) => 15,
+    }
+}
+
+fn file_name(file: FileName) -> &'static [u8]
+    ensures { result.now ≡ file_name (file_view file) }
+{
+    match file {
+        FileName::Schema => b"schema",
+        FileName::Policies => b"policies",
+    }
+}
+
+/// Puts a text at the end.
+pub fn put(out: &mut Vec<u8>, text: &[u8]) -> Result<(), AllocError>
+    ensures { OnOk result (out.new.items ≡ out.old.items ++ text.now) }
+{
+    out.extend_from_slice(text)
+}
+
+fn put_error(out: &mut Vec<u8>, number: &[u8], file: FileName) -> Result<(), AllocError>
+    ensures { OnOk result (out.new.items ≡ out.old.items ++ (number.now ++ file_name (file_view file) ++ codes "\n")) }
+{
+    put(out, number)?;
+    put(out, file_name(file))?;
+    put(out, b"\n")
+}
+
+fn put_refusal(out: &mut Vec<u8>, refusal: Refusal) -> Result<(), AllocError>
+    ensures { OnOk result (out.new.items ≡ out.old.items ++ refusal_text (refusal_view refusal)) }
+{
+    match refusal {
+        Refusal::Usage => put(out, b"error 10 usage\n"),
+        Refusal::ReadFault(file) => put_error(out, b"error 20 ", file),
+        Refusal::TooLong(file) => put_error(out, b"error 22 ", file),
+        Refusal::NotForm(file) => put_error(out, b"error 15 ", file),
+    }
+}
+
+/// The line of a refusal, with its newline.
+pub fn text_of(alloc: Global, refusal: Refusal) -> Result<Vec<u8>, AllocError>
+    ensures { IfOk result (λ v. v.items ≡ refusal_text (refusal_view refusal)) }
+{
+    let mut out = Vec::new(alloc);
+    put_refusal(&mut out, refusal)?;
+    Ok(out)
+}
