@@ -187,7 +187,7 @@ groups_some text (n ∷ m ∷ ns) g some =
     let s = group_some Hexadecimal g.0 n g.3 in
     omega arith
 
-groups_single : (text ns : List ℕ) → AreGroupsOf Hexadecimal text ns → IsSingle text
+pub groups_single : (text ns : List ℕ) → AreGroupsOf Hexadecimal text ns → IsSingle text
 groups_single text [] g = let P : List ℕ → Type 0 = λ t. IsSingle t in subst P (sym g) tt
 groups_single text (n ∷ []) g = lacks_single text (separator_lacks Hexadecimal text n g)
 groups_single text (n ∷ m ∷ ns) g =
@@ -243,7 +243,7 @@ v6_lacks c high other text a (gap {front = us} {back = vs} p g) =
     let P : List ℕ → Type 0 = λ t. Lacks c t in
     subst P (sym p) (lacks_append c us (58 ∷ 58 ∷ vs) (groups_lack Hexadecimal c high other us g.before g.front_groups) (other, (other, groups_lack Hexadecimal c high other vs g.after g.back_groups)))
 
-one_version : (text : List ℕ) (a b : ℕ) → IsV4Text text a → IsV6Text text b → ⊥
+pub one_version : (text : List ℕ) (a b : ℕ) → IsV4Text text a → IsV6Text text b → ⊥
 one_version text a b f g = dotted f.numbers f.groups f.four
   where
     dotted : (ns : List ℕ) → AreGroupsOf Decimal text ns → length ns ≡ 4 → ⊥
