@@ -1,5 +1,5 @@
 //! Whether the addresses of one range are among those of another.
-ghost use Rattle.std.specs.Prelude.{◌≡◌, ℕ, ◌-◌, ◌/◌, ◌^◌, ◌≤◌, IsTrue, ◌↔◌};
+ghost use Rattle.std.specs.Prelude.{◌≡◌, ℕ, ◌-◌, ◌/◌, ◌^◌, IsTrue, ◌↔◌};
 ghost use Rattle.sc_ip.specs.Addresses.{is_version_4, address_of, width_of, prefix_of, IsInRange, IsLoopback, IsMulticast};
 
 use crate::ip::Ip;
