@@ -4,6 +4,7 @@
 
 mod compare;
 mod decimal;
+mod laws;
 mod read;
 #[cfg(test)]
 mod tests;
@@ -11,5 +12,6 @@ mod write;
 
 pub use compare::{le, lt};
 pub use decimal::Decimal;
+pub use laws::decimal_laws;
 pub use read::{BadDecimal, read_decimal};
 pub use write::write_decimal;

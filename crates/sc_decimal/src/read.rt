@@ -1,8 +1,10 @@
 //! Reads a decimal number from its text.
 ghost use Rattle.std.specs.Prelude.{◌≡◌, ℕ, ℤ, ◌<◌, ◌≤◌, ◌^◌, ◌*◌, ◌-◌, length, IfOk, OnErr, IfSome, IfNone};
 ghost use Rattle.std.specs.Option.{SomeIff};
+ghost use Rattle.std.specs.Result.{result_ok};
 ghost use Rattle.std.specs.Str.Parse.{IsNumeral, digits_value};
 ghost use Rattle.sc_decimal.specs.DecimalText.{IsMagnitude, IsDecimalText};
+ghost use Rattle.sc_decimal.specs.DecimalValue.{decimal_of};
 
 use crate::decimal::Decimal;
 use thiserror::Error;
@@ -17,6 +19,7 @@ pub struct BadDecimal;
 pub fn read_decimal(text: &str) -> Result<Decimal, BadDecimal>
     ensures ok { IfOk result (λ d. IsDecimalText text.now d) }
     ensures err { OnErr result ((d : ℤ) → IsDecimalText text.now d → ⊥) }
+    ensures value { result_ok result ≡ decimal_of text.now }
     ensures only { (c d : ℤ) → IsDecimalText text.now c → IsDecimalText text.now d → c ≡ d }
 {
     signed(text)

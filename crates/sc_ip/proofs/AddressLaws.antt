@@ -1,24 +1,19 @@
 -- The texts of addresses: what their groups make, and that a text stands for one address at most.
-use Rattle.std.proofs.Common.{◌≡◌, ◌≢◌, ℕ, zero, suc, ◌+◌, ◌-◌, ◌*◌, ◌/◌, ◌%◌, ◌^◌, ◌<◌, ◌≤◌, List, [], ◌∷◌, ◌++◌, length, get_or, replicate, Option, Some, None, refl, arith, lit<, lit≤, ap, sym, ◌∙◌, subst, length-append, IfSome, IfNone, Bor, Result, Ok, Err, ⊎_elim}
-use Rattle.std.specs.Option.{SomeIff}
+use Rattle.std.proofs.Common.{◌≡◌, ◌≢◌, ℕ, zero, suc, ◌+◌, ◌-◌, ◌*◌, ◌^◌, ◌<◌, ◌≤◌, List, [], ◌∷◌, ◌++◌, length, get_or, replicate, Option, Some, None, refl, arith, lit<, lit≤, ap, sym, ◌∙◌, subst, length-append, IfNone, Result, Ok, Err}
 use Rattle.std.specs.Result.{result_ok, OkIff}
-use Rattle.std.specs.Fmt.{decimal}
 use Rattle.std.specs.Char.{digit_value}
 use Rattle.std.specs.Int.Digits.{number_from_digits, number_from_digits_after, AllBelowBase}
 use Rattle.std.proofs.lemmas.Int.Digits.{number_lt, number_after_append}
-use Rattle.std.proofs.lemmas.Fmt.{decimal_injective}
 use Rattle.std.proofs.lemmas.List.{get_or_append_left}
 use Rattle.std.proofs.lemmas.Nat.{pow-add}
-use Rattle.std.proofs.lemmas.Str.Pattern.{IsSplitOnceResult, split_parts, split_text_parts}
 use Rattle.std.proofs.Math.Nat.{mul-le-mul, pow-suc, pow-le-pow_right}
 use Rattle.sc_ip.specs.declared.ip.Ip.{Ip}
 use Rattle.sc_ip.specs.declared.ip.Ip.TheVariants.{V4, V6}
 use Rattle.sc_ip.specs.declared.notation.Notation.{Notation}
 use Rattle.sc_ip.specs.declared.notation.Notation.TheVariants.{Decimal, Hexadecimal}
-use Rattle.sc_ip.specs.Addresses.{width_of, IsIp}
-use Rattle.sc_ip.specs.IpText.{IsDecimalGroup, IsHexadecimalGroup, AreGroups, IsV4Text, IsFullText, IsGap, IsV6Text, full, gap, IsAddressText, v4, v6, with_prefix, IsIpText, alone, prefixed}
-use Rattle.sc_ip.specs.Notations.{separator_of, base_of, IsGroupOf, AreGroupsOf, Adds, Counts}
-use Rattle.sc_ip.proofs.GroupLaws.{Lacks, index_lacks, lacks_from_index, same_cut, no_cut, lacks_append, decimal_lacks, group_lacks, separator_lacks, group_some, group-lt, groups_only, groups_lack, groups-le}
+use Rattle.sc_ip.specs.IpText.{IsHexadecimalGroup, IsV4Text, IsFullText, IsGap, IsV6Text, full, gap, IsAddressText, v4, v6}
+use Rattle.sc_ip.specs.Notations.{base_of, AreGroupsOf, Counts}
+use Rattle.sc_ip.proofs.GroupLaws.{Lacks, index_lacks, no_cut, lacks_append, separator_lacks, group_some, group-lt, groups_only, groups_lack}
 
 -- behind m groups stand 8 - m zero groups
 pub filled_fits : (v m : ℕ) → v < 65536 ^ m → m ≤ 8 → v * 65536 ^ (8 - m) + 65536 ^ (8 - m) ≤ 2 ^ 128
@@ -192,7 +187,7 @@ groups_some text (n ∷ m ∷ ns) g some =
     let s = group_some Hexadecimal g.0 n g.3 in
     omega arith
 
-groups_single : (text ns : List ℕ) → AreGroupsOf Hexadecimal text ns → IsSingle text
+pub groups_single : (text ns : List ℕ) → AreGroupsOf Hexadecimal text ns → IsSingle text
 groups_single text [] g = let P : List ℕ → Type 0 = λ t. IsSingle t in subst P (sym g) tt
 groups_single text (n ∷ []) g = lacks_single text (separator_lacks Hexadecimal text n g)
 groups_single text (n ∷ m ∷ ns) g =
@@ -248,7 +243,7 @@ v6_lacks c high other text a (gap {front = us} {back = vs} p g) =
     let P : List ℕ → Type 0 = λ t. Lacks c t in
     subst P (sym p) (lacks_append c us (58 ∷ 58 ∷ vs) (groups_lack Hexadecimal c high other us g.before g.front_groups) (other, (other, groups_lack Hexadecimal c high other vs g.after g.back_groups)))
 
-one_version : (text : List ℕ) (a b : ℕ) → IsV4Text text a → IsV6Text text b → ⊥
+pub one_version : (text : List ℕ) (a b : ℕ) → IsV4Text text a → IsV6Text text b → ⊥
 one_version text a b f g = dotted f.numbers f.groups f.four
   where
     dotted : (ns : List ℕ) → AreGroupsOf Decimal text ns → length ns ≡ 4 → ⊥

@@ -1,6 +1,6 @@
 -- Groups with separators between them: a text stands for one list of numbers at most, and which bytes it lacks.
-use Rattle.std.proofs.Common.{◌≡◌, ◌≢◌, ℕ, zero, suc, ◌+◌, ◌-◌, ◌*◌, ◌^◌, ◌<◌, ◌≤◌, List, [], ◌∷◌, ◌++◌, length, get_or, Option, Some, None, refl, arith, lit<, lit≤, ap, sym, ◌∙◌, subst, inl, inr, ◌⊎◌, Bor, IfSome, IfNone}
-use Rattle.std.specs.Str.Parse.{IsNumeral, AllDigits, digits_value}
+use Rattle.std.proofs.Common.{◌≡◌, ◌≢◌, ℕ, zero, suc, ◌+◌, ◌*◌, ◌^◌, ◌<◌, ◌≤◌, List, [], ◌∷◌, ◌++◌, length, get_or, Option, Some, None, refl, arith, lit<, lit≤, ap, sym, ◌∙◌, subst, Bor, IfSome, IfNone}
+use Rattle.std.specs.Str.Parse.{AllDigits}
 use Rattle.std.specs.Char.{digit_value}
 use Rattle.std.specs.Fmt.{decimal}
 use Rattle.std.specs.Int.Digits.{number_from_digits_after}
@@ -9,8 +9,7 @@ use Rattle.std.proofs.lemmas.Str.Pattern.{IsSplitOnceResult, split_parts}
 use Rattle.std.proofs.Math.Nat.{mul-le-mul, pow-suc, pow-le-pow_right}
 use Rattle.sc_ip.specs.declared.notation.Notation.{Notation}
 use Rattle.sc_ip.specs.declared.notation.Notation.TheVariants.{Decimal, Hexadecimal}
-use Rattle.sc_ip.specs.IpText.{IsDecimalGroup, IsHexadecimalGroup, AreGroups}
-use Rattle.sc_ip.specs.Notations.{separator_of, base_of, IsGroupOf, AreGroupsOf, Adds, Counts}
+use Rattle.sc_ip.specs.Notations.{separator_of, base_of, IsGroupOf, AreGroupsOf, Adds}
 use Rattle.sc_ip.proofs.NotationLaws.{hexadecimal-lt}
 
 -- the list lacks the byte

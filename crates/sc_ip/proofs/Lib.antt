@@ -4,3 +4,4 @@ pub mod GroupLaws
 pub mod AddressLaws
 pub mod PrefixLaws
 pub mod WrittenLaws
+pub mod ValueLaws

@@ -1,12 +1,12 @@
 -- The slash tells the address from the prefix, so a text stands for one address with a prefix at most.
-use Rattle.std.proofs.Common.{◌≡◌, ◌≢◌, ℕ, ◌+◌, ◌<◌, ◌≤◌, ◌^◌, List, [], ◌∷◌, ◌++◌, length, Option, Some, None, refl, arith, lit<, lit≤, ap, sym, ◌∙◌, subst, IfSome, IfNone, Bor}
+use Rattle.std.proofs.Common.{◌≡◌, ℕ, ◌<◌, ◌≤◌, List, ◌∷◌, ◌++◌, Option, Some, None, arith, lit<, lit≤, ap, sym, ◌∙◌, subst, IfSome, IfNone, Bor}
 use Rattle.std.specs.Option.{SomeIff}
 use Rattle.std.specs.Fmt.{decimal}
 use Rattle.std.proofs.lemmas.Fmt.{decimal_injective}
 use Rattle.std.proofs.lemmas.Str.Pattern.{IsSplitOnceResult, split_parts}
 use Rattle.sc_ip.specs.declared.ip.Ip.{Ip}
 use Rattle.sc_ip.specs.declared.ip.Ip.TheVariants.{V4, V6}
-use Rattle.sc_ip.specs.Addresses.{width_of, IsIp}
+use Rattle.sc_ip.specs.Addresses.{width_of}
 use Rattle.sc_ip.specs.IpText.{IsAddressText, with_prefix, IsIpText, alone, prefixed}
 use Rattle.sc_ip.proofs.GroupLaws.{Lacks, lacks_from_index, same_cut, no_cut}
 use Rattle.sc_ip.proofs.AddressLaws.{address_lacks_slash, address_only}

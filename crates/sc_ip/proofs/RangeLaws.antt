@@ -1,12 +1,10 @@
 -- One range is within another exactly where it has at most as many free bits, and the bits that the other holds fast agree.
-use Rattle.std.proofs.Common.{◌≡◌, ℕ, ◌+◌, ◌-◌, ◌*◌, ◌/◌, ◌^◌, ◌<◌, ◌≤◌, Bool, true, false, Option, Some, None, unwrap_or, refl, arith, ap, sym, ◌∙◌, zero, suc, eqb, leb, IsTrue, ⊎_elim, cond}
+use Rattle.std.proofs.Common.{◌≡◌, ℕ, ◌+◌, ◌-◌, ◌*◌, ◌/◌, ◌^◌, ◌<◌, ◌≤◌, Option, Some, None, unwrap_or, refl, arith, ap, sym, ◌∙◌, eqb, leb, IsTrue}
 use Rattle.std.specs.Option.{SomeIff}
 use Rattle.std.proofs.lemmas.Nat.{pow-add, pow_pos, div-mul-add}
 use Rattle.std.proofs.Math.Nat.{div-eq_of_lt, div-div-eq-div-mul, add-div_right}
 use Rattle.std.proofs.Math.Pow.{pow_mono, pow-lt}
-use Rattle.sc_ip.specs.declared.ip.Ip.{Ip}
-use Rattle.sc_ip.specs.Addresses.{is_version_4, width_of, address_of, prefix_of, IsInRange}
-use Rattle.std.proofs.lemmas.Bool.{cases_lt, eq-eqb, eqb-true, le-leb, leb-true}
+use Rattle.std.proofs.lemmas.Bool.{eq-eqb, eqb-true, leb-true}
 
 -- a shift by all bits or more leaves nothing
 pub shift_is : (n bits : ℕ) (r : Option ℕ) → n < 2 ^ 128 → SomeIff r (bits < 128) (n / 2 ^ bits) → unwrap_or r 0 ≡ n / 2 ^ bits
@@ -21,9 +19,6 @@ shift_twice : (n p q : ℕ) → p ≤ q → n / 2 ^ p / 2 ^ (q - p) ≡ n / 2 ^ 
 shift_twice n p q le =
     let e : p + (q - p) ≡ q = omega arith in
     div-div-eq-div-mul n (2 ^ p) (2 ^ (q - p)) ∙ ap (λ k. n / k) (sym (pow-add 2 p (q - p)) ∙ ap (λ k. 2 ^ k) e)
-
-pub IsWithin : (x p y q : ℕ) → Type 0
-IsWithin x p y q = (n : ℕ) → n / 2 ^ p ≡ x / 2 ^ p → n / 2 ^ q ≡ y / 2 ^ q
 
 within_from : (x p y q : ℕ) → p ≤ q → x / 2 ^ q ≡ y / 2 ^ q → (n : ℕ) → n / 2 ^ p ≡ x / 2 ^ p → n / 2 ^ q ≡ y / 2 ^ q
 within_from x p y q le same n e =
@@ -50,11 +45,3 @@ within_when x p y q u v le a b =
 pub within_unless : (x p y q : ℕ) → q < p
     → (IsTrue (leb p q) → (n : ℕ) → n / 2 ^ p ≡ x / 2 ^ p → n / 2 ^ q ≡ y / 2 ^ q) × (((n : ℕ) → n / 2 ^ p ≡ x / 2 ^ p → n / 2 ^ q ≡ y / 2 ^ q) → IsTrue (leb p q))
 within_unless x p y q lt = (λ t. absurd (let le = leb-true p q t in omega arith), λ h. absurd (not_within x p y q lt h))
-
--- the same for two addresses of one version
-pub range_when : (a b : Ip) (x p y q : ℕ) (r : Bool) → is_version_4 a ≡ is_version_4 b
-    → x ≡ address_of a → p ≡ width_of a - prefix_of a → y ≡ address_of b → q ≡ width_of b - prefix_of b
-    → (IsTrue r → (n : ℕ) → n / 2 ^ p ≡ x / 2 ^ p → n / 2 ^ q ≡ y / 2 ^ q) × (((n : ℕ) → n / 2 ^ p ≡ x / 2 ^ p → n / 2 ^ q ≡ y / 2 ^ q) → IsTrue r)
-    → (IsTrue r → IsInRange a b) × (IsInRange a b → IsTrue r)
-range_when a b x p y q r same i j k l h =
-    (λ t. record { same_version = same; included = rw (← i, ← j, ← k, ← l) (h.0 t) }, λ w. h.1 (rw (i, j, k, l) w.included))

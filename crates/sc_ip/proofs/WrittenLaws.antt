@@ -1,5 +1,5 @@
 -- The written text, and that it stands for the address.
-use Rattle.std.proofs.Common.{◌≡◌, ℕ, zero, suc, ◌+◌, ◌-◌, ◌*◌, ◌/◌, ◌%◌, ◌^◌, ◌<◌, ◌≤◌, List, [], ◌∷◌, ◌++◌, length, map, refl, arith, lit<, lit≤, ap, sym, ◌∙◌, subst, append_assoc, Bool, true, false, cond, eqb, true≢false, Result, Ok, Err, IfOk}
+use Rattle.std.proofs.Common.{◌≡◌, ℕ, zero, suc, ◌+◌, ◌*◌, ◌/◌, ◌%◌, ◌^◌, ◌<◌, ◌≤◌, List, [], ◌∷◌, ◌++◌, length, map, refl, arith, lit<, lit≤, ap, sym, ◌∙◌, subst, append_assoc, Bool, true, false, cond, eqb, true≢false, Result, Ok, Err, IfOk}
 use Rattle.std.specs.List.{join_with_byte}
 use Rattle.std.specs.Fmt.{decimal, digits, digits_onto, digit_glyph}
 use Rattle.std.specs.Int.Digits.{number_from_digits}
@@ -10,7 +10,7 @@ use Rattle.std.proofs.Math.Nat.{div-one, pow-suc, pow-le-pow_right, div-div-eq-d
 use Rattle.sc_ip.specs.declared.ip.Ip.{Ip}
 use Rattle.sc_ip.specs.declared.ip.Ip.TheVariants.{V4, V6}
 use Rattle.sc_ip.specs.Addresses.{IsIp}
-use Rattle.sc_ip.specs.IpText.{IsDecimalGroup, IsHexadecimalGroup, AreGroups, IsV4Text, IsFullText, full, v4, v6, IsIpText, prefixed, bytes_of, groups_of, ip_text}
+use Rattle.sc_ip.specs.IpText.{IsDecimalGroup, IsHexadecimalGroup, IsV4Text, IsFullText, full, v4, v6, IsIpText, prefixed, bytes_of, groups_of, ip_text}
 
 -- the four groups and the prefix, as the pieces are written
 join_four : (s : ℕ) (a b c d t : List ℕ) → a ++ (s ∷ (b ++ (s ∷ (c ++ (s ∷ (d ++ t)))))) ≡ join_with_byte s (a ∷ b ∷ c ∷ d ∷ []) ++ t

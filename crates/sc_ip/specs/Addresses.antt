@@ -1,5 +1,5 @@
 -- What is an address with a prefix, and when one range lies within another.
-use Rattle.std.specs.Prelude.{◌≡◌, ℕ, ◌-◌, ◌*◌, ◌/◌, ◌^◌, ◌<◌, ◌≤◌, Bool, true, false, ◌⊎◌}
+use Rattle.std.specs.Prelude.{◌≡◌, ℕ, ◌-◌, ◌/◌, ◌^◌, ◌<◌, ◌≤◌, Bool, true, false, ◌⊎◌}
 use Rattle.sc_ip.specs.declared.ip.Ip.{Ip}
 use Rattle.sc_ip.specs.declared.ip.Ip.TheVariants.{V4, V6}
 

@@ -1,3 +1,4 @@
 pub mod Addresses
 pub mod IpText
+pub mod IpValue
 pub mod Notations

@@ -1,6 +1,6 @@
 //! Reads the groups of an address.
 ghost use Rattle.std.specs.Prelude.{◌≡◌, ℕ, ◌+◌, ◌-◌, ◌*◌, ◌^◌, ◌<◌, ◌≤◌, List, length, IfSome, IfNone};
-ghost use Rattle.sc_ip.specs.Notations.{base_of, AreGroupsOf, IsGroupOf, Adds, Counts};
+ghost use Rattle.sc_ip.specs.Notations.{base_of, AreGroupsOf, Adds, Counts};
 
 use crate::notation::Notation;
 

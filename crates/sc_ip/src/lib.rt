@@ -4,6 +4,7 @@
 
 mod groups;
 mod ip;
+mod laws;
 mod notation;
 mod range;
 mod read;
@@ -12,6 +13,7 @@ mod tests;
 mod write;
 
 pub use ip::Ip;
+pub use laws::ip_laws;
 pub use range::{in_range, is_loopback, is_multicast, is_v4};
 pub use read::{BadIp, read_ip};
 pub use write::write_ip;

@@ -1,6 +1,6 @@
 //! Whether the addresses of one range are among those of another.
-ghost use Rattle.std.specs.Prelude.{◌≡◌, ℕ, ◌/◌, ◌^◌, ◌≤◌, IsTrue, ◌↔◌};
-ghost use Rattle.sc_ip.specs.Addresses.{is_version_4, IsInRange, IsLoopback, IsMulticast};
+ghost use Rattle.std.specs.Prelude.{◌≡◌, ℕ, ◌-◌, ◌/◌, ◌^◌, IsTrue, ◌↔◌};
+ghost use Rattle.sc_ip.specs.Addresses.{is_version_4, address_of, width_of, prefix_of, IsInRange, IsLoopback, IsMulticast};
 
 use crate::ip::Ip;
 
@@ -8,33 +8,26 @@ use crate::ip::Ip;
 pub fn in_range(a: &Ip, b: &Ip) -> bool
     ensures { IsTrue result ↔ IsInRange a.now b.now }
 {
-    match (*a, *b) {
-        (
-            Ip::V4 {
-                address: x,
-                prefix: p,
-            },
-            Ip::V4 {
-                address: y,
-                prefix: q,
-            },
-        ) => is_within(
-            u128::from(x),
-            32_u8.saturating_sub(p),
-            u128::from(y),
-            32_u8.saturating_sub(q),
-        ),
-        (
-            Ip::V6 {
-                address: x,
-                prefix: p,
-            },
-            Ip::V6 {
-                address: y,
-                prefix: q,
-            },
-        ) => is_within(x, 128_u8.saturating_sub(p), y, 128_u8.saturating_sub(q)),
-        _ => false,
+    is_v4(a) == is_v4(b) && is_within(number(a), free_bits(a), number(b), free_bits(b))
+}
+
+/// The address as a number.
+fn number(a: &Ip) -> u128
+    ensures { result ≡ address_of a.now }
+{
+    match *a {
+        Ip::V4 { address, .. } => u128::from(address),
+        Ip::V6 { address, .. } => address,
+    }
+}
+
+/// How many lowest bits the prefix leaves free.
+fn free_bits(a: &Ip) -> u8
+    ensures { result ≡ width_of a.now - prefix_of a.now }
+{
+    match *a {
+        Ip::V4 { prefix, .. } => 32_u8.saturating_sub(prefix),
+        Ip::V6 { prefix, .. } => 128_u8.saturating_sub(prefix),
     }
 }
 

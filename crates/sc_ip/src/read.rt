@@ -1,8 +1,10 @@
 //! Reads an address from its text.
-ghost use Rattle.std.specs.Prelude.{◌≡◌, ℕ, ◌*◌, ◌-◌, ◌^◌, ◌≤◌, IfOk, OnErr, IfSome, IfNone};
+ghost use Rattle.std.specs.Prelude.{◌≡◌, ℕ, ◌≤◌, IfOk, OnErr, IfSome, IfNone};
 ghost use Rattle.std.specs.Option.{SomeIff};
+ghost use Rattle.std.specs.Result.{result_ok};
 ghost use Rattle.sc_ip.specs.Addresses.{IsIp, width_of};
 ghost use Rattle.sc_ip.specs.IpText.{IsV4Text, IsFullText, IsGap, IsV6Text, IsAddressText, IsIpText, with_prefix};
+ghost use Rattle.sc_ip.specs.IpValue.{ip_of};
 ghost use Rattle.sc_ip.specs.declared.ip.Ip.{Ip};
 
 use crate::groups::read_groups;
@@ -22,6 +24,7 @@ pub fn read_ip(text: &str) -> Result<Ip, BadIp>
     ensures ok { IfOk result (λ a. IsIpText text.now a) }
     ensures in_range { IfOk result (λ a. IsIp a) }
     ensures err { OnErr result ((a : Ip) → IsIpText text.now a → ⊥) }
+    ensures value { result_ok result ≡ ip_of text.now }
     ensures only { (a b : Ip) → IsIpText text.now a → IsIpText text.now b → a ≡ b }
 {
     read_with_prefix(text).ok_or(BadIp)

@@ -14,13 +14,6 @@ fn reads(text: &str) -> bool {
     read_ip(text).is_ok()
 }
 
-fn holds(test: fn(&Ip) -> bool, text: &str) -> bool {
-    match read_ip(text) {
-        Ok(a) => test(&a),
-        Err(_) => false,
-    }
-}
-
 fn is_within(inner: &str, outer: &str) -> bool {
     match (read_ip(inner), read_ip(outer)) {
         (Ok(a), Ok(b)) => in_range(&a, &b),
@@ -100,18 +93,19 @@ fn compares_ranges_of_one_version(rt: HostRuntime) -> Result<(), Fail> {
     assert!(rt; !is_within("10.0.0.0/7", "10.0.0.0/8"));
     assert!(rt; !is_within("10.0.0.0/8", "::/0"));
     assert!(rt; is_within("::1", "::/0"));
-    assert!(rt; holds(is_v4, "1.2.3.4"));
-    assert!(rt; !holds(is_v4, "::"));
+    assert!(rt; is_v4(&read_ip("1.2.3.4")?));
+    assert!(rt; !is_v4(&read_ip("::")?));
     Ok(())
 }
 
 #[test]
 fn tells_loopback_and_multicast(rt: HostRuntime) -> Result<(), Fail> {
-    assert!(rt; holds(is_loopback, "127.0.0.1"));
-    assert!(rt; holds(is_loopback, "::1"));
-    assert!(rt; !holds(is_loopback, "::1/127"));
-    assert!(rt; holds(is_multicast, "ff02::1"));
-    assert!(rt; holds(is_multicast, "224.0.0.0/4"));
-    assert!(rt; !holds(is_multicast, "223.0.0.1"));
+    assert!(rt; is_loopback(&read_ip("127.0.0.1")?));
+    assert!(rt; is_loopback(&read_ip("::1")?));
+    assert!(rt; !is_loopback(&read_ip("::1/127")?));
+    assert!(rt; !is_loopback(&read_ip("126.255.255.255")?));
+    assert!(rt; is_multicast(&read_ip("ff02::1")?));
+    assert!(rt; is_multicast(&read_ip("224.0.0.0/4")?));
+    assert!(rt; !is_multicast(&read_ip("223.0.0.1")?));
     Ok(())
 }

@@ -1,4 +1,3 @@
-use Rattle.std.proofs.Common.{arith, subst, sym, length, ◌≡◌, ◌+◌, ◌*◌, ap}
 use Rattle.sc_ip.proofs.GroupLaws.{parts_at, lacks_at, first_of, single_of, adds_one, some_more, none_more}
 use Rattle.sc_ip.proofs.groups.+read_after.Goals as goal
 

@@ -1,4 +1,4 @@
-use Rattle.std.proofs.Common.{◌≡◌, arith, true, false, refl, lit<}
+use Rattle.std.proofs.Common.{true, false, refl, lit<}
 use Rattle.std.proofs.lemmas.Bool.{false≢true}
 use Rattle.std.proofs.lemmas.Str.Pattern.{starts_char}
 use Rattle.sc_ip.proofs.NotationLaws.{number_reads, no_plus, no_zero}

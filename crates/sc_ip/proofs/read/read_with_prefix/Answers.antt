@@ -1,6 +1,5 @@
-use Rattle.std.proofs.Common.{Some, None}
 use Rattle.std.proofs.lemmas.Option.{IfSome_then}
-use Rattle.sc_ip.specs.IpText.{alone, IsAddressText, IsIpText}
+use Rattle.sc_ip.specs.IpText.{alone}
 use Rattle.sc_ip.proofs.AddressLaws.{IfNone-weaker}
 use Rattle.sc_ip.proofs.PrefixLaws.{split_at_slash, without_slash, prefix_some, prefix_none}
 use Rattle.sc_ip.proofs.read.read_with_prefix.Goals as goal
