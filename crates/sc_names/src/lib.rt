@@ -1,5 +1,5 @@
-//! Names of the policy language: identifiers, names of types, and the uids of entities, with the
-//! order of uids.
+//! Names of the policy language: identifiers, names of types, which are paths, and the uids of
+//! entities, with the order of uids, their text and sets of them.
 #![tactic(auto)]
 
 mod escape;
