@@ -1,17 +1,16 @@
 -- A sorted list of uids without repeats.
-use Rattle.std.proofs.Common.{◌≡◌, ◌↔◌, ◌⊎◌, ℕ, ◌+◌, ◌<◌, ◌≤◌, zero, suc, List, [], ◌∷◌, ◌++◌, length, get_or, Bool, true, false, Result, Ok, Err, IfOk, is_ok, IsTrue, refl, sym, ap, subst, ◌∙◌, inl, inr, arith, Contains, IsPermutation}
+use Rattle.std.proofs.Common.{◌≡◌, ◌↔◌, ◌⊎◌, ℕ, ◌+◌, ◌<◌, zero, suc, List, [], ◌∷◌, ◌++◌, length, get_or, Bool, true, false, Result, Ok, Err, IfOk, is_ok, IsTrue, refl, sym, ap, subst, ◌∙◌, inl, inr, arith, Contains, IsPermutation}
 use Rattle.std.specs.List.{dedup}
 use Rattle.std.specs.List.Retain.{IsFiltered, DiffersFromLast}
 use Rattle.std.specs.List.Sorted.{IsSorted, IsStrictlySortedBy, IsSearchInRange, IsBinarySearchResult}
 use Rattle.std.specs.Ordering.{eq_by_cmp}
-use Rattle.std.specs.Cmp.{IsEquivalence}
 use Rattle.std.proofs.lemmas.List.Filters.{dedup_is}
 use Rattle.std.proofs.lemmas.List.Kept.{IsStrictlySortedBy-dedup, Contains-dedup, Contains-from_dedup}
 use Rattle.std.proofs.lemmas.List.Sorted.{Contains-permutation, IsPermutation-sym, searchable_from_sorted}
-use Rattle.std.proofs.lemmas.List.Elements.{Contains-append_left, Contains-append_right, Contains-append_cases, All-from_recursion}
+use Rattle.std.proofs.lemmas.List.Elements.{Contains-append_left, Contains-append_right, Contains-append_cases, All-from_recursion, All-contains}
 use Rattle.std.proofs.lemmas.Result.{IfOk-weaker}
-use Rattle.std.specs.declared.cmp.Ordering.TheVariants.{Less, Equal, Greater}
-use Rattle.std.specs.Ordering.{is_lt, ordering_reverse, ordering_index}
+use Rattle.std.specs.declared.cmp.Ordering.TheVariants.{Less, Greater}
+use Rattle.std.specs.Ordering.{is_lt, ordering_reverse}
 use Rattle.std.proofs.lemmas.Bool.{cases_lt}
 use Rattle.std.proofs.lemmas.Map.Keys.{sorted_head, sorted_tail}
 use Rattle.std.proofs.lemmas.Map.Views.{tells_apart}
@@ -100,3 +99,55 @@ pub found : (xs ys : List Uid) (u : Uid) (r : Result ℕ ℕ) (b : Bool) → b �
 found xs ys u r b is same_items a within search =
     let answer : IsTrue (is_ok r) ↔ Contains ys u = searched ys u r (subst (IsStrictlySortedBy uid_cmp) (sym same_items) a) within search in
     subst (λ (zs : List Uid). IsTrue b ↔ Contains zs u) same_items (subst (λ (t : Bool). IsTrue t ↔ Contains ys u) (sym is) answer)
+
+-- the elements of a list are its first and those of the rest
+of_first : (x : Uid) (xs : List Uid) → Contains (x ∷ xs) x
+of_first x xs = (0, omega arith, refl)
+
+of_rest : (x : Uid) (xs : List Uid) (u : Uid) → Contains xs u → Contains (x ∷ xs) u
+of_rest x xs u has = (suc has.0, omega (arith, has.1), has.2)
+
+split_at : (x : Uid) (xs : List Uid) (u : Uid) (k : ℕ) → k < length (x ∷ xs) → get_or (x ∷ xs) k u ≡ u → (x ≡ u) ⊎ Contains xs u
+split_at x xs u zero within is = inl is
+split_at x xs u (suc k) within is = inr (k, omega arith, is)
+
+split : (x : Uid) (xs : List Uid) (u : Uid) → Contains (x ∷ xs) u → (x ≡ u) ⊎ Contains xs u
+split x xs u has = split_at x xs u has.0 has.1 has.2
+
+-- the first is below the rest
+first_below : (x : Uid) (xs : List Uid) (u : Uid) → IsStrictlySortedBy uid_cmp (x ∷ xs) → Contains xs u → uid_cmp x u ≡ Less
+first_below x xs u a has = All-contains (λ y. uid_cmp x y ≡ Less) xs u (All-from_recursion (λ y. uid_cmp x y ≡ Less) xs (sorted_head uid_cmp x xs a)) has
+
+both_below : (x y : Uid) → uid_cmp x y ≡ Less → uid_cmp y x ≡ Less → ⊥
+both_below x y h k =
+    let turned : Less ≡ Greater = sym h ∙ uid_cmp_total.antisymm x y ∙ ap ordering_reverse k in
+    cc
+
+one_first : (x y : Uid) (xs ys : List Uid) → IsStrictlySortedBy uid_cmp (x ∷ xs) → IsStrictlySortedBy uid_cmp (y ∷ ys) → Contains (y ∷ ys) x → Contains (x ∷ xs) y → x ≡ y
+one_first x y xs ys a b has had = elim (split y ys x has) [
+  | inl is ↦ sym is
+  | inr later ↦ elim (split x xs y had) [
+    | inl is ↦ is
+    | inr after ↦ absurd (both_below y x (first_below y ys x b later) (first_below x xs y a after))
+  ]
+]
+
+rest_has : (x y : Uid) (xs ys : List Uid) (u : Uid) → x ≡ y → IsStrictlySortedBy uid_cmp (x ∷ xs) → Contains xs u → Contains (y ∷ ys) u → Contains ys u
+rest_has x y xs ys u same_first a has had = elim (split y ys u had) [
+  | inl is ↦ absurd (not_below u (subst (λ (v : Uid). uid_cmp v u ≡ Less) (same_first ∙ is) (first_below x xs u a has)))
+  | inr later ↦ later
+]
+
+no_first : (x : Uid) → Contains [] x → ⊥
+no_first x has = absurd (omega (arith, has.1))
+
+-- ascending lists of the same uids are one
+pub one_list : (xs ys : List Uid) → IsStrictlySortedBy uid_cmp xs → IsStrictlySortedBy uid_cmp ys → ((u : Uid) → Contains xs u ↔ Contains ys u) → xs ≡ ys
+one_list [] [] a b h = refl
+one_list [] (y ∷ ys) a b h = absurd (no_first y ((h y).1 (of_first y ys)))
+one_list (x ∷ xs) [] a b h = absurd (no_first x ((h x).0 (of_first x xs)))
+one_list (x ∷ xs) (y ∷ ys) a b h =
+    let first : x ≡ y = one_first x y xs ys a b ((h x).0 (of_first x xs)) ((h y).1 (of_first y ys)) in
+    let rest : xs ≡ ys = one_list xs ys (sorted_tail uid_cmp x xs a) (sorted_tail uid_cmp y ys b) (λ u.
+    (λ has. rest_has x y xs ys u first a has ((h u).0 (of_rest x xs u has)), λ has. rest_has y x ys xs u (sym first) b has ((h u).1 (of_rest y ys u has)))) in
+    cc

@@ -1,5 +1,5 @@
 //! Sets of uids.
-ghost use Rattle.std.specs.Prelude.{◌≡◌, ◌++◌, ◌↔◌, ◌⊎◌, [], length, Contains, IfOk, OnOk, IsTrue};
+ghost use Rattle.std.specs.Prelude.{◌≡◌, List, ◌++◌, ◌↔◌, ◌⊎◌, ◌==◌, [], length, Contains, IfOk, OnOk, IsTrue};
 ghost use Rattle.std.specs.List.Sorted.{IsStrictlySortedBy};
 ghost use Rattle.sc_names.specs.declared.uid.Uid.{Uid as AnyUid};
 ghost use Rattle.sc_names.specs.Uids.{uid_cmp};
@@ -51,6 +51,13 @@ impl Lits {
         ensures { result ≡ length self.now }
     {
         self.uids.len()
+    }
+
+    /// Whether no uid is in the set.
+    pub fn is_empty(&self) -> bool
+        ensures { result ≡ (length self.now == 0) }
+    {
+        self.uids.is_empty()
     }
 
     /// Whether a uid is in the set.
@@ -107,3 +114,9 @@ pub fn lits_union(alloc: Global, a: &Lits, b: &Lits) -> Result<Lits, AllocError>
     put_all(alloc, &mut list, b.as_slice())?;
     set_of(list)
 }
+
+/// Sets of the same uids are equal.
+#[tactic(auto, using(crate::proofs::LitsLaws::one_list))]
+pub fn lits_laws()
+    ensures { (s t : List AnyUid) → IsStrictlySortedBy uid_cmp s → IsStrictlySortedBy uid_cmp t → ((u : AnyUid) → Contains s u ↔ Contains t u) → s ≡ t }
+{}

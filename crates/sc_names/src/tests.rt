@@ -1,6 +1,6 @@
 use crate::{
-    BadName, Name, Uid, is_ident, is_reserved, is_word, put_escaped, read_ident, read_name,
-    uid_text,
+    BadName, Lits, Name, Uid, compare, is_ident, is_reserved, is_word, lits_of, lits_union,
+    put_escaped, read_ident, read_name, uid_text,
 };
 use sc_lists::{Fault, Text};
 use std::alloc::{AllocError, Global};
@@ -96,5 +96,68 @@ fn texts_of_uids(rt: HostRuntime) -> Result<(), Fail> {
     let mut out = String::from_str(alloc, "/a")?;
     put_escaped(&mut out, "/b\"\u{0}1")?;
     assert_eq!(rt; out.as_str(), r#"/a/b\"\01"#);
+    Ok(())
+}
+
+#[test]
+fn order_of_uids(rt: HostRuntime) -> Result<(), Fail> {
+    let alloc = rt.alloc();
+    let uids = [
+        uid_of(alloc, "A", "b")?,
+        uid_of(alloc, "A", "ba")?,
+        uid_of(alloc, "A::B", "")?,
+        uid_of(alloc, "B", "a")?,
+        uid_of(alloc, "a", "a")?,
+    ];
+    for (i, a) in uids.iter().enumerate() {
+        for (j, b) in uids.iter().enumerate() {
+            assert!(rt; compare(a, b) == i.cmp(&j), "{i} {j}");
+            assert!(rt; (a == b) == (i == j), "{i} {j}");
+        }
+    }
+    Ok(())
+}
+
+/// The texts of a set's uids, each with a space after it.
+fn texts_of(alloc: Global, lits: &Lits) -> Result<String, AllocError> {
+    let mut out = String::new(alloc);
+    for uid in lits.as_slice() {
+        out.push_str(uid_text(alloc, uid)?.as_str())?;
+        out.push(' ')?;
+    }
+    Ok(out)
+}
+
+#[test]
+fn sets_of_uids(rt: HostRuntime) -> Result<(), Fail> {
+    let alloc = rt.alloc();
+    let (a, b, c) = (
+        uid_of(alloc, "A", "1")?,
+        uid_of(alloc, "A", "2")?,
+        uid_of(alloc, "B", "1")?,
+    );
+    let some = [
+        b.try_clone(alloc)?,
+        a.try_clone(alloc)?,
+        b.try_clone(alloc)?,
+    ];
+    let first = lits_of(alloc, &some)?;
+    assert_eq!(rt; texts_of(alloc, &first)?.as_str(), r#"A::"1" A::"2" "#);
+    assert!(rt; first.contains(&a) && first.contains(&b) && !first.contains(&c));
+    let others = [c.try_clone(alloc)?, a.try_clone(alloc)?];
+    let second = lits_of(alloc, &others)?;
+    let both = lits_union(alloc, &first, &second)?;
+    assert_eq!(rt;
+        texts_of(alloc, &both)?.as_str(),
+        r#"A::"1" A::"2" B::"1" "#
+    );
+    assert_eq!(rt; both.len(), 3);
+    assert_eq!(rt;
+        texts_of(alloc, &both.try_clone(alloc)?)?.as_str(),
+        texts_of(alloc, &both)?.as_str()
+    );
+    let none = Lits::new(alloc);
+    assert!(rt; none.is_empty() && !both.is_empty());
+    assert!(rt; !none.contains(&a));
     Ok(())
 }

@@ -1,4 +1,3 @@
-use Rattle.std.proofs.Common.{◌∙◌}
 use Rattle.sc_names.proofs.LitsLaws.{same_list}
 use Rattle.sc_names.proofs.lits.lits_of.Goals as goal
 
