@@ -1,5 +1,5 @@
 -- What is looked up in a plain schema.
-use Rattle.std.proofs.Common.{◌≡◌, ◌≢◌, ◌∙◌, ap, sym, subst, refl, ℕ, List, [], ◌∷◌, Bool, true, false, ◌&&◌, Option, Some, None, find, IsSome, if◌then◌else◌}
+use Rattle.std.proofs.Common.{◌≡◌, ◌≢◌, ap, refl, ℕ, List, [], ◌∷◌, Bool, true, false, Option, Some, None, find, IsSome, if◌then◌else◌}
 use Rattle.std.specs.List.{AllByRecursion}
 use Rattle.std.specs.Option.{option_map_or}
 use Rattle.std.specs.Prelude.{option_map, option_and_then}
@@ -8,7 +8,6 @@ use Rattle.std.proofs.lemmas.Slice.Eq.{bytes_eq-Decides}
 use Rattle.sc_names.specs.declared.uid.Uid.{Uid}
 use Rattle.sc_schema.specs.declared.ty.Ty.TheVariants.{Record}
 use Rattle.sc_schema.specs.declared.declarations.EntityType.{EntityType}
-use Rattle.sc_schema.specs.declared.declarations.Action.{Action}
 use Rattle.sc_schema.specs.Declarations.{Declarations, environment, environments, uid_eq, entity_type, is_action_type, context_of}
 use Rattle.sc_schema.specs.Plain.{action_type, bool_record, IsTypeName, IsPlainType, IsPlain, HasOneEnvironment, IsBare, action_of, PlainLookups}
 

@@ -15,3 +15,6 @@ mod walk;
 pub use fault::NotForm;
 pub use law::{plain_laws, spelling_laws};
 pub use reading::read_schema;
+
+#[cfg(test)]
+mod tests;

@@ -1,4 +1,4 @@
-use Rattle.std.proofs.Common.{◌≡◌, ◌∙◌, ap, rules, List, ℕ, string_bytes, subst}
+use Rattle.std.proofs.Common.{◌≡◌, ◌∙◌, ap, rules, string_bytes}
 use Rattle.std.specs.Map.{keys_of}
 use Rattle.std.specs.Str.{IsUtf8}
 use Rattle.serde_json.specs.Data.{object, member}
