@@ -1,14 +1,14 @@
 -- The parts of a proper value are proper.
-use Rattle.std.proofs.Common.{◌≡◌, ℕ, zero, suc, ◌<◌, List, [], ◌∷◌, length, get_or, map, refl, sym, ap, ◌∙◌, subst, arith}
+use Rattle.std.proofs.Common.{◌≡◌, ℕ, zero, suc, ◌<◌, List, [], ◌∷◌, length, get_or, map, sym, ◌∙◌, subst, arith}
 use Rattle.std.specs.List.{AllByRecursion}
 use Rattle.std.specs.List.Sorted.{IsStrictlySortedBy}
 use Rattle.std.specs.Map.{keys_of}
 use Rattle.sc_names.specs.Uids.{text_cmp}
-use Rattle.sc_values.specs.declared.value.Value.{Value, Value-F, roll-Value, map-Value, every-Value, every_here-Value, every_held-Value, out-roll-Value}
+use Rattle.sc_values.specs.declared.value.Value.{Value, Value-F, roll-Value, map-Value, every_here-Value, every_held-Value, out-roll-Value}
 use Rattle.sc_values.specs.declared.value.Value.TheOpen as v
 use Rattle.sc_values.specs.declared.value.Value.TheVariants as value
 use Rattle.sc_values.specs.declared.value.Value.TheVariants.{rolls-Set, rolls-Record, rolls-Decimal, rolls-Ip}
-use Rattle.sc_values.specs.Proper.{IsProperLevel, IsProper, IsIp}
+use Rattle.sc_values.specs.Proper.{IsProperLevel, IsProper}
 
 abbrev Proper : Type 0
 Proper = (x : Value) × IsProper x

@@ -1,11 +1,11 @@
 -- A proper value of a type is determined by its JSON.
-use Rattle.std.proofs.Common.{◌≡◌, ℕ, List, [], ◌∷◌, map, Bool, true, false, cond, Option, Some, None, Less, Equal, bytes_eq, ◌&&◌, ◌||◌, IsTrue, ℤ, pos, negsuc, refl, sym, ap, ◌∙◌, subst}
+use Rattle.std.proofs.Common.{◌≡◌, ℕ, List, [], ◌∷◌, map, Bool, true, false, cond, Option, Some, Less, Equal, bytes_eq, ◌&&◌, ◌||◌, IsTrue, ℤ, pos, negsuc, refl, sym, ap, ◌∙◌, subst}
 use Rattle.std.proofs.lemmas.Cmp.{nat_list_cmp_total, tied_itself}
 use Rattle.std.proofs.lemmas.Slice.Eq.{bytes_eq-Decides}
 use Rattle.std.specs.List.{AllByRecursion, list_all, list_any}
 use Rattle.std.specs.List.Sorted.{IsStrictlySortedBy}
 use Rattle.std.specs.Map.{keys_of}
-use Rattle.serde_json.specs.Data.{Data, object}
+use Rattle.serde_json.specs.Data.{Data}
 use Rattle.serde_json.specs.Find.{of_integer}
 use Rattle.serde_json.specs.View.{items_of}
 use Rattle.sc_names.specs.declared.uid.Uid.{Uid}
@@ -24,11 +24,10 @@ use Rattle.sc_schema.specs.declared.ty.Ty.{Ty, Ty-F, roll-Ty, map-Ty, ind-Ty, fo
 use Rattle.sc_schema.specs.declared.ty.Ty.TheOpen as t
 use Rattle.sc_values.specs.declared.value.Value.{Value, Value-F, out-Value, roll-Value, map-Value, fold_out-Value, roll-out-Value}
 use Rattle.sc_values.specs.declared.value.Value.TheOpen as v
-use Rattle.sc_values.specs.declared.value.Value.TheVariants as value
 use Rattle.sc_values.specs.declared.value.Value.TheVariants.{rolls-Set, rolls-Record}
 use Rattle.sc_values.specs.Proper.{IsProper, IsIp as IsProperIp}
 use Rattle.sc_values.specs.Records.{Fields, field}
-use Rattle.sc_world.specs.Conforms.{Test, Shape, is_bool, is_truth, is_long, is_string, is_decimal, is_ip, is_entity_of, is_set_of, is_record_of, has_shape, passes, conforms_step, conforms}
+use Rattle.sc_world.specs.Conforms.{Test, Shape, is_bool, is_truth, is_long, is_string, is_decimal, is_ip, is_entity_of, is_set_of, is_record_of, passes, conforms_step, conforms}
 use Rattle.sc_world_json.specs.Text.{value_step, value_data, fields_data, uid_data}
 use Rattle.sc_world_json.proofs.ProperLaws.{held, proper_members, proper_fields, ascending_fields}
 use Rattle.sc_world_json.proofs.TextLaws.{Field}

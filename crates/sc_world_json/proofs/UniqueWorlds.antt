@@ -1,5 +1,5 @@
 -- Two well-formed worlds of one schema and environment with one text are one.
-use Rattle.std.proofs.Common.{◌≡◌, ℕ, List, [], ◌∷◌, map, Option, Some, None, IsSomeAnd, MatchOption, IsTrue, refl, sym, ap, ◌∙◌, subst}
+use Rattle.std.proofs.Common.{◌≡◌, List, [], ◌∷◌, map, Option, Some, None, IsSomeAnd, MatchOption, IsTrue, refl, sym, ap, ◌∙◌, subst}
 use Rattle.std.specs.List.{AllByRecursion}
 use Rattle.serde_json.specs.Data.{object}
 use Rattle.serde_json.specs.View.{items_of}
@@ -7,7 +7,7 @@ use Rattle.sc_names.specs.declared.uid.Uid.{Uid}
 use Rattle.sc_schema.specs.declared.declarations.Env.{Env}
 use Rattle.sc_schema.specs.declared.ty.Ty.{Ty}
 use Rattle.sc_schema.specs.Declarations.{Declarations, attrs_of, tags_of, context_of}
-use Rattle.sc_values.specs.declared.value.Value.{Value, out-Value, out-roll-Value}
+use Rattle.sc_values.specs.declared.value.Value.{out-Value, out-roll-Value}
 use Rattle.sc_values.specs.declared.value.Value.TheOpen as v
 use Rattle.sc_values.specs.declared.value.Value.TheVariants.{Record, rolls-Record}
 use Rattle.sc_values.specs.Proper.{IsProper, IsProperRecord}
@@ -18,7 +18,7 @@ use Rattle.sc_world.specs.declared.world.World.{World}
 use Rattle.sc_world.specs.Stores.{Entities}
 use Rattle.sc_world.specs.Conforms.{conforms}
 use Rattle.sc_world.specs.WellFormed.{Entry, IsProperEntry, HasAttributes, HasTags, IsWellFormed}
-use Rattle.sc_world_json.specs.Text.{fields_data, uid_data, entity_data, request_data, world_data, world_text}
+use Rattle.sc_world_json.specs.Text.{fields_data, uid_data, entity_data, world_data, world_text}
 use Rattle.sc_world_json.proofs.ProperLaws.{proper_fields}
 use Rattle.sc_world_json.proofs.TextLaws.{Field, value_data-Record}
 use Rattle.sc_world_json.proofs.TypedLaws.{uid-same, typed-same}
@@ -109,9 +109,9 @@ pub text-unique : (s : Declarations) (env : Env) (literals others : List Uid) (w
 unfolding world_text
 text-unique s env literals others w x f g e =
     let same = text-determines (world_data w) (world_data x) (whole-world w f.proper) (whole-world x g.proper) e in
-    let store : w.store ≡ x.store = entities-same s w.store x.store f.proper.entries g.proper.entries f.attributes g.attributes f.tags g.tags (cc same) in
-    let principal : w.request.principal ≡ x.request.principal = uid-same _ _ (cc same) in
-    let action : w.request.action ≡ x.request.action = uid-same _ _ (cc same) in
-    let resource : w.request.resource ≡ x.request.resource = uid-same _ _ (cc same) in
-    let context : w.request.context ≡ x.request.context = record-same (context_of s env.action) _ _ f.proper.context g.proper.context f.request.context g.request.context (cc same) in
+    let store : w.store ≡ x.store = entities-same s w.store x.store f.proper.entries g.proper.entries f.attributes g.attributes f.tags g.tags (cc) in
+    let principal : w.request.principal ≡ x.request.principal = uid-same _ _ (cc) in
+    let action : w.request.action ≡ x.request.action = uid-same _ _ (cc) in
+    let resource : w.request.resource ≡ x.request.resource = uid-same _ _ (cc) in
+    let context : w.request.context ≡ x.request.context = record-same (context_of s env.action) _ _ f.proper.context g.proper.context f.request.context g.request.context (cc) in
     λ i. world_of (request_of (principal i) (action i) (resource i) (context i)) (store i)

@@ -1,7 +1,7 @@
 -- The JSON of a world that is made of values has whole numbers.
-use Rattle.std.proofs.Common.{◌≡◌, ℕ, List, [], ◌∷◌, map, refl, sym, ap, ◌∙◌, subst}
+use Rattle.std.proofs.Common.{ℕ, List, [], ◌∷◌, map, refl, sym, subst}
 use Rattle.std.specs.List.{AllByRecursion}
-use Rattle.serde_json.specs.Data.{Data, array, object}
+use Rattle.serde_json.specs.Data.{Data}
 use Rattle.serde_json.specs.View.{items_of}
 use Rattle.sc_names.specs.declared.uid.Uid.{Uid}
 use Rattle.sc_values.specs.declared.value.Value.{Value, Value-F, roll-Value, map-Value, ind-Value, fold-roll-Value}
@@ -10,10 +10,9 @@ use Rattle.sc_values.specs.declared.value.Value.TheVariants as value
 use Rattle.sc_values.specs.declared.value.Value.TheVariants.{rolls-Set, rolls-Record}
 use Rattle.sc_values.specs.Proper.{IsProper, IsProperRecord}
 use Rattle.sc_world.specs.declared.entity.EntityData.{EntityData}
-use Rattle.sc_world.specs.declared.world.Request.{Request}
 use Rattle.sc_world.specs.declared.world.World.{World}
 use Rattle.sc_world.specs.WellFormed.{IsProperEntry, IsProperWorld}
-use Rattle.sc_world_json.specs.Text.{value_step, value_data, fields_data, uid_data, entity_data, request_data, world_data}
+use Rattle.sc_world_json.specs.Text.{value_step, value_data, fields_data, uid_data, entity_data, world_data}
 use Rattle.sc_world_json.proofs.ProperLaws.{held, proper_members, proper_fields}
 use Rattle.sc_world_json.proofs.TextLaws.{Field, value_data-Record}
 use Rattle.sc_world_json.proofs.WholeLaws.{IsWhole, AreWhole, HaveWhole}

@@ -7,9 +7,9 @@ ghost use Rattle.std.specs.declared.cmp.Ordering.TheVariants.{Less};
 ghost use Rattle.std.specs.List.Sorted.{IsStrictlySortedBy};
 ghost use Rattle.sc_names.specs.Uids.{text_cmp, uid_cmp};
 ghost use Rattle.sc_values.specs.Proper.{IsUidText, IsProper, IsProperRecord};
-ghost use Rattle.sc_world.specs.WellFormed.{IsProperEntry};
+ghost use Rattle.sc_world.specs.WellFormed.{IsProperEntry, IsProperWorld};
 
-use crate::world_text;
+use crate::{world_text, world_value};
 use sc_decimal::Decimal;
 use sc_ip::Ip;
 use sc_lists::{Seq, Text};
@@ -146,14 +146,15 @@ fn store_bare(alloc: Global, store: &mut Store, uid: Uid) -> Result<(), AllocErr
     store_entity(store, uid, no_fields(alloc), no_parents, no_fields(alloc))
 }
 
-fn printed(
+/// A world's text, and the text of its JSON value.
+fn texts(
     alloc: Global,
     principal: Uid,
     action: Uid,
     resource: Uid,
     context: Rec,
     store: Store,
-) -> Result<String, AllocError>
+) -> Result<(String, String), AllocError>
     requires principal { IsUidText principal }
     requires action { IsUidText action }
     requires resource { IsUidText resource }
@@ -167,54 +168,89 @@ fn printed(
         resource,
         context,
     };
-    world_text(alloc, &World { request, store })
+    let world = World { request, store };
+    Ok((world_text(alloc, &world)?, value_text(alloc, &world)?))
+}
+
+fn value_text(alloc: Global, world: &World) -> Result<String, AllocError>
+    requires { IsProperWorld world.now }
+{
+    world_value(alloc, world)?.to_string(alloc)
+}
+
+fn bare_store(alloc: Global) -> Result<Store, AllocError>
+    ensures { IfOk result (λ s. AllByRecursion IsProperEntry s) }
+{
+    let mut store = Store::new(alloc);
+    store_bare(alloc, &mut store, uid(alloc, "User", "0")?)?;
+    store_bare(alloc, &mut store, uid(alloc, "Action", "view")?)?;
+    store_bare(alloc, &mut store, uid(alloc, "Doc", "0")?)?;
+    Ok(store)
+}
+
+fn user_attrs(alloc: Global) -> Result<Rec, AllocError>
+    ensures { IfOk result (λ fs. IsProperRecord fs) }
+{
+    let name = text(alloc, "\"é\n")?;
+    two_fields(alloc, "addr", address(0x0a00_0001, 8), "name", name)
+}
+
+fn user_tags(alloc: Global) -> Result<Rec, AllocError>
+    ensures { IfOk result (λ fs. IsProperRecord fs) }
+{
+    let boss = entity(uid(alloc, "User", "1")?);
+    let numbers = set(alloc, long(-5))?;
+    two_fields(alloc, "boss", boss, "numbers", numbers)
+}
+
+fn user_store(alloc: Global) -> Result<Store, AllocError>
+    ensures { IfOk result (λ s. AllByRecursion IsProperEntry s) }
+{
+    let mut store = Store::new(alloc);
+    let attrs = user_attrs(alloc)?;
+    let group = parents(alloc, Some(uid(alloc, "Group", "g")?))?;
+    let tags = user_tags(alloc)?;
+    store_entity(&mut store, uid(alloc, "User", "0")?, attrs, group, tags)?;
+    Ok(store)
+}
+
+fn price_context(alloc: Global) -> Result<Rec, AllocError>
+    ensures { IfOk result (λ fs. IsProperRecord fs) }
+{
+    let rest = Value::Record(one_field(alloc, "mfa", boolean(false))?);
+    two_fields(alloc, "price", decimal(-12_345), "rest", rest)
 }
 
 #[test]
 fn a_request_with_a_flag(rt: HostRuntime) -> Result<(), Fail> {
     let alloc = rt.alloc();
-    let mut store = Store::new(alloc);
-    store_bare(alloc, &mut store, uid(alloc, "User", "0")?)?;
-    store_bare(alloc, &mut store, uid(alloc, "Action", "view")?)?;
-    store_bare(alloc, &mut store, uid(alloc, "Doc", "0")?)?;
-    let text = printed(
-        alloc,
-        uid(alloc, "User", "0")?,
-        uid(alloc, "Action", "view")?,
-        uid(alloc, "Doc", "0")?,
-        one_field(alloc, "mfa", boolean(true))?,
-        store,
-    )?;
+    let principal = uid(alloc, "User", "0")?;
+    let action = uid(alloc, "Action", "view")?;
+    let resource = uid(alloc, "Doc", "0")?;
+    let context = one_field(alloc, "mfa", boolean(true))?;
+    let store = bare_store(alloc)?;
+    let (text, of_value) = texts(alloc, principal, action, resource, context, store)?;
     assert_eq!(rt;
         text.as_str(),
         r#"{"entities":[{"attrs":{},"parents":[],"tags":{},"uid":{"id":"view","type":"Action"}},{"attrs":{},"parents":[],"tags":{},"uid":{"id":"0","type":"Doc"}},{"attrs":{},"parents":[],"tags":{},"uid":{"id":"0","type":"User"}}],"request":{"action":{"id":"view","type":"Action"},"context":{"mfa":true},"principal":{"id":"0","type":"User"},"resource":{"id":"0","type":"Doc"}}}"#
     );
+    assert_eq!(rt; of_value.as_str(), text.as_str());
     Ok(())
 }
 
 #[test]
 fn all_kinds_of_values(rt: HostRuntime) -> Result<(), Fail> {
     let alloc = rt.alloc();
-    let mut store = Store::new(alloc);
-    let name = text(alloc, "\"é\n")?;
-    let attrs = two_fields(alloc, "addr", address(0x0a00_0001, 8), "name", name)?;
-    let group = parents(alloc, Some(uid(alloc, "Group", "g")?))?;
-    let boss = entity(uid(alloc, "User", "1")?);
-    let tags = two_fields(alloc, "boss", boss, "set", set(alloc, long(-5))?)?;
-    store_entity(&mut store, uid(alloc, "User", "0")?, attrs, group, tags)?;
-    let inner = Value::Record(one_field(alloc, "mfa", boolean(false))?);
-    let context = two_fields(alloc, "price", decimal(-12_345), "rest", inner)?;
-    let text = printed(
-        alloc,
-        uid(alloc, "User", "0")?,
-        uid(alloc, "Shop::Action", "view")?,
-        uid(alloc, "Doc", "")?,
-        context,
-        store,
-    )?;
+    let principal = uid(alloc, "User", "0")?;
+    let action = uid(alloc, "Shop::Action", "view")?;
+    let resource = uid(alloc, "Doc", "")?;
+    let context = price_context(alloc)?;
+    let store = user_store(alloc)?;
+    let (text, of_value) = texts(alloc, principal, action, resource, context, store)?;
     assert_eq!(rt;
         text.as_str(),
-        r#"{"entities":[{"attrs":{"addr":{"__extn":{"arg":"10.0.0.1/8","fn":"ip"}},"name":"\"é\n"},"parents":[{"id":"g","type":"Group"}],"tags":{"boss":{"__entity":{"id":"1","type":"User"}},"set":[-5]},"uid":{"id":"0","type":"User"}}],"request":{"action":{"id":"view","type":"Shop::Action"},"context":{"price":{"__extn":{"arg":"-1.2345","fn":"decimal"}},"rest":{"mfa":false}},"principal":{"id":"0","type":"User"},"resource":{"id":"","type":"Doc"}}}"#
+        r#"{"entities":[{"attrs":{"addr":{"__extn":{"arg":"10.0.0.1/8","fn":"ip"}},"name":"\"é\n"},"parents":[{"id":"g","type":"Group"}],"tags":{"boss":{"__entity":{"id":"1","type":"User"}},"numbers":[-5]},"uid":{"id":"0","type":"User"}}],"request":{"action":{"id":"view","type":"Shop::Action"},"context":{"price":{"__extn":{"arg":"-1.2345","fn":"decimal"}},"rest":{"mfa":false}},"principal":{"id":"0","type":"User"},"resource":{"id":"","type":"Doc"}}}"#
     );
+    assert_eq!(rt; of_value.as_str(), text.as_str());
     Ok(())
 }
