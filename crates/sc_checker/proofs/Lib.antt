@@ -3,3 +3,4 @@ pub mod RefutationLaws
 pub mod VerdictLaws
 pub mod Soundness
 pub mod DefiningLaws
+pub mod TextLaws

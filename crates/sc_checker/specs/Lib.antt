@@ -3,3 +3,4 @@ pub mod Refutations
 pub mod Known
 pub mod Verdicts
 pub mod Truths
+pub mod Texts

@@ -6,6 +6,8 @@ mod checking;
 mod known;
 mod log;
 mod refuting;
+mod writing;
 
 pub use checking::{Reason, Verdict, check};
 pub use log::{Instance, Learned, Log, Step, Word, is_writable};
+pub use writing::write_log;
