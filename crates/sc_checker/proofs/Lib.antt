@@ -4,3 +4,4 @@ pub mod VerdictLaws
 pub mod Soundness
 pub mod DefiningLaws
 pub mod TextLaws
+pub mod WordLaws

@@ -4,3 +4,4 @@ pub mod Known
 pub mod Verdicts
 pub mod Truths
 pub mod Texts
+pub mod Readings

@@ -5,9 +5,12 @@
 mod checking;
 mod known;
 mod log;
+mod reading;
 mod refuting;
+mod words;
 mod writing;
 
 pub use checking::{Reason, Verdict, check};
 pub use log::{Instance, Learned, Log, Step, Word, is_writable};
+pub use reading::Malformed;
 pub use writing::write_log;

@@ -85,7 +85,7 @@ impl Log {
 const NUMBER_END: u64 = 1_000_000_000_000_000_000;
 
 /// Whether a number has at most 18 digits.
-fn is_number(number: u64) -> bool
+pub(crate) fn is_number(number: u64) -> bool
     ensures { result ≡ is_number number }
 {
     number < NUMBER_END
@@ -104,7 +104,7 @@ fn are_letters_and_digits(bytes: &[u8]) -> bool
 }
 
 /// Whether a text is one or more letters and digits.
-fn is_rule_word(bytes: &[u8]) -> bool
+pub(crate) fn is_rule_word(bytes: &[u8]) -> bool
     ensures { result ≡ is_rule_word bytes.now }
 {
     let all = are_letters_and_digits(bytes);
@@ -120,13 +120,13 @@ fn is_word(word: &Word) -> bool
     }
 }
 
-fn is_lit(lit: Lit) -> bool
+pub(crate) fn is_lit(lit: Lit) -> bool
     ensures { result ≡ is_lit lit }
 {
     0 < lit.atom && is_number(lit.atom)
 }
 
-fn is_hint(hint: u64) -> bool
+pub(crate) fn is_hint(hint: u64) -> bool
     ensures { result ≡ is_hint hint }
 {
     0 < hint && is_number(hint)
