@@ -5,3 +5,4 @@ pub mod Soundness
 pub mod DefiningLaws
 pub mod TextLaws
 pub mod WordLaws
+pub mod LineLaws

@@ -19,7 +19,7 @@ flat_map-append f (x ∷ xs) ys = ap (λ t. f x ++ t) (flat_map-append f xs ys) 
 spaced-append : (a b : List (List ℕ)) → spaced (a ++ b) ≡ spaced a ++ spaced b
 spaced-append a b = flat_map-append (λ w. 32 ∷ w) a b
 
-pub instance_written : (old : List ℕ) (i : instance.Instance) → ((old ++ 116 ∷ 32 ∷ []) ++ i.rule) ++ spaced (map word_text i.words) ≡ old ++ join_with_byte 32 (instance_words i)
+pub instance_written : (old : List ℕ) (i : instance.Instance) → ((old ++ 116 ∷ 32 ∷ []) ++ i.rule) ++ spaced (map word_text i.words) ≡ old ++ join_with_byte 32 ((116 ∷ []) ∷ instance_words i)
 instance_written old i =
     append_assoc (old ++ 116 ∷ 32 ∷ []) i.rule (spaced (map word_text i.words))
     ∙ append_assoc old (116 ∷ 32 ∷ []) (i.rule ++ spaced (map word_text i.words))
@@ -30,7 +30,7 @@ learned_spaced lits hints =
     spaced-append lits (zero_text ∷ (hints ++ zero_text ∷ []))
     ∙ ap (λ t. spaced lits ++ 32 ∷ 48 ∷ t) (spaced-append hints (zero_text ∷ []))
 
-pub learned_written : (old : List ℕ) (l : learned.Learned) → ((((old ++ 108 ∷ []) ++ spaced (map lit_text l.clause)) ++ 32 ∷ 48 ∷ []) ++ spaced (map decimal l.hints)) ++ 32 ∷ 48 ∷ [] ≡ old ++ join_with_byte 32 (learned_words l)
+pub learned_written : (old : List ℕ) (l : learned.Learned) → ((((old ++ 108 ∷ []) ++ spaced (map lit_text l.clause)) ++ 32 ∷ 48 ∷ []) ++ spaced (map decimal l.hints)) ++ 32 ∷ 48 ∷ [] ≡ old ++ join_with_byte 32 ((108 ∷ []) ∷ learned_words l)
 learned_written old l =
     let flat : ((((old ++ 108 ∷ []) ++ spaced (map lit_text l.clause)) ++ 32 ∷ 48 ∷ []) ++ spaced (map decimal l.hints)) ++ 32 ∷ 48 ∷ []
     ≡ old ++ 108 ∷ (spaced (map lit_text l.clause) ++ 32 ∷ 48 ∷ (spaced (map decimal l.hints) ++ 32 ∷ 48 ∷ [])) = simp append_assoc in

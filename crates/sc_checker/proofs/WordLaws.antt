@@ -50,7 +50,7 @@ digit_at : (b x : ℕ) (t : Bool) → nat_lt b 48 ≡ t → cond t 36 x < 10 →
 digit_at b x true e h = absurd (omega arith)
 digit_at b x false e h = ltb-false b 48 e
 
-digit_at_least : (b : ℕ) → digit_value b < 10 → 48 ≤ b
+pub digit_at_least : (b : ℕ) → digit_value b < 10 → 48 ≤ b
 digit_at_least b h = digit_at b _ (nat_lt b 48) refl h
 
 digits_begin : (bs rest : List ℕ) (b : ℕ) → bs ≡ b ∷ rest → AllDigits 10 bs → digit_value b < 10

@@ -1,5 +1,6 @@
 -- The text of a log.
-use Rattle.std.specs.Prelude.{◌≡◌, ◌≢◌, ◌+◌, ℕ, List, [], ◌∷◌, ◌++◌, map, length, Bool, true, false, Option, Some, None, IsTrue, codes, if◌then◌else◌}
+use Rattle.std.specs.Prelude.{ℕ, List, [], ◌∷◌, ◌++◌, map, Bool, true, false, not, codes, if◌then◌else◌}
+use Rattle.std.specs.Str.{bytes_eq}
 use Rattle.std.specs.Fmt.{decimal}
 use Rattle.std.specs.List.{flat_map, list_all, join_with_byte}
 use Rattle.sc_clauses.specs.declared.lit.Lit.{Lit}
@@ -27,17 +28,25 @@ lit_text l = if l.negated then 45 ∷ decimal l.atom else decimal l.atom
 abbrev pub zero_text : List ℕ
 zero_text = 48 ∷ []
 
--- `t`, the rule's word, and the words
+abbrev pub has_no_zero : List (List ℕ) → Bool
+has_no_zero words = list_all (λ w. not (bytes_eq w zero_text)) words
+
+-- the rule's word, and the words
 abbrev pub instance_words : instance.Instance → List (List ℕ)
-instance_words i = (116 ∷ []) ∷ i.rule ∷ map word_text i.words
+instance_words i = i.rule ∷ map word_text i.words
 
--- `l`, the literals, `0`, the hints, `0`
+-- the hints, `0`
+abbrev pub hint_words : List ℕ → List (List ℕ)
+hint_words hints = map decimal hints ++ zero_text ∷ []
+
+-- the literals, `0`, the hints, `0`
 abbrev pub learned_words : learned.Learned → List (List ℕ)
-learned_words l = (108 ∷ []) ∷ (map lit_text l.clause ++ zero_text ∷ (map decimal l.hints ++ zero_text ∷ []))
+learned_words l = map lit_text l.clause ++ zero_text ∷ hint_words l.hints
 
+-- `t` and an instance, or `l` and a learned clause
 abbrev pub step_words : Step → List (List ℕ)
-step_words (Instance i) = instance_words i
-step_words (Learned l) = learned_words l
+step_words (Instance i) = (116 ∷ []) ∷ instance_words i
+step_words (Learned l) = (108 ∷ []) ∷ learned_words l
 
 -- a step's line, without its end: its words are separated by one space
 abbrev pub step_line : Step → List ℕ

@@ -1,7 +1,7 @@
 //! Logs of a refutation.
 ghost use Rattle.std.specs.Prelude.{◌≡◌, IsTrue};
 ghost use Rattle.std.specs.List.{list_all};
-ghost use Rattle.sc_checker.specs.Writable.{is_number, is_letter_or_digit, is_rule_word, is_word, is_lit, is_hint, is_instance, is_learned, is_writable};
+ghost use Rattle.sc_checker.specs.Writable.{is_number, is_letter_or_digit, is_rule_word, is_word, is_lit, is_hint, are_hints, is_instance, is_learned, is_writable};
 
 use sc_clauses::{Clause, Lit};
 use sc_lists::{Seq, Text};
@@ -144,10 +144,17 @@ fn are_lits(lits: &[Lit]) -> bool
     lits.iter().all(|lit| is_lit(*lit))
 }
 
-fn are_hints(hints: &[u64]) -> bool
+fn all_hints(hints: &[u64]) -> bool
     ensures { result ≡ list_all is_hint hints.now }
 {
     hints.iter().all(|hint| is_hint(*hint))
+}
+
+fn are_hints(hints: &[u64]) -> bool
+    ensures { result ≡ are_hints hints.now }
+{
+    let all = all_hints(hints);
+    !hints.is_empty() && all
 }
 
 fn is_instance(instance: &Instance) -> bool
@@ -163,7 +170,7 @@ fn is_learned(learned: &Learned) -> bool
 {
     let lits = are_lits(learned.clause.as_slice());
     let hints = are_hints(learned.hints.as_slice());
-    lits && !learned.hints.is_empty() && hints
+    lits && hints
 }
 
 /// Whether a step has a text: its rule's word is one or more letters and digits, its numbers have
