@@ -6,3 +6,4 @@ pub mod DefiningLaws
 pub mod TextLaws
 pub mod WordLaws
 pub mod LineLaws
+pub mod ReadingLaws

@@ -71,7 +71,13 @@ rule_none word h rule t e = h (subst IsUtf8 e (rule_utf8 rule t))
 
 -- ---- lists that end in `0`
 
-cons_same : {X : Type 0} {x y : X} {a b : List X} → x ≡ y → a ≡ b → x ∷ a ≡ y ∷ b
+pub first_same : {X : Type 0} {x y : X} {xs ys : List X} → x ∷ xs ≡ y ∷ ys → x ≡ y
+first_same {x = x} e = ap (λ zs. get_or zs 0 x) e
+
+pub rest_same : {X : Type 0} {x y : X} {xs ys : List X} → x ∷ xs ≡ y ∷ ys → xs ≡ ys
+rest_same e = ap (drop 1) e
+
+pub cons_same : {X : Type 0} {x y : X} {a b : List X} → x ≡ y → a ≡ b → x ∷ a ≡ y ∷ b
 cons_same p q = λ i. p i ∷ q i
 
 pub snoc_same : {X : Type 0} (a b : List X) (x y : X) → a ++ x ∷ [] ≡ b ++ y ∷ [] → (a ≡ b) × (x ≡ y)
@@ -116,9 +122,6 @@ hints_none before words is none hints t e = none hints (and_parts _ (list_all is
 
 -- ---- literals, `0`, hints, `0`
 
-first_same : {x y : ℕ} {xs ys : List ℕ} → x ∷ xs ≡ y ∷ ys → x ≡ y
-first_same {x} e = ap (λ zs. get_or zs 0 x) e
-
 lit_no_zero_at : (n : ℕ) (b : Bool) → is_lit (record { atom = n; negated = b }) ≡ true → lit_text (record { atom = n; negated = b }) ≡ zero_text → ⊥
 lit_no_zero_at n true t e = let first : 45 ≡ 48 = first_same e in both_ways (45 == 48) refl (eq-eqb 45 48 first)
 lit_no_zero_at n false t e =
@@ -129,6 +132,16 @@ lit_no_zero_at n false t e =
 
 lit_no_zero : (l : Lit) → is_lit l ≡ true → lit_text l ≡ zero_text → ⊥
 lit_no_zero l t e = lit_no_zero_at l.atom l.negated t e
+
+text_no_zero : (w : List ℕ) (b : Bool) → bytes_eq w zero_text ≡ b → (w ≡ zero_text → ⊥) → not b ≡ true
+text_no_zero w true is h = absurd (h ((bytes_eq-Decides w zero_text).0 is))
+text_no_zero w false is h = refl
+
+pub lits_no_zero : (c : List Lit) → list_all is_lit c ≡ true → has_no_zero (map lit_text c) ≡ true
+lits_no_zero [] e = refl
+lits_no_zero (l ∷ c) e =
+    let parts = and_parts (is_lit l) (list_all is_lit c) e in
+    and_from _ (has_no_zero (map lit_text c)) (text_no_zero (lit_text l) _ refl (lit_no_zero l parts.0)) (lits_no_zero c parts.1)
 
 zero_not : (w : List ℕ) → not (bytes_eq w zero_text) ≡ true → w ≡ zero_text → ⊥
 zero_not w h e = true≢false (sym ((bytes_eq-Decides w zero_text).1 e) ∙ not-true (bytes_eq w zero_text) h)

@@ -57,11 +57,12 @@ digits_begin : (bs rest : List ℕ) (b : ℕ) → bs ≡ b ∷ rest → AllDigit
 digits_begin [] rest b e h = absurd cc
 digits_begin (c ∷ bs) rest b e h = let same : c ≡ b = cc in subst (λ (x : ℕ). digit_value x < 10) same h.0
 
--- a number's text doesn't begin with `-`
+-- a number's text begins with a digit
+pub decimal_begins : (n : ℕ) (rest : List ℕ) (b : ℕ) → is_number n ≡ true → decimal n ≡ b ∷ rest → 48 ≤ b
+decimal_begins n rest b e h = digit_at_least b (digits_begin (decimal n) rest b h (decimal_is_IsNumeral n (number_small n e)).0.1)
+
 pub decimal_no_minus : (n : ℕ) (rest : List ℕ) → is_number n ≡ true → decimal n ≡ 45 ∷ rest → ⊥
-decimal_no_minus n rest e h =
-    let least : 48 ≤ 45 = digit_at_least 45 (digits_begin (decimal n) rest 45 h (decimal_is_IsNumeral n (number_small n e)).0.1) in
-    absurd (omega arith)
+decimal_no_minus n rest e h = let least : 48 ≤ 45 = decimal_begins n rest 45 e h in absurd (omega arith)
 
 negated_none : (word rest : List ℕ) (n : ℕ) (b : Bool) → word ≡ 45 ∷ rest → Reads is_hint decimal rest None → is_lit (record { atom = n; negated = b }) ≡ true → lit_text (record { atom = n; negated = b }) ≡ word → ⊥
 negated_none word rest n true is none t e = none n t cc

@@ -1,5 +1,5 @@
 -- The text of a log.
-use Rattle.std.specs.Prelude.{ℕ, List, [], ◌∷◌, ◌++◌, map, Bool, true, false, not, codes, if◌then◌else◌}
+use Rattle.std.specs.Prelude.{◌==◌, ℕ, List, [], ◌∷◌, ◌++◌, map, Bool, true, false, not, codes, if◌then◌else◌}
 use Rattle.std.specs.Str.{bytes_eq}
 use Rattle.std.specs.Fmt.{decimal}
 use Rattle.std.specs.List.{flat_map, list_all, join_with_byte}
@@ -51,6 +51,9 @@ step_words (Learned l) = (108 ∷ []) ∷ learned_words l
 -- a step's line, without its end: its words are separated by one space
 abbrev pub step_line : Step → List ℕ
 step_line s = join_with_byte 32 (step_words s)
+
+abbrev pub has_no_newline : List ℕ → Bool
+has_no_newline bytes = list_all (λ b. not (b == 10)) bytes
 
 -- a line of its own for each step; a newline ends it
 abbrev pub steps_text : List Step → List ℕ

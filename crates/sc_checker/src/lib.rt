@@ -4,6 +4,7 @@
 
 mod checking;
 mod known;
+mod lines;
 mod log;
 mod reading;
 mod refuting;
@@ -12,5 +13,5 @@ mod writing;
 
 pub use checking::{Reason, Verdict, check};
 pub use log::{Instance, Learned, Log, Step, Word, is_writable};
-pub use reading::Malformed;
+pub use reading::{Malformed, read_log};
 pub use writing::write_log;

@@ -1,16 +1,15 @@
 //! Reads the text of a log.
-ghost use Rattle.std.specs.Prelude.{◌≡◌, [], ◌∷◌, ◌++◌, ◌==◌, ℕ, List, map, IfOk, IsTrue, MatchOption};
-ghost use Rattle.std.specs.List.{slice_split};
-ghost use Rattle.std.specs.Str.{bytes_eq};
-ghost use Rattle.sc_checker.specs.Readings.{Reads};
-ghost use Rattle.sc_checker.specs.Texts.{zero_text, has_no_zero, instance_words, hint_words, learned_words, step_words, step_line};
-ghost use Rattle.sc_checker.specs.Writable.{is_rule_word, is_instance, are_hints, is_learned, is_writable};
+ghost use Rattle.std.specs.Prelude.{◌≡◌, ◌∷◌, ◌++◌, ℕ, List, Result, IfOk, IfErr, IsTrue, MatchOption};
+ghost use Rattle.sc_lists.specs.Told.{Gives};
+ghost use Rattle.sc_checker.specs.declared.log.Step.{Step};
+ghost use Rattle.sc_checker.specs.Readings.{Reads, IfTold, AreWritable, BeginsWith, StopsAt, IsFault, IsText, IsReading};
+ghost use Rattle.sc_checker.specs.Texts.{has_no_newline, step_line, steps_text, first_line, log_text};
+ghost use Rattle.sc_checker.specs.Writable.{is_writable};
 
-use crate::log::{Instance, Learned, Step, is_rule_word};
-use crate::words::{hints_of, lits_of, words_of};
-use sc_lists::{Seq, Text};
+use crate::lines::read_step;
+use crate::log::{Log, Step};
+use sc_lists::{Fault, Seq};
 use std::alloc::{AllocError, Global};
-use std::str;
 
 /// The text isn't that of a log.
 #[derive(Clone, Copy, Debug, PartialEq, Eq)]
@@ -20,127 +19,84 @@ pub struct Malformed {
     pub step: u64,
 }
 
-/// The words of a line, which single spaces separate.
-fn split_words(alloc: Global, line: &[u8]) -> Result<Vec<&[u8]>, AllocError>
-    ensures { IfOk result (λ words. map (λ w. w.now) words.items ≡ slice_split (λ b. b == 32) line.now) }
+/// The first line, without the newline that ends it, and what follows.
+fn cut_line(bytes: &[u8]) -> Option<(&[u8], &[u8])>
+    ensures { MatchOption result (IsTrue (has_no_newline bytes.now)) (λ p. (bytes.now ≡ p.0.now ++ 10 ∷ p.1.now) × IsTrue (has_no_newline p.0.now)) }
 {
-    line.split(|byte| *byte == b' ').collect(alloc)
-}
-
-fn is_same(a: &[u8], b: &[u8]) -> bool
-    ensures { result ≡ bytes_eq a.now b.now }
-{
-    a == b
-}
-
-/// The rule's word, which is letters and digits.
-fn rule_of(alloc: Global, word: &[u8]) -> Result<Option<Text>, AllocError>
-    ensures { IfOk result (Reads is_rule_word (λ rule. rule) word.now) }
-{
-    if !is_rule_word(word) {
-        return Ok(None);
-    }
-    let Ok(text) = str::from_utf8(word) else {
-        return Ok(None);
-    };
-    let rule = Text::from_str(alloc, text)?;
-    Ok(Some(rule))
-}
-
-fn instance_of(alloc: Global, words: &[&[u8]]) -> Result<Option<Instance>, AllocError>
-    ensures { IfOk result (Reads is_instance instance_words (map (λ w. w.now) words.now)) }
-{
-    let [first, rest @ ..] = words else {
-        return Ok(None);
-    };
-    let Some(rule) = rule_of(alloc, first)? else {
-        return Ok(None);
-    };
-    let Some(words) = words_of(alloc, rest)? else {
-        return Ok(None);
-    };
-    Ok(Some(Instance { rule, words }))
-}
-
-/// The words before a last word `0`.
-fn before_last_zero<'w, 'b>(words: &'w [&'b [u8]]) -> Option<&'w [&'b [u8]]>
-    ensures { MatchOption result ((before : List (List ℕ)) → ¬ (map (λ w. w.now) words.now ≡ before ++ zero_text ∷ [])) (λ r. map (λ w. w.now) words.now ≡ map (λ w. w.now) r.now ++ zero_text ∷ []) }
-{
-    match words {
-        [before @ .., last] if is_same(last, b"0") => Some(before),
-        _ => None,
-    }
-}
-
-/// The hints, which `0` ends.
-fn ended_hints_of(alloc: Global, words: &[&[u8]]) -> Result<Option<Seq<u64>>, AllocError>
-    ensures { IfOk result (Reads are_hints hint_words (map (λ w. w.now) words.now)) }
-{
-    let Some(hints) = before_last_zero(words) else {
-        return Ok(None);
-    };
-    if hints.is_empty() {
-        return Ok(None);
-    }
-    let Some(hints) = hints_of(alloc, hints)? else {
-        return Ok(None);
-    };
-    Ok(Some(hints))
-}
-
-/// The words before the first `0`, and those after it.
-fn around_first_zero<'w, 'b>(words: &'w [&'b [u8]]) -> Option<(&'w [&'b [u8]], &'w [&'b [u8]])>
-    ensures { MatchOption result (IsTrue (has_no_zero (map (λ w. w.now) words.now))) (λ p. (map (λ w. w.now) words.now ≡ map (λ w. w.now) p.0.now ++ zero_text ∷ map (λ w. w.now) p.1.now) × IsTrue (has_no_zero (map (λ w. w.now) p.0.now))) }
-{
-    for (i, word) in words.iter().enumerate() {
-        if is_same(word, b"0") {
-            return Some((&words[..i], &words[i + 1..]));
+    for (i, byte) in bytes.iter().enumerate() {
+        if *byte == b'\n' {
+            return Some((&bytes[..i], &bytes[i + 1..]));
         }
     }
     None
 }
 
-fn learned_of(alloc: Global, words: &[&[u8]]) -> Result<Option<Learned>, AllocError>
-    ensures { IfOk result (Reads is_learned learned_words (map (λ w. w.now) words.now)) }
+/// The step of the first line, and what follows that line.
+fn next_step(alloc: Global, bytes: &[u8]) -> Result<Option<(Step, &[u8])>, AllocError>
+    ensures { IfOk result (λ o. MatchOption o ((s : Step) → IsTrue (is_writable s) → ¬ BeginsWith bytes.now s) (λ p. IsTrue (is_writable p.0) × (bytes.now ≡ step_line p.0 ++ 10 ∷ p.1.now))) }
 {
-    let Some((lits, rest)) = around_first_zero(words) else {
+    let Some((line, rest)) = cut_line(bytes) else {
         return Ok(None);
     };
-    let Some(clause) = lits_of(alloc, lits)? else {
+    let Some(step) = read_step(alloc, line)? else {
         return Ok(None);
     };
-    let Some(hints) = ended_hints_of(alloc, rest)? else {
-        return Ok(None);
-    };
-    Ok(Some(Learned { clause, hints }))
+    Ok(Some((step, rest)))
 }
 
-fn step_of(alloc: Global, words: &[&[u8]]) -> Result<Option<Step>, AllocError>
-    ensures { IfOk result (Reads is_writable step_words (map (λ w. w.now) words.now)) }
+/// The steps of lines.
+fn read_steps(alloc: Global, bytes: &[u8]) -> Result<Seq<Step>, Fault<Malformed>>
+    ensures found { IfOk result (λ steps. AreWritable steps × (bytes.now ≡ steps_text steps)) }
+    ensures fault { IfErr result (λ f. IfTold f (λ m. StopsAt bytes.now m.step)) }
 {
-    let [kind, rest @ ..] = words else {
-        return Ok(None);
-    };
-    if is_same(kind, b"t") {
-        let Some(instance) = instance_of(alloc, rest)? else {
-            return Ok(None);
+    let mut steps = Seq::new(alloc);
+    let mut rest = bytes;
+    let mut number = 0u64;
+    while !rest.is_empty() {
+        number += 1;
+        let Some((step, after)) = next_step(alloc, rest)? else {
+            return Err(Fault::Told(Malformed { step: number }));
         };
-        return Ok(Some(Step::Instance(instance)));
+        steps.push(step)?;
+        rest = after;
     }
-    if is_same(kind, b"l") {
-        let Some(learned) = learned_of(alloc, rest)? else {
-            return Ok(None);
-        };
-        return Ok(Some(Step::Learned(learned)));
-    }
-    Ok(None)
+    Ok(steps)
 }
 
-/// The step whose line this is, without its newline.
-pub(crate) fn read_step(alloc: Global, line: &[u8]) -> Result<Option<Step>, AllocError>
-    ensures { IfOk result (Reads is_writable step_line line.now) }
+/// What follows the line `log 1`.
+fn after_first_line(bytes: &[u8]) -> Option<&[u8]>
+    ensures { MatchOption result ((rest : List ℕ) → ¬ (bytes.now ≡ first_line ++ rest)) (λ r. bytes.now ≡ first_line ++ r.now) }
 {
-    let words = split_words(alloc, line)?;
-    let step = step_of(alloc, words.as_slice())?;
-    Ok(step)
+    bytes.strip_prefix(b"log 1\n")
+}
+
+fn read(alloc: Global, bytes: &[u8]) -> Result<Log, Fault<Malformed>>
+    ensures found { IfOk result (λ g. AreWritable g × IsText bytes.now g) }
+    ensures fault { IfErr result (λ f. IfTold f (λ m. IsFault bytes.now m.step)) }
+{
+    if bytes.is_empty() {
+        return Ok(Log::new(Seq::new(alloc)));
+    }
+    let Some(rest) = after_first_line(bytes) else {
+        return Err(Fault::Told(Malformed { step: 0 }));
+    };
+    match read_steps(alloc, rest) {
+        Ok(steps) => Ok(Log::new(steps)),
+        Err(fault) => Err(fault),
+    }
+}
+
+/// The log whose text these bytes are; no bytes at all are a log without steps. Malformed exactly
+/// at the first line that isn't of the form of a log's text.
+pub fn read_log(alloc: Global, bytes: &[u8]) -> Result<Log, Fault<Malformed>>
+    // The bytes are the text of the log that is read.
+    ensures found { IfOk result (λ g. AreWritable g × IsText bytes.now g) }
+    // The fault is the first line that is no line of a log.
+    ensures fault { IfErr result (λ f. IfTold f (λ m. IsFault bytes.now m.step)) }
+    // Where memory serves, a text is read as its log, and other bytes are Malformed.
+    ensures exact { (told : Result (List Step) Malformed) → IsReading bytes.now told → Gives result told }
+    // What `write_log` writes of a log is read as the log.
+    ensures back { (g : List Step) → AreWritable g → bytes.now ≡ log_text g → Gives result (Ok g) }
+{
+    read(alloc, bytes)
 }

@@ -1,6 +1,6 @@
 use Rattle.std.proofs.Common.{◌≡◌, ℕ, List, map, take, true}
 use Rattle.sc_checker.specs.Texts.{has_no_zero}
-use Rattle.sc_checker.proofs.reading.around_first_zero.Given as goal
+use Rattle.sc_checker.proofs.lines.around_first_zero.Given as goal
 
 abbrev pub invariant-loop-i : goal.invariant-loop-i
 invariant-loop-i l = has_no_zero (map (λ w. w.now) (take l.i l.words)) ≡ true

@@ -1,6 +1,6 @@
 use Rattle.std.proofs.Common.{[], ◌∷◌, ◌∙◌, sym, ap}
 use Rattle.sc_checker.proofs.LineLaws.{after_first}
-use Rattle.sc_checker.proofs.reading.step_of.Goals as goal
+use Rattle.sc_checker.proofs.lines.step_of.Goals as goal
 
 pub returns-then-is_same : goal.returns-then-is_same
 returns-then-is_same c =

@@ -1,5 +1,5 @@
 use Rattle.sc_checker.proofs.LineLaws.{learned_no_lits, learned_no_hints}
-use Rattle.sc_checker.proofs.reading.learned_of.Goals as goal
+use Rattle.sc_checker.proofs.lines.learned_of.Goals as goal
 
 pub returns-in_default-2 : goal.returns-in_default-2
 returns-in_default-2 c = learned_no_lits _ _ _ c.in-Some.ensures.0 c.in-Some.ensures.1 (rw c.in_default-2.is at c.in_ok-clause.ensures)
