@@ -184,3 +184,10 @@ pub fn is_writable(step: &Step) -> bool
         Step::Learned(learned) => is_learned(learned),
     }
 }
+
+/// Whether each step has a text.
+pub fn are_writable(steps: &Seq<Step>) -> bool
+    ensures { result ≡ list_all is_writable steps.now }
+{
+    steps.as_slice().iter().all(|step| is_writable(step))
+}
