@@ -1,12 +1,11 @@
 -- The literals that marks make true.
-use Rattle.std.proofs.Common.{◌≡◌, ◌≢◌, ◌+◌, ◌-◌, ◌<◌, ◌≤◌, ◌==◌, ℕ, zero, suc, List, [], ◌∷◌, ◌++◌, set, length, Bool, true, false, not, cond, ◌&&◌, ◌||◌, nat_le, Option, Some, None, slice_get, refl, sym, ap, ◌∙◌, subst, arith}
+use Rattle.std.proofs.Common.{◌≡◌, ◌≢◌, ◌-◌, ◌<◌, ◌≤◌, ◌==◌, ℕ, zero, suc, List, [], ◌∷◌, ◌++◌, set, length, Bool, true, false, not, cond, ◌&&◌, ◌||◌, nat_le, Option, Some, slice_get, refl, sym, ap, ◌∙◌, arith}
 use Rattle.std.proofs.Math.Path.{fun_ext}
-use Rattle.std.specs.List.{list_all}
 use Rattle.std.proofs.lemmas.Bool.{leb-true, le-leb, ltb-true, ne_eqb, eq-eqb, eqb-true, eqb-false, and_parts, and_from, true≢false}
 use Rattle.sc_clauses.specs.declared.lit.Lit.{Lit}
-use Rattle.sc_clauses.specs.Clauses.{bool_eq, lit_eq, negation}
+use Rattle.sc_clauses.specs.Clauses.{bool_eq, negation}
 use Rattle.sc_checker.specs.declared.known.Mark.{Mark}
-use Rattle.sc_checker.specs.Refutations.{LitSet, with_lit, is_listed}
+use Rattle.sc_checker.specs.Refutations.{with_lit, is_listed}
 use Rattle.sc_checker.specs.Known.{says, marked, is_stamped}
 
 slice_get-set_same : {X : Type 0} (xs : List X) (i : ℕ) (x : X) → i < length xs → slice_get (set xs i x) i ≡ Some x

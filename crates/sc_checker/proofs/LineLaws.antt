@@ -1,6 +1,6 @@
 -- Laws of the words of a step's line.
-use Rattle.std.proofs.Common.{◌≡◌, ◌≢◌, ◌+◌, ◌-◌, ◌<◌, ◌≤◌, ◌==◌, ℕ, zero, suc, List, [], ◌∷◌, ◌++◌, map, take, drop, drop-cons, get_or, length, Bool, true, false, not, cond, ◌&&◌, ◌||◌, nat_le, nat_lt, ⊎_elim, Option, Some, None, IsTrue, refl, sym, ap, ◌∙◌, subst, arith, add-one}
-use Rattle.std.specs.List.{list_all, position_or_len, join_with_byte, slice_split, All}
+use Rattle.std.proofs.Common.{◌≡◌, ◌+◌, ◌-◌, ◌<◌, ◌≤◌, ◌==◌, ℕ, zero, suc, List, [], ◌∷◌, ◌++◌, map, take, drop, get_or, length, Bool, true, false, not, ◌||◌, nat_le, nat_lt, ⊎_elim, Option, Some, None, refl, sym, ap, ◌∙◌, subst, arith, add-one}
+use Rattle.std.specs.List.{list_all, join_with_byte, slice_split, All}
 use Rattle.std.specs.Fmt.{decimal}
 use Rattle.std.specs.Str.{IsUtf8, IsAscii, bytes_eq}
 use Rattle.std.proofs.lemmas.Bool.{and_parts, and_from, leb-true, ltb-true, lt-ltb, not-true, both_ways, eq-eqb, ne_eqb, or_cases, true≢false}

@@ -1,13 +1,12 @@
 -- Bytes are read in one way.
-use Rattle.std.proofs.Common.{◌≡◌, ◌≢◌, ◌+◌, ◌<◌, ◌≤◌, ◌==◌, ℕ, zero, suc, List, [], ◌∷◌, ◌++◌, map, get_or, length, Bool, true, false, not, cond, ◌&&◌, ◌||◌, nat_lt, Option, Some, None, Result, Ok, Err, IsOk, IfOk, IfErr, IsTrue, ◌⊎◌, inl, inr, ⊎_elim, refl, sym, ap, ◌∙◌, subst, arith, append_assoc}
-use Rattle.std.specs.List.{list_all, flat_map, join_with_byte, slice_split}
+use Rattle.std.proofs.Common.{◌≡◌, ◌≢◌, ◌+◌, ◌<◌, ◌≤◌, ◌==◌, ℕ, suc, List, [], ◌∷◌, ◌++◌, map, length, Bool, true, false, not, nat_lt, None, Result, Ok, Err, IfOk, IfErr, IsTrue, inl, inr, refl, sym, ap, ◌∙◌, subst, arith, append_assoc}
+use Rattle.std.specs.List.{list_all, join_with_byte, slice_split}
 use Rattle.std.specs.Fmt.{decimal}
-use Rattle.std.specs.Str.Parse.{AllDigits}
 use Rattle.std.proofs.lemmas.Bool.{and_parts, and_from, ltb-true, ne_eqb, both_ways, eq-eqb, true≢false}
-use Rattle.std.proofs.lemmas.Fmt.{decimal_injective, decimal_is_IsNumeral}
+use Rattle.std.proofs.lemmas.Fmt.{decimal_injective}
 use Rattle.sc_lists.specs.declared.fault.Fault.{Fault}
 use Rattle.sc_lists.specs.declared.fault.Fault.TheVariants.{Told, NoMemory}
-use Rattle.sc_lists.specs.Told.{Gives, Fails}
+use Rattle.sc_lists.specs.Told.{Gives}
 use Rattle.sc_clauses.specs.declared.lit.Lit.{Lit}
 use Rattle.sc_checker.specs.declared.log.Word.{Word}
 use Rattle.sc_checker.specs.declared.log.Word.TheVariants.{Number, Signs}
@@ -17,7 +16,7 @@ use Rattle.sc_checker.specs.declared.log.Instance as instance
 use Rattle.sc_checker.specs.declared.log.Learned as learned
 use Rattle.sc_checker.specs.declared.reading.Malformed.{Malformed}
 use Rattle.sc_checker.specs.Writable.{is_number, is_rule_word, is_word, is_lit, is_hint, are_hints, is_instance, is_learned, is_writable}
-use Rattle.sc_checker.specs.Texts.{sign_text, word_text, lit_text, zero_text, has_no_zero, instance_words, hint_words, learned_words, step_words, step_line, has_no_newline, steps_text, first_line, log_text}
+use Rattle.sc_checker.specs.Texts.{sign_text, word_text, lit_text, zero_text, instance_words, hint_words, learned_words, step_words, step_line, has_no_newline, steps_text, first_line, log_text}
 use Rattle.sc_checker.specs.Readings.{Reads, IfTold, AreWritable, IsText, BeginsWith, StopsAt, IsFault, no_log, no_line, IsReading}
 use Rattle.sc_checker.proofs.WordLaws.{number_small, hint_number, decimal_no_minus, decimal_begins}
 use Rattle.sc_checker.proofs.LineLaws.{is_visible, step_visible, line_split, lits_end, lits_no_zero, snoc_same, first_same, rest_same, cons_same}

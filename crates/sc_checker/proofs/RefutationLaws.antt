@@ -1,16 +1,14 @@
 -- Laws of what hints show.
-use Rattle.std.proofs.Common.{◌≡◌, ◌≢◌, ◌+◌, ◌-◌, ◌<◌, ◌≤◌, ◌==◌, ℕ, zero, suc, List, [], ◌∷◌, ◌++◌, filter, take, drop, drop-cons, get_or, length, Bool, true, false, not, cond, ◌&&◌, ◌||◌, nat_le, Option, Some, None, slice_get, refl, sym, ap, ◌∙◌, subst, arith}
+use Rattle.std.proofs.Common.{◌≡◌, ◌+◌, ◌-◌, ◌<◌, ◌==◌, ℕ, zero, suc, List, [], ◌∷◌, ◌++◌, take, drop, drop-cons, get_or, length, Bool, true, false, not, cond, ◌&&◌, ◌||◌, Option, Some, None, slice_get, refl, sym, ap, ◌∙◌, subst}
 use Rattle.std.proofs.Math.Path.{fun_ext}
-use Rattle.std.specs.List.{list_all, list_any}
-use Rattle.std.specs.Option.{option_to_list}
+use Rattle.std.specs.List.{list_all}
 use Rattle.std.proofs.lemmas.List.{take_more, take-append-drop}
 use Rattle.std.proofs.lemmas.List.Folds.{list_all-append}
-use Rattle.std.proofs.lemmas.Bool.{eq-eqb, eqb-true, and_parts, and_from, and_left, and_right, or_cases, not-true, true≢false}
+use Rattle.std.proofs.lemmas.Bool.{eq-eqb, eqb-true, and_parts, and_from, and_left, and_right, not-true, true≢false}
 use Rattle.sc_clauses.specs.declared.lit.Lit.{Lit}
 use Rattle.sc_clauses.specs.Clauses.{Clause, bool_eq, lit_eq, negation, is_in}
-use Rattle.sc_checker.specs.declared.refuting.Residual.{Residual}
-use Rattle.sc_checker.specs.declared.refuting.Residual.TheVariants.{Conflict, Unit, Open}
-use Rattle.sc_checker.specs.Refutations.{LitSet, negated, with_lit, open_lits, residual, residual_at, clause_at, is_nil, goes_on, refutes, is_listed, is_clause, are_listed}
+use Rattle.sc_checker.specs.declared.refuting.Residual.TheVariants.{Unit, Open}
+use Rattle.sc_checker.specs.Refutations.{LitSet, negated, with_lit, open_lits, residual, residual_at, clause_at, is_listed, is_clause, are_listed}
 
 pub negation_negation : (l : Lit) → negation (negation l) ≡ l
 negation_negation l = same l.negated l.atom where

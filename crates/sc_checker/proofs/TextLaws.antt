@@ -1,8 +1,7 @@
 -- Laws of texts.
-use Rattle.std.proofs.Common.{◌≡◌, ◌+◌, ◌<◌, ℕ, zero, suc, List, [], ◌∷◌, ◌++◌, map, take, get_or, length, Bool, true, false, not, cond, refl, sym, ap, ◌∙◌, subst, arith, append_assoc, append-nil}
+use Rattle.std.proofs.Common.{◌≡◌, ℕ, List, [], ◌∷◌, ◌++◌, map, refl, sym, ap, ◌∙◌, append_assoc, append-nil}
 use Rattle.std.specs.Fmt.{decimal}
 use Rattle.std.specs.List.{flat_map, join_with_byte}
-use Rattle.std.proofs.lemmas.List.{take_more}
 use Rattle.sc_checker.specs.declared.log.Instance as instance
 use Rattle.sc_checker.specs.declared.log.Learned as learned
 use Rattle.sc_checker.specs.Texts.{spaced, word_text, lit_text, zero_text, instance_words, learned_words}

@@ -1,19 +1,16 @@
 -- Laws of words and of lists of words.
-use Rattle.std.proofs.Common.{◌≡◌, ◌≢◌, ◌+◌, ◌-◌, ◌<◌, ◌≤◌, ◌==◌, ◌^◌, ℕ, zero, suc, List, [], ◌∷◌, ◌++◌, map, get_or, length, Bool, true, false, not, cond, ◌&&◌, ◌||◌, Option, Some, None, option_map, Result, Ok, Err, IsTrue, nat_lt, refl, sym, ap, ◌∙◌, subst, arith}
+use Rattle.std.proofs.Common.{◌≡◌, ◌<◌, ◌≤◌, ◌==◌, ◌^◌, ℕ, zero, suc, List, [], ◌∷◌, map, get_or, length, Bool, true, false, not, cond, ◌&&◌, Option, Some, None, option_map, Result, Ok, Err, nat_lt, refl, sym, ap, ◌∙◌, subst, arith}
 use Rattle.std.specs.List.{list_all}
 use Rattle.std.specs.Fmt.{decimal}
 use Rattle.std.specs.Str.{IsUtf8, bytes_eq}
-use Rattle.std.specs.Str.Parse.{ParsesUnsigned, IsNumeral, AllDigits}
+use Rattle.std.specs.Str.Parse.{ParsesUnsigned, AllDigits}
 use Rattle.std.specs.Char.{digit_value}
 use Rattle.std.proofs.lemmas.Bool.{and_parts, and_from, ltb-true, ltb-false, true≢false}
 use Rattle.std.proofs.lemmas.Fmt.{IsAscii-decimal, parse-decimal, decimal_is_IsNumeral, decimal_injective}
 use Rattle.std.proofs.lemmas.Str.{IsUtf8-from_ascii}
 use Rattle.std.proofs.lemmas.Slice.Eq.{bytes_eq-Decides}
-use Rattle.sc_clauses.specs.declared.lit.Lit.{Lit}
-use Rattle.sc_checker.specs.declared.log.Word.{Word}
-use Rattle.sc_checker.specs.declared.log.Word.TheVariants.{Number, Signs}
-use Rattle.sc_checker.specs.Writable.{is_number, is_hint, is_lit, is_word}
-use Rattle.sc_checker.specs.Texts.{sign_text, word_text, lit_text}
+use Rattle.sc_checker.specs.Writable.{is_number, is_hint, is_lit}
+use Rattle.sc_checker.specs.Texts.{sign_text, lit_text}
 use Rattle.sc_checker.specs.Readings.{Reads}
 
 -- ---- numbers

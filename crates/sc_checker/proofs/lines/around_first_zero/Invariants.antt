@@ -1,4 +1,4 @@
-use Rattle.std.proofs.Common.{◌≡◌, ℕ, List, map, take, true}
+use Rattle.std.proofs.Common.{◌≡◌, map, take, true}
 use Rattle.sc_checker.specs.Texts.{has_no_zero}
 use Rattle.sc_checker.proofs.lines.around_first_zero.Given as goal
 

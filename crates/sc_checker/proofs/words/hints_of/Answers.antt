@@ -1,6 +1,5 @@
 use Rattle.std.proofs.Common.{decimal}
-use Rattle.sc_checker.specs.Texts.{word_text, lit_text}
-use Rattle.sc_checker.specs.Writable.{is_word, is_lit, is_hint}
+use Rattle.sc_checker.specs.Writable.{is_hint}
 use Rattle.sc_checker.proofs.WordLaws.{each_none}
 use Rattle.sc_checker.proofs.words.hints_of.Goals as goal
 

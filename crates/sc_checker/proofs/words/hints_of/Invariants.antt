@@ -1,7 +1,6 @@
 use Rattle.std.proofs.Common.{◌≡◌, true, map, take, decimal}
 use Rattle.std.specs.List.{list_all}
-use Rattle.sc_checker.specs.Texts.{word_text, lit_text}
-use Rattle.sc_checker.specs.Writable.{is_word, is_lit, is_hint}
+use Rattle.sc_checker.specs.Writable.{is_hint}
 use Rattle.sc_checker.proofs.words.hints_of.Given as goal
 
 -- the words before are read

@@ -1,4 +1,4 @@
-use Rattle.sc_checker.proofs.WordLaws.{lit_negated, lit_plain}
+use Rattle.sc_checker.proofs.WordLaws.{lit_negated}
 use Rattle.sc_checker.proofs.words.lit_of.Goals as goal
 
 pub returns-in-Some : goal.returns-in-Some

@@ -1,5 +1,5 @@
-use Rattle.std.proofs.Common.{◌≡◌, ◌++◌, map, take, string_bytes, decimal}
-use Rattle.sc_checker.specs.Texts.{spaced, sign_text, word_text, lit_text}
+use Rattle.std.proofs.Common.{◌≡◌, ◌++◌, map, take, string_bytes}
+use Rattle.sc_checker.specs.Texts.{spaced, lit_text}
 use Rattle.sc_checker.proofs.writing.write_lits.Given as goal
 
 abbrev pub invariant-loop-lit : goal.invariant-loop-lit

@@ -1,4 +1,4 @@
-use Rattle.std.proofs.Common.{◌≡◌, ◌++◌, take, string_bytes}
+use Rattle.std.proofs.Common.{◌≡◌, take, string_bytes}
 use Rattle.sc_checker.specs.Texts.{log_text}
 use Rattle.sc_checker.proofs.writing.write_log.Given as goal
 

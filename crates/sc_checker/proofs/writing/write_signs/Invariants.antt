@@ -1,5 +1,5 @@
-use Rattle.std.proofs.Common.{◌≡◌, ◌++◌, map, take, string_bytes, decimal}
-use Rattle.sc_checker.specs.Texts.{spaced, sign_text, word_text, lit_text}
+use Rattle.std.proofs.Common.{◌≡◌, ◌++◌, map, take, string_bytes}
+use Rattle.sc_checker.specs.Texts.{sign_text}
 use Rattle.sc_checker.proofs.writing.write_signs.Given as goal
 
 abbrev pub invariant-loop-sign : goal.invariant-loop-sign
