@@ -65,9 +65,6 @@ written true false k h = sym (h refl)
 written false true k h = sym (h refl)
 written false false k h = refl
 
-says_written : (step : ℕ) (a b : Bool) → says step b (Some (record { step = step; value = not a })) ≡ bool_eq (not a) (not b)
-says_written step a b = rw (eq-eqb step step refl) refl
-
 other_known : (step : ℕ) (a b : Bool) (o : Option Mark) → says step (not a) o ≡ false → bool_eq b (not a) ≡ true → says step b o ≡ false
 other_known step true true o e h = absurd (true≢false (sym h))
 other_known step true false o e h = e

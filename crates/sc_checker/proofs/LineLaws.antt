@@ -92,33 +92,11 @@ snoc_same (c ∷ a) (d ∷ b) x y e =
     let parts = snoc_same a b x y rest in
     (cons_same first parts.0, parts.1)
 
-pub no_last : {X : Type 0} (a : List X) (x : X) → a ++ x ∷ [] ≡ [] → ⊥
-no_last [] x e = absurd cc
-no_last (y ∷ a) x e = absurd cc
-
-map_snoc : {X Y : Type 0} (f : X → Y) (xs : List X) (x : X) → map f (xs ++ x ∷ []) ≡ map f xs ++ f x ∷ []
-map_snoc f [] x = refl
-map_snoc f (y ∷ xs) x = ap (λ ys. f y ∷ ys) (map_snoc f xs x)
-
 pub map_last : {X Y : Type 0} (f : X → Y) (xs : List X) (n : ℕ) (d : X) → length xs ≡ n + 1 → map f xs ≡ map f (take n xs) ++ f (get_or xs n d) ∷ []
 map_last f [] n d e = absurd (omega arith)
 map_last f (x ∷ []) zero d e = refl
 map_last f (x ∷ y ∷ xs) zero d e = absurd (omega arith)
 map_last f (x ∷ xs) (suc n) d e = ap (λ ys. f x ∷ ys) (map_last f xs n d (omega arith))
-
-pub hints_some : (hints : List ℕ) (before words : List (List ℕ)) → words ≡ before ++ zero_text ∷ [] → map decimal hints ≡ before → hint_words hints ≡ words
-hints_some hints before words is e = ap (λ ws. ws ++ zero_text ∷ []) e ∙ sym is
-
-pub hints_no_end : (words : List (List ℕ)) → ((before : List (List ℕ)) → ¬ (words ≡ before ++ zero_text ∷ [])) → Reads are_hints hint_words words None
-hints_no_end words h hints t e = h (map decimal hints) (sym e)
-
-pub hints_no_hint : (words : List (List ℕ)) → words ≡ [] ++ zero_text ∷ [] → Reads are_hints hint_words words None
-hints_no_hint words is [] t e = true≢false (sym t)
-hints_no_hint words is (h ∷ []) t e = absurd cc
-hints_no_hint words is (h ∷ k ∷ hints) t e = absurd cc
-
-pub hints_none : (before words : List (List ℕ)) → words ≡ before ++ zero_text ∷ [] → Reads (list_all is_hint) (map decimal) before None → Reads are_hints hint_words words None
-hints_none before words is none hints t e = none hints (and_parts _ (list_all is_hint hints) t).1 (snoc_same (map decimal hints) before zero_text zero_text (e ∙ is)).0
 
 -- ---- literals, `0`, hints, `0`
 
@@ -161,15 +139,6 @@ lits_end (l ∷ c) (w ∷ a) b tail t h e =
     let parts = lits_end c a b tail (and_parts (is_lit l) (list_all is_lit c) t).1 (and_parts (not (bytes_eq w zero_text)) (has_no_zero a) h).1 later in
     (cons_same first parts.0, parts.1)
 
-no_end : (c : List Lit) (tail words : List (List ℕ)) → has_no_zero words ≡ true → map lit_text c ++ zero_text ∷ tail ≡ words → ⊥
-no_end [] tail [] h e = absurd cc
-no_end [] tail (w ∷ words) h e = let same : w ≡ zero_text = cc in zero_not w (and_parts (not (bytes_eq w zero_text)) (has_no_zero words) h).0 same
-no_end (l ∷ c) tail [] h e = absurd cc
-no_end (l ∷ c) tail (w ∷ words) h e = no_end c tail words (and_parts (not (bytes_eq w zero_text)) (has_no_zero words) h).1 cc
-
-pub learned_no_zero : (words : List (List ℕ)) → has_no_zero words ≡ true → Reads is_learned learned_words words None
-learned_no_zero words h l t e = no_end l.clause (hint_words l.hints) words h e
-
 pub learned_no_lits : (words a b : List (List ℕ)) → words ≡ a ++ zero_text ∷ b → has_no_zero a ≡ true → Reads (list_all is_lit) (map lit_text) a None → Reads is_learned learned_words words None
 learned_no_lits words a b is h none l t e =
     let lits = (and_parts (list_all is_lit l.clause) (are_hints l.hints) t).0 in
@@ -179,9 +148,6 @@ pub learned_no_hints : (words a b : List (List ℕ)) → words ≡ a ++ zero_tex
 learned_no_hints words a b is h none l t e =
     let parts = and_parts (list_all is_lit l.clause) (are_hints l.hints) t in
     none l.hints parts.1 (lits_end l.clause a b (hint_words l.hints) parts.0 h (e ∙ is)).1
-
-pub learned_some : (words a b : List (List ℕ)) (c : List Lit) (hints : List ℕ) → words ≡ a ++ zero_text ∷ b → map lit_text c ≡ a → hint_words hints ≡ b → map lit_text c ++ zero_text ∷ hint_words hints ≡ words
-learned_some words a b c hints is e f = (λ i. e i ++ zero_text ∷ f i) ∙ sym is
 
 -- ---- words cut from a list
 

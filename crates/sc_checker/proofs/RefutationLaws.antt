@@ -90,9 +90,6 @@ is_in-append : (a b : Clause) (l : Lit) → is_in (a ++ b) l ≡ is_in a l || is
 is_in-append [] b l = refl
 is_in-append (m ∷ a) b l = ap (λ t. lit_eq l m || t) (is_in-append a b l) ∙ or_assoc (lit_eq l m) (is_in a l) (is_in b l)
 
-pub negated_none : negated [] ≡ (λ l. false)
-negated_none = refl
-
 pub negated_push : (a : Clause) (l : Lit) → with_lit (negated a) (negation l) ≡ negated (a ++ l ∷ [])
 negated_push a l = fun_ext (λ m.
     or_comm (lit_eq m (negation l)) (is_in a (negation m))
@@ -102,12 +99,6 @@ negated_push a l = fun_ext (λ m.
 or_right : (a b : Bool) → b ≡ true → a || b ≡ true
 or_right true b e = refl
 or_right false b e = e
-
-same_lit : (a b : Bool) → bool_eq a b ≡ true → bool_eq b a ≡ true
-same_lit true true e = refl
-same_lit true false e = absurd (true≢false (sym e))
-same_lit false true e = absurd (true≢false (sym e))
-same_lit false false e = refl
 
 bool_eq-true : (a b : Bool) → bool_eq a b ≡ true → a ≡ b
 bool_eq-true true true e = refl

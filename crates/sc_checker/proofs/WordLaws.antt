@@ -69,14 +69,6 @@ pub lit_negated : (word rest : List ℕ) (o : Option ℕ) → word ≡ 45 ∷ re
 lit_negated word rest (Some n) is read = (read.0, ap (λ (bs : List ℕ). 45 ∷ bs) read.1 ∙ sym is)
 lit_negated word rest None is none = λ l t e. negated_none word rest l.atom l.negated is none t e
 
-plain_none : (word : List ℕ) (n : ℕ) (b : Bool) → ((rest : List ℕ) → ¬ (word ≡ 45 ∷ rest)) → Reads is_hint decimal word None → is_lit (record { atom = n; negated = b }) ≡ true → lit_text (record { atom = n; negated = b }) ≡ word → ⊥
-plain_none word n true plain none t e = plain (decimal n) (sym e)
-plain_none word n false plain none t e = none n t e
-
-pub lit_plain : (word : List ℕ) (o : Option ℕ) → ((rest : List ℕ) → ¬ (word ≡ 45 ∷ rest)) → Reads is_hint decimal word o → Reads is_lit lit_text word (option_map (λ n. record { atom = n; negated = false }) o)
-lit_plain word (Some n) plain read = read
-lit_plain word None plain none = λ l t e. plain_none word l.atom l.negated plain none t e
-
 -- ---- lists of words
 
 -- where one of the words has no value, the list has none
