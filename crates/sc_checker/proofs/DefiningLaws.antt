@@ -1,20 +1,19 @@
 -- The clauses that define a problem, in a world in which its goal is true.
-use Rattle.std.proofs.Common.{◌≡◌, ◌+◌, ◌-◌, ◌<◌, ◌==◌, ℕ, zero, suc, List, [], ◌∷◌, map, Bool, true, false, not, cond, ◌&&◌, ◌||◌, Option, Some, None, length, slice_get, IsTrue, refl, sym, ap, ◌∙◌, subst, arith}
-use Rattle.std.specs.List.{list_any, list_all, position_or_len}
+use Rattle.std.proofs.Common.{◌≡◌, ◌+◌, ◌-◌, ◌<◌, ◌==◌, ℕ, suc, List, [], ◌∷◌, map, Bool, true, false, not, cond, ◌||◌, Some, None, length, slice_get, IsTrue, refl, sym, ap, ◌∙◌, arith}
+use Rattle.std.specs.List.{list_any, position_or_len}
 use Rattle.std.specs.Str.{bytes_eq}
 use Rattle.std.proofs.lemmas.Slice.Eq.{bytes_eq-Decides}
 use Rattle.std.proofs.lemmas.Bool.{and_parts, and_from, le-leb, lt-ltb, ne_eqb, true≢false}
-use Rattle.sc_values.specs.declared.value.Value.{Value, out-Value, out-roll-Value}
+use Rattle.sc_values.specs.declared.value.Value.{out-Value, out-roll-Value}
 use Rattle.sc_values.specs.declared.value.Value.TheOpen as v
 use Rattle.sc_values.specs.declared.value.Value.TheVariants as value
 use Rattle.sc_world.specs.declared.world.World.{World}
-use Rattle.sc_clauses.specs.declared.lit.Lit.{Lit}
-use Rattle.sc_clauses.specs.Clauses.{Clause, holds, clause_holds, positive, negation, bool_eq}
+use Rattle.sc_clauses.specs.Clauses.{holds, positive, bool_eq}
 use Rattle.sc_footprint.specs.declared.term.Term.{Term, Term-F, out-Term, roll-Term, roll-out-Term, fold-Term, fold-roll-Term}
 use Rattle.sc_footprint.specs.declared.term.Term.TheOpen as t
-use Rattle.sc_footprint.specs.declared.term.Term.TheVariants.{True, False, Context, Field, rolls-True, rolls-False, rolls-Context, rolls-Field}
+use Rattle.sc_footprint.specs.declared.term.Term.TheVariants.{True, Context, Field, rolls-True, rolls-Context, rolls-Field}
 use Rattle.sc_footprint.specs.Terms.{Denotation, val, val_step, truth_in, is_true}
-use Rattle.sc_footprint.specs.Problems.{Posed, is_goal, is_goal_under, is_context, context_names, of_context, atoms, atoms_under, atom_at, goal_literal, literal_under, defining}
+use Rattle.sc_footprint.specs.Problems.{Posed, is_goal, is_goal_under, is_context, context_names, of_context, atoms, atoms_under, literal_under, defining}
 use Rattle.sc_checker.specs.Refutations.{is_listed, are_listed}
 use Rattle.sc_checker.specs.declared.checking.Verdict.{Verdict}
 use Rattle.sc_checker.specs.declared.checking.Verdict.TheVariants.{Refuted}

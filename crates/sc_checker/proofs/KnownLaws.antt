@@ -1,12 +1,11 @@
 -- The literals that marks make true.
-use Rattle.std.proofs.Common.{◌≡◌, ◌≢◌, ◌+◌, ◌-◌, ◌<◌, ◌≤◌, ◌==◌, ℕ, zero, suc, List, [], ◌∷◌, ◌++◌, set, length, Bool, true, false, not, cond, ◌&&◌, ◌||◌, nat_le, Option, Some, None, slice_get, refl, sym, ap, ◌∙◌, subst, arith}
+use Rattle.std.proofs.Common.{◌≡◌, ◌≢◌, ◌-◌, ◌<◌, ◌≤◌, ◌==◌, ℕ, zero, suc, List, [], ◌∷◌, ◌++◌, set, length, Bool, true, false, not, cond, ◌&&◌, ◌||◌, nat_le, Option, Some, slice_get, refl, sym, ap, ◌∙◌, arith}
 use Rattle.std.proofs.Math.Path.{fun_ext}
-use Rattle.std.specs.List.{list_all}
 use Rattle.std.proofs.lemmas.Bool.{leb-true, le-leb, ltb-true, ne_eqb, eq-eqb, eqb-true, eqb-false, and_parts, and_from, true≢false}
 use Rattle.sc_clauses.specs.declared.lit.Lit.{Lit}
-use Rattle.sc_clauses.specs.Clauses.{bool_eq, lit_eq, negation}
+use Rattle.sc_clauses.specs.Clauses.{bool_eq, negation}
 use Rattle.sc_checker.specs.declared.known.Mark.{Mark}
-use Rattle.sc_checker.specs.Refutations.{LitSet, with_lit, is_listed}
+use Rattle.sc_checker.specs.Refutations.{with_lit, is_listed}
 use Rattle.sc_checker.specs.Known.{says, marked, is_stamped}
 
 slice_get-set_same : {X : Type 0} (xs : List X) (i : ℕ) (x : X) → i < length xs → slice_get (set xs i x) i ≡ Some x
@@ -65,9 +64,6 @@ written true true k h = refl
 written true false k h = sym (h refl)
 written false true k h = sym (h refl)
 written false false k h = refl
-
-says_written : (step : ℕ) (a b : Bool) → says step b (Some (record { step = step; value = not a })) ≡ bool_eq (not a) (not b)
-says_written step a b = rw (eq-eqb step step refl) refl
 
 other_known : (step : ℕ) (a b : Bool) (o : Option Mark) → says step (not a) o ≡ false → bool_eq b (not a) ≡ true → says step b o ≡ false
 other_known step true true o e h = absurd (true≢false (sym h))

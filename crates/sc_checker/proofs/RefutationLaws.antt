@@ -1,16 +1,14 @@
 -- Laws of what hints show.
-use Rattle.std.proofs.Common.{◌≡◌, ◌≢◌, ◌+◌, ◌-◌, ◌<◌, ◌≤◌, ◌==◌, ℕ, zero, suc, List, [], ◌∷◌, ◌++◌, filter, take, drop, drop-cons, get_or, length, Bool, true, false, not, cond, ◌&&◌, ◌||◌, nat_le, Option, Some, None, slice_get, refl, sym, ap, ◌∙◌, subst, arith}
+use Rattle.std.proofs.Common.{◌≡◌, ◌+◌, ◌-◌, ◌<◌, ◌==◌, ℕ, zero, suc, List, [], ◌∷◌, ◌++◌, take, drop, drop-cons, get_or, length, Bool, true, false, not, cond, ◌&&◌, ◌||◌, Option, Some, None, slice_get, refl, sym, ap, ◌∙◌, subst}
 use Rattle.std.proofs.Math.Path.{fun_ext}
-use Rattle.std.specs.List.{list_all, list_any}
-use Rattle.std.specs.Option.{option_to_list}
+use Rattle.std.specs.List.{list_all}
 use Rattle.std.proofs.lemmas.List.{take_more, take-append-drop}
 use Rattle.std.proofs.lemmas.List.Folds.{list_all-append}
-use Rattle.std.proofs.lemmas.Bool.{eq-eqb, eqb-true, and_parts, and_from, and_left, and_right, or_cases, not-true, true≢false}
+use Rattle.std.proofs.lemmas.Bool.{eq-eqb, eqb-true, and_parts, and_from, and_left, and_right, not-true, true≢false}
 use Rattle.sc_clauses.specs.declared.lit.Lit.{Lit}
 use Rattle.sc_clauses.specs.Clauses.{Clause, bool_eq, lit_eq, negation, is_in}
-use Rattle.sc_checker.specs.declared.refuting.Residual.{Residual}
-use Rattle.sc_checker.specs.declared.refuting.Residual.TheVariants.{Conflict, Unit, Open}
-use Rattle.sc_checker.specs.Refutations.{LitSet, negated, with_lit, open_lits, residual, residual_at, clause_at, is_nil, goes_on, refutes, is_listed, is_clause, are_listed}
+use Rattle.sc_checker.specs.declared.refuting.Residual.TheVariants.{Unit, Open}
+use Rattle.sc_checker.specs.Refutations.{LitSet, negated, with_lit, open_lits, residual, residual_at, clause_at, is_listed, is_clause, are_listed}
 
 pub negation_negation : (l : Lit) → negation (negation l) ≡ l
 negation_negation l = same l.negated l.atom where
@@ -92,9 +90,6 @@ is_in-append : (a b : Clause) (l : Lit) → is_in (a ++ b) l ≡ is_in a l || is
 is_in-append [] b l = refl
 is_in-append (m ∷ a) b l = ap (λ t. lit_eq l m || t) (is_in-append a b l) ∙ or_assoc (lit_eq l m) (is_in a l) (is_in b l)
 
-pub negated_none : negated [] ≡ (λ l. false)
-negated_none = refl
-
 pub negated_push : (a : Clause) (l : Lit) → with_lit (negated a) (negation l) ≡ negated (a ++ l ∷ [])
 negated_push a l = fun_ext (λ m.
     or_comm (lit_eq m (negation l)) (is_in a (negation m))
@@ -104,12 +99,6 @@ negated_push a l = fun_ext (λ m.
 or_right : (a b : Bool) → b ≡ true → a || b ≡ true
 or_right true b e = refl
 or_right false b e = e
-
-same_lit : (a b : Bool) → bool_eq a b ≡ true → bool_eq b a ≡ true
-same_lit true true e = refl
-same_lit true false e = absurd (true≢false (sym e))
-same_lit false true e = absurd (true≢false (sym e))
-same_lit false false e = refl
 
 bool_eq-true : (a b : Bool) → bool_eq a b ≡ true → a ≡ b
 bool_eq-true true true e = refl

@@ -1,17 +1,17 @@
 -- Where a log is accepted, the goal is true in no well-formed world.
-use Rattle.std.proofs.Common.{◌≡◌, ◌+◌, ◌-◌, ◌<◌, ◌==◌, ℕ, zero, suc, List, [], ◌∷◌, ◌++◌, map, Bool, true, false, not, cond, ◌&&◌, ◌||◌, Option, Some, None, Result, Ok, Err, length, slice_get, IfSome, refl, sym, ap, ◌∙◌, subst, ⊎_elim}
+use Rattle.std.proofs.Common.{◌≡◌, ◌-◌, ◌==◌, ℕ, zero, suc, List, [], ◌∷◌, ◌++◌, Bool, true, false, not, cond, ◌&&◌, ◌||◌, Option, Some, None, Ok, Err, slice_get, IfSome, refl, sym, ap, ◌∙◌, subst, ⊎_elim}
 use Rattle.std.specs.Prelude.{⊤}
-use Rattle.std.specs.List.{list_all, list_any, AllByRecursion}
+use Rattle.std.specs.List.{list_all, AllByRecursion}
 use Rattle.std.proofs.lemmas.Bool.{and_parts, or_cases, not-false, true≢false}
 use Rattle.sc_clauses.specs.declared.lit.Lit.{Lit}
-use Rattle.sc_clauses.specs.Clauses.{Clause, bool_eq, lit_eq, negation, is_in, holds, clause_holds, positive}
+use Rattle.sc_clauses.specs.Clauses.{Clause, bool_eq, lit_eq, negation, is_in, holds, clause_holds}
 use Rattle.sc_checker.specs.declared.refuting.Residual.{Residual}
 use Rattle.sc_checker.specs.declared.refuting.Residual.TheVariants.{Conflict, Unit, Open}
 use Rattle.sc_checker.specs.declared.log.Step.{Step}
 use Rattle.sc_checker.specs.declared.log.Step.TheVariants.{Instance, Learned}
 use Rattle.sc_checker.specs.declared.checking.Reason.TheVariants.{NotRefuted}
 use Rattle.sc_checker.specs.Refutations.{LitSet, negated, with_lit, open_lits, residual, residual_at, clause_at, is_nil, goes_on, refutes, is_clause}
-use Rattle.sc_checker.specs.Verdicts.{added, Adds, no_step, first_step, IsAccepted}
+use Rattle.sc_checker.specs.Verdicts.{added, Adds, no_step, first_step}
 use Rattle.sc_checker.proofs.RefutationLaws.{lit_eq-true}
 
 abbrev pub AllHold : (ℕ → Bool) → List Clause → Type 0

@@ -1,7 +1,6 @@
 -- The literals that are known in the check of a step, by a mark for each atom.
 use Rattle.std.specs.Prelude.{◌&&◌, ◌==◌, ◌-◌, ℕ, List, Bool, false, not, nat_le, Option, Some, None, slice_get, if◌then◌else◌}
 use Rattle.std.specs.List.{list_all}
-use Rattle.sc_clauses.specs.declared.lit.Lit.{Lit}
 use Rattle.sc_clauses.specs.Clauses.{bool_eq}
 use Rattle.sc_checker.specs.declared.known.Mark.{Mark}
 use Rattle.sc_checker.specs.Refutations.{LitSet}

@@ -3,3 +3,5 @@ pub mod Refutations
 pub mod Known
 pub mod Verdicts
 pub mod Truths
+pub mod Texts
+pub mod Readings

@@ -1,5 +1,5 @@
 -- What it means that a goal is true in no world.
-use Rattle.std.specs.Prelude.{◌≡◌, ℕ, Bool, false, true, Option, Some, None, IsTrue}
+use Rattle.std.specs.Prelude.{ℕ, Bool, false, Option, Some, None, IsTrue}
 use Rattle.sc_world.specs.declared.world.World.{World}
 use Rattle.sc_world.specs.WellFormed.{IsWellFormed}
 use Rattle.sc_footprint.specs.declared.term.Term.{Term}

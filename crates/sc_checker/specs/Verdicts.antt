@@ -1,5 +1,5 @@
 -- Which logs are accepted, and the verdict on a log.
-use Rattle.std.specs.Prelude.{◌≡◌, ◌&&◌, ◌+◌, ℕ, List, [], ◌∷◌, ◌++◌, Bool, true, false, Result, Ok, Err, length, if◌then◌else◌}
+use Rattle.std.specs.Prelude.{◌≡◌, ◌&&◌, ◌+◌, ℕ, List, [], ◌∷◌, ◌++◌, Bool, false, Result, Ok, Err, length, if◌then◌else◌}
 use Rattle.sc_clauses.specs.Clauses.{Clause}
 use Rattle.sc_footprint.specs.Problems.{Posed, atoms, defining}
 use Rattle.sc_checker.specs.declared.log.Step.{Step}

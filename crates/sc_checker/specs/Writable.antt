@@ -37,8 +37,12 @@ is_hint h = nat_lt 0 h && is_number h
 abbrev pub is_instance : instance.Instance → Bool
 is_instance i = is_rule_word i.rule && list_all is_word i.words
 
+-- one hint at least
+abbrev pub are_hints : List ℕ → Bool
+are_hints hints = not (length hints == 0) && list_all is_hint hints
+
 abbrev pub is_learned : learned.Learned → Bool
-is_learned l = list_all is_lit l.clause && not (length l.hints == 0) && list_all is_hint l.hints
+is_learned l = list_all is_lit l.clause && are_hints l.hints
 
 -- the step has a text
 abbrev pub is_writable : Step → Bool

@@ -4,8 +4,16 @@
 
 mod checking;
 mod known;
+mod lines;
 mod log;
+mod reading;
 mod refuting;
+#[cfg(test)]
+mod tests;
+mod words;
+mod writing;
 
 pub use checking::{Reason, Verdict, check};
-pub use log::{Instance, Learned, Log, Step, Word, is_writable};
+pub use log::{Instance, Learned, Log, Step, Word, are_writable, is_writable};
+pub use reading::{Malformed, read_log};
+pub use writing::write_log;

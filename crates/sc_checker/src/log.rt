@@ -1,7 +1,7 @@
 //! Logs of a refutation.
 ghost use Rattle.std.specs.Prelude.{◌≡◌, IsTrue};
 ghost use Rattle.std.specs.List.{list_all};
-ghost use Rattle.sc_checker.specs.Writable.{is_number, is_letter_or_digit, is_rule_word, is_word, is_lit, is_hint, is_instance, is_learned, is_writable};
+ghost use Rattle.sc_checker.specs.Writable.{is_number, is_letter_or_digit, is_rule_word, is_word, is_lit, is_hint, are_hints, is_instance, is_learned, is_writable};
 
 use sc_clauses::{Clause, Lit};
 use sc_lists::{Seq, Text};
@@ -85,7 +85,7 @@ impl Log {
 const NUMBER_END: u64 = 1_000_000_000_000_000_000;
 
 /// Whether a number has at most 18 digits.
-fn is_number(number: u64) -> bool
+pub(crate) fn is_number(number: u64) -> bool
     ensures { result ≡ is_number number }
 {
     number < NUMBER_END
@@ -104,7 +104,7 @@ fn are_letters_and_digits(bytes: &[u8]) -> bool
 }
 
 /// Whether a text is one or more letters and digits.
-fn is_rule_word(bytes: &[u8]) -> bool
+pub(crate) fn is_rule_word(bytes: &[u8]) -> bool
     ensures { result ≡ is_rule_word bytes.now }
 {
     let all = are_letters_and_digits(bytes);
@@ -120,13 +120,13 @@ fn is_word(word: &Word) -> bool
     }
 }
 
-fn is_lit(lit: Lit) -> bool
+pub(crate) fn is_lit(lit: Lit) -> bool
     ensures { result ≡ is_lit lit }
 {
     0 < lit.atom && is_number(lit.atom)
 }
 
-fn is_hint(hint: u64) -> bool
+pub(crate) fn is_hint(hint: u64) -> bool
     ensures { result ≡ is_hint hint }
 {
     0 < hint && is_number(hint)
@@ -144,10 +144,17 @@ fn are_lits(lits: &[Lit]) -> bool
     lits.iter().all(|lit| is_lit(*lit))
 }
 
-fn are_hints(hints: &[u64]) -> bool
+fn all_hints(hints: &[u64]) -> bool
     ensures { result ≡ list_all is_hint hints.now }
 {
     hints.iter().all(|hint| is_hint(*hint))
+}
+
+fn are_hints(hints: &[u64]) -> bool
+    ensures { result ≡ are_hints hints.now }
+{
+    let all = all_hints(hints);
+    !hints.is_empty() && all
 }
 
 fn is_instance(instance: &Instance) -> bool
@@ -163,7 +170,7 @@ fn is_learned(learned: &Learned) -> bool
 {
     let lits = are_lits(learned.clause.as_slice());
     let hints = are_hints(learned.hints.as_slice());
-    lits && !learned.hints.is_empty() && hints
+    lits && hints
 }
 
 /// Whether a step has a text: its rule's word is one or more letters and digits, its numbers have
@@ -176,4 +183,11 @@ pub fn is_writable(step: &Step) -> bool
         Step::Instance(instance) => is_instance(instance),
         Step::Learned(learned) => is_learned(learned),
     }
+}
+
+/// Whether each step has a text.
+pub fn are_writable(steps: &Seq<Step>) -> bool
+    ensures { result ≡ list_all is_writable steps.now }
+{
+    steps.as_slice().iter().all(|step| is_writable(step))
 }

@@ -1,4 +1,4 @@
-use Rattle.std.proofs.Common.{◌≡◌, ◌∙◌, ◌&&◌, sym, ap, not, arith, get_or, length, false, true, ◌<◌}
+use Rattle.std.proofs.Common.{◌≡◌, ◌&&◌, sym, ap, not, arith, get_or, length, false, true, ◌<◌}
 use Rattle.sc_clauses.specs.Clauses.{negation}
 use Rattle.sc_checker.specs.Known.{marked}
 use Rattle.sc_checker.specs.Refutations.{is_listed, with_lit}

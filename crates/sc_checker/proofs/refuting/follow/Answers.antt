@@ -1,4 +1,4 @@
-use Rattle.std.proofs.Common.{◌≡◌, ◌∙◌, sym, length, slice_index, ap, true}
+use Rattle.std.proofs.Common.{◌∙◌, sym, length, ap}
 use Rattle.sc_checker.specs.Known.{marked}
 use Rattle.sc_checker.specs.Refutations.{are_listed}
 use Rattle.sc_checker.proofs.RefutationLaws.{unit_is}

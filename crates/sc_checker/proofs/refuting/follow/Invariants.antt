@@ -1,4 +1,4 @@
-use Rattle.std.proofs.Common.{◌≡◌, true, length, drop}
+use Rattle.std.proofs.Common.{◌≡◌, length, drop}
 use Rattle.sc_checker.specs.Known.{marked}
 use Rattle.sc_checker.specs.Refutations.{refutes}
 use Rattle.sc_checker.proofs.refuting.follow.Given as goal

@@ -1,4 +1,4 @@
-use Rattle.std.proofs.Common.{◌≡◌, true, vec_len, length}
+use Rattle.std.proofs.Common.{◌≡◌, true, length}
 use Rattle.sc_checker.specs.Known.{is_stamped}
 use Rattle.sc_checker.proofs.known.Known.new.Given as goal
 
