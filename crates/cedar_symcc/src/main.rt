@@ -1,4 +1,4 @@
-//! The symbolic analyser.
+//! The symbolic analyser of Cedar policies.
 #![tactic(auto)]
 
 mod analysing;
@@ -8,8 +8,39 @@ mod reading;
 mod refusal;
 mod reporting;
 mod running;
+#[cfg(test)]
+mod tests;
 mod words;
 
-fn main(rt: HostRuntime) {
-    let _ = rt.alloc();
+use sc_outside::{RealFiles, RealSink};
+use std::alloc::AllocError;
+use std::env;
+use std::io::ErrorKind;
+use std::process::ExitCode;
+
+fn main(rt: HostRuntime) -> ExitCode {
+    let Ok(words) = arguments(&rt) else {
+        return ExitCode::from(30);
+    };
+    let mut files = RealFiles::new(&rt);
+    let mut out = RealSink::new(&rt);
+    ExitCode::from(running::run(rt.alloc(), &words, &mut files, &mut out).code)
+}
+
+/// The words of the command line behind the program's name. Where one is no UTF-8 text there are
+/// none, which is no command.
+fn arguments(rt: &HostRuntime) -> Result<Vec<String>, AllocError> {
+    let mut words = Vec::new(rt.alloc());
+    let mut all = match env::args(rt) {
+        Ok(all) => all,
+        Err(error) => match error.kind() {
+            ErrorKind::OutOfMemory => return Err(AllocError),
+            _ => return Ok(words),
+        },
+    };
+    let _program = all.next();
+    for word in all {
+        words.push(word)?;
+    }
+    Ok(words)
 }
