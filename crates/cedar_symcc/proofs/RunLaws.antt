@@ -105,7 +105,12 @@ lines-fail q (l ∷ lines) e t =
 module _ (r : Run) where
   hold-reported : (s : Declarations) (o : Option (List ℕ)) → ReadsAll r.content r.words s o → Reported (asked s o) r.before r.after r.write_rose r.code → r.code ≡ 0 → AllHold r
   hold-reported s o reads (whole lines report c text) e = record {
-    schema = s; policies = o; reads = reads; lines = lines; report = report; text = text;
+    schema = s;
+    policies = o;
+    reads = reads;
+    lines = lines;
+    report = report;
+    text = text;
     always = λ env h. lines-hold (asked s o) lines (none-found (found_in lines) (sym c ∙ e)) report.lines_true env (subst (λ es. Contains es env) (sym report.in_order) h);
   }
   hold-reported s o reads (cut lines next n front rose c text) e = absurd (omega arith)
@@ -335,8 +340,15 @@ module _ (r : Run) where
 
   told_of : IsReadable r → PoliciesTold r
   told_of x = record {
-    command = x.command; commands = x.commands; schema_bytes = x.schema_bytes; schema_told = x.schema_told; schema_short = x.schema_short;
-    schema = x.schema; spelled = x.schema_spelled; bytes = x.policy_bytes; told = x.policies_told;
+    command = x.command;
+    commands = x.commands;
+    schema_bytes = x.schema_bytes;
+    schema_told = x.schema_told;
+    schema_short = x.schema_short;
+    schema = x.schema;
+    spelled = x.schema_spelled;
+    bytes = x.policy_bytes;
+    told = x.policies_told;
   }
 
   none-refused : (x : IsReadable r) → (r.read_rose → ⊥) → (a : Refusal) → IsRefusal r.content r.words r.read_rose a → ⊥

@@ -31,10 +31,7 @@ fn goal_for(alloc: Global, attribute: &Option<Text>) -> Result<Term, AllocError>
 {
     match attribute {
         None => Ok(Term::False),
-        Some(name) => Ok(Term::Field(
-            Boxed::new(alloc, Term::Context)?,
-            name.try_clone(alloc)?,
-        )),
+        Some(name) => Ok(Term::Field(Boxed::new(alloc, Term::Context)?, name.try_clone(alloc)?)),
     }
 }
 

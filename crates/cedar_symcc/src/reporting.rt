@@ -57,13 +57,8 @@ fn report_env<O: Sink>(
     ensures reports { ReportsEnv (asked inputs.now.schema inputs.now.attribute) env.now (O.written out.old) (O.written out.new) (Rose (O.faults out.old) (O.faults out.new)) result }
     ensures later { O.faults out.old ≤ O.faults out.new }
 {
-    let Ok(answer) = analyse_env(
-        alloc,
-        &inputs.schema,
-        env,
-        &inputs.attribute,
-        inputs.budget,
-    ) else {
+    let Ok(answer) = analyse_env(alloc, &inputs.schema, env, &inputs.attribute, inputs.budget)
+    else {
         return Err(SinkFault::NoMemory);
     };
     put_line(alloc, env, &answer, out)?;

@@ -86,12 +86,7 @@ impl<'a> Problem<'a> {
 }
 
 /// The problem of a goal: `false`, or a field of the context.
-pub fn close<'a>(
-    goal: Term,
-    schema: &'a Schema,
-    env: &'a Env,
-    literals: &'a Lits,
-) -> Problem<'a>
+pub fn close<'a>(goal: Term, schema: &'a Schema, env: &'a Env, literals: &'a Lits) -> Problem<'a>
     requires { IsTrue (is_goal schema.now env.now goal) }
     ensures { result ≡ record { schema = schema.now; env = env.now; literals = literals.now; goal = goal } }
 {

@@ -12,7 +12,7 @@ returns-then-is_policy_on-clause-found c =
 pub loop-field-preserved : goal.loop-field-preserved
 loop-field-preserved c =
     let no : IsPolicyOn c.args.bytes.now c.field-item.result.0 → ⊥ =
-        λ on. true≢false (sym (c.is_policy_on.ensures.1 (subst (IsPolicyOn c.args.bytes.now) (sym c.as_str.ensures) on)) ∙ c.if-is_policy_on.false) in
+    λ on. true≢false (sym (c.is_policy_on.ensures.1 (subst (IsPolicyOn c.args.bytes.now) (sym c.as_str.ensures) on)) ∙ c.if-is_policy_on.false) in
     none-more c.args.bytes.now c.args.declared.now c.loop-field.field-index c.field-item.result (omega arith) c.loop-field.invariant (subst (λ (a : Field). IsPolicyOn c.args.bytes.now a.0 → ⊥) c.field-item.is no)
 
 pub returns-clause-none : goal.returns-clause-none
