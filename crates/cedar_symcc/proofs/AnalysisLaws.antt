@@ -1,12 +1,10 @@
 -- The goal is true where the policies allow, so the solver's answers are verdicts.
-use Rattle.std.proofs.Common.{◌≡◌, ◌&&◌, ◌||◌, ◌++◌, ℕ, List, [], ◌∷◌, Bool, true, false, not, cond, Option, Some, None, Ok, Err, IsTrue, Contains, map, unwrap_or, if◌then◌else◌, refl, ap, sym, ◌∙◌, subst, true≢false}
-use Rattle.std.specs.List.{list_any, flat_map}
+use Rattle.std.proofs.Common.{◌≡◌, ◌&&◌, ◌||◌, ◌++◌, ℕ, List, [], Bool, true, false, not, Option, Some, None, Ok, IsTrue, Contains, map, unwrap_or, if◌then◌else◌, refl, ap, sym, ◌∙◌, subst}
 use Rattle.sc_ast.specs.declared.expr.Expr.{Expr}
 use Rattle.sc_ast.specs.declared.expr.Expr.TheVariants.{Access, Literal, Variable}
 use Rattle.sc_ast.specs.declared.expr.Literal.TheVariants as literal
 use Rattle.sc_ast.specs.declared.expr.Variable.TheVariants.{Context}
-use Rattle.sc_ast.specs.Conditions.{condition}
-use Rattle.sc_ast.specs.Literals.{literals, expr_uids}
+use Rattle.sc_ast.specs.Literals.{expr_uids}
 use Rattle.sc_ast.proofs.LiteralsLaws.{uids_Access, uids_Variable}
 use Rattle.sc_auth.specs.Decisions as auth
 use Rattle.sc_eval.specs.Operators.{Outcome, ◌>>=◌, decide, of_bool, bool_in, access, access_in, or_missing}
@@ -36,7 +34,7 @@ use Rattle.sc_world.specs.declared.world.World.{World}
 use Rattle.sc_world.specs.WellFormed.{IsWellFormed}
 use Rattle.cedar_symcc.specs.Analyses.{goal_for, IsDeclared}
 use Rattle.cedar_symcc.specs.Policies.{at, policy_on, policies_of, declared_names}
-use Rattle.cedar_symcc.specs.Reports.{Asked, written_uids, IsWorldOf, has_property, AlwaysHas, Violates}
+use Rattle.cedar_symcc.specs.Reports.{written_uids, IsWorldOf, AlwaysHas, Violates}
 use Rattle.cedar_symcc.specs.Runs.{asked}
 
 -- ---- the policy's condition

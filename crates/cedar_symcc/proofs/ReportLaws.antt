@@ -1,6 +1,6 @@
 -- A report grows by whole lines.
-use Rattle.std.proofs.Common.{◌≡◌, ◌+◌, ◌-◌, ◌^◌, ◌<◌, ◌≤◌, ◌||◌, ℕ, suc, zero, min, List, [], ◌∷◌, ◌++◌, map, Bool, true, false, Option, Some, None, option_map, Result, Ok, Err, length, get_or, take, drop, refl, sym, ap, ◌∙◌, subst, arith, append_assoc, if◌then◌else◌, ⊎_elim, ◌⊎◌}
-use Rattle.std.specs.List.{AllByRecursion, list_any, flat_map}
+use Rattle.std.proofs.Common.{◌≡◌, ◌+◌, ◌<◌, ◌≤◌, ◌||◌, ℕ, List, [], ◌∷◌, ◌++◌, map, Bool, true, false, Option, Some, None, Ok, Err, length, get_or, take, drop, refl, sym, ap, ◌∙◌, subst, arith, append_assoc, if◌then◌else◌, ⊎_elim}
+use Rattle.std.specs.List.{AllByRecursion, list_any}
 use Rattle.std.proofs.lemmas.List.{take_more, take_all, take-append-drop}
 use Rattle.sc_outside.specs.Counts.{Rose}
 use Rattle.sc_outside.specs.Writes.{appended}
@@ -8,8 +8,8 @@ use Rattle.sc_outside.specs.declared.faults.SinkFault.{SinkFault}
 use Rattle.sc_outside.specs.declared.faults.SinkFault.TheVariants.{Failed, NoMemory}
 use Rattle.sc_schema.specs.declared.declarations.Env.{Env}
 use Rattle.sc_schema.specs.Declarations.{environments}
-use Rattle.cedar_symcc.specs.Progress.{IsFront, Progress, ReportsEnv, CutFront, WholeFront, ReportsAll, ReportsNone, Reported, whole, cut, cut_none, stopped}
-use Rattle.cedar_symcc.specs.Reports.{Asked, Line, IsLine, IsReport, line_text, lines_text, report_text, status_of, is_counterexample}
+use Rattle.cedar_symcc.specs.Progress.{IsFront, Progress, ReportsEnv, ReportsAll, ReportsNone, Reported, whole, cut, cut_none, stopped}
+use Rattle.cedar_symcc.specs.Reports.{Asked, Line, IsLine, line_text, lines_text, report_text, is_counterexample}
 
 pub rose-later : (a b c : ℕ) → a ≤ b → Rose b c → Rose a c
 rose-later a b c le h = omega arith

@@ -1,17 +1,16 @@
 -- What a run's end tells.
-use Rattle.std.proofs.Common.{◌≡◌, ◌+◌, ◌≤◌, ◌<◌, ◌||◌, ℕ, zero, suc, List, [], ◌∷◌, ◌++◌, map, Bool, true, false, Option, Some, None, length, take, get_or, Contains, refl, sym, ap, ◌∙◌, subst, arith, ⊎_elim, inl, inr, ◌⊎◌, if◌then◌else◌, IfSome}
+use Rattle.std.proofs.Common.{◌≡◌, ◌≤◌, ◌<◌, ◌||◌, ℕ, zero, suc, List, [], ◌∷◌, map, Bool, true, false, Option, Some, length, Contains, refl, sym, ap, ◌∙◌, subst, arith, ⊎_elim, inl, inr, ◌⊎◌, if◌then◌else◌}
 use Rattle.std.specs.List.{AllByRecursion, list_any}
-use Rattle.sc_outside.specs.Writes.{appended}
 use Rattle.sc_schema.specs.declared.declarations.Env.{Env}
-use Rattle.sc_schema.specs.Declarations.{Declarations, environments}
-use Rattle.sc_schema_json.specs.Form.{SpellsSchema, SpellsOne}
+use Rattle.sc_schema.specs.Declarations.{Declarations}
+use Rattle.sc_schema_json.specs.Form.{SpellsSchema}
 use Rattle.sc_schema_json.proofs.FormLaws.{SpellsOne-any}
 use Rattle.sc_world.specs.declared.world.World.{World}
 use Rattle.cedar_symcc.specs.Commands.{Command, Commands, words_of}
 use Rattle.cedar_symcc.specs.Policies.{SpellsPolicies, declared_names}
 use Rattle.cedar_symcc.specs.Progress.{Reported, whole, cut, cut_none, stopped}
-use Rattle.cedar_symcc.specs.Refusals.{Refusal, usage, read_fault, too_long, not_form, schema_file, policies_file, IsRefusal, code_of, refusal_text, Content, IsContent, IsTooLong, ReadsSchema, ReadsPolicies, limit}
-use Rattle.cedar_symcc.specs.Reports.{Asked, Line, Verdict, holds, counterexample, IsLine, IsReport, AlwaysHas, Violates, is_counterexample, status_of, report_text}
+use Rattle.cedar_symcc.specs.Refusals.{Refusal, usage, read_fault, too_long, not_form, schema_file, policies_file, IsRefusal, code_of, Content, IsContent, IsTooLong, ReadsSchema, limit}
+use Rattle.cedar_symcc.specs.Reports.{Asked, Line, Verdict, holds, counterexample, IsLine, AlwaysHas, Violates, is_counterexample, status_of}
 use Rattle.cedar_symcc.specs.Runs.{Run, Ends, refused, refusal_cut, reported, no_memory, asked, ReadsAll, Refuses, AllHold, SomeFails, IsReadable, IsWhole, MustBe, TooLong, schema_long, policies_long, NotForm, schema_not, policies_not, SchemaTold, PoliciesTold, SchemaIsLong, SchemaIsNot, PoliciesAreLong, PoliciesAreNot}
 
 pub refusal-ends : (r : Run) (a : Refusal) → IsRefusal r.content r.words r.read_rose a → Refuses a r.before r.after r.write_rose r.code → Ends r

@@ -1,6 +1,6 @@
 -- The answers other than a report, and when each may come.
 use Rattle.std.specs.Prelude.{◌≡◌, ◌≤◌, ◌<◌, ℕ, List, ◌++◌, Option, IfSome, codes, length}
-use Rattle.sc_schema.specs.Declarations.{Declarations, environments}
+use Rattle.sc_schema.specs.Declarations.{Declarations}
 use Rattle.sc_schema_json.specs.Form.{SpellsSchema}
 use Rattle.cedar_symcc.specs.Commands.{Command, Commands}
 use Rattle.cedar_symcc.specs.Policies.{SpellsPolicies, declared_names}

@@ -1,5 +1,5 @@
 -- How a run ends.
-use Rattle.std.specs.Prelude.{◌≡◌, ◌≤◌, ◌<◌, ◌⊎◌, ℕ, List, [], ◌∷◌, map, Option, Some, length, take, false}
+use Rattle.std.specs.Prelude.{◌≡◌, ◌≤◌, ◌<◌, ◌⊎◌, ℕ, List, [], Option, Some, length, take}
 use Rattle.std.specs.List.{Contains}
 use Rattle.sc_outside.specs.Writes.{appended}
 use Rattle.sc_goal.specs.declared.question.Question.TheVariants.{AlwaysDenies}
@@ -11,7 +11,7 @@ use Rattle.cedar_symcc.specs.Commands.{Command, Commands}
 use Rattle.cedar_symcc.specs.Policies.{SpellsPolicies, policies_of, declared_names}
 use Rattle.cedar_symcc.specs.Progress.{Reported}
 use Rattle.cedar_symcc.specs.Refusals.{Refusal, IsRefusal, code_of, refusal_text, Content, IsContent, IsTooLong, ReadsSchema, ReadsPolicies, limit}
-use Rattle.cedar_symcc.specs.Reports.{Asked, Line, holds, counterexample, IsReport, AlwaysHas, Violates, report_text}
+use Rattle.cedar_symcc.specs.Reports.{Asked, Line, counterexample, IsReport, AlwaysHas, Violates, report_text}
 
 -- What a run sees and does: what the files hold, the words, whether the counts of faults rose, what was written before it
 -- and is written after it, and the status.

@@ -2,7 +2,7 @@
 use Rattle.std.specs.Prelude.{⊤}
 use Rattle.sc_world.specs.WellFormed.{IsProperWorld}
 use Rattle.cedar_symcc.specs.Refusals as spec
-use Rattle.cedar_symcc.specs.Reports.{Line, Verdict, holds, counterexample}
+use Rattle.cedar_symcc.specs.Reports.{Verdict, holds, counterexample}
 use Rattle.cedar_symcc.specs.declared.refusal.FileName.{FileName}
 use Rattle.cedar_symcc.specs.declared.refusal.FileName.TheVariants as file
 use Rattle.cedar_symcc.specs.declared.refusal.Refusal.{Refusal}

@@ -4,7 +4,7 @@ use crate::{
 };
 use sc_footprint::{Term, close};
 use sc_lists::{Fault, Seq, Text};
-use sc_names::{Name, Uid};
+use sc_names::{Lits, Name, Uid};
 use sc_schema::{Env, Schema};
 use std::alloc::{AllocError, Global};
 use std::test::Fail;
@@ -29,7 +29,7 @@ fn env(alloc: Global) -> Result<Env, AllocError> {
 fn verdict_on(alloc: Global, text: &str) -> Result<Verdict, Fault<Malformed>> {
     let schema = Schema::new(alloc, Seq::new(alloc), Seq::new(alloc))?;
     let env = env(alloc)?;
-    let literals = Seq::new(alloc);
+    let literals = Lits::new(alloc);
     let problem = close(Term::False, &schema, &env, &literals);
     let log = read_log(alloc, text.as_bytes())?;
     Ok(check(alloc, &problem, &log)?)

@@ -1,5 +1,5 @@
 -- The value of an expression, construct by construct.
-use Rattle.std.proofs.Common.{◌≡◌, ℕ, List, true, false, if◌then◌else◌, Ok, ap, sym, ◌∙◌}
+use Rattle.std.proofs.Common.{◌≡◌, ℕ, List, false, if◌then◌else◌, Ok, ap, sym, ◌∙◌}
 use Rattle.sc_ast.specs.declared.place.Place.{Place}
 use Rattle.sc_ast.specs.declared.expr.Expr.{Expr, fold-roll-Expr}
 use Rattle.sc_ast.specs.declared.expr.Expr.TheVariants.{And, Access, Literal, Variable, rolls-And, rolls-Access, rolls-Literal, rolls-Variable}

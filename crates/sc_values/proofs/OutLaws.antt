@@ -1,6 +1,6 @@
 -- One level of a value.
 use Rattle.std.proofs.Common.{◌≡◌, ap, sym, ◌∙◌}
-use Rattle.sc_values.specs.declared.value.Value.{Value, Value-F, out-Value, out-roll-Value}
+use Rattle.sc_values.specs.declared.value.Value.{out-Value, out-roll-Value}
 use Rattle.sc_values.specs.declared.value.Value.TheVariants as value
 use Rattle.sc_values.specs.declared.value.Value.TheVariants.{rolls-Bool, rolls-Entity, rolls-Record}
 use Rattle.sc_values.specs.declared.value.Value.TheOpen as v

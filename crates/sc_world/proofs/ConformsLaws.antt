@@ -1,16 +1,14 @@
 -- Which values are of a type, kind by kind.
 use Rattle.std.proofs.Common.{◌≡◌, ℕ, List, map, Bool, true, ap, sym, ◌∙◌}
 use Rattle.sc_schema.specs.declared.ty.Presence.{Presence}
-use Rattle.sc_schema.specs.declared.ty.Ty.{Ty, Ty-F, fold-roll-Ty}
+use Rattle.sc_schema.specs.declared.ty.Ty.{Ty, fold-roll-Ty}
 use Rattle.sc_schema.specs.declared.ty.Ty.TheVariants as ty
 use Rattle.sc_schema.specs.declared.ty.Ty.TheVariants.{rolls-Bool, rolls-Record}
 use Rattle.sc_schema.specs.declared.ty.Ty.TheOpen as t
-use Rattle.sc_values.specs.declared.value.Value.{Value}
 use Rattle.sc_values.specs.declared.value.Value.TheVariants as value
 use Rattle.sc_values.specs.Records.{Fields}
 use Rattle.sc_values.proofs.OutLaws.{out_Bool, out_Record}
 use Rattle.sc_world.specs.Conforms.{Test, Shape, conforms, conforms_step, has_shape, is_bool, is_record_of}
-use Rattle.std.proofs.Common.{refl}
 
 -- the shape of a record type
 abbrev pub shape_of : List (List ℕ × Presence × Ty) → Shape

@@ -1,5 +1,5 @@
 -- A value whose parts are proper is proper, where it is so itself.
-use Rattle.std.proofs.Common.{◌≡◌, ◌≤◌, ◌<◌, ◌^◌, ℕ, ℤ, Bool, List, [], ◌∷◌, map, Ordering, Less, Equal, Greater, FitsSigned, w64, refl, sym, ap, ◌∙◌, subst}
+use Rattle.std.proofs.Common.{◌≡◌, ◌≤◌, ◌<◌, ◌^◌, ℕ, ℤ, Bool, List, [], ◌∷◌, Ordering, Less, Equal, Greater, FitsSigned, w64, refl, subst}
 use Rattle.std.specs.List.{AllByRecursion}
 use Rattle.std.specs.List.Sorted.{IsStrictlySortedBy}
 use Rattle.std.specs.Str.{IsUtf8}

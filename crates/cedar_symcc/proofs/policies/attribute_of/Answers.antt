@@ -1,4 +1,4 @@
-use Rattle.std.proofs.Common.{◌≡◌, ◌∙◌, sym, ap, subst, true≢false, arith, take}
+use Rattle.std.proofs.Common.{◌≡◌, ◌∙◌, sym, subst, true≢false, arith, take}
 use Rattle.std.proofs.lemmas.List.{take_all}
 use Rattle.cedar_symcc.specs.Policies.{IsPolicyOn}
 use Rattle.cedar_symcc.proofs.PoliciesLaws.{Field, NoneOn, none-more, none-on, among}

@@ -1,4 +1,3 @@
-use Rattle.std.proofs.Common.{ℕ, ◌<◌, List}
 use Rattle.std.specs.List.{AllByRecursion}
 use Rattle.sc_lists.specs.declared.text.Text.{Text}
 use Rattle.sc_schema.specs.declared.ty.Presence.{Presence}

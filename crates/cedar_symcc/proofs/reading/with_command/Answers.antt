@@ -1,4 +1,4 @@
-use Rattle.std.proofs.Common.{sym, subst}
+use Rattle.std.proofs.Common.{subst}
 use Rattle.cedar_symcc.specs.Readings.{FailsSchema}
 use Rattle.cedar_symcc.proofs.ReadingLaws.{schema-fails}
 use Rattle.cedar_symcc.proofs.reading.with_command.Goals as goal

@@ -1,5 +1,4 @@
-use Rattle.std.proofs.Common.{◌≡◌, ◌==◌, length, true, false, subst, sym, ap, ◌∙◌, rules, Err, refl}
-use Rattle.sc_schema.specs.Declarations.{environments}
+use Rattle.std.proofs.Common.{◌≡◌, ◌==◌, length, true, false, sym, ◌∙◌, refl}
 use Rattle.std.proofs.lemmas.Bool.Decides.{Decides-eqb}
 use Rattle.cedar_symcc.proofs.ReportLaws.{reported-whole, reported-cut, reported-stopped}
 use Rattle.cedar_symcc.proofs.reporting.report.Goals as goal

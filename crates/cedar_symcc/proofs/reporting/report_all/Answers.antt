@@ -1,4 +1,4 @@
-use Rattle.std.proofs.Common.{◌≡◌, ◌≤◌, ◌+◌, subst, sym, ap, ◌∙◌, get_or, Bool, Ok, Err, arith}
+use Rattle.std.proofs.Common.{◌+◌, subst, sym, Bool, Ok, Err, arith}
 use Rattle.sc_schema.specs.declared.declarations.Env.{Env}
 use Rattle.sc_outside.specs.Counts.{Rose}
 use Rattle.cedar_symcc.specs.Progress.{Progress, ReportsEnv}

@@ -1,5 +1,4 @@
-use Rattle.std.proofs.Common.{◌≤◌, ◌≡◌}
-use Rattle.sc_schema.specs.Declarations.{environments}
+use Rattle.std.proofs.Common.{◌≤◌}
 use Rattle.cedar_symcc.specs.Progress.{Progress}
 use Rattle.cedar_symcc.specs.Runs.{asked}
 use Rattle.cedar_symcc.proofs.reporting.report_all.Given as goal

@@ -1,4 +1,4 @@
-use Rattle.std.proofs.Common.{◌≡◌, sym, ◌∙◌, Ok, arith}
+use Rattle.std.proofs.Common.{◌≡◌, sym, ◌∙◌, arith}
 use Rattle.cedar_symcc.proofs.WordsLaws.{plus-no-numeral, budget-found, budget-read}
 use Rattle.cedar_symcc.proofs.words.budget_of.Goals as goal
 

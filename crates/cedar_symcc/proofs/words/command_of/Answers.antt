@@ -1,5 +1,5 @@
-use Rattle.std.proofs.Common.{◌≡◌, ◌∙◌, ℕ, List, [], ◌∷◌, sym, ap, codes, true≢false, rules}
-use Rattle.cedar_symcc.specs.Commands.{Command, command_view, words_view, Commands}
+use Rattle.std.proofs.Common.{◌≡◌, ℕ, List, [], ◌∷◌, codes}
+use Rattle.cedar_symcc.specs.Commands.{words_view}
 use Rattle.cedar_symcc.proofs.words.command_of.Goals as goal
 
 abbrev from_budget : List ℕ → List (List ℕ)
