@@ -1,0 +1,8 @@
+use Rattle.std.proofs.Common.{◌≡◌, ℕ, [], length, ◌==◌, sym, ◌∙◌, ap, eqb-true, eq-eqb, true}
+use Rattle.std.specs.Str.{chars}
+use Rattle.std.proofs.lemmas.Str.{chars-nil}
+use Rattle.sc_pattern.proofs.MatchLaws.{no_chars, none_left}
+use Rattle.sc_pattern.proofs.matching.is_end.Goals as goal
+
+pub returns : goal.returns
+returns c = none_left c.args.text.now c.is_empty.result c.utf8.text c.is_empty.ensures

@@ -1,0 +1,13 @@
+-- The texts that a pattern of `like` matches. A text stands here as the list of its characters, which are Unicode scalar
+-- values: `chars text`, the one list whose UTF-8 is the text. There is one, since a text is the UTF-8 of some list of
+-- scalar values, and no two such lists have the same UTF-8.
+use Rattle.std.specs.Prelude.{◌≡◌, ℕ, List, [], ◌∷◌, ◌++◌}
+use Rattle.sc_pattern.specs.declared.part.Part.{Part}
+use Rattle.sc_pattern.specs.declared.part.Part.TheVariants.{Star, Char}
+
+-- the empty pattern matches the empty text; a character matches itself, and what follows it matches the rest; a star
+-- matches any characters or none, and what follows it matches the rest
+unfoldable pub IsMatch : List Part → List ℕ → Type 0
+IsMatch [] text = text ≡ []
+IsMatch (Char c ∷ parts) text = (rest : List ℕ) × (text ≡ c ∷ rest) × IsMatch parts rest
+IsMatch (Star ∷ parts) text = (taken rest : List ℕ) × (text ≡ taken ++ rest) × IsMatch parts rest

@@ -1,0 +1,10 @@
+//! Patterns of the operator `like`, and the texts that they match.
+#![tactic(auto)]
+
+mod matching;
+mod part;
+mod pattern;
+
+pub use matching::matches;
+pub use part::Part;
+pub use pattern::{Pattern, pattern_of};
