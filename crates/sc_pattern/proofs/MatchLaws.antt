@@ -44,9 +44,10 @@ map_more (d ∷ run) c left = ap (λ l. Char d ∷ l) (map_more run c left)
 pub after_more : (parts now left : List Part) (text here rest : List ℕ) (c : ℕ) → now ≡ Char c ∷ left → here ≡ c ∷ rest
     → IsAfter parts text now here → IsAfter parts text left rest
 after_more parts now left text here rest c first next a = record {
-    run = a.run ++ (c ∷ []);
-    parts_are = a.parts_are ∙ ap (λ l. map Char a.run ++ l) first ∙ map_more a.run c left;
-    text_is = a.text_is ∙ ap (λ l. a.run ++ l) next ∙ sym (append_assoc a.run (c ∷ []) rest) }
+  run = a.run ++ (c ∷ []);
+  parts_are = a.parts_are ∙ ap (λ l. map Char a.run ++ l) first ∙ map_more a.run c left;
+  text_is = a.text_is ∙ ap (λ l. a.run ++ l) next ∙ sym (append_assoc a.run (c ∷ []) rest);
+}
 
 starts_so : (c : ℕ) (parts : List Part) (text : List ℕ) → IsMatch (Char c ∷ parts) text → (rest : List ℕ) × (text ≡ c ∷ rest)
 unfolding IsMatch
@@ -105,14 +106,15 @@ shorter run (c ∷ front) = omega (arith, shorter run front)
 first_place : (parts later : List Part) (text rest : List ℕ) → IsAfterRun parts text (Star ∷ later) rest → IsMatch (Star ∷ parts) text ↔ IsMatch (Star ∷ later) rest
 unfolding IsMatch
 first_place parts later text rest a = (
-    λ m.
-        let run : List ℕ = a.after.run in
-        let whole : IsMatch (map Char run ++ (Star ∷ later)) m.1 = subst (λ l. IsMatch l m.1) a.after.parts_are m.3 in
-        let back = run_back run m.1 (Star ∷ later) whole in
-        let fronts : run ++ rest ≡ (m.0 ++ run) ++ back.0 = sym a.after.text_is ∙ m.2 ∙ ap (λ l. m.0 ++ l) back.1 ∙ sym (append_assoc m.0 run back.0) in
-        let between = ends_in run rest (m.0 ++ run) back.0 fronts (shorter run m.0) in
-        (between.0 ++ back.2.0, back.2.1, between.1 ∙ ap (λ l. between.0 ++ l) back.2.2 ∙ sym (append_assoc between.0 back.2.0 back.2.1), back.2.3),
-    λ m. ([], text, refl, after_on parts (Star ∷ later) text rest a.after m))
+  λ m.
+      let run : List ℕ = a.after.run in
+      let whole : IsMatch (map Char run ++ (Star ∷ later)) m.1 = subst (λ l. IsMatch l m.1) a.after.parts_are m.3 in
+      let back = run_back run m.1 (Star ∷ later) whole in
+      let fronts : run ++ rest ≡ (m.0 ++ run) ++ back.0 = sym a.after.text_is ∙ m.2 ∙ ap (λ l. m.0 ++ l) back.1 ∙ sym (append_assoc m.0 run back.0) in
+      let between = ends_in run rest (m.0 ++ run) back.0 fronts (shorter run m.0) in
+      (between.0 ++ back.2.0, back.2.1, between.1 ∙ ap (λ l. between.0 ++ l) back.2.2 ∙ sym (append_assoc between.0 back.2.0 back.2.1), back.2.3),
+  λ m. ([], text, refl, after_on parts (Star ∷ later) text rest a.after m),
+)
 
 pub next_star : (parts left later : List Part) (text rest : List ℕ) (x : Part) → IsAfterRun parts text left rest → left ≡ x ∷ later
     → IsMatch (Star ∷ parts) text ↔ IsMatch (Star ∷ later) rest

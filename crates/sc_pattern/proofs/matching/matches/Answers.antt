@@ -1,4 +1,3 @@
-use Rattle.std.proofs.Common.{◌↔◌}
 use Rattle.sc_pattern.proofs.MatchLaws.{run_is_all, run_then_star, iff_trans, iff_sym, as_given}
 use Rattle.sc_pattern.proofs.matching.matches.Goals as goal
 

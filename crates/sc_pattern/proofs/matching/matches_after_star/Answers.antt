@@ -19,8 +19,10 @@ returns-in_default-split_char c =
     ]
 
 pub loop-left-preserved : goal.loop-left-preserved
-loop-left-preserved c =
-    (search rules, iff_trans c.loop-left.invariant.1 (star_more _ _ _ _ c.in-Some-split_char.ensures (elim c.match-after_run.branch [
-      | in-Some+in_default-split_first+else-is_end w ↦ not_here _ _ _ _ w.in-Some.ensures w.in_default-split_first.ensures.cases w.if-is_end.ensures
-      | in_default w ↦ w.in_default.ensures
-    ])))
+loop-left-preserved c = (
+  search rules,
+  iff_trans c.loop-left.invariant.1 (star_more _ _ _ _ c.in-Some-split_char.ensures (elim c.match-after_run.branch [
+    | in-Some+in_default-split_first+else-is_end w ↦ not_here _ _ _ _ w.in-Some.ensures w.in_default-split_first.ensures.cases w.if-is_end.ensures
+    | in_default w ↦ w.in_default.ensures
+  ])),
+)
