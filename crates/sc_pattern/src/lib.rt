@@ -4,6 +4,8 @@
 mod matching;
 mod part;
 mod pattern;
+#[cfg(test)]
+mod tests;
 
 pub use matching::matches;
 pub use part::Part;
