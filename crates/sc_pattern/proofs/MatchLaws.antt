@@ -1,11 +1,11 @@
 -- What a run and a star match.
 use Rattle.std.specs.Str.{IsUtf8, chars, encode_utf8_all}
 use Rattle.std.proofs.lemmas.Str.{encodes-chars, chars-nil}
-use Rattle.std.proofs.Common.{◌≡◌, ◌≢◌, ℕ, ◌+◌, ◌<◌, ◌≤◌, List, [], ◌∷◌, ◌++◌, map, length, refl, sym, ◌∙◌, ap, append_assoc, append-nil, arith, ◌↔◌, suc, subst, Bool, true, false, ◌==◌, eqb-true, IsTrue}
+use Rattle.std.proofs.Common.{◌≡◌, ◌≢◌, ℕ, ◌≤◌, List, [], ◌∷◌, ◌++◌, map, length, refl, sym, ◌∙◌, ap, append_assoc, arith, ◌↔◌, subst, Bool, true, false, ◌==◌, eqb-true, IsTrue}
 use Rattle.sc_pattern.specs.declared.part.Part.{Part}
 use Rattle.sc_pattern.specs.declared.part.Part.TheVariants.{Star, Char}
 use Rattle.sc_pattern.specs.Language.{IsMatch}
-use Rattle.sc_pattern.specs.Runs.{BeginsNoRun, IsAfter, IsAfterRun}
+use Rattle.sc_pattern.specs.Runs.{IsAfter, IsAfterRun}
 
 -- characters that come first match themselves, and nothing else
 run_on : (run rest : List ℕ) (left : List Part) → IsMatch left rest → IsMatch (map Char run ++ left) (run ++ rest)

@@ -1,7 +1,4 @@
-use Rattle.std.proofs.Common.{◌≡◌, ℕ, [], length, ◌==◌, sym, ◌∙◌, ap, eqb-true, eq-eqb, true}
-use Rattle.std.specs.Str.{chars}
-use Rattle.std.proofs.lemmas.Str.{chars-nil}
-use Rattle.sc_pattern.proofs.MatchLaws.{no_chars, none_left}
+use Rattle.sc_pattern.proofs.MatchLaws.{none_left}
 use Rattle.sc_pattern.proofs.matching.is_end.Goals as goal
 
 pub returns : goal.returns
