@@ -1,4 +1,4 @@
-use crate::{Assignment, Lit, contained, falsifies};
+use crate::{Assignment, Lit, contained, falsifies, negation};
 use sc_lists::Seq;
 use std::alloc::{AllocError, Global};
 use std::test::Fail;
@@ -33,4 +33,15 @@ fn falsified_where_each_literal_is_false(rt: HostRuntime) -> Result<(), Fail> {
     assert!(rt; contained(&empty, &open));
     assert!(rt; !contained(&open, &false_lits));
     Ok(())
+}
+
+#[test]
+fn negation_of_a_literal(rt: HostRuntime) {
+    let lit = Lit {
+        atom: 3,
+        negated: false,
+    };
+    let other = negation(lit);
+    assert!(rt; other.atom == 3 && other.negated);
+    assert!(rt; negation(other) == lit);
 }
