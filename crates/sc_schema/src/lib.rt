@@ -3,6 +3,8 @@
 
 mod declarations;
 mod schema;
+#[cfg(test)]
+mod tests;
 mod ty;
 
 pub use declarations::{Action, EntityType, Env};
