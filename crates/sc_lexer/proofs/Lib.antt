@@ -1,0 +1,4 @@
+pub mod BlankLaws
+pub mod EscapeLaws
+pub mod FrontLaws
+pub mod StringLaws

@@ -1,0 +1,12 @@
+//! The tokens of a policy file, by longest match, or the first place where it has none.
+#![tactic(auto)]
+
+mod blank;
+mod escape;
+mod front;
+mod length;
+mod sign;
+mod string;
+mod token;
+
+pub use token::{Kind, LexFault, Span, Token};
