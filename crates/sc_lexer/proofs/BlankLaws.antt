@@ -1,7 +1,7 @@
 -- What white space and comments leave.
-use Rattle.std.proofs.Common.{◌≡◌, ℕ, ◌+◌, ◌-◌, ◌<◌, ◌≤◌, ◌==◌, ◌&&◌, List, [], ◌∷◌, ◌++◌, length, take, drop, Bool, true, false, cond, eqb, refl, sym, ◌∙◌, ap, subst, arith, length-drop, eqb-true, inl, inr, add-one, get_or, None, zero, suc}
-use Rattle.std.specs.Prelude.{codes, slice_index, MatchBool}
-use Rattle.std.specs.Char.{IsScalar, encode_utf8, is_whitespace}
+use Rattle.std.proofs.Common.{◌≡◌, ℕ, ◌-◌, ◌<◌, ◌≤◌, ◌&&◌, List, [], ◌∷◌, ◌++◌, length, take, drop, Bool, true, false, cond, eqb, refl, sym, ◌∙◌, ap, subst, arith, length-drop, eqb-true, inl, inr, get_or, None, zero, suc}
+use Rattle.std.specs.Prelude.{codes, MatchBool}
+use Rattle.std.specs.Char.{is_whitespace}
 use Rattle.std.specs.Str.{IsUtf8, IsCharBoundary, chars, encode_utf8_all, skip_leading_whitespace, trim_start}
 use Rattle.std.specs.Str.Pattern.{HasPrefixMatch, FindsTextPrefix}
 use Rattle.std.specs.List.{list_all, take_while, starts_with}
@@ -12,7 +12,7 @@ use Rattle.std.proofs.lemmas.Str.Pattern.{starts_text}
 use Rattle.std.proofs.lemmas.List.{take-append-drop}
 use Rattle.std.proofs.lemmas.List.Sums.{take_while-cons, prefix_len-le-length}
 use Rattle.std.proofs.lemmas.List.Folds.{length-prefix_len}
-use Rattle.sc_lexer.specs.Blanks.{ends_line, stays_in_line, EndsLine, BeginsNoSpace, BeginsNoComment, Skips, none, space, comment, Leads}
+use Rattle.sc_lexer.specs.Blanks.{ends_line, stays_in_line, EndsLine, BeginsNoSpace, Skips, none, space, comment, Leads}
 
 -- white space
 
@@ -27,8 +27,8 @@ pub BeginsNoSpace_trim : (t r : List ℕ) → r ≡ trim_start t → BeginsNoSpa
 unfolding trim_start
 BeginsNoSpace_trim t r e = record {
   space = λ c rest scalar white is.
-    let k = cons_from_encodes (skip_leading_whitespace (chars t)) rest c (sym e ∙ is) in
-    no_space (chars t) k.0 c k.1 white;
+      let k = cons_from_encodes (skip_leading_whitespace (chars t)) rest c (sym e ∙ is) in
+      no_space (chars t) k.0 c k.1 white;
 }
 
 skips_space : (cs left : List ℕ) → Skips (encode_utf8_all (skip_leading_whitespace cs)) left → Skips (encode_utf8_all cs) left

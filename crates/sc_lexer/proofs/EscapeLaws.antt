@@ -1,103 +1,144 @@
--- What a string's bytes spell.
-use Rattle.std.proofs.Common.{◌≡◌, ◌≢◌, ℕ, zero, suc, ◌+◌, ◌-◌, ◌<◌, ◌≤◌, ◌==◌, ◌&&◌, ◌||◌, List, [], ◌∷◌, ◌++◌, length, take, drop, get_or, Bool, true, false, cond, refl, sym, ◌∙◌, ap, subst, arith, append_assoc, append-nil, drop-drop, length-drop, nat_lt}
-use Rattle.std.specs.Char.{is_ascii_hexdigit}
+-- What stands after a backslash.
+use Rattle.std.proofs.Common.{◌≡◌, ◌≢◌, ℕ, zero, suc, ◌+◌, ◌-◌, ◌<◌, ◌≤◌, ◌&&◌, List, [], ◌∷◌, length, take, drop, get_or, true, false, cond, refl, sym, ◌∙◌, ap, subst, arith, Some, None, length-take}
+use Rattle.std.specs.Char.{IsScalar, is_ascii_hexdigit}
 use Rattle.std.specs.Str.Parse.{digits_value}
-use Rattle.std.specs.List.{list_all}
+use Rattle.std.specs.List.{list_all, take_while}
 use Rattle.std.proofs.lemmas.Bool.Decides.{nat_tests}
-use Rattle.std.proofs.lemmas.List.{take-append-drop}
-use Rattle.std.proofs.Math.Seq.{take-add, take-length}
-use Rattle.sc_lexer.specs.Escapes.{is_letter, IsEscape, letter, star, ascii, scalar, IsSpelled, ends, plain, escape, IsBadEscape}
-use Rattle.sc_lexer.specs.Pieces.{IsPiece, BeginsBadEscape, BeginsNoEscape, IsAnyEscape, BeginsNoEscapes}
+use Rattle.std.proofs.lemmas.List.{take-take, take_rest, get_or_past}
+use Rattle.std.proofs.lemmas.List.Sums.{take_while-cons, prefix_len-le-length}
+use Rattle.std.proofs.lemmas.List.Folds.{length-prefix_len}
+use Rattle.std.proofs.Math.Utf8.{scalar}
+use Rattle.sc_lexer.specs.declared.piece.Piece.TheVariants.{Char, EscapedStar}
+use Rattle.sc_lexer.specs.Escapes.{is_letter, letter_char, ascii_of, braced_of, scalar_of, escape_of}
 
--- one spelling after another
-IsSpelled-append : {like : Bool} (xs ys : List ℕ) → IsSpelled like xs → IsSpelled like ys → IsSpelled like (xs ++ ys)
-IsSpelled-append {like} xs ys ends t = t
-IsSpelled-append {like} xs ys (plain c rest h s) t = plain c (rest ++ ys) h (IsSpelled-append rest ys s t)
-IsSpelled-append {like} xs ys (escape e rest h s) t = subst (λ bs. IsSpelled like (92 ∷ bs)) (sym (append_assoc e rest ys)) (escape e (rest ++ ys) h (IsSpelled-append rest ys s t))
+-- digits in front
 
-pub IsSpelled_start : (like : Bool) (text : List ℕ) → IsSpelled like (take 0 text)
-IsSpelled_start like text = ends
+pub digits-all : (cs : List ℕ) → list_all is_ascii_hexdigit (take_while is_ascii_hexdigit cs) ≡ true
+digits-all [] = refl
+digits-all (c ∷ cs) =
+    rw take_while-cons (elim (is_ascii_hexdigit c) as (λ b. is_ascii_hexdigit c ≡ b → list_all is_ascii_hexdigit (cond b (c ∷ take_while is_ascii_hexdigit cs) []) ≡ true) [
+      | true ↦ λ e. rw (e, digits-all cs) refl
+      | false ↦ λ e. refl
+    ] refl)
 
-rest_is : (at : ℕ) (text : List ℕ) → take (length text - at) (drop at text) ≡ drop at text
-rest_is at text = let k : length (drop at text) ≡ length text - at = length-drop at text in rw (← k) (take-length (drop at text))
+pub take-digits : (cs : List ℕ) → take (length (take_while is_ascii_hexdigit cs)) cs ≡ take_while is_ascii_hexdigit cs
+take-digits cs = rw (length-prefix_len is_ascii_hexdigit cs) refl
 
--- one piece further
-pub IsSpelled_more : (like : Bool) (text : List ℕ) (at n : ℕ) → IsSpelled like (take at text) → IsPiece like (take (length text - at) (drop at text)) n → IsSpelled like (take (at + n) text)
-IsSpelled_more like text at n s p =
-    let piece : IsSpelled like (take n (drop at text)) = subst (λ bs. IsSpelled like (take n bs)) (rest_is at text) p.spelled in
-    subst (IsSpelled like) (sym (take-add at n text)) (IsSpelled-append (take at text) (take n (drop at text)) s piece)
+pub take-front : (n : ℕ) (cs : List ℕ) → n ≤ length (take_while is_ascii_hexdigit cs) → take n (take_while is_ascii_hexdigit cs) ≡ take n cs
+take-front n cs h = ap (take n) (sym (take-digits cs)) ∙ take-take n (length (take_while is_ascii_hexdigit cs)) cs h
 
-pub IsSpelled_all : (like : Bool) (text : List ℕ) (at : ℕ) → IsSpelled like (take at text) → at ≡ length text → IsSpelled like text
-IsSpelled_all like text at s e = subst (IsSpelled like) (ap (λ (n : ℕ). take n text) e ∙ take-length text) s
+pub length-take_while-le : (cs : List ℕ) → length (take_while is_ascii_hexdigit cs) ≤ length cs
+length-take_while-le cs = rw (length-prefix_len is_ascii_hexdigit cs) (prefix_len-le-length is_ascii_hexdigit cs)
 
--- the backslash at a place that begins no escape is the first
-pub IsBadEscape_at : (like : Bool) (text : List ℕ) (at : ℕ) → IsSpelled like (take at text) → BeginsBadEscape like (take (length text - at) (drop at text)) → IsBadEscape like text (take at text) (drop (at + 1) text)
-IsBadEscape_at like text at s b =
-    let rest : drop at text ≡ 92 ∷ b.after = sym (rest_is at text) ∙ b.parts in
-    let after : drop (at + 1) text ≡ b.after = sym (drop-drop 1 at text) ∙ ap (drop 1) rest in
-    record {
-      parts = sym (take-append-drop at text) ∙ ap (λ bs. take at text ++ bs) (rest ∙ ap (λ bs. 92 ∷ bs) (sym after));
-      spelled = s;
-      bad = λ e others is. b.none.bad e others (sym after ∙ is);
-    }
+list_all-take : (n : ℕ) (ds : List ℕ) → list_all is_ascii_hexdigit ds ≡ true → list_all is_ascii_hexdigit (take n ds) ≡ true
+list_all-take zero ds h = refl
+list_all-take (suc n) [] h = refl
+list_all-take (suc n) (d ∷ ds) h = elim (is_ascii_hexdigit d) as (λ b. (b && list_all is_ascii_hexdigit ds) ≡ true → (b && list_all is_ascii_hexdigit (take n ds)) ≡ true) [
+  | true ↦ λ k. list_all-take n ds k
+  | false ↦ λ k. cc
+] h
 
--- two hexadecimal digits of a number up to 127: the first is below `8`
+pub digits_front : (cs : List ℕ) (n : ℕ) → n ≤ length (take_while is_ascii_hexdigit cs) → list_all is_ascii_hexdigit (take n cs) ≡ true
+digits_front cs n h = subst (λ ds. list_all is_ascii_hexdigit ds ≡ true) (take-front n cs h) (list_all-take n (take_while is_ascii_hexdigit cs) (digits-all cs))
 
-small_code : (a b : ℕ) → is_ascii_hexdigit a ≡ true → is_ascii_hexdigit b ≡ true → nat_lt a 56 ≡ true → digits_value 16 (a ∷ b ∷ []) ≤ 127
-small_code a b h k l = grind (arith, nat_tests)
+-- `x`
 
-large_code : (a b : ℕ) → is_ascii_hexdigit a ≡ true → is_ascii_hexdigit b ≡ true → nat_lt a 56 ≡ false → 127 < digits_value 16 (a ∷ b ∷ [])
-large_code a b h k l = grind (arith, nat_tests)
+pub ascii_few : (bytes : List ℕ) → length (take_while is_ascii_hexdigit bytes) < 2 → None ≡ ascii_of bytes
+unfolding ascii_of
+ascii_few bytes h = grind (arith, nat_tests, length-take {A = ℕ})
 
--- an escape that begins with `x`
-data AsciiCode (bytes : List ℕ) : Type 0 where
-  code : (a b : ℕ) (others : List ℕ) → bytes ≡ 120 ∷ a ∷ b ∷ others → is_ascii_hexdigit a ≡ true → is_ascii_hexdigit b ≡ true → nat_lt a 56 ≡ true → AsciiCode bytes
+pub ascii_large : (bytes : List ℕ) → 2 ≤ length (take_while is_ascii_hexdigit bytes) → 127 < digits_value 16 (take 2 bytes) → None ≡ ascii_of bytes
+unfolding ascii_of
+ascii_large bytes h v = rw (take-front 2 bytes h) (grind (arith, nat_tests))
 
-both_digits : (a b : ℕ) → list_all is_ascii_hexdigit (a ∷ b ∷ []) ≡ true → (is_ascii_hexdigit a ≡ true) × (is_ascii_hexdigit b ≡ true)
-both_digits a b h = elim (is_ascii_hexdigit a) as (λ x. is_ascii_hexdigit a ≡ x → (x && (is_ascii_hexdigit b && true)) ≡ true → (x ≡ true) × (is_ascii_hexdigit b ≡ true)) [
-  | true ↦ λ e k. (refl, elim (is_ascii_hexdigit b) as (λ y. (y && true) ≡ true → y ≡ true) [ true ↦ λ m. refl | false ↦ λ m. cc ] k)
-  | false ↦ λ e k. cc
-] refl h
+pub ascii_some : (bytes : List ℕ) → 2 ≤ length (take_while is_ascii_hexdigit bytes) → digits_value 16 (take 2 bytes) ≤ 127 → Some (record { piece = Char (digits_value 16 (take 2 bytes)); len = 3 }) ≡ ascii_of bytes
+unfolding ascii_of
+ascii_some bytes h v =
+    let two : length (take 2 (take_while is_ascii_hexdigit bytes)) ≡ 2 = rw length-take (omega arith) in
+    rw two (rw (take-front 2 bytes h) (grind (arith, nat_tests)))
 
-small_first : (a b : ℕ) → is_ascii_hexdigit a ≡ true → is_ascii_hexdigit b ≡ true → digits_value 16 (a ∷ b ∷ []) ≤ 127 → nat_lt a 56 ≡ true
-small_first a b h k v = elim (nat_lt a 56) as (λ x. nat_lt a 56 ≡ x → x ≡ true) [
-  | true ↦ λ e. refl
-  | false ↦ λ e. absurd (let large : 127 < digits_value 16 (a ∷ b ∷ []) = large_code a b h k e in omega arith)
+-- `u{`
+
+pub braced_few : (bytes : List ℕ) → length (take_while is_ascii_hexdigit bytes) < 1 → None ≡ braced_of bytes
+unfolding braced_of
+braced_few bytes h = grind (arith, nat_tests)
+
+pub braced_many : (bytes : List ℕ) → 6 < length (take_while is_ascii_hexdigit bytes) → None ≡ braced_of bytes
+unfolding braced_of
+braced_many bytes h = grind (arith, nat_tests)
+
+pub braced_other : (bytes : List ℕ) → get_or bytes (length (take_while is_ascii_hexdigit bytes)) 0 ≢ 125 → None ≡ braced_of bytes
+unfolding braced_of
+braced_other bytes h = grind (arith, nat_tests)
+
+pub braced_open : (bytes : List ℕ) → length bytes ≤ length (take_while is_ascii_hexdigit bytes) → None ≡ braced_of bytes
+braced_open bytes h = braced_other bytes (λ e. let past : get_or bytes (length (take_while is_ascii_hexdigit bytes)) 0 ≡ 0 = get_or_past bytes (length (take_while is_ascii_hexdigit bytes)) 0 h in omega arith)
+
+no_scalar : (c : ℕ) → (IsScalar c → ⊥) → scalar c ≡ false
+no_scalar c h = elim (scalar c) as (λ b. scalar c ≡ b → b ≡ false) [
+  | true ↦ λ e. absurd (h e)
+  | false ↦ λ e. refl
 ] refl
 
-code_of : {like : Bool} (bytes e rest : List ℕ) → bytes ≡ e ++ rest → get_or bytes 0 0 ≡ 120 → IsEscape like e → AsciiCode bytes
-code_of bytes e rest is x (letter c h) =
-    let first : c ≡ 120 = sym (ap (λ bs. get_or bs 0 0) is) ∙ x in
-    absurd (let no_letter : is_letter 120 ≡ true = subst (λ y. is_letter y ≡ true) first h in cc)
-code_of bytes e rest is x (star h) = absurd (let first : 42 ≡ 120 = sym (ap (λ bs. get_or bs 0 0) is) ∙ x in omega arith)
-code_of bytes e rest is x (ascii [] h l v) = absurd (omega arith)
-code_of bytes e rest is x (ascii (a ∷ []) h l v) = absurd (omega arith)
-code_of bytes e rest is x (ascii (a ∷ b ∷ []) h l v) =
-    let both = both_digits a b h in
-    code a b rest is both.0 both.1 (small_first a b both.0 both.1 v)
-code_of bytes e rest is x (ascii (a ∷ b ∷ c ∷ ds) h l v) = absurd (omega arith)
-code_of bytes e rest is x (scalar ds h l m v) = absurd (let first : 117 ≡ 120 = sym (ap (λ bs. get_or bs 0 0) is) ∙ x in omega arith)
+pub braced_none : (bytes : List ℕ) → (IsScalar (digits_value 16 (take (length (take_while is_ascii_hexdigit bytes)) bytes)) → ⊥) → None ≡ braced_of bytes
+unfolding braced_of
+braced_none bytes h =
+    let none : scalar (digits_value 16 (take_while is_ascii_hexdigit bytes)) ≡ false = subst (λ ds. scalar (digits_value 16 ds) ≡ false) (take-digits bytes) (no_scalar (digits_value 16 (take (length (take_while is_ascii_hexdigit bytes)) bytes)) h) in
+    grind (arith, nat_tests)
 
-pub ascii_some : (bytes : List ℕ) → 3 ≤ length bytes → get_or bytes 0 0 ≡ 120 → is_ascii_hexdigit (get_or bytes 1 0) ≡ true → is_ascii_hexdigit (get_or bytes 2 0) ≡ true → get_or bytes 1 0 < 56 → IsAnyEscape bytes 3
-ascii_some [] s x h k l = absurd (omega arith)
-ascii_some (c ∷ []) s x h k l = absurd (omega arith)
-ascii_some (c ∷ a ∷ []) s x h k l = absurd (omega arith)
-ascii_some (c ∷ a ∷ b ∷ cs) s x h k l = record {
-  within = omega arith;
-  is = λ like. rw x (ascii (a ∷ b ∷ []) (rw (h, k) refl) refl (small_code a b h k (grind (arith, nat_tests))));
-}
+pub braced_some : (bytes : List ℕ) → 1 ≤ length (take_while is_ascii_hexdigit bytes) → length (take_while is_ascii_hexdigit bytes) ≤ 6 → get_or bytes (length (take_while is_ascii_hexdigit bytes)) 0 ≡ 125
+    → IsScalar (digits_value 16 (take (length (take_while is_ascii_hexdigit bytes)) bytes))
+    → Some (record { piece = Char (digits_value 16 (take (length (take_while is_ascii_hexdigit bytes)) bytes)); len = length (take_while is_ascii_hexdigit bytes) + 3 }) ≡ braced_of bytes
+unfolding braced_of
+braced_some bytes h k q s = rw take-digits (
+    let is : scalar (digits_value 16 (take_while is_ascii_hexdigit bytes)) ≡ true = subst (λ ds. scalar (digits_value 16 ds) ≡ true) (take-digits bytes) s in
+    grind (arith, nat_tests))
 
-no_code : (bytes : List ℕ) → get_or bytes 0 0 ≡ 120 → (AsciiCode bytes → ⊥) → BeginsNoEscapes bytes
-no_code bytes x no_one = record { bad = λ like. record { bad = λ e rest is escapes. no_one (code_of bytes e rest is x escapes) } }
+-- `u`
 
-pub ascii_short : (bytes : List ℕ) → get_or bytes 0 0 ≡ 120 → length bytes < 3 → BeginsNoEscapes bytes
-ascii_short bytes x s = no_code bytes x (λ c. elim c [ code a b others is h k l ↦ absurd (let long : length bytes ≡ length (120 ∷ a ∷ b ∷ others) = ap length is in omega arith) ])
+pub scalar_none : (bytes : List ℕ) → get_or bytes 0 0 ≢ 123 → None ≡ scalar_of bytes
+unfolding scalar_of
+scalar_none [] h = refl
+scalar_none (c ∷ cs) h = grind (arith, nat_tests)
 
-pub ascii_first : (bytes : List ℕ) → get_or bytes 0 0 ≡ 120 → is_ascii_hexdigit (get_or bytes 1 0) ≡ false → BeginsNoEscapes bytes
-ascii_first bytes x f = no_code bytes x (λ c. elim c [ code a b others is h k l ↦ absurd (let both : false ≡ true = sym f ∙ ap (λ bs. is_ascii_hexdigit (get_or bs 1 0)) is ∙ h in cc) ])
+pub scalar_empty : (bytes : List ℕ) → length bytes ≡ 0 → None ≡ scalar_of bytes
+unfolding scalar_of
+scalar_empty [] h = refl
+scalar_empty (c ∷ cs) h = absurd (omega arith)
 
-pub ascii_second : (bytes : List ℕ) → get_or bytes 0 0 ≡ 120 → is_ascii_hexdigit (get_or bytes 2 0) ≡ false → BeginsNoEscapes bytes
-ascii_second bytes x f = no_code bytes x (λ c. elim c [ code a b others is h k l ↦ absurd (let both : false ≡ true = sym f ∙ ap (λ bs. is_ascii_hexdigit (get_or bs 2 0)) is ∙ k in cc) ])
+pub scalar_braced : (bytes : List ℕ) → get_or bytes 0 0 ≡ 123 → braced_of (take (length bytes - 1) (drop 1 bytes)) ≡ scalar_of bytes
+unfolding scalar_of
+scalar_braced [] h = absurd (omega arith)
+scalar_braced (c ∷ cs) h = rw take_rest (rw h refl)
 
-pub ascii_large : (bytes : List ℕ) → get_or bytes 0 0 ≡ 120 → 56 ≤ get_or bytes 1 0 → BeginsNoEscapes bytes
-ascii_large bytes x f = no_code bytes x (λ c. elim c [ code a b others is h k l ↦ absurd (let first : get_or bytes 1 0 ≡ a = ap (λ bs. get_or bs 1 0) is in let less : a < 56 = grind (arith, nat_tests) in omega arith) ])
+-- the backslash
+
+pub escape_empty : (bytes : List ℕ) → length bytes ≡ 0 → None ≡ escape_of bytes
+unfolding escape_of
+escape_empty [] h = refl
+escape_empty (c ∷ cs) h = absurd (omega arith)
+
+pub escape_letter : (bytes : List ℕ) → is_letter (get_or bytes 0 0) ≡ true → Some (record { piece = Char (letter_char (get_or bytes 0 0)); len = 1 }) ≡ escape_of bytes
+unfolding escape_of
+escape_letter [] h = cc
+escape_letter (c ∷ cs) h = rw h refl
+
+pub escape_star : (bytes : List ℕ) → get_or bytes 0 0 ≡ 42 → Some (record { piece = EscapedStar; len = 1 }) ≡ escape_of bytes
+unfolding escape_of
+escape_star [] h = absurd (omega arith)
+escape_star (c ∷ cs) h = rw h refl
+
+pub escape_ascii : (bytes : List ℕ) → get_or bytes 0 0 ≡ 120 → ascii_of (take (length bytes - 1) (drop 1 bytes)) ≡ escape_of bytes
+unfolding escape_of
+escape_ascii [] h = absurd (omega arith)
+escape_ascii (c ∷ cs) h = rw take_rest (rw h refl)
+
+pub escape_scalar : (bytes : List ℕ) → get_or bytes 0 0 ≡ 117 → scalar_of (take (length bytes - 1) (drop 1 bytes)) ≡ escape_of bytes
+unfolding escape_of
+escape_scalar [] h = absurd (omega arith)
+escape_scalar (c ∷ cs) h = rw take_rest (rw h refl)
+
+pub escape_none : (bytes : List ℕ) → is_letter (get_or bytes 0 0) ≡ false → get_or bytes 0 0 ≢ 42 → get_or bytes 0 0 ≢ 120 → get_or bytes 0 0 ≢ 117 → None ≡ escape_of bytes
+unfolding escape_of
+escape_none [] h s x u = refl
+escape_none (c ∷ cs) h s x u = rw h (grind (arith, nat_tests))

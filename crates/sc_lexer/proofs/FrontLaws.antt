@@ -1,5 +1,5 @@
 -- The longest token that some bytes begin with.
-use Rattle.std.proofs.Common.{◌≡◌, ◌≢◌, ℕ, zero, suc, ◌+◌, ◌-◌, ◌<◌, ◌≤◌, ◌==◌, ◌&&◌, ◌||◌, List, [], ◌∷◌, ◌++◌, length, take, drop, get_or, Bool, true, false, cond, refl, sym, ◌∙◌, ap, subst, arith, add-one, Some, None}
+use Rattle.std.proofs.Common.{◌≡◌, ◌≢◌, ℕ, suc, ◌+◌, ◌-◌, ◌<◌, ◌≤◌, ◌==◌, List, [], ◌∷◌, ◌++◌, length, take, drop, get_or, Bool, true, false, cond, refl, sym, ◌∙◌, ap, subst, arith, add-one, Some, None}
 use Rattle.std.specs.Char.{is_ascii_digit}
 use Rattle.std.specs.List.{list_all, take_while}
 use Rattle.std.specs.declared.option.Option.{Option}
@@ -8,10 +8,10 @@ use Rattle.std.proofs.lemmas.List.{take-append-drop}
 use Rattle.std.proofs.Math.Seq.{take-append_seam, take-length}
 use Rattle.std.proofs.lemmas.List.Sums.{take_while-cons, prefix_len-le-length}
 use Rattle.std.proofs.lemmas.List.Folds.{length-prefix_len}
-use Rattle.sc_names.specs.Names.{begins_word, goes_on_word, is_word}
+use Rattle.sc_names.specs.Names.{begins_word, goes_on_word}
 use Rattle.sc_lexer.specs.declared.token.Kind.{Kind}
 use Rattle.sc_lexer.specs.declared.token.Kind.TheVariants.{Word, Number, Str}
-use Rattle.sc_lexer.specs.Tokens.{is_number, is_string, closes, one_sign, two_sign, sign_of, kind_of, BeginsWith, BeginsNoToken}
+use Rattle.sc_lexer.specs.Tokens.{closes, one_sign, two_sign, sign_of, kind_of, BeginsNoToken}
 use Rattle.sc_lexer.specs.Fronts.{IsFront, long_sign}
 use Rattle.sc_lexer.proofs.StringLaws.{closes_once}
 

@@ -1,4 +1,6 @@
 pub mod BlankLaws
+pub mod DigitLaws
 pub mod EscapeLaws
 pub mod FrontLaws
+pub mod SpellingLaws
 pub mod StringLaws

@@ -1,5 +1,5 @@
 -- Where a string closes.
-use Rattle.std.proofs.Common.{◌≡◌, ◌≢◌, ℕ, zero, suc, ◌+◌, ◌-◌, ◌<◌, ◌≤◌, ◌==◌, List, [], ◌∷◌, ◌++◌, length, take, drop, get_or, Bool, true, false, refl, sym, ◌∙◌, ap, arith, drop-drop, length-drop, subst, eqb-true, inl, inr}
+use Rattle.std.proofs.Common.{◌≡◌, ◌≢◌, ℕ, zero, suc, ◌+◌, ◌-◌, ◌<◌, ◌≤◌, List, [], ◌∷◌, ◌++◌, length, take, drop, get_or, true, false, refl, sym, ◌∙◌, ap, arith, drop-drop, length-drop, subst, eqb-true, inl, inr}
 use Rattle.std.proofs.lemmas.Bool.Decides.{eqb_tells, nat_tests}
 use Rattle.std.proofs.lemmas.List.{drop_all}
 use Rattle.sc_lexer.specs.Tokens.{closes}
@@ -53,8 +53,8 @@ at_drop (c ∷ cs) (suc at) = at_drop cs at
 further : (bytes : List ℕ) (at k : ℕ) → Passes bytes at → ((m : ℕ) → closes (take m (drop at bytes)) ≡ closes (take (m - k) (drop k (drop at bytes)))) → Passes bytes (at + k)
 further bytes at k p h = record {
   same = λ n.
-    let less : n - at - k ≡ n - (at + k) = omega arith in
-    p.same n ∙ h (n - at) ∙ ap (λ (m : ℕ). closes (take m (drop k (drop at bytes)))) less ∙ ap (λ bs. closes (take (n - (at + k)) bs)) (drop-drop k at bytes);
+      let less : n - at - k ≡ n - (at + k) = omega arith in
+      p.same n ∙ h (n - at) ∙ ap (λ (m : ℕ). closes (take m (drop k (drop at bytes)))) less ∙ ap (λ bs. closes (take (n - (at + k)) bs)) (drop-drop k at bytes);
 }
 
 pub Passes_one : (bytes : List ℕ) (at : ℕ) → Passes bytes at → get_or bytes at 0 ≢ 92 → get_or bytes at 0 ≢ 34 → Passes bytes (at + 1)

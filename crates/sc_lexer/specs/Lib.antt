@@ -1,6 +1,6 @@
 pub mod Blanks
 pub mod Escapes
 pub mod Fronts
-pub mod Pieces
+pub mod Parts
 pub mod Reading
 pub mod Tokens

@@ -20,5 +20,8 @@ pub(crate) fn number_len(bytes: &[u8]) -> usize
     ensures value { result ≡ length (take_while is_ascii_digit bytes.now) }
     ensures within { result ≤ length bytes.now }
 {
-    bytes.iter().take_while(|byte| byte.is_ascii_digit()).count()
+    bytes
+        .iter()
+        .take_while(|byte| byte.is_ascii_digit())
+        .count()
 }

@@ -5,8 +5,11 @@ mod blank;
 mod escape;
 mod front;
 mod length;
+mod piece;
 mod sign;
+mod spelling;
 mod string;
 mod token;
 
+pub use piece::Piece;
 pub use token::{Kind, LexFault, Span, Token};
