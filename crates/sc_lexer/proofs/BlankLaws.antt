@@ -1,5 +1,5 @@
 -- What white space and comments leave.
-use Rattle.std.proofs.Common.{◌≡◌, ℕ, ◌-◌, ◌<◌, ◌≤◌, ◌&&◌, List, [], ◌∷◌, ◌++◌, length, take, drop, Bool, true, false, cond, eqb, refl, sym, ◌∙◌, ap, subst, arith, length-drop, eqb-true, inl, inr, get_or, None, zero, suc}
+use Rattle.std.proofs.Common.{◌≡◌, ℕ, ◌-◌, ◌<◌, ◌≤◌, ◌&&◌, List, [], ◌∷◌, ◌++◌, length, take, drop, Bool, true, false, cond, eqb, refl, sym, ◌∙◌, ap, subst, arith, length-append, length-drop, eqb-true, inl, inr, get_or, None, zero, suc}
 use Rattle.std.specs.Prelude.{codes, MatchBool}
 use Rattle.std.specs.Char.{is_whitespace}
 use Rattle.std.specs.Str.{IsUtf8, IsCharBoundary, chars, encode_utf8_all, skip_leading_whitespace, trim_start}
@@ -140,3 +140,11 @@ no_slashes t rest e = rw e refl
 
 pub Leads_end : (t r : List ℕ) → Leads t r → BeginsNoSpace r → starts_with eqb r (codes "//") ≡ false → Skips t r
 Leads_end t r l n h = l.leads r (none r n (record { slashes = λ rest e. let both : false ≡ true = sym h ∙ no_slashes r rest e in cc }))
+
+pub length-Skips : {bytes left : List ℕ} → Skips bytes left → length left ≤ length bytes
+length-Skips (none b s c) = omega arith
+length-Skips (space c rest left w s) = let less : length left ≤ length rest = length-Skips s in omega (arith, length-append {A = ℕ})
+length-Skips (comment line rest left i e s) = let less : length left ≤ length rest = length-Skips s in omega (arith, length-append {A = ℕ})
+
+pub within_end : (t r : List ℕ) → Leads t r → BeginsNoSpace r → starts_with eqb r (codes "//") ≡ false → length r ≤ length t
+within_end t r l n h = length-Skips (Leads_end t r l n h)

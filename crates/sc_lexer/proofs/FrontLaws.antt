@@ -1,5 +1,5 @@
 -- The longest token that some bytes begin with.
-use Rattle.std.proofs.Common.{◌≡◌, ◌≢◌, ℕ, suc, ◌+◌, ◌-◌, ◌<◌, ◌≤◌, ◌==◌, List, [], ◌∷◌, ◌++◌, length, take, drop, get_or, Bool, true, false, cond, refl, sym, ◌∙◌, ap, subst, arith, add-one, Some, None}
+use Rattle.std.proofs.Common.{◌≡◌, ◌≢◌, ℕ, zero, suc, ◌+◌, ◌-◌, ◌<◌, ◌≤◌, ◌==◌, List, [], ◌∷◌, ◌++◌, length, take, drop, get_or, Bool, true, false, cond, ◌⊎◌, inl, inr, refl, sym, ◌∙◌, ap, subst, arith, add-one, Some, None}
 use Rattle.std.specs.Char.{is_ascii_digit}
 use Rattle.std.specs.List.{list_all, take_while}
 use Rattle.std.specs.declared.option.Option.{Option}
@@ -8,12 +8,13 @@ use Rattle.std.proofs.lemmas.List.{take-append-drop}
 use Rattle.std.proofs.Math.Seq.{take-append_seam, take-length}
 use Rattle.std.proofs.lemmas.List.Sums.{take_while-cons, prefix_len-le-length}
 use Rattle.std.proofs.lemmas.List.Folds.{length-prefix_len}
-use Rattle.sc_names.specs.Names.{begins_word, goes_on_word}
+use Rattle.sc_names.specs.Names.{begins_word, goes_on_word, is_word}
 use Rattle.sc_lexer.specs.declared.token.Kind.{Kind}
 use Rattle.sc_lexer.specs.declared.token.Kind.TheVariants.{Word, Number, Str}
-use Rattle.sc_lexer.specs.Tokens.{closes, one_sign, two_sign, sign_of, kind_of, BeginsNoToken}
+use Rattle.sc_lexer.specs.Tokens.{is_number, is_string, closes, one_sign, two_sign, sign_of, kind_of, BeginsNoToken}
 use Rattle.sc_lexer.specs.Fronts.{IsFront, long_sign}
-use Rattle.sc_lexer.proofs.StringLaws.{closes_once}
+use Rattle.sc_lexer.proofs.StringLaws.{closes_once, closes_last, last_more}
+use Rattle.sc_lexer.proofs.DigitLaws.{first_passes, rest_passes}
 
 -- what the first byte says of a token
 
@@ -290,3 +291,68 @@ unfolding long_sign
 long_sign_two [] h = absurd (omega arith)
 long_sign_two (a ∷ []) h = absurd (omega arith)
 long_sign_two (a ∷ b ∷ cs) h = refl
+
+-- a token ends with an ASCII byte
+
+bool_tells : (b : Bool) → (b ≡ true) ⊎ (b ≡ false)
+bool_tells true = inl refl
+bool_tells false = inr refl
+
+-- some bytes, of which the last is ASCII
+pub record EndsAscii (t : List ℕ) : Type 0 where
+  pub some : 0 < length t
+  pub last : get_or t (length t - 1) 0 < 128
+
+all_small : (p : ℕ → Bool) (cs : List ℕ) (i : ℕ) → ((c : ℕ) → p c ≡ true → c < 128) → list_all p cs ≡ true → i < length cs → get_or cs i 0 < 128
+all_small p [] i f h l = absurd (omega arith)
+all_small p (c ∷ cs) zero f h l = f c (first_passes (p c) (list_all p cs) h)
+all_small p (c ∷ cs) (suc i) f h l = all_small p cs i f (rest_passes (p c) (list_all p cs) h) (omega arith)
+
+word_small : (c : ℕ) → goes_on_word c ≡ true → c < 128
+word_small c h = grind (arith, nat_tests)
+
+digit_small : (c : ℕ) → is_ascii_digit c ≡ true → c < 128
+digit_small c h = grind (arith, nat_tests)
+
+EndsAscii-word : (t : List ℕ) → is_word t ≡ true → EndsAscii t
+EndsAscii-word [] h = cc
+EndsAscii-word (c ∷ cs) h =
+    let all : list_all goes_on_word (c ∷ cs) ≡ true = rw (word_goes_on c (first_passes (begins_word c) (list_all goes_on_word cs) h)) (rest_passes (begins_word c) (list_all goes_on_word cs) h) in
+    record { some = omega arith; last = all_small goes_on_word (c ∷ cs) (length (c ∷ cs) - 1) word_small all (omega arith) }
+
+EndsAscii-number : (t : List ℕ) → is_number t ≡ true → EndsAscii t
+EndsAscii-number [] h = cc
+EndsAscii-number (c ∷ cs) h = record { some = omega arith; last = all_small is_ascii_digit (c ∷ cs) (length (c ∷ cs) - 1) digit_small h (omega arith) }
+
+EndsAscii-string : (t : List ℕ) → is_string t ≡ true → EndsAscii t
+EndsAscii-string [] h = cc
+EndsAscii-string (c ∷ cs) h =
+    let end = closes_last cs (rest_passes (c == 34) (closes cs) h) in
+    record { some = omega arith; last = rw (last_more c cs end.0, end.1) (omega arith) }
+
+one_small : (a : ℕ) (k : Kind) → one_sign a ≡ Some k → a < 128
+unfolding one_sign
+one_small a k h = grind (arith, nat_tests)
+
+two_small : (a b : ℕ) (k : Kind) → two_sign a b ≡ Some k → b < 128
+unfolding two_sign
+two_small a b k h = grind (arith, nat_tests)
+
+EndsAscii-sign : (t : List ℕ) (k : Kind) → sign_of t ≡ Some k → EndsAscii t
+EndsAscii-sign [] k h = cc
+EndsAscii-sign (a ∷ []) k h = record { some = omega arith; last = one_small a k h }
+EndsAscii-sign (a ∷ b ∷ []) k h = record { some = omega arith; last = two_small a b k h }
+EndsAscii-sign (a ∷ b ∷ c ∷ cs) k h = cc
+
+pub ends_ascii : (t : List ℕ) (k : Kind) → kind_of t ≡ Some k → EndsAscii t
+unfolding kind_of
+ends_ascii t k h = elim (bool_tells (is_word t)) [
+  | inl word ↦ EndsAscii-word t word
+  | inr no_word ↦ elim (bool_tells (is_number t)) [
+    | inl number ↦ EndsAscii-number t number
+    | inr no_number ↦ elim (bool_tells (is_string t)) [
+      | inl string ↦ EndsAscii-string t string
+      | inr no_string ↦ EndsAscii-sign t k (rw (no_word, no_number, no_string) at h)
+    ]
+  ]
+]

@@ -127,3 +127,15 @@ closes_once (a ∷ c ∷ u) v (b ∷ d ∷ t) w e h k =
         | first q s y ↦ let whole : (c ∷ u) ++ v ≡ (d ∷ t) ++ w = cc in let less : length (c ∷ u) ≤ length (d ∷ t) = closes_once (c ∷ u) v (d ∷ t) w whole x y in omega arith
       ]
     ]
+
+-- a string's last byte is a quote
+pub last_more : (a : ℕ) (cs : List ℕ) → 0 < length cs → get_or (a ∷ cs) (length (a ∷ cs) - 1) 0 ≡ get_or cs (length cs - 1) 0
+last_more a cs h = let next : length (a ∷ cs) - 1 ≡ suc (length cs - 1) = omega arith in rw next refl
+
+pub closes_last : (cs : List ℕ) → closes cs ≡ true → (0 < length cs) × (get_or cs (length cs - 1) 0 ≡ 34)
+closes_last [] h = absurd (closes-none h)
+closes_last (a ∷ []) h = (omega arith, closes-last a h)
+closes_last (a ∷ c ∷ u) h = elim (goes a c u h) [
+  | both p x ↦ let end = closes_last u x in (omega arith, last_more a (c ∷ u) (omega arith) ∙ last_more c u end.0 ∙ end.1)
+  | first p r x ↦ (omega arith, last_more a (c ∷ u) (omega arith) ∙ (closes_last (c ∷ u) x).1)
+]

@@ -1,6 +1,8 @@
 -- The tokens of a file, or the first place where it has none.
-use Rattle.std.specs.Prelude.{◌≡◌, ◌≢◌, ℕ, ◌-◌, List, [], ◌∷◌, ◌++◌, length, Bool, false, codes, Result, Ok, Err}
+use Rattle.std.specs.Prelude.{◌≡◌, ◌≢◌, ℕ, ◌-◌, List, [], ◌∷◌, ◌++◌, length, Bool, false, codes, Result, Ok, Err, ⊤}
 use Rattle.std.specs.Str.{bytes_eq, IsUtf8, IsValidUpTo}
+use Rattle.sc_lists.specs.declared.fault.Fault.{Fault}
+use Rattle.sc_lists.specs.declared.fault.Fault.TheVariants.{Told, NoMemory}
 use Rattle.sc_lexer.specs.declared.token.Kind.{Kind}
 use Rattle.sc_lexer.specs.declared.token.Kind.TheVariants.{Str}
 use Rattle.sc_lexer.specs.declared.token.Token.{Token}
@@ -39,3 +41,13 @@ pub data Reads (whole : ℕ) : Bool → List ℕ → Result (List Token) LexFaul
 pub data Lexes (bytes : List ℕ) : Result (List Token) LexFault → Type 0 where
   ill_formed : (at : ℕ) → (IsUtf8 bytes → ⊥) → IsValidUpTo bytes at → Lexes bytes (Err (BadUtf8 at))
   text : (read : Result (List Token) LexFault) → IsUtf8 bytes → Reads (length bytes) false bytes read → Lexes bytes read
+
+-- the fault is the file's, or want of memory
+abbrev pub LexFails : List ℕ → Fault LexFault → Type 0
+LexFails bytes (Told fault) = Lexes bytes (Err fault)
+LexFails bytes NoMemory = ⊤
+
+-- the same of a text
+abbrev pub ReadFails : List ℕ → Fault LexFault → Type 0
+ReadFails bytes (Told fault) = Reads (length bytes) false bytes (Err fault)
+ReadFails bytes NoMemory = ⊤

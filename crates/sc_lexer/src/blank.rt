@@ -47,9 +47,10 @@ fn begins_comment(text: &str) -> bool
 }
 
 /// What follows the white space and the comments that a text begins with.
-#[tactic(auto, using(crate::proofs::BlankLaws::Leads_trim, crate::proofs::BlankLaws::BeginsNoSpace_trim, crate::proofs::BlankLaws::Leads_add, crate::proofs::BlankLaws::Leads_end))]
+#[tactic(auto, using(crate::proofs::BlankLaws::Leads_trim, crate::proofs::BlankLaws::BeginsNoSpace_trim, crate::proofs::BlankLaws::Leads_add, crate::proofs::BlankLaws::Leads_end, crate::proofs::BlankLaws::within_end))]
 pub(crate) fn after_blanks(text: &str) -> &str
-    ensures { Skips text.now result.now }
+    ensures skips { Skips text.now result.now }
+    ensures within { length result.now ≤ length text.now }
 {
     let mut rest = text.trim_start();
     while begins_comment(rest) {

@@ -12,6 +12,7 @@ use crate::string::closing_len;
 use crate::token::Kind;
 
 /// A token by its length, in bytes.
+#[derive(Clone, Copy)]
 pub(crate) struct Front {
     pub(crate) kind: Kind,
     pub(crate) len: usize,

@@ -5,11 +5,13 @@ mod blank;
 mod escape;
 mod front;
 mod length;
+mod lexer;
 mod piece;
 mod sign;
 mod spelling;
 mod string;
 mod token;
 
+pub use lexer::tokens;
 pub use piece::Piece;
 pub use token::{Kind, LexFault, Span, Token};
