@@ -80,7 +80,7 @@ kind-sign : (a : ℕ) (u : List ℕ) → begins_word a ≡ false → is_ascii_di
 unfolding kind_of
 kind-sign a u h d q = rw (h, d, q) refl
 
-kind-nil : kind_of [] ≡ None
+pub kind-nil : kind_of [] ≡ None
 unfolding kind_of
 kind-nil = refl
 

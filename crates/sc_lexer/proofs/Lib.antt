@@ -4,5 +4,7 @@ pub mod EscapeLaws
 pub mod FrontLaws
 pub mod NextLaws
 pub mod ReadingLaws
+pub mod SpanLaws
 pub mod SpellingLaws
 pub mod StringLaws
+pub mod UniqueLaws

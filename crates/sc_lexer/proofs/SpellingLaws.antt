@@ -73,7 +73,7 @@ cond_some : (b : Bool) (x y : Escape) → cond b (Some x) None ≡ Some y → (b
 cond_some true x y h = (refl, cc)
 cond_some false x y h = cc
 
-some_same : {x y : Escape} → Some x ≡ Some y → x ≡ y
+pub some_same : {x y : Escape} → Some x ≡ Some y → x ≡ y
 some_same h = cc
 
 bool_tells : (b : Bool) → (b ≡ true) ⊎ (b ≡ false)

@@ -3,4 +3,5 @@ pub mod Escapes
 pub mod Fronts
 pub mod Parts
 pub mod Reading
+pub mod Spans
 pub mod Tokens

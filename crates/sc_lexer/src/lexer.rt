@@ -1,7 +1,11 @@
 //! The tokens of a file.
-ghost use Rattle.std.specs.Prelude.{◌≡◌, ◌+◌, ◌-◌, ◌<◌, ◌≤◌, ◌^◌, length, take, drop, false, IfOk, IfErr, Ok, Err, codes};
+ghost use Rattle.std.specs.Prelude.{◌≡◌, ◌+◌, ◌-◌, ◌<◌, ◌≤◌, ◌^◌, List, Result, length, take, drop, false, IfOk, IfErr, Ok, Err, codes};
 ghost use Rattle.std.specs.Str.{bytes_eq};
+ghost use Rattle.sc_lists.specs.Told.{Gives};
+ghost use Rattle.sc_lexer.specs.declared.token.Token.{Token as AnyToken};
+ghost use Rattle.sc_lexer.specs.declared.token.LexFault.{LexFault as AnyLexFault};
 ghost use Rattle.sc_lexer.specs.Reading.{Reads, ReadFails, Lexes, LexFails};
+ghost use Rattle.sc_lexer.specs.Spans.{text_of, AreTokens};
 ghost use Rattle.sc_lexer.specs.Fronts.{IsNext, Stops};
 
 use crate::blank::after_blanks;
@@ -69,9 +73,9 @@ fn text_tokens(alloc: Global, text: &str) -> Result<Seq<Token>, Fault<LexFault>>
     }
 }
 
-/// The tokens of a file, by longest match, in order, or the first place where it has none.
+/// The tokens of a file.
 #[tactic(auto, using(crate::proofs::ReadingLaws::Lexes_ok, crate::proofs::ReadingLaws::Lexes_err))]
-pub fn tokens(alloc: Global, bytes: &[u8]) -> Result<Seq<Token>, Fault<LexFault>>
+fn read(alloc: Global, bytes: &[u8]) -> Result<Seq<Token>, Fault<LexFault>>
     ensures ok { IfOk result (λ list. Lexes bytes.now (Ok list)) }
     ensures err { IfErr result (LexFails bytes.now) }
 {
@@ -79,4 +83,35 @@ pub fn tokens(alloc: Global, bytes: &[u8]) -> Result<Seq<Token>, Fault<LexFault>
         Ok(text) => text_tokens(alloc, text),
         Err(error) => Err(Fault::Told(LexFault::BadUtf8(error.valid_up_to()))),
     }
+}
+
+/// The tokens of a policy file, by longest match, in order.
+///
+/// # Errors
+///
+/// `BadUtf8` at the first ill-formed sequence, else `BadToken` or `BadEscape` at the first place
+/// where no token begins, or where a backslash of a string begins no escape; of an unclosed string
+/// it is `BadToken` at the opening quote. `NoMemory` for want of memory.
+#[tactic(auto, using(crate::proofs::SpanLaws::AreTokens_ok))]
+pub fn tokens(alloc: Global, bytes: &[u8]) -> Result<Seq<Token>, Fault<LexFault>>
+    // The tokens are what is read of the file.
+    ensures ok { IfOk result (λ list. Lexes bytes.now (Ok list)) }
+    // The fault is what is read of the file.
+    ensures err { IfErr result (LexFails bytes.now) }
+    // A file is read in one way, so that is the answer, unless memory runs out.
+    ensures complete { (told : Result (List AnyToken) AnyLexFault) → Lexes bytes.now told → Gives result told }
+    // Each token stands within the file, with a text of its kind, and they ascend.
+    ensures spans { IfOk result (AreTokens bytes.now) }
+{
+    read(alloc, bytes)
+}
+
+/// The text of a token of a file: its bytes from the span's start to its end, as far as there are
+/// such.
+pub fn text<'b>(bytes: &'b [u8], token: Token) -> &'b [u8]
+    ensures { result.now ≡ text_of bytes.now token }
+{
+    let end = token.span.end.min(bytes.len());
+    let start = token.span.start.min(end);
+    &bytes[start..end]
 }

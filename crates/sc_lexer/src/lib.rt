@@ -12,6 +12,6 @@ mod spelling;
 mod string;
 mod token;
 
-pub use lexer::tokens;
+pub use lexer::{text, tokens};
 pub use piece::Piece;
 pub use token::{Kind, LexFault, Span, Token};
