@@ -10,6 +10,8 @@ mod piece;
 mod sign;
 mod spelling;
 mod string;
+#[cfg(test)]
+mod tests;
 mod token;
 
 pub use lexer::{text, tokens};
