@@ -7,4 +7,5 @@ pub mod ReadingLaws
 pub mod SpanLaws
 pub mod SpellingLaws
 pub mod StringLaws
+pub mod UnescapingLaws
 pub mod UniqueLaws

@@ -32,7 +32,7 @@ pub record IsRead (like : Bool) (bytes : List ℕ) (n : ℕ) : Type 0 where
   pub read : escape_of bytes ≡ Some (record { piece = piece; len = n })
   pub allowed : allows like piece ≡ true
 
-ascii-two : (a b : ℕ) (rest : List ℕ) → is_ascii_hexdigit a ≡ true → is_ascii_hexdigit b ≡ true → digits_value 16 (a ∷ b ∷ []) ≤ 127 → ascii_of (a ∷ b ∷ rest) ≡ Some (record { piece = Char (digits_value 16 (a ∷ b ∷ [])); len = 3 })
+pub ascii-two : (a b : ℕ) (rest : List ℕ) → is_ascii_hexdigit a ≡ true → is_ascii_hexdigit b ≡ true → digits_value 16 (a ∷ b ∷ []) ≤ 127 → ascii_of (a ∷ b ∷ rest) ≡ Some (record { piece = Char (digits_value 16 (a ∷ b ∷ [])); len = 3 })
 ascii-two a b rest h k v =
     let two : 2 ≤ length (take_while is_ascii_hexdigit (a ∷ b ∷ rest)) = rw (take_while-cons is_ascii_hexdigit a (b ∷ rest), h, take_while-cons is_ascii_hexdigit b rest, k) (omega arith) in
     sym (ascii_some (a ∷ b ∷ rest) two v)
@@ -45,7 +45,7 @@ braced_from bytes ds e =
     let front : IsScalar (digits_value 16 (take (length (take_while is_ascii_hexdigit bytes)) bytes)) = subst (λ xs. IsScalar (digits_value 16 xs)) (sym (take-digits bytes)) v in
     sym (subst (λ xs. Some (record { piece = Char (digits_value 16 xs); len = length (take_while is_ascii_hexdigit bytes) + 3 }) ≡ braced_of bytes) (take-digits bytes) (braced_some bytes l m q front)))
 
-braced-digits : (ds rest : List ℕ) → list_all is_ascii_hexdigit ds ≡ true → 1 ≤ length ds → length ds ≤ 6 → IsScalar (digits_value 16 ds) → braced_of (ds ++ (125 ∷ rest)) ≡ Some (record { piece = Char (digits_value 16 ds); len = length ds + 3 })
+pub braced-digits : (ds rest : List ℕ) → list_all is_ascii_hexdigit ds ≡ true → 1 ≤ length ds → length ds ≤ 6 → IsScalar (digits_value 16 ds) → braced_of (ds ++ (125 ∷ rest)) ≡ Some (record { piece = Char (digits_value 16 ds); len = length ds + 3 })
 braced-digits ds rest h l m v =
     let closing : get_or (ds ++ (125 ∷ rest)) (length ds) 0 ≡ 125 = get_or_at ds 125 rest 0 (length ds) refl in
     braced_from (ds ++ (125 ∷ rest)) ds (take_while-stop ds rest 125 h refl) l m closing v

@@ -13,7 +13,9 @@ mod string;
 #[cfg(test)]
 mod tests;
 mod token;
+mod unescaping;
 
 pub use lexer::{text, tokens};
 pub use piece::Piece;
 pub use token::{Kind, LexFault, Span, Token};
+pub use unescaping::{pieces, unescape};
