@@ -1,2 +1,3 @@
 pub mod EveryLaws
+pub mod OrderLaws
 pub mod OutLaws
