@@ -1,3 +1,5 @@
+pub mod AscendingLaws
 pub mod EveryLaws
 pub mod OrderLaws
 pub mod OutLaws
+pub mod SetLaws

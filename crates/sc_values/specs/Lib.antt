@@ -1,3 +1,4 @@
 pub mod Order
+pub mod Sets
 pub mod Records
 pub mod Proper

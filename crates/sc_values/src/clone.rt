@@ -2,8 +2,8 @@
 ghost use Rattle.std.specs.Prelude.{◌≡◌, IfOk};
 
 use crate::value::{Rec, Set, Value};
-use std::alloc::{AllocError, Global};
 use sc_lists::Seq;
+use std::alloc::{AllocError, Global};
 
 /// A copy, which equals the value.
 #[cycle(clone)]
