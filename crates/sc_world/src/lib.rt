@@ -1,10 +1,12 @@
 //! Worlds: a request and the entities that are stored; and what makes a world well-formed.
 #![tactic(auto)]
 
+mod conformance;
 mod entity;
 mod store;
 mod world;
 
+pub use conformance::conforms;
 pub use entity::EntityData;
 pub use store::Store;
 pub use world::{Request, World};
