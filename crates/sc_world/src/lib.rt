@@ -3,6 +3,7 @@
 
 mod conformance;
 mod entity;
+mod proper;
 mod store;
 mod world;
 
