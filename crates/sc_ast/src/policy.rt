@@ -1,10 +1,11 @@
 //! Policies and sets of them.
 use crate::expr::Expr;
 use crate::place::Place;
+use crate::scope::{ActionScope, Scope};
 use sc_lists::Seq;
 
 /// What a policy does where it is satisfied.
-#[derive(Clone, Copy, Debug, PartialEq, Eq, PartialOrd, Ord)]
+#[derive(Clone, Copy, Debug, PartialEq, Eq)]
 pub enum Effect {
     /// It permits.
     Permit,
@@ -13,7 +14,7 @@ pub enum Effect {
 }
 
 /// Whether a condition has to hold, or not to hold.
-#[derive(Clone, Copy, Debug, PartialEq, Eq, PartialOrd, Ord)]
+#[derive(Clone, Copy, Debug, PartialEq, Eq)]
 pub enum ConditionKind {
     /// `when`: the expression has to be true.
     When,
@@ -22,7 +23,7 @@ pub enum ConditionKind {
 }
 
 /// A `when` or `unless` clause.
-#[derive(Debug, PartialEq, Eq, PartialOrd, Ord, Drop)]
+#[derive(Debug, PartialEq, Eq, Drop)]
 pub struct Condition {
     /// The place of the word `when` or `unless`.
     pub place: Place,
@@ -32,16 +33,22 @@ pub struct Condition {
     pub body: Expr,
 }
 
-/// A policy whose scope is bare, so that it speaks of each request.
-#[derive(Debug, PartialEq, Eq, PartialOrd, Ord, Drop)]
+/// A policy.
+#[derive(Debug, PartialEq, Eq, Drop)]
 pub struct Policy {
     /// The place of the word `permit` or `forbid`.
     pub place: Place,
     /// What it does where it is satisfied.
     pub effect: Effect,
+    /// Which principals it speaks of.
+    pub principal: Scope,
+    /// Which actions it speaks of.
+    pub action: ActionScope,
+    /// Which resources it speaks of.
+    pub resource: Scope,
     /// Its `when` and `unless` clauses, in order.
     pub conditions: Seq<Condition>,
 }
 
-/// The policies of a file, in order.
+/// The policies of a file, in order. They are named `policy0`, `policy1` and so on, by place.
 pub type PolicySet = Seq<Policy>;

@@ -5,3 +5,4 @@ pub mod AddressLaws
 pub mod PrefixLaws
 pub mod WrittenLaws
 pub mod ValueLaws
+pub mod RangeTestLaws

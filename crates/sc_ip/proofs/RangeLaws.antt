@@ -20,12 +20,12 @@ shift_twice n p q le =
     let e : p + (q - p) ≡ q = omega arith in
     div-div-eq-div-mul n (2 ^ p) (2 ^ (q - p)) ∙ ap (λ k. n / k) (sym (pow-add 2 p (q - p)) ∙ ap (λ k. 2 ^ k) e)
 
-within_from : (x p y q : ℕ) → p ≤ q → x / 2 ^ q ≡ y / 2 ^ q → (n : ℕ) → n / 2 ^ p ≡ x / 2 ^ p → n / 2 ^ q ≡ y / 2 ^ q
+pub within_from : (x p y q : ℕ) → p ≤ q → x / 2 ^ q ≡ y / 2 ^ q → (n : ℕ) → n / 2 ^ p ≡ x / 2 ^ p → n / 2 ^ q ≡ y / 2 ^ q
 within_from x p y q le same n e =
     sym (shift_twice n p q le) ∙ (ap (λ k. k / 2 ^ (q - p)) e ∙ (shift_twice x p q le ∙ same))
 
 -- a range with more free bits has two addresses that differ in a bit which the other holds fast
-not_within : (x p y q : ℕ) → q < p → ((n : ℕ) → n / 2 ^ p ≡ x / 2 ^ p → n / 2 ^ q ≡ y / 2 ^ q) → ⊥
+pub not_within : (x p y q : ℕ) → q < p → ((n : ℕ) → n / 2 ^ p ≡ x / 2 ^ p → n / 2 ^ q ≡ y / 2 ^ q) → ⊥
 not_within x p y q lt h =
     let low = x / 2 ^ p * 2 ^ p in
     let first : (x / 2 ^ p * 2 ^ p + 0) / 2 ^ p ≡ x / 2 ^ p = div-mul-add (x / 2 ^ p) (2 ^ p) 0 (pow_pos p) in

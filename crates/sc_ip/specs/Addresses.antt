@@ -1,5 +1,5 @@
 -- What is an address with a prefix, and when one range lies within another.
-use Rattle.std.specs.Prelude.{◌≡◌, ℕ, ◌-◌, ◌/◌, ◌^◌, ◌<◌, ◌≤◌, Bool, true, false, ◌⊎◌}
+use Rattle.std.specs.Prelude.{◌≡◌, ◌==◌, ◌&&◌, ◌||◌, nat_le, ℕ, ◌-◌, ◌/◌, ◌^◌, ◌<◌, ◌≤◌, Bool, true, false, ◌⊎◌}
 use Rattle.sc_ip.specs.declared.ip.Ip.{Ip}
 use Rattle.sc_ip.specs.declared.ip.Ip.TheVariants.{V4, V6}
 
@@ -40,3 +40,21 @@ IsLoopback a = IsInRange a (V4 0x7f00_0000 8) ⊎ IsInRange a (V6 1 128)
 -- within 224.0.0.0/4 or ff00::/8
 abbrev pub IsMulticast : Ip → Type 0
 IsMulticast a = IsInRange a (V4 0xe000_0000 4) ⊎ IsInRange a (V6 0xff00_0000_0000_0000_0000_0000_0000_0000 8)
+
+-- ---- the same as tests, which definitions can compute with
+
+-- the first range leaves at most as many lowest bits free, and the bits that the second one holds fast agree
+abbrev pub is_within : ℕ → ℕ → ℕ → ℕ → Bool
+is_within x x_free y y_free = nat_le x_free y_free && (x / 2 ^ y_free == y / 2 ^ y_free)
+
+abbrev pub is_in_range : Ip → Ip → Bool
+is_in_range (V4 x p) (V4 y q) = is_within x (32 - p) y (32 - q)
+is_in_range (V4 x p) (V6 y q) = false
+is_in_range (V6 x p) (V4 y q) = false
+is_in_range (V6 x p) (V6 y q) = is_within x (128 - p) y (128 - q)
+
+abbrev pub is_loopback : Ip → Bool
+is_loopback a = is_in_range a (V4 0x7f00_0000 8) || is_in_range a (V6 1 128)
+
+abbrev pub is_multicast : Ip → Bool
+is_multicast a = is_in_range a (V4 0xe000_0000 4) || is_in_range a (V6 0xff00_0000_0000_0000_0000_0000_0000_0000 8)

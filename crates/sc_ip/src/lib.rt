@@ -13,7 +13,7 @@ mod tests;
 mod write;
 
 pub use ip::Ip;
-pub use laws::ip_laws;
+pub use laws::{ip_laws, range_laws};
 pub use range::{in_range, is_loopback, is_multicast, is_v4};
 pub use read::{BadIp, read_ip};
 pub use write::write_ip;
