@@ -1,8 +1,11 @@
 -- Laws of problems.
-use Rattle.std.proofs.Common.{◌≡◌, ◌+◌, ℕ, Bool, true, false, not, cond, List, [], ◌∷◌, map, refl, ap, sym, ◌∙◌}
-use Rattle.std.specs.List.{position_or_len, prefix_len}
-use Rattle.sc_footprint.specs.declared.term.Term.{Term, Term-F, out-Term, out-roll-Term}
-use Rattle.sc_footprint.specs.declared.term.Term.TheVariants.{Field, rolls-Field}
+use Rattle.std.proofs.Common.{◌≡◌, ◌+◌, ℕ, Bool, not, cond, List, [], ◌∷◌, map, refl, ap, sym, ◌∙◌, IsTrue}
+use Rattle.std.specs.List.{position_or_len}
+use Rattle.sc_schema.specs.declared.declarations.Env.{Env}
+use Rattle.sc_schema.specs.Declarations.{Declarations}
+use Rattle.sc_footprint.specs.Problems.{is_goal}
+use Rattle.sc_footprint.specs.declared.term.Term.{Term, out-Term, out-roll-Term}
+use Rattle.sc_footprint.specs.declared.term.Term.TheVariants.{False, Field, rolls-False, rolls-Field}
 use Rattle.sc_footprint.specs.declared.term.Term.TheOpen as t
 
 -- the first place of a value in a mapped list is the first place that is mapped to it
@@ -12,3 +15,10 @@ position_or_len_map p f (x ∷ xs) = ap (λ n. cond (not (p (f x))) (1 + n) 0) (
 
 pub out_Field : (x : Term) (name : List ℕ) → out-Term (Field x name) ≡ t.Field x name
 out_Field x name = ap out-Term (sym (rolls-Field x name)) ∙ out-roll-Term (t.Field x name)
+
+out_False : out-Term False ≡ t.False
+out_False = ap out-Term (sym rolls-False) ∙ out-roll-Term t.False
+
+-- the goal `false` is posed of each schema
+pub false_is_goal : (s : Declarations) (env : Env) (goal : Term) → goal ≡ False → IsTrue (is_goal s env goal)
+false_is_goal s env goal is = rw (is, out_False) refl

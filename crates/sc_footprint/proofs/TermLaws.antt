@@ -1,11 +1,11 @@
 -- The truth of terms in a world.
-use Rattle.std.proofs.Common.{◌≡◌, ℕ, List, Bool, true, false, unwrap_or, refl, ap, sym, ◌∙◌}
-use Rattle.sc_values.specs.declared.value.Value.{Value, out-Value}
+use Rattle.std.proofs.Common.{◌≡◌, ℕ, List, true, false, unwrap_or, ap, sym, ◌∙◌}
+use Rattle.sc_values.specs.declared.value.Value.{out-Value}
 use Rattle.sc_values.specs.declared.value.Value.TheVariants as value
 use Rattle.sc_values.specs.Records.{field}
 use Rattle.sc_values.proofs.OutLaws.{out_Bool, out_Record}
 use Rattle.sc_world.specs.declared.world.World.{World}
-use Rattle.sc_footprint.specs.declared.term.Term.{Term, Term-F, fold-roll-Term}
+use Rattle.sc_footprint.specs.declared.term.Term.{Term, fold-roll-Term}
 use Rattle.sc_footprint.specs.declared.term.Term.TheVariants.{True, False, Context, Field, rolls-True, rolls-False, rolls-Context, rolls-Field}
 use Rattle.sc_footprint.specs.declared.term.Term.TheOpen as t
 use Rattle.sc_footprint.specs.Terms.{Denotation, val, val_step, field_in, truth_in, is_true}

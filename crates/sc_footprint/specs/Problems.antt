@@ -1,5 +1,5 @@
 -- The problem of a goal: its listed atoms and the clauses that define them.
-use Rattle.std.specs.Prelude.{◌≡◌, ◌&&◌, ◌+◌, ◌-◌, ◌==◌, ℕ, Bool, true, false, List, [], ◌∷◌, map, length, Option, Some, None, slice_get, option_and_then, if◌then◌else◌, IsTrue}
+use Rattle.std.specs.Prelude.{◌≡◌, ◌&&◌, ◌+◌, ◌-◌, ◌==◌, ℕ, Bool, true, false, List, [], ◌∷◌, map, length, Option, Some, None, slice_get, if◌then◌else◌, IsTrue}
 use Rattle.std.specs.List.{list_any, position_or_len}
 use Rattle.std.specs.Str.{bytes_eq}
 use Rattle.sc_clauses.specs.declared.lit.Lit.{Lit}
@@ -12,7 +12,7 @@ use Rattle.sc_schema.specs.declared.declarations.Env.{Env}
 use Rattle.sc_schema.specs.Declarations.{Declarations, context_of}
 use Rattle.sc_footprint.specs.declared.term.Term.{Term, Term-F, out-Term}
 use Rattle.sc_footprint.specs.declared.term.Term.TheOpen as t
-use Rattle.sc_footprint.specs.declared.term.Term.TheVariants.{True, False, Context, Field}
+use Rattle.sc_footprint.specs.declared.term.Term.TheVariants.{True, Context, Field}
 
 -- a goal over the variables of an environment, and the uids that are to be stored
 pub record Posed : Type 0 where

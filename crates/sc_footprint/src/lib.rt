@@ -4,6 +4,8 @@
 
 mod problem;
 mod term;
+#[cfg(test)]
+mod tests;
 
 pub use problem::{Problem, close, defining};
 pub use term::Term;

@@ -1,8 +1,8 @@
 -- The context of a rebuilt world.
-use Rattle.std.proofs.Common.{◌≡◌, ◌≢◌, ◌+◌, ◌||◌, ◌&&◌, ℕ, zero, suc, List, [], ◌∷◌, map, Bool, true, false, not, cond, Option, Some, None, IsTrue, IsSome, slice_get, unwrap_or, refl, ap, sym, ◌∙◌, subst, ⊎_elim, inl, inr, ◌⊎◌, true≢false, arith, Ordering, Less}
+use Rattle.std.proofs.Common.{◌≡◌, ◌+◌, ◌||◌, ◌&&◌, ℕ, zero, suc, List, [], ◌∷◌, map, Bool, true, false, cond, Option, Some, slice_get, refl, ap, sym, ◌∙◌, subst, ⊎_elim, inl, inr, ◌⊎◌, arith, Less}
 use Rattle.std.specs.List.{AllByRecursion, list_any, list_all}
 use Rattle.std.specs.List.Sorted.{IsStrictlySortedBy}
-use Rattle.std.specs.Map.{keys_of, lookup}
+use Rattle.std.specs.Map.{keys_of}
 use Rattle.std.specs.Str.{IsUtf8, bytes_eq}
 use Rattle.std.proofs.lemmas.Slice.Eq.{bytes_eq-Decides}
 use Rattle.std.proofs.lemmas.Cmp.{tied_itself, nat_list_cmp_total}
@@ -10,16 +10,14 @@ use Rattle.sc_clauses.specs.Assignments.{Assignment}
 use Rattle.sc_names.specs.Uids.{text_cmp}
 use Rattle.sc_schema.specs.declared.ty.Presence.{Presence}
 use Rattle.sc_schema.specs.declared.ty.Presence.TheVariants.{Required}
-use Rattle.sc_schema.specs.declared.ty.Ty.{Ty}
 use Rattle.sc_schema.specs.declared.ty.Ty.TheVariants as ty
 use Rattle.sc_schema.specs.Plain.{bool_field, bool_record}
 use Rattle.sc_values.specs.declared.value.Value.{Value, Value-F, every-Value}
 use Rattle.sc_values.specs.declared.value.Value.TheVariants as value
 use Rattle.sc_values.specs.declared.value.Value.TheOpen as v
-use Rattle.sc_values.specs.Records.{Fields, field}
-use Rattle.sc_values.specs.Proper.{IsProperLevel, IsProper, IsProperRecord}
+use Rattle.sc_values.specs.Records.{field}
 use Rattle.sc_values.proofs.EveryLaws.{every_Bool, every_Record}
-use Rattle.sc_world.specs.Conforms.{Test, Shape, conforms, has_shape, passes}
+use Rattle.sc_world.specs.Conforms.{Test, conforms, passes}
 use Rattle.sc_world.proofs.ConformsLaws.{shape_of, conforms_Record, conforms_Bool}
 use Rattle.sc_solver.specs.Rebuilding.{truth_at, fields_from}
 

@@ -1,5 +1,5 @@
 -- Why the solver's answers are right.
-use Rattle.std.proofs.Common.{◌≡◌, ◌+◌, ◌-◌, ◌<◌, ◌≤◌, ◌==◌, ◌&&◌, ◌||◌, ℕ, zero, suc, List, [], ◌∷◌, map, length, Bool, true, false, cond, Option, Some, None, IsSome, IsTrue, slice_get, refl, ap, sym, ◌∙◌, subst, arith, Result, Ok, Err, IfOk}
+use Rattle.std.proofs.Common.{◌≡◌, ◌+◌, ◌-◌, ◌<◌, ◌≤◌, ◌==◌, ◌&&◌, ◌||◌, ℕ, suc, List, [], ◌∷◌, map, length, Bool, true, false, cond, Option, Some, None, IsSome, IsTrue, slice_get, refl, ap, sym, ◌∙◌, subst, arith, Result, Ok, Err, IfOk}
 use Rattle.std.specs.List.{list_any, position_or_len}
 use Rattle.std.specs.Str.{bytes_eq}
 use Rattle.std.proofs.lemmas.Bool.{and_parts, ne_eqb}
@@ -7,14 +7,14 @@ use Rattle.std.proofs.lemmas.Bool.Decides.{Decides-eqb}
 use Rattle.sc_checker.specs.declared.log.Step.{Step}
 use Rattle.sc_checker.specs.declared.log.Step.TheVariants.{Learned}
 use Rattle.sc_checker.specs.Truths.{IsUnsatisfiable}
-use Rattle.sc_checker.specs.Verdicts.{IsAccepted, Adds, no_step, first_step}
+use Rattle.sc_checker.specs.Verdicts.{IsAccepted, no_step, first_step}
 use Rattle.sc_checker.proofs.DefiningLaws.{place_below, field_found, field_is, false_is_false, length_map}
 use Rattle.sc_clauses.specs.declared.lit.Lit.{Lit}
-use Rattle.sc_clauses.specs.Assignments.{Assignment, value_of, is_false, falsifies}
+use Rattle.sc_clauses.specs.Assignments.{Assignment, value_of, is_false}
 use Rattle.sc_footprint.specs.declared.term.Term.{Term, Term-F, out-Term}
 use Rattle.sc_footprint.specs.declared.term.Term.TheOpen as t
 use Rattle.sc_footprint.specs.declared.term.Term.TheVariants.{True}
-use Rattle.sc_footprint.specs.Problems.{Posed, atoms, atoms_under, atom_at, defining, goal_literal, literal_under, is_goal, is_goal_under, is_context, of_context, context_names}
+use Rattle.sc_footprint.specs.Problems.{Posed, atoms, atoms_under, goal_literal, literal_under, is_goal, is_goal_under, is_context, of_context, context_names}
 use Rattle.sc_footprint.specs.Terms.{is_true}
 use Rattle.sc_world.specs.declared.world.World.{World}
 use Rattle.sc_world.specs.WellFormed.{IsWellFormed}

@@ -1,13 +1,12 @@
 -- The listed atoms have their assigned truth in the rebuilt world.
-use Rattle.std.proofs.Common.{◌≡◌, ◌+◌, ◌-◌, ◌<◌, ◌≤◌, ◌==◌, ◌&&◌, ℕ, zero, suc, List, [], ◌∷◌, map, length, Bool, true, false, cond, Option, Some, None, IsSome, slice_get, unwrap_or, is_some, refl, ap, sym, ◌∙◌, subst, arith}
+use Rattle.std.proofs.Common.{◌≡◌, ◌+◌, ◌-◌, ◌<◌, ◌≤◌, ◌==◌, ◌&&◌, ℕ, zero, suc, List, [], ◌∷◌, map, length, Bool, true, false, cond, Option, Some, None, IsSome, slice_get, unwrap_or, refl, ap, sym, ◌∙◌, subst, arith}
 use Rattle.std.proofs.lemmas.Bool.Decides.{nat_tests}
 use Rattle.std.specs.List.Sorted.{IsStrictlySortedBy}
-use Rattle.sc_clauses.specs.Clauses.{positive, bool_eq}
-use Rattle.sc_clauses.specs.Assignments.{Assignment, value_of, is_false, is_false_at, falsifies}
+use Rattle.sc_clauses.specs.Assignments.{Assignment, value_of, is_false_at}
 use Rattle.sc_footprint.specs.declared.term.Term.{Term, Term-F, out-Term}
 use Rattle.sc_footprint.specs.declared.term.Term.TheVariants.{True}
 use Rattle.sc_footprint.specs.declared.term.Term.TheOpen as t
-use Rattle.sc_footprint.specs.Problems.{Posed, atoms, atoms_under, atom_at, of_context, context_names}
+use Rattle.sc_footprint.specs.Problems.{Posed, atoms_under, of_context, context_names}
 use Rattle.sc_footprint.specs.Terms.{is_true, truth_in}
 use Rattle.sc_footprint.proofs.TermLaws.{is_true_True, val_of_context}
 use Rattle.sc_names.specs.Uids.{text_cmp}

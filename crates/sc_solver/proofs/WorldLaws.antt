@@ -1,35 +1,33 @@
 -- The rebuilt world is well-formed.
-use Rattle.std.proofs.Common.{◌≡◌, ◌≢◌, ◌+◌, ◌<◌, ◌||◌, ◌&&◌, ℕ, zero, suc, List, [], ◌∷◌, map, find, length, Bool, true, false, cond, Option, Some, None, option_map, IsTrue, IsSome, Contains, refl, ap, sym, ◌∙◌, subst, arith, codes, MatchOption, IsSomeAnd}
-use Rattle.std.specs.List.{AllByRecursion, list_any}
+use Rattle.std.proofs.Common.{◌≡◌, ◌≢◌, ℕ, zero, suc, List, [], ◌∷◌, map, find, Bool, true, false, cond, Some, None, option_map, IsTrue, IsSome, Contains, refl, ap, sym, ◌∙◌, subst, arith, codes, IsSomeAnd}
+use Rattle.std.specs.List.{AllByRecursion}
 use Rattle.std.specs.List.Sorted.{IsStrictlySortedBy}
-use Rattle.std.specs.Map.{keys_of}
 use Rattle.std.specs.Str.{IsUtf8, IsAscii, bytes_eq}
 use Rattle.std.proofs.lemmas.Str.{IsUtf8-from_ascii}
 use Rattle.sc_clauses.specs.Assignments.{Assignment}
 use Rattle.sc_footprint.specs.Problems.{Posed, context_names, names_in}
 use Rattle.sc_names.specs.declared.uid.Uid.{Uid}
 use Rattle.sc_names.specs.Uids.{text_cmp, uid_cmp}
-use Rattle.sc_schema.specs.declared.ty.Ty.{Ty, out-Ty, out-roll-Ty}
+use Rattle.sc_schema.specs.declared.ty.Ty.{out-Ty, out-roll-Ty}
 use Rattle.sc_schema.specs.declared.ty.Ty.TheVariants.{Record, rolls-Record}
 use Rattle.sc_schema.specs.declared.ty.Ty.TheOpen as t
 use Rattle.sc_schema.specs.declared.declarations.Action.{Action}
 use Rattle.sc_schema.specs.declared.declarations.EntityType.{EntityType}
 use Rattle.sc_schema.specs.declared.declarations.Env.{Env}
-use Rattle.sc_schema.specs.Declarations.{Declarations, environments, uid_eq, entity_type, is_action_type, attrs_of, tags_of, ancestor_types, context_of, action}
-use Rattle.sc_schema.specs.Plain.{IsPlain, IsPlainType, IsTypeName, action_type, plain_action, bool_field, bool_record}
+use Rattle.sc_schema.specs.Declarations.{Declarations, environments, uid_eq, entity_type, is_action_type, attrs_of, tags_of, context_of}
+use Rattle.sc_schema.specs.Plain.{IsPlain, IsPlainType, action_type, plain_action, bool_field, bool_record}
 use Rattle.sc_values.specs.declared.value.Value.TheVariants as value
 use Rattle.sc_values.specs.declared.value.Value.TheOpen as v
 use Rattle.sc_values.specs.Proper.{IsProperLevel, IsProper, IsUidText}
 use Rattle.sc_values.proofs.EveryLaws.{every_Record}
-use Rattle.sc_world.specs.declared.entity.EntityData.{EntityData}
 use Rattle.sc_world.specs.declared.world.World.{World}
 use Rattle.sc_world.specs.Conforms.{conforms}
-use Rattle.sc_world.specs.Stores.{Entities, stored, with_entity, IsMap}
+use Rattle.sc_world.specs.Stores.{Entities, IsMap}
 use Rattle.sc_world.specs.WellFormed.{Entry, IsProperEntry, IsProperWorld, IsRequestOf, HasAttributes, HasTags, HasAncestorTypes, IsTransitive, IsAcyclic, IsAction, IsStored, NamesStored, NamesStoredLevel, EntryNamesStored, IsClosed, IsWellFormed}
 use Rattle.sc_world.proofs.ConformsLaws.{conforms_Record}
 use Rattle.sc_world.proofs.StoreLaws.{All-with_entity, IsMap-with_entity, stored-with_entity, stored-kept}
 use Rattle.sc_solver.specs.Rebuilding.{fields_from, first_of, no_data, plain_store, rebuilt}
-use Rattle.sc_solver.proofs.ContextLaws.{same_text, text_itself, or_cases, and_both, context-every, context-conforms, context-proper}
+use Rattle.sc_solver.proofs.ContextLaws.{same_text, text_itself, and_both, context-every, context-conforms, context-proper}
 
 -- ---- the schema
 

@@ -1,5 +1,5 @@
 -- The world that an assignment of the listed atoms stands for.
-use Rattle.std.specs.Prelude.{◌≡◌, ◌+◌, ◌≤◌, ℕ, List, [], ◌∷◌, Bool, true, false, Option, Some, unwrap_or, IsSome, length, codes}
+use Rattle.std.specs.Prelude.{◌≡◌, ◌+◌, ◌≤◌, ℕ, List, [], ◌∷◌, Bool, false, Some, unwrap_or, IsSome, length, codes}
 use Rattle.std.specs.List.{AllByRecursion}
 use Rattle.sc_clauses.specs.Clauses.{Clause}
 use Rattle.sc_clauses.specs.Assignments.{Assignment, value_of, falsifies}

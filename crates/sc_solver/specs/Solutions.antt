@@ -1,5 +1,5 @@
 -- What an answer of the solver means.
-use Rattle.std.specs.Prelude.{◌≡◌, ◌≤◌, ℕ, List, length, true, ⊤}
+use Rattle.std.specs.Prelude.{◌≡◌, ◌≤◌, ℕ, length, true, ⊤}
 use Rattle.sc_checker.specs.Truths.{IsUnsatisfiable}
 use Rattle.sc_checker.specs.Verdicts.{IsAccepted}
 use Rattle.sc_footprint.specs.declared.term.Term.{Term, Term-F}

@@ -3,6 +3,8 @@
 
 mod rebuilding;
 mod solving;
+#[cfg(test)]
+mod tests;
 
 pub use rebuilding::rebuild;
 pub use solving::{Solved, solve};

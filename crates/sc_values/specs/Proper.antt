@@ -1,5 +1,5 @@
 -- What it takes to be a value: numbers in range, texts of scalar values, sets and records in order.
-use Rattle.std.specs.Prelude.{◌≤◌, ◌<◌, ◌^◌, ℕ, List, FitsSigned, ⊤}
+use Rattle.std.specs.Prelude.{ℕ, List, FitsSigned, ⊤}
 use Rattle.std.specs.List.{AllByRecursion}
 use Rattle.std.specs.List.Sorted.{IsStrictlySortedBy}
 use Rattle.std.specs.Map.{keys_of}
@@ -7,8 +7,7 @@ use Rattle.std.specs.Int.{w64}
 use Rattle.std.specs.Str.{IsUtf8}
 use Rattle.sc_names.specs.declared.uid.Uid.{Uid}
 use Rattle.sc_names.specs.Uids.{text_cmp}
-use Rattle.sc_ip.specs.declared.ip.Ip.{Ip}
-use Rattle.sc_ip.specs.declared.ip.Ip.TheVariants.{V4, V6}
+use Rattle.sc_ip.specs.Addresses.{IsIp}
 use Rattle.sc_values.specs.declared.value.Value.{Value, Value-F, every-Value}
 use Rattle.sc_values.specs.declared.value.Value.TheOpen as v
 use Rattle.sc_values.specs.declared.value.Value.TheVariants as value
@@ -17,11 +16,6 @@ use Rattle.sc_values.specs.Records.{Fields}
 
 abbrev pub IsUidText : Uid → Type 0
 IsUidText u = IsUtf8 u.type_name × IsUtf8 u.id
-
--- address and prefix are within the version's bits
-abbrev pub IsIp : Ip → Type 0
-IsIp (V4 address prefix) = (address < 2 ^ 32) × (prefix ≤ 32)
-IsIp (V6 address prefix) = (address < 2 ^ 128) × (prefix ≤ 128)
 
 -- a field's name is a text
 unfoldable pub HasTextName : List ℕ × Value → Type 0

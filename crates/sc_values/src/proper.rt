@@ -5,11 +5,12 @@ ghost use Rattle.std.specs.List.Sorted.{IsStrictlySortedBy};
 ghost use Rattle.std.specs.Map.{keys_of};
 ghost use Rattle.std.specs.Int.{w64};
 ghost use Rattle.std.specs.Str.{IsUtf8};
+ghost use Rattle.sc_ip.specs.Addresses.{IsIp};
 ghost use Rattle.sc_names.specs.Uids.{text_cmp};
 ghost use Rattle.sc_values.specs.declared.value.Value.{Value as AnyValue};
 ghost use Rattle.sc_values.specs.Order.{value_cmp};
 ghost use Rattle.sc_values.specs.Records.{Fields};
-ghost use Rattle.sc_values.specs.Proper.{IsProper, IsProperRecord, IsUidText, IsIp, HasTextName};
+ghost use Rattle.sc_values.specs.Proper.{IsProper, IsProperRecord, IsUidText, HasTextName};
 
 use crate::value::{Rec, Set, Value};
 use sc_decimal::Decimal;

@@ -14,8 +14,6 @@ use Rattle.sc_decimal.specs.DecimalText.{IsDecimalText, decimal_text}
 use Rattle.sc_decimal.proofs.DecimalLaws.{decimal_only}
 use Rattle.sc_decimal.proofs.WrittenLaws.{text_reads}
 use Rattle.sc_ip.specs.declared.ip.Ip.{Ip}
-use Rattle.sc_ip.specs.declared.ip.Ip.TheVariants.{V4, V6}
-use Rattle.sc_ip.specs.Addresses.{IsIp}
 use Rattle.sc_ip.specs.IpText.{IsIpText, ip_text}
 use Rattle.sc_ip.proofs.PrefixLaws.{ip_only}
 use Rattle.sc_ip.proofs.WrittenLaws.{text_reads as ip_text_reads}
@@ -25,7 +23,7 @@ use Rattle.sc_schema.specs.declared.ty.Ty.TheOpen as t
 use Rattle.sc_values.specs.declared.value.Value.{Value, Value-F, out-Value, roll-Value, map-Value, fold_out-Value, roll-out-Value}
 use Rattle.sc_values.specs.declared.value.Value.TheOpen as v
 use Rattle.sc_values.specs.declared.value.Value.TheVariants.{rolls-Set, rolls-Record}
-use Rattle.sc_values.specs.Proper.{IsProper, IsIp as IsProperIp}
+use Rattle.sc_values.specs.Proper.{IsProper}
 use Rattle.sc_values.specs.Records.{Fields, field}
 use Rattle.sc_world.specs.Conforms.{Test, Shape, is_bool, is_truth, is_long, is_string, is_decimal, is_ip, is_entity_of, is_set_of, is_record_of, passes, conforms_step, conforms}
 use Rattle.sc_world_json.specs.Text.{value_step, value_data, fields_data, uid_data}
@@ -107,14 +105,10 @@ decimal-same (v.Decimal m) (v.Decimal n) p q h k e =
 decimal-same (v.Decimal m) _ p q h k e = absurd cc
 decimal-same _ b p q h k e = absurd cc
 
-ip_in_range : (a : Ip) → IsProperIp a → IsIp a
-ip_in_range (V4 address prefix) h = h
-ip_in_range (V6 address prefix) h = h
-
 ip-same : LayersDetermined is_ip
 ip-same (v.Ip m) (v.Ip n) p q h k e =
     let texts : ip_text m ≡ ip_text n = cc in
-    let reads = λ (a : Ip) (r : IsProper (roll-Value (v.Ip a))). ip_text_reads a (ip_in_range a (held (v.Ip a) r).0) in
+    let reads = λ (a : Ip) (r : IsProper (roll-Value (v.Ip a))). ip_text_reads a (held (v.Ip a) r).0 in
     ap v.Ip (ip_only (ip_text n) m n (subst (λ text. IsIpText text m) texts (reads m p)) (reads n q))
 ip-same (v.Ip m) _ p q h k e = absurd cc
 ip-same _ b p q h k e = absurd cc
