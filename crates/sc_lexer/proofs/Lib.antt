@@ -2,6 +2,7 @@ pub mod BlankLaws
 pub mod DigitLaws
 pub mod EscapeLaws
 pub mod FrontLaws
+pub mod KindLaws
 pub mod MeaningLaws
 pub mod NextLaws
 pub mod ReadingLaws

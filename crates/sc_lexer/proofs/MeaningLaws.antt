@@ -14,15 +14,15 @@ use Rattle.sc_lexer.specs.declared.piece.Piece.{Piece}
 use Rattle.sc_lexer.specs.declared.piece.Piece.TheVariants.{Char, Star}
 use Rattle.sc_lexer.specs.Escapes.{is_letter, IsEscape, letter, star, ascii, code, IsSpelled, ends, plain, escape, ascii_of, braced_of, scalar_of, escape_of}
 use Rattle.sc_lexer.specs.Pieces.{Means, of_letter, of_star, of_ascii, of_code, Spells, nothing, character, wildcard, escaped, inside, pieces_after, pieces_of}
-use Rattle.sc_lexer.specs.declared.token.Kind.TheVariants.{Word, Number, Str}
-use Rattle.sc_names.specs.Names.{is_word}
-use Rattle.sc_lexer.specs.Tokens.{is_number, closes, is_string, one_sign, two_sign, sign_of, kind_of}
+use Rattle.sc_lexer.specs.declared.token.Kind.TheVariants.{Str}
+use Rattle.sc_lexer.specs.Tokens.{closes, is_string, kind_of}
 use Rattle.sc_lexer.proofs.FrontLaws.{ends_ascii}
+use Rattle.sc_lexer.proofs.KindLaws.{is_string-kind}
 use Rattle.sc_lexer.proofs.StringLaws.{closes-plain, closes-pair, closes-quote, closes_last}
 use Rattle.sc_lexer.proofs.EscapeLaws.{escape_letter}
 use Rattle.sc_lexer.proofs.SpellingLaws.{IsMeant-escape, ascii-digits, braced-digits}
 use Rattle.sc_lexer.proofs.UnescapingLaws.{IsAscii-escape, pieces-skip, pieces_plain, pieces_star}
-use Rattle.sc_lexer.proofs.TestLaws.{bool_tells, first_passes, rest_passes}
+use Rattle.sc_lexer.proofs.TestLaws.{first_passes, rest_passes}
 
 -- spelled pieces are the ones that are given
 
@@ -195,26 +195,6 @@ spelled_inner {like} u (escape e r k s) h =
 
 -- what a string token stands for
 
-sign_kind : (t : List ℕ) → sign_of t ≡ Some Str → ⊥
-unfolding one_sign two_sign
-sign_kind [] h = cc
-sign_kind (a ∷ []) h = grind (arith, nat_tests)
-sign_kind (a ∷ b ∷ []) h = grind (arith, nat_tests)
-sign_kind (a ∷ b ∷ c ∷ cs) h = cc
-
-string_kind : (t : List ℕ) → kind_of t ≡ Some Str → is_string t ≡ true
-unfolding kind_of
-string_kind t h = elim (bool_tells (is_word t)) [
-  | inl word ↦ absurd (let both : Some Word ≡ Some Str = rw word at h in cc)
-  | inr no_word ↦ elim (bool_tells (is_number t)) [
-    | inl number ↦ absurd (let both : Some Number ≡ Some Str = rw (no_word, number) at h in cc)
-    | inr no_number ↦ elim (bool_tells (is_string t)) [
-      | inl string ↦ string
-      | inr no_string ↦ absurd (sign_kind t (rw (no_word, no_number, no_string) at h))
-    ]
-  ]
-]
-
 inside_utf8 : (t : List ℕ) → kind_of t ≡ Some Str → 2 ≤ length t → get_or t 0 0 ≡ 34 → IsUtf8 t → IsUtf8 (inside t)
 inside_utf8 t h l q u =
     let first : IsCharBoundary t 1 = IsCharBoundary-after_ascii t 0 u (omega arith) (omega arith) in
@@ -239,7 +219,7 @@ some_inside (c ∷ u) h =
 pub Spells_string : {like : Bool} (t : List ℕ) → kind_of t ≡ Some Str → IsUtf8 t → IsSpelled like t → Spells (chars (inside t)) (pieces_of t)
 unfolding pieces_of
 Spells_string t h u s =
-    let is = string_kind t h in
+    let is = is_string-kind t h in
     let some = some_inside t is in
     let utf8 = inside_utf8 t h some.0 some.1 u in
     let bytes = subst (IsSpelled true) (sym (encodes-chars (inside t) utf8)) (spelled_pattern (inside t) (inside_spelled t is s)) in
