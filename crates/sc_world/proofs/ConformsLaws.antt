@@ -1,9 +1,9 @@
 -- Which values are of a type, kind by kind.
-use Rattle.std.proofs.Common.{◌≡◌, ◌&&◌, ◌||◌, ℕ, List, [], ◌∷◌, Bool, true, refl, ap, sym, ◌∙◌}
+use Rattle.std.proofs.Common.{◌≡◌, ◌&&◌, ◌||◌, ℕ, List, [], ◌∷◌, Bool, true, false, refl, ap, sym, ◌∙◌}
 use Rattle.std.specs.List.{list_all, list_any}
 use Rattle.std.specs.Str.{bytes_eq}
 use Rattle.sc_schema.specs.declared.ty.Presence.{Presence}
-use Rattle.sc_schema.specs.declared.ty.Ty.{Ty, fold-roll-Ty}
+use Rattle.sc_schema.specs.declared.ty.Ty.{Ty, Ty-F, out-Ty, roll-Ty, map-Ty, fold-roll-Ty, fold_out-Ty, roll-out-Ty}
 use Rattle.sc_schema.specs.declared.ty.Ty.TheVariants as ty
 use Rattle.sc_schema.specs.declared.ty.Ty.TheVariants.{rolls-Bool, rolls-Record}
 use Rattle.sc_schema.specs.declared.ty.Ty.TheOpen as t
@@ -11,7 +11,7 @@ use Rattle.sc_values.specs.declared.value.Value.TheVariants as value
 use Rattle.sc_values.specs.Records.{Fields, field}
 use Rattle.sc_values.specs.declared.value.Value.{Value}
 use Rattle.sc_values.proofs.OutLaws.{out_Bool, out_Record}
-use Rattle.sc_world.specs.Conforms.{Test, conforms, conforms_step, passes, has_shape, is_bool, is_record_of}
+use Rattle.sc_world.specs.Conforms.{Test, conforms, conforms_step, passes, has_shape, is_truth, is_bool, is_long, is_string, is_decimal, is_ip, is_entity_of, is_set_of, is_record_of}
 pub use Rattle.sc_world.specs.Conforms.{shape_of}
 
 pub conforms_Record : (attributes : List (List ℕ × Presence × Ty)) (fields : Fields) → conforms (ty.Record attributes) (value.Record fields) ≡ has_shape (shape_of attributes) fields
@@ -57,3 +57,28 @@ pub has_shape_tested : (attributes : List Attribute) (fields : Fields) (a b : Bo
     → (a && b) ≡ has_shape (shape_of attributes) fields
 has_shape_tested attributes fields a b first second =
     both (first ∙ sym (each_passes attributes fields)) (second ∙ sym (each_named attributes fields))
+
+-- ---- records against types
+
+IsNoRecord : Ty-F Ty → Type 0
+IsNoRecord y = (attributes : List Attribute) → y ≡ t.Record attributes → ⊥
+
+-- no type but a record type has records
+step_no_record : (y : Ty-F Ty) (fields : Fields) → IsNoRecord y → conforms_step (map-Ty Ty Test conforms y) (value.Record fields) ≡ false
+unfolding IsNoRecord
+step_no_record t.True fields other = ap (is_truth true) (out_Record fields)
+step_no_record t.False fields other = ap (is_truth false) (out_Record fields)
+step_no_record t.Bool fields other = ap is_bool (out_Record fields)
+step_no_record t.Long fields other = ap is_long (out_Record fields)
+step_no_record t.String fields other = ap is_string (out_Record fields)
+step_no_record t.Decimal fields other = ap is_decimal (out_Record fields)
+step_no_record t.Ip fields other = ap is_ip (out_Record fields)
+step_no_record (t.Entity name) fields other = ap (is_entity_of name) (out_Record fields)
+step_no_record (t.Set member) fields other = ap (is_set_of (conforms member)) (out_Record fields)
+step_no_record (t.Record attributes) fields other = absurd (other attributes refl)
+
+pub conforms_no_record : (type : Ty) (fields : Fields) → ((attributes : List Attribute) → type ≡ ty.Record attributes → ⊥) → conforms type (value.Record fields) ≡ false
+unfolding conforms IsNoRecord
+conforms_no_record type fields other =
+    ap (λ f. f (value.Record fields)) (fold_out-Ty Test conforms_step type)
+    ∙ step_no_record (out-Ty type) fields (λ attributes is. other attributes (sym (roll-out-Ty type) ∙ ap roll-Ty is ∙ rolls-Record attributes))

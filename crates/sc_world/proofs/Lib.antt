@@ -1,3 +1,5 @@
 pub mod StoreLaws
 pub mod ConformsLaws
+mod ActionLaws
+mod NamedLaws
 mod TestLaws

@@ -1,10 +1,11 @@
 -- For private clauses: the parts of a well-formed world as they are tested.
-use Rattle.std.specs.Prelude.{◌≡◌, List, Contains, IfSome}
+use Rattle.std.specs.Prelude.{◌≡◌, List, [], Contains, IfSome}
 use Rattle.std.specs.List.{AllByRecursion}
 use Rattle.sc_names.specs.declared.uid.Uid.{Uid}
 use Rattle.sc_schema.specs.declared.declarations.Action.{Action}
+use Rattle.sc_world.specs.declared.entity.EntityData.{EntityData}
 use Rattle.sc_world.specs.Stores.{Entities, stored}
-use Rattle.sc_world.specs.WellFormed.{Entry, action_data}
+use Rattle.sc_world.specs.WellFormed.{Entry, action_data, IsStored}
 
 -- a fact of an element of a list, which proofs of tests over the list need not look into
 unfoldable pub Holds : {X : Type 0} → (X → Type 0) → X → Type 0
@@ -14,6 +15,14 @@ Holds P x = P x
 abbrev pub HasAncestorsAmong : Entities → List Uid → Uid → Type 0
 HasAncestorsAmong es uids u = IfSome (stored u es) (λ e. AllByRecursion (λ a. Contains uids a) e.ancestors)
 
--- what is stored is what a declared action stores
-abbrev pub IsStoredAs : Entry → Action → Type 0
-IsStoredAs x a = x ≡ (a.uid, action_data a)
+-- what is stored of an entity is what a declared action stores
+unfoldable pub IsStoredAs : Uid → EntityData → Action → Type 0
+IsStoredAs u e a = ◌≡◌ {A = Entry} (u, e) (a.uid, action_data a)
+
+-- the same, part by part
+abbrev pub HasDataOf : Uid → EntityData → Action → Type 0
+HasDataOf u e a = (u ≡ a.uid) × (e.attrs ≡ []) × (e.ancestors ≡ a.ancestors) × (e.tags ≡ [])
+
+-- a declared action is stored
+unfoldable pub IsActionStored : Entities → Action → Type 0
+IsActionStored es a = IsStored es a.uid

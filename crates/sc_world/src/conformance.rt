@@ -6,6 +6,7 @@ ghost use Rattle.std.specs.Option.{option_copied};
 ghost use Rattle.sc_schema.specs.declared.ty.Presence.{Presence as AnyPresence};
 ghost use Rattle.sc_schema.specs.declared.ty.Ty.{Ty as AnyTy};
 ghost use Rattle.sc_values.specs.declared.value.Value.{Value as AnyValue, out-Value};
+ghost use Rattle.sc_values.specs.declared.value.Value.TheVariants.{Record};
 ghost use Rattle.sc_values.specs.Records.{field};
 ghost use Rattle.sc_world.specs.Conforms as of_type;
 ghost use Rattle.sc_world.specs.Conforms.{shape_of, has_shape};
@@ -32,6 +33,16 @@ pub fn conforms(x: &Value, ty: &Ty) -> bool
         Ty::Entity(name) => is_entity_of(x, name),
         Ty::Set(member) => is_set_of(member.get(), x),
         Ty::Record(attributes) => is_record_of(attributes, x),
+    }
+}
+
+/// Whether a record is of a type.
+pub(crate) fn record_conforms(fields: &Rec, ty: &Ty) -> bool
+    ensures { result ≡ of_type.conforms ty.now (Record fields.now) }
+{
+    match ty {
+        Ty::Record(attributes) => fits(attributes, fields),
+        _ => false,
     }
 }
 

@@ -1,10 +1,13 @@
 //! Worlds: a request and the entities that are stored; and what makes a world well-formed.
 #![tactic(auto)]
 
+mod actions;
 mod ancestors;
+mod closed;
 mod conformance;
 mod entity;
 mod proper;
+mod request;
 mod store;
 #[cfg(test)]
 mod tests;
