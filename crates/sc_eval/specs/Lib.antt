@@ -1,2 +1,5 @@
+pub mod Outcomes
+pub mod Entities
+pub mod Collections
 pub mod Operators
 pub mod Eval

@@ -1,65 +1,93 @@
--- The operators on values.
-use Rattle.std.specs.Prelude.{ℕ, List, Bool, not, Option, Some, None, Result, Ok, Err}
-use Rattle.sc_ast.specs.declared.expr.Literal.{Literal}
-use Rattle.sc_ast.specs.declared.expr.Literal.TheVariants as literal
+-- The operators on values, in the order of the grammar.
+use Rattle.std.specs.Prelude.{ℕ, List, [], ◌∷◌, Bool, true, false, not, Ok, Result, ℤ, ◌+ℤ◌, ◌-ℤ◌, ◌*ℤ◌, neg_ℤ, int_lt, int_le}
+use Rattle.std.specs.List.{list_any, list_all}
+use Rattle.std.specs.Str.{chars}
+use Rattle.sc_ast.specs.declared.literal.Literal.{Literal}
+use Rattle.sc_ast.specs.declared.literal.Literal.TheVariants as literal
 use Rattle.sc_ast.specs.declared.expr.Variable.{Variable}
 use Rattle.sc_ast.specs.declared.expr.Variable.TheVariants.{Principal, Action, Resource, Context}
-use Rattle.sc_eval.specs.declared.error.EvalError.{EvalError}
-use Rattle.sc_eval.specs.declared.error.EvalError.TheVariants.{TypeError, EntityMissing, AttrMissing}
-use Rattle.sc_values.specs.declared.value.Value.{Value, Value-F, out-Value}
-use Rattle.sc_values.specs.declared.value.Value.TheOpen as v
+use Rattle.sc_ast.specs.declared.operator.BinaryOperator.{BinaryOperator}
+use Rattle.sc_ast.specs.declared.operator.BinaryOperator.TheVariants.{Less, LessOrEqual, Greater, GreaterOrEqual, Equal, In, Add, Subtract, Multiply, Contains, ContainsAll, ContainsAny, HasTag, GetTag, LessThan, LessThanOrEqual, GreaterThan, GreaterThanOrEqual, IsInRange}
+use Rattle.sc_ast.specs.declared.operator.UnaryOperator.{UnaryOperator}
+use Rattle.sc_ast.specs.declared.operator.UnaryOperator.TheVariants.{Not, Negate, IsEmpty, IsIpv4, IsIpv6, IsLoopback, IsMulticast, Decimal, Ip}
+use Rattle.sc_decimal.specs.DecimalValue.{decimal_of}
+use Rattle.sc_ip.specs.declared.ip.Ip as ip
+use Rattle.sc_ip.specs.Addresses.{is_version_4, is_in_range, is_loopback, is_multicast}
+use Rattle.sc_ip.specs.IpValue.{ip_of}
+use Rattle.sc_names.specs.declared.uid.Uid.{Uid}
+use Rattle.sc_pattern.specs.declared.part.Part.{Part}
+use Rattle.sc_pattern.specs.Language.{is_match}
+use Rattle.sc_values.specs.declared.value.Value.{Value}
 use Rattle.sc_values.specs.declared.value.Value.TheVariants as value
-use Rattle.sc_values.specs.Records.{field}
-use Rattle.sc_world.specs.declared.entity.EntityData.{EntityData}
 use Rattle.sc_world.specs.declared.world.Request.{Request}
 use Rattle.sc_world.specs.declared.world.World.{World}
 use Rattle.sc_world.specs.Stores.{stored}
+use Rattle.sc_eval.specs.declared.error.EvalError.{EvalError}
+use Rattle.sc_eval.specs.Outcomes.{Outcome, ◌>>=◌, as_bool, as_long, as_text, as_entity, as_set, as_decimal, as_address, of_bool, of_long, of_text}
+use Rattle.sc_eval.specs.Entities.{has_tag, tag_of, is_in}
+use Rattle.sc_eval.specs.Collections.{is_same, is_member}
 
--- a value, or why there is none
-abbrev pub Outcome : Type 0
-Outcome = Result Value EvalError
+-- ---- two operands of given kinds
 
--- the first error stands
-infixl 10 ◌>>=◌
-abbrev pub ◌>>=◌ : {A B : Type 0} → Result A EvalError → (A → Result B EvalError) → Result B EvalError
-(Ok x) >>= f = f x
-(Err e) >>= f = Err e
+abbrev pub longs : Value → Value → (ℤ → ℤ → Outcome) → Outcome
+longs x y f = as_long x >>= λ m. as_long y >>= λ n. f m n
 
-abbrev pub bool_in : Value-F Value → Result Bool EvalError
-bool_in (v.Bool b) = Ok b
-bool_in _ = Err TypeError
+abbrev pub sets : Value → Value → (List Value → List Value → Outcome) → Outcome
+sets x y f = as_set x >>= λ s. as_set y >>= λ t. f s t
 
--- a value that has to be a Bool
-abbrev pub as_bool : Value → Result Bool EvalError
-as_bool x = bool_in (out-Value x)
+abbrev pub decimals : Value → Value → (ℤ → ℤ → Outcome) → Outcome
+decimals x y f = as_decimal x >>= λ m. as_decimal y >>= λ n. f m n
 
--- a Bool, and what it decides
-abbrev pub decide : Outcome → (Bool → Outcome) → Outcome
-decide o f = o >>= λ x. as_bool x >>= f
+abbrev pub addresses : Value → Value → (ip.Ip → ip.Ip → Outcome) → Outcome
+addresses x y f = as_address x >>= λ a. as_address y >>= λ b. f a b
 
-abbrev pub of_bool : Bool → Outcome
-of_bool b = Ok (value.Bool b)
+-- an entity and a tag's key
+abbrev pub tagged : Value → Value → (Uid → List ℕ → Outcome) → Outcome
+tagged x y f = as_entity x >>= λ u. as_text y >>= λ key. f u key
 
-abbrev pub negated : Outcome → Outcome
-negated o = decide o (λ b. of_bool (not b))
+-- ---- the operators
 
-abbrev pub or_missing : Option Value → Outcome
-or_missing None = Err AttrMissing
-or_missing (Some x) = Ok x
+abbrev pub binary : BinaryOperator → World → Value → Value → Outcome
+binary Less w x y = longs x y (λ m n. of_bool (int_lt m n))
+binary LessOrEqual w x y = longs x y (λ m n. of_bool (int_le m n))
+binary Greater w x y = longs x y (λ m n. of_bool (int_lt n m))
+binary GreaterOrEqual w x y = longs x y (λ m n. of_bool (int_le n m))
+binary Equal w x y = of_bool (is_same x y)
+binary In w x y = is_in w x y >>= of_bool
+binary Add w x y = longs x y (λ m n. of_long (m +ℤ n))
+binary Subtract w x y = longs x y (λ m n. of_long (m -ℤ n))
+binary Multiply w x y = longs x y (λ m n. of_long (m *ℤ n))
+binary Contains w x y = as_set x >>= λ s. of_bool (is_member s y)
+binary ContainsAll w x y = sets x y (λ s t. of_bool (list_all (is_member s) t))
+binary ContainsAny w x y = sets x y (λ s t. of_bool (list_any (is_member s) t))
+binary HasTag w x y = tagged x y (λ u key. of_bool (has_tag key (stored u w.store)))
+binary GetTag w x y = tagged x y (λ u key. tag_of key (stored u w.store))
+binary LessThan w x y = decimals x y (λ m n. of_bool (int_lt m n))
+binary LessThanOrEqual w x y = decimals x y (λ m n. of_bool (int_le m n))
+binary GreaterThan w x y = decimals x y (λ m n. of_bool (int_lt n m))
+binary GreaterThanOrEqual w x y = decimals x y (λ m n. of_bool (int_le n m))
+binary IsInRange w x y = addresses x y (λ a b. of_bool (is_in_range a b))
 
--- an attribute of an entity that is stored or not
-abbrev pub attr_of : List ℕ → Option EntityData → Outcome
-attr_of name None = Err EntityMissing
-attr_of name (Some e) = or_missing (field name e.attrs)
+-- the text of a value matches the pattern
+abbrev pub is_like : List Part → Value → Result Bool EvalError
+is_like pattern x = as_text x >>= λ text. Ok (is_match pattern (chars text))
 
--- a field of a record, or an attribute of an entity
-abbrev pub access_in : List ℕ → World → Value-F Value → Outcome
-access_in name w (v.Record fields) = or_missing (field name fields)
-access_in name w (v.Entity u) = attr_of name (stored u w.store)
-access_in name w _ = Err TypeError
+abbrev pub is_empty : List Value → Bool
+is_empty [] = true
+is_empty (x ∷ xs) = false
 
-abbrev pub access : List ℕ → World → Value → Outcome
-access name w x = access_in name w (out-Value x)
+abbrev pub unary : UnaryOperator → Value → Outcome
+unary Not x = as_bool x >>= λ b. of_bool (not b)
+unary Negate x = as_long x >>= λ n. of_long (neg_ℤ n)
+unary IsEmpty x = as_set x >>= λ s. of_bool (is_empty s)
+unary IsIpv4 x = as_address x >>= λ a. of_bool (is_version_4 a)
+unary IsIpv6 x = as_address x >>= λ a. of_bool (not (is_version_4 a))
+unary IsLoopback x = as_address x >>= λ a. of_bool (is_loopback a)
+unary IsMulticast x = as_address x >>= λ a. of_bool (is_multicast a)
+unary Decimal x = as_text x >>= λ text. of_text value.Decimal (decimal_of text)
+unary Ip x = as_text x >>= λ text. of_text value.Ip (ip_of text)
+
+-- ---- literals and variables
 
 abbrev pub literal_value : Literal → Value
 literal_value (literal.Bool b) = value.Bool b
