@@ -1,1 +1,2 @@
+pub mod OrderedLaws
 pub mod SeqLaws

@@ -1,5 +1,5 @@
 //! A list that contracts see as its elements.
-ghost use Rattle.std.specs.Prelude.{◌≡◌, [], ◌∷◌, ◌++◌, ◌==◌, ◌<◌, ◌+◌, ◌≤◌, length, slice_get, IfOk, OnOk, OnErr, insert, take, drop};
+ghost use Rattle.std.specs.Prelude.{◌≡◌, [], ◌∷◌, ◌++◌, ◌==◌, ◌<◌, ◌+◌, ◌≤◌, length, slice_get, IfOk, OnOk, OnErr, insert, take, drop, IfSome};
 ghost use Rattle.std.specs.Option.{option_copied};
 
 use std::alloc::{AllocError, Global};
@@ -104,6 +104,17 @@ impl<T: Drop> Seq<T> {
     {
         self.items.insert(at, item)?;
         Ok(())
+    }
+}
+
+impl<K: Drop, V: Drop> Seq<(K, V)> {
+    /// Puts a value in the place of the one beside a key.
+    pub fn set_value(&mut self, at: usize, value: V)
+        requires { at < length self.old }
+        ensures { IfSome (slice_get self.old at) (λ pair.
+            self.new ≡ take at self.old ++ (pair.0, value) ∷ drop (at + 1) self.old) }
+    {
+        self.items[at].1 = value;
     }
 }
 

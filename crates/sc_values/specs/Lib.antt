@@ -1,3 +1,5 @@
 pub mod Order
+pub mod Sets
 pub mod Records
+pub mod Repeats
 pub mod Proper

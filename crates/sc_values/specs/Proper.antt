@@ -1,5 +1,5 @@
 -- What it takes to be a value: numbers in range, texts of scalar values, sets and records in order.
-use Rattle.std.specs.Prelude.{◌≤◌, ◌<◌, ◌^◌, FitsSigned, ⊤}
+use Rattle.std.specs.Prelude.{◌≤◌, ◌<◌, ◌^◌, ℕ, List, FitsSigned, ⊤}
 use Rattle.std.specs.List.{AllByRecursion}
 use Rattle.std.specs.List.Sorted.{IsStrictlySortedBy}
 use Rattle.std.specs.Map.{keys_of}
@@ -22,6 +22,10 @@ IsUidText u = IsUtf8 u.type_name × IsUtf8 u.id
 abbrev pub IsIp : Ip → Type 0
 IsIp (V4 address prefix) = (address < 2 ^ 32) × (prefix ≤ 32)
 IsIp (V6 address prefix) = (address < 2 ^ 128) × (prefix ≤ 128)
+
+-- a field's name is a text
+unfoldable pub HasTextName : List ℕ × Value → Type 0
+HasTextName f = IsUtf8 f.0
 
 -- a value, but for the values inside it
 abbrev pub IsProperLevel : Value-F Value → Type 0

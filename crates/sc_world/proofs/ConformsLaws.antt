@@ -1,18 +1,18 @@
 -- Which values are of a type, kind by kind.
-use Rattle.std.proofs.Common.{◌≡◌, ℕ, List, map, Bool, true, ap, sym, ◌∙◌}
+use Rattle.std.proofs.Common.{◌≡◌, ◌&&◌, ◌||◌, ℕ, List, [], ◌∷◌, Bool, true, refl, ap, sym, ◌∙◌}
+use Rattle.std.specs.List.{list_all, list_any}
+use Rattle.std.specs.Str.{bytes_eq}
 use Rattle.sc_schema.specs.declared.ty.Presence.{Presence}
 use Rattle.sc_schema.specs.declared.ty.Ty.{Ty, fold-roll-Ty}
 use Rattle.sc_schema.specs.declared.ty.Ty.TheVariants as ty
 use Rattle.sc_schema.specs.declared.ty.Ty.TheVariants.{rolls-Bool, rolls-Record}
 use Rattle.sc_schema.specs.declared.ty.Ty.TheOpen as t
 use Rattle.sc_values.specs.declared.value.Value.TheVariants as value
-use Rattle.sc_values.specs.Records.{Fields}
+use Rattle.sc_values.specs.Records.{Fields, field}
+use Rattle.sc_values.specs.declared.value.Value.{Value}
 use Rattle.sc_values.proofs.OutLaws.{out_Bool, out_Record}
-use Rattle.sc_world.specs.Conforms.{Test, Shape, conforms, conforms_step, has_shape, is_bool, is_record_of}
-
--- the shape of a record type
-abbrev pub shape_of : List (List ℕ × Presence × Ty) → Shape
-shape_of attributes = map (λ (a : List ℕ × Presence × Ty). (a.0, a.1, conforms a.2)) attributes
+use Rattle.sc_world.specs.Conforms.{Test, conforms, conforms_step, passes, has_shape, is_bool, is_record_of}
+pub use Rattle.sc_world.specs.Conforms.{shape_of}
 
 pub conforms_Record : (attributes : List (List ℕ × Presence × Ty)) (fields : Fields) → conforms (ty.Record attributes) (value.Record fields) ≡ has_shape (shape_of attributes) fields
 unfolding conforms
@@ -27,3 +27,33 @@ conforms_Bool b =
     ap (λ x. conforms x (value.Bool b)) (sym rolls-Bool)
     ∙ ap (λ f. f (value.Bool b)) (fold-roll-Ty Test conforms_step t.Bool)
     ∙ ap is_bool (out_Bool b)
+
+-- ---- a record's fields against the attributes of a type
+
+both : {a b c d : Bool} → a ≡ c → b ≡ d → (a && b) ≡ (c && d)
+both p q = λ i. p i && q i
+
+abbrev Attribute : Type 0
+Attribute = List ℕ × Presence × Ty
+
+each_passes : (attributes : List Attribute) (fields : Fields)
+    → list_all (λ (a : List ℕ × Presence × Test). passes a.1 a.2 (field a.0 fields)) (shape_of attributes) ≡ list_all (λ (a : Attribute). passes a.1 (conforms a.2) (field a.0 fields)) attributes
+each_passes [] fields = refl
+each_passes (a ∷ attributes) fields = ap (λ (b : Bool). passes a.1 (conforms a.2) (field a.0 fields) && b) (each_passes attributes fields)
+
+named : (attributes : List Attribute) (name : List ℕ) → list_any (λ (a : List ℕ × Presence × Test). bytes_eq name a.0) (shape_of attributes) ≡ list_any (λ (a : Attribute). bytes_eq name a.0) attributes
+named [] name = refl
+named (a ∷ attributes) name = ap (λ (b : Bool). bytes_eq name a.0 || b) (named attributes name)
+
+each_named : (attributes : List Attribute) (fields : Fields)
+    → list_all (λ (f : List ℕ × Value). list_any (λ (a : List ℕ × Presence × Test). bytes_eq f.0 a.0) (shape_of attributes)) fields ≡ list_all (λ (f : List ℕ × Value). list_any (λ (a : Attribute). bytes_eq f.0 a.0) attributes) fields
+each_named attributes [] = refl
+each_named attributes (f ∷ fields) = both (named attributes f.0) (each_named attributes fields)
+
+-- the two tests together, the second asked where the first holds
+pub has_shape_tested : (attributes : List Attribute) (fields : Fields) (a b : Bool)
+    → a ≡ list_all (λ (x : Attribute). passes x.1 (conforms x.2) (field x.0 fields)) attributes
+    → b ≡ list_all (λ (f : List ℕ × Value). list_any (λ (x : Attribute). bytes_eq f.0 x.0) attributes) fields
+    → (a && b) ≡ has_shape (shape_of attributes) fields
+has_shape_tested attributes fields a b first second =
+    both (first ∙ sym (each_passes attributes fields)) (second ∙ sym (each_named attributes fields))

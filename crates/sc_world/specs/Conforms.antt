@@ -1,5 +1,5 @@
 -- Which values are of a type.
-use Rattle.std.specs.Prelude.{◌&&◌, ℕ, List, Bool, true, false, not, Option, Some, None}
+use Rattle.std.specs.Prelude.{◌&&◌, ℕ, List, map, Bool, true, false, not, Option, Some, None}
 use Rattle.std.specs.List.{list_all, list_any}
 use Rattle.std.specs.Str.{bytes_eq}
 use Rattle.sc_schema.specs.declared.ty.Presence.{Presence}
@@ -87,3 +87,7 @@ conforms_step (t.Record shape) x = is_record_of shape (out-Value x)
 -- a value is of a type
 unfoldable pub conforms : Ty → Value → Bool
 conforms = fold-Ty Test conforms_step
+
+-- the shape of a record type
+abbrev pub shape_of : List (List ℕ × Presence × Ty) → Shape
+shape_of attributes = map (λ (a : List ℕ × Presence × Ty). (a.0, a.1, conforms a.2)) attributes

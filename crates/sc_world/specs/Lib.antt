@@ -1,3 +1,4 @@
 pub mod Stores
 pub mod Conforms
 pub mod WellFormed
+pub mod Tests

@@ -1,10 +1,15 @@
 //! Worlds: a request and the entities that are stored; and what makes a world well-formed.
 #![tactic(auto)]
 
+mod ancestors;
+mod conformance;
 mod entity;
+mod proper;
 mod store;
+mod uids;
 mod world;
 
+pub use conformance::conforms;
 pub use entity::EntityData;
 pub use store::Store;
 pub use world::{Request, World};

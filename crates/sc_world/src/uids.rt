@@ -1,0 +1,74 @@
+//! Uids among others, and in a store.
+ghost use Rattle.std.specs.Prelude.{◌≡◌, ◌↔◌, All, Contains, IsTrue};
+ghost use Rattle.sc_world.specs.Tests.{Holds};
+ghost use Rattle.sc_world.specs.WellFormed.{IsStored};
+
+use crate::store::Store;
+use sc_lists::Seq;
+use sc_names::{Name, Uid, compare};
+
+/// Whether two uids are one.
+#[tactic(auto, using(crate::proofs::TestLaws::one_uid))]
+pub(crate) fn is_same(a: &Uid, b: &Uid) -> bool
+    ensures { IsTrue result ↔ a.now ≡ b.now }
+{
+    compare(a, b).is_eq()
+}
+
+/// Whether two lists are of the same uids, in the same order.
+#[tactic(auto, using(crate::proofs::TestLaws::one_list))]
+pub(crate) fn are_same(a: &Seq<Uid>, b: &Seq<Uid>) -> bool
+    ensures { IsTrue result ↔ a.now ≡ b.now }
+{
+    a == b
+}
+
+/// Whether an entity with this uid is of the named type.
+#[tactic(auto, using(crate::proofs::TestLaws::one_text))]
+pub(crate) fn is_named(uid: &Uid, name: &Name) -> bool
+    ensures { IsTrue result ↔ uid.now.type_name ≡ name.now }
+{
+    uid.type_name.as_str() == name.as_str()
+}
+
+/// Whether a uid is among others.
+pub(crate) fn is_among(uids: &Seq<Uid>, uid: &Uid) -> bool
+    ensures { IsTrue result ↔ Contains uids.now uid.now }
+{
+    uids.as_slice().iter().any(|other| is_same(other, uid))
+}
+
+/// Whether each of some uids is among others.
+pub(crate) fn are_among(uids: &Seq<Uid>, some: &Seq<Uid>) -> bool
+    ensures { IsTrue result ↔ All (Holds (Contains uids.now)) some.now }
+{
+    some.as_slice().iter().all(|uid| holds_among(uids, uid))
+}
+
+#[tactic(auto, unfolding(crate::specs::Tests::Holds))]
+fn holds_among(uids: &Seq<Uid>, uid: &Uid) -> bool
+    ensures { IsTrue result ↔ Holds (Contains uids.now) uid.now }
+{
+    is_among(uids, uid)
+}
+
+/// Whether an entity is stored.
+pub(crate) fn is_stored(store: &Store, uid: &Uid) -> bool
+    ensures { IsTrue result ↔ IsStored store.now uid.now }
+{
+    store.get(uid).is_some()
+}
+
+/// Whether each of some entities is stored.
+pub(crate) fn are_stored(store: &Store, uids: &[Uid]) -> bool
+    ensures { IsTrue result ↔ All (Holds (IsStored store.now)) uids.now }
+{
+    uids.iter().all(|uid| holds_stored(store, uid))
+}
+
+#[tactic(auto, unfolding(crate::specs::Tests::Holds))]
+fn holds_stored(store: &Store, uid: &Uid) -> bool
+    ensures { IsTrue result ↔ Holds (IsStored store.now) uid.now }
+{
+    is_stored(store, uid)
+}
