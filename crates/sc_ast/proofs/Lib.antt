@@ -1,1 +1,3 @@
 pub mod LiteralsLaws
+pub mod ConditionsLaws
+mod Examples

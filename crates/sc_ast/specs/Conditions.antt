@@ -5,7 +5,6 @@ use Rattle.sc_ast.specs.declared.operator.BinaryOperator.TheVariants.{Equal, In}
 use Rattle.sc_ast.specs.declared.operator.UnaryOperator.TheVariants.{Not}
 use Rattle.sc_ast.specs.declared.expr.Variable.{Variable}
 use Rattle.sc_ast.specs.declared.expr.Variable.TheVariants.{Principal, Action, Resource}
-use Rattle.sc_ast.specs.declared.expr.TypeName.{TypeName}
 use Rattle.sc_ast.specs.declared.expr.Expr.{Expr}
 use Rattle.sc_ast.specs.declared.expr.Expr.TheVariants as expr
 use Rattle.sc_ast.specs.declared.literal.Literal.TheVariants as literal

@@ -2,12 +2,15 @@
 //! sign, the dot of an access or a method call, the bracket of an index, the word `if`, `has`,
 //! `like`, `is` or `in`), or of its first token where it has no operator. Parentheses are no
 //! expression of their own.
+ghost use Rattle.std.specs.Prelude.{◌≡◌, IfOk};
+
 use crate::literal::Literal;
 use crate::operator::{BinaryOperator, UnaryOperator};
 use crate::place::Place;
 use sc_lists::{Boxed, Seq, Text};
 use sc_names::Name;
 use sc_pattern::Pattern;
+use std::alloc::{AllocError, Global};
 
 /// A part of the request.
 #[derive(Clone, Copy, Debug, PartialEq, Eq)]
@@ -29,6 +32,18 @@ pub struct TypeName {
     pub place: Place,
     /// The name.
     pub name: Name,
+}
+
+impl TypeName {
+    /// A copy, which equals the name with its place.
+    pub fn try_clone(&self, alloc: Global) -> Result<TypeName, AllocError>
+        ensures { IfOk result (λ copy. copy ≡ self.now) }
+    {
+        Ok(TypeName {
+            place: self.place,
+            name: self.name.try_clone(alloc)?,
+        })
+    }
 }
 
 /// An expression.

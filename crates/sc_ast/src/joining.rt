@@ -1,0 +1,224 @@
+//! The condition of a policy: its scope and its clauses as one expression.
+ghost use Rattle.std.specs.Prelude.{◌≡◌, fold, map, IfOk};
+ghost use Rattle.sc_ast.specs.Conditions.{entity, asked, asked_of_action, is_in_any, required, joined, scope_part, action_part, clause, condition};
+ghost use Rattle.sc_ast.specs.Parts.{Asks};
+
+use crate::copy::try_clone;
+use crate::expr::{Expr, TypeName, Variable};
+use crate::literal::{EntityLiteral, Literal};
+use crate::operator::{BinaryOperator, UnaryOperator};
+use crate::place::Place;
+use crate::policy::{Condition, ConditionKind, Policy};
+use crate::scope::{ActionConstraint, ActionScope, Constraint, Scope};
+use sc_lists::{Boxed, Seq};
+use std::alloc::{AllocError, Global};
+
+/// The condition of a policy: `true`, then the parts of its scope that aren't bare, then what each
+/// clause asks, joined by `&&` from left to right. `unless` asks the negation of its expression, and
+/// no action is in `[]`.
+pub fn condition(alloc: Global, policy: &Policy) -> Result<Expr, AllocError>
+    ensures { IfOk result (λ e. e ≡ condition policy.now) }
+{
+    let start = Expr::Literal(policy.place, Literal::Bool(true));
+    let asked = with_scope(alloc, start, Variable::Principal, &policy.principal)?;
+    let asked = with_action(alloc, asked, &policy.action)?;
+    let asked = with_scope(alloc, asked, Variable::Resource, &policy.resource)?;
+    with_clauses(alloc, asked, policy.conditions.as_slice())
+}
+
+/// What is asked so far, and then one thing more.
+fn join(alloc: Global, asked: Expr, place: Place, more: Expr) -> Result<Expr, AllocError>
+    ensures { IfOk result (λ e. e ≡ joined asked (place, more)) }
+{
+    Ok(Expr::And(place, Boxed::new(alloc, asked)?, Boxed::new(alloc, more)?))
+}
+
+/// What is asked so far, and then what a scope asks of a variable.
+fn with_scope(
+    alloc: Global,
+    asked: Expr,
+    variable: Variable,
+    scope: &Scope,
+) -> Result<Expr, AllocError>
+    ensures { IfOk result (λ e. e ≡ fold joined asked (scope_part variable scope.now)) }
+{
+    match asked_of(alloc, variable, scope)? {
+        None => Ok(asked),
+        Some(more) => join(alloc, asked, scope.place, more),
+    }
+}
+
+/// What is asked so far, and then what a scope asks of the action.
+fn with_action(alloc: Global, asked: Expr, scope: &ActionScope) -> Result<Expr, AllocError>
+    ensures { IfOk result (λ e. e ≡ fold joined asked (action_part scope.now)) }
+{
+    match asked_of_action(alloc, scope)? {
+        None => Ok(asked),
+        Some(more) => join(alloc, asked, scope.place, more),
+    }
+}
+
+/// What a scope asks of a variable, or none where it is bare.
+fn asked_of(alloc: Global, variable: Variable, scope: &Scope) -> Result<Option<Expr>, AllocError>
+    ensures { IfOk result (λ o. Asks o (asked (Expr.Variable scope.now.place variable) scope.now.constraint)) }
+{
+    let x = Subject {
+        place: scope.place,
+        variable,
+    };
+    match &scope.constraint {
+        Constraint::Any => Ok(None),
+        Constraint::Equal(place, l) => {
+            Ok(Some(compared(alloc, x, *place, BinaryOperator::Equal, l)?))
+        }
+        Constraint::In(place, l) => Ok(Some(compared(alloc, x, *place, BinaryOperator::In, l)?)),
+        Constraint::Is(place, t) => Ok(Some(typed(alloc, x, *place, t)?)),
+        Constraint::IsIn(place, t, in_place, l) => {
+            Ok(Some(typed_in(alloc, x, *place, t, *in_place, l)?))
+        }
+    }
+}
+
+/// What a scope asks of the action, or none where it is bare.
+fn asked_of_action(alloc: Global, scope: &ActionScope) -> Result<Option<Expr>, AllocError>
+    ensures { IfOk result (λ o. Asks o (asked_of_action (Expr.Variable scope.now.place Variable.Action) scope.now.constraint)) }
+{
+    let x = Subject {
+        place: scope.place,
+        variable: Variable::Action,
+    };
+    match &scope.constraint {
+        ActionConstraint::Any => Ok(None),
+        ActionConstraint::Equal(place, l) => {
+            Ok(Some(compared(alloc, x, *place, BinaryOperator::Equal, l)?))
+        }
+        ActionConstraint::In(place, l) => {
+            Ok(Some(compared(alloc, x, *place, BinaryOperator::In, l)?))
+        }
+        ActionConstraint::InAny(place, bracket, ls) => {
+            Ok(Some(among(alloc, x, *place, *bracket, ls)?))
+        }
+    }
+}
+
+/// The word that a part of the scope begins with.
+#[derive(Clone, Copy)]
+struct Subject {
+    place: Place,
+    variable: Variable,
+}
+
+/// The word as an expression.
+fn boxed(alloc: Global, x: Subject) -> Result<Boxed<Expr>, AllocError>
+    ensures { IfOk result (λ e. e ≡ Expr.Variable x.place x.variable) }
+{
+    Boxed::new(alloc, Expr::Variable(x.place, x.variable))
+}
+
+/// An entity as an expression.
+fn entity(alloc: Global, l: &EntityLiteral) -> Result<Expr, AllocError>
+    ensures { IfOk result (λ e. e ≡ entity l.now) }
+{
+    Ok(Expr::Literal(l.place, Literal::Entity(l.uid.try_clone(alloc)?)))
+}
+
+/// `x == E` or `x in E`.
+fn compared(
+    alloc: Global,
+    x: Subject,
+    place: Place,
+    operator: BinaryOperator,
+    l: &EntityLiteral,
+) -> Result<Expr, AllocError>
+    ensures { IfOk result (λ e. e ≡ Expr.Binary place operator (Expr.Variable x.place x.variable) (entity l.now)) }
+{
+    let other = entity(alloc, l)?;
+    Ok(Expr::Binary(place, operator, boxed(alloc, x)?, Boxed::new(alloc, other)?))
+}
+
+/// `x is T`.
+fn typed(alloc: Global, x: Subject, place: Place, t: &TypeName) -> Result<Expr, AllocError>
+    ensures { IfOk result (λ e. e ≡ Expr.Is place (Expr.Variable x.place x.variable) t.now) }
+{
+    Ok(Expr::Is(place, boxed(alloc, x)?, t.try_clone(alloc)?))
+}
+
+/// `x is T in E`.
+fn typed_in(
+    alloc: Global,
+    x: Subject,
+    place: Place,
+    t: &TypeName,
+    in_place: Place,
+    l: &EntityLiteral,
+) -> Result<Expr, AllocError>
+    ensures { IfOk result (λ e. e ≡ Expr.IsIn place (Expr.Variable x.place x.variable) t.now in_place (entity l.now)) }
+{
+    let other = entity(alloc, l)?;
+    Ok(Expr::IsIn(
+        place,
+        boxed(alloc, x)?,
+        t.try_clone(alloc)?,
+        in_place,
+        Boxed::new(alloc, other)?,
+    ))
+}
+
+/// `x in [E, F]`, or `false` for `x in []`.
+fn among(
+    alloc: Global,
+    x: Subject,
+    place: Place,
+    bracket: Place,
+    ls: &Seq<EntityLiteral>,
+) -> Result<Expr, AllocError>
+    ensures { IfOk result (λ e. e ≡ is_in_any (Expr.Variable x.place x.variable) place bracket ls.now) }
+{
+    if ls.is_empty() {
+        return Ok(Expr::Literal(place, Literal::Bool(false)));
+    }
+    let others = Expr::Set(bracket, entities(alloc, ls.as_slice())?);
+    Ok(Expr::Binary(
+        place,
+        BinaryOperator::In,
+        boxed(alloc, x)?,
+        Boxed::new(alloc, others)?,
+    ))
+}
+
+/// Entities as expressions.
+fn entities(alloc: Global, ls: &[EntityLiteral]) -> Result<Seq<Expr>, AllocError>
+    ensures { IfOk result (λ es. es ≡ map entity ls.now) }
+{
+    let mut others = Seq::new(alloc);
+    for l in ls {
+        others.push(entity(alloc, l)?)?;
+    }
+    Ok(others)
+}
+
+/// What is asked so far, and then what each clause asks.
+fn with_clauses(alloc: Global, mut asked: Expr, clauses: &[Condition]) -> Result<Expr, AllocError>
+    ensures { IfOk result (λ e. e ≡ fold joined asked (map clause clauses.now)) }
+{
+    for clause in clauses {
+        let more = required(alloc, clause)?;
+        asked = join(alloc, asked, clause.place, more)?;
+    }
+    Ok(asked)
+}
+
+/// What a clause asks.
+fn required(alloc: Global, clause: &Condition) -> Result<Expr, AllocError>
+    ensures { IfOk result (λ e. e ≡ required clause.now.kind clause.now.place clause.now.body) }
+{
+    let body = try_clone(alloc, &clause.body)?;
+    match clause.kind {
+        ConditionKind::When => Ok(body),
+        ConditionKind::Unless => Ok(Expr::Unary(
+            clause.place,
+            UnaryOperator::Not,
+            Boxed::new(alloc, body)?,
+        )),
+    }
+}
