@@ -50,12 +50,17 @@ fn is_policy_on(bytes: &[u8], name: &str) -> bool
 fn is_declared(fields: &[(Text, Presence, Ty)], name: &Text) -> bool
     ensures { result ≡ list_any (bytes_eq name.now) (map (λ a. a.0) fields.now) }
 {
-    fields.iter().any(|field| name.is_same(&field.0))
+    for field in fields {
+        if name.is_same(&field.0) {
+            return true;
+        }
+    }
+    false
 }
 
 /// Whether a file is the text of no policy, or of the one on a declared attribute.
 pub fn is_form_of(bytes: &[u8], fields: &[(Text, Presence, Ty)], attribute: Option<&Text>) -> bool
-    ensures { IsTrue result ↔ IsFormOf (map (λ a. a.0) fields.now) bytes.now (option_copied attribute) }
+    ensures { IsTrue result ↔ IsFormOf (map (λ a. a.0) fields.now) bytes.now (option_copied attribute.entry) }
 {
     match attribute {
         Some(name) => is_form_on(bytes, fields, name),

@@ -99,7 +99,10 @@ fn attribute_of_policy(policy: &Policy) -> Option<&Text>
     let Some(clause) = only_clause(policy.conditions.as_slice()) else {
         return None;
     };
-    attribute_of_clause(clause)
+    match attribute_of_clause(clause) {
+        Some(name) => Some(name),
+        None => None,
+    }
 }
 
 /// The attribute that the one policy reads, or none where there is no policy; nothing where there
@@ -112,10 +115,10 @@ pub fn attribute_of(policies: &[Policy]) -> Option<Option<&Text>>
         return None;
     }
     match policies.first() {
-        Some(policy) => {
-            let name = attribute_of_policy(policy)?;
-            Some(Some(name))
-        }
+        Some(policy) => match attribute_of_policy(policy) {
+            Some(name) => Some(Some(name)),
+            None => None,
+        },
         None => Some(None),
     }
 }

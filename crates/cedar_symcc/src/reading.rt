@@ -96,7 +96,7 @@ fn attribute_in_form(
 }
 
 fn copy_of(alloc: Global, attribute: Option<&Text>) -> Result<Option<Text>, AllocError>
-    ensures { IfOk result (λ o. o ≡ option_copied attribute) }
+    ensures { IfOk result (λ o. o ≡ option_copied attribute.entry) }
 {
     match attribute {
         Some(name) => Ok(Some(name.try_clone(alloc)?)),
