@@ -2,7 +2,7 @@
 use Rattle.std.proofs.Common.{◌≡◌, ◌&&◌, ◌||◌, ◌++◌, ℕ, List, [], Bool, true, false, not, Option, Some, None, Ok, IsTrue, Contains, map, unwrap_or, if◌then◌else◌, refl, ap, sym, ◌∙◌, subst}
 use Rattle.sc_ast.specs.declared.expr.Expr.{Expr}
 use Rattle.sc_ast.specs.declared.expr.Expr.TheVariants.{Access, Literal, Variable}
-use Rattle.sc_ast.specs.declared.expr.Literal.TheVariants as literal
+use Rattle.sc_ast.specs.declared.literal.Literal.TheVariants as literal
 use Rattle.sc_ast.specs.declared.expr.Variable.TheVariants.{Context}
 use Rattle.sc_ast.specs.Literals.{expr_uids}
 use Rattle.sc_ast.proofs.LiteralsLaws.{uids_Access, uids_Variable}
