@@ -2,12 +2,13 @@
 use Rattle.std.proofs.Common.{◌≡◌, ◌&&◌, ◌||◌, ◌++◌, ℕ, List, [], Bool, true, false, not, Option, Some, None, Ok, IsTrue, Contains, map, unwrap_or, if◌then◌else◌, refl, ap, sym, ◌∙◌, subst}
 use Rattle.sc_ast.specs.declared.expr.Expr.{Expr}
 use Rattle.sc_ast.specs.declared.expr.Expr.TheVariants.{Access, Literal, Variable}
-use Rattle.sc_ast.specs.declared.expr.Literal.TheVariants as literal
+use Rattle.sc_ast.specs.declared.literal.Literal.TheVariants as literal
 use Rattle.sc_ast.specs.declared.expr.Variable.TheVariants.{Context}
 use Rattle.sc_ast.specs.Literals.{expr_uids}
 use Rattle.sc_ast.proofs.LiteralsLaws.{uids_Access, uids_Variable}
 use Rattle.sc_auth.specs.Decisions as auth
-use Rattle.sc_eval.specs.Operators.{Outcome, ◌>>=◌, decide, of_bool, bool_in, access, access_in, or_missing}
+use Rattle.sc_eval.specs.Outcomes.{Outcome, ◌>>=◌, decide, of_bool, bool_in}
+use Rattle.sc_eval.specs.Entities.{access, access_in, or_missing}
 use Rattle.sc_eval.specs.Eval.{eval}
 use Rattle.sc_eval.proofs.EvalLaws.{eval_And, eval_Access, eval_Literal, eval_Variable}
 use Rattle.sc_footprint.specs.declared.term.Term.{Term, out-Term, out-roll-Term}

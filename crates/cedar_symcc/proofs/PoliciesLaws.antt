@@ -1,49 +1,70 @@
--- The one policy among the declared attributes.
-use Rattle.std.proofs.Common.{◌≡◌, ◌+◌, ◌<◌, ◌||◌, ℕ, zero, suc, List, [], ◌∷◌, ◌++◌, map, Bool, true, false, Some, length, get_or, take, refl, subst, ⊎_elim, arith}
-use Rattle.std.specs.List.{AllByRecursion, list_any}
+-- Files that spell policies of another form.
+use Rattle.std.proofs.Common.{◌≡◌, ◌≢◌, ℕ, List, [], ◌∷◌, ◌||◌, map, slice_get, Option, Some, None, Ok, refl, ap, sym, ◌∙◌, subst}
+use Rattle.std.specs.List.{list_any}
 use Rattle.std.specs.Str.{bytes_eq}
-use Rattle.std.proofs.lemmas.List.{take_more}
 use Rattle.sc_lists.specs.declared.text.Text.{Text}
 use Rattle.sc_schema.specs.declared.ty.Presence.{Presence}
 use Rattle.sc_schema.specs.declared.ty.Ty.{Ty}
-use Rattle.sc_solver.proofs.ContextLaws.{same_text, text_itself, or_cases}
-use Rattle.cedar_symcc.specs.Policies.{IsPolicyOn, SpellsPolicies}
+use Rattle.sc_ast.specs.declared.expr.Expr.{Expr, Expr-F, out-Expr, out-roll-Expr}
+use Rattle.sc_ast.specs.declared.expr.Expr.TheOpen as e
+use Rattle.sc_ast.specs.declared.expr.Expr.TheVariants.{Variable, rolls-Access}
+use Rattle.sc_ast.specs.declared.expr.Variable.TheVariants.{Context}
+use Rattle.sc_ast.specs.declared.policy.Condition.{Condition}
+use Rattle.sc_ast.specs.declared.policy.Policy.{Policy}
+use Rattle.sc_parser.specs.Spelling.{Spells, spelled}
+use Rattle.sc_parser.proofs.ReadingLaws.{one_reading}
+use Rattle.cedar_symcc.specs.Policies.{at, attribute_at, policy_on, policies_of, IsFormOf, SpellsPolicies}
+use Rattle.cedar_symcc.specs.Refusals.{SpellsOthers}
+
+same-policies : {bytes : List ℕ} {ps qs : List Policy} → Spells bytes ps → Spells bytes qs → ps ≡ qs
+same-policies {bytes = bytes} {ps = ps} {qs = qs} a b = let same = one_reading bytes (Ok ps) (Ok qs) (spelled ps a) (spelled qs b) in cc
+
+name_in : Expr-F Expr → List ℕ
+name_in (e.Access place a n) = n
+name_in _ = []
+
+body_in : List Condition → Expr
+body_in [] = attribute_at []
+body_in (c ∷ cs) = c.body
+
+body_of : List Policy → Expr
+body_of [] = attribute_at []
+body_of (p ∷ ps) = body_in p.conditions
+
+name-in : (n : List ℕ) → name_in (out-Expr (attribute_at n)) ≡ n
+unfolding name_in
+name-in n = ap (λ x. name_in (out-Expr x)) (sym (rolls-Access (at 50) (Variable (at 43) Context) n)) ∙ ap name_in (out-roll-Expr (e.Access (at 50) (Variable (at 43) Context) n))
+
+one-name : (n q : List ℕ) → policies_of (Some n) ≡ policies_of (Some q) → n ≡ q
+unfolding body_of body_in
+one-name n q e = sym (name-in n) ∙ ap (λ ps. name_in (out-Expr (body_of ps))) e ∙ name-in q
+
+one-attribute : (o p : Option (List ℕ)) → policies_of o ≡ policies_of p → o ≡ p
+one-attribute None None e = cc
+one-attribute None (Some q) e = absurd cc
+one-attribute (Some n) None e = absurd cc
+one-attribute (Some n) (Some q) e = ap Some (one-name n q e)
+
+-- the policies are of no form that is served
+pub others_by_tree : {declared : List (List ℕ)} {bytes : List ℕ} {ps : List Policy} → Spells bytes ps → ((o : Option (List ℕ)) → ps ≢ policies_of o) → SpellsOthers declared bytes
+others_by_tree {ps = ps} s none = record { policies = ps; spelled = s; none = λ o h. none o (same-policies s h.spelled) }
+
+-- they are, but the file's text isn't theirs
+pub others_by_text : {declared : List (List ℕ)} {bytes : List ℕ} {ps : List Policy} (o : Option (List ℕ)) → Spells bytes ps → ps ≡ policies_of o → (IsFormOf declared bytes o → ⊥) → SpellsOthers declared bytes
+others_by_text {declared = declared} {bytes = bytes} {ps = ps} o s is none =
+    record { policies = ps; spelled = s; none = λ p h. none (subst (IsFormOf declared bytes) (one-attribute p o (sym (same-policies s h.spelled) ∙ is)) h.form) }
+
+-- the first policy isn't the one on an attribute
+pub none-of : (ps : List Policy) (p : Policy) → slice_get ps 0 ≡ Some p → ((name : List ℕ) → p ≢ policy_on name) → (o : Option (List ℕ)) → ps ≢ policies_of o
+none-of ps p first none None e = absurd (let no : slice_get [] 0 ≡ Some p = ap (λ xs. slice_get xs 0) (sym e) ∙ first in cc)
+none-of ps p first none (Some name) e = none name (let same : Some p ≡ Some (policy_on name) = sym first ∙ ap (λ xs. slice_get xs 0) e in cc)
+
+-- ---- declared attributes
 
 abbrev pub Field : Type 0
 Field = Text × Presence × Ty
 
-abbrev pub names : List Field → List (List ℕ)
-names fields = map (λ (a : Field). a.0) fields
-
-abbrev pub NoneOn : List ℕ → List Field → Type 0
-NoneOn bytes fields = AllByRecursion (λ (a : Field). IsPolicyOn bytes a.0 → ⊥) fields
-
-all-push : (P : Field → Type 0) (xs : List Field) (x : Field) → AllByRecursion P xs → P x → AllByRecursion P (xs ++ x ∷ [])
-all-push P [] x h p = (p, tt)
-all-push P (y ∷ xs) x h p = (h.0, all-push P xs x h.1 p)
-
--- one more attribute that isn't the policy's
-pub none-more : (bytes : List ℕ) (fields : List Field) (i : ℕ) (d : Field) → i < length fields → NoneOn bytes (take i fields) → (IsPolicyOn bytes (get_or fields i d).0 → ⊥) → NoneOn bytes (take (i + 1) fields)
-none-more bytes fields i d h before here = rw (take_more fields i d h) (all-push (λ (a : Field). IsPolicyOn bytes a.0 → ⊥) (take i fields) (get_or fields i d) before here)
-
--- no declared attribute is the policy's
-pub none-on : (bytes : List ℕ) (fields : List Field) → NoneOn bytes fields → (name : List ℕ) → SpellsPolicies (names fields) bytes (Some name) → ⊥
-none-on bytes [] h name s = absurd (let e = s.0 in cc)
-none-on bytes (a ∷ fields) h name s =
-    ⊎_elim (λ (e : bytes_eq name a.0 ≡ true). h.0 (subst (IsPolicyOn bytes) (same_text name a.0 e) s.1))
-    (λ (e : list_any (bytes_eq name) (names fields) ≡ true). none-on bytes fields h.1 name (e, s.1))
-    (or_cases (bytes_eq name a.0) (list_any (bytes_eq name) (names fields)) s.0)
-
-or_left : (a b : Bool) → a ≡ true → a || b ≡ true
-or_left true b e = refl
-or_left false b e = absurd cc
-
-or_right : (a b : Bool) → b ≡ true → a || b ≡ true
-or_right true b e = refl
-or_right false b e = e
-
--- an attribute of the list is declared
-pub among : (fields : List Field) (i : ℕ) (d : Field) → i < length fields → list_any (bytes_eq (get_or fields i d).0) (names fields) ≡ true
-among [] i d h = absurd (omega arith)
-among (a ∷ fields) zero d h = or_left _ _ (text_itself a.0)
-among (a ∷ fields) (suc i) d h = or_right _ _ (among fields i d (omega arith))
+-- a name among those of fields
+pub any-names : (name : List ℕ) (fields : List Field) → list_any (bytes_eq name) (map (λ (a : Field). a.0) fields) ≡ list_any (λ (a : Field). bytes_eq name a.0) fields
+any-names name [] = refl
+any-names name (a ∷ fields) = ap (λ b. bytes_eq name a.0 || b) (any-names name fields)

@@ -7,10 +7,11 @@ use Rattle.cedar_symcc.specs.Readings.{FailsSchema, FailsWith, RefusesFiles}
 use Rattle.cedar_symcc.specs.Refusals.{Content, IsContent}
 use Rattle.cedar_symcc.specs.declared.refusal.FileName.TheVariants.{Schema, Policies}
 use Rattle.cedar_symcc.specs.declared.refusal.Refusal.{Refusal}
-use Rattle.cedar_symcc.specs.declared.refusal.Refusal.TheVariants.{Usage, ReadFault, TooLong, NotForm}
+use Rattle.cedar_symcc.specs.declared.refusal.Refusal.TheVariants.{Usage, PolicyText, ReadFault, TooLong, NotForm}
 
 pub schema-fails : (content : Content) (c : Command) (rose : Type 0) (bytes : List ℕ) → IsContent content c.schema bytes → (f : Fault Refusal) → FailsSchema bytes f → FailsWith (RefusesFiles content c rose) f
 schema-fails content c rose bytes told (Told Usage) h = absurd h
+schema-fails content c rose bytes told (Told (PolicyText f)) h = absurd h
 schema-fails content c rose bytes told (Told (ReadFault f)) h = absurd h
 schema-fails content c rose bytes told (Told (TooLong f)) h = absurd h
 schema-fails content c rose bytes told (Told (NotForm Schema)) h = (bytes, told, h)

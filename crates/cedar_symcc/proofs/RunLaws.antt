@@ -1,17 +1,21 @@
 -- What a run's end tells.
-use Rattle.std.proofs.Common.{◌≡◌, ◌≤◌, ◌<◌, ◌||◌, ℕ, zero, suc, List, [], ◌∷◌, map, Bool, true, false, Option, Some, length, Contains, refl, sym, ap, ◌∙◌, subst, arith, ⊎_elim, inl, inr, ◌⊎◌, if◌then◌else◌}
+use Rattle.std.proofs.Common.{◌≡◌, ◌≤◌, ◌<◌, ◌||◌, ℕ, zero, suc, List, [], ◌∷◌, map, Bool, true, false, Option, Some, Ok, Err, length, Contains, refl, sym, ap, ◌∙◌, subst, arith, ⊎_elim, inl, inr, ◌⊎◌, if◌then◌else◌}
 use Rattle.std.specs.List.{AllByRecursion, list_any}
 use Rattle.sc_schema.specs.declared.declarations.Env.{Env}
 use Rattle.sc_schema.specs.Declarations.{Declarations}
 use Rattle.sc_schema_json.specs.Form.{SpellsSchema}
 use Rattle.sc_schema_json.proofs.FormLaws.{SpellsOne-any}
+use Rattle.sc_ast.specs.declared.policy.Policy.{Policy}
+use Rattle.sc_parser.specs.declared.fault.PolicyFault.{PolicyFault}
+use Rattle.sc_parser.specs.Spelling.{Spells, HasFault, spelled, faulty}
+use Rattle.sc_parser.proofs.ReadingLaws.{one_reading}
 use Rattle.sc_world.specs.declared.world.World.{World}
 use Rattle.cedar_symcc.specs.Commands.{Command, Commands, words_of}
-use Rattle.cedar_symcc.specs.Policies.{SpellsPolicies, declared_names}
+use Rattle.cedar_symcc.specs.Policies.{SpellsPolicies, policies_of, declared_names}
 use Rattle.cedar_symcc.specs.Progress.{Reported, whole, cut, cut_none, stopped}
-use Rattle.cedar_symcc.specs.Refusals.{Refusal, usage, read_fault, too_long, not_form, schema_file, policies_file, IsRefusal, code_of, Content, IsContent, IsTooLong, ReadsSchema, limit}
+use Rattle.cedar_symcc.specs.Refusals.{Refusal, usage, policy_text, read_fault, too_long, not_form, schema_file, policies_file, IsRefusal, code_of, Content, IsContent, IsTooLong, ReadsSchema, limit}
 use Rattle.cedar_symcc.specs.Reports.{Asked, Line, Verdict, holds, counterexample, IsLine, AlwaysHas, Violates, is_counterexample, status_of}
-use Rattle.cedar_symcc.specs.Runs.{Run, Ends, refused, refusal_cut, reported, no_memory, asked, ReadsAll, Refuses, AllHold, SomeFails, IsReadable, IsWhole, MustBe, TooLong, schema_long, policies_long, NotForm, schema_not, policies_not, SchemaTold, PoliciesTold, SchemaIsLong, SchemaIsNot, PoliciesAreLong, PoliciesAreNot}
+use Rattle.cedar_symcc.specs.Runs.{Run, Ends, refused, refusal_cut, reported, no_memory, asked, ReadsAll, Refuses, AllHold, SomeFails, IsReadable, IsWhole, MustBe, TooLong, schema_long, policies_long, NotForm, schema_not, policies_not, SchemaTold, PoliciesTold, SchemaIsLong, SchemaIsNot, PoliciesAreLong, PoliciesAreNot, PoliciesAreFaulty, IsFaulty}
 
 pub refusal-ends : (r : Run) (a : Refusal) → IsRefusal r.content r.words r.read_rose a → Refuses a r.before r.after r.write_rose r.code → Ends r
 refusal-ends r a h e = ⊎_elim (λ w. refused a h w.0 w.1) (λ s. ⊎_elim (λ f. refusal_cut a f.2.0 h f.0 f.1 f.2.1) (λ m. no_memory m.0 m.1) s) e
@@ -41,18 +45,21 @@ status-code lines code c = ⊎_elim (λ h. inl (c ∙ h)) (λ h. inr (c ∙ h)) 
 
 refusal-code : (a : Refusal) (n : ℕ) → code_of a ≡ n → 10 ≤ n
 refusal-code usage n e = omega arith
+refusal-code (policy_text f) n e = omega arith
 refusal-code (read_fault f) n e = omega arith
 refusal-code (too_long f) n e = omega arith
 refusal-code (not_form f) n e = omega arith
 
 refusal-below : (a : Refusal) (n : ℕ) → code_of a ≡ n → n < 30
 refusal-below usage n e = omega arith
+refusal-below (policy_text f) n e = omega arith
 refusal-below (read_fault f) n e = omega arith
 refusal-below (too_long f) n e = omega arith
 refusal-below (not_form f) n e = omega arith
 
 refusal-not-21 : (a : Refusal) → code_of a ≡ 21 → ⊥
 refusal-not-21 usage e = omega arith
+refusal-not-21 (policy_text f) e = omega arith
 refusal-not-21 (read_fault f) e = omega arith
 refusal-not-21 (too_long f) e = omega arith
 refusal-not-21 (not_form f) e = omega arith
@@ -158,6 +165,7 @@ by-code r n (no_memory c t) e l f g = absurd (g (sym e ∙ c))
 
 usage-case : (content : Content) (words : List (List ℕ)) (rose : Type 0) (a : Refusal) → IsRefusal content words rose a → 10 ≡ code_of a → (c : Command) → Commands words c → ⊥
 usage-case content words rose usage i e = i
+usage-case content words rose (policy_text f) i e = absurd (omega arith)
 usage-case content words rose (read_fault f) i e = absurd (omega arith)
 usage-case content words rose (too_long f) i e = absurd (omega arith)
 usage-case content words rose (not_form f) i e = absurd (omega arith)
@@ -167,6 +175,7 @@ no-command r ends e = let w = by-code r 10 ends e (omega arith) (λ h. omega (ar
 
 fault-case : (content : Content) (words : List (List ℕ)) (rose : Type 0) (a : Refusal) → IsRefusal content words rose a → 20 ≡ code_of a → rose
 fault-case content words rose usage i e = absurd (omega arith)
+fault-case content words rose (policy_text f) i e = absurd (omega arith)
 fault-case content words rose (read_fault schema_file) i e = i.2
 fault-case content words rose (read_fault policies_file) i e = i.3
 fault-case content words rose (too_long f) i e = absurd (omega arith)
@@ -189,6 +198,7 @@ write-rose r (no_memory c t) e = absurd (omega (arith, c, e))
 
 long-case : (r : Run) (a : Refusal) → IsRefusal r.content r.words r.read_rose a → 22 ≡ code_of a → TooLong r
 long-case r usage i e = absurd (omega arith)
+long-case r (policy_text f) i e = absurd (omega arith)
 long-case r (read_fault f) i e = absurd (omega arith)
 long-case r (too_long schema_file) i e = schema_long i.0 i.1 i.2
 long-case r (too_long policies_file) i e = policies_long i.0 i.1 i.2.0 i.2.1 i.3
@@ -199,6 +209,7 @@ is-too-long r ends e = let w = by-code r 22 ends e (omega arith) (λ h. omega (a
 
 form-case : (r : Run) (a : Refusal) → IsRefusal r.content r.words r.read_rose a → 15 ≡ code_of a → NotForm r
 form-case r usage i e = absurd (omega arith)
+form-case r (policy_text f) i e = absurd (omega arith)
 form-case r (read_fault f) i e = absurd (omega arith)
 form-case r (too_long f) i e = absurd (omega arith)
 form-case r (not_form schema_file) i e = schema_not i.0 i.1 i.2.0 i.2.1 i.2.2
@@ -206,6 +217,20 @@ form-case r (not_form policies_file) i e = policies_not i.0 i.1 i.2.0 i.2.1 i.2.
 
 pub is-not-form : (r : Run) → Ends r → r.code ≡ 15 → NotForm r
 is-not-form r ends e = let w = by-code r 15 ends e (omega arith) (λ h. omega (arith, h)) (λ h. omega (arith, h)) in form-case r w.refusal w.is w.code
+
+text-case : (r : Run) (a : Refusal) → IsRefusal r.content r.words r.read_rose a → 11 ≡ code_of a → IsFaulty r
+text-case r usage i e = absurd (omega arith)
+text-case r (policy_text f) i e = record { command = i.0; commands = i.1; schema = i.2.0; reads = i.2.1; bytes = i.3.0; told = i.3.1; fault = f; has = i.3.2 }
+text-case r (read_fault f) i e = absurd (omega arith)
+text-case r (too_long f) i e = absurd (omega arith)
+text-case r (not_form f) i e = absurd (omega arith)
+
+pub is-faulty : (r : Run) → Ends r → r.code ≡ 11 → IsFaulty r
+is-faulty r ends e = let w = by-code r 11 ends e (omega arith) (λ h. omega (arith, h)) (λ h. omega (arith, h)) in text-case r w.refusal w.is w.code
+
+-- bytes that spell policies have no fault
+not-both : {bytes : List ℕ} {ps : List Policy} {f : PolicyFault} → Spells bytes ps → HasFault bytes f → ⊥
+not-both {bytes = bytes} {ps = ps} {f = f} s h = let same = one_reading bytes (Ok ps) (Err f) (spelled ps s) (faulty f h) in absurd cc
 
 -- ---- the words and the files determine what is read
 
@@ -246,6 +271,7 @@ module _ (r : Run) where
 
   unusable-case : ((c : Command) → Commands r.words c → ⊥) → (a : Refusal) → IsRefusal r.content r.words r.read_rose a → code_of a ≡ 10
   unusable-case none usage i = refl
+  unusable-case none (policy_text f) i = absurd (none i.0 i.1)
   unusable-case none (read_fault schema_file) i = absurd (none i.0 i.1)
   unusable-case none (read_fault policies_file) i = absurd (none i.0 i.1)
   unusable-case none (too_long schema_file) i = absurd (none i.0 i.1)
@@ -263,6 +289,7 @@ module _ (r : Run) where
 
   schema-long-case : (t : SchemaTold r) → limit < length t.bytes → (r.read_rose → ⊥) → (a : Refusal) → IsRefusal r.content r.words r.read_rose a → code_of a ≡ 22
   schema-long-case t long calm usage i = absurd (i t.command t.commands)
+  schema-long-case t long calm (policy_text f) i = absurd (long-unread t long i.0 i.1 i.2.1.bytes i.2.1.told)
   schema-long-case t long calm (read_fault schema_file) i = absurd (calm i.2)
   schema-long-case t long calm (read_fault policies_file) i = absurd (calm i.3)
   schema-long-case t long calm (too_long f) i = refl
@@ -279,6 +306,7 @@ module _ (r : Run) where
 
   schema-not-case : SchemaIsNot r → (r.read_rose → ⊥) → (a : Refusal) → IsRefusal r.content r.words r.read_rose a → code_of a ≡ 15
   schema-not-case x calm usage i = absurd (i x.0.command x.0.commands)
+  schema-not-case x calm (policy_text f) i = absurd (not-read x i.0 i.1 i.2.0 i.2.1)
   schema-not-case x calm (read_fault schema_file) i = absurd (calm i.2)
   schema-not-case x calm (read_fault policies_file) i = absurd (calm i.3)
   schema-not-case x calm (too_long schema_file) i = absurd (omega (arith, x.1, long-is r.content i.0.schema x.0.bytes (schema-at i.0 x.0.command x.0.bytes x.0.commands x.0.told i.1) i.2))
@@ -307,6 +335,7 @@ module _ (r : Run) where
 
   policies-long-case : (t : PoliciesTold r) → limit < length t.bytes → (r.read_rose → ⊥) → (a : Refusal) → IsRefusal r.content r.words r.read_rose a → code_of a ≡ 22
   policies-long-case t long calm usage i = absurd (i t.command t.commands)
+  policies-long-case t long calm (policy_text f) i = absurd (omega (arith, long, (policies-content t i.0 i.1 i.3.0 i.3.1).1))
   policies-long-case t long calm (read_fault schema_file) i = absurd (calm i.2)
   policies-long-case t long calm (read_fault policies_file) i = absurd (calm i.3)
   policies-long-case t long calm (too_long f) i = refl
@@ -319,6 +348,7 @@ module _ (r : Run) where
 
   policies-not-case : (x : PoliciesAreNot r) → (r.read_rose → ⊥) → (a : Refusal) → IsRefusal r.content r.words r.read_rose a → code_of a ≡ 15
   policies-not-case x calm usage i = absurd (i x.0.command x.0.commands)
+  policies-not-case x calm (policy_text f) i = absurd (not-both x.2.spelled (subst (λ b. HasFault b f) (policies-content x.0 i.0 i.1 i.3.0 i.3.1).0 i.3.2))
   policies-not-case x calm (read_fault schema_file) i = absurd (calm i.2)
   policies-not-case x calm (read_fault policies_file) i = absurd (calm i.3)
   policies-not-case x calm (too_long schema_file) i = absurd (no-long-schema x.0 i.0 i.1 i.2)
@@ -330,10 +360,31 @@ module _ (r : Run) where
   policies-unread x s o reads =
       let same = one-schema x.0 reads.command reads.commands s reads.schema in
       let bytes = (policies-content x.0 reads.command reads.commands reads.policies.bytes reads.policies.told).0 in
-      x.2 o (subst (λ b. SpellsPolicies (declared_names x.0.schema) b o) bytes (subst (λ d. SpellsPolicies (declared_names d) reads.policies.bytes o) same reads.policies.spelled))
+      x.2.none o (subst (λ b. SpellsPolicies (declared_names x.0.schema) b o) bytes (subst (λ d. SpellsPolicies (declared_names d) reads.policies.bytes o) same reads.policies.spelled))
 
   pub policies-are-not : Ends r → PoliciesAreNot r → (r.read_rose → ⊥) → MustBe 15 r.code
   policies-are-not ends x calm = must-be 15 ends (policies-not-case x calm) (policies-unread x)
+
+  -- ---- a policy file that spells nothing
+
+  faulty-case : (x : PoliciesAreFaulty r) → (r.read_rose → ⊥) → (a : Refusal) → IsRefusal r.content r.words r.read_rose a → code_of a ≡ 11
+  faulty-case x calm usage i = absurd (i x.0.command x.0.commands)
+  faulty-case x calm (policy_text f) i = refl
+  faulty-case x calm (read_fault schema_file) i = absurd (calm i.2)
+  faulty-case x calm (read_fault policies_file) i = absurd (calm i.3)
+  faulty-case x calm (too_long schema_file) i = absurd (no-long-schema x.0 i.0 i.1 i.2)
+  faulty-case x calm (too_long policies_file) i =
+      absurd (omega (arith, x.1, long-is r.content i.0.policies x.0.bytes (policies-at i.0 x.0.command x.0.bytes x.0.commands x.0.told i.1) i.3))
+  faulty-case x calm (not_form schema_file) i = absurd (no-other-schema x.0 i.0 i.1 i.2.0 i.2.1 i.2.2)
+  faulty-case x calm (not_form policies_file) i =
+      absurd (not-both (subst (λ b. Spells b i.2.2.2.policies) (policies-content x.0 i.0 i.1 i.2.2.0 i.2.2.1).0 i.2.2.2.spelled) x.2.1)
+
+  faulty-unread : (x : PoliciesAreFaulty r) → (s : Declarations) (o : Option (List ℕ)) → ReadsAll r.content r.words s o → ⊥
+  faulty-unread x s o reads =
+      not-both (subst (λ b. Spells b (policies_of o)) (policies-content x.0 reads.command reads.commands reads.policies.bytes reads.policies.told).0 reads.policies.spelled.spelled) x.2.1
+
+  pub policies-are-faulty : Ends r → PoliciesAreFaulty r → (r.read_rose → ⊥) → MustBe 11 r.code
+  policies-are-faulty ends x calm = must-be 11 ends (faulty-case x calm) (faulty-unread x)
 
   -- ---- where all is readable
 
@@ -353,6 +404,8 @@ module _ (r : Run) where
   none-refused : (x : IsReadable r) → (r.read_rose → ⊥) → (a : Refusal) → IsRefusal r.content r.words r.read_rose a → ⊥
   unfolding told_of
   none-refused x calm usage i = i x.command x.commands
+  none-refused x calm (policy_text f) i =
+      not-both x.policies_spelled.spelled (subst (λ b. HasFault b f) (policies-content (told_of x) i.0 i.1 i.3.0 i.3.1).0 i.3.2)
   none-refused x calm (read_fault schema_file) i = calm i.2
   none-refused x calm (read_fault policies_file) i = calm i.3
   none-refused x calm (too_long schema_file) i = no-long-schema (told_of x) i.0 i.1 i.2
@@ -362,7 +415,7 @@ module _ (r : Run) where
   none-refused x calm (not_form policies_file) i =
       let same = one-schema (told_of x) i.0 i.1 i.2.0 i.2.1 in
       let bytes = (policies-content (told_of x) i.0 i.1 i.2.2.0 i.2.2.1).0 in
-      i.2.2.2 x.policies (subst (λ b. SpellsPolicies (declared_names i.2.0) b x.policies) (sym bytes) (subst (λ d. SpellsPolicies (declared_names d) x.policy_bytes x.policies) (sym same) x.policies_spelled))
+      i.2.2.2.none x.policies (subst (λ b. SpellsPolicies (declared_names i.2.0) b x.policies) (sym bytes) (subst (λ d. SpellsPolicies (declared_names d) x.policy_bytes x.policies) (sym same) x.policies_spelled))
 
   reported-whole : (q : Asked) (code : ℕ) → Reported q r.before r.after r.write_rose code → (r.write_rose → ⊥) → IsWhole code
   reported-whole q code (whole lines report c text) calm = ⊎_elim (λ (h : code ≡ 0). inl h) (λ (h : code ≡ 1). inr (inl h)) (status-code lines code c)

@@ -7,3 +7,4 @@ pub mod Runs
 pub mod Analyses
 pub mod Readings
 pub mod View
+pub mod FaultTexts

@@ -3,13 +3,20 @@ use Rattle.std.specs.Prelude.{◌≡◌, ◌⊎◌, ℕ, List, [], ◌∷◌, �
 use Rattle.std.specs.List.{list_any}
 use Rattle.std.specs.Str.{bytes_eq}
 use Rattle.sc_ast.specs.declared.place.Place.{Place}
+use Rattle.sc_ast.specs.declared.expr.Expr.{Expr}
 use Rattle.sc_ast.specs.declared.expr.Expr.TheVariants.{Access, Variable}
 use Rattle.sc_ast.specs.declared.expr.Variable.TheVariants.{Context}
 use Rattle.sc_ast.specs.declared.policy.Effect.TheVariants.{Permit}
 use Rattle.sc_ast.specs.declared.policy.ConditionKind.TheVariants.{When}
+use Rattle.sc_ast.specs.declared.policy.Condition.{Condition}
 use Rattle.sc_ast.specs.declared.policy.Policy.{Policy}
+use Rattle.sc_ast.specs.declared.scope.ActionConstraint.TheVariants as action
+use Rattle.sc_ast.specs.declared.scope.ActionScope.{ActionScope}
+use Rattle.sc_ast.specs.declared.scope.Constraint.TheVariants.{Any}
+use Rattle.sc_ast.specs.declared.scope.Scope.{Scope}
 use Rattle.sc_footprint.specs.Problems.{names_in}
 use Rattle.sc_names.specs.Names.{is_ident}
+use Rattle.sc_parser.specs.Spelling.{Spells}
 use Rattle.sc_schema.specs.declared.ty.Ty.{out-Ty}
 use Rattle.sc_schema.specs.declared.declarations.Action.{Action}
 use Rattle.sc_schema.specs.Declarations.{Declarations}
@@ -29,23 +36,62 @@ IsPolicyText bytes name = (end : List ℕ) × IsPolicyEnd end × (bytes ≡ poli
 abbrev pub IsPolicyOn : List ℕ → List ℕ → Type 0
 IsPolicyOn bytes name = (is_ident name ≡ true) × IsPolicyText bytes name
 
--- the bytes spell no policy, or the one that reads a declared attribute
-abbrev pub SpellsPolicies : List (List ℕ) → List ℕ → Option (List ℕ) → Type 0
-SpellsPolicies declared bytes None = bytes ≡ []
-SpellsPolicies declared bytes (Some name) = (list_any (bytes_eq name) declared ≡ true) × IsPolicyOn bytes name
+-- the bytes are none, or the text of the policy on a declared attribute
+abbrev pub IsFormOf : List (List ℕ) → List ℕ → Option (List ℕ) → Type 0
+IsFormOf declared bytes None = bytes ≡ []
+IsFormOf declared bytes (Some name) = (list_any (bytes_eq name) declared ≡ true) × IsPolicyOn bytes name
 
 abbrev pub at : ℕ → Place
 at offset = record { offset = offset }
 
+-- the part of a scope at this place that asks nothing
+abbrev pub bare : ℕ → Scope
+bare offset = record { place = at offset; constraint = Any }
+
+abbrev pub bare_action : ℕ → ActionScope
+bare_action offset = record { place = at offset; constraint = action.Any }
+
+abbrev pub IsBare : Scope → ℕ → Type 0
+IsBare s offset = s ≡ bare offset
+
+abbrev pub IsBareAction : ActionScope → ℕ → Type 0
+IsBareAction s offset = s ≡ bare_action offset
+
+-- `context.name`, with the context at byte 43 of the file
+abbrev pub attribute_at : List ℕ → Expr
+attribute_at name = Access (at 50) (Variable (at 43) Context) name
+
+abbrev pub clause_on : List ℕ → Condition
+clause_on name = record { place = at 36; kind = When; body = attribute_at name }
+
 -- `permit(principal, action, resource) when { context.name };`
 abbrev pub policy_on : List ℕ → Policy
-policy_on name =
-    record { place = at 0; effect = Permit; conditions = record { place = at 36; kind = When; body = Access (at 50) (Variable (at 43) Context) name } ∷ [] }
+policy_on name = record {
+  place = at 0;
+  effect = Permit;
+  principal = bare 7;
+  action = bare_action 18;
+  resource = bare 26;
+  conditions = clause_on name ∷ [];
+}
+
+-- all of it but the clauses
+pub record HasPlainHead (p : Policy) : Type 0 where
+  pub place : p.place ≡ at 0
+  pub effect : p.effect ≡ Permit
+  pub principal : IsBare p.principal 7
+  pub action : IsBareAction p.action 18
+  pub resource : IsBare p.resource 26
 
 -- the policies
 abbrev pub policies_of : Option (List ℕ) → List Policy
 policies_of None = []
 policies_of (Some name) = policy_on name ∷ []
+
+-- the bytes spell the policies, and they are of the form
+pub record SpellsPolicies (declared : List (List ℕ)) (bytes : List ℕ) (o : Option (List ℕ)) : Type 0 where
+  pub form : IsFormOf declared bytes o
+  pub spelled : Spells bytes (policies_of o)
 
 -- the attributes of the context of requests for the first action
 abbrev pub first_context : List Action → List (List ℕ)

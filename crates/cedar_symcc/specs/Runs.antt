@@ -6,11 +6,13 @@ use Rattle.sc_goal.specs.declared.question.Question.TheVariants.{AlwaysDenies}
 use Rattle.sc_schema.specs.declared.declarations.Env.{Env}
 use Rattle.sc_schema.specs.Declarations.{Declarations, environments}
 use Rattle.sc_schema_json.specs.Form.{SpellsSchema}
+use Rattle.sc_parser.specs.declared.fault.PolicyFault.{PolicyFault}
+use Rattle.sc_parser.specs.Spelling.{HasFault}
 use Rattle.sc_world.specs.declared.world.World.{World}
 use Rattle.cedar_symcc.specs.Commands.{Command, Commands}
 use Rattle.cedar_symcc.specs.Policies.{SpellsPolicies, policies_of, declared_names}
 use Rattle.cedar_symcc.specs.Progress.{Reported}
-use Rattle.cedar_symcc.specs.Refusals.{Refusal, IsRefusal, code_of, refusal_text, Content, IsContent, IsTooLong, ReadsSchema, ReadsPolicies, limit}
+use Rattle.cedar_symcc.specs.Refusals.{Refusal, IsRefusal, code_of, refusal_text, Content, IsContent, IsTooLong, ReadsSchema, ReadsPolicies, SpellsOthers, limit}
 use Rattle.cedar_symcc.specs.Reports.{Asked, Line, counterexample, IsReport, AlwaysHas, Violates, report_text}
 
 -- What a run sees and does: what the files hold, the words, whether the counts of faults rose, what was written before it
@@ -103,7 +105,18 @@ pub data TooLong (r : Run) : Type 0 where
 pub data NotForm (r : Run) : Type 0 where
   schema_not : (c : Command) → Commands r.words c → (bytes : List ℕ) → IsContent r.content c.schema bytes → ((s : Declarations) → SpellsSchema bytes s → ⊥) → NotForm r
   policies_not : (c : Command) → Commands r.words c → (s : Declarations) → ReadsSchema r.content c s → (bytes : List ℕ) → IsContent r.content c.policies bytes
-      → ((o : Option (List ℕ)) → SpellsPolicies (declared_names s) bytes o → ⊥) → NotForm r
+      → SpellsOthers (declared_names s) bytes → NotForm r
+
+-- the policy file of the command spells no policies, its first fault is told, and the files before it are read
+pub record IsFaulty (r : Run) : Type 0 where
+  pub command : Command
+  pub commands : Commands r.words command
+  pub schema : Declarations
+  pub reads : ReadsSchema r.content command schema
+  pub bytes : List ℕ
+  pub told : IsContent r.content command.policies bytes
+  pub fault : PolicyFault
+  pub has : HasFault bytes fault
 
 -- the words are a command whose schema file is told
 pub record SchemaTold (r : Run) : Type 0 where
@@ -134,7 +147,10 @@ abbrev pub PoliciesAreLong : Run → Type 0
 PoliciesAreLong r = (t : PoliciesTold r) × (limit < length t.bytes)
 
 abbrev pub PoliciesAreNot : Run → Type 0
-PoliciesAreNot r = (t : PoliciesTold r) × (length t.bytes ≤ limit) × ((o : Option (List ℕ)) → SpellsPolicies (declared_names t.schema) t.bytes o → ⊥)
+PoliciesAreNot r = (t : PoliciesTold r) × (length t.bytes ≤ limit) × SpellsOthers (declared_names t.schema) t.bytes
+
+abbrev pub PoliciesAreFaulty : Run → Type 0
+PoliciesAreFaulty r = (t : PoliciesTold r) × (length t.bytes ≤ limit) × ((f : PolicyFault) × HasFault t.bytes f)
 
 -- how a refusal ends: its line is written whole, or a front of it, or memory runs out and nothing is written
 abbrev pub Refuses : Refusal → Option (List ℕ) → Option (List ℕ) → Type 0 → ℕ → Type 0

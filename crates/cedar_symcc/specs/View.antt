@@ -16,6 +16,7 @@ file_view file.Policies = spec.policies_file
 
 abbrev pub refusal_view : Refusal → spec.Refusal
 refusal_view refusal.Usage = spec.usage
+refusal_view (refusal.PolicyText f) = spec.policy_text f
 refusal_view (refusal.ReadFault f) = spec.read_fault (file_view f)
 refusal_view (refusal.TooLong f) = spec.too_long (file_view f)
 refusal_view (refusal.NotForm f) = spec.not_form (file_view f)

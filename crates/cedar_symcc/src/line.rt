@@ -4,7 +4,7 @@ ghost use Rattle.cedar_symcc.specs.Reports.{env_text, verdict_text, line_text};
 ghost use Rattle.cedar_symcc.specs.View.{verdict_view, IsPrintable};
 
 use crate::analysing::EnvAnswer;
-use crate::refusal::put;
+use crate::put::put;
 use sc_names::uid_text;
 use sc_schema::Env;
 use sc_world_json::world_text;

@@ -2,8 +2,11 @@
 #![tactic(auto)]
 
 mod analysing;
+mod fault_text;
+mod form;
 mod line;
 mod policies;
+mod put;
 mod reading;
 mod refusal;
 mod reporting;

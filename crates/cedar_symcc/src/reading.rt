@@ -4,7 +4,9 @@ ghost use Rattle.sc_outside.specs.Counts.{Rose};
 ghost use Rattle.sc_schema.specs.Declarations.{Declarations};
 ghost use Rattle.sc_footprint.specs.Problems.{names_in};
 ghost use Rattle.sc_schema.specs.declared.ty.Ty.{out-Ty};
+ghost use Rattle.sc_parser.specs.Spelling.{Spells};
 ghost use Rattle.sc_schema.specs.Plain.{IsPlain};
+ghost use Rattle.std.specs.Option.{option_copied};
 ghost use Rattle.sc_schema_json.specs.Form.{SpellsSchema};
 ghost use Rattle.cedar_symcc.specs.Analyses.{IsDeclared};
 ghost use Rattle.cedar_symcc.specs.Commands.{command_view, words_view};
@@ -14,15 +16,18 @@ ghost use Rattle.cedar_symcc.specs.Refusals.{IsContent, IsRefusal, ReadsPolicies
 ghost use Rattle.cedar_symcc.specs.Runs.{ReadsAll};
 ghost use Rattle.cedar_symcc.specs.View.{file_view};
 
+use crate::form::is_form_of;
 use crate::policies::attribute_of;
 use crate::refusal::{FileName, Refusal};
 use crate::reporting::Inputs;
 use crate::words::{Analyse, command_of};
+use sc_ast::PolicySet;
 use sc_lists::{Fault, Text};
 use sc_outside::{FileFault, Files};
+use sc_parser::read_policies;
 use sc_schema::{Presence, Schema, Ty};
 use sc_schema_json::read_schema;
-use std::alloc::Global;
+use std::alloc::{AllocError, Global};
 
 /// How many bytes a file may have.
 const LIMIT: u64 = 16_777_216;
@@ -66,6 +71,39 @@ fn fields_of(ty: &Ty) -> &[(Text, Presence, Ty)]
     }
 }
 
+/// The attribute that the policies of a file read, or none where there is no policy.
+#[tactic(auto, using(crate::proofs::PoliciesLaws::others_by_tree, crate::proofs::PoliciesLaws::others_by_text))]
+fn attribute_in_form(
+    alloc: Global,
+    bytes: &[u8],
+    policies: &PolicySet,
+    schema: &Schema,
+) -> Result<Option<Text>, Fault<Refusal>>
+    requires { Spells bytes.now policies.now }
+    ensures spelled { IfOk result (λ o. SpellsPolicies (declared_names schema.now) bytes.now o) }
+    ensures fails { IfErr result (FailsPolicies (declared_names schema.now) bytes.now) }
+{
+    let Some(attribute) = attribute_of(policies.as_slice()) else {
+        return Err(Fault::Told(Refusal::NotForm(FileName::Policies)));
+    };
+    if !is_form_of(bytes, context_fields(schema), attribute) {
+        return Err(Fault::Told(Refusal::NotForm(FileName::Policies)));
+    }
+    match copy_of(alloc, attribute) {
+        Ok(copy) => Ok(copy),
+        Err(_) => Err(Fault::NoMemory),
+    }
+}
+
+fn copy_of(alloc: Global, attribute: Option<&Text>) -> Result<Option<Text>, AllocError>
+    ensures { IfOk result (λ o. o ≡ option_copied attribute.entry) }
+{
+    match attribute {
+        Some(name) => Ok(Some(name.try_clone(alloc)?)),
+        None => Ok(None),
+    }
+}
+
 /// The attribute that the policies read, or none where there is no policy.
 fn attribute_in(
     alloc: Global,
@@ -73,18 +111,12 @@ fn attribute_in(
     schema: &Schema,
 ) -> Result<Option<Text>, Fault<Refusal>>
     ensures spelled { IfOk result (λ o. SpellsPolicies (declared_names schema.now) bytes.now o) }
-    ensures declared { IfOk result (IsDeclared schema.now) }
     ensures fails { IfErr result (FailsPolicies (declared_names schema.now) bytes.now) }
 {
-    if bytes.is_empty() {
-        return Ok(None);
-    }
-    match attribute_of(bytes, context_fields(schema)) {
-        Some(name) => match name.try_clone(alloc) {
-            Ok(name) => Ok(Some(name)),
-            Err(_) => Err(Fault::NoMemory),
-        },
-        None => Err(Fault::Told(Refusal::NotForm(FileName::Policies))),
+    match read_policies(alloc, bytes) {
+        Ok(policies) => attribute_in_form(alloc, bytes, &policies, schema),
+        Err(Fault::Told(fault)) => Err(Fault::Told(Refusal::PolicyText(fault))),
+        Err(Fault::NoMemory) => Err(Fault::NoMemory),
     }
 }
 

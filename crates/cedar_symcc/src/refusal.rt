@@ -1,8 +1,12 @@
 //! The answers other than a report.
 ghost use Rattle.std.specs.Prelude.{◌≡◌, ◌++◌, OnOk, IfOk, codes};
 ghost use Rattle.cedar_symcc.specs.Refusals.{code_of, refusal_text, file_name};
+ghost use Rattle.cedar_symcc.specs.FaultTexts.{fault_text};
 ghost use Rattle.cedar_symcc.specs.View.{file_view, refusal_view};
 
+use crate::fault_text::put_fault;
+use crate::put::put;
+use sc_parser::PolicyFault;
 use std::alloc::{AllocError, Global};
 
 /// One of the files that a command names.
@@ -19,6 +23,8 @@ pub enum FileName {
 pub enum Refusal {
     /// The words are no command.
     Usage,
+    /// The policy file spells no policies.
+    PolicyText(PolicyFault),
     /// A file couldn't be read.
     ReadFault(FileName),
     /// A file is longer than its limit.
@@ -33,6 +39,7 @@ pub fn code(refusal: Refusal) -> u8
 {
     match refusal {
         Refusal::Usage => 10,
+        Refusal::PolicyText(_) => 11,
         Refusal::ReadFault(_) => 20,
         Refusal::TooLong(_) => 22,
         Refusal::NotForm(_) => 15,
@@ -48,13 +55,6 @@ fn file_name(file: FileName) -> &'static [u8]
     }
 }
 
-/// Puts a text at the end.
-pub fn put(out: &mut Vec<u8>, text: &[u8]) -> Result<(), AllocError>
-    ensures { OnOk result (out.new.items ≡ out.old.items ++ text.now) }
-{
-    out.extend_from_slice(text)
-}
-
 fn put_error(out: &mut Vec<u8>, number: &[u8], file: FileName) -> Result<(), AllocError>
     ensures { OnOk result (out.new.items ≡ out.old.items ++ (number.now ++ file_name (file_view file) ++ codes "\n")) }
 {
@@ -63,11 +63,20 @@ fn put_error(out: &mut Vec<u8>, number: &[u8], file: FileName) -> Result<(), All
     put(out, b"\n")
 }
 
+fn put_policy_text(out: &mut Vec<u8>, fault: PolicyFault) -> Result<(), AllocError>
+    ensures { OnOk result (out.new.items ≡ out.old.items ++ (codes "error 11 policies " ++ fault_text fault ++ codes "\n")) }
+{
+    put(out, b"error 11 policies ")?;
+    put_fault(out, fault)?;
+    put(out, b"\n")
+}
+
 fn put_refusal(out: &mut Vec<u8>, refusal: Refusal) -> Result<(), AllocError>
     ensures { OnOk result (out.new.items ≡ out.old.items ++ refusal_text (refusal_view refusal)) }
 {
     match refusal {
         Refusal::Usage => put(out, b"error 10 usage\n"),
+        Refusal::PolicyText(fault) => put_policy_text(out, fault),
         Refusal::ReadFault(file) => put_error(out, b"error 20 ", file),
         Refusal::TooLong(file) => put_error(out, b"error 22 ", file),
         Refusal::NotForm(file) => put_error(out, b"error 15 ", file),

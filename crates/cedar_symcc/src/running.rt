@@ -2,7 +2,7 @@
 ghost use Rattle.std.specs.Prelude.{◌≡◌, []};
 ghost use Rattle.sc_outside.specs.Counts.{Rose};
 ghost use Rattle.cedar_symcc.specs.Commands.{Command, Commands, words_view};
-ghost use Rattle.cedar_symcc.specs.Runs.{Ends, run_of, Refuses, AllHold, SomeFails, IsReadable, IsWhole, MustBe, TooLong, NotForm, SchemaIsLong, SchemaIsNot, PoliciesAreLong, PoliciesAreNot};
+ghost use Rattle.cedar_symcc.specs.Runs.{Ends, run_of, Refuses, AllHold, SomeFails, IsReadable, IsWhole, MustBe, TooLong, NotForm, SchemaIsLong, SchemaIsNot, PoliciesAreLong, PoliciesAreNot, PoliciesAreFaulty, IsFaulty};
 ghost use Rattle.cedar_symcc.specs.View.{refusal_view};
 
 use crate::reading::inputs_of;
@@ -67,13 +67,15 @@ pub fn run<F: Files, O: Sink>(alloc: Global, words: &[String], files: &mut F, ou
     ensures unusable { ((c : Command) → Commands (words_view words.now) c → ⊥) → MustBe 10 result.code }
     ensures usage { result.code ≡ 10 → (c : Command) → Commands (words_view words.now) c → ⊥ }
 
-    // Files that are too long or of another form are refused, where reading didn't fail.
+    // Files that are too long, that spell nothing or that are of another form are refused, where reading didn't fail.
     ensures schema_is_long { SchemaIsLong (run_of (F.content files.old) (words_view words.now) (Rose (F.faults files.old) (F.faults files.new)) (Rose (O.faults out.old) (O.faults out.new)) (O.written out.old) (O.written out.new) result.code) → (Rose (F.faults files.old) (F.faults files.new) → ⊥) → MustBe 22 result.code }
     ensures schema_is_not { SchemaIsNot (run_of (F.content files.old) (words_view words.now) (Rose (F.faults files.old) (F.faults files.new)) (Rose (O.faults out.old) (O.faults out.new)) (O.written out.old) (O.written out.new) result.code) → (Rose (F.faults files.old) (F.faults files.new) → ⊥) → MustBe 15 result.code }
     ensures policies_are_long { PoliciesAreLong (run_of (F.content files.old) (words_view words.now) (Rose (F.faults files.old) (F.faults files.new)) (Rose (O.faults out.old) (O.faults out.new)) (O.written out.old) (O.written out.new) result.code) → (Rose (F.faults files.old) (F.faults files.new) → ⊥) → MustBe 22 result.code }
     ensures policies_are_not { PoliciesAreNot (run_of (F.content files.old) (words_view words.now) (Rose (F.faults files.old) (F.faults files.new)) (Rose (O.faults out.old) (O.faults out.new)) (O.written out.old) (O.written out.new) result.code) → (Rose (F.faults files.old) (F.faults files.new) → ⊥) → MustBe 15 result.code }
+    ensures policies_are_faulty { PoliciesAreFaulty (run_of (F.content files.old) (words_view words.now) (Rose (F.faults files.old) (F.faults files.new)) (Rose (O.faults out.old) (O.faults out.new)) (O.written out.old) (O.written out.new) result.code) → (Rose (F.faults files.old) (F.faults files.new) → ⊥) → MustBe 11 result.code }
 
     // The cause of each status.
+    ensures policy_fault { result.code ≡ 11 → IsFaulty (run_of (F.content files.old) (words_view words.now) (Rose (F.faults files.old) (F.faults files.new)) (Rose (O.faults out.old) (O.faults out.new)) (O.written out.old) (O.written out.new) result.code) }
     ensures read_fault { result.code ≡ 20 → Rose (F.faults files.old) (F.faults files.new) }
     ensures write_fault { result.code ≡ 21 → Rose (O.faults out.old) (O.faults out.new) }
     ensures too_long { result.code ≡ 22 → TooLong (run_of (F.content files.old) (words_view words.now) (Rose (F.faults files.old) (F.faults files.new)) (Rose (O.faults out.old) (O.faults out.new)) (O.written out.old) (O.written out.new) result.code) }

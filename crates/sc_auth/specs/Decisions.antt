@@ -8,7 +8,7 @@ use Rattle.sc_ast.specs.Conditions.{condition}
 use Rattle.sc_values.specs.declared.value.Value.{Value, Value-F, out-Value}
 use Rattle.sc_values.specs.declared.value.Value.TheOpen as v
 use Rattle.sc_world.specs.declared.world.World.{World}
-use Rattle.sc_eval.specs.Operators.{Outcome}
+use Rattle.sc_eval.specs.Outcomes.{Outcome}
 use Rattle.sc_eval.specs.Eval.{eval}
 
 abbrev pub true_in : Value-F Value → Bool

@@ -1,1 +1,4 @@
+pub mod CollectionsLaws
+pub mod EntitiesLaws
 pub mod EvalLaws
+mod Examples

@@ -18,12 +18,18 @@ abbrev pub is_member : List Value → Value → Bool
 is_member members x = list_any (is_same x) members
 
 -- the members one after the other, each put in its place in the order of values unless it is there
+abbrev pub members_of : List Value → List Value
+members_of values = fold (insert_key value_cmp) [] values
+
 abbrev pub set_value : List Value → Value
-set_value members = value.Set (fold (insert_key value_cmp) [] members)
+set_value values = value.Set (members_of values)
 
 abbrev pub with_field : Fields → List ℕ × Value → Fields
 with_field fields f = insert_entry text_cmp fields f.0 f.1
 
 -- the fields one after the other, each put in its place in the order of names; of two fields of one name the last stays
+abbrev pub fields_of : Fields → Fields
+fields_of pairs = fold with_field [] pairs
+
 abbrev pub record_value : Fields → Value
-record_value fields = value.Record (fold with_field [] fields)
+record_value pairs = value.Record (fields_of pairs)

@@ -1,4 +1,4 @@
-use Rattle.cedar_symcc.proofs.RunLaws.{all-hold, some-fails, complete, unusable, no-command, schema-is-long, schema-is-not, policies-are-long, policies-are-not, read-rose, write-rose, is-too-long, is-not-form}
+use Rattle.cedar_symcc.proofs.RunLaws.{all-hold, some-fails, complete, unusable, no-command, schema-is-long, schema-is-not, policies-are-long, policies-are-not, policies-are-faulty, read-rose, write-rose, is-too-long, is-not-form, is-faulty}
 use Rattle.cedar_symcc.proofs.running.run.Goals as goal
 
 pub returns-clause-holds : goal.returns-clause-holds
@@ -39,3 +39,9 @@ returns-clause-too_long g c = is-too-long _ c.ends-code.ensures
 
 pub returns-clause-not_form : goal.returns-clause-not_form
 returns-clause-not_form g c = is-not-form _ c.ends-code.ensures
+
+pub returns-clause-policies_are_faulty : goal.returns-clause-policies_are_faulty
+returns-clause-policies_are_faulty g c = λ x f. policies-are-faulty _ c.ends-code.ensures x f
+
+pub returns-clause-policy_fault : goal.returns-clause-policy_fault
+returns-clause-policy_fault g c = is-faulty _ c.ends-code.ensures

@@ -1,7 +1,7 @@
 use Rattle.std.proofs.Common.{rules}
 use Rattle.std.proofs.lemmas.Bool.Decides.{Decides-eqb}
 use Rattle.std.proofs.lemmas.Slice.Eq.{strip_prefix_is}
-use Rattle.cedar_symcc.proofs.policies.strip.Goals as goal
+use Rattle.cedar_symcc.proofs.form.strip.Goals as goal
 
 pub returns : goal.returns
 returns c =

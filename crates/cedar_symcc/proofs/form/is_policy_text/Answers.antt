@@ -1,7 +1,7 @@
 use Rattle.std.proofs.Common.{◌≡◌, ◌++◌, subst}
 use Rattle.std.proofs.lemmas.List.{append_cancel_left}
 use Rattle.cedar_symcc.specs.Policies.{policy_front, IsPolicyEnd}
-use Rattle.cedar_symcc.proofs.policies.is_policy_text.Goals as goal
+use Rattle.cedar_symcc.proofs.form.is_policy_text.Goals as goal
 
 pub returns-in_default : goal.returns-in_default
 returns-in_default c = (

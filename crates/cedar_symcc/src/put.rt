@@ -1,0 +1,21 @@
+//! Puts texts at the end of a line.
+ghost use Rattle.std.specs.Prelude.{◌≡◌, ◌++◌, OnOk};
+ghost use Rattle.std.specs.Fmt.{decimal};
+
+use itoa::Buffer;
+use std::alloc::AllocError;
+
+/// Puts a text at the end.
+pub fn put(out: &mut Vec<u8>, text: &[u8]) -> Result<(), AllocError>
+    ensures { OnOk result (out.new.items ≡ out.old.items ++ text.now) }
+{
+    out.extend_from_slice(text)
+}
+
+/// Puts a number at the end, in decimal digits.
+pub fn put_number(out: &mut Vec<u8>, number: u64) -> Result<(), AllocError>
+    ensures { OnOk result (out.new.items ≡ out.old.items ++ decimal number) }
+{
+    let mut buffer = Buffer::new();
+    put(out, buffer.format(number).as_bytes())
+}

@@ -1,0 +1,98 @@
+-- Values that are one, members, and the sets and records that lists of values make.
+use Rattle.std.proofs.Common.{◌≡◌, ◌||◌, ◌↔◌, ◌⊎◌, inl, inr, ℕ, List, [], ◌∷◌, Bool, true, false, IsTrue, Contains, fold, refl, sym, ap, subst, ◌∙◌}
+use Rattle.std.specs.List.Sorted.{IsStrictlySortedBy}
+use Rattle.std.specs.declared.cmp.Ordering.{Ordering}
+use Rattle.std.specs.declared.cmp.Ordering.TheVariants.{Less, Equal, Greater}
+use Rattle.std.specs.Ordering.{is_eq}
+use Rattle.std.specs.BTreeMap.{insert_entry}
+use Rattle.std.specs.BTreeSet.{insert_key}
+use Rattle.std.specs.Map.{keys_of}
+use Rattle.std.proofs.lemmas.Cmp.{nat_list_cmp_total}
+use Rattle.sc_lists.proofs.OrderedLaws.{none_ascends, no_pair_ascends, is_in-insert_key, ascending-insert_key, ascending-insert_entry}
+use Rattle.sc_names.specs.Uids.{text_cmp}
+use Rattle.sc_values.specs.declared.value.Value.{Value}
+use Rattle.sc_values.specs.Order.{value_cmp}
+use Rattle.sc_values.specs.Records.{Fields}
+use Rattle.sc_values.specs.Sets.{IsSetOf}
+use Rattle.sc_values.proofs.AscendingLaws.{of_first, of_rest, split, no_first}
+use Rattle.sc_values.proofs.OrderLaws.{value_cmp_total, value_cmp_level}
+use Rattle.sc_eval.specs.Collections.{is_same, is_member, members_of, with_field, fields_of}
+
+-- ---- values that are one
+
+level_tested : (o : Ordering) → is_eq o ≡ true → o ≡ Equal
+level_tested Less h = cc
+level_tested Equal h = refl
+level_tested Greater h = cc
+
+pub is_same-decides : (x y : Value) → IsTrue (is_same x y) ↔ x ≡ y
+is_same-decides x y = (λ t. (value_cmp_level x y).0 (level_tested (value_cmp x y) t), λ e. ap is_eq ((value_cmp_level x y).1 e))
+
+-- ---- members
+
+or_parts : (a b : Bool) → IsTrue (a || b) → IsTrue a ⊎ IsTrue b
+or_parts true b h = inl refl
+or_parts false b h = inr h
+
+or_left : (a b : Bool) → IsTrue a → IsTrue (a || b)
+or_left true b p = refl
+or_left false b p = cc
+
+or_right : (a b : Bool) → IsTrue b → IsTrue (a || b)
+or_right true b q = refl
+or_right false b q = q
+
+or_assoc : (a b c : Bool) → ((a || b) || c) ≡ (a || (b || c))
+or_assoc true b c = refl
+or_assoc false b c = refl
+
+pub is_member-decides : (members : List Value) (x : Value) → IsTrue (is_member members x) ↔ Contains members x
+is_member-decides [] x = (λ t. cc, λ h. absurd (no_first x h))
+is_member-decides (y ∷ ys) x = (
+  λ t. elim (or_parts (is_same x y) (is_member ys x) t) [
+      inl here ↦ subst (Contains (y ∷ ys)) (sym ((is_same-decides x y).0 here)) (of_first y ys)
+    | inr later ↦ of_rest y ys x ((is_member-decides ys x).0 later)
+  ],
+  λ h. elim (split y ys x h) [
+      inl here ↦ or_left (is_same x y) (is_member ys x) ((is_same-decides x y).1 (sym here))
+    | inr later ↦ or_right (is_same x y) (is_member ys x) ((is_member-decides ys x).1 later)
+  ])
+
+-- ---- sets
+
+abbrev with_all : List Value → List Value → List Value
+with_all set values = fold (insert_key value_cmp) set values
+
+with_all-ascends : (set values : List Value) → IsStrictlySortedBy value_cmp set → IsStrictlySortedBy value_cmp (with_all set values)
+with_all-ascends set [] h = h
+with_all-ascends set (x ∷ xs) h = with_all-ascends (insert_key value_cmp set x) xs (ascending-insert_key value_cmp_total set x h)
+
+is_member-with_all : (set values : List Value) (y : Value) → is_member (with_all set values) y ≡ (is_member set y || is_member values y)
+is_member-with_all set [] y = sym (or_false (is_member set y))
+  where
+    or_false : (b : Bool) → (b || false) ≡ b
+    or_false true = refl
+    or_false false = refl
+is_member-with_all set (x ∷ xs) y =
+    is_member-with_all (insert_key value_cmp set x) xs y
+    ∙ ap (λ b. b || is_member xs y) (is_in-insert_key value_cmp_total set x y)
+    ∙ or_assoc (is_member set y) (is_same y x) (is_member xs y)
+
+-- what values make is the set of them
+pub members_of-set : (values : List Value) → IsSetOf values (members_of values)
+members_of-set values = record {
+  ascending = with_all-ascends [] values (none_ascends value_cmp [] refl);
+  just = λ x. (
+    λ h. (is_member-decides values x).0 (sym (is_member-with_all [] values x) ∙ (is_member-decides (members_of values) x).1 h),
+    λ h. (is_member-decides (members_of values) x).0 (is_member-with_all [] values x ∙ (is_member-decides values x).1 h));
+}
+
+-- ---- records
+
+fold-ascends : (fields pairs : Fields) → IsStrictlySortedBy text_cmp (keys_of fields) → IsStrictlySortedBy text_cmp (keys_of (fold with_field fields pairs))
+fold-ascends fields [] h = h
+fold-ascends fields (f ∷ fs) h = fold-ascends (with_field fields f) fs (ascending-insert_entry nat_list_cmp_total fields f.0 f.1 h)
+
+-- the fields of a record that is written ascend by name
+pub fields_of-ascends : (pairs : Fields) → IsStrictlySortedBy text_cmp (keys_of (fields_of pairs))
+fields_of-ascends pairs = fold-ascends [] pairs (no_pair_ascends {V = Value} text_cmp [] refl)

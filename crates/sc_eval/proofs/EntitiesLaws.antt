@@ -1,0 +1,111 @@
+-- What `has` and `is` with more than one part stand for.
+use Rattle.std.proofs.Common.{◌≡◌, ℕ, List, [], ◌∷◌, Bool, true, false, if◌then◌else◌, Option, Some, None, is_some, Result, Ok, Err, refl, sym, ap, ◌∙◌}
+use Rattle.sc_ast.specs.declared.expr.Expr.{Expr}
+use Rattle.sc_ast.specs.declared.expr.Expr.TheVariants as expr
+use Rattle.sc_ast.specs.declared.expr.TypeName.{TypeName}
+use Rattle.sc_ast.specs.declared.operator.BinaryOperator.TheVariants.{In}
+use Rattle.sc_ast.specs.declared.place.Place.{Place}
+use Rattle.sc_values.specs.declared.value.Value.{Value, Value-F, out-Value}
+use Rattle.sc_values.specs.declared.value.Value.TheOpen as v
+use Rattle.sc_values.specs.declared.value.Value.TheVariants as value
+use Rattle.sc_values.specs.Records.{field}
+use Rattle.sc_values.proofs.OutLaws.{out_Bool}
+use Rattle.sc_world.specs.declared.entity.EntityData.{EntityData}
+use Rattle.sc_world.specs.declared.world.World.{World}
+use Rattle.sc_world.specs.Stores.{stored}
+use Rattle.sc_eval.specs.declared.error.EvalError.{EvalError}
+use Rattle.sc_eval.specs.Outcomes.{Outcome, ◌>>=◌, as_bool, bool_in, decide, of_bool}
+use Rattle.sc_eval.specs.Entities.{or_missing, attr_of, access_in, access, has_attr, has_in, has, has_path, is_of, is_in}
+use Rattle.sc_eval.specs.Eval.{eval}
+use Rattle.sc_eval.proofs.EvalLaws.{eval_And, eval_Has, eval_Is, eval_IsIn, eval_Binary, eval_Access}
+
+-- ---- Bools that are asked for
+
+-- a Bool that a test gives decides at once
+pub decided : (r : Result Bool EvalError) (f : Bool → Outcome) → decide (r >>= of_bool) f ≡ (r >>= f)
+decided (Ok b) f = ap (λ x. bool_in x >>= f) (out_Bool b)
+decided (Err e) f = refl
+
+pub asked_again : (r : Result Bool EvalError) → decide (r >>= of_bool) of_bool ≡ (r >>= of_bool)
+asked_again r = decided r of_bool
+
+-- ---- paths of names
+
+-- where there is an attribute, it has a value
+there : (o : Option Value) → (if is_some o then (or_missing o >>= λ y. Ok true) else Ok false) ≡ Ok (is_some o)
+there None = refl
+there (Some x) = refl
+
+there_of : (name : List ℕ) (o : Option EntityData) → (if has_attr name o then (attr_of name o >>= λ y. Ok true) else Ok false) ≡ Ok (has_attr name o)
+there_of name None = refl
+there_of name (Some e) = there (field name e.attrs)
+
+one_name : (name : List ℕ) (w : World) (x : Value-F Value) → (has_in name w x >>= λ p. if p then (access_in name w x >>= λ y. Ok true) else Ok false) ≡ has_in name w x
+one_name name w (v.Bool b) = refl
+one_name name w (v.Long n) = refl
+one_name name w (v.String text) = refl
+one_name name w (v.Entity u) = there_of name (stored u w.store)
+one_name name w (v.Set members) = refl
+one_name name w (v.Record fields) = there (field name fields)
+one_name name w (v.Decimal n) = refl
+one_name name w (v.Ip a) = refl
+
+-- a path of one name is that name
+pub has_path-one : (name : List ℕ) (w : World) (x : Value) → has_path (name ∷ []) w x ≡ has name w x
+has_path-one name w x = one_name name w (out-Value x)
+
+then_has : (o : Outcome) (r : Value → Result Bool EvalError) → (o >>= r >>= of_bool) ≡ (o >>= λ x. r x >>= of_bool)
+then_has (Ok x) r = refl
+then_has (Err e) r = refl
+
+path_on : (r : Result Bool EvalError) (o : Outcome) (rest : Value → Result Bool EvalError)
+    → (r >>= (λ p. if p then (o >>= rest) else Ok false) >>= of_bool) ≡ (r >>= λ p. if p then decide (o >>= rest >>= of_bool) of_bool else of_bool false)
+path_on (Err e) o rest = refl
+path_on (Ok true) o rest = sym (asked_again (o >>= rest))
+path_on (Ok false) o rest = refl
+
+-- `x has a.b.c` stands for `x has a && x.a has b.c`
+pub has_path-and : (place : Place) (x : Expr) (a b : List ℕ) (names : List (List ℕ)) (w : World)
+    → eval (expr.Has place x (a ∷ b ∷ names)) w ≡ eval (expr.And place (expr.Has place x (a ∷ [])) (expr.Has place (expr.Access place x a) (b ∷ names))) w
+has_path-and place x a b names w =
+    eval_Has place x (a ∷ b ∷ names) w ∙ by_value (eval x w) ∙ sym (
+    eval_And place (expr.Has place x (a ∷ [])) (expr.Has place (expr.Access place x a) (b ∷ names)) w
+    ∙ ap (λ o. decide o (λ p. if p then decide (eval (expr.Has place (expr.Access place x a) (b ∷ names)) w) of_bool else of_bool false)) (eval_Has place x (a ∷ []) w)
+    ∙ ap (λ o. decide (eval x w >>= has_path (a ∷ []) w >>= of_bool) (λ p. if p then decide o of_bool else of_bool false))
+      (eval_Has place (expr.Access place x a) (b ∷ names) w ∙ ap (λ o. o >>= has_path (b ∷ names) w >>= of_bool) (eval_Access place x a w)))
+  where
+    by_value : (o : Outcome) → (o >>= has_path (a ∷ b ∷ names) w >>= of_bool)
+        ≡ decide (o >>= has_path (a ∷ []) w >>= of_bool) (λ p. if p then decide (o >>= access a w >>= has_path (b ∷ names) w >>= of_bool) of_bool else of_bool false)
+    by_value (Err e) = refl
+    by_value (Ok y) =
+        path_on (has a w y) (access a w y) (has_path (b ∷ names) w)
+        ∙ ap (λ r. r >>= λ p. if p then decide (access a w y >>= has_path (b ∷ names) w >>= of_bool) of_bool else of_bool false) (sym (has_path-one a w y))
+        ∙ sym (decided (has_path (a ∷ []) w y) (λ p. if p then decide (access a w y >>= has_path (b ∷ names) w >>= of_bool) of_bool else of_bool false))
+
+-- ---- a type and an entity
+
+in_true : (q : Outcome) (within : Value → Result Bool EvalError) → (q >>= within >>= of_bool) ≡ decide (q >>= λ y. within y >>= of_bool) of_bool
+in_true (Err e) within = refl
+in_true (Ok y) within = sym (asked_again (within y))
+
+in_when : (r : Result Bool EvalError) (q : Outcome) (within : Value → Result Bool EvalError)
+    → (r >>= λ p. if p then (q >>= within >>= of_bool) else of_bool false) ≡ (r >>= λ p. if p then decide (q >>= λ y. within y >>= of_bool) of_bool else of_bool false)
+in_when (Err e) q within = refl
+in_when (Ok true) q within = in_true q within
+in_when (Ok false) q within = refl
+
+in_type : (o : Outcome) (q : Outcome) (is : Value → Result Bool EvalError) (within : Value → Value → Result Bool EvalError)
+    → (o >>= λ x. is x >>= λ p. if p then (q >>= within x >>= of_bool) else of_bool false)
+    ≡ decide (o >>= is >>= of_bool) (λ p. if p then decide (o >>= λ x. q >>= λ y. within x y >>= of_bool) of_bool else of_bool false)
+in_type (Err e) q is within = refl
+in_type (Ok x) q is within =
+    in_when (is x) q (within x) ∙ sym (decided (is x) (λ p. if p then decide (q >>= λ y. within x y >>= of_bool) of_bool else of_bool false))
+
+-- `x is T in b` stands for `x is T && x in b`
+pub is_in-and : (place in_place : Place) (x b : Expr) (t : TypeName) (w : World)
+    → eval (expr.IsIn place x t in_place b) w ≡ eval (expr.And place (expr.Is place x t) (expr.Binary in_place In x b)) w
+is_in-and place in_place x b t w =
+    eval_IsIn place x t in_place b w ∙ in_type (eval x w) (eval b w) (is_of t.name) (is_in w) ∙ sym (
+    eval_And place (expr.Is place x t) (expr.Binary in_place In x b) w
+    ∙ ap (λ o. decide o (λ p. if p then decide (eval (expr.Binary in_place In x b) w) of_bool else of_bool false)) (eval_Is place x t w)
+    ∙ ap (λ o. decide (eval x w >>= is_of t.name >>= of_bool) (λ p. if p then decide o of_bool else of_bool false)) (eval_Binary in_place In x b w))
