@@ -8,12 +8,13 @@ use Rattle.std.specs.Str.{IsUtf8}
 use Rattle.std.proofs.lemmas.List.Elements.{All-from_recursion, recursion_from_All}
 use Rattle.sc_names.specs.declared.uid.Uid.{Uid}
 use Rattle.sc_names.specs.Uids.{text_cmp}
+use Rattle.sc_ip.specs.Addresses.{IsIp}
 use Rattle.sc_ip.specs.declared.ip.Ip.{Ip}
 use Rattle.sc_values.specs.declared.value.Value.{Value}
 use Rattle.sc_values.specs.declared.value.Value.TheVariants as value
 use Rattle.sc_values.specs.Order.{value_cmp}
 use Rattle.sc_values.specs.Records.{Fields}
-use Rattle.sc_values.specs.Proper.{IsUidText, IsIp, HasTextName, IsProperLevel, IsProper, IsProperRecord}
+use Rattle.sc_values.specs.Proper.{IsUidText, HasTextName, IsProperLevel, IsProper, IsProperRecord}
 use Rattle.sc_values.proofs.LevelLaws as level
 
 -- a test of one fact tests another that holds exactly where it does
