@@ -1,18 +1,18 @@
 -- What white space and comments leave.
-use Rattle.std.proofs.Common.{◌≡◌, ℕ, ◌-◌, ◌<◌, ◌≤◌, ◌&&◌, List, [], ◌∷◌, ◌++◌, length, take, drop, Bool, true, false, cond, eqb, refl, sym, ◌∙◌, ap, subst, arith, length-append, length-drop, eqb-true, inl, inr, get_or, None, zero, suc}
+use Rattle.std.proofs.Common.{◌≡◌, ℕ, ◌-◌, ◌<◌, ◌≤◌, ◌&&◌, List, [], ◌∷◌, ◌++◌, length, drop, Bool, true, false, cond, eqb, refl, sym, ◌∙◌, ap, subst, arith, length-append, length-drop, eqb-true, inl, inr, get_or, None, zero, suc}
 use Rattle.std.specs.Prelude.{codes, MatchBool}
 use Rattle.std.specs.Char.{encode_utf8, is_whitespace}
 use Rattle.std.specs.Str.{IsUtf8, IsCharBoundary, chars, encode_utf8_all, skip_leading_whitespace, trim_start}
 use Rattle.std.specs.Str.Pattern.{HasPrefixMatch, FindsTextPrefix}
-use Rattle.std.specs.List.{list_all, take_while, starts_with}
+use Rattle.std.specs.List.{take_while, starts_with}
 use Rattle.std.proofs.lemmas.Bool.{cases_lt}
 use Rattle.std.proofs.lemmas.Bool.Decides.{nat_tests}
 use Rattle.std.proofs.lemmas.Str.{IsCharBoundary-before_ascii, IsCharBoundary-end, IsUtf8-drop, IsUtf8-past_char, cons_from_encodes, encodes-chars}
 use Rattle.std.proofs.lemmas.Str.Pattern.{starts_text}
 use Rattle.std.proofs.lemmas.List.{take-append-drop, drop_at}
-use Rattle.std.proofs.lemmas.List.Sums.{take_while-cons, prefix_len-le-length}
-use Rattle.std.proofs.lemmas.List.Folds.{length-prefix_len}
+use Rattle.std.proofs.lemmas.List.Sums.{take_while-cons}
 use Rattle.sc_lexer.specs.Blanks.{ends_line, stays_in_line, EndsLine, BeginsNoSpace, Skips, none, space, comment, Leads}
+use Rattle.sc_lexer.proofs.RunLaws.{list_all-take_while, take-run, length-take_while-le}
 
 -- white space
 
@@ -45,17 +45,8 @@ Leads_trim t r e u = record {
 }
 
 -- a line and what comes after it
-list_all-take_while : (p : ℕ → Bool) (cs : List ℕ) → list_all p (take_while p cs) ≡ true
-list_all-take_while p [] = refl
-list_all-take_while p (c ∷ cs) =
-    rw take_while-cons (elim (p c) as (λ b. p c ≡ b → list_all p (cond b (c ∷ take_while p cs) []) ≡ true) [
-      | true ↦ λ e. rw (e, list_all-take_while p cs) refl
-      | false ↦ λ e. refl
-    ] refl)
-
 pub take_while-drop : (p : ℕ → Bool) (cs : List ℕ) → take_while p cs ++ drop (length (take_while p cs)) cs ≡ cs
-take_while-drop p cs = let k : take (length (take_while p cs)) cs ≡ take_while p cs = rw (length-prefix_len p cs) refl in
-    ap (λ xs. xs ++ drop (length (take_while p cs)) cs) (sym k) ∙ take-append-drop (length (take_while p cs)) cs
+take_while-drop p cs = ap (λ xs. xs ++ drop (length (take_while p cs)) cs) (sym (take-run p cs)) ∙ take-append-drop (length (take_while p cs)) cs
 
 pub take_while-stops : (p : ℕ → Bool) (cs : List ℕ) → take_while p (drop (length (take_while p cs)) cs) ≡ []
 take_while-stops p [] = refl
@@ -128,7 +119,7 @@ boundary_of s n h e = elim (cases_lt n (length s)) [
 ]
 
 pub line_boundary : (t : List ℕ) (n : ℕ) → n ≡ length (take_while stays_in_line t) → IsCharBoundary t n
-line_boundary t n e = rw e (boundary_of t (length (take_while stays_in_line t)) (rw (length-prefix_len stays_in_line t) (prefix_len-le-length stays_in_line t)) (EndsLine-drop t))
+line_boundary t n e = rw e (boundary_of t (length (take_while stays_in_line t)) (length-take_while-le stays_in_line t) (EndsLine-drop t))
 
 -- several steps
 

@@ -1,34 +1,16 @@
 -- What stands after a backslash.
-use Rattle.std.proofs.Common.{◌≡◌, ◌≢◌, ℕ, zero, suc, ◌+◌, ◌-◌, ◌<◌, ◌≤◌, ◌&&◌, List, [], ◌∷◌, length, take, drop, get_or, true, false, cond, refl, sym, ◌∙◌, ap, subst, arith, Some, None, length-take}
+use Rattle.std.proofs.Common.{◌≡◌, ◌≢◌, ℕ, zero, suc, ◌+◌, ◌-◌, ◌<◌, ◌≤◌, ◌&&◌, List, [], ◌∷◌, length, take, drop, get_or, true, false, refl, subst, arith, Some, None, length-take}
 use Rattle.std.specs.Char.{IsScalar, is_ascii_hexdigit}
 use Rattle.std.specs.Str.Parse.{digits_value}
 use Rattle.std.specs.List.{list_all, take_while}
 use Rattle.std.proofs.lemmas.Bool.Decides.{nat_tests}
-use Rattle.std.proofs.lemmas.List.{take-take, take_rest, get_or_past}
-use Rattle.std.proofs.lemmas.List.Sums.{take_while-cons, prefix_len-le-length}
-use Rattle.std.proofs.lemmas.List.Folds.{length-prefix_len}
+use Rattle.std.proofs.lemmas.List.{take_rest, get_or_past}
 use Rattle.std.proofs.Math.Utf8.{scalar}
 use Rattle.sc_lexer.specs.declared.piece.Piece.TheVariants.{Char, EscapedStar}
 use Rattle.sc_lexer.specs.Escapes.{is_letter, letter_char, ascii_of, braced_of, scalar_of, escape_of}
+use Rattle.sc_lexer.proofs.RunLaws.{list_all-take_while, take-run, take-take_while}
 
 -- digits in front
-
-pub digits-all : (cs : List ℕ) → list_all is_ascii_hexdigit (take_while is_ascii_hexdigit cs) ≡ true
-digits-all [] = refl
-digits-all (c ∷ cs) =
-    rw take_while-cons (elim (is_ascii_hexdigit c) as (λ b. is_ascii_hexdigit c ≡ b → list_all is_ascii_hexdigit (cond b (c ∷ take_while is_ascii_hexdigit cs) []) ≡ true) [
-      | true ↦ λ e. rw (e, digits-all cs) refl
-      | false ↦ λ e. refl
-    ] refl)
-
-pub take-digits : (cs : List ℕ) → take (length (take_while is_ascii_hexdigit cs)) cs ≡ take_while is_ascii_hexdigit cs
-take-digits cs = rw (length-prefix_len is_ascii_hexdigit cs) refl
-
-pub take-front : (n : ℕ) (cs : List ℕ) → n ≤ length (take_while is_ascii_hexdigit cs) → take n (take_while is_ascii_hexdigit cs) ≡ take n cs
-take-front n cs h = ap (take n) (sym (take-digits cs)) ∙ take-take n (length (take_while is_ascii_hexdigit cs)) cs h
-
-pub length-take_while-le : (cs : List ℕ) → length (take_while is_ascii_hexdigit cs) ≤ length cs
-length-take_while-le cs = rw (length-prefix_len is_ascii_hexdigit cs) (prefix_len-le-length is_ascii_hexdigit cs)
 
 list_all-take : (n : ℕ) (ds : List ℕ) → list_all is_ascii_hexdigit ds ≡ true → list_all is_ascii_hexdigit (take n ds) ≡ true
 list_all-take zero ds h = refl
@@ -39,7 +21,7 @@ list_all-take (suc n) (d ∷ ds) h = elim (is_ascii_hexdigit d) as (λ b. (b && 
 ] h
 
 pub digits_front : (cs : List ℕ) (n : ℕ) → n ≤ length (take_while is_ascii_hexdigit cs) → list_all is_ascii_hexdigit (take n cs) ≡ true
-digits_front cs n h = subst (λ ds. list_all is_ascii_hexdigit ds ≡ true) (take-front n cs h) (list_all-take n (take_while is_ascii_hexdigit cs) (digits-all cs))
+digits_front cs n h = subst (λ ds. list_all is_ascii_hexdigit ds ≡ true) (take-take_while is_ascii_hexdigit n cs h) (list_all-take n (take_while is_ascii_hexdigit cs) (list_all-take_while is_ascii_hexdigit cs))
 
 -- `x`
 
@@ -49,13 +31,13 @@ ascii_few bytes h = grind (arith, nat_tests, length-take {A = ℕ})
 
 pub ascii_large : (bytes : List ℕ) → 2 ≤ length (take_while is_ascii_hexdigit bytes) → 127 < digits_value 16 (take 2 bytes) → None ≡ ascii_of bytes
 unfolding ascii_of
-ascii_large bytes h v = rw (take-front 2 bytes h) (grind (arith, nat_tests))
+ascii_large bytes h v = rw (take-take_while is_ascii_hexdigit 2 bytes h) (grind (arith, nat_tests))
 
 pub ascii_some : (bytes : List ℕ) → 2 ≤ length (take_while is_ascii_hexdigit bytes) → digits_value 16 (take 2 bytes) ≤ 127 → Some (record { piece = Char (digits_value 16 (take 2 bytes)); len = 3 }) ≡ ascii_of bytes
 unfolding ascii_of
 ascii_some bytes h v =
     let two : length (take 2 (take_while is_ascii_hexdigit bytes)) ≡ 2 = rw length-take (omega arith) in
-    rw two (rw (take-front 2 bytes h) (grind (arith, nat_tests)))
+    rw two (rw (take-take_while is_ascii_hexdigit 2 bytes h) (grind (arith, nat_tests)))
 
 -- `u{`
 
@@ -83,15 +65,15 @@ no_scalar c h = elim (scalar c) as (λ b. scalar c ≡ b → b ≡ false) [
 pub braced_none : (bytes : List ℕ) → (IsScalar (digits_value 16 (take (length (take_while is_ascii_hexdigit bytes)) bytes)) → ⊥) → None ≡ braced_of bytes
 unfolding braced_of
 braced_none bytes h =
-    let none : scalar (digits_value 16 (take_while is_ascii_hexdigit bytes)) ≡ false = subst (λ ds. scalar (digits_value 16 ds) ≡ false) (take-digits bytes) (no_scalar (digits_value 16 (take (length (take_while is_ascii_hexdigit bytes)) bytes)) h) in
+    let none : scalar (digits_value 16 (take_while is_ascii_hexdigit bytes)) ≡ false = subst (λ ds. scalar (digits_value 16 ds) ≡ false) (take-run is_ascii_hexdigit bytes) (no_scalar (digits_value 16 (take (length (take_while is_ascii_hexdigit bytes)) bytes)) h) in
     grind (arith, nat_tests)
 
 pub braced_some : (bytes : List ℕ) → 1 ≤ length (take_while is_ascii_hexdigit bytes) → length (take_while is_ascii_hexdigit bytes) ≤ 6 → get_or bytes (length (take_while is_ascii_hexdigit bytes)) 0 ≡ 125
     → IsScalar (digits_value 16 (take (length (take_while is_ascii_hexdigit bytes)) bytes))
     → Some (record { piece = Char (digits_value 16 (take (length (take_while is_ascii_hexdigit bytes)) bytes)); len = length (take_while is_ascii_hexdigit bytes) + 3 }) ≡ braced_of bytes
 unfolding braced_of
-braced_some bytes h k q s = rw take-digits (
-    let is : scalar (digits_value 16 (take_while is_ascii_hexdigit bytes)) ≡ true = subst (λ ds. scalar (digits_value 16 ds) ≡ true) (take-digits bytes) s in
+braced_some bytes h k q s = rw (take-run is_ascii_hexdigit bytes) (
+    let is : scalar (digits_value 16 (take_while is_ascii_hexdigit bytes)) ≡ true = subst (λ ds. scalar (digits_value 16 ds) ≡ true) (take-run is_ascii_hexdigit bytes) s in
     grind (arith, nat_tests))
 
 -- `u`

@@ -8,8 +8,7 @@ use Rattle.std.specs.Str.{IsUtf8, IsCharBoundary}
 use Rattle.std.proofs.lemmas.Str.{IsCharBoundary-after_ascii}
 use Rattle.std.proofs.lemmas.List.{take-append-drop, get_or_append_left}
 use Rattle.std.proofs.Math.Seq.{take-append_seam, take-length}
-use Rattle.std.proofs.lemmas.List.Sums.{take_while-cons, prefix_len-le-length}
-use Rattle.std.proofs.lemmas.List.Folds.{length-prefix_len}
+use Rattle.std.proofs.lemmas.List.Sums.{take_while-cons}
 use Rattle.sc_names.specs.Names.{begins_word, goes_on_word, is_word}
 use Rattle.sc_lexer.specs.declared.token.Kind.{Kind}
 use Rattle.sc_lexer.specs.declared.token.Kind.TheVariants.{Word, Number, Str}
@@ -17,6 +16,7 @@ use Rattle.sc_lexer.specs.Tokens.{is_number, is_string, closes, one_sign, two_si
 use Rattle.sc_lexer.specs.Fronts.{IsFront, long_sign}
 use Rattle.sc_lexer.proofs.StringLaws.{closes_once, closes_last, last_more}
 use Rattle.sc_lexer.proofs.TestLaws.{bool_tells, first_passes, rest_passes}
+use Rattle.sc_lexer.proofs.RunLaws.{list_all-take_while, take-run, length-take_while-le}
 
 -- what the first byte says of a token
 
@@ -94,20 +94,6 @@ run_longest p (x ∷ u) v cs e h = rw (e, take_while-cons p x (u ++ v)) (elim (p
   | false ↦ λ k. absurd (let no : false ≡ true = rw k at h in cc)
 ] refl)
 
-list_all-take_while : (p : ℕ → Bool) (cs : List ℕ) → list_all p (take_while p cs) ≡ true
-list_all-take_while p [] = refl
-list_all-take_while p (c ∷ cs) =
-    rw take_while-cons (elim (p c) as (λ b. p c ≡ b → list_all p (cond b (c ∷ take_while p cs) []) ≡ true) [
-      | true ↦ λ e. rw (e, list_all-take_while p cs) refl
-      | false ↦ λ e. refl
-    ] refl)
-
-take-take_while : (p : ℕ → Bool) (cs : List ℕ) → take (length (take_while p cs)) cs ≡ take_while p cs
-take-take_while p cs = rw (length-prefix_len p cs) refl
-
-length-take_while-le : (p : ℕ → Bool) (cs : List ℕ) → length (take_while p cs) ≤ length cs
-length-take_while-le p cs = rw (length-prefix_len p cs) (prefix_len-le-length p cs)
-
 some_true : (k other : Kind) (b : Bool) → cond b (Some k) None ≡ Some other → b ≡ true
 some_true k other true e = refl
 some_true k other false e = cc
@@ -127,8 +113,8 @@ run p kind a cs h k = record {
   within = length-take_while-le p (a ∷ cs);
   begins = record {
     parts = sym (take-append-drop (length (take_while p (a ∷ cs))) (a ∷ cs));
-    is = rw (take-take_while p (a ∷ cs), take_while-cons p a cs, h) (k (take_while p cs) ∙ ap (λ b. cond b (Some kind) None) (list_all-take_while p cs));
-    longest = λ longer others other e is. rw (take-take_while p (a ∷ cs)) (longest_run p kind a cs h k longer others other e is);
+    is = rw (take-run p (a ∷ cs), take_while-cons p a cs, h) (k (take_while p cs) ∙ ap (λ b. cond b (Some kind) None) (list_all-take_while p cs));
+    longest = λ longer others other e is. rw (take-run p (a ∷ cs)) (longest_run p kind a cs h k longer others other e is);
   };
 }
 

@@ -6,6 +6,7 @@ pub mod KindLaws
 pub mod MeaningLaws
 pub mod NextLaws
 pub mod ReadingLaws
+pub mod RunLaws
 pub mod SpanLaws
 pub mod SpellingLaws
 pub mod StringLaws

@@ -16,7 +16,8 @@ use Rattle.sc_lexer.specs.declared.piece.Escape.{Escape}
 use Rattle.sc_lexer.specs.Escapes.{is_letter, IsEscape, letter, star, ascii, code, IsSpelled, ends, plain, escape, IsBadEscape, letter_char, ascii_of, braced_of, scalar_of, escape_of}
 use Rattle.sc_lexer.specs.Pieces.{Means, of_letter, of_star, of_ascii, of_code}
 use Rattle.sc_lexer.specs.Parts.{allows, IsPart, BeginsBadEscape}
-use Rattle.sc_lexer.proofs.EscapeLaws.{ascii_some, braced_some, escape_letter, take-digits, take-front, digits-all, digits_front, length-take_while-le}
+use Rattle.sc_lexer.proofs.EscapeLaws.{ascii_some, braced_some, escape_letter, digits_front}
+use Rattle.sc_lexer.proofs.RunLaws.{list_all-take_while, take-run, take-take_while, length-take_while-le}
 use Rattle.sc_lexer.proofs.TestLaws.{bool_tells, first_passes, rest_passes}
 
 -- an escape in front of other bytes is read
@@ -44,8 +45,8 @@ braced_from : (bytes ds : List ℕ) → take_while is_ascii_hexdigit bytes ≡ d
 braced_from bytes ds e =
     subst (λ xs. 1 ≤ length xs → length xs ≤ 6 → get_or bytes (length xs) 0 ≡ 125 → IsScalar (digits_value 16 xs) → braced_of bytes ≡ Some (record { piece = Char (digits_value 16 xs); len = length xs + 3 })) e
     (λ l m q v.
-    let front : IsScalar (digits_value 16 (take (length (take_while is_ascii_hexdigit bytes)) bytes)) = subst (λ xs. IsScalar (digits_value 16 xs)) (sym (take-digits bytes)) v in
-    sym (subst (λ xs. Some (record { piece = Char (digits_value 16 xs); len = length (take_while is_ascii_hexdigit bytes) + 3 }) ≡ braced_of bytes) (take-digits bytes) (braced_some bytes l m q front)))
+    let front : IsScalar (digits_value 16 (take (length (take_while is_ascii_hexdigit bytes)) bytes)) = subst (λ xs. IsScalar (digits_value 16 xs)) (sym (take-run is_ascii_hexdigit bytes)) v in
+    sym (subst (λ xs. Some (record { piece = Char (digits_value 16 xs); len = length (take_while is_ascii_hexdigit bytes) + 3 }) ≡ braced_of bytes) (take-run is_ascii_hexdigit bytes) (braced_some bytes l m q front)))
 
 pub braced-digits : (ds rest : List ℕ) → list_all is_ascii_hexdigit ds ≡ true → 1 ≤ length ds → length ds ≤ 6 → IsScalar (digits_value 16 ds) → braced_of (ds ++ (125 ∷ rest)) ≡ Some (record { piece = Char (digits_value 16 ds); len = length ds + 3 })
 braced-digits ds rest h l m v =
@@ -101,9 +102,9 @@ Begins-ascii like cs e h =
     let two : length digits ≡ 2 = eq_true (length digits) 2 (first_passes (nat_eq (length digits) 2) (nat_le (digits_value 16 digits) 127) k.0) in
     let small : digits_value 16 digits ≤ 127 = le_true (digits_value 16 digits) 127 (rest_passes (nat_eq (length digits) 2) (nat_le (digits_value 16 digits) 127) k.0) in
     let some : 2 ≤ length (take_while is_ascii_hexdigit cs) = omega (arith, length-take 2 (take_while is_ascii_hexdigit cs)) in
-    let front : digits ≡ take 2 cs = take-front 2 cs some in
+    let front : digits ≡ take 2 cs = take-take_while is_ascii_hexdigit 2 cs some in
     subst (λ (x : Escape). Begins like (120 ∷ cs) x.len) k.1 (record {
-      within = omega (arith, length-take_while-le cs);
+      within = omega (arith, length-take_while-le is_ascii_hexdigit cs);
       is = subst (λ ds. IsEscape like (120 ∷ ds)) front (ascii digits (rw front (digits_front cs 2 some)) two small);
     })
 
@@ -127,11 +128,11 @@ Begins-braced like cs e h =
       | inl less ↦ less
       | inr above ↦ absurd (let past : get_or cs n 0 ≡ 0 = get_or_past cs n 0 above in omega arith)
     ] in
-    let text : take (n + 1) cs ≡ digits ++ (125 ∷ []) = take_more cs n 0 inside ∙ ap (λ ds. ds ++ (get_or cs n 0 ∷ [])) (take-digits cs) ∙ ap (λ (c : ℕ). digits ++ (c ∷ [])) close in
+    let text : take (n + 1) cs ≡ digits ++ (125 ∷ []) = take_more cs n 0 inside ∙ ap (λ ds. ds ++ (get_or cs n 0 ∷ [])) (take-run is_ascii_hexdigit cs) ∙ ap (λ (c : ℕ). digits ++ (c ∷ [])) close in
     let whole : take (n + 3) (117 ∷ 123 ∷ cs) ≡ 117 ∷ 123 ∷ (digits ++ (125 ∷ [])) = take_two n cs ∙ ap (λ bs. 117 ∷ 123 ∷ bs) text in
     subst (λ (x : Escape). Begins like (117 ∷ 123 ∷ cs) x.len) k.1 (record {
       within = omega arith;
-      is = rw whole (code digits (digits-all cs) (le_true 1 n (first_passes least most some)) (le_true n 6 (rest_passes least most some)) (rest_passes (least && most && closing) value k.0));
+      is = rw whole (code digits (list_all-take_while is_ascii_hexdigit cs) (le_true 1 n (first_passes least most some)) (le_true n 6 (rest_passes least most some)) (rest_passes (least && most && closing) value k.0));
     })
 
 Begins-scalar : (like : Bool) (cs : List ℕ) (e : Escape) → scalar_of cs ≡ Some e → Begins like (117 ∷ cs) e.len
