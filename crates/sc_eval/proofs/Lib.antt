@@ -1,3 +1,4 @@
+pub mod TestLaws
 pub mod CollectionsLaws
 pub mod EntitiesLaws
 pub mod EvalLaws

@@ -1,6 +1,14 @@
 //! Evaluation of expressions in a world.
 #![tactic(auto)]
 
+mod addresses;
+mod arithmetic;
+mod comparison;
 mod error;
+mod kinds;
+mod logic;
+mod records;
+mod sets;
+mod texts;
 
 pub use error::EvalError;
