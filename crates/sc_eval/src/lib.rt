@@ -4,6 +4,7 @@
 mod addresses;
 mod arithmetic;
 mod comparison;
+mod entities;
 mod error;
 mod kinds;
 mod logic;
