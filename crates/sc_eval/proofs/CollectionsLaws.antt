@@ -1,10 +1,9 @@
 -- Values that are one, members, and the sets and records that lists of values make.
-use Rattle.std.proofs.Common.{◌≡◌, ◌||◌, ◌&&◌, ◌↔◌, ◌⊎◌, inl, inr, ℕ, List, [], ◌∷◌, Bool, true, false, IsTrue, Contains, fold, refl, sym, ap, subst, ◌∙◌}
+use Rattle.std.proofs.Common.{◌≡◌, ◌||◌, ◌&&◌, ◌↔◌, ◌⊎◌, inl, inr, List, [], ◌∷◌, Bool, true, false, IsTrue, Contains, fold, refl, sym, ap, subst, ◌∙◌}
 use Rattle.std.specs.List.Sorted.{IsStrictlySortedBy}
 use Rattle.std.specs.declared.cmp.Ordering.{Ordering}
 use Rattle.std.specs.declared.cmp.Ordering.TheVariants.{Less, Equal, Greater}
 use Rattle.std.specs.Ordering.{is_eq}
-use Rattle.std.specs.BTreeMap.{insert_entry}
 use Rattle.std.specs.BTreeSet.{insert_key}
 use Rattle.std.specs.Map.{keys_of}
 use Rattle.std.specs.List.{list_any, list_all}
@@ -55,13 +54,14 @@ pub is_member-decides : (members : List Value) (x : Value) → IsTrue (is_member
 is_member-decides [] x = (λ t. cc, λ h. absurd (no_first x h))
 is_member-decides (y ∷ ys) x = (
   λ t. elim (or_parts (is_same x y) (is_member ys x) t) [
-      inl here ↦ subst (Contains (y ∷ ys)) (sym ((is_same-decides x y).0 here)) (of_first y ys)
+    | inl here ↦ subst (Contains (y ∷ ys)) (sym ((is_same-decides x y).0 here)) (of_first y ys)
     | inr later ↦ of_rest y ys x ((is_member-decides ys x).0 later)
   ],
   λ h. elim (split y ys x h) [
-      inl here ↦ or_left (is_same x y) (is_member ys x) ((is_same-decides x y).1 (sym here))
+    | inl here ↦ or_left (is_same x y) (is_member ys x) ((is_same-decides x y).1 (sym here))
     | inr later ↦ or_right (is_same x y) (is_member ys x) ((is_member-decides ys x).1 later)
-  ])
+  ],
+)
 
 -- ---- what tests tell
 
@@ -83,12 +83,13 @@ all-decides : (s t : List Value) → IsTrue (list_all (is_member t) s) ↔ IsSub
 all-decides [] t = (λ h x has. absurd (no_first x has), λ h. refl)
 all-decides (y ∷ ys) t = (
   λ h x has.
-    let parts = and_parts (is_member t y) (list_all (is_member t) ys) h in
-    elim (split y ys x has) [
-        inl here ↦ subst (Contains t) here ((is_member-decides t y).0 parts.0)
-      | inr later ↦ (all-decides ys t).0 parts.1 x later
-    ],
-  λ h. and_whole (is_member t y) (list_all (is_member t) ys) ((is_member-decides t y).1 (h y (of_first y ys))) ((all-decides ys t).1 (λ x has. h x (of_rest y ys x has))))
+      let parts = and_parts (is_member t y) (list_all (is_member t) ys) h in
+      elim (split y ys x has) [
+        | inl here ↦ subst (Contains t) here ((is_member-decides t y).0 parts.0)
+        | inr later ↦ (all-decides ys t).0 parts.1 x later
+      ],
+  λ h. and_whole (is_member t y) (list_all (is_member t) ys) ((is_member-decides t y).1 (h y (of_first y ys))) ((all-decides ys t).1 (λ x has. h x (of_rest y ys x has))),
+)
 
 pub all_are : (r : Bool) (s t : List Value) → (IsTrue r ↔ IsSubset s t) → r ≡ list_all (is_member t) s
 all_are r s t h = same_truth r (list_all (is_member t) s) h (all-decides s t)
@@ -97,13 +98,14 @@ any-decides : (s t : List Value) → IsTrue (list_any (is_member t) s) ↔ Meets
 any-decides [] t = (λ h. cc, λ h. absurd (no_first h.0 h.1))
 any-decides (y ∷ ys) t = (
   λ h. elim (or_parts (is_member t y) (list_any (is_member t) ys) h) [
-      inl here ↦ (y, of_first y ys, (is_member-decides t y).0 here)
+    | inl here ↦ (y, of_first y ys, (is_member-decides t y).0 here)
     | inr later ↦ let m = (any-decides ys t).0 later in (m.0, of_rest y ys m.0 m.1, m.2)
   ],
   λ h. elim (split y ys h.0 h.1) [
-      inl here ↦ or_left (is_member t y) (list_any (is_member t) ys) ((is_member-decides t y).1 (subst (Contains t) (sym here) h.2))
+    | inl here ↦ or_left (is_member t y) (list_any (is_member t) ys) ((is_member-decides t y).1 (subst (Contains t) (sym here) h.2))
     | inr later ↦ or_right (is_member t y) (list_any (is_member t) ys) ((any-decides ys t).1 (h.0, later, h.2))
-  ])
+  ],
+)
 
 pub any_is : (r : Bool) (s t : List Value) → (IsTrue r ↔ Meets s t) → r ≡ list_any (is_member t) s
 any_is r s t h = same_truth r (list_any (is_member t) s) h (any-decides s t)
@@ -134,7 +136,8 @@ members_of-set values = record {
   ascending = with_all-ascends [] values (none_ascends value_cmp [] refl);
   just = λ x. (
     λ h. (is_member-decides values x).0 (sym (is_member-with_all [] values x) ∙ (is_member-decides (members_of values) x).1 h),
-    λ h. (is_member-decides (members_of values) x).0 (is_member-with_all [] values x ∙ (is_member-decides values x).1 h));
+    λ h. (is_member-decides (members_of values) x).0 (is_member-with_all [] values x ∙ (is_member-decides values x).1 h),
+  );
 }
 
 pub set_is : (values set : List Value) → IsSetOf values set → value.Set set ≡ set_value values

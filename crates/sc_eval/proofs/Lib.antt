@@ -2,4 +2,5 @@ pub mod TestLaws
 pub mod CollectionsLaws
 pub mod EntitiesLaws
 pub mod EvalLaws
+pub mod ToComeLaws
 mod Examples

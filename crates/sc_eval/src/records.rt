@@ -9,10 +9,10 @@ use std::collections::BTreeMap;
 
 /// The record of these fields, in the order in which they are written; of two fields of one name the
 /// last stays.
-pub(crate) fn record_value(alloc: Global, pairs: Vec<(Text, Value)>) -> Result<Value, AllocError>
-    ensures { IfOk result (λ v. v ≡ record_value pairs.items) }
+pub(crate) fn record_value(alloc: Global, pairs: Seq<(Text, Value)>) -> Result<Value, AllocError>
+    ensures { IfOk result (λ v. v ≡ record_value pairs) }
 {
-    let map = map_of(alloc, pairs)?;
+    let map = map_of(alloc, pairs.into_vec())?;
     Ok(Value::Record(fields_of(alloc, map)?))
 }
 
