@@ -1,12 +1,12 @@
 -- Values that are one, members, and the sets and records that lists of values make.
-use Rattle.std.proofs.Common.{◌≡◌, ◌||◌, ◌↔◌, ◌⊎◌, inl, inr, ℕ, List, [], ◌∷◌, Bool, true, false, IsTrue, Contains, fold, refl, sym, ap, subst, ◌∙◌}
+use Rattle.std.proofs.Common.{◌≡◌, ◌||◌, ◌&&◌, ◌↔◌, ◌⊎◌, inl, inr, List, [], ◌∷◌, Bool, true, false, IsTrue, Contains, fold, refl, sym, ap, subst, ◌∙◌}
 use Rattle.std.specs.List.Sorted.{IsStrictlySortedBy}
 use Rattle.std.specs.declared.cmp.Ordering.{Ordering}
 use Rattle.std.specs.declared.cmp.Ordering.TheVariants.{Less, Equal, Greater}
 use Rattle.std.specs.Ordering.{is_eq}
-use Rattle.std.specs.BTreeMap.{insert_entry}
 use Rattle.std.specs.BTreeSet.{insert_key}
 use Rattle.std.specs.Map.{keys_of}
+use Rattle.std.specs.List.{list_any, list_all}
 use Rattle.std.proofs.lemmas.Cmp.{nat_list_cmp_total}
 use Rattle.sc_lists.proofs.OrderedLaws.{none_ascends, no_pair_ascends, is_in-insert_key, ascending-insert_key, ascending-insert_entry}
 use Rattle.sc_names.specs.Uids.{text_cmp}
@@ -16,7 +16,11 @@ use Rattle.sc_values.specs.Records.{Fields}
 use Rattle.sc_values.specs.Sets.{IsSetOf}
 use Rattle.sc_values.proofs.AscendingLaws.{of_first, of_rest, split, no_first}
 use Rattle.sc_values.proofs.OrderLaws.{value_cmp_total, value_cmp_level}
-use Rattle.sc_eval.specs.Collections.{is_same, is_member, members_of, with_field, fields_of}
+use Rattle.sc_values.specs.Sets.{IsSubset, Meets}
+use Rattle.sc_values.specs.declared.value.Value.TheVariants as value
+use Rattle.sc_values.proofs.SetLaws.{one_set}
+use Rattle.sc_eval.specs.Collections.{is_same, is_member, members_of, set_value, with_field, fields_of}
+use Rattle.sc_eval.proofs.TestLaws.{same_truth}
 
 -- ---- values that are one
 
@@ -50,13 +54,61 @@ pub is_member-decides : (members : List Value) (x : Value) → IsTrue (is_member
 is_member-decides [] x = (λ t. cc, λ h. absurd (no_first x h))
 is_member-decides (y ∷ ys) x = (
   λ t. elim (or_parts (is_same x y) (is_member ys x) t) [
-      inl here ↦ subst (Contains (y ∷ ys)) (sym ((is_same-decides x y).0 here)) (of_first y ys)
+    | inl here ↦ subst (Contains (y ∷ ys)) (sym ((is_same-decides x y).0 here)) (of_first y ys)
     | inr later ↦ of_rest y ys x ((is_member-decides ys x).0 later)
   ],
   λ h. elim (split y ys x h) [
-      inl here ↦ or_left (is_same x y) (is_member ys x) ((is_same-decides x y).1 (sym here))
+    | inl here ↦ or_left (is_same x y) (is_member ys x) ((is_same-decides x y).1 (sym here))
     | inr later ↦ or_right (is_same x y) (is_member ys x) ((is_member-decides ys x).1 later)
-  ])
+  ],
+)
+
+-- ---- what tests tell
+
+pub same_is : (r : Bool) (x y : Value) → (IsTrue r ↔ x ≡ y) → r ≡ is_same x y
+same_is r x y h = same_truth r (is_same x y) h (is_same-decides x y)
+
+pub member_is : (r : Bool) (members : List Value) (x : Value) → (IsTrue r ↔ Contains members x) → r ≡ is_member members x
+member_is r members x h = same_truth r (is_member members x) h (is_member-decides members x)
+
+and_whole : (a b : Bool) → IsTrue a → IsTrue b → IsTrue (a && b)
+and_whole true b p q = q
+and_whole false b p q = cc
+
+and_parts : (a b : Bool) → IsTrue (a && b) → IsTrue a × IsTrue b
+and_parts true b h = (refl, h)
+and_parts false b h = cc
+
+all-decides : (s t : List Value) → IsTrue (list_all (is_member t) s) ↔ IsSubset s t
+all-decides [] t = (λ h x has. absurd (no_first x has), λ h. refl)
+all-decides (y ∷ ys) t = (
+  λ h x has.
+      let parts = and_parts (is_member t y) (list_all (is_member t) ys) h in
+      elim (split y ys x has) [
+        | inl here ↦ subst (Contains t) here ((is_member-decides t y).0 parts.0)
+        | inr later ↦ (all-decides ys t).0 parts.1 x later
+      ],
+  λ h. and_whole (is_member t y) (list_all (is_member t) ys) ((is_member-decides t y).1 (h y (of_first y ys))) ((all-decides ys t).1 (λ x has. h x (of_rest y ys x has))),
+)
+
+pub all_are : (r : Bool) (s t : List Value) → (IsTrue r ↔ IsSubset s t) → r ≡ list_all (is_member t) s
+all_are r s t h = same_truth r (list_all (is_member t) s) h (all-decides s t)
+
+any-decides : (s t : List Value) → IsTrue (list_any (is_member t) s) ↔ Meets s t
+any-decides [] t = (λ h. cc, λ h. absurd (no_first h.0 h.1))
+any-decides (y ∷ ys) t = (
+  λ h. elim (or_parts (is_member t y) (list_any (is_member t) ys) h) [
+    | inl here ↦ (y, of_first y ys, (is_member-decides t y).0 here)
+    | inr later ↦ let m = (any-decides ys t).0 later in (m.0, of_rest y ys m.0 m.1, m.2)
+  ],
+  λ h. elim (split y ys h.0 h.1) [
+    | inl here ↦ or_left (is_member t y) (list_any (is_member t) ys) ((is_member-decides t y).1 (subst (Contains t) (sym here) h.2))
+    | inr later ↦ or_right (is_member t y) (list_any (is_member t) ys) ((any-decides ys t).1 (h.0, later, h.2))
+  ],
+)
+
+pub any_is : (r : Bool) (s t : List Value) → (IsTrue r ↔ Meets s t) → r ≡ list_any (is_member t) s
+any_is r s t h = same_truth r (list_any (is_member t) s) h (any-decides s t)
 
 -- ---- sets
 
@@ -84,8 +136,12 @@ members_of-set values = record {
   ascending = with_all-ascends [] values (none_ascends value_cmp [] refl);
   just = λ x. (
     λ h. (is_member-decides values x).0 (sym (is_member-with_all [] values x) ∙ (is_member-decides (members_of values) x).1 h),
-    λ h. (is_member-decides (members_of values) x).0 (is_member-with_all [] values x ∙ (is_member-decides values x).1 h));
+    λ h. (is_member-decides (members_of values) x).0 (is_member-with_all [] values x ∙ (is_member-decides values x).1 h),
+  );
 }
+
+pub set_is : (values set : List Value) → IsSetOf values set → value.Set set ≡ set_value values
+set_is values set h = ap value.Set (one_set values set (members_of values) h (members_of-set values))
 
 -- ---- records
 

@@ -7,14 +7,13 @@ use Rattle.sc_ast.specs.declared.operator.BinaryOperator.TheVariants.{In}
 use Rattle.sc_ast.specs.declared.place.Place.{Place}
 use Rattle.sc_values.specs.declared.value.Value.{Value, Value-F, out-Value}
 use Rattle.sc_values.specs.declared.value.Value.TheOpen as v
-use Rattle.sc_values.specs.declared.value.Value.TheVariants as value
 use Rattle.sc_values.specs.Records.{field}
 use Rattle.sc_values.proofs.OutLaws.{out_Bool}
 use Rattle.sc_world.specs.declared.entity.EntityData.{EntityData}
 use Rattle.sc_world.specs.declared.world.World.{World}
 use Rattle.sc_world.specs.Stores.{stored}
 use Rattle.sc_eval.specs.declared.error.EvalError.{EvalError}
-use Rattle.sc_eval.specs.Outcomes.{Outcome, ◌>>=◌, as_bool, bool_in, decide, of_bool}
+use Rattle.sc_eval.specs.Outcomes.{Outcome, ◌>>=◌, bool_in, decide, of_bool}
 use Rattle.sc_eval.specs.Entities.{or_missing, attr_of, access_in, access, has_attr, has_in, has, has_path, is_of, is_in}
 use Rattle.sc_eval.specs.Eval.{eval}
 use Rattle.sc_eval.proofs.EvalLaws.{eval_And, eval_Has, eval_Is, eval_IsIn, eval_Binary, eval_Access}
@@ -72,7 +71,7 @@ has_path-and place x a b names w =
     eval_And place (expr.Has place x (a ∷ [])) (expr.Has place (expr.Access place x a) (b ∷ names)) w
     ∙ ap (λ o. decide o (λ p. if p then decide (eval (expr.Has place (expr.Access place x a) (b ∷ names)) w) of_bool else of_bool false)) (eval_Has place x (a ∷ []) w)
     ∙ ap (λ o. decide (eval x w >>= has_path (a ∷ []) w >>= of_bool) (λ p. if p then decide o of_bool else of_bool false))
-      (eval_Has place (expr.Access place x a) (b ∷ names) w ∙ ap (λ o. o >>= has_path (b ∷ names) w >>= of_bool) (eval_Access place x a w)))
+    (eval_Has place (expr.Access place x a) (b ∷ names) w ∙ ap (λ o. o >>= has_path (b ∷ names) w >>= of_bool) (eval_Access place x a w)))
   where
     by_value : (o : Outcome) → (o >>= has_path (a ∷ b ∷ names) w >>= of_bool)
         ≡ decide (o >>= has_path (a ∷ []) w >>= of_bool) (λ p. if p then decide (o >>= access a w >>= has_path (b ∷ names) w >>= of_bool) of_bool else of_bool false)

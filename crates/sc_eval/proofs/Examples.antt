@@ -1,5 +1,5 @@
 -- The values of some expressions.
-use Rattle.std.proofs.Common.{◌≡◌, ℕ, ℤ, pos, negsuc, List, [], ◌∷◌, Bool, true, false, Ok, Err, Some, None, codes, refl, sym, ap, ◌∙◌}
+use Rattle.std.proofs.Common.{◌≡◌, ℕ, ℤ, pos, negsuc, List, [], ◌∷◌, true, false, Ok, Err, codes, refl, ap, ◌∙◌}
 use Rattle.std.specs.Fmt.{digits}
 use Rattle.std.specs.Str.{chars}
 use Rattle.sc_ast.specs.declared.expr.Expr.{Expr}
@@ -7,25 +7,23 @@ use Rattle.sc_ast.specs.declared.expr.Expr.TheVariants as expr
 use Rattle.sc_ast.specs.declared.literal.Literal.{Literal}
 use Rattle.sc_ast.specs.declared.literal.Literal.TheVariants as literal
 use Rattle.sc_ast.specs.declared.operator.BinaryOperator.{BinaryOperator}
-use Rattle.sc_ast.specs.declared.operator.BinaryOperator.TheVariants.{Add, Subtract, Multiply, Equal, Less, In, Contains, IsInRange}
+use Rattle.sc_ast.specs.declared.operator.BinaryOperator.TheVariants.{Add, Subtract, Multiply, Equal, Less, In, IsInRange}
 use Rattle.sc_ast.specs.declared.operator.UnaryOperator.{UnaryOperator}
 use Rattle.sc_ast.specs.declared.operator.UnaryOperator.TheVariants.{Negate, IsMulticast, Decimal, Ip}
 use Rattle.sc_ast.specs.declared.place.Place.{Place}
 use Rattle.sc_ip.specs.declared.ip.Ip.TheVariants.{V4, V6}
 use Rattle.sc_ip.specs.IpValue.{ip_of, address_from}
 use Rattle.sc_decimal.specs.DecimalValue.{decimal_of}
-use Rattle.sc_names.specs.declared.uid.Uid.{Uid}
-use Rattle.sc_pattern.specs.declared.part.Part.{Part}
 use Rattle.sc_pattern.specs.declared.part.Part.TheVariants.{Star, Char}
 use Rattle.sc_pattern.specs.Language.{is_match}
 use Rattle.sc_values.specs.declared.value.Value.{Value}
 use Rattle.sc_values.specs.declared.value.Value.TheVariants as value
 use Rattle.sc_values.proofs.OrderLaws.{value_cmp_by_kind}
-use Rattle.sc_values.proofs.OutLaws.{out_Bool, out_Long, out_String, out_Entity, out_Set, out_Decimal, out_Ip}
+use Rattle.sc_values.proofs.OutLaws.{out_Long, out_String, out_Entity, out_Set, out_Ip}
 use Rattle.sc_world.specs.declared.world.World.{World}
 use Rattle.sc_eval.specs.declared.error.EvalError.TheVariants.{TypeError, Overflow, BadText}
 use Rattle.sc_eval.specs.Outcomes.{Outcome, ◌>>=◌, of_bool}
-use Rattle.sc_eval.specs.Collections.{is_same, set_value, members_of}
+use Rattle.sc_eval.specs.Collections.{members_of}
 use Rattle.sc_eval.specs.Operators.{binary, unary, is_like}
 use Rattle.sc_eval.specs.Eval.{eval}
 use Rattle.sc_eval.proofs.EvalLaws.{eval_Binary, eval_Unary, eval_Literal}
@@ -163,9 +161,16 @@ like-no_end = rw (out_String (codes "abcb")) refl
 -- each once, ascending
 set-of_three : members_of (value.Long (pos 2) ∷ value.Long (pos 1) ∷ value.Long (pos 2) ∷ []) ≡ value.Long (pos 1) ∷ value.Long (pos 2) ∷ []
 set-of_three =
-    rw (value_cmp_by_kind (value.Long (pos 1)) (value.Long (pos 2)), out_Long (pos 1), out_Long (pos 2),
-      value_cmp_by_kind (value.Long (pos 2)) (value.Long (pos 1)), out_Long (pos 1), out_Long (pos 2),
-      value_cmp_by_kind (value.Long (pos 2)) (value.Long (pos 2)), out_Long (pos 2)) refl
+    rw (
+      value_cmp_by_kind (value.Long (pos 1)) (value.Long (pos 2)),
+      out_Long (pos 1),
+      out_Long (pos 2),
+      value_cmp_by_kind (value.Long (pos 2)) (value.Long (pos 1)),
+      out_Long (pos 1),
+      out_Long (pos 2),
+      value_cmp_by_kind (value.Long (pos 2)) (value.Long (pos 2)),
+      out_Long (pos 2),
+    ) refl
 
 -- ---- entities
 

@@ -100,3 +100,7 @@ entities_in _ = Err TypeError
 -- an entity is one of some entities, or in one
 abbrev pub is_in : World → Value → Value → Result Bool EvalError
 is_in w x y = as_entity x >>= λ a. entities_in (out-Value y) >>= λ bs. Ok (list_any (is_or_in w a) bs)
+
+-- the same where the entities are members of a set
+abbrev pub is_in_some : World → Uid → List Value → Result Bool EvalError
+is_in_some w a members = all_entities members >>= λ bs. Ok (list_any (is_or_in w a) bs)

@@ -45,6 +45,10 @@ addresses x y f = as_address x >>= λ a. as_address y >>= λ b. f a b
 abbrev pub tagged : Value → Value → (Uid → List ℕ → Outcome) → Outcome
 tagged x y f = as_entity x >>= λ u. as_text y >>= λ key. f u key
 
+-- a set has the second operand
+abbrev pub contained : Value → Value → Outcome
+contained x y = as_set x >>= λ s. of_bool (is_member s y)
+
 -- ---- the operators
 
 abbrev pub binary : BinaryOperator → World → Value → Value → Outcome
@@ -57,7 +61,7 @@ binary In w x y = is_in w x y >>= of_bool
 binary Add w x y = longs x y (λ m n. of_long (m +ℤ n))
 binary Subtract w x y = longs x y (λ m n. of_long (m -ℤ n))
 binary Multiply w x y = longs x y (λ m n. of_long (m *ℤ n))
-binary Contains w x y = as_set x >>= λ s. of_bool (is_member s y)
+binary Contains w x y = contained x y
 binary ContainsAll w x y = sets x y (λ s t. of_bool (list_all (is_member s) t))
 binary ContainsAny w x y = sets x y (λ s t. of_bool (list_any (is_member s) t))
 binary HasTag w x y = tagged x y (λ u key. of_bool (has_tag key (stored u w.store)))

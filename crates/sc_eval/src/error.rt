@@ -1,4 +1,5 @@
 //! Why an expression has no value.
+use sc_lists::Fault;
 use thiserror::Error;
 
 /// Why an expression has no value.
@@ -22,4 +23,15 @@ pub enum EvalError {
     /// The text of a decimal number or of an address doesn't read.
     #[error("a text that doesn't read")]
     BadText,
+}
+
+impl From<EvalError> for Fault<EvalError> {
+    ghost use Rattle.std.specs.Prelude.{◌≡◌};
+    ghost use Rattle.sc_lists.specs.declared.fault.Fault.TheVariants.{Told};
+
+    ghost from_gives = { λ error fault. fault ≡ Told error };
+
+    fn from(error: EvalError) -> Fault<EvalError> {
+        Fault::Told(error)
+    }
 }

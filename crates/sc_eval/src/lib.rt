@@ -1,6 +1,19 @@
 //! Evaluation of expressions in a world.
 #![tactic(auto)]
 
+mod addresses;
+mod arithmetic;
+mod comparison;
+mod entities;
 mod error;
+mod evaluation;
+mod kinds;
+mod leaves;
+mod logic;
+mod operators;
+mod records;
+mod sets;
+mod texts;
 
 pub use error::EvalError;
+pub use evaluation::evaluate;

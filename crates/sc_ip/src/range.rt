@@ -1,11 +1,19 @@
 //! Whether the addresses of one range are among those of another.
 ghost use Rattle.std.specs.Prelude.{◌≡◌, ℕ, ◌-◌, ◌/◌, ◌^◌, IsTrue, ◌↔◌};
-ghost use Rattle.sc_ip.specs.Addresses.{is_version_4, address_of, width_of, prefix_of, IsInRange, IsLoopback, IsMulticast};
+ghost use Rattle.sc_ip.specs.Addresses.{is_version_4, address_of, width_of, prefix_of, IsInRange, IsLoopback, IsMulticast, is_in_range, is_loopback, is_multicast};
 
 use crate::ip::Ip;
 
 /// Whether two addresses are of one version, and the first one's range is within the second's.
 pub fn in_range(a: &Ip, b: &Ip) -> bool
+    ensures decides { IsTrue result ↔ IsInRange a.now b.now }
+    ensures value { result ≡ is_in_range a.now b.now }
+{
+    lies_in(a, b)
+}
+
+/// Whether the two are of one version, and each address of the first range is one of the second.
+fn lies_in(a: &Ip, b: &Ip) -> bool
     ensures { IsTrue result ↔ IsInRange a.now b.now }
 {
     is_v4(a) == is_v4(b) && is_within(number(a), free_bits(a), number(b), free_bits(b))
@@ -54,7 +62,8 @@ pub fn is_v4(a: &Ip) -> bool
 
 /// Whether the range is within `127.0.0.0/8` or `::1/128`.
 pub fn is_loopback(a: &Ip) -> bool
-    ensures { IsTrue result ↔ IsLoopback a.now }
+    ensures decides { IsTrue result ↔ IsLoopback a.now }
+    ensures value { result ≡ is_loopback a.now }
 {
     let version_4 = Ip::V4 {
         address: 0x7f00_0000,
@@ -69,7 +78,8 @@ pub fn is_loopback(a: &Ip) -> bool
 
 /// Whether the range is within `224.0.0.0/4` or `ff00::/8`.
 pub fn is_multicast(a: &Ip) -> bool
-    ensures { IsTrue result ↔ IsMulticast a.now }
+    ensures decides { IsTrue result ↔ IsMulticast a.now }
+    ensures value { result ≡ is_multicast a.now }
 {
     let version_4 = Ip::V4 {
         address: 0xe000_0000,

@@ -65,3 +65,12 @@ unfolding is_match IsMatch
 is_match_decides [] text = end_decides text
 is_match_decides (Char c ∷ parts) text = behind_decides c (is_match parts) (IsMatch parts) (is_match_decides parts) text
 is_match_decides (Star ∷ parts) text = somewhere_decides (is_match parts) (IsMatch parts) (is_match_decides parts) text
+
+same_truth : {P : Type 0} (b c : Bool) → (IsTrue b ↔ P) → (IsTrue c ↔ P) → b ≡ c
+same_truth true true p q = refl
+same_truth true false p q = sym (q.1 (p.0 refl))
+same_truth false true p q = p.1 (q.0 refl)
+same_truth false false p q = refl
+
+pub match_is : (r : Bool) (parts pattern : List Part) (text : List ℕ) → parts ≡ pattern → (IsTrue r ↔ IsMatch parts text) → r ≡ is_match pattern text
+match_is r parts pattern text e h = same_truth r (is_match parts text) h (is_match_decides parts text) ∙ ap (λ p. is_match p text) e

@@ -3,7 +3,7 @@
 ghost use Rattle.std.specs.Prelude.{◌≡◌, ◌↔◌, ◌∷◌, [], IsTrue, MatchOption};
 ghost use Rattle.std.specs.Str.{chars};
 ghost use Rattle.sc_pattern.specs.declared.part.Part.TheVariants.{Star as any_characters, Char as this_character};
-ghost use Rattle.sc_pattern.specs.Language.{IsMatch};
+ghost use Rattle.sc_pattern.specs.Language.{IsMatch, is_match};
 ghost use Rattle.sc_pattern.specs.Runs.{BeginsNoRun, IsAfterRun};
 
 use crate::part::Part;
@@ -81,9 +81,17 @@ fn matches_after_star(after: &[Part], text: &str) -> bool
 
 /// Whether a text matches a pattern (Cedar language reference, operator `like`).
 pub fn matches(pattern: &Pattern, text: &str) -> bool
-    ensures { IsTrue result ↔ IsMatch pattern.now (chars text.now) }
+    ensures decides { IsTrue result ↔ IsMatch pattern.now (chars text.now) }
+    ensures value { result ≡ is_match pattern.now (chars text.now) }
 {
-    let Some((left, rest)) = after_run(pattern.parts(), text) else {
+    matches_parts(pattern.parts(), text)
+}
+
+/// Whether a text matches the parts of a pattern.
+fn matches_parts(parts: &[Part], text: &str) -> bool
+    ensures { IsTrue result ↔ IsMatch parts.now (chars text.now) }
+{
+    let Some((left, rest)) = after_run(parts, text) else {
         return false;
     };
     match left.split_first() {

@@ -1,9 +1,9 @@
-use Rattle.sc_pattern.proofs.MatchLaws.{run_is_all, run_then_star, iff_trans, iff_sym, as_given}
+use Rattle.sc_pattern.proofs.MatchLaws.{as_given}
+use Rattle.sc_pattern.proofs.TestLaws.{match_is}
 use Rattle.sc_pattern.proofs.matching.matches.Goals as goal
 
-pub returns-in-None : goal.returns-in-None
-returns-in-None c = as_given _ _ _ c.parts.ensures (iff_trans c.is_end.ensures (iff_sym (run_is_all _ _ _ _ c.in-Some.ensures c.in-None.ensures.cases)))
+pub returns-clause-decides : goal.returns-clause-decides
+returns-clause-decides c = as_given _ _ _ c.parts.ensures c.matches_parts.ensures
 
-pub returns-in-Some-split_first : goal.returns-in-Some-split_first
-returns-in-Some-split_first c =
-    as_given _ _ _ c.parts.ensures (iff_trans c.matches_after_star.ensures (iff_sym (run_then_star _ _ _ _ _ _ c.in-Some.ensures c.in-Some-split_first.ensures.cases.0)))
+pub returns-clause-value : goal.returns-clause-value
+returns-clause-value c = match_is _ _ _ _ c.parts.ensures c.matches_parts.ensures
