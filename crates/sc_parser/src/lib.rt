@@ -4,5 +4,6 @@
 mod cursor;
 mod lexeme;
 mod operator;
+mod peek;
 mod scopes;
 mod stop;

@@ -1,4 +1,8 @@
 //! Why reading stops.
+ghost use Rattle.std.specs.Prelude.{◌≡◌};
+ghost use Rattle.sc_parser.specs.declared.stop.Stop.TheVariants.{NoMemory};
+
+use std::alloc::{AllocError, AllocFailed};
 
 /// Why reading stops at a token, or where the tokens end.
 #[derive(Clone, Copy, Debug, PartialEq, Eq)]
@@ -19,4 +23,20 @@ pub(crate) enum Stop {
     BadCall,
     /// Memory ran out.
     NoMemory,
+}
+
+impl From<AllocError> for Stop {
+    ghost from_gives = { λ _ stop. stop ≡ NoMemory };
+
+    fn from(_error: AllocError) -> Stop {
+        Stop::NoMemory
+    }
+}
+
+impl<T: Drop> From<AllocFailed<T>> for Stop {
+    ghost from_gives = { λ _ stop. stop ≡ NoMemory };
+
+    fn from(_error: AllocFailed<T>) -> Stop {
+        Stop::NoMemory
+    }
 }
