@@ -7,3 +7,4 @@ mod operator;
 mod peek;
 mod scopes;
 mod stop;
+mod tables;
