@@ -3,6 +3,7 @@
 
 mod cursor;
 mod lexeme;
+mod name;
 mod operator;
 mod peek;
 mod scopes;

@@ -4,7 +4,9 @@ ghost use Rattle.sc_parser.specs.Lexemes.{Is, Lacks, IsIdent, LacksIdent, LacksS
 ghost use Rattle.sc_parser.specs.declared.lexeme.Shape.TheVariants.{Word, Number, String as OfString, Sign};
 
 use crate::lexeme::{Lexeme, Shape};
-use sc_ast::Place;
+use crate::operator::{Level, Operator};
+use crate::tables::{level_of, operator_of, prefix_of};
+use sc_ast::{Place, UnaryOperator};
 use sc_lexer::Kind;
 use sc_names::is_ident;
 use sc_pattern::Part;
@@ -70,4 +72,30 @@ pub(crate) fn string_at(ts: &[Lexeme], at: usize) -> Option<(Place, &str, &[Part
         Shape::String(text, parts) => Some((token.place, text.as_str(), parts.as_slice())),
         _ => None,
     }
+}
+
+/// The place of an operator of this level, and which it is, if one stands there.
+pub(crate) fn operator_at(ts: &[Lexeme], at: usize, level: Level) -> Option<(Place, Operator)>
+    ensures found { IfSome result (λ x. IsOperator ts.now at x.0 level x.1) }
+    ensures within { IfSome result (λ _. at < length ts.now) }
+    ensures lacks { IfNone result (LacksOperator ts.now at level) }
+{
+    let token = ts.get(at)?;
+    let operator = operator_of(&token.shape)?;
+    if level_of(operator) == level {
+        Some((token.place, operator))
+    } else {
+        None
+    }
+}
+
+/// The place of a prefix, and which it is, if one stands there.
+pub(crate) fn prefix_at(ts: &[Lexeme], at: usize) -> Option<(Place, UnaryOperator)>
+    ensures found { IfSome result (λ x. IsPrefix ts.now at x.0 x.1) }
+    ensures within { IfSome result (λ _. at < length ts.now) }
+    ensures lacks { IfNone result (LacksPrefix ts.now at) }
+{
+    let token = ts.get(at)?;
+    let operator = prefix_of(&token.shape)?;
+    Some((token.place, operator))
 }
