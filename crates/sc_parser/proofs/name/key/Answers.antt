@@ -6,4 +6,4 @@ pub returns-then-has_key-clause-err : goal.returns-then-has_key-clause-err
 returns-then-has_key-clause-err c = λ _. key_ident_twice (ident c.in-Some.ensures.found c.requires.fits) (cc)
 
 pub returns-in-Some-clause-ok : goal.returns-in-Some-clause-ok
-returns-in-Some-clause-ok c = rw (c.in_ok-from_str.ensures, c.next.ensures) (key_ident (ident c.in-Some.ensures.found c.requires.fits) (cc))
+returns-in-Some-clause-ok c = rw (c.in_ok-from_str.ensures, c.next.ensures) (key_ident {fs = c.args.fields.now} (ident c.in-Some.ensures.found c.requires.fits) (cc))
