@@ -4,6 +4,7 @@
 mod cursor;
 mod lexeme;
 mod name;
+mod number;
 mod operator;
 mod peek;
 mod scopes;

@@ -1,13 +1,13 @@
 //! The operators, methods and functions by their tokens and names.
 ghost use Rattle.std.specs.Prelude.{◌≡◌, IfOk};
-ghost use Rattle.sc_parser.specs.Tables.{operator_of, operator_of_sign, level_of, joined, prefix_of, prefix_of_sign, variable_of, test_of, method_of, function_of};
+ghost use Rattle.sc_parser.specs.Tables.{operator_of, operator_of_sign, level_of, joined, prefix_of, prefix_of_sign, variable_of, test_of, method_of, function_of, called, applied};
 ghost use Rattle.sc_ast.specs.declared.expr.Expr.TheVariants.{Binary, Unary};
 
 use crate::lexeme::Shape;
 use crate::operator::{Level, Operator};
 use sc_ast::{BinaryOperator, Expr, Place, UnaryOperator, Variable};
 use sc_lexer::Kind;
-use sc_lists::Boxed;
+use sc_lists::{Boxed, Seq};
 use std::alloc::{AllocError, Global};
 
 /// The operator that a sign is.
@@ -221,5 +221,55 @@ fn function_of(word: &str) -> Option<UnaryOperator>
         Some(UnaryOperator::Ip)
     } else {
         None
+    }
+}
+
+/// The call of a method, if there is one of this name with so many arguments.
+
+pub(crate) fn called(
+    alloc: Global,
+    place: Place,
+    receiver: Expr,
+    name: &str,
+    arguments: Seq<Expr>,
+) -> Result<Option<Expr>, AllocError>
+    ensures { IfOk result (λ x. x ≡ called place receiver name.now arguments) }
+{
+    let mut arguments = arguments.into_vec();
+    let Some(last) = arguments.pop() else {
+        return match test_of(name) {
+            Some(operator) => Ok(Some(unary(alloc, place, operator, receiver)?)),
+            None => Ok(None),
+        };
+    };
+    if !arguments.is_empty() {
+        return Ok(None);
+    }
+    match method_of(name) {
+        Some(operator) => Ok(Some(binary(alloc, place, operator, receiver, last)?)),
+        None => Ok(None),
+    }
+}
+
+/// The call of a function, if there is one of this name with so many arguments.
+
+pub(crate) fn applied(
+    alloc: Global,
+    place: Place,
+    name: &str,
+    arguments: Seq<Expr>,
+) -> Result<Option<Expr>, AllocError>
+    ensures { IfOk result (λ x. x ≡ applied place name.now arguments) }
+{
+    let mut arguments = arguments.into_vec();
+    let Some(last) = arguments.pop() else {
+        return Ok(None);
+    };
+    if !arguments.is_empty() {
+        return Ok(None);
+    }
+    match function_of(name) {
+        Some(operator) => Ok(Some(unary(alloc, place, operator, last)?)),
+        None => Ok(None),
     }
 }
