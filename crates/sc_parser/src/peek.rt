@@ -1,10 +1,12 @@
 //! What stands at a place among the tokens.
-ghost use Rattle.std.specs.Prelude.{◌≡◌, ◌<◌, ◌↔◌, length, IfSome, IfNone, IsTrue};
-ghost use Rattle.sc_parser.specs.Lexemes.{Is, Lacks, IsIdent, LacksIdent, LacksString, IsOperator, LacksOperator, IsPrefix, LacksPrefix};
+ghost use Rattle.std.specs.Prelude.{◌≡◌, ◌<◌, ◌↔◌, length, IfSome, IfNone, IsTrue, true};
+ghost use Rattle.sc_parser.specs.Lexemes.{Is, Lacks, IsIdent, LacksIdent, LacksString, IsOperator, LacksOperator, IsPrefix, LacksPrefix, LacksThisPrefix, closing, starts, LacksStart};
+ghost use Rattle.sc_parser.specs.Tables.{least_digits};
+ghost use Rattle.sc_ast.specs.declared.operator.UnaryOperator.TheVariants.{Negate};
 ghost use Rattle.sc_parser.specs.declared.lexeme.Shape.TheVariants.{Word, Number, String as OfString, Sign};
 
 use crate::lexeme::{Lexeme, Shape};
-use crate::operator::{Level, Operator};
+use crate::operator::{Close, Level, Operator};
 use crate::tables::{level_of, operator_of, prefix_of};
 use sc_ast::{Place, UnaryOperator};
 use sc_lexer::Kind;
@@ -98,4 +100,88 @@ pub(crate) fn prefix_at(ts: &[Lexeme], at: usize) -> Option<(Place, UnaryOperato
     let token = ts.get(at)?;
     let operator = prefix_of(&token.shape)?;
     Some((token.place, operator))
+}
+
+/// The place of this prefix, if it stands there.
+pub(crate) fn this_prefix_at(ts: &[Lexeme], at: usize, operator: UnaryOperator) -> Option<Place>
+    ensures found { IfSome result (λ p. IsPrefix ts.now at p operator) }
+    ensures within { IfSome result (λ _. at < length ts.now) }
+    ensures lacks { IfNone result (LacksThisPrefix ts.now at operator) }
+{
+    match prefix_at(ts, at) {
+        Some((place, found)) if found == operator => Some(place),
+        _ => None,
+    }
+}
+
+/// The place of the token that ends what is enclosed, if it stands there.
+pub(crate) fn close_at(ts: &[Lexeme], at: usize, close: Close) -> Option<Place>
+    ensures found { IfSome result (λ p. Is ts.now at p (closing close)) }
+    ensures within { IfSome result (λ _. at < length ts.now) }
+    ensures lacks { IfNone result (Lacks ts.now at (closing close)) }
+{
+    match close {
+        Close::Then => word_at(ts, at, "then"),
+        Close::Else => word_at(ts, at, "else"),
+        Close::Parenthesis => sign_at(ts, at, Kind::CloseParenthesis),
+        Close::Bracket => sign_at(ts, at, Kind::CloseBracket),
+        Close::Brace => sign_at(ts, at, Kind::CloseBrace),
+    }
+}
+
+/// Whether a token is the number whose digits are these.
+fn is_number(shape: &Shape, digits: &str) -> bool
+    ensures { IsTrue result ↔ (shape.now ≡ Number digits.now) }
+{
+    match shape {
+        Shape::Number(found) => found.as_str() == digits,
+        _ => false,
+    }
+}
+
+/// The place of the digits that are a number of 64 bits with a minus before them alone, if they
+/// stand there and the operator before them is a minus.
+pub(crate) fn least_behind(ts: &[Lexeme], at: usize, operator: UnaryOperator) -> Option<Place>
+    ensures found { IfSome result (λ p. Is ts.now at p (Number least_digits)) }
+    ensures minus { IfSome result (λ _. operator ≡ Negate) }
+    ensures within { IfSome result (λ _. at < length ts.now) }
+    ensures lacks { IfNone result (operator ≡ Negate → Lacks ts.now at (Number least_digits)) }
+{
+    if operator != UnaryOperator::Negate {
+        return None;
+    }
+    let token = ts.get(at)?;
+    if is_number(&token.shape, "9223372036854775808") {
+        Some(token.place)
+    } else {
+        None
+    }
+}
+
+/// Whether a primary expression begins with a token.
+#[tactic(auto, unfolding(crate::specs::Lexemes::starts))]
+fn starts(shape: &Shape) -> bool
+    ensures { result ≡ starts shape.now }
+{
+    match shape {
+        Shape::Word(word) => {
+            is_ident(word.as_str()) || word.as_str() == "true" || word.as_str() == "false"
+        }
+        Shape::Number(_) | Shape::String(_, _) => true,
+        Shape::Sign(kind) => match kind {
+            Kind::OpenParenthesis | Kind::OpenBracket | Kind::OpenBrace => true,
+            _ => false,
+        },
+    }
+}
+
+/// The token with which a primary expression begins, if one stands there.
+pub(crate) fn start_at(ts: &[Lexeme], at: usize) -> Option<&Lexeme>
+    ensures found { IfSome result (λ token. Is ts.now at token.now.place token.now.shape) }
+    ensures starts { IfSome result (λ token. starts token.now.shape ≡ true) }
+    ensures within { IfSome result (λ _. at < length ts.now) }
+    ensures lacks { IfNone result (LacksStart ts.now at) }
+{
+    let token = ts.get(at)?;
+    if starts(&token.shape) { Some(token) } else { None }
 }

@@ -1,10 +1,10 @@
 //! The operators, methods and functions by their tokens and names.
 ghost use Rattle.std.specs.Prelude.{◌≡◌, IfOk};
 ghost use Rattle.sc_parser.specs.Tables.{operator_of, operator_of_sign, level_of, joined, prefix_of, prefix_of_sign, variable_of, test_of, method_of, function_of, called, applied};
-ghost use Rattle.sc_ast.specs.declared.expr.Expr.TheVariants.{Binary, Unary};
 
 use crate::lexeme::Shape;
 use crate::operator::{Level, Operator};
+use crate::tree::{binary, prefixed};
 use sc_ast::{BinaryOperator, Expr, Place, UnaryOperator, Variable};
 use sc_lexer::Kind;
 use sc_lists::{Boxed, Seq};
@@ -61,36 +61,6 @@ pub(crate) fn level_of(operator: Operator) -> Level
     }
 }
 
-/// An operator with two operands.
-fn binary(
-    alloc: Global,
-    place: Place,
-    operator: BinaryOperator,
-    a: Expr,
-    b: Expr,
-) -> Result<Expr, AllocError>
-    ensures { IfOk result (λ x. x ≡ Binary place operator a b) }
-{
-    Ok(Expr::Binary(
-        place,
-        operator,
-        Boxed::new(alloc, a)?,
-        Boxed::new(alloc, b)?,
-    ))
-}
-
-/// An operator with one operand.
-pub(crate) fn unary(
-    alloc: Global,
-    place: Place,
-    operator: UnaryOperator,
-    a: Expr,
-) -> Result<Expr, AllocError>
-    ensures { IfOk result (λ x. x ≡ Unary place operator a) }
-{
-    Ok(Expr::Unary(place, operator, Boxed::new(alloc, a)?))
-}
-
 /// What an operator makes of its operands.
 pub(crate) fn joined(
     alloc: Global,
@@ -111,7 +81,7 @@ pub(crate) fn joined(
         Operator::Equal => binary(alloc, place, BinaryOperator::Equal, a, b),
         Operator::NotEqual => {
             let equal = binary(alloc, place, BinaryOperator::Equal, a, b)?;
-            unary(alloc, place, UnaryOperator::Not, equal)
+            prefixed(alloc, place, UnaryOperator::Not, equal)
         }
         Operator::In => binary(alloc, place, BinaryOperator::In, a, b),
         Operator::Add => binary(alloc, place, BinaryOperator::Add, a, b),
@@ -238,7 +208,7 @@ pub(crate) fn called(
     let mut arguments = arguments.into_vec();
     let Some(last) = arguments.pop() else {
         return match test_of(name) {
-            Some(operator) => Ok(Some(unary(alloc, place, operator, receiver)?)),
+            Some(operator) => Ok(Some(prefixed(alloc, place, operator, receiver)?)),
             None => Ok(None),
         };
     };
@@ -269,7 +239,7 @@ pub(crate) fn applied(
         return Ok(None);
     }
     match function_of(name) {
-        Some(operator) => Ok(Some(unary(alloc, place, operator, last)?)),
+        Some(operator) => Ok(Some(prefixed(alloc, place, operator, last)?)),
         None => Ok(None),
     }
 }
