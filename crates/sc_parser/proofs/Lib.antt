@@ -1,1 +1,3 @@
 pub mod NumberLaws
+pub mod PrefixLaws
+pub mod StartLaws

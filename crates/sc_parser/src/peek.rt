@@ -108,9 +108,12 @@ pub(crate) fn this_prefix_at(ts: &[Lexeme], at: usize, operator: UnaryOperator) 
     ensures within { IfSome result (λ _. at < length ts.now) }
     ensures lacks { IfNone result (LacksThisPrefix ts.now at operator) }
 {
-    match prefix_at(ts, at) {
-        Some((place, found)) if found == operator => Some(place),
-        _ => None,
+    let token = ts.get(at)?;
+    let found = prefix_of(&token.shape)?;
+    if found == operator {
+        Some(token.place)
+    } else {
+        None
     }
 }
 

@@ -1,5 +1,5 @@
 //! Reads what has no operator.
-ghost use Rattle.std.specs.Prelude.{◌≡◌, ◌≤◌, ◌<◌, length, IfOk, IfErr, [], true, None, List, ◌+◌};
+ghost use Rattle.std.specs.Prelude.{◌≡◌, ◌≤◌, ◌<◌, length, IfOk, IfErr, [], true, false, None, List, ◌+◌};
 ghost use Rattle.sc_ast.specs.declared.expr.Expr.{Expr as AnyExpr};
 ghost use Rattle.sc_lexer.specs.declared.token.Kind.TheVariants as kind;
 ghost use Rattle.sc_parser.specs.declared.lexeme.Shape.TheVariants.{Word, Sign as OfSign};
@@ -9,6 +9,7 @@ ghost use Rattle.sc_parser.specs.Lexemes.{Is, starts};
 ghost use Rattle.sc_parser.specs.Outcomes.{Outcome, read, Halts};
 ghost use Rattle.sc_ast.specs.declared.place.Place.{Place as AnyPlace};
 ghost use Rattle.sc_pattern.specs.declared.part.Part.{Part as AnyPart};
+ghost use Rattle.sc_names.specs.Names.{is_ident};
 ghost use Rattle.sc_parser.specs.Tables.{variable_of};
 ghost use Rattle.sc_parser.specs.declared.lexeme.Shape.TheVariants.{Number, String as OfString};
 ghost use Rattle.sc_parser.specs.Lexemes.{IsIdent, Lacks};
@@ -27,6 +28,7 @@ use crate::tables::{applied, variable_of};
 use sc_ast::{Expr, Literal, Place};
 use sc_lexer::Kind;
 use sc_lists::Text;
+use sc_names::is_ident;
 use std::alloc::Global;
 
 /// Reads what has no operator.
@@ -46,7 +48,14 @@ pub(crate) fn primary(alloc: Global, ts: &[Lexeme], cursor: &mut Cursor) -> Resu
         return Err(Stop::TooDeep);
     }
     match &token.shape {
-        Shape::Word(word) => named(alloc, ts, token.place, word.as_str(), cursor),
+        Shape::Word(word) => {
+            let word = word.as_str();
+            if is_ident(word) {
+                named(alloc, ts, token.place, word, cursor)
+            } else {
+                truth(ts, token.place, word, cursor)
+            }
+        }
         Shape::Number(digits) => number(ts, token.place, digits.as_str(), cursor),
         Shape::String(text, _) => string_literal(alloc, ts, token.place, text.as_str(), cursor),
         Shape::Sign(kind) => opened(alloc, ts, token.place, *kind, cursor),
@@ -93,19 +102,12 @@ fn string_literal(
     Ok(Expr::Literal(place, Literal::String(text)))
 }
 
-/// Reads what begins with a word: `true` or `false`, an entity's uid, a variable, or the call of a
-/// function.
-#[cycle(read)]
-#[tactic(auto, using(crate::specs::Reads::truth, crate::specs::Reads::falsehood, crate::specs::Reads::variable))]
-fn named(
-    alloc: Global,
-    ts: &[Lexeme],
-    place: Place,
-    word: &str,
-    cursor: &mut Cursor,
-) -> Result<Expr, Stop>
+/// Reads `true` or `false`.
+#[tactic(auto, using(crate::specs::Reads::truth, crate::specs::Reads::falsehood, crate::proofs::StartLaws::is_false))]
+fn truth(ts: &[Lexeme], place: Place, word: &str, cursor: &mut Cursor) -> Result<Expr, Stop>
     requires here { Is ts.now cursor.old.at place (Word word.now) }
     requires starts { starts (Word word.now) ≡ true }
+    requires reserved { is_ident word.now ≡ false }
     requires fits { fits cursor.old ≡ true }
     requires within { cursor.old.at < length ts.now }
     ensures forward { cursor.old.at ≤ cursor.new.at }
@@ -113,10 +115,31 @@ fn named(
     ensures ok { IfOk result (λ x. ReadsPrimary ts.now cursor.old (read x cursor.new)) }
     ensures err { IfErr result (λ f. Halts (ReadsPrimary ts.now cursor.old) f cursor.new) }
 {
-    if word == "true" || word == "false" {
-        *cursor = cursor.next();
-        return Ok(Expr::Literal(place, Literal::Bool(word == "true")));
+    *cursor = cursor.next();
+    if word == "true" {
+        return Ok(Expr::Literal(place, Literal::Bool(true)));
     }
+    Ok(Expr::Literal(place, Literal::Bool(false)))
+}
+
+/// Reads what begins with an identifier: an entity's uid, a variable, or the call of a function.
+#[cycle(read)]
+#[tactic(auto, using(crate::specs::Reads::variable))]
+fn named(
+    alloc: Global,
+    ts: &[Lexeme],
+    place: Place,
+    word: &str,
+    cursor: &mut Cursor,
+) -> Result<Expr, Stop>
+    requires here { IsIdent ts.now cursor.old.at place word.now }
+    requires fits { fits cursor.old ≡ true }
+    requires within { cursor.old.at < length ts.now }
+    ensures forward { cursor.old.at ≤ cursor.new.at }
+    ensures within { cursor.new.at ≤ length ts.now }
+    ensures ok { IfOk result (λ x. ReadsPrimary ts.now cursor.old (read x cursor.new)) }
+    ensures err { IfErr result (λ f. Halts (ReadsPrimary ts.now cursor.old) f cursor.new) }
+{
     if let Some(_) = sign_at(ts, cursor.at + 1, Kind::DoubleColon) {
         return entity_literal(alloc, ts, place, word, cursor);
     }
@@ -186,7 +209,7 @@ fn function(
 
 /// Reads what begins with an opening bracket of any kind.
 #[cycle(read)]
-#[tactic(auto, using(crate::specs::Reads::parenthesis, crate::specs::Reads::set_halts, crate::specs::Reads::set, crate::specs::Reads::record_halts, crate::specs::Reads::fields))]
+#[tactic(auto, using(crate::specs::Reads::parenthesis, crate::specs::Reads::set_halts, crate::specs::Reads::set, crate::specs::Reads::record_halts, crate::specs::Reads::fields), unfolding(crate::specs::Lexemes::starts))]
 fn opened(
     alloc: Global,
     ts: &[Lexeme],
