@@ -36,7 +36,7 @@ pub(crate) fn unary(alloc: Global, ts: &[Lexeme], cursor: &mut Cursor) -> Result
 
 /// Reads at most so many prefixes of this kind, and what they stand before.
 #[cycle(read)]
-#[tactic(auto, using(crate::specs::Reads::prefixes_spent, crate::specs::Reads::prefixes_end, crate::specs::Reads::prefix_deep, crate::proofs::PrefixLaws::least_refused, crate::proofs::PrefixLaws::least_read, crate::specs::Reads::prefix_halts, crate::specs::Reads::prefix))]
+#[tactic(auto, using(crate::specs::Reads::prefixes_spent, crate::specs::Reads::prefixes_end, crate::specs::Reads::prefix_deep, crate::proofs::PrefixLaws::least_refused, crate::proofs::PrefixLaws::least_read, crate::proofs::PrefixLaws::prefix_refused, crate::proofs::PrefixLaws::prefix_read))]
 fn prefixes(
     alloc: Global,
     ts: &[Lexeme],

@@ -22,7 +22,7 @@ use crate::lexeme::{Lexeme, Shape};
 use crate::name::more_entity;
 use crate::number::long_of;
 use crate::operator::Close;
-use crate::peek::{sign_at, start_at};
+use crate::peek::{sign_at, start_at, word_at};
 use crate::stop::Stop;
 use crate::tables::{applied, variable_of};
 use sc_ast::{Expr, Literal, Place};
@@ -103,7 +103,7 @@ fn string_literal(
 }
 
 /// Reads `true` or `false`.
-#[tactic(auto, using(crate::specs::Reads::truth, crate::specs::Reads::falsehood, crate::proofs::StartLaws::is_false))]
+#[tactic(auto, using(crate::specs::Reads::truth, crate::specs::Reads::falsehood))]
 fn truth(ts: &[Lexeme], place: Place, word: &str, cursor: &mut Cursor) -> Result<Expr, Stop>
     requires here { Is ts.now cursor.old.at place (Word word.now) }
     requires starts { starts (Word word.now) ≡ true }
@@ -115,10 +115,11 @@ fn truth(ts: &[Lexeme], place: Place, word: &str, cursor: &mut Cursor) -> Result
     ensures ok { IfOk result (λ x. ReadsPrimary ts.now cursor.old (read x cursor.new)) }
     ensures err { IfErr result (λ f. Halts (ReadsPrimary ts.now cursor.old) f cursor.new) }
 {
-    *cursor = cursor.next();
-    if word == "true" {
+    if let Some(place) = word_at(ts, cursor.at, "true") {
+        *cursor = cursor.next();
         return Ok(Expr::Literal(place, Literal::Bool(true)));
     }
+    *cursor = cursor.next();
     Ok(Expr::Literal(place, Literal::Bool(false)))
 }
 
@@ -176,7 +177,7 @@ fn entity_literal(
 
 /// Reads the call of a function.
 #[cycle(read)]
-#[tactic(auto, using(crate::specs::Reads::lone_ident, crate::specs::Reads::function_halts, crate::specs::Reads::no_function, crate::specs::Reads::function))]
+#[tactic(auto, using(crate::specs::Reads::lone_ident, crate::proofs::CallLaws::arguments_refused, crate::specs::Reads::no_function, crate::specs::Reads::function))]
 fn function(
     alloc: Global,
     ts: &[Lexeme],
