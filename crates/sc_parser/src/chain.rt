@@ -49,12 +49,7 @@ pub(crate) fn chain(
 /// Reads an operand of a chain.
 #[cycle(read)]
 #[tactic(auto, using(crate::specs::Reads::operand_or, crate::specs::Reads::operand_and, crate::specs::Reads::operand_add, crate::specs::Reads::operand_multiply))]
-fn operand(
-    alloc: Global,
-    ts: &[Lexeme],
-    level: Level,
-    cursor: &mut Cursor,
-) -> Result<Expr, Stop>
+fn operand(alloc: Global, ts: &[Lexeme], level: Level, cursor: &mut Cursor) -> Result<Expr, Stop>
     requires within { cursor.old.at ≤ length ts.now }
     requires chains { level ≡ level_is.Relation → ⊥ }
     ensures forward { cursor.old.at ≤ cursor.new.at }

@@ -37,7 +37,10 @@ pub(crate) fn ident<'a>(ts: &'a [Lexeme], cursor: &mut Cursor) -> Result<(Place,
 
 /// Reads a string: the text and the pattern that it means.
 #[tactic(auto, using(crate::specs::Reads::string, crate::specs::Reads::string_deep, crate::specs::Reads::no_string))]
-pub(crate) fn string<'a>(ts: &'a [Lexeme], cursor: &mut Cursor) -> Result<(&'a str, &'a [Part]), Stop>
+pub(crate) fn string<'a>(
+    ts: &'a [Lexeme],
+    cursor: &mut Cursor,
+) -> Result<(&'a str, &'a [Part]), Stop>
     requires { cursor.old.at ≤ length ts.now }
     ensures forward { cursor.old.at ≤ cursor.new.at }
     ensures within { cursor.new.at ≤ length ts.now }
@@ -179,7 +182,11 @@ pub(crate) fn more_entity(
 
 /// Reads an entity's uid.
 #[tactic(auto, using(crate::specs::Reads::entity_ident_halt, crate::specs::Reads::entity))]
-pub(crate) fn entity(alloc: Global, ts: &[Lexeme], cursor: &mut Cursor) -> Result<EntityLiteral, Stop>
+pub(crate) fn entity(
+    alloc: Global,
+    ts: &[Lexeme],
+    cursor: &mut Cursor,
+) -> Result<EntityLiteral, Stop>
     requires { cursor.old.at ≤ length ts.now }
     ensures forward { cursor.old.at ≤ cursor.new.at }
     ensures within { cursor.new.at ≤ length ts.now }

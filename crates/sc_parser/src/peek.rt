@@ -186,5 +186,9 @@ pub(crate) fn start_at(ts: &[Lexeme], at: usize) -> Option<&Lexeme>
     ensures lacks { IfNone result (LacksStart ts.now at) }
 {
     let token = ts.get(at)?;
-    if starts(&token.shape) { Some(token) } else { None }
+    if starts(&token.shape) {
+        Some(token)
+    } else {
+        None
+    }
 }

@@ -65,7 +65,12 @@ fn prefixes(
             return Err(Stop::TooDeep);
         }
         *cursor = cursor.next();
-        return accesses(alloc, ts, Expr::Literal(place, Literal::Long(i64::MIN)), cursor);
+        return accesses(
+            alloc,
+            ts,
+            Expr::Literal(place, Literal::Long(i64::MIN)),
+            cursor,
+        );
     }
     let x = prefixes(alloc, ts, operator, left - 1, cursor)?;
     Ok(prefixed(alloc, place, operator, x)?)

@@ -68,12 +68,7 @@ pub(crate) fn has(
 }
 
 /// A test by a pattern.
-pub(crate) fn like(
-    alloc: Global,
-    place: Place,
-    a: Expr,
-    parts: &[Part],
-) -> Result<Expr, AllocError>
+pub(crate) fn like(alloc: Global, place: Place, a: Expr, parts: &[Part]) -> Result<Expr, AllocError>
     ensures { IfOk result (λ x. x ≡ expr.Like place a parts.now) }
 {
     let pattern = pattern_of(alloc, parts)?;
@@ -113,12 +108,7 @@ pub(crate) fn is_in(
 }
 
 /// The access to an attribute.
-pub(crate) fn access(
-    alloc: Global,
-    place: Place,
-    a: Expr,
-    name: &str,
-) -> Result<Expr, AllocError>
+pub(crate) fn access(alloc: Global, place: Place, a: Expr, name: &str) -> Result<Expr, AllocError>
     ensures { IfOk result (λ x. x ≡ expr.Access place a name.now) }
 {
     let name = Text::from_str(alloc, name)?;

@@ -1,4 +1,4 @@
-use Rattle.std.proofs.Common.{◌≡◌, sym, arith}
+use Rattle.std.proofs.Common.{sym, arith}
 use Rattle.sc_parser.proofs.FieldLaws.{field_read}
 use Rattle.sc_parser.proofs.CallLaws.{arguments_refused}
 use Rattle.sc_parser.proofs.PrefixLaws.{prefix_refused}

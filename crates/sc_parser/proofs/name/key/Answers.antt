@@ -1,4 +1,3 @@
-use Rattle.std.proofs.Common.{◌≡◌}
 use Rattle.sc_parser.specs.Reads.{ident, key_ident, key_ident_twice}
 use Rattle.sc_parser.proofs.name.key.Goals as goal
 

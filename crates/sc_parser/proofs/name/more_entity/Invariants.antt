@@ -1,4 +1,4 @@
-use Rattle.std.proofs.Common.{◌≡◌, ◌≤◌, ◌-◌, length, string_bytes}
+use Rattle.std.proofs.Common.{◌≤◌, ◌-◌, length, string_bytes}
 use Rattle.sc_ast.specs.declared.literal.EntityLiteral.{EntityLiteral}
 use Rattle.sc_parser.specs.Outcomes.{Outcome}
 use Rattle.sc_parser.specs.Reads.{ReadsMoreEntity}

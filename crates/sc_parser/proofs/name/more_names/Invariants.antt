@@ -1,4 +1,4 @@
-use Rattle.std.proofs.Common.{◌≡◌, ◌≤◌, ◌-◌, ℕ, List, length}
+use Rattle.std.proofs.Common.{◌≤◌, ◌-◌, ℕ, List, length}
 use Rattle.sc_parser.specs.Outcomes.{Outcome}
 use Rattle.sc_parser.specs.Reads.{ReadsMoreNames}
 use Rattle.sc_parser.proofs.name.more_names.Given as goal

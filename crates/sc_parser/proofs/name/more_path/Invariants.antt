@@ -1,4 +1,4 @@
-use Rattle.std.proofs.Common.{◌≡◌, ◌≤◌, ◌-◌, ℕ, List, length, string_bytes}
+use Rattle.std.proofs.Common.{◌≤◌, ◌-◌, ℕ, List, length, string_bytes}
 use Rattle.sc_parser.specs.Outcomes.{Outcome}
 use Rattle.sc_parser.specs.Reads.{ReadsMorePath}
 use Rattle.sc_parser.proofs.name.more_path.Given as goal

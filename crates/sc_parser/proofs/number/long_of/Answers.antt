@@ -1,5 +1,4 @@
-use Rattle.std.proofs.Common.{◌≡◌, ◌+◌, ◌*◌, refl, arith}
-use Rattle.std.specs.Str.Parse.{digits_value}
+use Rattle.std.proofs.Common.{refl, arith}
 use Rattle.sc_parser.proofs.NumberLaws.{value_more, large}
 use Rattle.sc_parser.proofs.number.long_of.Goals as goal
 

@@ -1,4 +1,4 @@
-use Rattle.std.proofs.Common.{◌≡◌, sym}
+use Rattle.std.proofs.Common.{sym}
 use Rattle.sc_parser.specs.Reads.{entity_primary_halts}
 use Rattle.sc_parser.proofs.StopLaws.{handed_on}
 use Rattle.sc_parser.proofs.primary.entity_literal.Goals as goal

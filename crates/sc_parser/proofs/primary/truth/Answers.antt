@@ -1,4 +1,3 @@
-use Rattle.std.proofs.Common.{◌≡◌}
 use Rattle.sc_parser.specs.Reads.{falsehood}
 use Rattle.sc_parser.proofs.StartLaws.{is_false}
 use Rattle.sc_parser.proofs.primary.truth.Goals as goal
