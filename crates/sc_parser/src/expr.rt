@@ -49,7 +49,6 @@ pub(crate) fn inner(alloc: Global, ts: &[Lexeme], cursor: &mut Cursor) -> Result
     requires { cursor.old.at ≤ length ts.now }
     ensures forward { cursor.old.at ≤ cursor.new.at }
     ensures within { cursor.new.at ≤ length ts.now }
-    ensures kept { IfOk result (λ _. fits cursor.new ≡ fits cursor.old) }
     ensures ok { IfOk result (λ x. ReadsInner ts.now cursor.old (read x cursor.new)) }
     ensures err { IfErr result (λ f. Halts (ReadsInner ts.now cursor.old) f cursor.new) }
 {

@@ -61,8 +61,7 @@ pub(crate) fn fields(
     ts: &[Lexeme],
     cursor: &mut Cursor,
 ) -> Result<Seq<(Text, Expr)>, Stop>
-    requires within { cursor.old.at ≤ length ts.now }
-    requires fits { fits cursor.old ≡ true }
+    requires { cursor.old.at ≤ length ts.now }
     ensures forward { cursor.old.at ≤ cursor.new.at }
     ensures within { cursor.new.at ≤ length ts.now }
     ensures ended { IfOk result (λ _. cursor.new.at < length ts.now) }

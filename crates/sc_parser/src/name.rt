@@ -1,8 +1,7 @@
 //! Reads identifiers and strings, and what is made of them.
-ghost use Rattle.std.specs.Prelude.{◌≡◌, ◌≤◌, ◌++◌, ◌∷◌, [], length, IfOk, IfErr, OnOk, codes, string_bytes, true};
+ghost use Rattle.std.specs.Prelude.{◌≡◌, ◌≤◌, ◌++◌, ◌∷◌, [], length, IfOk, IfErr, OnOk, codes, string_bytes};
 ghost use Rattle.sc_parser.specs.Outcomes.{read, Halts};
 ghost use Rattle.sc_parser.specs.Reads.{ReadsIdent, ReadsString, ReadsMoreNames, ReadsNames, ReadsMorePath, ReadsPath, ReadsMoreEntity, ReadsEntity, ReadsKey};
-ghost use Rattle.sc_parser.specs.Depth.{fits};
 ghost use Rattle.sc_parser.specs.Tables.{has_key};
 
 use crate::cursor::Cursor;
@@ -206,22 +205,23 @@ fn has_key(name: &str, fields: &[(Text, Expr)]) -> bool
 }
 
 /// Reads a key of a record that has these fields so far.
-#[tactic(auto, using(crate::specs::Reads::ident, crate::specs::Reads::string, crate::specs::Reads::key_ident, crate::specs::Reads::key_ident_twice, crate::specs::Reads::key_string, crate::specs::Reads::key_string_twice, crate::specs::Reads::no_key))]
+#[tactic(auto, using(crate::specs::Reads::ident, crate::specs::Reads::string, crate::specs::Reads::key_ident, crate::specs::Reads::key_ident_deep, crate::specs::Reads::key_ident_twice, crate::specs::Reads::key_string, crate::specs::Reads::key_string_deep, crate::specs::Reads::key_string_twice, crate::specs::Reads::no_key))]
 pub(crate) fn key(
     alloc: Global,
     ts: &[Lexeme],
     cursor: &mut Cursor,
     fields: &[(Text, Expr)],
 ) -> Result<Text, Stop>
-    requires within { cursor.old.at ≤ length ts.now }
-    requires fits { fits cursor.old ≡ true }
+    requires { cursor.old.at ≤ length ts.now }
     ensures forward { cursor.old.at ≤ cursor.new.at }
     ensures within { cursor.new.at ≤ length ts.now }
-    ensures fits { IfOk result (λ _. fits cursor.new ≡ true) }
     ensures ok { IfOk result (λ w. ReadsKey ts.now cursor.old fields.now (read w cursor.new)) }
     ensures err { IfErr result (λ f. Halts (ReadsKey ts.now cursor.old fields.now) f cursor.new) }
 {
     if let Some((_, word)) = ident_at(ts, cursor.at) {
+        if !cursor.fits() {
+            return Err(Stop::TooDeep);
+        }
         if has_key(word, fields) {
             return Err(Stop::DuplicateKey);
         }
@@ -231,6 +231,9 @@ pub(crate) fn key(
     let Some((_, text, _)) = string_at(ts, cursor.at) else {
         return Err(Stop::Unexpected);
     };
+    if !cursor.fits() {
+        return Err(Stop::TooDeep);
+    }
     if has_key(text, fields) {
         return Err(Stop::DuplicateKey);
     }

@@ -92,7 +92,6 @@ abbrev pub invariant-items::fields-loop-fs : goal.invariant-items::fields-loop-f
 invariant-items::fields-loop-fs l = record {
   forward : l.fn.cursor.at ≤ l.cursor.at;
   within : l.cursor.at ≤ length l.ts;
-  fits : fits l.cursor ≡ true;
   rest : (o : Outcome (List (List ℕ × Expr))) → ReadsFields l.ts l.cursor l.fs o → ReadsFields l.ts l.fn.cursor [] o;
 }
 
