@@ -2,8 +2,10 @@
 #![tactic(auto)]
 
 mod chain;
+mod constraint;
 mod cursor;
 mod expr;
+mod head;
 mod items;
 mod lexeme;
 mod member;
@@ -11,6 +13,7 @@ mod name;
 mod number;
 mod operator;
 mod peek;
+mod policy;
 mod prefix;
 mod primary;
 mod scopes;

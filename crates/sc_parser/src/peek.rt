@@ -1,6 +1,6 @@
 //! What stands at a place among the tokens.
-ghost use Rattle.std.specs.Prelude.{◌≡◌, ◌<◌, ◌↔◌, length, IfSome, IfNone, IsTrue, true};
-ghost use Rattle.sc_parser.specs.Lexemes.{Is, Lacks, IsIdent, LacksIdent, LacksString, IsOperator, LacksOperator, IsPrefix, LacksPrefix, LacksThisPrefix, closing, starts, LacksStart};
+ghost use Rattle.std.specs.Prelude.{◌≡◌, ◌<◌, ◌↔◌, length, IfSome, IfNone, IsTrue, true, ℕ, List};
+ghost use Rattle.sc_parser.specs.Lexemes.{Is, Lacks, IsIdent, LacksIdent, LacksString, IsOperator, LacksOperator, IsPrefix, LacksPrefix, LacksThisPrefix, closing, starts, LacksStart, LacksWord, IsEffect, LacksEffect, IsClause, LacksClause, IsPolicyStart};
 ghost use Rattle.sc_parser.specs.Tables.{least_digits};
 ghost use Rattle.sc_ast.specs.declared.operator.UnaryOperator.TheVariants.{Negate};
 ghost use Rattle.sc_parser.specs.declared.lexeme.Shape.TheVariants.{Word, Number, String as OfString, Sign};
@@ -8,7 +8,7 @@ ghost use Rattle.sc_parser.specs.declared.lexeme.Shape.TheVariants.{Word, Number
 use crate::lexeme::{Lexeme, Shape};
 use crate::operator::{Close, Level, Operator};
 use crate::tables::{level_of, operator_of, prefix_of};
-use sc_ast::{Place, UnaryOperator};
+use sc_ast::{ConditionKind, Effect, Place, UnaryOperator};
 use sc_lexer::Kind;
 use sc_names::is_ident;
 use sc_pattern::Part;
@@ -191,4 +191,61 @@ pub(crate) fn start_at(ts: &[Lexeme], at: usize) -> Option<&Lexeme>
     } else {
         None
     }
+}
+
+/// The place of a word, if one stands there.
+pub(crate) fn any_word_at(ts: &[Lexeme], at: usize) -> Option<Place>
+    ensures found { IfSome result (λ p. (w : List ℕ) × Is ts.now at p (Word w)) }
+    ensures within { IfSome result (λ _. at < length ts.now) }
+    ensures lacks { IfNone result (LacksWord ts.now at) }
+{
+    let token = ts.get(at)?;
+    match &token.shape {
+        Shape::Word(_) => Some(token.place),
+        _ => None,
+    }
+}
+
+/// The place of the word of an effect, and which it is, if one stands there.
+pub(crate) fn effect_at(ts: &[Lexeme], at: usize) -> Option<(Place, Effect)>
+    ensures found { IfSome result (λ x. IsEffect ts.now at x.0 x.1) }
+    ensures within { IfSome result (λ _. at < length ts.now) }
+    ensures lacks { IfNone result (LacksEffect ts.now at) }
+{
+    if let Some(place) = word_at(ts, at, "permit") {
+        return Some((place, Effect::Permit));
+    }
+    if let Some(place) = word_at(ts, at, "forbid") {
+        return Some((place, Effect::Forbid));
+    }
+    None
+}
+
+/// The place of the word of a clause, and which it is, if one stands there.
+pub(crate) fn clause_at(ts: &[Lexeme], at: usize) -> Option<(Place, ConditionKind)>
+    ensures found { IfSome result (λ x. IsClause ts.now at x.0 x.1) }
+    ensures within { IfSome result (λ _. at < length ts.now) }
+    ensures lacks { IfNone result (LacksClause ts.now at) }
+{
+    if let Some(place) = word_at(ts, at, "when") {
+        return Some((place, ConditionKind::When));
+    }
+    if let Some(place) = word_at(ts, at, "unless") {
+        return Some((place, ConditionKind::Unless));
+    }
+    None
+}
+
+/// Whether a policy begins there.
+#[tactic(auto, using(crate::specs::Lexemes::annotation_starts, crate::specs::Lexemes::effect_starts))]
+pub(crate) fn policy_at(ts: &[Lexeme], at: usize) -> bool
+    ensures { IsTrue result ↔ IsPolicyStart ts.now at }
+{
+    if let Some(_) = sign_at(ts, at, Kind::At) {
+        return true;
+    }
+    if let Some(_) = effect_at(ts, at) {
+        return true;
+    }
+    false
 }
