@@ -1,5 +1,5 @@
 //! What stands at a place among the tokens.
-ghost use Rattle.std.specs.Prelude.{◌≡◌, ◌<◌, ◌↔◌, length, IfSome, IfNone, IsTrue, true, ℕ, List};
+ghost use Rattle.std.specs.Prelude.{◌≡◌, ◌<◌, ◌↔◌, length, IfSome, IfNone, IsTrue, true, false, ℕ, List};
 ghost use Rattle.sc_parser.specs.Lexemes.{Is, Lacks, IsIdent, LacksIdent, LacksString, IsOperator, LacksOperator, IsPrefix, LacksPrefix, LacksThisPrefix, closing, starts, LacksStart, LacksWord, IsEffect, LacksEffect, IsClause, LacksClause, IsPolicyStart};
 ghost use Rattle.sc_parser.specs.Tables.{least_digits};
 ghost use Rattle.sc_ast.specs.declared.operator.UnaryOperator.TheVariants.{Negate};
@@ -239,7 +239,8 @@ pub(crate) fn clause_at(ts: &[Lexeme], at: usize) -> Option<(Place, ConditionKin
 /// Whether a policy begins there.
 #[tactic(auto, using(crate::specs::Lexemes::annotation_starts, crate::specs::Lexemes::effect_starts))]
 pub(crate) fn policy_at(ts: &[Lexeme], at: usize) -> bool
-    ensures { IsTrue result ↔ IsPolicyStart ts.now at }
+    ensures yes { result ≡ true → IsPolicyStart ts.now at }
+    ensures no { result ≡ false → IsPolicyStart ts.now at → ⊥ }
 {
     if let Some(_) = sign_at(ts, at, Kind::At) {
         return true;

@@ -1,5 +1,5 @@
 //! Reads policies.
-ghost use Rattle.std.specs.Prelude.{◌≡◌, ◌≤◌, ◌<◌, length, IfOk, IfErr, [], codes};
+ghost use Rattle.std.specs.Prelude.{◌≡◌, ◌≤◌, ◌<◌, length, IfOk, IfErr, [], nat_lt};
 ghost use Rattle.sc_parser.specs.Outcomes.{read, halt, Halts};
 ghost use Rattle.sc_parser.specs.declared.stop.Stop.TheVariants.{NoMemory};
 ghost use Rattle.sc_parser.specs.Depth.{outside};
@@ -51,6 +51,7 @@ fn policy(alloc: Global, ts: &[Lexeme], cursor: &mut Cursor) -> Result<Policy, S
     requires { cursor.old.at ≤ length ts.now }
     ensures forward { cursor.old.at ≤ cursor.new.at }
     ensures within { cursor.new.at ≤ length ts.now }
+    ensures moved { IfOk result (λ _. cursor.old.at < cursor.new.at) }
     ensures ok { IfOk result (λ x. ReadsPolicy ts.now cursor.old (read x cursor.new)) }
     ensures err { IfErr result (λ f. Halts (ReadsPolicy ts.now cursor.old) f cursor.new) }
 {
@@ -71,7 +72,14 @@ fn policy(alloc: Global, ts: &[Lexeme], cursor: &mut Cursor) -> Result<Policy, S
     })
 }
 
-/// Reads the policies of a file, of which it may have 10,000.
+/// Whether a file may have one more policy, where it has so many.
+fn has_room(policies: usize) -> bool
+    ensures { result ≡ nat_lt policies 10000 }
+{
+    policies < 10_000
+}
+
+/// Reads the policies of a file.
 #[tactic(auto, using(crate::specs::ReadsFiles::file_ends, crate::specs::ReadsFiles::too_many, crate::specs::ReadsFiles::no_policy, crate::specs::ReadsFiles::policy_halts, crate::specs::ReadsFiles::more_policies))]
 pub(crate) fn policies(
     alloc: Global,
@@ -88,7 +96,7 @@ pub(crate) fn policies(
         if !policy_at(ts, *at) {
             return Err(Stop::Unexpected);
         }
-        if policies.len() >= 10_000 {
+        if !has_room(policies.len()) {
             return Err(Stop::TooManyPolicies);
         }
         let mut cursor = Cursor::outside(*at);
