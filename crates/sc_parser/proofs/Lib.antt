@@ -4,4 +4,5 @@ pub mod Tests
 pub mod Programs
 pub mod Productions
 pub mod Runs
+pub mod TestLaws
 pub mod RunLaws
