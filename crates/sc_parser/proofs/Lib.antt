@@ -6,3 +6,4 @@ pub mod Productions
 pub mod Runs
 pub mod TestLaws
 pub mod RunLaws
+pub mod WordReads
