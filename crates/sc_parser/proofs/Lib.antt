@@ -7,3 +7,5 @@ pub mod Runs
 pub mod TestLaws
 pub mod RunLaws
 pub mod WordReads
+pub mod PrimaryRuns
+pub mod ExpressionReads
