@@ -6,6 +6,7 @@ pub mod Productions
 pub mod Runs
 pub mod TestLaws
 pub mod RunLaws
-pub mod WordReads
-pub mod PrimaryRuns
-pub mod ExpressionReads
+pub mod ReadsWordLaws
+pub mod PrimaryLaws
+pub mod ReadsLaws
+pub mod ReadsFileLaws

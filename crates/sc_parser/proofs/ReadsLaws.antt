@@ -22,8 +22,8 @@ use Rattle.sc_parser.proofs.Productions.{production}
 use Rattle.sc_parser.proofs.Runs.{Runs, does, fails, finds, lacks, goes, keeps, breaks, calls, halts}
 use Rattle.sc_parser.proofs.TestLaws.{other, other_word, no_operator, operator_has, operator_like, operator_is, minus_prefix, variable_ident, comma_closes_none}
 use Rattle.sc_parser.proofs.RunLaws.{tail}
-use Rattle.sc_parser.proofs.WordReads.{into_ident, into_string, into_names, into_path, into_more_entity, into_key}
-use Rattle.sc_parser.proofs.PrimaryRuns.{at_true, at_false, at_number, at_string, at_parenthesis, at_bracket, at_brace, at_ident}
+use Rattle.sc_parser.proofs.ReadsWordLaws.{into_ident, into_string, into_names, into_path, into_more_entity, into_key}
+use Rattle.sc_parser.proofs.PrimaryLaws.{at_true, at_false, at_number, at_string, at_parenthesis, at_bracket, at_brace, at_ident}
 
 -- what ends a list stands behind it
 items_closed : {ts : List Lexeme} {c : Close} {s t : Cursor} {xs ys : List Expr} → ReadsItems ts c s xs (read ys t) → (p : Place) × Is ts t.at p (closing c)
