@@ -10,3 +10,7 @@ pub mod ReadsWordLaws
 pub mod PrimaryLaws
 pub mod ReadsLaws
 pub mod ReadsFileLaws
+pub mod Strength
+pub mod StrengthLaws
+pub mod GrammarWordLaws
+pub mod FirstLaws
