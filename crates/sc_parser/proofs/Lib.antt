@@ -14,3 +14,4 @@ pub mod Strength
 pub mod StrengthLaws
 pub mod GrammarWordLaws
 pub mod FirstLaws
+pub mod GrammarLaws
