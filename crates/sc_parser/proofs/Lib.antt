@@ -15,3 +15,4 @@ pub mod StrengthLaws
 pub mod GrammarWordLaws
 pub mod FirstLaws
 pub mod GrammarLaws
+pub mod GrammarFileLaws
