@@ -1,6 +1,7 @@
 -- What spells a file is read so. Where templates are let through, another uid may stand for a slot.
 use Rattle.std.proofs.Common.{◌≡◌, ◌+◌, ◌<◌, ◌≤◌, ℕ, List, [], ◌∷◌, ◌++◌, length, slice_get, codes, nat_lt, true, false, refl, sym, ap, ◌∙◌, arith, subst}
 use Rattle.std.specs.declared.option.Option.TheVariants.{Some, None}
+use Rattle.std.proofs.lemmas.List.{length-append}
 use Rattle.sc_ast.specs.declared.place.Place.{Place}
 use Rattle.sc_ast.specs.declared.expr.TypeName.{TypeName}
 use Rattle.sc_ast.specs.declared.literal.EntityLiteral.{EntityLiteral}
@@ -140,3 +141,21 @@ policy_starts (g.annotation {p = p} h k i j l a) = annotation_starts p h
 
 one_starts : {K : Limits} {ts : List Lexeme} {s t : Cursor} {x : Policy} → OnePolicy K ts s x t → IsPolicyStart ts s.at
 one_starts (g.policy a b c h) = policy_starts a
+
+-- policies are read up to there, and they are these where all limits are kept
+pub record GivenPolicies (K : Limits) (ts : List Lexeme) (rs ps qs : List Policy) (i j : ℕ) : Type 0 where
+  pub value : List Policy
+  pub runs : Runs K ts sort.policies (production (n.policies rs)) (outside i) (read value (outside j))
+  pub same : (KeepsAll K → rs ≡ ps) → KeepsAll K → value ≡ qs
+
+pub to_policies : {K : Limits} {ts : List Lexeme} {i j : ℕ} {ps qs : List Policy} → Policies K ts i ps qs j → slice_get ts j ≡ None → (rs : List Policy) → length rs ≡ length ps → GivenPolicies K ts rs ps qs i j
+to_policies g.policies_end e rs l = record { value = rs; runs = finds tt e does; same = λ f k. f k }
+to_policies (g.policies_more {x = x} {ps = ps} m a b) e rs l =
+    let c = to_policy a in
+    let longer : length (rs ++ c.value ∷ []) ≡ length (ps ++ x ∷ []) = length-append rs (c.value ∷ []) ∙ ap (λ k. k + 1) l ∙ sym (length-append ps (x ∷ [])) in
+    let d = to_policies b e (rs ++ c.value ∷ []) longer in
+    record {
+      value = d.value;
+      runs = lacks (λ y h. start_no_end (one_starts a) h) (finds tt (one_starts a) (keeps (λ k. ap (λ z. nat_lt z 10000) l ∙ m k) (calls c.runs (tail d.runs))));
+      same = λ f k. d.same (λ k'. let g = f k' in let h = c.same k' in cc) k;
+    }

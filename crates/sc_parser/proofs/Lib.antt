@@ -16,3 +16,4 @@ pub mod GrammarWordLaws
 pub mod FirstLaws
 pub mod GrammarLaws
 pub mod GrammarFileLaws
+pub mod FileLaws
