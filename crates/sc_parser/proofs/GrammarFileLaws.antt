@@ -39,7 +39,7 @@ use Rattle.sc_parser.proofs.RunLaws.{tail}
 use Rattle.sc_parser.proofs.FirstLaws.{entity_ident}
 use Rattle.sc_parser.proofs.GrammarWordLaws.{to_path, to_entity}
 use Rattle.sc_parser.proofs.GrammarLaws.{to_enclosed}
-use Rattle.sc_parser.proofs.ReadsFileLaws.{effect_no_sign, there, annotation_alone, annotation_told, start_no_end}
+use Rattle.sc_parser.proofs.HeadLaws.{effect_no_sign, plus_two, there, annotation_alone, annotation_told, start_no_end}
 
 -- all limits are kept
 abbrev pub KeepsAll : Limits → Type 0
@@ -60,12 +60,9 @@ head_no_parenthesis {ts = ts} {s = s} (g.effect h) = other ts s.at h.is (λ e. c
 head_no_parenthesis {ts = ts} {s = s} (g.bare_annotation h k a) = other ts s.at h (λ e. cc)
 head_no_parenthesis {ts = ts} {s = s} (g.annotation h k i j l a) = other ts s.at h (λ e. cc)
 
-two : (i : ℕ) → i + 2 ≡ i + 1 + 1
-two i = omega arith
-
 pub to_head : {K : Limits} {ts : List Lexeme} {s t : Cursor} {p : Place} {e : Effect} → Head K ts s p e t → Runs K ts sort.head (production n.head) s (read (p, e) t)
 to_head {ts = ts} {s = s} (g.effect {p = p} {e = e} h) = lacks (effect_no_sign ts s.at h) (finds (p, e) h (goes h.is does))
-to_head {ts = ts} {s = s} (g.bare_annotation h k a) = annotation_alone h k (λ p l. head_no_parenthesis a p (there ts (two s.at) l)) (to_head a)
+to_head {ts = ts} {s = s} (g.bare_annotation h k a) = annotation_alone h k (λ p l. head_no_parenthesis a p (there ts (plus_two s.at) l)) (to_head a)
 to_head (g.annotation h k i j l a) = annotation_told h k i j l (to_head a)
 
 pub to_slot : {K : Limits} {ts : List Lexeme} {s t : Cursor} {e : EntityLiteral} → Slot K ts s e t → Given K ts n.slot s e t

@@ -21,9 +21,8 @@ use Rattle.sc_parser.proofs.Productions.{production}
 use Rattle.sc_parser.proofs.Runs.{Runs, does, fails, finds, lacks, goes, keeps, breaks, calls, halts}
 use Rattle.sc_parser.proofs.Strength.{rank_of, Weak}
 use Rattle.sc_parser.proofs.StrengthLaws.{weaker, weak_closing, weak_comma, weak_close_brace, weak_has, weak_like, weak_is, weak_operator, lacks_operator, lacks_has, lacks_like, lacks_is, lacks_in, lacks_dot, lacks_bracket, lacks_parenthesis, lacks_colons}
-use Rattle.sc_parser.proofs.TestLaws.{other, other_word, no_operator, operator_has, operator_like, operator_is, minus_prefix, variable_ident, comma_closes_none}
+use Rattle.sc_parser.proofs.TestLaws.{other, other_word, no_operator, operator_has, operator_like, operator_is, minus_prefix, variable_ident, comma_closes_none, nothing}
 use Rattle.sc_parser.proofs.RunLaws.{tail}
-use Rattle.sc_parser.proofs.ReadsLaws.{nothing}
 use Rattle.sc_parser.proofs.PrimaryLaws.{at_true, at_false, at_number, at_string, at_parenthesis, at_bracket, at_brace, at_ident}
 use Rattle.sc_parser.proofs.FirstLaws.{first_member, member_no_prefix, chain_no_if, inner_no_closing, key_no_brace}
 use Rattle.sc_parser.proofs.GrammarWordLaws.{to_ident, to_string, to_names, to_path, to_more_entity, first_colons, to_key}

@@ -31,35 +31,10 @@ use Rattle.sc_parser.proofs.Nonterminals as n
 use Rattle.sc_parser.proofs.Productions.{production}
 use Rattle.sc_parser.proofs.Runs.{Runs, does, fails, finds, lacks, goes, keeps, breaks, calls, halts}
 use Rattle.sc_parser.proofs.TestLaws.{other, other_word}
+use Rattle.sc_parser.proofs.HeadLaws.{effect_no_sign, plus_two, plus_three, plus_four, there, annotation_alone, annotation_told, start_is, start_no_end, some_none}
 use Rattle.sc_parser.proofs.RunLaws.{tail}
 use Rattle.sc_parser.proofs.ReadsWordLaws.{into_path, into_entity}
 use Rattle.sc_parser.proofs.ReadsLaws.{into_enclosed}
-
--- an effect's word is no sign
-pub effect_no_sign : (ts : List Lexeme) (i : ℕ) {p : Place} {e : Effect} → IsEffect ts i p e → Lacks ts i (shape.Sign kind.At)
-effect_no_sign ts i h = other ts i h.is (λ e. cc)
-
--- places behind an annotation's first token
-two : (i : ℕ) → i + 2 ≡ i + 1 + 1
-two i = omega arith
-
-three : (i : ℕ) → i + 3 ≡ i + 1 + 1 + 1
-three i = omega arith
-
-four : (i : ℕ) → i + 4 ≡ i + 1 + 1 + 1 + 1
-four i = omega arith
-
-pub there : (ts : List Lexeme) {i j : ℕ} {p : Place} {c : Shape} → i ≡ j → Is ts i p c → Is ts j p c
-there ts e h = ap (slice_get ts) (sym e) ∙ h
-
-pub annotation_alone : {K : Limits} {ts : List Lexeme} {s : Cursor} {p q : Place} {w : List ℕ} {o : Outcome (Place × Effect)} → Is ts s.at p (shape.Sign kind.At) → Is ts (s.at + 1) q (shape.Word w) → Lacks ts (s.at + 2) (shape.Sign kind.OpenParenthesis) → Runs K ts sort.head (production n.head) (next (next s)) o → Runs K ts sort.head (production n.head) s o
-annotation_alone {ts = ts} {s = s} {p = p} {q = q} {w = w} h g l a = finds p h (goes h (finds (q, w) g (goes g (lacks (λ x k. l x (there ts (sym (two s.at)) k)) (tail a)))))
-
-pub annotation_told : {K : Limits} {ts : List Lexeme} {s : Cursor} {p q r v x : Place} {w t : List ℕ} {parts : List Part} {o : Outcome (Place × Effect)} → Is ts s.at p (shape.Sign kind.At) → Is ts (s.at + 1) q (shape.Word w) → Is ts (s.at + 2) r (shape.Sign kind.OpenParenthesis) → Is ts (s.at + 3) v (shape.String t parts) → Is ts (s.at + 4) x (shape.Sign kind.CloseParenthesis)
-    → Runs K ts sort.head (production n.head) (next (next (next (next (next s))))) o → Runs K ts sort.head (production n.head) s o
-annotation_told {ts = ts} {s = s} {p = p} {q = q} {r = r} {v = v} {x = x} {w = w} {t = t} {parts = parts} h g i j k a =
-    let i' = there ts (two s.at) i in let j' = there ts (three s.at) j in let k' = there ts (four s.at) k in
-    finds p h (goes h (finds (q, w) g (goes g (finds r i' (goes i' (finds (v, t, parts) j' (goes j' (finds x k' (goes k' (tail a))))))))))
 
 skips : {ts : List Lexeme} {s t : Cursor} {o : Outcome (Place × Effect)} → SkipsAnnotation ts s t → Runs all_limits ts sort.head (production n.head) t o → Runs all_limits ts sort.head (production n.head) s o
 skips (r.bare_annotation h g l) a = annotation_alone h g l a
@@ -71,11 +46,11 @@ stops_at {ts = ts} {s = s} e a = subst (λ k. Runs all_limits ts sort.head (prod
 halts_there : {ts : List Lexeme} {s : Cursor} {f : Stop} {m : ℕ} → HaltsAnnotation ts s f m → Runs all_limits ts sort.head (production n.head) s (halt f m)
 halts_there (r.no_annotation_word {p = p} h l) = finds p h (goes h (lacks (λ x g. l x.0 x.1 g) fails))
 halts_there {ts = ts} {s = s} (r.no_annotation_string {p = p} {q = q} {r = r} {w = w} h g i l) =
-    let i' = there ts (two s.at) i in
-    stops_at (three s.at) (finds p h (goes h (finds (q, w) g (goes g (finds r i' (goes i' (lacks (λ x j. l x.0 x.1 x.2 (there ts (sym (three s.at)) j)) fails)))))))
+    let i' = there ts (plus_two s.at) i in
+    stops_at (plus_three s.at) (finds p h (goes h (finds (q, w) g (goes g (finds r i' (goes i' (lacks (λ x j. l x.0 x.1 x.2 (there ts (sym (plus_three s.at)) j)) fails)))))))
 halts_there {ts = ts} {s = s} (r.annotation_unclosed {p = p} {q = q} {r = r} {v = v} {w = w} {t = t} {parts = parts} h g i j l) =
-    let i' = there ts (two s.at) i in let j' = there ts (three s.at) j in
-    stops_at (four s.at) (finds p h (goes h (finds (q, w) g (goes g (finds r i' (goes i' (finds (v, t, parts) j' (goes j' (lacks (λ x k. l x (there ts (sym (four s.at)) k)) fails)))))))))
+    let i' = there ts (plus_two s.at) i in let j' = there ts (plus_three s.at) j in
+    stops_at (plus_four s.at) (finds p h (goes h (finds (q, w) g (goes g (finds r i' (goes i' (finds (v, t, parts) j' (goes j' (lacks (λ x k. l x (there ts (sym (plus_four s.at)) k)) fails)))))))))
 
 pub into_head : {ts : List Lexeme} {s : Cursor} {o : Outcome (Place × Effect)} → ReadsHead ts s o → Runs all_limits ts sort.head (production n.head) s o
 into_head {ts = ts} {s = s} (r.effect {p = p} {e = e} h) = lacks (effect_no_sign ts s.at h) (finds (p, e) h (goes h.is does))
@@ -162,17 +137,6 @@ into_policy (r.scopes_halt a b) = calls (into_head a) (halts (into_whole_scope b
 into_policy (r.clauses_halt a b c) = calls (into_head a) (calls (into_whole_scope b) (halts (into_clauses c)))
 into_policy (r.no_semicolon a b c n) = calls (into_head a) (calls (into_whole_scope b) (calls (into_clauses c) (lacks n fails)))
 into_policy (r.policy {q = q} a b c h) = calls (into_head a) (calls (into_whole_scope b) (calls (into_clauses c) (finds q h (goes h does))))
-
--- a policy's first token
-pub start_is : {ts : List Lexeme} {i : ℕ} → IsPolicyStart ts i → (l : Lexeme) × (slice_get ts i ≡ Some l)
-start_is (annotation_starts p h) = (_, h)
-start_is (effect_starts p e h) = (_, h.is)
-
-some_none : {l : Lexeme} {o : Option Lexeme} → o ≡ Some l → o ≡ None → ⊥
-some_none h e = absurd cc
-
-pub start_no_end : {ts : List Lexeme} {i : ℕ} → IsPolicyStart ts i → slice_get ts i ≡ None → ⊥
-start_no_end h e = let t = start_is h in some_none t.1 e
 
 pub into_policies : {ts : List Lexeme} {i : ℕ} {ps : List Policy} {o : Outcome (List Policy)} → ReadsPolicies ts i ps o → Runs all_limits ts sort.policies (production (n.policies ps)) (outside i) o
 into_policies (r.file_ends e) = finds tt e does

@@ -20,8 +20,8 @@ use Rattle.sc_parser.proofs.Sorts as sort
 use Rattle.sc_parser.proofs.Nonterminals as n
 use Rattle.sc_parser.proofs.Productions.{production}
 use Rattle.sc_parser.proofs.Runs.{Runs, does, fails, finds, lacks, goes, keeps, breaks, calls, halts}
-use Rattle.sc_parser.proofs.TestLaws.{other, other_word, no_operator, operator_has, operator_like, operator_is, minus_prefix, variable_ident, comma_closes_none}
-use Rattle.sc_parser.proofs.RunLaws.{tail}
+use Rattle.sc_parser.proofs.TestLaws.{other, other_word, no_operator, operator_has, operator_like, operator_is, minus_prefix, variable_ident, comma_closes_none, nothing}
+use Rattle.sc_parser.proofs.RunLaws.{only, tail}
 use Rattle.sc_parser.proofs.ReadsWordLaws.{into_ident, into_string, into_names, into_path, into_more_entity, into_key}
 use Rattle.sc_parser.proofs.PrimaryLaws.{at_true, at_false, at_number, at_string, at_parenthesis, at_bracket, at_brace, at_ident}
 
@@ -35,9 +35,6 @@ fields_closed : {ts : List Lexeme} {s t : Cursor} {fs gs : List (List ℕ × Exp
 fields_closed (r.fields_end {p = p} h) = (p, h)
 fields_closed (r.last_field {q = q} n a h b g) = (q, g)
 fields_closed (r.more_fields n a h b g c) = fields_closed c
-
-pub nothing : {A : Type 0} {o : Option A} → o ≡ None → (x : A) → o ≡ Some x → ⊥
-nothing e x h = absurd cc
 
 mutual
   pub into_expression : {ts : List Lexeme} {s : Cursor} {o : Outcome Expr} → ReadsExpr ts s o → Runs all_limits ts sort.tree (production n.expression) s o
@@ -153,3 +150,7 @@ mutual
   into_fields (r.last_field {p = p} {q = q} n a h b g) = lacks n (calls (into_key a) (finds p h (goes h (calls (into_inner b) (finds q g does)))))
   into_fields (r.no_field_comma {p = p} n a h b m l) = lacks n (calls (into_key a) (finds p h (goes h (calls (into_inner b) (lacks m (lacks l fails))))))
   into_fields {ts = ts} (r.more_fields {u = u} {p = p} {q = q} n a h b g c) = lacks n (calls (into_key a) (finds p h (goes h (calls (into_inner b) (lacks (other ts u.at g (λ e. cc)) (finds q g (goes g (tail (into_fields c)))))))))
+
+-- one outcome comes of reading
+pub only_expression : {ts : List Lexeme} {s : Cursor} {o o' : Outcome Expr} → ReadsExpr ts s o → ReadsExpr ts s o' → o ≡ o'
+only_expression a b = only (into_expression a) (into_expression b)

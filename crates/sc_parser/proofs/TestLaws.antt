@@ -177,6 +177,10 @@ comma_closes_none close.Parenthesis e = cc
 comma_closes_none close.Bracket e = cc
 comma_closes_none close.Brace e = cc
 
+-- where nothing is, nothing is found
+pub nothing : {A : Type 0} {o : Option A} → o ≡ None → (x : A) → o ≡ Some x → ⊥
+nothing e x h = absurd cc
+
 -- ---- what begins a primary expression
 
 starts_ident : (w : List ℕ) → is_ident w ≡ true → starts (shape.Word w) ≡ true
