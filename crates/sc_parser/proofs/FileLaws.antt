@@ -1,5 +1,5 @@
 -- What reading a file tells of the files that there are.
-use Rattle.std.proofs.Common.{◌≡◌, ◌+◌, ◌<◌, ◌≤◌, ◌||◌, ◌&&◌, ◌==◌, ℕ, nat_lt, Bool, List, [], length, slice_get, None, true, false, refl, sym, arith, le_refl}
+use Rattle.std.proofs.Common.{◌≡◌, ◌+◌, ◌<◌, ◌≤◌, ◌||◌, ◌&&◌, ◌==◌, ℕ, nat_lt, Bool, List, [], length, slice_get, None, true, false, refl, arith, le_refl}
 use Rattle.std.proofs.lemmas.Bool.{lt-ltb}
 use Rattle.std.proofs.lemmas.Bool.Decides.{Decides-eqb}
 use Rattle.std.proofs.lemmas.Option.{slice_get_past}
@@ -13,7 +13,7 @@ use Rattle.sc_parser.specs.GrammarFiles.{File}
 use Rattle.sc_parser.specs.Limits.{Limits, all_limits, rank, up_to}
 use Rattle.sc_parser.specs.Outcomes.{Outcome, read, halt}
 use Rattle.sc_parser.specs.ReadsFiles.{ReadsPolicies}
-use Rattle.sc_parser.proofs.RunLaws.{Agree, MayHalt, only, moved, fewer, ends_within, place}
+use Rattle.sc_parser.proofs.RunLaws.{Agree, only, moved, fewer, ends_within, place}
 use Rattle.sc_parser.proofs.ReadsFileLaws.{into_policies}
 use Rattle.sc_parser.proofs.GrammarFileLaws.{to_policies}
 

@@ -1,11 +1,10 @@
 -- The first token of what is spelled.
-use Rattle.std.proofs.Common.{◌≡◌, ℕ, List, codes, Bool, true, false, refl, sym, ap, ◌∙◌}
+use Rattle.std.proofs.Common.{◌≡◌, ℕ, List, codes, true, false, refl, ap, ◌∙◌}
 use Rattle.std.specs.declared.option.Option.TheVariants.{Some, None}
 use Rattle.sc_ast.specs.declared.place.Place.{Place}
 use Rattle.sc_ast.specs.declared.expr.Expr.{Expr}
 use Rattle.sc_ast.specs.declared.literal.EntityLiteral.{EntityLiteral}
 use Rattle.sc_ast.specs.declared.operator.UnaryOperator.{UnaryOperator}
-use Rattle.sc_lexer.specs.declared.token.Kind.{Kind}
 use Rattle.sc_lexer.specs.declared.token.Kind.TheVariants as kind
 use Rattle.sc_parser.specs.declared.cursor.Cursor.{Cursor}
 use Rattle.sc_parser.specs.declared.lexeme.Lexeme.{Lexeme}
@@ -19,7 +18,7 @@ use Rattle.sc_parser.specs.Grammar as g
 use Rattle.sc_parser.specs.Lexemes.{Is, Lacks, IsPrefix, IsStart, closing, starts}
 use Rattle.sc_parser.specs.Limits.{Limits}
 use Rattle.sc_parser.specs.Tables.{prefix_of}
-use Rattle.sc_parser.proofs.TestLaws.{one_shape, other, other_word, ident_other, reserved, minus_prefix, variable_ident, start_token, start_ident, starts_true, starts_false, starts_number, starts_string, starts_parenthesis, starts_bracket, starts_brace}
+use Rattle.sc_parser.proofs.TestLaws.{one_shape, other, other_word, ident_other, minus_prefix, variable_ident, start_token, start_ident, starts_true, starts_false, starts_number, starts_string, starts_parenthesis, starts_bracket, starts_brace}
 
 -- a chain begins with a prefix or with what begins a primary expression
 pub data Opens (ts : List Lexeme) (i : ℕ) : Type 0 where

@@ -1,9 +1,8 @@
 -- What spells a file is read so. Where templates are let through, another uid may stand for a slot.
-use Rattle.std.proofs.Common.{◌≡◌, ◌+◌, ◌<◌, ◌≤◌, ℕ, List, [], ◌∷◌, ◌++◌, length, slice_get, codes, nat_lt, true, false, refl, sym, ap, ◌∙◌, arith, subst}
-use Rattle.std.specs.declared.option.Option.TheVariants.{Some, None}
+use Rattle.std.proofs.Common.{◌≡◌, ◌+◌, ℕ, List, [], ◌∷◌, ◌++◌, length, slice_get, codes, nat_lt, true, refl, sym, ap, ◌∙◌, arith}
+use Rattle.std.specs.declared.option.Option.TheVariants.{None}
 use Rattle.std.proofs.lemmas.List.{length-append}
 use Rattle.sc_ast.specs.declared.place.Place.{Place}
-use Rattle.sc_ast.specs.declared.expr.TypeName.{TypeName}
 use Rattle.sc_ast.specs.declared.literal.EntityLiteral.{EntityLiteral}
 use Rattle.sc_ast.specs.declared.policy.Effect.{Effect}
 use Rattle.sc_ast.specs.declared.policy.Condition.{Condition}
@@ -25,13 +24,13 @@ use Rattle.sc_parser.specs.GrammarFiles.{Head, Slot, Asked, Entities, AskedOfAct
 use Rattle.sc_parser.specs.GrammarFiles as g
 use Rattle.sc_parser.specs.Lexemes.{Is, Lacks, LacksClause, IsPolicyStart, annotation_starts, effect_starts}
 use Rattle.sc_parser.specs.Limits.{Limits}
-use Rattle.sc_parser.specs.Outcomes.{Outcome, read, halt}
+use Rattle.sc_parser.specs.Outcomes.{read}
 use Rattle.sc_parser.proofs.Sorts.{Sort, Of}
 use Rattle.sc_parser.proofs.Sorts as sort
 use Rattle.sc_parser.proofs.Nonterminals.{Nonterminal}
 use Rattle.sc_parser.proofs.Nonterminals as n
 use Rattle.sc_parser.proofs.Productions.{production, some_uid}
-use Rattle.sc_parser.proofs.Runs.{Runs, does, fails, finds, lacks, goes, keeps, breaks, calls, halts}
+use Rattle.sc_parser.proofs.Runs.{Runs, does, finds, lacks, goes, keeps, calls}
 use Rattle.sc_parser.proofs.Strength.{Weak}
 use Rattle.sc_parser.proofs.StrengthLaws.{weaker, weak_comma, weak_close_parenthesis, lacks_in, lacks_is, lacks_equal, lacks_colons}
 use Rattle.sc_parser.proofs.TestLaws.{other, other_word}

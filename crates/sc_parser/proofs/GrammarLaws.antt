@@ -1,5 +1,5 @@
 -- What spells an expression is read so, where a token follows that binds too loosely to go on.
-use Rattle.std.proofs.Common.{◌≡◌, ◌+◌, ◌<◌, ◌≤◌, ℕ, zero, suc, List, [], codes, refl, arith}
+use Rattle.std.proofs.Common.{◌+◌, ℕ, zero, suc, List, refl, arith}
 use Rattle.sc_ast.specs.declared.place.Place.{Place}
 use Rattle.sc_ast.specs.declared.expr.Expr.{Expr}
 use Rattle.sc_ast.specs.declared.operator.UnaryOperator.{UnaryOperator}
@@ -13,12 +13,12 @@ use Rattle.sc_parser.specs.Grammar.{Expression, Inner, Enclosed, Chain, MoreOper
 use Rattle.sc_parser.specs.Grammar as g
 use Rattle.sc_parser.specs.Lexemes.{Is, Lacks, LacksThisPrefix, closing}
 use Rattle.sc_parser.specs.Limits.{Limits}
-use Rattle.sc_parser.specs.Outcomes.{Outcome, read, halt}
+use Rattle.sc_parser.specs.Outcomes.{Outcome, read}
 use Rattle.sc_parser.proofs.Sorts as sort
 use Rattle.sc_parser.proofs.Nonterminals as n
 use Rattle.sc_parser.proofs.Programs.{done, call, here}
 use Rattle.sc_parser.proofs.Productions.{production}
-use Rattle.sc_parser.proofs.Runs.{Runs, does, fails, finds, lacks, goes, keeps, breaks, calls, halts}
+use Rattle.sc_parser.proofs.Runs.{Runs, does, finds, lacks, goes, keeps, calls}
 use Rattle.sc_parser.proofs.Strength.{rank_of, Weak}
 use Rattle.sc_parser.proofs.StrengthLaws.{weaker, weak_closing, weak_comma, weak_close_brace, weak_has, weak_like, weak_is, weak_operator, lacks_operator, lacks_has, lacks_like, lacks_is, lacks_in, lacks_dot, lacks_bracket, lacks_parenthesis, lacks_colons}
 use Rattle.sc_parser.proofs.TestLaws.{other, other_word, no_operator, operator_has, operator_like, operator_is, minus_prefix, variable_ident, comma_closes_none, nothing}

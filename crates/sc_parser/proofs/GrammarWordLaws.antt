@@ -1,5 +1,5 @@
 -- What spells a name, a path or a uid is read so.
-use Rattle.std.proofs.Common.{◌≡◌, ◌+◌, ℕ, List, [], ◌∷◌}
+use Rattle.std.proofs.Common.{◌+◌, ℕ, List}
 use Rattle.sc_pattern.specs.declared.part.Part.{Part}
 use Rattle.sc_ast.specs.declared.place.Place.{Place}
 use Rattle.sc_ast.specs.declared.expr.Expr.{Expr}
@@ -14,13 +14,13 @@ use Rattle.sc_parser.specs.Grammar.{Ident, Str, MoreNames, Names, MorePath, Path
 use Rattle.sc_parser.specs.Grammar as g
 use Rattle.sc_parser.specs.Lexemes.{Is, Lacks}
 use Rattle.sc_parser.specs.Limits.{Limits}
-use Rattle.sc_parser.specs.Outcomes.{Outcome, read, halt}
+use Rattle.sc_parser.specs.Outcomes.{read}
 use Rattle.sc_parser.proofs.Sorts as sort
 use Rattle.sc_parser.proofs.Nonterminals as n
 use Rattle.sc_parser.proofs.Productions.{production}
 use Rattle.sc_parser.proofs.Tests as test
 use Rattle.sc_parser.proofs.Tests.{Meets}
-use Rattle.sc_parser.proofs.Runs.{Runs, does, fails, finds, lacks, goes, keeps, breaks, calls, halts}
+use Rattle.sc_parser.proofs.Runs.{Runs, does, finds, lacks, goes, keeps, calls}
 use Rattle.sc_parser.proofs.TestLaws.{other_ident, ident_other}
 use Rattle.sc_parser.proofs.RunLaws.{tail}
 

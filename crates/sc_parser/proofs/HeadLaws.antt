@@ -1,5 +1,5 @@
 -- How the program of a policy's head goes on behind an annotation, and what a policy begins with.
-use Rattle.std.proofs.Common.{◌≡◌, ◌+◌, ℕ, List, slice_get, refl, sym, ap, ◌∙◌, arith}
+use Rattle.std.proofs.Common.{◌≡◌, ◌+◌, ℕ, List, slice_get, sym, ap, ◌∙◌, arith}
 use Rattle.std.specs.declared.option.Option.{Option}
 use Rattle.std.specs.declared.option.Option.TheVariants.{Some, None}
 use Rattle.sc_pattern.specs.declared.part.Part.{Part}
@@ -13,11 +13,11 @@ use Rattle.sc_parser.specs.declared.lexeme.Shape.TheVariants as shape
 use Rattle.sc_parser.specs.Depth.{next}
 use Rattle.sc_parser.specs.Lexemes.{Is, Lacks, IsEffect, IsPolicyStart, annotation_starts, effect_starts}
 use Rattle.sc_parser.specs.Limits.{Limits}
-use Rattle.sc_parser.specs.Outcomes.{Outcome, read, halt}
+use Rattle.sc_parser.specs.Outcomes.{Outcome}
 use Rattle.sc_parser.proofs.Sorts as sort
 use Rattle.sc_parser.proofs.Nonterminals as n
 use Rattle.sc_parser.proofs.Productions.{production}
-use Rattle.sc_parser.proofs.Runs.{Runs, does, fails, finds, lacks, goes, keeps, breaks, calls, halts}
+use Rattle.sc_parser.proofs.Runs.{Runs, finds, lacks, goes}
 use Rattle.sc_parser.proofs.TestLaws.{other}
 use Rattle.sc_parser.proofs.RunLaws.{tail}
 

@@ -1,5 +1,5 @@
 -- How the program of primary expressions goes on at each first token.
-use Rattle.std.proofs.Common.{◌≡◌, ℕ, List, [], codes, Bool, true, false, refl, pos}
+use Rattle.std.proofs.Common.{◌≡◌, ℕ, List, [], codes, true, false, refl, pos}
 use Rattle.sc_pattern.specs.declared.part.Part.{Part}
 use Rattle.sc_ast.specs.declared.place.Place.{Place}
 use Rattle.sc_ast.specs.declared.expr.Expr.{Expr}
@@ -16,14 +16,14 @@ use Rattle.sc_parser.specs.declared.stop.Stop.TheVariants as stop
 use Rattle.sc_parser.specs.Depth.{next}
 use Rattle.sc_parser.specs.Lexemes.{Is, IsIdent, IsStart}
 use Rattle.sc_parser.specs.Limits.{Limits, Fits}
-use Rattle.sc_parser.specs.Outcomes.{Outcome, read, halt}
+use Rattle.sc_parser.specs.Outcomes.{Outcome}
 use Rattle.sc_parser.specs.Tables.{is_long}
 use Rattle.sc_parser.proofs.Sorts as sort
 use Rattle.sc_parser.proofs.Nonterminals as n
-use Rattle.sc_parser.proofs.Programs.{Program, done, go, guard, call, to_next, here}
-use Rattle.sc_parser.proofs.Productions.{production, by_true, by_false, by_number, by_string, by_parenthesis, by_bracket, by_brace, by_ident, after_ident}
-use Rattle.sc_parser.proofs.Runs.{Runs, does, fails, finds, lacks, goes, keeps, breaks, calls, halts}
-use Rattle.sc_parser.proofs.TestLaws.{other, other_ident, other_word, ident_other, reserved, start_token, start_ident, starts_true, starts_false, starts_number, starts_string, starts_parenthesis, starts_bracket, starts_brace}
+use Rattle.sc_parser.proofs.Programs.{done, go, guard, call, to_next, here}
+use Rattle.sc_parser.proofs.Productions.{production, by_true, by_number, by_string, by_parenthesis, after_ident}
+use Rattle.sc_parser.proofs.Runs.{Runs, finds, lacks, goes, keeps}
+use Rattle.sc_parser.proofs.TestLaws.{other, other_word, ident_other, reserved, start_token, start_ident, starts_true, starts_false, starts_number, starts_string, starts_parenthesis, starts_bracket, starts_brace}
 
 begins : {K : Limits} {ts : List Lexeme} {s : Cursor} {o : Outcome Expr} → IsStart ts s.at → Fits K s → Runs K ts sort.tree by_true s o → Runs K ts sort.tree (production n.primary) s o
 begins h f a = finds tt h (keeps f a)

@@ -1,5 +1,5 @@
 -- The productions as programs: each looks at tokens in the order of the text, and goes on where its operator comes.
-use Rattle.std.specs.Prelude.{◌+◌, ◌-◌, ℕ, List, [], ◌∷◌, ◌++◌, length, codes, Bool, true, false, not, pos, nat_lt}
+use Rattle.std.specs.Prelude.{◌-◌, ℕ, List, [], ◌∷◌, ◌++◌, length, codes, true, false, not, pos, nat_lt}
 use Rattle.std.specs.Str.Parse.{digits_value}
 use Rattle.sc_ast.specs.declared.place.Place.{Place}
 use Rattle.sc_ast.specs.declared.expr.Expr.{Expr}
@@ -9,8 +9,7 @@ use Rattle.sc_ast.specs.declared.literal.Literal.TheVariants as literal
 use Rattle.sc_ast.specs.declared.scope.Constraint.TheVariants as constraint
 use Rattle.sc_ast.specs.declared.scope.ActionConstraint.TheVariants as action
 use Rattle.sc_lexer.specs.declared.token.Kind.TheVariants as kind
-use Rattle.sc_parser.specs.declared.lexeme.Shape.TheVariants.{Word, Number, Sign}
-use Rattle.sc_parser.specs.declared.operator.Close.{Close}
+use Rattle.sc_parser.specs.declared.lexeme.Shape.TheVariants.{Word, Sign}
 use Rattle.sc_parser.specs.declared.operator.Close.TheVariants as close
 use Rattle.sc_parser.specs.declared.operator.Level.{Level}
 use Rattle.sc_parser.specs.declared.operator.Level.TheVariants as level
@@ -74,7 +73,7 @@ by_true = look (test.shaped (Word (codes "true"))) (λ p. go to_next (done (expr
 abbrev pub after_name : Expr → Place → List ℕ → Program sort.tree
 after_name a p w =
     look (test.shaped (Sign kind.OpenParenthesis)) (λ q. go to_next (call here (n.items close.Parenthesis []) (λ xs.
-        look (test.call (called p a w xs)) (λ y. go to_next (call here (n.accesses y) done)) (guard stop.BadCall (λ s. false) (go to_next (call here (n.accesses a) done))))))
+    look (test.call (called p a w xs)) (λ y. go to_next (call here (n.accesses y) done)) (guard stop.BadCall (λ s. false) (go to_next (call here (n.accesses a) done))))))
     (call here (n.accesses (expr.Access p a w)) done)
 
 abbrev pub operand_program : Level → Program sort.tree
@@ -97,8 +96,8 @@ production (n.more_path w) = look (test.shaped (Sign kind.DoubleColon)) (λ p. g
 production n.path = call here n.ident (λ x. call here (n.more_path x.1) (λ w. done (record { place = x.0; name = w })))
 production (n.more_entity p w) =
     look (test.shaped (Sign kind.DoubleColon)) (λ q. go to_next
-        (look test.string (λ x. go to_next (done (record { place = p; uid = record { type_name = w; id = x.1 } })))
-        (call here n.ident (λ x. call here (n.more_entity p (w ++ (codes "::" ++ x.1))) done))))
+    (look test.string (λ x. go to_next (done (record { place = p; uid = record { type_name = w; id = x.1 } })))
+    (call here n.ident (λ x. call here (n.more_entity p (w ++ (codes "::" ++ x.1))) done))))
     fail
 production n.entity = call here n.ident (λ x. call here (n.more_entity x.0 x.1) done)
 production (n.key fs) = look test.ident (λ x. if_fits (if_new x.1 fs (go to_next (done x.1)))) (look test.string (λ x. if_fits (if_new x.1 fs (go to_next (done x.1)))) fail)
@@ -116,37 +115,37 @@ production (n.tail a) =
     (look (test.shaped (Word (codes "has"))) (λ p. go to_past (call here n.names (λ ns. done (expr.Has p a ns))))
     (look (test.shaped (Word (codes "like"))) (λ p. go to_past (call here n.string (λ x. done (expr.Like p a x.1))))
     (look (test.shaped (Word (codes "is"))) (λ p. go to_past (call here n.path (λ y.
-        look (test.shaped (Word (codes "in"))) (λ q. go to_past (call here (n.chain level.Add) (λ b. done (expr.IsIn p a y q b))))
-        (done (expr.Is p a y)))))
+    look (test.shaped (Word (codes "in"))) (λ q. go to_past (call here (n.chain level.Add) (λ b. done (expr.IsIn p a y q b))))
+    (done (expr.Is p a y)))))
     (done a))))
 production n.unary = look test.prefix (λ x. call here (n.prefixes x.1 4) done) (call here n.member done)
 production (n.prefixes r m) =
     look (test.is_zero m) (λ x. call here n.member done)
     (look (test.this_prefix r) (λ p. if_fits (go to_past
-        (look (test.least r) (λ x. if_fits (go to_next (call here (n.accesses (expr.Literal p (literal.Long least_long))) done)))
-        (call here (n.prefixes r (m - 1)) (λ x. done (expr.Unary p r x))))))
+    (look (test.least r) (λ x. if_fits (go to_next (call here (n.accesses (expr.Literal p (literal.Long least_long))) done)))
+    (call here (n.prefixes r (m - 1)) (λ x. done (expr.Unary p r x))))))
     (call here n.member done))
 production n.member = call here n.primary (λ a. call here (n.accesses a) done)
 production (n.accesses a) =
     look (test.shaped (Sign kind.Dot)) (λ p. go to_past (call here n.ident (λ x. after_name a p x.1)))
     (look (test.shaped (Sign kind.OpenBracket)) (λ p. go to_past (call here n.string (λ x.
-        look (test.shaped (Sign kind.CloseBracket)) (λ q. go to_next (call here (n.accesses (expr.Access p a x.0)) done)) fail)))
+    look (test.shaped (Sign kind.CloseBracket)) (λ q. go to_next (call here (n.accesses (expr.Access p a x.0)) done)) fail)))
     (done a))
 production n.primary = look test.start (λ x. if_fits by_true) fail
 production (n.items c xs) =
     look (test.shaped (closing c)) (λ p. done xs) (call here n.inner (λ x.
-        look (test.shaped (closing c)) (λ p. done (xs ++ x ∷ []))
-        (look (test.shaped (Sign kind.Comma)) (λ p. go to_next (call here (n.items c (xs ++ x ∷ [])) done)) fail)))
+    look (test.shaped (closing c)) (λ p. done (xs ++ x ∷ []))
+    (look (test.shaped (Sign kind.Comma)) (λ p. go to_next (call here (n.items c (xs ++ x ∷ [])) done)) fail)))
 production (n.fields fs) =
     look (test.shaped (Sign kind.CloseBrace)) (λ p. done fs) (call here (n.key fs) (λ w.
-        look (test.shaped (Sign kind.Colon)) (λ p. go to_next (call here n.inner (λ x.
-            look (test.shaped (Sign kind.CloseBrace)) (λ q. done (fs ++ (w, x) ∷ []))
-            (look (test.shaped (Sign kind.Comma)) (λ q. go to_next (call here (n.fields (fs ++ (w, x) ∷ [])) done)) fail))))
-        fail))
+    look (test.shaped (Sign kind.Colon)) (λ p. go to_next (call here n.inner (λ x.
+    look (test.shaped (Sign kind.CloseBrace)) (λ q. done (fs ++ (w, x) ∷ []))
+    (look (test.shaped (Sign kind.Comma)) (λ q. go to_next (call here (n.fields (fs ++ (w, x) ∷ [])) done)) fail))))
+    fail))
 production n.head =
     look (test.shaped (Sign kind.At)) (λ p. go to_next (look test.word (λ w. go to_next
-        (look (test.shaped (Sign kind.OpenParenthesis)) (λ q. go to_next (look test.string (λ t. go to_next (look (test.shaped (Sign kind.CloseParenthesis)) (λ r. go to_next (call here n.head done)) fail)) fail))
-        (call here n.head done)))
+    (look (test.shaped (Sign kind.OpenParenthesis)) (λ q. go to_next (look test.string (λ t. go to_next (look (test.shaped (Sign kind.CloseParenthesis)) (λ r. go to_next (call here n.head done)) fail)) fail))
+    (call here n.head done)))
     fail))
     (look test.effect (λ x. go to_next (done x)) fail)
 production n.slot = look (test.shaped (Sign kind.Question)) (λ p. guard stop.Template (λ s. false) (go to_next (done some_uid))) (call here n.entity done)
@@ -154,18 +153,18 @@ production n.asked =
     look (test.shaped (Sign kind.Equal)) (λ p. go to_next (call here n.slot (λ e. done (constraint.Equal p e))))
     (look (test.shaped (Word (codes "in"))) (λ p. go to_next (call here n.slot (λ e. done (constraint.In p e))))
     (look (test.shaped (Word (codes "is"))) (λ p. go to_next (call here n.path (λ y.
-        look (test.shaped (Word (codes "in"))) (λ q. go to_next (call here n.slot (λ e. done (constraint.IsIn p y q e))))
-        (done (constraint.Is p y)))))
+    look (test.shaped (Word (codes "in"))) (λ q. go to_next (call here n.slot (λ e. done (constraint.IsIn p y q e))))
+    (done (constraint.Is p y)))))
     (done constraint.Any)))
 production (n.entities es) =
     look (test.shaped (Sign kind.CloseBracket)) (λ p. done es) (call here n.entity (λ e.
-        look (test.shaped (Sign kind.CloseBracket)) (λ p. done (es ++ e ∷ []))
-        (look (test.shaped (Sign kind.Comma)) (λ p. go to_next (call here (n.entities (es ++ e ∷ [])) done)) fail)))
+    look (test.shaped (Sign kind.CloseBracket)) (λ p. done (es ++ e ∷ []))
+    (look (test.shaped (Sign kind.Comma)) (λ p. go to_next (call here (n.entities (es ++ e ∷ [])) done)) fail)))
 production n.asked_of_action =
     look (test.shaped (Sign kind.Equal)) (λ p. go to_next (call here n.entity (λ e. done (action.Equal p e))))
     (look (test.shaped (Word (codes "in"))) (λ p. go to_next
-        (look (test.shaped (Sign kind.OpenBracket)) (λ q. go to_next (call here (n.entities []) (λ es. go to_next (done (action.InAny p q es)))))
-        (call here n.entity (λ e. done (action.In p e)))))
+    (look (test.shaped (Sign kind.OpenBracket)) (λ q. go to_next (call here (n.entities []) (λ es. go to_next (done (action.InAny p q es)))))
+    (call here n.entity (λ e. done (action.In p e)))))
     (done action.Any))
 production (n.scope_part w) = look (test.shaped (Word w)) (λ p. go to_next (call here n.asked (λ c. done (record { place = p; constraint = c })))) fail
 production n.principal_part = call here (n.scope_part (codes "principal")) (λ x. look (test.shaped (Sign kind.Comma)) (λ p. go to_next (done x)) fail)

@@ -1,8 +1,5 @@
 -- Reading policies runs their programs.
-use Rattle.std.proofs.Common.{◌≡◌, ◌+◌, ℕ, List, [], codes, slice_get, length, nat_lt, true, false, refl, sym, ap, ◌∙◌, subst, arith}
-use Rattle.std.specs.declared.option.Option.{Option}
-use Rattle.std.specs.declared.option.Option.TheVariants.{Some, None}
-use Rattle.sc_pattern.specs.declared.part.Part.{Part}
+use Rattle.std.proofs.Common.{◌≡◌, ℕ, List, refl, sym, subst}
 use Rattle.sc_ast.specs.declared.place.Place.{Place}
 use Rattle.sc_ast.specs.declared.literal.EntityLiteral.{EntityLiteral}
 use Rattle.sc_ast.specs.declared.policy.Effect.{Effect}
@@ -15,14 +12,13 @@ use Rattle.sc_ast.specs.declared.scope.ActionScope.{ActionScope}
 use Rattle.sc_lexer.specs.declared.token.Kind.TheVariants as kind
 use Rattle.sc_parser.specs.declared.cursor.Cursor.{Cursor}
 use Rattle.sc_parser.specs.declared.lexeme.Lexeme.{Lexeme}
-use Rattle.sc_parser.specs.declared.lexeme.Shape.{Shape}
 use Rattle.sc_parser.specs.declared.lexeme.Shape.TheVariants as shape
 use Rattle.sc_parser.specs.declared.scopes.Scopes.{Scopes}
 use Rattle.sc_parser.specs.declared.stop.Stop.{Stop}
 use Rattle.sc_parser.specs.declared.stop.Stop.TheVariants as stop
-use Rattle.sc_parser.specs.Depth.{next, outside}
-use Rattle.sc_parser.specs.Lexemes.{Is, Lacks, IsEffect, IsPolicyStart, annotation_starts, effect_starts}
-use Rattle.sc_parser.specs.Limits.{Limits, all_limits}
+use Rattle.sc_parser.specs.Depth.{outside}
+use Rattle.sc_parser.specs.Lexemes.{Is}
+use Rattle.sc_parser.specs.Limits.{all_limits}
 use Rattle.sc_parser.specs.Outcomes.{Outcome, read, halt}
 use Rattle.sc_parser.specs.ReadsFiles.{SkipsAnnotation, HaltsAnnotation, ReadsHead, ReadsSlot, ReadsConstraint, ReadsEntities, ReadsActionConstraint, ReadsScope, ReadsPrincipal, ReadsAction, ReadsResource, ReadsScopes, ReadsClauses, ReadsPolicy, ReadsPolicies}
 use Rattle.sc_parser.specs.ReadsFiles as r

@@ -1,7 +1,5 @@
 -- Reading expressions runs their programs.
-use Rattle.std.proofs.Common.{◌≡◌, ◌<◌, ◌+◌, ℕ, List, [], codes, true, false, refl, ap, not, arith}
-use Rattle.std.specs.declared.option.Option.{Option}
-use Rattle.std.specs.declared.option.Option.TheVariants.{Some, None}
+use Rattle.std.proofs.Common.{◌≡◌, ◌+◌, ℕ, List, refl, arith}
 use Rattle.sc_ast.specs.declared.place.Place.{Place}
 use Rattle.sc_ast.specs.declared.expr.Expr.{Expr}
 use Rattle.sc_ast.specs.declared.operator.UnaryOperator.{UnaryOperator}
@@ -13,7 +11,7 @@ use Rattle.sc_parser.specs.declared.operator.Close.{Close}
 use Rattle.sc_parser.specs.declared.operator.Level.{Level}
 use Rattle.sc_parser.specs.Lexemes.{Is, closing}
 use Rattle.sc_parser.specs.Limits.{all_limits}
-use Rattle.sc_parser.specs.Outcomes.{Outcome, read, halt}
+use Rattle.sc_parser.specs.Outcomes.{Outcome, read}
 use Rattle.sc_parser.specs.Reads.{ReadsExpr, ReadsInner, ReadsEnclosed, ReadsChain, ReadsMore, ReadsOperand, ReadsRelation, ReadsTail, ReadsUnary, ReadsPrefixes, ReadsMember, ReadsAccesses, ReadsPrimary, ReadsItems, ReadsFields}
 use Rattle.sc_parser.specs.Reads as r
 use Rattle.sc_parser.proofs.Sorts as sort

@@ -1,5 +1,5 @@
 -- Reading names, paths and uids runs their programs.
-use Rattle.std.proofs.Common.{◌≡◌, ℕ, List, refl, ap, not}
+use Rattle.std.proofs.Common.{ℕ, List, refl, ap, not}
 use Rattle.sc_pattern.specs.declared.part.Part.{Part}
 use Rattle.sc_ast.specs.declared.place.Place.{Place}
 use Rattle.sc_ast.specs.declared.expr.Expr.{Expr}
@@ -7,10 +7,8 @@ use Rattle.sc_ast.specs.declared.expr.TypeName.{TypeName}
 use Rattle.sc_ast.specs.declared.literal.EntityLiteral.{EntityLiteral}
 use Rattle.sc_parser.specs.declared.cursor.Cursor.{Cursor}
 use Rattle.sc_parser.specs.declared.lexeme.Lexeme.{Lexeme}
-use Rattle.sc_parser.specs.declared.lexeme.Shape.TheVariants as shape
-use Rattle.sc_parser.specs.Lexemes.{Is, LacksString}
 use Rattle.sc_parser.specs.Limits.{all_limits}
-use Rattle.sc_parser.specs.Outcomes.{Outcome, read, halt}
+use Rattle.sc_parser.specs.Outcomes.{Outcome, read}
 use Rattle.sc_parser.specs.Reads.{ReadsIdent, ReadsString, ReadsMoreNames, ReadsNames, ReadsMorePath, ReadsPath, ReadsMoreEntity, ReadsEntity, ReadsKey}
 use Rattle.sc_parser.specs.Reads as r
 use Rattle.sc_parser.proofs.Sorts as sort

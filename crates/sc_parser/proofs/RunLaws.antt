@@ -1,5 +1,5 @@
 -- What the tokens determine of a run.
-use Rattle.std.proofs.Common.{◌≡◌, ℕ, ◌+◌, ◌≤◌, ◌<◌, List, length, slice_get, true, false, refl, sym, ap, ◌∙◌, arith, subst, le_refl}
+use Rattle.std.proofs.Common.{◌≡◌, ℕ, ◌+◌, ◌≤◌, ◌<◌, List, length, slice_get, true, refl, sym, ap, ◌∙◌, arith, subst, le_refl}
 use Rattle.std.specs.declared.option.Option.TheVariants.{Some}
 use Rattle.std.proofs.lemmas.Option.{slice_get_within}
 use Rattle.sc_parser.specs.declared.cursor.Cursor.{Cursor}
@@ -86,9 +86,6 @@ pub record Agree (ts us : List Lexeme) (n : ℕ) : Type 0 where
 
 pub nearer : {ts us : List Lexeme} {m n : ℕ} → Agree ts us n → m ≤ n → Agree ts us m
 nearer g h = record { same = λ k le. g.same k (omega (arith, h, le)) }
-
-pub agree_back : {ts us : List Lexeme} {n : ℕ} → Agree ts us n → Agree us ts n
-agree_back g = record { same = λ k le. sym (g.same k le) }
 
 -- what comes of reading depends on the tokens up to where it ended
 pub moved : {K : Limits} {ts us : List Lexeme} {c : Sort} {p : Program c} {s : Cursor} {o : Outcome (Of c)} → Agree ts us (place o) → Runs K ts c p s o → Runs K us c p s o

@@ -1,5 +1,5 @@
 -- How tightly a token binds what stands behind it to what stands before it, where it can at all.
-use Rattle.std.specs.Prelude.{ℕ, ◌<◌, ◌||◌, List, slice_get, codes, if◌then◌else◌, Bool}
+use Rattle.std.specs.Prelude.{ℕ, ◌<◌, ◌||◌, List, slice_get, codes, if◌then◌else◌}
 use Rattle.std.specs.Str.{bytes_eq}
 use Rattle.std.specs.declared.option.Option.{Option}
 use Rattle.std.specs.declared.option.Option.TheVariants.{Some, None}

@@ -1,5 +1,5 @@
 -- What a test tells, and that it asks of one token alone.
-use Rattle.std.proofs.Common.{◌≡◌, ℕ, ◌+◌, ◌||◌, List, codes, slice_get, Bool, true, false, if◌then◌else◌, refl, sym, ap, ◌∙◌}
+use Rattle.std.proofs.Common.{◌≡◌, ℕ, ◌||◌, List, codes, slice_get, Bool, true, false, if◌then◌else◌, refl, sym, ap, ◌∙◌}
 use Rattle.std.specs.Str.{bytes_eq}
 use Rattle.std.specs.declared.option.Option.{Option}
 use Rattle.std.specs.declared.option.Option.TheVariants.{Some, None}
@@ -22,7 +22,7 @@ use Rattle.sc_parser.specs.declared.operator.Close.{Close}
 use Rattle.sc_parser.specs.declared.operator.Close.TheVariants as close
 use Rattle.sc_parser.specs.declared.operator.Level.{Level}
 use Rattle.sc_parser.specs.declared.operator.Operator.{Operator}
-use Rattle.sc_parser.specs.Lexemes.{Is, Lacks, IsIdent, IsOperator, IsPrefix, IsLeast, IsStart, closing, starts, effect_word, clause_word, IsPolicyStart, annotation_starts, effect_starts}
+use Rattle.sc_parser.specs.Lexemes.{Is, Lacks, IsIdent, IsPrefix, IsStart, closing, starts, effect_word, clause_word, IsPolicyStart, annotation_starts, effect_starts}
 use Rattle.sc_parser.specs.Tables.{operator_of, prefix_of, variable_of}
 use Rattle.sc_parser.proofs.Tests.{Test, Found, Meets, shaped, word, number, string, ident, operator, prefix, this_prefix, least, start, effect, clause, policy_start, end, is_zero, variable}
 use Rattle.sc_parser.proofs.Tests as test

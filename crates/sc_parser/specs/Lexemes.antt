@@ -101,11 +101,11 @@ starts (Number digits) = true
 starts (String t parts) = true
 starts (Sign k) = starts_sign k
   where
-  starts_sign : Kind → Bool
-  starts_sign kind.OpenParenthesis = true
-  starts_sign kind.OpenBracket = true
-  starts_sign kind.OpenBrace = true
-  starts_sign _ = false
+    starts_sign : Kind → Bool
+    starts_sign kind.OpenParenthesis = true
+    starts_sign kind.OpenBracket = true
+    starts_sign kind.OpenBrace = true
+    starts_sign _ = false
 
 pub record IsStart (ts : List Lexeme) (i : ℕ) : Type 0 where
   pub place : Place
