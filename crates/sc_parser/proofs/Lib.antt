@@ -1,0 +1,2 @@
+pub mod PlainReadsLaws
+pub mod PlainReadsFileLaws
