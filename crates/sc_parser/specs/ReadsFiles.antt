@@ -136,6 +136,6 @@ pub data ReadsPolicy : List Lexeme → Cursor → Outcome Policy → Type 0 wher
 pub data ReadsPolicies : List Lexeme → ℕ → List Policy → Outcome (List Policy) → Type 0 where
   file_ends : {ts : List Lexeme} {i : ℕ} {ps : List Policy} → slice_get ts i ≡ None → ReadsPolicies ts i ps (read ps (outside i))
   too_many : {ts : List Lexeme} {i : ℕ} {ps : List Policy} → IsPolicyStart ts i → nat_lt (length ps) 10000 ≡ false → ReadsPolicies ts i ps (halt stop.TooManyPolicies i)
-  no_policy : {ts : List Lexeme} {i : ℕ} {l : Lexeme} {ps : List Policy} → slice_get ts i ≡ Some l → IsPolicyStart ts i → ⊥ → ReadsPolicies ts i ps (halt stop.Unexpected i)
+  no_policy : {ts : List Lexeme} {i : ℕ} {l : Lexeme} {ps : List Policy} → slice_get ts i ≡ Some l → (IsPolicyStart ts i → ⊥) → ReadsPolicies ts i ps (halt stop.Unexpected i)
   policy_halts : {ts : List Lexeme} {i : ℕ} {ps : List Policy} {f : Stop} {n : ℕ} → IsPolicyStart ts i → nat_lt (length ps) 10000 ≡ true → ReadsPolicy ts (outside i) (halt f n) → ReadsPolicies ts i ps (halt f n)
   more_policies : {ts : List Lexeme} {i : ℕ} {t : Cursor} {x : Policy} {ps : List Policy} {o : Outcome (List Policy)} → IsPolicyStart ts i → nat_lt (length ps) 10000 ≡ true → ReadsPolicy ts (outside i) (read x t) → ReadsPolicies ts t.at (ps ++ x ∷ []) o → ReadsPolicies ts i ps o
