@@ -5,3 +5,5 @@ pub mod PlainMovedLaws
 pub mod PlainReadsFileLaws
 pub mod PlainReadsLaws
 pub mod PlainTokensLaws
+pub mod ViableStopsFileLaws
+pub mod ViableStopsLaws
