@@ -5,5 +5,8 @@ pub mod PlainMovedLaws
 pub mod PlainReadsFileLaws
 pub mod PlainReadsLaws
 pub mod PlainTokensLaws
+pub mod ViableKeptFileLaws
+pub mod ViableKeptLaws
 pub mod ViableStopsFileLaws
 pub mod ViableStopsLaws
+pub mod ViableTokensLaws
