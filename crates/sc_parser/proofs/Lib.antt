@@ -7,6 +7,7 @@ pub mod PlainReadsLaws
 pub mod PlainTokensLaws
 pub mod ViableKeptFileLaws
 pub mod ViableKeptLaws
+pub mod ViableNamesLaws
 pub mod ViableStopsFileLaws
 pub mod ViableStopsLaws
 pub mod ViableTokensLaws
