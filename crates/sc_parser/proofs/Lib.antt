@@ -5,6 +5,8 @@ pub mod PlainMovedLaws
 pub mod PlainReadsFileLaws
 pub mod PlainReadsLaws
 pub mod PlainTokensLaws
+pub mod ViableExprLaws
+pub mod ViableFillerLaws
 pub mod ViableKeptFileLaws
 pub mod ViableKeptLaws
 pub mod ViableNamesLaws

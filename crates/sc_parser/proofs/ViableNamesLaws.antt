@@ -1,5 +1,5 @@
 -- Names, strings, paths, uids and keys at which reading stops can be completed.
-use Rattle.std.proofs.Common.{◌≡◌, ℕ, ◌+◌, ◌≤◌, ◌<◌, ◌++◌, List, [], ◌∷◌, refl, arith, length, le_refl, codes, not}
+use Rattle.std.proofs.Common.{ℕ, ◌+◌, ◌≤◌, ◌++◌, List, [], ◌∷◌, refl, arith, length, le_refl, codes}
 use Rattle.sc_ast.specs.declared.place.Place.{Place}
 use Rattle.sc_ast.specs.declared.expr.Expr.{Expr}
 use Rattle.sc_ast.specs.declared.expr.TypeName.{TypeName}
@@ -15,13 +15,13 @@ use Rattle.sc_parser.specs.Depth.{next, past}
 use Rattle.sc_parser.specs.Grammar.{Ident, Str, MoreNames, Names, MorePath, Path, Entity, Key, ident, string, names_end, names_more, names_string, names_idents, path_end, path_more, path, entity, key_ident, key_string}
 use Rattle.sc_parser.specs.Lexemes.{Is}
 use Rattle.sc_parser.specs.Limits.{Limits, all_limits}
-use Rattle.sc_parser.specs.Outcomes.{Outcome, read, halt}
+use Rattle.sc_parser.specs.Outcomes.{halt}
 use Rattle.sc_parser.specs.Reads.{ReadsIdent, ReadsString, ReadsMoreNames, ReadsNames, ReadsMorePath, ReadsPath, ReadsMoreEntity, ReadsEntity, ReadsKey}
 use Rattle.sc_parser.specs.Reads as r
 use Rattle.sc_parser.proofs.PlainForwardLaws.{fwd_ident}
 use Rattle.sc_parser.proofs.PlainReadsLaws.{from_ident}
 use Rattle.sc_parser.proofs.PlainTokensLaws.{fewer, moved}
-use Rattle.sc_parser.proofs.ViableKeptLaws.{kept_ident, kept_string}
+use Rattle.sc_parser.proofs.ViableKeptLaws.{kept_ident}
 use Rattle.sc_parser.proofs.ViableStopsLaws.{stop_ident, stop_more_names, stop_more_path, stop_more_entity}
 use Rattle.sc_parser.proofs.ViableTokensLaws.{cut, Frees, far, loose, Done, Ahead, head_of, rest_of, leaf, onward, carry, nowhere, token, sign}
 

@@ -6,7 +6,7 @@ use Rattle.sc_lexer.specs.declared.token.Kind.TheVariants as kind
 use Rattle.sc_parser.specs.declared.cursor.Cursor.{Cursor}
 use Rattle.sc_parser.specs.declared.lexeme.Lexeme.{Lexeme}
 use Rattle.sc_parser.specs.declared.lexeme.Shape.{Shape}
-use Rattle.sc_parser.specs.declared.lexeme.Shape.TheVariants.{Number, Sign}
+use Rattle.sc_parser.specs.declared.lexeme.Shape.TheVariants.{Word, Number, Sign}
 use Rattle.sc_parser.specs.declared.operator.Close.{Close}
 use Rattle.sc_parser.specs.declared.operator.Close.TheVariants as close
 use Rattle.sc_parser.specs.declared.stop.Stop.{Stop}
@@ -152,6 +152,10 @@ says (Some l) = l.shape
 -- the token that was put there isn't `::`
 pub planted_same : {ts us : List Lexeme} {n : ℕ} {c : Shape} → Shares ts us n → slice_get us n ≡ Some (token c) → (c ≡ Sign kind.DoubleColon → ⊥) → Same ts us n
 planted_same {c = c} b h n = record { shares = b; colons = λ _ p k. n (ap says (sym h ∙ k)) }
+
+-- the word that was put there is no number
+pub no_number : {us rest : List Lexeme} {m : ℕ} {p : Place} {v ds : List ℕ} → Ahead us m (token (Word v) ∷ rest) → Is us m p (Number ds) → ⊥
+no_number {v = v} {ds = ds} d l = let e : Word v ≡ Number ds = ap says (sym (head_of d) ∙ l) in cc
 
 -- where the least number stands in the one list, it stands in the other
 abbrev pub Stays : List Lexeme → List Lexeme → ℕ → Type 0
