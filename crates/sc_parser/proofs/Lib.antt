@@ -10,6 +10,7 @@ pub mod ViableFillerLaws
 pub mod ViableKeptFileLaws
 pub mod ViableKeptLaws
 pub mod ViableNamesLaws
+pub mod ViableScopesLaws
 pub mod ViableStopsFileLaws
 pub mod ViableStopsLaws
 pub mod ViableTokensLaws

@@ -18,14 +18,14 @@ use Rattle.sc_parser.proofs.PlainForwardLaws.{fwd_path, fwd_entity, fwd_enclosed
 use Rattle.sc_parser.proofs.PlainForwardFileLaws.{fwd_head, fwd_action_asked, fwd_part, fwd_whole_scope, fwd_clauses, fwd_policy}
 use Rattle.sc_parser.proofs.ViableStopsLaws.{stop_path, stop_entity, stop_enclosed}
 
-fwd_annotation : {ts : List Lexeme} {s t : Cursor} → SkipsAnnotation ts s t → s.at < t.at
+pub fwd_annotation : {ts : List Lexeme} {s t : Cursor} → SkipsAnnotation ts s t → s.at < t.at
 fwd_annotation (r.bare_annotation h l n) = omega arith
 fwd_annotation (r.annotation h l n o e) = omega arith
 
-fwd_principal : {ts : List Lexeme} {s t : Cursor} {x : Scope} → ReadsPrincipal ts s (read x t) → s.at < t.at
+pub fwd_principal : {ts : List Lexeme} {s t : Cursor} {x : Scope} → ReadsPrincipal ts s (read x t) → s.at < t.at
 fwd_principal (r.principal p h) = omega (arith, fwd_part (from_scope all_limits p))
 
-fwd_action : {ts : List Lexeme} {s t : Cursor} {x : ActionScope} → ReadsAction ts s (read x t) → s.at < t.at
+pub fwd_action : {ts : List Lexeme} {s t : Cursor} {x : ActionScope} → ReadsAction ts s (read x t) → s.at < t.at
 fwd_action (r.action_scope h p l) = omega (arith, fwd_action_asked (from_action_constraint all_limits p))
 
 pub stop_annotation : {ts : List Lexeme} {s : Cursor} {f : Stop} {n : ℕ} → HaltsAnnotation ts s f n → s.at < n
