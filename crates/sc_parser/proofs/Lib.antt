@@ -6,10 +6,12 @@ pub mod PlainReadsFileLaws
 pub mod PlainReadsLaws
 pub mod PlainTokensLaws
 pub mod ViableExprLaws
+pub mod ViableFileLaws
 pub mod ViableFillerLaws
 pub mod ViableKeptFileLaws
 pub mod ViableKeptLaws
 pub mod ViableNamesLaws
+pub mod ViablePoliciesLaws
 pub mod ViableScopesLaws
 pub mod ViableStopsFileLaws
 pub mod ViableStopsLaws

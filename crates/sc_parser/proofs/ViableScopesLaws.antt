@@ -1,5 +1,5 @@
 -- The head of a policy, and its scope, at which reading stops can be completed.
-use Rattle.std.proofs.Common.{◌≡◌, ℕ, ◌+◌, ◌≤◌, ◌<◌, ◌++◌, List, [], ◌∷◌, refl, arith, length, le_refl, codes}
+use Rattle.std.proofs.Common.{ℕ, ◌+◌, ◌≤◌, ◌++◌, List, [], ◌∷◌, refl, arith, length, le_refl, codes}
 use Rattle.sc_ast.specs.declared.place.Place.{Place}
 use Rattle.sc_ast.specs.declared.literal.EntityLiteral.{EntityLiteral}
 use Rattle.sc_ast.specs.declared.policy.Effect.{Effect}
@@ -13,7 +13,7 @@ use Rattle.sc_ast.specs.declared.scope.ActionScope.{ActionScope}
 use Rattle.sc_lexer.specs.declared.token.Kind.TheVariants as kind
 use Rattle.sc_parser.specs.declared.cursor.Cursor.{Cursor}
 use Rattle.sc_parser.specs.declared.lexeme.Lexeme.{Lexeme}
-use Rattle.sc_parser.specs.declared.lexeme.Shape.TheVariants.{Word, Sign}
+use Rattle.sc_parser.specs.declared.lexeme.Shape.TheVariants.{Word}
 use Rattle.sc_parser.specs.declared.scopes.Scopes.{Scopes}
 use Rattle.sc_parser.specs.declared.stop.Stop.{Stop}
 use Rattle.sc_parser.specs.declared.stop.Stop.TheVariants as stop
@@ -22,12 +22,12 @@ use Rattle.sc_parser.specs.Faults.{Shares}
 use Rattle.sc_parser.specs.GrammarFiles.{Head, Slot, Asked, Entities, AskedOfAction, ScopePart, ActionPart, WholeScope, effect, bare_annotation, annotation, no_slot, slot, any, equal, within, of_type, of_type_within, last_entity, any_action, equal_action, within_action, within_actions, part, action_part, scope_end, scope_comma_end}
 use Rattle.sc_parser.specs.GrammarFiles as plain
 use Rattle.sc_parser.specs.Limits.{Limits, all_limits}
-use Rattle.sc_parser.specs.Outcomes.{Outcome, read, halt}
+use Rattle.sc_parser.specs.Outcomes.{read, halt}
 use Rattle.sc_parser.specs.ReadsFiles.{HaltsAnnotation, ReadsHead, ReadsSlot, ReadsConstraint, ReadsEntities, ReadsActionConstraint, ReadsScope, ReadsPrincipal, ReadsAction, ReadsResource, ReadsScopes}
 use Rattle.sc_parser.specs.ReadsFiles as r
-use Rattle.sc_parser.proofs.PlainForwardLaws.{fwd_path, fwd_entity}
+use Rattle.sc_parser.proofs.PlainForwardLaws.{fwd_path}
 use Rattle.sc_parser.proofs.PlainForwardFileLaws.{fwd_action_asked}
-use Rattle.sc_parser.proofs.PlainReadsLaws.{from_path, from_entity}
+use Rattle.sc_parser.proofs.PlainReadsLaws.{from_path}
 use Rattle.sc_parser.proofs.PlainReadsFileLaws.{PrincipalPart, ActionPartComma, ResourcePart, from_action_constraint, whole_scope_of}
 use Rattle.sc_parser.proofs.PlainTokensLaws.{fewer, moved}
 use Rattle.sc_parser.proofs.ViableKeptLaws.{kept_path, kept_entity}
