@@ -55,7 +55,7 @@ from_action_constraint K (r.within_actions h l p) = within_actions h l (from_ent
 pub from_scope : (K : Limits) {ts : List Lexeme} {w : List ℕ} {s t : Cursor} {x : Scope} → ReadsScope ts w s (read x t) → ScopePart K ts w s x t
 from_scope K (r.scope h p) = part h (from_constraint K p)
 
--- a part of the scope, and the comma behind it
+-- the part on the principal, and the comma behind it
 pub record PrincipalPart (K : Limits) (ts : List Lexeme) (s : Cursor) (x : Scope) (t : Cursor) : Type 0 where
   pub till : Cursor
   pub place : Place
@@ -63,6 +63,7 @@ pub record PrincipalPart (K : Limits) (ts : List Lexeme) (s : Cursor) (x : Scope
   pub comma : Is ts till.at place (Sign kind.Comma)
   pub ends : next till ≡ t
 
+-- the part on the action, and the comma behind it
 pub record ActionPartComma (K : Limits) (ts : List Lexeme) (s : Cursor) (x : ActionScope) (t : Cursor) : Type 0 where
   pub till : Cursor
   pub place : Place
@@ -70,6 +71,7 @@ pub record ActionPartComma (K : Limits) (ts : List Lexeme) (s : Cursor) (x : Act
   pub comma : Is ts till.at place (Sign kind.Comma)
   pub ends : next till ≡ t
 
+-- the part on the resource, and the end of the scope
 pub record ResourcePart (K : Limits) (ts : List Lexeme) (s : Cursor) (x : Scope) (t : Cursor) : Type 0 where
   pub till : Cursor
   pub spelled : ScopePart K ts (codes "resource") s x till
@@ -85,6 +87,7 @@ pub from_resource : (K : Limits) {ts : List Lexeme} {s t : Cursor} {x : Scope} �
 from_resource K (r.resource p h) = record { till = _; spelled = from_scope K p; ends = scope_end h }
 from_resource K (r.resource_comma p h l) = record { till = _; spelled = from_scope K p; ends = scope_comma_end h l }
 
+-- the parts are a whole scope
 pub whole_scope_of : (K : Limits) {ts : List Lexeme} {s t u v : Cursor} {p : Place} {x z : Scope} {y : ActionScope} → Is ts s.at p (Sign kind.OpenParenthesis) → PrincipalPart K ts (next s) x t → ActionPartComma K ts t y u → ResourcePart K ts u z v → WholeScope K ts s (record { principal = x; action = y; resource = z }) v
 whole_scope_of K {ts = ts} {z = z} {y = y} h a b c = whole_scope h a.spelled a.comma (subst (λ i. ActionPart K ts i y b.till) (sym a.ends) b.spelled) b.comma (subst (λ i. ScopePart K ts (codes "resource") i z c.till) (sym b.ends) c.spelled) c.ends
 

@@ -24,6 +24,7 @@ use Rattle.sc_parser.proofs.ViableTokensLaws.{cut, Frees, Done}
 abbrev pub earlier : ℕ → Limits
 earlier n g m = nat_lt m n
 
+-- where a token is unexpected, the limits at earlier tokens leave it and those behind free
 pub frees_earlier : (n : ℕ) → Frees (earlier n) stop.Unexpected n
 frees_earlier n = record { here = λ g e. le-ltb n n (le_refl n); later = λ g m h. le-ltb m n h }
 
@@ -57,6 +58,7 @@ limit_cut stop.DuplicateKey n e = refl
 limit_cut stop.BadCall n e = refl
 limit_cut stop.NoMemory n e = absurd cc
 
+-- where reading stops at a limit, the limits before it leave the tokens behind free
 pub frees_before : (f : Stop) (n : ℕ) → is_limit f ≡ true → Frees (before f n) f n
 frees_before f n e = let q = limit_cut f n e in record { here = λ g k. before_here f g n k; later = λ g m h. before_later f g n m (omega (arith, q, h)) }
 
@@ -80,6 +82,7 @@ ends : {ts : List Lexeme} {i : ℕ} {t : Cursor} {ps qs : List Policy} → Reads
 ends (r.file_ends e) = e
 ends (r.more_policies h l p q) = ends q
 
+-- what was read is all that the tokens spell, within the limits
 pub found : {ts : List Lexeme} {t : Cursor} {ps : List Policy} → ReadsPolicies ts 0 [] (read ps t) → (t.at ≡ length ts) × File all_limits ts ps
 found {ts = ts} {t = t} {ps = ps} p =
     let l = no_token ts t.at (ends p) in
@@ -97,16 +100,21 @@ whole {K = K} d =
     let e : d.till.at ≡ length d.us = omega (arith, l, k) in
     (d.us, q.0, d.shares, subst (λ n. Policies K d.us 0 [] q.0 n) e q.1)
 
+-- where a token or the end is unexpected, some file begins with the tokens before it and passes no limit at them
 pub viable_earlier : {ts : List Lexeme} {n : ℕ} → ReadsPolicies ts 0 [] (halt stop.Unexpected n) → n ≤ length ts → Begins (earlier n) ts n
 viable_earlier {n = n} p w = whole (more_policies (frees_earlier n) [] w p)
 
--- where fewer limits are kept, no fewer files begin so
+-- where fewer limits are kept, no fewer policies are spelled, and no fewer files begin so
+pub file_weaker : {K L : Limits} {ts : List Lexeme} {ps : List Policy} → Weaker K L → File K ts ps → File L ts ps
+file_weaker w p = move_policies w (record { same = λ k l. refl }) p
+
 pub begins_weaker : {K L : Limits} {ts : List Lexeme} {n : ℕ} → Weaker K L → Begins K ts n → Begins L ts n
-begins_weaker w b = (b.0, b.1, b.2, move_policies w (record { same = λ k l. refl }) b.3)
+begins_weaker w b = (b.0, b.1, b.2, file_weaker w b.3)
 
 pub viable : {ts : List Lexeme} {n : ℕ} → ReadsPolicies ts 0 [] (halt stop.Unexpected n) → n ≤ length ts → Begins no_limits ts n
 viable {n = n} p w = begins_weaker {K = earlier n} (λ g m e. absurd cc) (viable_earlier p w)
 
+-- where a limit is passed, some file begins with the tokens up to that one and passes none before it
 pub passed : {ts : List Lexeme} {f : Stop} {n : ℕ} → ReadsPolicies ts 0 [] (halt f n) → is_limit f ≡ true → n < length ts → Begins (before f n) ts (n + 1)
 passed {ts = ts} {f = f} {n = n} p l w =
     let e = limit_cut f n l in
