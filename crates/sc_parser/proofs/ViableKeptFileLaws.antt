@@ -1,17 +1,15 @@
 -- What is read of a file is spelled by any tokens that are the same so far.
-use Rattle.std.proofs.Common.{ℕ, ◌+◌, List, arith}
+use Rattle.std.proofs.Common.{ℕ, List, arith}
 use Rattle.sc_ast.specs.declared.place.Place.{Place}
-use Rattle.sc_ast.specs.declared.literal.EntityLiteral.{EntityLiteral}
 use Rattle.sc_parser.specs.declared.cursor.Cursor.{Cursor}
 use Rattle.sc_parser.specs.declared.lexeme.Lexeme.{Lexeme}
 use Rattle.sc_ast.specs.declared.policy.Effect.{Effect}
 use Rattle.sc_ast.specs.declared.policy.Condition.{Condition}
 use Rattle.sc_ast.specs.declared.policy.Policy.{Policy}
-use Rattle.sc_ast.specs.declared.scope.Constraint.{Constraint}
 use Rattle.sc_ast.specs.declared.scope.ActionConstraint.{ActionConstraint}
 use Rattle.sc_ast.specs.declared.scope.Scope.{Scope}
 use Rattle.sc_parser.specs.declared.scopes.Scopes.{Scopes}
-use Rattle.sc_parser.specs.GrammarFiles.{Head, Slot, Asked, Entities, AskedOfAction, ScopePart, WholeScope, Clauses, OnePolicy, bare_annotation, annotation}
+use Rattle.sc_parser.specs.GrammarFiles.{Head, AskedOfAction, ScopePart, WholeScope, Clauses, OnePolicy, bare_annotation, annotation}
 use Rattle.sc_parser.specs.Limits.{Limits}
 use Rattle.sc_parser.specs.Outcomes.{read}
 use Rattle.sc_parser.specs.Faults.{Shares}
@@ -19,20 +17,11 @@ use Rattle.sc_parser.proofs.PlainTokensLaws.{moved}
 use Rattle.sc_parser.proofs.ViableTokensLaws.{stay}
 use Rattle.sc_parser.specs.ReadsFiles.{SkipsAnnotation, HaltsAnnotation, ReadsHead, ReadsSlot, ReadsConstraint, ReadsEntities, ReadsActionConstraint, ReadsScope, ReadsPrincipal, ReadsAction, ReadsResource, ReadsScopes, ReadsClauses, ReadsPolicy, ReadsPolicies}
 use Rattle.sc_parser.specs.ReadsFiles as r
-use Rattle.sc_parser.proofs.PlainReadsFileLaws.{from_head, from_slot, from_constraint, from_entities, from_action_constraint, from_scope, from_scopes, from_clauses, from_policy}
-use Rattle.sc_parser.proofs.PlainMovedFileLaws.{move_head, move_slot, move_asked, move_entities, move_action_asked, move_part, move_whole_scope, move_clauses, move_policy}
+use Rattle.sc_parser.proofs.PlainReadsFileLaws.{from_head, from_action_constraint, from_scope, from_scopes, from_clauses, from_policy}
+use Rattle.sc_parser.proofs.PlainMovedFileLaws.{move_head, move_action_asked, move_part, move_whole_scope, move_clauses, move_policy}
 
 pub kept_head : {K : Limits} {ts us : List Lexeme} {s t : Cursor} {p : Place} {e : Effect} → Shares ts us t.at → ReadsHead ts s (read (p, e) t) → Head K us s p e t
 kept_head {K = K} b p = move_head (stay K) b (from_head K p)
-
-pub kept_slot : {K : Limits} {ts us : List Lexeme} {s t : Cursor} {e : EntityLiteral} → Shares ts us t.at → ReadsSlot ts s (read e t) → Slot K us s e t
-kept_slot {K = K} b p = move_slot (stay K) b (from_slot K p)
-
-pub kept_constraint : {K : Limits} {ts us : List Lexeme} {s t : Cursor} {c : Constraint} → Shares ts us t.at → ReadsConstraint ts s (read c t) → Asked K us s c t
-kept_constraint {K = K} b p = move_asked (stay K) b (from_constraint K p)
-
-pub kept_entities : {K : Limits} {ts us : List Lexeme} {s t : Cursor} {es fs : List EntityLiteral} → Shares ts us (t.at + 1) → ReadsEntities ts s es (read fs t) → Entities K us s es fs t
-kept_entities {K = K} b p = move_entities (stay K) b (from_entities K p)
 
 pub kept_action_constraint : {K : Limits} {ts us : List Lexeme} {s t : Cursor} {c : ActionConstraint} → Shares ts us t.at → ReadsActionConstraint ts s (read c t) → AskedOfAction K us s c t
 kept_action_constraint {K = K} b p = move_action_asked (stay K) b (from_action_constraint K p)

@@ -4,36 +4,26 @@ use Rattle.sc_ast.specs.declared.place.Place.{Place}
 use Rattle.sc_ast.specs.declared.expr.Expr.{Expr}
 use Rattle.sc_ast.specs.declared.expr.TypeName.{TypeName}
 use Rattle.sc_ast.specs.declared.literal.EntityLiteral.{EntityLiteral}
-use Rattle.sc_ast.specs.declared.operator.UnaryOperator.{UnaryOperator}
 use Rattle.sc_pattern.specs.declared.part.Part.{Part}
 use Rattle.sc_parser.specs.declared.cursor.Cursor.{Cursor}
 use Rattle.sc_parser.specs.declared.lexeme.Lexeme.{Lexeme}
 use Rattle.sc_parser.specs.declared.operator.Close.{Close}
 use Rattle.sc_parser.specs.declared.operator.Level.{Level}
-use Rattle.sc_parser.specs.Grammar.{Ident, Str, MoreNames, Names, MorePath, Path, Entity, Key, Expression, Inner, Enclosed, Chain, MoreOperands, Operand, Relation, Unary, Prefixes, Member, Accesses, Primary, Items, Fields}
+use Rattle.sc_parser.specs.Grammar.{Ident, Str, Path, Entity, Key, Inner, Enclosed, Chain, Operand, Primary, Items}
 use Rattle.sc_parser.specs.Limits.{Limits}
 use Rattle.sc_parser.specs.Outcomes.{read}
 use Rattle.sc_parser.specs.Faults.{Shares}
 use Rattle.sc_parser.proofs.PlainTokensLaws.{Same}
 use Rattle.sc_parser.proofs.ViableTokensLaws.{stay}
-use Rattle.sc_parser.specs.Reads.{ReadsIdent, ReadsString, ReadsMoreNames, ReadsNames, ReadsMorePath, ReadsPath, ReadsEntity, ReadsKey, ReadsExpr, ReadsInner, ReadsEnclosed, ReadsChain, ReadsMore, ReadsOperand, ReadsRelation, ReadsUnary, ReadsPrefixes, ReadsMember, ReadsAccesses, ReadsPrimary, ReadsItems, ReadsFields}
-use Rattle.sc_parser.proofs.PlainReadsLaws.{from_ident, from_string, from_more_names, from_names, from_more_path, from_path, from_entity, from_key, from_expr, from_inner, from_enclosed, from_chain, from_more, from_operand, from_relation, from_unary, from_prefixes, from_member, from_accesses, from_primary, from_items, from_fields}
-use Rattle.sc_parser.proofs.PlainMovedLaws.{move_ident, move_string, move_more_names, move_names, move_more_path, move_path, move_entity, move_key, move_expr, move_inner, move_enclosed, move_chain, move_more, move_operand, move_relation, move_unary, move_prefixes, move_member, move_accesses, move_primary, move_items, move_fields}
+use Rattle.sc_parser.specs.Reads.{ReadsIdent, ReadsString, ReadsPath, ReadsEntity, ReadsKey, ReadsInner, ReadsEnclosed, ReadsChain, ReadsOperand, ReadsPrimary, ReadsItems}
+use Rattle.sc_parser.proofs.PlainReadsLaws.{from_ident, from_string, from_path, from_entity, from_key, from_inner, from_enclosed, from_chain, from_operand, from_primary, from_items}
+use Rattle.sc_parser.proofs.PlainMovedLaws.{move_ident, move_string, move_path, move_entity, move_key, move_inner, move_enclosed, move_chain, move_operand, move_primary, move_items}
 
 pub kept_ident : {K : Limits} {ts us : List Lexeme} {s t : Cursor} {p : Place} {w : List ℕ} → Shares ts us t.at → ReadsIdent ts s (read (p, w) t) → Ident K us s p w t
 kept_ident {K = K} b p = move_ident (stay K) b (from_ident K p)
 
 pub kept_string : {K : Limits} {ts us : List Lexeme} {s t : Cursor} {w : List ℕ} {parts : List Part} → Shares ts us t.at → ReadsString ts s (read (w, parts) t) → Str K us s w parts t
 kept_string {K = K} b p = move_string (stay K) b (from_string K p)
-
-pub kept_more_names : {K : Limits} {ts us : List Lexeme} {s t : Cursor} {ns ms : List (List ℕ)} → Shares ts us t.at → ReadsMoreNames ts s ns (read ms t) → MoreNames K us s ns ms t
-kept_more_names {K = K} b p = move_more_names (stay K) b (from_more_names K p)
-
-pub kept_names : {K : Limits} {ts us : List Lexeme} {s t : Cursor} {ns : List (List ℕ)} → Shares ts us t.at → ReadsNames ts s (read ns t) → Names K us s ns t
-kept_names {K = K} b p = move_names (stay K) b (from_names K p)
-
-pub kept_more_path : {K : Limits} {ts us : List Lexeme} {s t : Cursor} {n m : List ℕ} → Shares ts us t.at → ReadsMorePath ts s n (read m t) → MorePath K us s n m t
-kept_more_path {K = K} b p = move_more_path (stay K) b (from_more_path K p)
 
 pub kept_path : {K : Limits} {ts us : List Lexeme} {s t : Cursor} {y : TypeName} → Shares ts us t.at → ReadsPath ts s (read y t) → Path K us s y t
 kept_path {K = K} b p = move_path (stay K) b (from_path K p)
@@ -44,9 +34,6 @@ kept_entity {K = K} b p = move_entity (stay K) b (from_entity K p)
 pub kept_key : {K : Limits} {ts us : List Lexeme} {s t : Cursor} {fs : List (List ℕ × Expr)} {w : List ℕ} → Shares ts us t.at → ReadsKey ts s fs (read w t) → Key K us s fs w t
 kept_key {K = K} b p = move_key (stay K) b (from_key K p)
 
-pub kept_expr : {K : Limits} {ts us : List Lexeme} {s t : Cursor} {x : Expr} → Same ts us t.at → ReadsExpr ts s (read x t) → Expression K us s x t
-kept_expr {K = K} b p = move_expr (stay K) b (from_expr K p)
-
 pub kept_inner : {K : Limits} {ts us : List Lexeme} {s t : Cursor} {x : Expr} → Same ts us t.at → ReadsInner ts s (read x t) → Inner K us s x t
 kept_inner {K = K} b p = move_inner (stay K) b (from_inner K p)
 
@@ -56,32 +43,11 @@ kept_enclosed {K = K} b p = move_enclosed (stay K) b (from_enclosed K p)
 pub kept_chain : {K : Limits} {ts us : List Lexeme} {l : Level} {s t : Cursor} {x : Expr} → Same ts us t.at → ReadsChain ts l s (read x t) → Chain K us l s x t
 kept_chain {K = K} b p = move_chain (stay K) b (from_chain K p)
 
-pub kept_more : {K : Limits} {ts us : List Lexeme} {l : Level} {s t : Cursor} {a x : Expr} → Same ts us t.at → ReadsMore ts l s a (read x t) → MoreOperands K us l s a x t
-kept_more {K = K} b p = move_more (stay K) b (from_more K p)
-
 pub kept_operand : {K : Limits} {ts us : List Lexeme} {l : Level} {s t : Cursor} {x : Expr} → Same ts us t.at → ReadsOperand ts l s (read x t) → Operand K us l s x t
 kept_operand {K = K} b p = move_operand (stay K) b (from_operand K p)
-
-pub kept_relation : {K : Limits} {ts us : List Lexeme} {s t : Cursor} {x : Expr} → Same ts us t.at → ReadsRelation ts s (read x t) → Relation K us s x t
-kept_relation {K = K} b p = move_relation (stay K) b (from_relation K p)
-
-pub kept_unary : {K : Limits} {ts us : List Lexeme} {s t : Cursor} {x : Expr} → Same ts us t.at → ReadsUnary ts s (read x t) → Unary K us s x t
-kept_unary {K = K} b p = move_unary (stay K) b (from_unary K p)
-
-pub kept_prefixes : {K : Limits} {ts us : List Lexeme} {q : UnaryOperator} {m : ℕ} {s t : Cursor} {x : Expr} → Same ts us t.at → ReadsPrefixes ts q m s (read x t) → Prefixes K us q m s x t
-kept_prefixes {K = K} b p = move_prefixes (stay K) b (from_prefixes K p)
-
-pub kept_member : {K : Limits} {ts us : List Lexeme} {s t : Cursor} {x : Expr} → Same ts us t.at → ReadsMember ts s (read x t) → Member K us s x t
-kept_member {K = K} b p = move_member (stay K) b (from_member K p)
-
-pub kept_accesses : {K : Limits} {ts us : List Lexeme} {s t : Cursor} {a x : Expr} → Same ts us t.at → ReadsAccesses ts s a (read x t) → Accesses K us s a x t
-kept_accesses {K = K} b p = move_accesses (stay K) b (from_accesses K p)
 
 pub kept_primary : {K : Limits} {ts us : List Lexeme} {s t : Cursor} {x : Expr} → Same ts us t.at → ReadsPrimary ts s (read x t) → Primary K us s x t
 kept_primary {K = K} b p = move_primary (stay K) b (from_primary K p)
 
 pub kept_items : {K : Limits} {ts us : List Lexeme} {c : Close} {s t : Cursor} {xs ys : List Expr} → Shares ts us (t.at + 1) → ReadsItems ts c s xs (read ys t) → Items K us c s xs ys t
 kept_items {K = K} b p = move_items (stay K) b (from_items K p)
-
-pub kept_fields : {K : Limits} {ts us : List Lexeme} {s t : Cursor} {fs gs : List (List ℕ × Expr)} → Shares ts us (t.at + 1) → ReadsFields ts s fs (read gs t) → Fields K us s fs gs t
-kept_fields {K = K} b p = move_fields (stay K) b (from_fields K p)
