@@ -67,7 +67,9 @@ into_entity (r.entity a b) = calls (into_ident a) (tail (into_more_entity b))
 
 pub into_key : {ts : List Lexeme} {s : Cursor} {fs : List (List ℕ × Expr)} {o : Outcome (List ℕ)} → ReadsKey ts s fs o → Runs all_limits ts sort.bytes (production (n.key fs)) s o
 into_key (r.key_ident (r.ident {p = p} {w = w} h f) e) = finds (p, w) h (keeps (λ k. f) (keeps (λ k. ap not e) (goes h.0 does)))
+into_key (r.key_ident_deep {p = p} {w = w} h f) = finds (p, w) h (breaks refl h.0 refl f)
 into_key (r.key_ident_twice (r.ident {p = p} {w = w} h f) e) = finds (p, w) h (keeps (λ k. f) (breaks refl h.0 refl (ap not e)))
 into_key {ts = ts} {s = s} (r.key_string (r.string {p = p} {t = w} {parts = parts} h f) e) = lacks (other_ident ts s.at h (λ v e i. cc)) (finds (p, w, parts) h (keeps (λ k. f) (keeps (λ k. ap not e) (goes h does))))
+into_key {ts = ts} {s = s} (r.key_string_deep {p = p} {t = w} {parts = parts} h f) = lacks (other_ident ts s.at h (λ v e i. cc)) (finds (p, w, parts) h (breaks refl h refl f))
 into_key {ts = ts} {s = s} (r.key_string_twice (r.string {p = p} {t = w} {parts = parts} h f) e) = lacks (other_ident ts s.at h (λ v e i. cc)) (finds (p, w, parts) h (keeps (λ k. f) (breaks refl h refl (ap not e))))
 into_key (r.no_key n m) = lacks (λ x h. n x.0 x.1 h.0 h.1) (lacks (λ x h. m x.0 x.1 x.2 h) fails)

@@ -134,6 +134,8 @@ abbrev pub SomeKey : Limits → Cursor → List (List ℕ × Expr) → List Lexe
 SomeKey K s fs us t = (v : List ℕ) × Key K us s fs v t
 
 pub more_key : {K : Limits} {ts : List Lexeme} {s : Cursor} {fs : List (List ℕ × Expr)} {f : Stop} {n : ℕ} → Frees K f n → (rest : List Lexeme) → cut f n ≤ length ts → ReadsKey ts s fs (halt f n) → Done (SomeKey K s fs) ts (cut f n) rest
+more_key {K = K} {s = s} {fs = fs} g rest w (r.key_ident_deep {p = p} {w = v} h f) = leaf (SomeKey K s fs) (next s) (next s) rest w (le_refl (s.at + 1)) (λ us d. d) (λ us b d. (v, key_ident (ident (moved b (omega arith) h.0, h.1) (loose (g.here stop.TooDeep refl))) (loose (g.here stop.DuplicateKey refl))))
 more_key {K = K} {s = s} {fs = fs} g rest w (r.key_ident_twice {w = v} (r.ident h f) e) = leaf (SomeKey K s fs) (next s) (next s) rest w (le_refl (s.at + 1)) (λ us d. d) (λ us b d. (v, key_ident (ident (moved b (omega arith) h.0, h.1) (λ k. f)) (loose (g.here stop.DuplicateKey refl))))
+more_key {K = K} {s = s} {fs = fs} g rest w (r.key_string_deep {t = v} h f) = leaf (SomeKey K s fs) (next s) (next s) rest w (le_refl (s.at + 1)) (λ us d. d) (λ us b d. (v, key_string (string (moved b (omega arith) h) (loose (g.here stop.TooDeep refl))) (loose (g.here stop.DuplicateKey refl))))
 more_key {K = K} {s = s} {fs = fs} g rest w (r.key_string_twice {w = v} (r.string h f) e) = leaf (SomeKey K s fs) (next s) (next s) rest w (le_refl (s.at + 1)) (λ us d. d) (λ us b d. (v, key_string (string (moved b (omega arith) h) (λ k. f)) (loose (g.here stop.DuplicateKey refl))))
 more_key {K = K} {s = s} {fs = fs} g rest w (r.no_key h l) = leaf (SomeKey K s fs) s (next s) (quotes ∷ rest) w (omega arith) (λ us d. rest_of d) (λ us b d. ([], key_string (string (head_of d) (loose (g.later stop.TooDeep s.at (le_refl s.at)))) (loose (g.later stop.DuplicateKey s.at (le_refl s.at)))))

@@ -50,7 +50,9 @@ stop_entity (r.entity_ident_halt p) = omega (arith, stop_ident p)
 stop_entity (r.entity p q) = omega (arith, fwd_ident (from_ident all_limits p), stop_more_entity q)
 
 pub stop_key : {ts : List Lexeme} {s : Cursor} {fs : List (List ℕ × Expr)} {f : Stop} {n : ℕ} → ReadsKey ts s fs (halt f n) → s.at ≤ n
+stop_key (r.key_ident_deep h f) = omega arith
 stop_key (r.key_ident_twice p h) = omega (arith, fwd_ident (from_ident all_limits p))
+stop_key (r.key_string_deep h f) = omega arith
 stop_key (r.key_string_twice p h) = omega (arith, fwd_string (from_string all_limits p))
 stop_key (r.no_key h l) = omega arith
 

@@ -81,8 +81,10 @@ pub data ReadsEntity : List Lexeme → Cursor → Outcome EntityLiteral → Type
 -- a key of a record that has these fields so far
 pub data ReadsKey : List Lexeme → Cursor → List (List ℕ × Expr) → Outcome (List ℕ) → Type 0 where
   key_ident : {ts : List Lexeme} {s t : Cursor} {p : Place} {w : List ℕ} {fs : List (List ℕ × Expr)} → ReadsIdent ts s (read (p, w) t) → has_key w fs ≡ false → ReadsKey ts s fs (read w t)
+  key_ident_deep : {ts : List Lexeme} {s : Cursor} {p : Place} {w : List ℕ} {fs : List (List ℕ × Expr)} → IsIdent ts s.at p w → fits s ≡ false → ReadsKey ts s fs (halt stop.TooDeep s.at)
   key_ident_twice : {ts : List Lexeme} {s t : Cursor} {p : Place} {w : List ℕ} {fs : List (List ℕ × Expr)} → ReadsIdent ts s (read (p, w) t) → has_key w fs ≡ true → ReadsKey ts s fs (halt stop.DuplicateKey s.at)
   key_string : {ts : List Lexeme} {s t : Cursor} {w : List ℕ} {parts : List Part} {fs : List (List ℕ × Expr)} → ReadsString ts s (read (w, parts) t) → has_key w fs ≡ false → ReadsKey ts s fs (read w t)
+  key_string_deep : {ts : List Lexeme} {s : Cursor} {p : Place} {t : List ℕ} {parts : List Part} {fs : List (List ℕ × Expr)} → Is ts s.at p (String t parts) → fits s ≡ false → ReadsKey ts s fs (halt stop.TooDeep s.at)
   key_string_twice : {ts : List Lexeme} {s t : Cursor} {w : List ℕ} {parts : List Part} {fs : List (List ℕ × Expr)} → ReadsString ts s (read (w, parts) t) → has_key w fs ≡ true → ReadsKey ts s fs (halt stop.DuplicateKey s.at)
   no_key : {ts : List Lexeme} {s : Cursor} {fs : List (List ℕ × Expr)} → LacksIdent ts s.at → LacksString ts s.at → ReadsKey ts s fs (halt stop.Unexpected s.at)
 
