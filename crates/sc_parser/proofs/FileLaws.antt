@@ -39,6 +39,16 @@ complete {ts = ts} a p =
     let f = b.same (λ k. refl) (λ g i. refl) in
     cc
 
+-- they spell one list of policies
+pub one_file : {ts : List Lexeme} {ps qs : List Policy} → File all_limits ts ps → File all_limits ts qs → ◌≡◌ {A = Outcome (List Policy)} (read ps (outside (length ts))) (read qs (outside (length ts)))
+one_file {ts = ts} p q =
+    let b = to_policies p (past_end ts) [] refl in
+    let c = to_policies q (past_end ts) [] refl in
+    let e = only b.runs c.runs in
+    let f = b.same (λ k. refl) (λ g i. refl) in
+    let h = c.same (λ k. refl) (λ g i. refl) in
+    cc
+
 -- where reading halts though these limits are kept, no file that keeps them begins so
 halted : {K : Limits} {ts us : List Lexeme} {ps : List Policy} {f : Stop} {n : ℕ} → ReadsPolicies ts 0 [] (halt f n) → (is_limit f ≡ true → K f n ≡ true) → Agree ts us n → File K us ps → ⊥
 halted {us = us} a k g p =
