@@ -1,6 +1,21 @@
 //! The tokens of a policy file, by longest match, or the first place where it has none.
 #![tactic(auto)]
 
+mod blank;
+mod escape;
+mod front;
+mod length;
+mod lexer;
+mod piece;
+mod sign;
+mod spelling;
+mod string;
+#[cfg(test)]
+mod tests;
 mod token;
+mod unescaping;
 
+pub use lexer::{text, tokens};
+pub use piece::Piece;
 pub use token::{Kind, LexFault, Span, Token};
+pub use unescaping::{pieces, unescape};

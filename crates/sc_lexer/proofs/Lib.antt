@@ -1,0 +1,11 @@
+pub mod BlankLaws
+pub mod DigitLaws
+pub mod EscapeLaws
+pub mod FrontLaws
+pub mod NextLaws
+pub mod ReadingLaws
+pub mod SpanLaws
+pub mod SpellingLaws
+pub mod StringLaws
+pub mod UnescapingLaws
+pub mod UniqueLaws
