@@ -25,7 +25,7 @@ only_policies a b = only (into_policies a) (into_policies b)
 pub same_policies : {ts us : List Lexeme} {i : ℕ} {ps : List Policy} {o o' : Outcome (List Policy)} → Agree ts us (place o) → ReadsPolicies ts i ps o → ReadsPolicies us i ps o' → o ≡ o'
 same_policies g a b = only (moved g (into_policies a)) (into_policies b)
 
-past_end : (ts : List Lexeme) → slice_get ts (length ts) ≡ None
+pub past_end : (ts : List Lexeme) → slice_get ts (length ts) ≡ None
 past_end ts = slice_get_past ts (length ts) (le_refl (length ts))
 
 read_no_halt : {f : Stop} {n j : ℕ} {ps : List Policy} → halt f n ≡ read ps (outside j) → ⊥

@@ -16,6 +16,7 @@ pub mod PlainTokensLaws
 pub mod PrimaryLaws
 pub mod Productions
 pub mod Programs
+pub mod ReadingLaws
 pub mod ReadsFileLaws
 pub mod ReadsLaws
 pub mod ReadsWordLaws

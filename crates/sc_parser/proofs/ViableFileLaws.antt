@@ -67,7 +67,7 @@ reach_policies : {K : Limits} {ts : List Lexeme} {i j : ℕ} {ps qs : List Polic
 reach_policies l policies_end = l
 reach_policies {ts = ts} l (policies_more h (policy {v = v} p q u k) o) = reach_policies (let e = slice_get_within ts v.at _ k in omega (arith, e)) o
 
-no_token : (ts : List Lexeme) (i : ℕ) → slice_get ts i ≡ None → length ts ≤ i
+pub no_token : (ts : List Lexeme) (i : ℕ) → slice_get ts i ≡ None → length ts ≤ i
 no_token [] i h = omega arith
 no_token (x ∷ ts) zero h = absurd cc
 no_token (x ∷ ts) (suc i) h = let k = no_token ts i h in omega (arith, k)

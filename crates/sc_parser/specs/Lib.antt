@@ -7,4 +7,5 @@ pub mod Limits
 pub mod Outcomes
 pub mod Reads
 pub mod ReadsFiles
+pub mod Spelling
 pub mod Tables

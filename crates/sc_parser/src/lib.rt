@@ -2,7 +2,12 @@
 #![tactic(auto)]
 
 mod cursor;
+mod fault;
 mod lexeme;
 mod operator;
+mod reading;
 mod scopes;
 mod stop;
+
+pub use fault::PolicyFault;
+pub use reading::reading_laws;
