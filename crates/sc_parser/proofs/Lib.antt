@@ -1,3 +1,4 @@
+pub mod ExampleLaws
 pub mod FaultLaws
 pub mod FileLaws
 pub mod FirstLaws
