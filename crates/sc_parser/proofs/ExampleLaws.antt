@@ -1,6 +1,7 @@
 -- Small files, token by token: what they spell, or where they have their first fault.
-use Rattle.std.proofs.Common.{◌≡◌, ℕ, List, [], ◌∷◌, codes, refl, arith}
+use Rattle.std.proofs.Common.{◌≡◌, ℕ, List, [], ◌∷◌, codes, None, refl, ap, arith}
 use Rattle.sc_ast.specs.declared.place.Place.{Place}
+use Rattle.sc_ast.specs.declared.expr.Expr.{Expr}
 use Rattle.sc_ast.specs.declared.expr.Expr.TheVariants as expr
 use Rattle.sc_ast.specs.declared.literal.Literal.TheVariants as literal
 use Rattle.sc_ast.specs.declared.policy.Condition.{Condition}
@@ -11,29 +12,35 @@ use Rattle.sc_ast.specs.declared.scope.ActionConstraint.TheVariants as action
 use Rattle.sc_ast.specs.declared.scope.Constraint.TheVariants as constraint
 use Rattle.sc_lexer.specs.declared.token.Kind.{Kind}
 use Rattle.sc_lexer.specs.declared.token.Kind.TheVariants as kind
-use Rattle.sc_lexer.specs.declared.token.Token.{Token}
 use Rattle.std.specs.Str.{is_utf8, chars}
 use lib.Utf8.{encode}
 use Rattle.sc_lexer.specs.Escapes.{escape_of}
 use Rattle.sc_lexer.specs.Pieces.{pieces_after, pieces_of, string_of}
 use Rattle.sc_pattern.specs.declared.part.Part.TheVariants.{Char, Star}
+use Rattle.sc_parser.specs.declared.cursor.Cursor.{Cursor}
 use Rattle.sc_parser.specs.declared.lexeme.Lexeme.{Lexeme}
 use Rattle.sc_parser.specs.declared.lexeme.Shape.{Shape}
 use Rattle.sc_parser.specs.declared.lexeme.Shape.TheVariants as shape
 use Rattle.sc_parser.specs.declared.scopes.Scopes.{Scopes}
+use Rattle.sc_parser.specs.declared.stop.Stop.{Stop}
 use Rattle.sc_parser.specs.declared.stop.Stop.TheVariants as stop
-use Rattle.sc_parser.specs.Depth.{outside}
+use Rattle.sc_parser.specs.Depth.{inside, deeper, outside}
 use Rattle.sc_parser.specs.Faults.{Passes, IsUnexpected, IsUnexpectedEnd}
-use Rattle.sc_parser.specs.GrammarFiles.{File, WholeScope}
+use Rattle.sc_parser.specs.Grammar.{Expression, Unary}
+use Rattle.sc_parser.specs.Grammar as grammar
+use Rattle.sc_parser.specs.GrammarFiles.{File, WholeScope, Clauses}
 use Rattle.sc_parser.specs.GrammarFiles as g
-use Rattle.sc_parser.specs.Lexemes.{IsPolicyStart, annotation_starts, effect_starts}
+use Rattle.sc_parser.specs.Lexemes.{Is, Lacks, LacksPrefix, IsPolicyStart, annotation_starts, effect_starts}
 use Rattle.sc_parser.specs.Limits.{Limits, all_limits}
-use Rattle.sc_parser.specs.Outcomes.{halt}
-use Rattle.sc_parser.specs.ReadsFiles.{ReadsPolicies}
+use Rattle.sc_parser.specs.Outcomes.{read, halt}
+use Rattle.sc_parser.specs.Reads.{ReadsInner, ReadsPrimary}
+use Rattle.sc_parser.specs.Reads as reads
+use Rattle.sc_parser.specs.ReadsFiles.{ReadsScopes, ReadsPolicies}
 use Rattle.sc_parser.specs.ReadsFiles as r
 use Rattle.sc_parser.specs.Spelling.{shape_of, lexeme_of}
+use Rattle.sc_parser.specs.Tables.{least_long, prefix_of, variable_of}
 use Rattle.sc_parser.proofs.FaultLaws.{unexpected, ended, passes}
-use Rattle.sc_parser.proofs.TestLaws.{other}
+use Rattle.sc_parser.proofs.TestLaws.{one_shape, other, other_word, minus_prefix}
 
 -- ---- tokens
 
@@ -56,6 +63,9 @@ word n w = record { place = at n; shape = shape.Word w }
 
 abbrev sign : ℕ → Kind → Lexeme
 sign n k = record { place = at n; shape = shape.Sign k }
+
+abbrev digits : ℕ → List ℕ → Lexeme
+digits n ds = record { place = at n; shape = shape.Number ds }
 
 -- permit(principal,action,resource)
 abbrev headed : List Lexeme → List Lexeme
@@ -114,3 +124,67 @@ slotted_halts = r.policy_halts (effect_starts (at 0) Permit (record { is = refl 
 
 template_passed : Passes slotted stop.Template 4
 template_passed = passes slotted_halts refl
+
+-- ---- conditions
+
+-- permit(principal,action,resource) when { -9223372036854775808 };
+abbrev least : List Lexeme
+least = headed (word 34 (codes "when") ∷ sign 39 kind.OpenBrace ∷ sign 41 kind.Minus ∷ digits 42 (codes "9223372036854775808") ∷ sign 62 kind.CloseBrace ∷ sign 63 kind.Semicolon ∷ [])
+
+abbrev least_number : Condition
+least_number = record { place = at 34; kind = When; body = expr.Literal (at 41) (literal.Long least_long) }
+
+least_unary : Unary all_limits least (record { at = 10; levels = 100; room = 1000 }) (expr.Literal (at 41) (literal.Long least_long)) (record { at = 12; levels = 100; room = 999 })
+least_unary = grammar.prefixes {p = at 41} (minus_prefix refl) (grammar.least (omega arith) (record { minus = refl; place = at 42; digits = refl }) (λ k. refl) (λ k. refl) grammar.no_access)
+
+unary_expression : {K : Limits} {ts : List Lexeme} {s t : Cursor} {x : Expr} → Unary K ts s x t → Expression K ts s x t
+unary_expression p = grammar.chain_or (grammar.chain (grammar.operand_or (grammar.chain (grammar.operand_and (grammar.sum (grammar.chain (grammar.operand_add (grammar.chain (grammar.operand_multiply p) grammar.operands_end)) grammar.operands_end))) grammar.operands_end)) grammar.operands_end)
+
+least_clause : Clauses all_limits least (outside 8) [] (least_number ∷ []) (deeper (outside 13))
+least_clause = g.clauses_more {t = outside 13} {p = at 34} {q = at 39} {k = When} (record { is = refl }) refl (grammar.enclosed {t = outside 12} {p = at 62} (grammar.inner {t = record { at = 12; levels = 100; room = 999 }} (unary_expression least_unary)) refl) g.clauses_end
+
+least_spelled : File all_limits least (permits (least_number ∷ []) ∷ [])
+least_spelled = g.policies_more {t = record { at = 14; levels = 101; room = 1000 }} {x = permits (least_number ∷ [])} (λ k. refl) (g.policy {t = outside 1} {u = outside 8} {v = deeper (outside 13)} {p = at 0} {q = at 63} {e = Permit} {x = anything} (g.effect (record { is = refl })) (whole _) least_clause refl) g.policies_end
+
+scopes_read : (rest : List Lexeme) → ReadsScopes (headed rest) (outside 1) (read anything (outside 8))
+scopes_read rest = r.scopes {t = outside 4} {u = outside 6} {p = at 6} refl
+    (r.principal {t = outside 3} {p = at 16} (r.scope {p = at 7} refl (r.any (other (headed rest) 3 {p = at 16} refl (λ e. cc)) (other (headed rest) 3 {p = at 16} refl (λ e. cc)) (other (headed rest) 3 {p = at 16} refl (λ e. cc)))) refl)
+    (r.action_scope {t = outside 5} {p = at 17} {q = at 23} refl (r.any_action (other (headed rest) 5 {p = at 23} refl (λ e. cc)) (other (headed rest) 5 {p = at 23} refl (λ e. cc))) refl)
+    (r.resource {t = outside 7} {p = at 32} (r.scope {p = at 24} refl (r.any (other (headed rest) 7 {p = at 32} refl (λ e. cc)) (other (headed rest) 7 {p = at 32} refl (λ e. cc)) (other (headed rest) 7 {p = at 32} refl (λ e. cc)))) refl)
+
+-- where the first expression of a clause halts, the file does
+clause_halts_file : (rest : List Lexeme) {f : Stop} {n : ℕ} (p q : Place) → Is (headed rest) 8 p (shape.Word (codes "when")) → Is (headed rest) 9 q (shape.Sign kind.OpenBrace) → ReadsInner (headed rest) (outside 10) (halt f n) → ReadsPolicies (headed rest) 0 [] (halt f n)
+clause_halts_file rest p q h k a = r.policy_halts (effect_starts (at 0) Permit (record { is = refl })) refl (r.clauses_halt {t = outside 1} {u = outside 8} {p = at 0} {e = Permit} {x = anything} (r.effect (record { is = refl })) (scopes_read rest) (r.clause_halts {p = p} {q = q} {k = When} (record { is = h }) k (reads.enclosed_halts a)))
+
+primary_halts : {ts : List Lexeme} {s : Cursor} {f : Stop} {n : ℕ} → Lacks ts s.at (shape.Word (codes "if")) → LacksPrefix ts s.at → ReadsPrimary ts (inside s) (halt f n) → ReadsInner ts s (halt f n)
+primary_halts l m p = reads.inner_halts (reads.chain_or l (reads.chain_halts (reads.operand_or (reads.chain_halts (reads.operand_and (reads.relation_halts (reads.chain_halts (reads.operand_add (reads.chain_halts (reads.operand_multiply (reads.no_prefix m (reads.member_halts p))))))))))))
+
+no_prefix_at : (ts : List Lexeme) (i : ℕ) {p : Place} {c : Shape} → Is ts i p c → prefix_of c ≡ None → LacksPrefix ts i
+no_prefix_at ts i h n p o g = let e = ap prefix_of (one_shape ts i h g.is) in let f = g.operator in cc
+
+-- permit(principal,action,resource) when { 9223372036854775808
+abbrev large : List Lexeme
+large = word 34 (codes "when") ∷ sign 39 kind.OpenBrace ∷ digits 41 (codes "9223372036854775808") ∷ []
+
+digits_no_prefix : (ds : List ℕ) → prefix_of (shape.Number ds) ≡ None
+unfolding prefix_of
+digits_no_prefix ds = refl
+
+large_passed : Passes (headed large) stop.IntRange 10
+large_passed = passes (clause_halts_file large (at 34) (at 39) refl refl (primary_halts (other (headed large) 10 {p = at 41} refl (λ e. cc)) (no_prefix_at (headed large) 10 {p = at 41} refl (digits_no_prefix (codes "9223372036854775808"))) (reads.number_large {p = at 41} refl refl refl))) refl
+
+-- permit(principal,action,resource) when { any()
+abbrev unknown : List Lexeme
+unknown = word 34 (codes "when") ∷ sign 39 kind.OpenBrace ∷ word 41 (codes "any") ∷ sign 44 kind.OpenParenthesis ∷ sign 45 kind.CloseParenthesis ∷ []
+
+word_no_prefix : (w : List ℕ) → prefix_of (shape.Word w) ≡ None
+unfolding prefix_of
+word_no_prefix w = refl
+
+no_variable : variable_of (codes "any") ≡ None
+unfolding variable_of
+no_variable = refl
+
+-- the parenthesis that closes the call passes the limit
+unknown_passed : Passes (headed unknown) stop.BadCall 12
+unknown_passed = passes (clause_halts_file unknown (at 34) (at 39) refl refl (primary_halts (other (headed unknown) 10 {p = at 41} refl (other_word _ _ refl refl)) (no_prefix_at (headed unknown) 10 {p = at 41} refl (word_no_prefix (codes "any"))) (reads.no_function {t = record { at = 12; levels = 100; room = 1000 }} {p = at 41} {q = at 44} {w = codes "any"} (refl, refl) no_variable refl refl (reads.items_end {p = at 45} refl) refl))) refl
