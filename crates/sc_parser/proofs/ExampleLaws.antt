@@ -1,5 +1,5 @@
 -- Small files, token by token: what they spell, or where they have their first fault.
-use Rattle.std.proofs.Common.{◌≡◌, ℕ, List, [], ◌∷◌, codes, None, refl, ap, arith}
+use Rattle.std.proofs.Common.{◌≡◌, ℕ, List, [], ◌∷◌, codes, None, zero, suc, true, false, refl, ap, arith}
 use Rattle.sc_ast.specs.declared.place.Place.{Place}
 use Rattle.sc_ast.specs.declared.expr.Expr.{Expr}
 use Rattle.sc_ast.specs.declared.expr.Expr.TheVariants as expr
@@ -24,7 +24,7 @@ use Rattle.sc_parser.specs.declared.lexeme.Shape.TheVariants as shape
 use Rattle.sc_parser.specs.declared.scopes.Scopes.{Scopes}
 use Rattle.sc_parser.specs.declared.stop.Stop.{Stop}
 use Rattle.sc_parser.specs.declared.stop.Stop.TheVariants as stop
-use Rattle.sc_parser.specs.Depth.{inside, deeper, outside}
+use Rattle.sc_parser.specs.Depth.{fits, past, inside, back, deeper, outside}
 use Rattle.sc_parser.specs.Faults.{Passes, IsUnexpected, IsUnexpectedEnd}
 use Rattle.sc_parser.specs.Grammar.{Expression, Unary}
 use Rattle.sc_parser.specs.Grammar as grammar
@@ -52,6 +52,30 @@ string_and_pattern = refl
 -- a token stands at its first byte
 word_at : lexeme_of (codes "// a\npermit") (record { kind = kind.Word; span = record { start = 5; end = 11 } }) ≡ record { place = record { offset = 5 }; shape = shape.Word (codes "permit") }
 word_at = refl
+
+-- ---- depth
+
+abbrev times : ℕ → (Cursor → Cursor) → Cursor → Cursor
+times zero f s = s
+times (suc n) f s = times n f (f s)
+
+-- around a token 100 expressions may be open, and no more
+open_expressions : (fits (times 100 inside (outside 0)) ≡ true) × (fits (times 101 inside (outside 0)) ≡ false)
+open_expressions = (refl, refl)
+
+-- a token may stand behind 1,000 operators, and no more; each open expression and each earlier clause takes the room of one
+operators_before : (fits (times 1000 past (outside 0)) ≡ true) × (fits (times 1001 past (outside 0)) ≡ false)
+operators_before = (refl, refl)
+
+operators_inside : (fits (times 900 past (times 100 inside (outside 0))) ≡ true) × (fits (times 901 past (times 100 inside (outside 0))) ≡ false)
+operators_inside = (refl, refl)
+
+operators_behind : (fits (times 990 past (times 10 deeper (outside 0))) ≡ true) × (fits (times 991 past (times 10 deeper (outside 0))) ≡ false)
+operators_behind = (refl, refl)
+
+-- behind an expression the place is inside of as many as before it
+behind_expression : (s t : Cursor) → back s t ≡ record { at = t.at; levels = s.levels; room = s.room }
+behind_expression s t = refl
 
 -- ---- policies
 
