@@ -9,6 +9,7 @@ use Rattle.sc_lists.specs.Told.{Gives}
 use Rattle.sc_ast.specs.declared.policy.Policy.{Policy}
 use Rattle.sc_lexer.specs.declared.token.LexFault.{LexFault}
 use Rattle.sc_lexer.specs.declared.token.LexFault.TheVariants.{BadUtf8, BadToken, BadEscape}
+use Rattle.sc_lexer.specs.declared.token.Token.{Token}
 use Rattle.sc_lexer.specs.Reading.{Lexes}
 use Rattle.sc_lexer.proofs.UniqueLaws.{Lexes_same}
 use Rattle.sc_parser.specs.declared.cursor.Cursor.{Cursor}
@@ -25,13 +26,13 @@ use Rattle.sc_parser.proofs.FaultLaws.{Ends, all_read, at_token, at_end, at_limi
 use Rattle.sc_parser.proofs.FileLaws.{past_end}
 use Rattle.sc_parser.proofs.ViableFileLaws.{found, no_token as past_token}
 
--- the tokens of a file are one list
 ok_value : {A E : Type 0} {x y : A} → ◌≡◌ {A = Result A E} (Ok x) (Ok y) → x ≡ y
 ok_value e = cc
 
 err_value : {A E : Type 0} {x y : E} → ◌≡◌ {A = Result A E} (Err x) (Err y) → x ≡ y
 err_value e = cc
 
+-- the tokens of a file are one list
 pub one_lexemes : {bytes : List ℕ} {ts us : List Lexeme} → AreLexemes bytes ts → AreLexemes bytes us → ts ≡ us
 one_lexemes {bytes = bytes} a b = a.are ∙ ap (map (lexeme_of bytes)) (ok_value (Lexes_same bytes _ _ a.lexed b.lexed)) ∙ sym b.are
 
@@ -92,6 +93,9 @@ gives_reading bytes (Err NoMemory) ok err told h = tt
 
 -- ---- from what comes of reading the tokens of a file to what the file spells, or its fault
 
+pub lexemes_are : {bytes : List ℕ} {ts : List Lexeme} {tokens : List Token} → Lexes bytes (Ok tokens) → ts ≡ map (lexeme_of bytes) tokens → AreLexemes bytes ts
+lexemes_are {tokens = tokens} h e = record { tokens = tokens; lexed = h; are = e }
+
 pub reads_spelled : {bytes : List ℕ} {ts : List Lexeme} {ps : List Policy} {t : Cursor} → AreLexemes bytes ts → ReadsPolicies ts 0 [] (read ps t) → Spells bytes ps
 reads_spelled {ts = ts} a p = record { lexemes = ts; are = a; file = (found p).1 }
 
@@ -112,6 +116,13 @@ reads_fault a p g = fault_there a (ends p) g
 
 pub reads_end : {bytes : List ℕ} {ts : List Lexeme} {f : Stop} {n : ℕ} → AreLexemes bytes ts → ReadsPolicies ts 0 [] (halt f n) → slice_get ts n ≡ None → HasFault bytes fault.UnexpectedEnd
 reads_end a p g = end_there a (ends p) g
+
+-- the same where it is known only that memory didn't run out
+pub halts_fault : {bytes : List ℕ} {ts : List Lexeme} {f : Stop} {n : ℕ} {l : Lexeme} → AreLexemes bytes ts → ((f ≡ stop.NoMemory → ⊥) → ReadsPolicies ts 0 [] (halt f n)) → (f ≡ stop.NoMemory → ⊥) → slice_get ts n ≡ Some l → HasFault bytes (fault_of f l.place)
+halts_fault a h m g = reads_fault a (h m) g
+
+pub halts_end : {bytes : List ℕ} {ts : List Lexeme} {f : Stop} {n : ℕ} → AreLexemes bytes ts → ((f ≡ stop.NoMemory → ⊥) → ReadsPolicies ts 0 [] (halt f n)) → (f ≡ stop.NoMemory → ⊥) → slice_get ts n ≡ None → HasFault bytes fault.UnexpectedEnd
+halts_end a h m g = reads_end a (h m) g
 
 -- the same for each kind by itself
 pub reads_unexpected : {bytes : List ℕ} {ts : List Lexeme} {n : ℕ} {l : Lexeme} → AreLexemes bytes ts → ReadsPolicies ts 0 [] (halt stop.Unexpected n) → slice_get ts n ≡ Some l → HasFault bytes (fault.Unexpected l.place)
