@@ -1,15 +1,15 @@
 -- What white space and comments leave.
 use Rattle.std.proofs.Common.{◌≡◌, ℕ, ◌-◌, ◌<◌, ◌≤◌, ◌&&◌, List, [], ◌∷◌, ◌++◌, length, take, drop, Bool, true, false, cond, eqb, refl, sym, ◌∙◌, ap, subst, arith, length-append, length-drop, eqb-true, inl, inr, get_or, None, zero, suc}
 use Rattle.std.specs.Prelude.{codes, MatchBool}
-use Rattle.std.specs.Char.{is_whitespace}
+use Rattle.std.specs.Char.{encode_utf8, is_whitespace}
 use Rattle.std.specs.Str.{IsUtf8, IsCharBoundary, chars, encode_utf8_all, skip_leading_whitespace, trim_start}
 use Rattle.std.specs.Str.Pattern.{HasPrefixMatch, FindsTextPrefix}
 use Rattle.std.specs.List.{list_all, take_while, starts_with}
 use Rattle.std.proofs.lemmas.Bool.{cases_lt}
 use Rattle.std.proofs.lemmas.Bool.Decides.{nat_tests}
-use Rattle.std.proofs.lemmas.Str.{IsCharBoundary-before_ascii, IsCharBoundary-end, cons_from_encodes, encodes-chars}
+use Rattle.std.proofs.lemmas.Str.{IsCharBoundary-before_ascii, IsCharBoundary-end, IsUtf8-drop, IsUtf8-past_char, cons_from_encodes, encodes-chars}
 use Rattle.std.proofs.lemmas.Str.Pattern.{starts_text}
-use Rattle.std.proofs.lemmas.List.{take-append-drop}
+use Rattle.std.proofs.lemmas.List.{take-append-drop, drop_at}
 use Rattle.std.proofs.lemmas.List.Sums.{take_while-cons, prefix_len-le-length}
 use Rattle.std.proofs.lemmas.List.Folds.{length-prefix_len}
 use Rattle.sc_lexer.specs.Blanks.{ends_line, stays_in_line, EndsLine, BeginsNoSpace, Skips, none, space, comment, Leads}
@@ -148,3 +148,12 @@ length-Skips (comment line rest left i e s) = let less : length left ≤ length 
 
 pub within_end : (t r : List ℕ) → Leads t r → BeginsNoSpace r → starts_with eqb r (codes "//") ≡ false → length r ≤ length t
 within_end t r l n h = length-Skips (Leads_end t r l n h)
+
+pub IsUtf8-Skips : {bytes left : List ℕ} → Skips bytes left → IsUtf8 bytes → IsUtf8 left
+IsUtf8-Skips (none b s c) u = u
+IsUtf8-Skips (space c rest left w s) u = IsUtf8-Skips s (IsUtf8-past_char (encode_utf8 c ++ rest) rest c u refl)
+IsUtf8-Skips (comment line rest left i e s) u =
+    let whole = 47 ∷ 47 ∷ (line ++ rest) in
+    let after : drop (length line) (line ++ rest) ≡ rest = drop_at line rest (length line) refl in
+    let cut : IsCharBoundary whole (length (47 ∷ 47 ∷ line)) = boundary_of whole (length (47 ∷ 47 ∷ line)) (omega (arith, length-append line rest)) (subst EndsLine (sym after) e) in
+    IsUtf8-Skips s (subst IsUtf8 after (IsUtf8-drop whole (length (47 ∷ 47 ∷ line)) u cut))

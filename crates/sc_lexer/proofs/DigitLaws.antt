@@ -1,18 +1,11 @@
 -- Hexadecimal digits.
-use Rattle.std.proofs.Common.{◌≡◌, ℕ, zero, suc, ◌+◌, ◌*◌, ◌^◌, ◌<◌, ◌≤◌, ◌&&◌, List, [], ◌∷◌, length, get_or, Bool, true, false, refl, arith, add-one}
+use Rattle.std.proofs.Common.{◌≡◌, ℕ, zero, suc, ◌+◌, ◌*◌, ◌^◌, ◌<◌, ◌≤◌, List, [], ◌∷◌, length, get_or, true, arith, add-one}
 use Rattle.std.proofs.Math.Nat.{pow-suc}
 use Rattle.std.specs.Char.{is_ascii_hexdigit}
 use Rattle.std.specs.List.{list_all}
+use Rattle.sc_lexer.proofs.TestLaws.{first_passes, rest_passes}
 
 -- each of some digits is one
-pub first_passes : (a b : Bool) → (a && b) ≡ true → a ≡ true
-first_passes true b h = refl
-first_passes false b h = cc
-
-pub rest_passes : (a b : Bool) → (a && b) ≡ true → b ≡ true
-rest_passes true b h = h
-rest_passes false b h = cc
-
 pub digit_at : (ds : List ℕ) (i : ℕ) → list_all is_ascii_hexdigit ds ≡ true → i < length ds → is_ascii_hexdigit (get_or ds i 0) ≡ true
 digit_at [] i h k = absurd (omega arith)
 digit_at (d ∷ ds) zero h k = first_passes (is_ascii_hexdigit d) (list_all is_ascii_hexdigit ds) h

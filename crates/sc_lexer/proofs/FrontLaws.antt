@@ -1,10 +1,12 @@
 -- The longest token that some bytes begin with.
-use Rattle.std.proofs.Common.{◌≡◌, ◌≢◌, ℕ, zero, suc, ◌+◌, ◌-◌, ◌<◌, ◌≤◌, ◌==◌, List, [], ◌∷◌, ◌++◌, length, take, drop, get_or, Bool, true, false, cond, ◌⊎◌, inl, inr, refl, sym, ◌∙◌, ap, subst, arith, add-one, Some, None}
+use Rattle.std.proofs.Common.{◌≡◌, ◌≢◌, ℕ, zero, suc, ◌+◌, ◌-◌, ◌<◌, ◌≤◌, ◌==◌, List, [], ◌∷◌, ◌++◌, length, take, drop, get_or, Bool, true, false, cond, inl, inr, refl, sym, ◌∙◌, ap, subst, arith, add-one, length-append, Some, None}
 use Rattle.std.specs.Char.{is_ascii_digit}
 use Rattle.std.specs.List.{list_all, take_while}
 use Rattle.std.specs.declared.option.Option.{Option}
 use Rattle.std.proofs.lemmas.Bool.Decides.{nat_tests}
-use Rattle.std.proofs.lemmas.List.{take-append-drop}
+use Rattle.std.specs.Str.{IsUtf8, IsCharBoundary}
+use Rattle.std.proofs.lemmas.Str.{IsCharBoundary-after_ascii}
+use Rattle.std.proofs.lemmas.List.{take-append-drop, get_or_append_left}
 use Rattle.std.proofs.Math.Seq.{take-append_seam, take-length}
 use Rattle.std.proofs.lemmas.List.Sums.{take_while-cons, prefix_len-le-length}
 use Rattle.std.proofs.lemmas.List.Folds.{length-prefix_len}
@@ -14,7 +16,7 @@ use Rattle.sc_lexer.specs.declared.token.Kind.TheVariants.{Word, Number, Str}
 use Rattle.sc_lexer.specs.Tokens.{is_number, is_string, closes, one_sign, two_sign, sign_of, kind_of, BeginsNoToken}
 use Rattle.sc_lexer.specs.Fronts.{IsFront, long_sign}
 use Rattle.sc_lexer.proofs.StringLaws.{closes_once, closes_last, last_more}
-use Rattle.sc_lexer.proofs.DigitLaws.{first_passes, rest_passes}
+use Rattle.sc_lexer.proofs.TestLaws.{bool_tells, first_passes, rest_passes}
 
 -- what the first byte says of a token
 
@@ -294,10 +296,6 @@ long_sign_two (a ∷ b ∷ cs) h = refl
 
 -- a token ends with an ASCII byte
 
-bool_tells : (b : Bool) → (b ≡ true) ⊎ (b ≡ false)
-bool_tells true = inl refl
-bool_tells false = inr refl
-
 -- some bytes, of which the last is ASCII
 pub record EndsAscii (t : List ℕ) : Type 0 where
   pub some : 0 < length t
@@ -356,3 +354,12 @@ ends_ascii t k h = elim (bool_tells (is_word t)) [
     ]
   ]
 ]
+
+-- a text may be cut where a token ends
+pub token_boundary : (bytes t rest : List ℕ) (kind : Kind) → bytes ≡ t ++ rest → kind_of t ≡ Some kind → IsUtf8 bytes → IsCharBoundary bytes (length t)
+token_boundary bytes t rest kind e h u =
+    let end = ends_ascii t kind h in
+    let at : length t - 1 < length t = omega (arith, end.some) in
+    let same : get_or bytes (length t - 1) 0 ≡ get_or t (length t - 1) 0 = ap (λ (bs : List ℕ). get_or bs (length t - 1) 0) e ∙ get_or_append_left t rest 0 (length t - 1) at in
+    let next : length t - 1 + 1 ≡ length t = omega arith in
+    subst (IsCharBoundary bytes) next (IsCharBoundary-after_ascii bytes (length t - 1) u (omega (arith, ap length e, length-append t rest)) (omega (arith, same, end.last)))

@@ -2,10 +2,14 @@ pub mod BlankLaws
 pub mod DigitLaws
 pub mod EscapeLaws
 pub mod FrontLaws
+pub mod KindLaws
+pub mod MeaningLaws
 pub mod NextLaws
 pub mod ReadingLaws
 pub mod SpanLaws
 pub mod SpellingLaws
 pub mod StringLaws
+pub mod TestLaws
 pub mod UnescapingLaws
 pub mod UniqueLaws
+pub mod WorkedRows

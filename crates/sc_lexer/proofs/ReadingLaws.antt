@@ -1,9 +1,8 @@
 -- What is read of the rest of a file completes what was read of its front.
-use Rattle.std.proofs.Common.{◌≡◌, ◌≢◌, ℕ, ◌+◌, ◌-◌, ◌<◌, ◌≤◌, List, [], ◌∷◌, ◌++◌, length, take, drop, get_or, Bool, false, refl, sym, ◌∙◌, ap, subst, append_assoc, append-nil, length-append, length-drop, arith, Result, Ok, Err}
+use Rattle.std.proofs.Common.{◌≡◌, ◌≢◌, ℕ, ◌+◌, ◌-◌, ◌<◌, ◌≤◌, List, [], ◌∷◌, ◌++◌, length, take, drop, Bool, false, refl, sym, ◌∙◌, ap, subst, append_assoc, append-nil, length-append, length-drop, arith, Result, Ok, Err}
 use Rattle.std.specs.Prelude.{codes, IfOk, IfErr}
 use Rattle.std.specs.Str.{bytes_eq, IsUtf8, IsCharBoundary}
-use Rattle.std.proofs.lemmas.List.{take-append-drop, nil_from_length, length-take-le, get_or-take}
-use Rattle.std.proofs.lemmas.Str.{IsCharBoundary-after_ascii}
+use Rattle.std.proofs.lemmas.List.{take-append-drop, nil_from_length, length-take-le}
 use Rattle.sc_lists.specs.declared.fault.Fault.{Fault}
 use Rattle.sc_lists.specs.declared.fault.Fault.TheVariants.{Told, NoMemory}
 use Rattle.sc_lexer.specs.declared.token.Kind.{Kind}
@@ -14,7 +13,7 @@ use Rattle.sc_lexer.specs.Blanks.{Skips}
 use Rattle.sc_lexer.specs.Fronts.{IsFront, IsNext, Stops, lacks_token, lacks_escape}
 use Rattle.sc_lexer.specs.Reading.{Reads, ends, no_token, bad_escape, some_token, token_of, before, Lexes, text, LexFails, ReadFails}
 use Rattle.sc_lexer.proofs.BlankLaws.{length-Skips}
-use Rattle.sc_lexer.proofs.FrontLaws.{ends_ascii}
+use Rattle.sc_lexer.proofs.FrontLaws.{ends_ascii, token_boundary}
 
 -- some more tokens in front
 pub after_all : List Token → Result (List Token) LexFault → Result (List Token) LexFault
@@ -82,12 +81,7 @@ Completes_fault bytes left rest ts like fault p s e stops = p.completes (Err fau
 
 pub front_boundary : (bytes : List ℕ) (kind : Kind) (len : ℕ) → IsFront bytes kind len → IsUtf8 bytes → IsCharBoundary bytes len
 front_boundary bytes kind len f u =
-    let last = ends_ascii (take len bytes) kind f.begins.is in
-    let size : length (take len bytes) ≡ len = length-take-le len bytes f.within in
-    let at : len - 1 < len = omega arith in
-    let small : get_or bytes (len - 1) 0 < 128 = subst (λ (n : ℕ). n < 128) (ap (λ (n : ℕ). get_or (take len bytes) (n - 1) 0) size ∙ get_or-take len bytes (len - 1) 0 at) last.last in
-    let next : len - 1 + 1 ≡ len = omega arith in
-    subst (IsCharBoundary bytes) next (IsCharBoundary-after_ascii bytes (len - 1) u (omega (arith, f.within)) small)
+    subst (IsCharBoundary bytes) (length-take-le len bytes f.within) (token_boundary bytes (take len bytes) (drop len bytes) kind f.begins.parts f.begins.is u)
 
 -- what is read of a text is read of the file
 pub Lexes_ok : (bytes t : List ℕ) (r : Result (List Token) (Fault LexFault)) → t ≡ bytes → IsUtf8 bytes → IfOk r (λ list. Reads (length t) false t (Ok list)) → IfOk r (λ list. Lexes bytes (Ok list))

@@ -1,5 +1,5 @@
 -- Which bytes are escapes, and what a string's bytes spell.
-use Rattle.std.proofs.Common.{◌≡◌, ◌≢◌, ℕ, suc, ◌+◌, ◌-◌, ◌<◌, ◌≤◌, ◌==◌, ◌&&◌, List, [], ◌∷◌, ◌++◌, length, take, drop, get_or, Bool, true, false, cond, ◌⊎◌, refl, sym, ◌∙◌, ap, subst, arith, append_assoc, append-nil, drop-drop, Some, None, length-append, length-take, add-one, eqb-true, inl, inr}
+use Rattle.std.proofs.Common.{◌≡◌, ◌≢◌, ℕ, suc, ◌+◌, ◌-◌, ◌<◌, ◌≤◌, ◌==◌, ◌&&◌, List, [], ◌∷◌, ◌++◌, length, take, drop, get_or, Bool, true, false, cond, refl, sym, ◌∙◌, ap, subst, arith, append_assoc, append-nil, drop-drop, Some, None, length-append, length-take, add-one, eqb-true, inl, inr}
 use Rattle.std.specs.Prelude.{nat_eq, nat_le}
 use Rattle.std.specs.Char.{IsScalar, is_ascii_hexdigit}
 use Rattle.std.specs.Str.Parse.{digits_value}
@@ -14,9 +14,10 @@ use Rattle.sc_lexer.specs.declared.piece.Piece.{Piece}
 use Rattle.sc_lexer.specs.declared.piece.Piece.TheVariants.{Char, EscapedStar}
 use Rattle.sc_lexer.specs.declared.piece.Escape.{Escape}
 use Rattle.sc_lexer.specs.Escapes.{is_letter, IsEscape, letter, star, ascii, code, IsSpelled, ends, plain, escape, IsBadEscape, letter_char, ascii_of, braced_of, scalar_of, escape_of}
+use Rattle.sc_lexer.specs.Pieces.{Means, of_letter, of_star, of_ascii, of_code}
 use Rattle.sc_lexer.specs.Parts.{allows, IsPart, BeginsBadEscape}
 use Rattle.sc_lexer.proofs.EscapeLaws.{ascii_some, braced_some, escape_letter, take-digits, take-front, digits-all, digits_front, length-take_while-le}
-use Rattle.sc_lexer.proofs.DigitLaws.{first_passes, rest_passes}
+use Rattle.sc_lexer.proofs.TestLaws.{bool_tells, first_passes, rest_passes}
 
 -- an escape in front of other bytes is read
 
@@ -26,16 +27,17 @@ take_while-stop (d ∷ ds) rest c h k =
     let digit : is_ascii_hexdigit d ≡ true = first_passes (is_ascii_hexdigit d) (list_all is_ascii_hexdigit ds) h in
     rw (take_while-cons, digit, take_while-stop ds rest c (rest_passes (is_ascii_hexdigit d) (list_all is_ascii_hexdigit ds) h) k) refl
 
--- these bytes begin with an escape of this length and an allowed meaning
-pub record IsRead (like : Bool) (bytes : List ℕ) (n : ℕ) : Type 0 where
-  pub piece : Piece
-  pub read : escape_of bytes ≡ Some (record { piece = piece; len = n })
-  pub allowed : allows like piece ≡ true
-
-pub ascii-two : (a b : ℕ) (rest : List ℕ) → is_ascii_hexdigit a ≡ true → is_ascii_hexdigit b ≡ true → digits_value 16 (a ∷ b ∷ []) ≤ 127 → ascii_of (a ∷ b ∷ rest) ≡ Some (record { piece = Char (digits_value 16 (a ∷ b ∷ [])); len = 3 })
+ascii-two : (a b : ℕ) (rest : List ℕ) → is_ascii_hexdigit a ≡ true → is_ascii_hexdigit b ≡ true → digits_value 16 (a ∷ b ∷ []) ≤ 127 → ascii_of (a ∷ b ∷ rest) ≡ Some (record { piece = Char (digits_value 16 (a ∷ b ∷ [])); len = 3 })
 ascii-two a b rest h k v =
     let two : 2 ≤ length (take_while is_ascii_hexdigit (a ∷ b ∷ rest)) = rw (take_while-cons is_ascii_hexdigit a (b ∷ rest), h, take_while-cons is_ascii_hexdigit b rest, k) (omega arith) in
     sym (ascii_some (a ∷ b ∷ rest) two v)
+
+pub ascii-digits : (ds rest : List ℕ) → list_all is_ascii_hexdigit ds ≡ true → length ds ≡ 2 → digits_value 16 ds ≤ 127 → ascii_of (ds ++ rest) ≡ Some (record { piece = Char (digits_value 16 ds); len = suc (length ds) })
+ascii-digits [] rest h l v = absurd (omega arith)
+ascii-digits (a ∷ []) rest h l v = absurd (omega arith)
+ascii-digits (a ∷ b ∷ []) rest h l v =
+    ascii-two a b rest (first_passes (is_ascii_hexdigit a) (list_all is_ascii_hexdigit (b ∷ [])) h) (first_passes (is_ascii_hexdigit b) true (rest_passes (is_ascii_hexdigit a) (list_all is_ascii_hexdigit (b ∷ [])) h)) v
+ascii-digits (a ∷ b ∷ c ∷ ds) rest h l v = absurd (omega arith)
 
 braced_from : (bytes ds : List ℕ) → take_while is_ascii_hexdigit bytes ≡ ds → 1 ≤ length ds → length ds ≤ 6 → get_or bytes (length ds) 0 ≡ 125 → IsScalar (digits_value 16 ds)
     → braced_of bytes ≡ Some (record { piece = Char (digits_value 16 ds); len = length ds + 3 })
@@ -50,17 +52,26 @@ braced-digits ds rest h l m v =
     let closing : get_or (ds ++ (125 ∷ rest)) (length ds) 0 ≡ 125 = get_or_at ds 125 rest 0 (length ds) refl in
     braced_from (ds ++ (125 ∷ rest)) ds (take_while-stop ds rest 125 h refl) l m closing v
 
-pub IsRead-escape : {like : Bool} (e rest : List ℕ) → IsEscape like e → IsRead like (e ++ rest) (length e)
+-- an escape has a meaning that its string allows, with which it is read
+pub record IsMeant (like : Bool) (e : List ℕ) : Type 0 where
+  pub piece : Piece
+  pub means : Means e piece
+  pub allowed : allows like piece ≡ true
+  pub read : (rest : List ℕ) → escape_of (e ++ rest) ≡ Some (record { piece = piece; len = length e })
+
+pub IsMeant-escape : {like : Bool} (e : List ℕ) → IsEscape like e → IsMeant like e
 unfolding escape_of scalar_of
-IsRead-escape {like} e rest (letter c h) = record { piece = Char (letter_char c); read = sym (escape_letter (c ∷ rest) h); allowed = refl }
-IsRead-escape {like} e rest (star h) = record { piece = EscapedStar; read = refl; allowed = h }
-IsRead-escape {like} e rest (ascii [] h l v) = absurd (omega arith)
-IsRead-escape {like} e rest (ascii (a ∷ []) h l v) = absurd (omega arith)
-IsRead-escape {like} e rest (ascii (a ∷ b ∷ []) h l v) = record { piece = Char (digits_value 16 (a ∷ b ∷ [])); read = ascii-two a b rest (first_passes (is_ascii_hexdigit a) (is_ascii_hexdigit b && true) h) (first_passes (is_ascii_hexdigit b) true (rest_passes (is_ascii_hexdigit a) (is_ascii_hexdigit b && true) h)) v; allowed = refl }
-IsRead-escape {like} e rest (ascii (a ∷ b ∷ c ∷ ds) h l v) = absurd (omega arith)
-IsRead-escape {like} e rest (code ds h l m v) =
+IsMeant-escape e (letter c h) = record { piece = Char (letter_char c); means = of_letter c h; allowed = refl; read = λ rest. sym (escape_letter (c ∷ rest) h) }
+IsMeant-escape e (star h) = record { piece = EscapedStar; means = of_star; allowed = h; read = λ rest. refl }
+IsMeant-escape e (ascii ds h l v) = record { piece = Char (digits_value 16 ds); means = of_ascii ds; allowed = refl; read = λ rest. ascii-digits ds rest h l v }
+IsMeant-escape e (code ds h l m v) =
     let long : suc (suc (length (ds ++ (125 ∷ [])))) ≡ length ds + 3 = rw length-append (omega arith) in
-    record { piece = Char (digits_value 16 ds); read = rw (append_assoc, long) (braced-digits ds rest h l m v); allowed = refl }
+    record {
+      piece = Char (digits_value 16 ds);
+      means = of_code ds;
+      allowed = refl;
+      read = λ rest. rw (append_assoc ds (125 ∷ []) rest, long) (braced-digits ds rest h l m v);
+    }
 
 -- what is read is an escape
 
@@ -75,10 +86,6 @@ cond_some false x y h = cc
 
 pub some_same : {x y : Escape} → Some x ≡ Some y → x ≡ y
 some_same h = cc
-
-bool_tells : (b : Bool) → (b ≡ true) ⊎ (b ≡ false)
-bool_tells true = inl refl
-bool_tells false = inr refl
 
 le_true : (a b : ℕ) → nat_le a b ≡ true → a ≤ b
 le_true a b h = grind (arith, nat_tests)
@@ -183,9 +190,9 @@ BeginsBadEscape_none like (c ∷ cs) some q h = record {
   after = cs;
   parts = rw q refl;
   bad = λ e rest is escapes.
-      let read = IsRead-escape e rest escapes in
+      let meant = IsMeant-escape e escapes in
       let none : None ≡ escape_of cs = h ∙ ap escape_of (rest_is c cs) in
-      let both : None ≡ Some (record { piece = read.piece; len = length e }) = none ∙ ap escape_of is ∙ read.read in
+      let both : None ≡ Some (record { piece = meant.piece; len = length e }) = none ∙ ap escape_of is ∙ meant.read rest in
       cc;
 }
 
@@ -196,9 +203,9 @@ BeginsBadEscape_star like (c ∷ cs) found some q h a = record {
   after = cs;
   parts = rw q refl;
   bad = λ e rest is escapes.
-      let read = IsRead-escape e rest escapes in
-      let same : found ≡ record { piece = read.piece; len = length e } = some_same (h ∙ ap escape_of (rest_is c cs ∙ is) ∙ read.read) in
-      let allowed : allows like found.piece ≡ true = subst (λ (x : Escape). allows like x.piece ≡ true) (sym same) read.allowed in
+      let meant = IsMeant-escape e escapes in
+      let same : found ≡ record { piece = meant.piece; len = length e } = some_same (h ∙ ap escape_of (rest_is c cs ∙ is) ∙ meant.read rest) in
+      let allowed : allows like found.piece ≡ true = subst (λ (x : Escape). allows like x.piece ≡ true) (sym same) meant.allowed in
       let both : false ≡ true = sym a ∙ allowed in
       cc;
 }

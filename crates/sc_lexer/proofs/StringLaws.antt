@@ -4,7 +4,7 @@ use Rattle.std.proofs.lemmas.Bool.Decides.{eqb_tells, nat_tests}
 use Rattle.std.proofs.lemmas.List.{drop_all}
 use Rattle.sc_lexer.specs.Tokens.{closes}
 
-closes-plain : (c : ℕ) (cs : List ℕ) → c ≢ 92 → c ≢ 34 → closes (c ∷ cs) ≡ closes cs
+pub closes-plain : (c : ℕ) (cs : List ℕ) → c ≢ 92 → c ≢ 34 → closes (c ∷ cs) ≡ closes cs
 unfolding closes
 closes-plain c [] h k = grind (arith, nat_tests)
 closes-plain c (d ∷ cs) h k = grind (arith, nat_tests)
@@ -25,7 +25,7 @@ closes-alone : (c : ℕ) → c ≡ 92 → closes (c ∷ []) ≡ false
 unfolding closes
 closes-alone c h = rw h refl
 
-closes-pair : (c d : ℕ) (cs : List ℕ) → c ≡ 92 → closes (c ∷ d ∷ cs) ≡ closes cs
+pub closes-pair : (c d : ℕ) (cs : List ℕ) → c ≡ 92 → closes (c ∷ d ∷ cs) ≡ closes cs
 unfolding closes
 closes-pair c d cs h = rw h refl
 
@@ -78,7 +78,7 @@ pub closes_never : (bytes : List ℕ) (at n : ℕ) → Passes bytes at → lengt
 closes_never bytes at n p h = p.same n ∙ ap (λ bs. closes (take (n - at) bs)) (drop_all at bytes h) ∙ closes-nil (n - at)
 
 -- a string closes once
-closes-quote : (d : ℕ) (cs : List ℕ) → closes (34 ∷ d ∷ cs) ≡ false
+pub closes-quote : (d : ℕ) (cs : List ℕ) → closes (34 ∷ d ∷ cs) ≡ false
 unfolding closes
 closes-quote d cs = refl
 

@@ -1,5 +1,5 @@
 -- What the characters of a string stand for.
-use Rattle.std.proofs.Common.{◌≡◌, ◌≢◌, ℕ, zero, suc, ◌+◌, ◌<◌, ◌≤◌, List, [], ◌∷◌, ◌++◌, length, take, drop, get_or, Bool, true, false, refl, sym, ◌∙◌, ap, append_assoc, arith, Some, None, Result, Ok, Err, map, append-nil}
+use Rattle.std.proofs.Common.{◌≡◌, ◌≢◌, ℕ, zero, suc, ◌+◌, ◌<◌, ◌≤◌, List, [], ◌∷◌, ◌++◌, length, take, drop, get_or, Bool, true, false, refl, sym, ◌∙◌, ap, arith, Some, None, Result, Ok, Err, map, append-nil}
 use Rattle.std.specs.Prelude.{IfOk}
 use Rattle.std.specs.Char.{is_ascii_hexdigit, encode_utf8}
 use Rattle.std.specs.Str.{IsUtf8, is_utf8, IsAscii, IsCharBoundary, chars, encode_utf8_all}
@@ -12,12 +12,11 @@ use Rattle.std.proofs.lemmas.Str.{encodes-append, encodes-chars, encodes-IsAscii
 use Rattle.sc_lexer.specs.declared.piece.Piece.{Piece}
 use Rattle.sc_lexer.specs.declared.piece.Piece.TheVariants.{Char, Star, EscapedStar}
 use Rattle.sc_lexer.specs.declared.piece.Escape.{Escape}
-use Rattle.sc_lexer.specs.Escapes.{is_letter, IsEscape, letter, star, ascii, code, braced_of, scalar_of, escape_of}
+use Rattle.sc_lexer.specs.Escapes.{is_letter, IsEscape, letter, star, ascii, code, escape_of}
 use Rattle.sc_lexer.specs.Parts.{allows}
 use Rattle.sc_lexer.specs.Pieces.{inside, pieces_after, pieces_of, piece_char}
-use Rattle.sc_lexer.proofs.EscapeLaws.{escape_letter}
-use Rattle.sc_lexer.proofs.SpellingLaws.{Begins-escape, ascii-two, braced-digits}
-use Rattle.sc_lexer.proofs.DigitLaws.{first_passes, rest_passes}
+use Rattle.sc_lexer.proofs.SpellingLaws.{IsMeant-escape, Begins-escape}
+use Rattle.sc_lexer.proofs.TestLaws.{first_passes, rest_passes}
 
 -- escapes are ASCII
 
@@ -38,7 +37,7 @@ IsAscii-digits : (ds : List ℕ) → list_all is_ascii_hexdigit ds ≡ true → 
 IsAscii-digits [] h = IsAscii-nil
 IsAscii-digits (d ∷ ds) h = IsAscii-cons d ds (digit_small d (first_passes (is_ascii_hexdigit d) (list_all is_ascii_hexdigit ds) h)) (IsAscii-digits ds (rest_passes (is_ascii_hexdigit d) (list_all is_ascii_hexdigit ds) h))
 
-IsAscii-escape : {like : Bool} (e : List ℕ) → IsEscape like e → IsAscii e
+pub IsAscii-escape : {like : Bool} (e : List ℕ) → IsEscape like e → IsAscii e
 IsAscii-escape e (letter c h) = IsAscii-cons c [] (letter_small c h) IsAscii-nil
 IsAscii-escape e (star h) = IsAscii-cons 42 [] (omega arith) IsAscii-nil
 IsAscii-escape e (ascii ds h l v) = IsAscii-cons 120 ds (omega arith) (IsAscii-digits ds h)
@@ -48,18 +47,7 @@ IsAscii-escape e (code ds h l m v) =
 -- what follows an escape doesn't change it
 
 escape_rest : {like : Bool} (e r s : List ℕ) → IsEscape like e → escape_of (e ++ r) ≡ escape_of (e ++ s)
-unfolding escape_of scalar_of
-escape_rest e r s (letter c h) = sym (escape_letter (c ∷ r) h) ∙ escape_letter (c ∷ s) h
-escape_rest e r s (star h) = refl
-escape_rest e r s (ascii [] h l v) = absurd (omega arith)
-escape_rest e r s (ascii (a ∷ []) h l v) = absurd (omega arith)
-escape_rest e r s (ascii (a ∷ b ∷ []) h l v) =
-    let first : is_ascii_hexdigit a ≡ true = first_passes (is_ascii_hexdigit a) (list_all is_ascii_hexdigit (b ∷ [])) h in
-    let second : is_ascii_hexdigit b ≡ true = first_passes (is_ascii_hexdigit b) true (rest_passes (is_ascii_hexdigit a) (list_all is_ascii_hexdigit (b ∷ [])) h) in
-    ascii-two a b r first second v ∙ sym (ascii-two a b s first second v)
-escape_rest e r s (ascii (a ∷ b ∷ c ∷ ds) h l v) = absurd (omega arith)
-escape_rest e r s (code ds h l m v) =
-    ap braced_of (append_assoc ds (125 ∷ []) r) ∙ braced-digits ds r h l m v ∙ sym (braced-digits ds s h l m v) ∙ sym (ap braced_of (append_assoc ds (125 ∷ []) s))
+escape_rest e r s h = let meant = IsMeant-escape e h in meant.read r ∙ sym (meant.read s)
 
 allows-pattern : (p : Piece) → allows true p ≡ true
 allows-pattern (Char c) = refl
@@ -68,17 +56,17 @@ allows-pattern EscapedStar = refl
 
 -- an escape's bytes are its characters
 
-record IsCut (bs : List ℕ) (n : ℕ) : Type 0 where
-  within : n ≤ length bs
-  ascii : IsAscii (take n bs)
-  escape : IsEscape true (take n bs)
+pub record IsCut (bs : List ℕ) (n : ℕ) : Type 0 where
+  pub within : n ≤ length bs
+  pub ascii : IsAscii (take n bs)
+  pub escape : IsEscape true (take n bs)
 
-IsCut-escape : (bs : List ℕ) (e : Escape) → escape_of bs ≡ Some e → IsCut bs e.len
+pub IsCut-escape : (bs : List ℕ) (e : Escape) → escape_of bs ≡ Some e → IsCut bs e.len
 IsCut-escape bs e h =
     let begins = Begins-escape true bs e h (allows-pattern e.piece) in
     record { within = begins.within; ascii = IsAscii-escape (take e.len bs) begins.is; escape = begins.is }
 
-chars-cut : (bs : List ℕ) (n : ℕ) → IsCut bs n → chars bs ≡ take n bs ++ chars (drop n bs)
+pub chars-cut : (bs : List ℕ) (n : ℕ) → IsCut bs n → chars bs ≡ take n bs ++ chars (drop n bs)
 chars-cut bs n h =
     sym (ap chars (take-append-drop n bs)) ∙ chars-append (take n bs) (drop n bs) (IsUtf8-from_ascii (take n bs) h.ascii) ∙ ap (λ cs. cs ++ chars (drop n bs)) (chars-IsAscii (take n bs) h.ascii)
 
@@ -106,7 +94,7 @@ none_chars bs (Some e) u h k = let both : None ≡ Some e = sym h ∙ some_bytes
 pub escape_boundary : (bs : List ℕ) (e : Escape) → Some e ≡ escape_of bs → IsUtf8 bs → IsCharBoundary bs e.len
 escape_boundary bs e h u = let cut = IsCut-escape bs e (sym h) in IsCharBoundary-from_take bs e.len u cut.within (IsUtf8-from_ascii (take e.len bs) cut.ascii)
 
-pieces-skip : (n : ℕ) (cs : List ℕ) → pieces_after n cs ≡ pieces_after 0 (drop n cs)
+pub pieces-skip : (n : ℕ) (cs : List ℕ) → pieces_after n cs ≡ pieces_after 0 (drop n cs)
 unfolding pieces_after
 pieces-skip zero cs = refl
 pieces-skip (suc n) [] = refl

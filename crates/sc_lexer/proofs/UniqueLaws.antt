@@ -20,8 +20,8 @@ use Rattle.sc_lexer.specs.Tokens.{kind_of, BeginsWith, BeginsNoToken}
 use Rattle.sc_lexer.specs.Escapes.{IsEscape, IsSpelled, ends, plain, escape, IsBadEscape, escape_of}
 use Rattle.sc_lexer.specs.Reading.{Reads, ends as no_more, no_token, bad_escape, some_token, token_of, before, Lexes, ill_formed, text, LexFails}
 use Rattle.sc_lexer.proofs.FrontLaws.{kind-nil}
-use Rattle.sc_lexer.proofs.SpellingLaws.{IsRead-escape, some_same}
-use Rattle.sc_lexer.proofs.DigitLaws.{first_passes, rest_passes}
+use Rattle.sc_lexer.proofs.SpellingLaws.{IsMeant-escape, some_same}
+use Rattle.sc_lexer.proofs.TestLaws.{first_passes, rest_passes}
 
 -- lists cut at one place
 
@@ -110,9 +110,9 @@ begins_none {a} {b} {t} {r} {k} n f e = let both : None ≡ Some k = sym (n t r 
 
 IsEscape_same : {like : Bool} (e r f s : List ℕ) → IsEscape like e → IsEscape like f → e ++ r ≡ f ++ s → length e ≡ length f
 IsEscape_same e r f s h k same =
-    let a = IsRead-escape e r h in
-    let b = IsRead-escape f s k in
-    let both : Some (record { piece = a.piece; len = length e }) ≡ Some (record { piece = b.piece; len = length f }) = sym a.read ∙ ap escape_of same ∙ b.read in
+    let a = IsMeant-escape e h in
+    let b = IsMeant-escape f k in
+    let both : Some (record { piece = a.piece; len = length e }) ≡ Some (record { piece = b.piece; len = length f }) = sym (a.read r) ∙ ap escape_of same ∙ b.read s in
     let read : record { piece = a.piece; len = length e } ≡ record { piece = b.piece; len = length f } = some_same both in
     ap (λ (x : Escape). x.len) read
 

@@ -1,12 +1,27 @@
--- What the text of a string token stands for.
-use Rattle.std.specs.Prelude.{ℕ, zero, suc, ◌-◌, ◌==◌, if◌then◌else◌, List, [], ◌∷◌, length, take, drop, map}
+-- What the text of a string token stands for: a relation says it, and a function gives it.
+use Rattle.std.specs.Prelude.{◌≡◌, ◌≢◌, ℕ, zero, suc, ◌-◌, ◌==◌, if◌then◌else◌, List, [], ◌∷◌, ◌++◌, length, take, drop, map, true, codes}
 use Rattle.std.specs.Str.{is_utf8, chars, encode_utf8_all}
+use Rattle.std.specs.Str.Parse.{digits_value}
 use Rattle.std.specs.declared.option.Option.{Option}
 use Rattle.std.specs.declared.option.Option.TheVariants.{Some, None}
 use Rattle.sc_lexer.specs.declared.piece.Piece.{Piece}
 use Rattle.sc_lexer.specs.declared.piece.Piece.TheVariants.{Char, Star, EscapedStar}
 use Rattle.sc_lexer.specs.declared.piece.Escape.{Escape}
-use Rattle.sc_lexer.specs.Escapes.{escape_of}
+use Rattle.sc_lexer.specs.Escapes.{is_letter, letter_char, IsEscape, escape_of}
+
+-- what an escape stands for, by what follows its backslash
+pub data Means : List ℕ → Piece → Type 0 where
+  of_letter : (c : ℕ) → is_letter c ≡ true → Means (c ∷ []) (Char (letter_char c))
+  of_star : Means (codes "*") EscapedStar
+  of_ascii : (digits : List ℕ) → Means (codes "x" ++ digits) (Char (digits_value 16 digits))
+  of_code : (digits : List ℕ) → Means (codes "u{" ++ (digits ++ codes "}")) (Char (digits_value 16 digits))
+
+-- what the characters between the quotes of a string stand for
+pub data Spells : List ℕ → List Piece → Type 0 where
+  nothing : Spells [] []
+  character : (c : ℕ) (cs : List ℕ) (ps : List Piece) → c ≢ 92 → c ≢ 42 → Spells cs ps → Spells (c ∷ cs) (Char c ∷ ps)
+  wildcard : (cs : List ℕ) (ps : List Piece) → Spells cs ps → Spells (42 ∷ cs) (Star ∷ ps)
+  escaped : (e cs : List ℕ) (p : Piece) (ps : List Piece) → IsEscape true e → Means e p → Spells cs ps → Spells (92 ∷ (e ++ cs)) (p ∷ ps)
 
 -- the bytes between the quotes of a string
 abbrev pub inside : List ℕ → List ℕ

@@ -1,4 +1,5 @@
-//! The tokens of a policy file, by longest match, or the first place where it has none.
+//! The tokens of a policy file, by longest match, or the first place where it has none; and what the
+//! texts of its strings stand for.
 #![tactic(auto)]
 
 mod blank;

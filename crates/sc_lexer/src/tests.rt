@@ -3,7 +3,8 @@ use crate::Kind::{
     Number, OpenBrace, OpenParenthesis, Semicolon, Str, Word,
 };
 use crate::LexFault::{BadEscape, BadToken, BadUtf8};
-use crate::{Kind, LexFault, Span, Token, text, tokens};
+use crate::Piece::{Char, EscapedStar, Star};
+use crate::{Kind, LexFault, Span, Token, pieces, text, tokens, unescape};
 use sc_lists::{Fault, Seq};
 use std::alloc::Global;
 use std::test::Fail;
@@ -114,4 +115,34 @@ fn faults(rt: HostRuntime) {
             "{file:?}"
         );
     }
+}
+
+#[test]
+fn patterns(rt: HostRuntime) -> Result<(), Fail> {
+    for (text, wanted) in [
+        ("\"\"", [].as_slice()),
+        ("\"a*\\*\"", [Char('a'), Star, EscapedStar].as_slice()),
+        (
+            "\"\\x2A\\u{2a}é\"",
+            [Char('*'), Char('*'), Char('é')].as_slice(),
+        ),
+    ] {
+        let given = pieces(rt.alloc(), text.as_bytes())?;
+        assert!(rt; given.as_slice() == wanted, "{text}");
+    }
+    Ok(())
+}
+
+#[test]
+fn strings(rt: HostRuntime) -> Result<(), Fail> {
+    for (text, wanted) in [
+        ("\"\"", ""),
+        ("\"a*\\*//\n\"", "a**//\n"),
+        ("\"\\n\\r\\t\\0\\\\\\\"\\'\"", "\n\r\t\0\\\"'"),
+        ("\"\\x41\\u{e9}\\u{10FFFF}é\"", "Aé\u{10FFFF}é"),
+    ] {
+        let given = unescape(rt.alloc(), text.as_bytes())?;
+        assert_eq!(rt; given.as_str(), wanted);
+    }
+    Ok(())
 }

@@ -1,7 +1,8 @@
 //! What the text of a string token stands for.
 ghost use Rattle.std.specs.Prelude.{◌≡◌, ◌∷◌, [], ◌<◌, List, length, map, IfOk, MatchOption, IfSome, string_bytes};
-ghost use Rattle.std.specs.Str.{chars, encode_utf8_all};
-ghost use Rattle.sc_lexer.specs.Pieces.{inside, pieces_after, pieces_of, piece_char, string_of};
+ghost use Rattle.std.specs.Str.{IsUtf8, chars, encode_utf8_all};
+ghost use Rattle.sc_lexer.specs.declared.piece.Piece.{Piece as AnyPiece};
+ghost use Rattle.sc_lexer.specs.Pieces.{inside, Spells, pieces_after, pieces_of, piece_char, string_of};
 
 use crate::escape::escape;
 use crate::piece::Piece;
@@ -66,16 +67,26 @@ fn text_pieces(alloc: Global, text: &str) -> Result<Seq<Piece>, AllocError>
     Ok(pieces)
 }
 
-/// What a string stands for in a pattern, by its token's text: its characters, with escapes read,
-/// and stars apart from those that are escaped.
+/// What a string stands for in a pattern, by its token's text.
 #[tactic(auto, using(crate::proofs::UnescapingLaws::pieces_empty))]
-pub fn pieces(alloc: Global, text: &[u8]) -> Result<Seq<Piece>, AllocError>
+fn read_pieces(alloc: Global, text: &[u8]) -> Result<Seq<Piece>, AllocError>
     ensures { IfOk result (λ ps. ps ≡ pieces_of text.now) }
 {
     match std::str::from_utf8(inside(text)) {
         Ok(text) => text_pieces(alloc, text),
         Err(_) => Ok(Seq::new(alloc)),
     }
+}
+
+/// What a string stands for in a pattern, by its token's text: its characters, with escapes read,
+/// and stars apart from those that are escaped.
+pub fn pieces(alloc: Global, text: &[u8]) -> Result<Seq<Piece>, AllocError>
+    // They are those that the definition gives for the token's text.
+    ensures value { IfOk result (λ ps. ps ≡ pieces_of text.now) }
+    // What the characters between the quotes spell is given.
+    ensures spelled { (told : List AnyPiece) → IsUtf8 (inside text.now) → Spells (chars (inside text.now)) told → IfOk result (λ ps. ps ≡ told) }
+{
+    read_pieces(alloc, text)
 }
 
 /// The character that a piece is in a string that is no pattern.
