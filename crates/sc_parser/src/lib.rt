@@ -9,6 +9,7 @@ mod fault;
 mod head;
 mod items;
 mod lexeme;
+mod lexemes;
 mod member;
 mod name;
 mod number;
@@ -24,4 +25,4 @@ mod tables;
 mod tree;
 
 pub use fault::PolicyFault;
-pub use reading::reading_laws;
+pub use reading::{read_policies, reading_laws};
