@@ -1,13 +1,79 @@
--- What a policy file spells.
-use Rattle.std.specs.Prelude.{ℕ, List, Result, Ok, Err, ⊤}
+-- What a policy file spells, or its first fault.
+use Rattle.std.specs.Prelude.{◌≡◌, ℕ, List, map, slice_get, Result, Ok, Err, ⊤}
+use Rattle.std.specs.declared.option.Option.TheVariants.{Some}
 use Rattle.sc_lists.specs.declared.fault.Fault.{Fault}
 use Rattle.sc_lists.specs.declared.fault.Fault.TheVariants.{Told, NoMemory}
+use Rattle.sc_pattern.specs.declared.part.Part.{Part}
+use Rattle.sc_pattern.specs.declared.part.Part.TheVariants as part
+use Rattle.sc_ast.specs.declared.place.Place.{Place}
 use Rattle.sc_ast.specs.declared.policy.Policy.{Policy}
+use Rattle.sc_lexer.specs.declared.piece.Piece.{Piece}
+use Rattle.sc_lexer.specs.declared.piece.Piece.TheVariants as piece
+use Rattle.sc_lexer.specs.declared.token.Kind.{Kind}
+use Rattle.sc_lexer.specs.declared.token.Kind.TheVariants as kind
+use Rattle.sc_lexer.specs.declared.token.Token.{Token}
+use Rattle.sc_lexer.specs.declared.token.LexFault.TheVariants.{BadUtf8, BadToken, BadEscape}
+use Rattle.sc_lexer.specs.Pieces.{pieces_of, string_of}
+use Rattle.sc_lexer.specs.Reading.{Lexes}
+use Rattle.sc_lexer.specs.Spans.{text_of}
 use Rattle.sc_parser.specs.declared.fault.PolicyFault.{PolicyFault}
+use Rattle.sc_parser.specs.declared.fault.PolicyFault.TheVariants as fault
+use Rattle.sc_parser.specs.declared.lexeme.Lexeme.{Lexeme}
+use Rattle.sc_parser.specs.declared.lexeme.Shape.{Shape}
+use Rattle.sc_parser.specs.declared.lexeme.Shape.TheVariants as shape
+use Rattle.sc_parser.specs.declared.stop.Stop.{Stop}
+use Rattle.sc_parser.specs.declared.stop.Stop.TheVariants as stop
+use Rattle.sc_parser.specs.Faults.{Passes, IsUnexpected, IsUnexpectedEnd}
+use Rattle.sc_parser.specs.GrammarFiles.{File}
+use Rattle.sc_parser.specs.Limits.{all_limits}
 
-pub data Spells (bytes : List ℕ) : List Policy → Type 0 where
+-- what a piece of a string is in a pattern: an escaped star is just a star
+abbrev pub part_of : Piece → Part
+part_of (piece.Char c) = part.Char c
+part_of piece.Star = part.Star
+part_of piece.EscapedStar = part.Char 42
 
+-- what a token of this kind and text says: a word, digits, a string with its pattern, or a sign
+abbrev pub shape_of : Kind → List ℕ → Shape
+shape_of kind.Word text = shape.Word text
+shape_of kind.Number text = shape.Number text
+shape_of kind.Str text = shape.String (string_of text) (map part_of (pieces_of text))
+shape_of k text = shape.Sign k
+
+-- a token of a file with these bytes, at its first byte
+abbrev pub lexeme_of : List ℕ → Token → Lexeme
+lexeme_of bytes t = record { place = record { offset = t.span.start }; shape = shape_of t.kind (text_of bytes t) }
+
+-- these are the tokens of the file
+pub record AreLexemes (bytes : List ℕ) (ts : List Lexeme) : Type 0 where
+  pub tokens : List Token
+  pub lexed : Lexes bytes (Ok tokens)
+  pub are : ts ≡ map (lexeme_of bytes) tokens
+
+-- the file spells these policies, within all limits
+pub record Spells (bytes : List ℕ) (ps : List Policy) : Type 0 where
+  pub lexemes : List Lexeme
+  pub are : AreLexemes bytes lexemes
+  pub file : File all_limits lexemes ps
+
+-- the fault of a limit that a token passes, or of a token that is unexpected
+abbrev pub fault_of : Stop → Place → PolicyFault
+fault_of stop.TooManyPolicies p = fault.TooManyPolicies
+fault_of stop.Template p = fault.Template p
+fault_of stop.TooDeep p = fault.TooDeep p
+fault_of stop.IntRange p = fault.IntRange p
+fault_of stop.DuplicateKey p = fault.DuplicateKey p
+fault_of stop.BadCall p = fault.BadCall p
+fault_of _ p = fault.Unexpected p
+
+-- the first fault of a file: one of its bytes where it has no tokens, else of its tokens
 pub data HasFault (bytes : List ℕ) : PolicyFault → Type 0 where
+  ill_formed : {n : ℕ} → Lexes bytes (Err (BadUtf8 n)) → HasFault bytes (fault.BadUtf8 (record { offset = n }))
+  no_token : {n : ℕ} → Lexes bytes (Err (BadToken n)) → HasFault bytes (fault.BadToken (record { offset = n }))
+  no_escape : {n : ℕ} → Lexes bytes (Err (BadEscape n)) → HasFault bytes (fault.BadEscape (record { offset = n }))
+  unexpected : {ts : List Lexeme} {n : ℕ} {l : Lexeme} → AreLexemes bytes ts → slice_get ts n ≡ Some l → IsUnexpected ts n → HasFault bytes (fault.Unexpected l.place)
+  unexpected_end : {ts : List Lexeme} → AreLexemes bytes ts → IsUnexpectedEnd ts → HasFault bytes fault.UnexpectedEnd
+  passed : {ts : List Lexeme} {f : Stop} {n : ℕ} {l : Lexeme} → AreLexemes bytes ts → slice_get ts n ≡ Some l → Passes ts f n → HasFault bytes (fault_of f l.place)
 
 -- what a file is read as: the policies that it spells, or its first fault
 pub data IsReading (bytes : List ℕ) : Result (List Policy) PolicyFault → Type 0 where

@@ -1,0 +1,83 @@
+//! Reads expressions, and those that stand inside of something.
+ghost use Rattle.std.specs.Prelude.{◌≡◌, ◌≤◌, ◌<◌, length, IfOk, IfErr, [], true};
+ghost use Rattle.sc_ast.specs.declared.expr.Expr.{Expr as AnyExpr};
+ghost use Rattle.sc_lexer.specs.declared.token.Kind.TheVariants as kind;
+ghost use Rattle.sc_parser.specs.declared.lexeme.Shape.TheVariants.{Word, Sign as OfSign};
+ghost use Rattle.sc_parser.specs.declared.operator.Level.TheVariants as level_is;
+ghost use Rattle.sc_parser.specs.Depth.{fits};
+ghost use Rattle.sc_parser.specs.Lexemes.{Is, starts};
+ghost use Rattle.sc_parser.specs.Outcomes.{Outcome, read, Halts};
+ghost use Rattle.sc_parser.specs.Reads.{ReadsExpr, ReadsInner, ReadsEnclosed};
+
+use crate::chain::chain;
+use crate::cursor::Cursor;
+use crate::lexeme::Lexeme;
+use crate::operator::{Close, Level};
+use crate::peek::{close_at, word_at};
+use crate::stop::Stop;
+use crate::tree::choice;
+use sc_ast::Expr;
+use std::alloc::Global;
+
+/// Reads an expression.
+#[cycle(read)]
+#[tactic(auto, using(crate::specs::Reads::chain_or, crate::specs::Reads::if_deep, crate::specs::Reads::condition_halts, crate::specs::Reads::then_halts, crate::specs::Reads::else_halts, crate::specs::Reads::if_then_else))]
+fn expr(alloc: Global, ts: &[Lexeme], cursor: &mut Cursor) -> Result<Expr, Stop>
+    requires { cursor.old.at ≤ length ts.now }
+    ensures forward { cursor.old.at ≤ cursor.new.at }
+    ensures within { cursor.new.at ≤ length ts.now }
+    ensures ok { IfOk result (λ x. ReadsExpr ts.now cursor.old (read x cursor.new)) }
+    ensures err { IfErr result (λ f. Halts (ReadsExpr ts.now cursor.old) f cursor.new) }
+{
+    let Some(place) = word_at(ts, cursor.at, "if") else {
+        return chain(alloc, ts, Level::Or, cursor);
+    };
+    if !cursor.fits() {
+        return Err(Stop::TooDeep);
+    }
+    *cursor = cursor.next();
+    let condition = enclosed(alloc, ts, Close::Then, cursor)?;
+    let first = enclosed(alloc, ts, Close::Else, cursor)?;
+    let second = inner(alloc, ts, cursor)?;
+    Ok(choice(alloc, place, condition, first, second)?)
+}
+
+/// Reads an expression inside of something.
+#[cycle(read)]
+#[tactic(auto, using(crate::specs::Reads::inner, crate::specs::Reads::inner_halts))]
+pub(crate) fn inner(alloc: Global, ts: &[Lexeme], cursor: &mut Cursor) -> Result<Expr, Stop>
+    requires { cursor.old.at ≤ length ts.now }
+    ensures forward { cursor.old.at ≤ cursor.new.at }
+    ensures within { cursor.new.at ≤ length ts.now }
+    ensures ok { IfOk result (λ x. ReadsInner ts.now cursor.old (read x cursor.new)) }
+    ensures err { IfErr result (λ f. Halts (ReadsInner ts.now cursor.old) f cursor.new) }
+{
+    let outer = *cursor;
+    *cursor = outer.inside();
+    let x = expr(alloc, ts, cursor)?;
+    *cursor = outer.back(*cursor);
+    Ok(x)
+}
+
+/// Reads an expression inside of something, and the token that ends it.
+#[cycle(read)]
+#[tactic(auto, using(crate::specs::Reads::enclosed, crate::specs::Reads::unclosed, crate::specs::Reads::enclosed_halts))]
+pub(crate) fn enclosed(
+    alloc: Global,
+    ts: &[Lexeme],
+    close: Close,
+    cursor: &mut Cursor,
+) -> Result<Expr, Stop>
+    requires { cursor.old.at ≤ length ts.now }
+    ensures forward { cursor.old.at ≤ cursor.new.at }
+    ensures within { cursor.new.at ≤ length ts.now }
+    ensures ok { IfOk result (λ x. ReadsEnclosed ts.now close cursor.old (read x cursor.new)) }
+    ensures err { IfErr result (λ f. Halts (ReadsEnclosed ts.now close cursor.old) f cursor.new) }
+{
+    let x = inner(alloc, ts, cursor)?;
+    let Some(_) = close_at(ts, cursor.at, close) else {
+        return Err(Stop::Unexpected);
+    };
+    *cursor = cursor.next();
+    Ok(x)
+}
