@@ -6,7 +6,10 @@ ghost use Rattle.sc_ast.specs.declared.expr.Variable.TheVariants.{Context};
 ghost use Rattle.sc_ast.specs.declared.policy.Condition.{Condition as AnyCondition};
 ghost use Rattle.cedar_symcc.specs.Policies.{at, attribute_at, clause_on, policy_on, policies_of, IsBare, IsBareAction, HasPlainHead};
 
-use sc_ast::{ActionConstraint, ActionScope, Condition, ConditionKind, Constraint, Effect, Expr, Policy, Scope, Variable};
+use sc_ast::{
+    ActionConstraint, ActionScope, Condition, ConditionKind, Constraint, Effect, Expr, Policy,
+    Scope, Variable,
+};
 use sc_lists::Text;
 
 fn is_bare(scope: &Scope, offset: u64) -> bool

@@ -86,11 +86,7 @@ fn of_type(
 
 /// Reads the uids of a list, up to the bracket that ends it. A comma may stand before it.
 #[tactic(auto, using(crate::specs::ReadsFiles::entities_end, crate::specs::ReadsFiles::entities_halt, crate::specs::ReadsFiles::last_entity, crate::specs::ReadsFiles::no_entity_comma, crate::specs::ReadsFiles::more_entities))]
-fn entities(
-    alloc: Global,
-    ts: &[Lexeme],
-    cursor: &mut Cursor,
-) -> Result<Seq<EntityLiteral>, Stop>
+fn entities(alloc: Global, ts: &[Lexeme], cursor: &mut Cursor) -> Result<Seq<EntityLiteral>, Stop>
     requires { cursor.old.at ≤ length ts.now }
     ensures forward { cursor.old.at ≤ cursor.new.at }
     ensures within { cursor.new.at ≤ length ts.now }

@@ -20,11 +20,7 @@ use std::alloc::Global;
 
 /// Reads `when` and `unless` clauses.
 #[tactic(auto, using(crate::specs::ReadsFiles::clauses_end, crate::specs::ReadsFiles::no_brace, crate::specs::ReadsFiles::clause_halts, crate::specs::ReadsFiles::clause))]
-fn clauses(
-    alloc: Global,
-    ts: &[Lexeme],
-    cursor: &mut Cursor,
-) -> Result<Seq<Condition>, Stop>
+fn clauses(alloc: Global, ts: &[Lexeme], cursor: &mut Cursor) -> Result<Seq<Condition>, Stop>
     requires { cursor.old.at ≤ length ts.now }
     ensures forward { cursor.old.at ≤ cursor.new.at }
     ensures within { cursor.new.at ≤ length ts.now }
@@ -81,11 +77,7 @@ fn has_room(policies: usize) -> bool
 
 /// Reads the policies of a file.
 #[tactic(auto, using(crate::specs::ReadsFiles::file_ends, crate::specs::ReadsFiles::too_many, crate::specs::ReadsFiles::no_policy, crate::specs::ReadsFiles::policy_halts, crate::specs::ReadsFiles::more_policies))]
-pub(crate) fn policies(
-    alloc: Global,
-    ts: &[Lexeme],
-    at: &mut usize,
-) -> Result<Seq<Policy>, Stop>
+pub(crate) fn policies(alloc: Global, ts: &[Lexeme], at: &mut usize) -> Result<Seq<Policy>, Stop>
     requires { at.old ≤ length ts.now }
     ensures within { at.new ≤ length ts.now }
     ensures ok { IfOk result (λ ps. ReadsPolicies ts.now at.old [] (read ps (outside at.new))) }

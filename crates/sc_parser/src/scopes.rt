@@ -105,11 +105,7 @@ fn resource(alloc: Global, ts: &[Lexeme], cursor: &mut Cursor) -> Result<Scope, 
 
 /// Reads the scope in its parentheses.
 #[tactic(auto, using(crate::specs::ReadsFiles::no_parenthesis, crate::specs::ReadsFiles::scopes_principal_halts, crate::specs::ReadsFiles::scopes_action_halts, crate::specs::ReadsFiles::scopes_resource_halts, crate::specs::ReadsFiles::scopes))]
-pub(crate) fn read_scopes(
-    alloc: Global,
-    ts: &[Lexeme],
-    cursor: &mut Cursor,
-) -> Result<Scopes, Stop>
+pub(crate) fn read_scopes(alloc: Global, ts: &[Lexeme], cursor: &mut Cursor) -> Result<Scopes, Stop>
     requires { cursor.old.at ≤ length ts.now }
     ensures forward { cursor.old.at ≤ cursor.new.at }
     ensures within { cursor.new.at ≤ length ts.now }

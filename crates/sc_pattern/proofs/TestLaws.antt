@@ -37,9 +37,10 @@ behind_decides c test P h [] = (λ t. cc, λ e. let none : [] ≡ c ∷ e.0 = e.
 behind_decides c test P h (d ∷ rest) = (
   λ t. let p = and_parts (d == c) (test rest) t in (rest, ap (λ x. x ∷ rest) (eqb-true d c p.0), (h rest).0 p.1),
   λ e.
-    let first : d ≡ c = let is : d ∷ rest ≡ c ∷ e.0 = e.1 in cc in
-    let then : e.0 ≡ rest = let is : d ∷ rest ≡ c ∷ e.0 = e.1 in cc in
-    and_whole (d == c) (test rest) (eq-eqb d c first) ((h rest).1 (subst P then e.2)))
+      let first : d ≡ c = let is : d ∷ rest ≡ c ∷ e.0 = e.1 in cc in
+      let then : e.0 ≡ rest = let is : d ∷ rest ≡ c ∷ e.0 = e.1 in cc in
+      and_whole (d == c) (test rest) (eq-eqb d c first) ((h rest).1 (subst P then e.2)),
+)
 
 nothing_left : (taken rest : List ℕ) → [] ≡ taken ++ rest → rest ≡ []
 nothing_left [] rest e = sym e
@@ -55,10 +56,11 @@ somewhere_decides : (test : List ℕ → Bool) (P : List ℕ → Type 0) → Dec
 somewhere_decides test P h [] = (λ t. ([], [], refl, (h []).0 t), λ e. (h []).1 (subst P (nothing_left e.0 e.1 e.2) e.3))
 somewhere_decides test P h (c ∷ rest) = (
   λ t. elim (or_parts (test (c ∷ rest)) (somewhere test rest) t) [
-      inl now ↦ ([], c ∷ rest, refl, (h (c ∷ rest)).0 now)
+    | inl now ↦ ([], c ∷ rest, refl, (h (c ∷ rest)).0 now)
     | inr then ↦ let m = (somewhere_decides test P h rest).0 then in (c ∷ m.0, m.1, ap (λ l. c ∷ l) m.2, m.3)
   ],
-  λ e. tried_later c test P rest h (somewhere_decides test P h rest).1 e.0 e.1 e.2 e.3)
+  λ e. tried_later c test P rest h (somewhere_decides test P h rest).1 e.0 e.1 e.2 e.3,
+)
 
 pub is_match_decides : (parts : List Part) (text : List ℕ) → IsTrue (is_match parts text) ↔ IsMatch parts text
 unfolding is_match IsMatch

@@ -6,5 +6,5 @@ use Rattle.cedar_symcc.proofs.policies.attribute_of_policy.Goals as goal
 pub returns-in-None-clause-none : goal.returns-in-None-clause-none
 returns-in-None-clause-none c =
     λ name e.
-        let same : c.in-Some.clause.now ∷ [] ≡ clause_on name ∷ [] = sym c.in-Some.ensures.found ∙ (c.as_slice.ensures ∙ ap (λ (p : Policy). p.conditions) e) in
-        c.in-None.ensures.none name (cc)
+    let same : c.in-Some.clause.now ∷ [] ≡ clause_on name ∷ [] = sym c.in-Some.ensures.found ∙ (c.as_slice.ensures ∙ ap (λ (p : Policy). p.conditions) e) in
+    c.in-None.ensures.none name (cc)
