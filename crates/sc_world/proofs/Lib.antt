@@ -1,6 +1,5 @@
 pub mod StoreLaws
 pub mod ConformsLaws
 mod ActionLaws
-mod AncestorLaws
 mod NamedLaws
 mod TestLaws
