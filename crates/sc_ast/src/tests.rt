@@ -74,10 +74,26 @@ fn expected(alloc: Global) -> Result<Expr, AllocError> {
     and(alloc, at(46), scope, clause)
 }
 
+fn joined(alloc: Global) -> Result<Expr, AllocError> {
+    let policy = policy(alloc)?;
+    condition(alloc, &policy)
+}
+
+fn copied(alloc: Global) -> Result<Expr, AllocError> {
+    let written = expected(alloc)?;
+    try_clone(alloc, &written)
+}
+
+fn is_expected(alloc: Global, e: Expr) -> Result<bool, AllocError> {
+    let wanted = expected(alloc)?;
+    Ok(e == wanted)
+}
+
 #[test]
 fn condition_of_a_scope_and_a_clause(rt: HostRuntime) -> Result<(), Fail> {
     let alloc = rt.alloc();
-    assert!(rt; condition(alloc, &policy(alloc)?)? == expected(alloc)?);
+    let same = is_expected(alloc, joined(alloc)?)?;
+    assert!(rt; same);
     Ok(())
 }
 
@@ -92,6 +108,7 @@ fn uids_of_a_policy(rt: HostRuntime) -> Result<(), Fail> {
 #[test]
 fn copies(rt: HostRuntime) -> Result<(), Fail> {
     let alloc = rt.alloc();
-    assert!(rt; try_clone(alloc, &expected(alloc)?)? == expected(alloc)?);
+    let same = is_expected(alloc, copied(alloc)?)?;
+    assert!(rt; same);
     Ok(())
 }
