@@ -1,5 +1,5 @@
 -- Files that spell policies of another form.
-use Rattle.std.proofs.Common.{◌≡◌, ◌≢◌, ◌↔◌, ℕ, List, [], ◌∷◌, ◌||◌, Bool, true, false, not, IsTrue, map, slice_get, Option, Some, None, Ok, refl, ap, sym, ◌∙◌, subst}
+use Rattle.std.proofs.Common.{◌≡◌, ◌≢◌, ◌↔◌, ℕ, List, [], ◌∷◌, ◌||◌, Bool, true, false, IsTrue, map, slice_get, Option, Some, None, Ok, refl, ap, sym, ◌∙◌, subst}
 use Rattle.std.specs.List.{list_any}
 use Rattle.std.specs.Str.{bytes_eq}
 use Rattle.sc_lists.specs.declared.text.Text.{Text}
@@ -54,14 +54,10 @@ pub others_by_text : {declared : List (List ℕ)} {bytes : List ℕ} {ps : List 
 others_by_text {declared = declared} {bytes = bytes} {ps = ps} o s is none =
     record { policies = ps; spelled = s; none = λ p h. none (subst (IsFormOf declared bytes) (one-attribute p o (sym (same-policies s h.spelled) ∙ is)) h.form) }
 
-refused_only : (b : Bool) → not b ≡ true → IsTrue b → ⊥
-refused_only true refused held = cc
-refused_only false refused held = cc
-
 -- the same where a test tells that the text isn't theirs
-pub others_by_test : {declared names : List (List ℕ)} {bytes : List ℕ} {ps : List Policy} {b : Bool} {o : Option (List ℕ)} → Spells bytes ps → names ≡ declared → IsTrue b ↔ IsFormOf names bytes o → not b ≡ true → ps ≡ policies_of o → SpellsOthers declared bytes
-others_by_test {bytes = bytes} {b = b} {o = o} s same decides refused is =
-    others_by_text o s is (λ h. refused_only b refused (decides.1 (subst (λ names. IsFormOf names bytes o) (sym same) h)))
+pub others_by_test : {declared names : List (List ℕ)} {bytes : List ℕ} {ps : List Policy} {b : Bool} (o : Option (List ℕ)) → Spells bytes ps → names ≡ declared → IsTrue b ↔ IsFormOf names bytes o → b ≡ false → ps ≡ policies_of o → SpellsOthers declared bytes
+others_by_test {bytes = bytes} o s same decides refused is =
+    others_by_text o s is (λ h. let held = decides.1 (subst (λ names. IsFormOf names bytes o) (sym same) h) in cc)
 
 -- the first policy isn't the one on an attribute
 pub none-of : (ps : List Policy) (p : Policy) → slice_get ps 0 ≡ Some p → ((name : List ℕ) → p ≢ policy_on name) → (o : Option (List ℕ)) → ps ≢ policies_of o

@@ -72,7 +72,6 @@ fn fields_of(ty: &Ty) -> &[(Text, Presence, Ty)]
 }
 
 /// The attribute that the policies of a file read, or none where there is no policy.
-#[tactic(auto, using(crate::proofs::PoliciesLaws::others_by_tree, crate::proofs::PoliciesLaws::others_by_text))]
 fn attribute_in_form(
     alloc: Global,
     bytes: &[u8],
