@@ -1,5 +1,5 @@
 -- The places of policies that pass a test.
-use Rattle.std.proofs.Common.{◌≡◌, ℕ, ◌+◌, ◌<◌, ◌≤◌, List, [], ◌∷◌, ◌++◌, length, take, get_or, Bool, true, false, ◌&&◌, ◌||◌, not, Ok, Err, if◌then◌else◌, refl, sym, ap, ◌∙◌, arith, add-zero, zero-add}
+use Rattle.std.proofs.Common.{◌≡◌, ℕ, ◌+◌, ◌<◌, List, [], ◌∷◌, ◌++◌, length, take, get_or, Bool, true, false, ◌&&◌, ◌||◌, not, Ok, Err, is_err, if◌then◌else◌, refl, sym, ap, ◌∙◌, arith, add-zero, zero-add}
 use Rattle.std.specs.List.{list_any}
 use Rattle.std.proofs.lemmas.List.{take_more, length-take-le}
 use Rattle.sc_ast.specs.declared.policy.Policy.{Policy}
@@ -9,9 +9,10 @@ use Rattle.sc_world.specs.declared.world.World.{World}
 use Rattle.sc_eval.specs.Outcomes.{Outcome}
 use Rattle.sc_eval.specs.Eval.{eval}
 use Rattle.sc_auth.specs.declared.decision.Decision.{Decision}
+use Rattle.sc_auth.specs.declared.standing.Standing.{Standing}
 use Rattle.sc_auth.specs.declared.standing.Standing.TheVariants.{Satisfied, Unsatisfied}
-use Rattle.sc_auth.specs.Decisions.{true_in, is_true, is_error, satisfied, errs, is_permitting, is_forbidding, allows, decided, places_from, places}
-use Rattle.sc_auth.specs.Standings.{standing_in, standing, listed, is_satisfied, has_erred, is_some}
+use Rattle.sc_auth.specs.Decisions.{true_in, is_true, satisfied, errs, permits, is_permitting, is_forbidding, allows, decided, places_from, places}
+use Rattle.sc_auth.specs.Standings.{standing_in, standing_of, listed, is_satisfied, has_erred, is_some}
 
 on_if : (b : Bool) (n : ℕ) (xs ys : List ℕ) → (if b then n ∷ xs else xs) ++ ys ≡ (if b then n ∷ (xs ++ ys) else xs ++ ys)
 on_if true n xs ys = refl
@@ -48,15 +49,15 @@ satisfied_in : (o : Outcome) → is_satisfied (standing_in o) ≡ is_true o
 satisfied_in (Ok x) = sat (true_in (out-Value x))
 satisfied_in (Err e) = refl
 
-erred_in : (o : Outcome) → has_erred (standing_in o) ≡ is_error o
+erred_in : (o : Outcome) → has_erred (standing_in o) ≡ is_err o
 erred_in (Ok x) = no_err (true_in (out-Value x))
 erred_in (Err e) = refl
 
-pub is_satisfied-standing : (w : World) (p : Policy) → is_satisfied (standing w p) ≡ satisfied w p
-is_satisfied-standing w p = satisfied_in (eval (condition p) w)
+pub is_satisfied-standing_of : (w : World) (p : Policy) → is_satisfied (standing_of w p) ≡ satisfied w p
+is_satisfied-standing_of w p = satisfied_in (eval (condition p) w)
 
-pub has_erred-standing : (w : World) (p : Policy) → has_erred (standing w p) ≡ errs w p
-has_erred-standing w p = erred_in (eval (condition p) w)
+pub has_erred-standing_of : (w : World) (p : Policy) → has_erred (standing_of w p) ≡ errs w p
+has_erred-standing_of w p = erred_in (eval (condition p) w)
 
 -- ---- whether there are any
 
@@ -74,3 +75,25 @@ pub decision_is : (w : World) (ps : List Policy) (d : Decision) (permits forbids
 decision_is w ps d permits forbids p f h =
     h ∙ ap (λ b. decided (b && not (is_some forbids))) (ap is_some p ∙ is_some-places_from 0 (is_permitting w) ps)
     ∙ ap (λ b. decided (list_any (is_permitting w) ps && not b)) (ap is_some f ∙ is_some-places_from 0 (is_forbidding w) ps)
+
+-- ---- one more policy is counted
+
+more : (test : Policy → Bool) (ps : List Policy) (i : ℕ) (p : Policy) (told : Bool) (old new : List ℕ) → i < length ps → p ≡ get_or ps i p → told ≡ test p
+    → old ≡ places test (take i ps) → new ≡ old ++ listed told i → new ≡ places test (take (i + 1) ps)
+more test ps i p told old new within is same before after =
+    after ∙ ap (λ ns. ns ++ listed told i) before ∙ ap (λ b. places test (take i ps) ++ listed b i) same ∙ sym (places-more test ps i p within is)
+
+pub permits_more : (w : World) (ps : List Policy) (i : ℕ) (p : Policy) (s : Standing) (old new : List ℕ) → i < length ps → p ≡ get_or ps i p → s ≡ standing_of w p
+    → old ≡ places (is_permitting w) (take i ps) → new ≡ old ++ listed (permits p.effect && is_satisfied s) i → new ≡ places (is_permitting w) (take (i + 1) ps)
+permits_more w ps i p s old new within is stands =
+    more (is_permitting w) ps i p (permits p.effect && is_satisfied s) old new within is (ap (λ b. permits p.effect && b) (ap is_satisfied stands ∙ is_satisfied-standing_of w p))
+
+pub forbids_more : (w : World) (ps : List Policy) (i : ℕ) (p : Policy) (s : Standing) (old new : List ℕ) → i < length ps → p ≡ get_or ps i p → s ≡ standing_of w p
+    → old ≡ places (is_forbidding w) (take i ps) → new ≡ old ++ listed (not (permits p.effect) && is_satisfied s) i → new ≡ places (is_forbidding w) (take (i + 1) ps)
+forbids_more w ps i p s old new within is stands =
+    more (is_forbidding w) ps i p (not (permits p.effect) && is_satisfied s) old new within is (ap (λ b. not (permits p.effect) && b) (ap is_satisfied stands ∙ is_satisfied-standing_of w p))
+
+pub erring_more : (w : World) (ps : List Policy) (i : ℕ) (p : Policy) (s : Standing) (old new : List ℕ) → i < length ps → p ≡ get_or ps i p → s ≡ standing_of w p
+    → old ≡ places (errs w) (take i ps) → new ≡ old ++ listed (has_erred s) i → new ≡ places (errs w) (take (i + 1) ps)
+erring_more w ps i p s old new within is stands =
+    more (errs w) ps i p (has_erred s) old new within is (ap has_erred stands ∙ has_erred-standing_of w p)

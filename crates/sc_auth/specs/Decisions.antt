@@ -1,5 +1,5 @@
 -- Which policies are satisfied in a world, which err there, and what a set of them decides.
-use Rattle.std.specs.Prelude.{◌&&◌, not, ℕ, ◌+◌, List, [], ◌∷◌, Bool, true, false, if◌then◌else◌, Ok, Err}
+use Rattle.std.specs.Prelude.{◌&&◌, not, ℕ, ◌+◌, List, [], ◌∷◌, Bool, true, false, if◌then◌else◌, Ok, Err, is_err}
 use Rattle.std.specs.List.{list_any}
 use Rattle.sc_ast.specs.declared.policy.Policy.{Policy}
 use Rattle.sc_ast.specs.declared.policy.Effect.{Effect}
@@ -21,17 +21,13 @@ abbrev pub is_true : Outcome → Bool
 is_true (Ok x) = true_in (out-Value x)
 is_true (Err e) = false
 
-abbrev pub is_error : Outcome → Bool
-is_error (Ok x) = false
-is_error (Err e) = true
-
 -- the policy's condition is true
 abbrev pub satisfied : World → Policy → Bool
 satisfied w p = is_true (eval (condition p) w)
 
 -- the policy's condition has no value
 abbrev pub errs : World → Policy → Bool
-errs w p = is_error (eval (condition p) w)
+errs w p = is_err (eval (condition p) w)
 
 abbrev pub permits : Effect → Bool
 permits Permit = true

@@ -14,8 +14,8 @@ abbrev pub standing_in : Outcome → Standing
 standing_in (Ok x) = if true_in (out-Value x) then Satisfied else Unsatisfied
 standing_in (Err e) = Errs
 
-abbrev pub standing : World → Policy → Standing
-standing w p = standing_in (eval (condition p) w)
+abbrev pub standing_of : World → Policy → Standing
+standing_of w p = standing_in (eval (condition p) w)
 
 -- the place, where it is to be listed
 abbrev pub listed : Bool → ℕ → List ℕ

@@ -4,6 +4,7 @@
 
 mod authorisation;
 mod decision;
+mod laws;
 mod response;
 mod standing;
 mod tally;
@@ -12,4 +13,5 @@ mod tests;
 
 pub use authorisation::authorise;
 pub use decision::Decision;
+pub use laws::{decision_laws, place_laws, policy_laws};
 pub use response::Response;

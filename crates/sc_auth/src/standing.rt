@@ -1,6 +1,6 @@
 //! How one policy stands in a world.
 ghost use Rattle.std.specs.Prelude.{◌≡◌, IfOk};
-ghost use Rattle.sc_auth.specs.Standings.{standing};
+ghost use Rattle.sc_auth.specs.Standings.{standing_of};
 
 use sc_ast::{Policy, condition};
 use sc_eval::evaluate;
@@ -21,12 +21,12 @@ pub(crate) enum Standing {
 }
 
 /// How a policy stands in a world.
-pub(crate) fn standing(
+pub(crate) fn standing_of(
     alloc: Global,
     policy: &Policy,
     world: &World,
 ) -> Result<Standing, AllocError>
-    ensures { IfOk result (λ s. s ≡ standing world.now policy.now) }
+    ensures { IfOk result (λ s. s ≡ standing_of world.now policy.now) }
 {
     let condition = condition(alloc, policy)?;
     match evaluate(alloc, &condition, world) {

@@ -5,7 +5,7 @@ ghost use Rattle.sc_auth.specs.Standings.{listed, is_satisfied, has_erred, is_so
 
 use crate::decision::Decision;
 use crate::response::Response;
-use crate::standing::{Standing, standing};
+use crate::standing::{Standing, standing_of};
 use sc_ast::{Effect, Policy};
 use sc_lists::Seq;
 use sc_world::World;
@@ -21,12 +21,7 @@ pub(crate) struct Tally {
 
 impl Tally {
     /// Counts the policy at a place.
-    fn count(
-        &mut self,
-        place: usize,
-        effect: Effect,
-        standing: Standing,
-    ) -> Result<(), AllocError>
+    fn count(&mut self, place: usize, effect: Effect, standing: Standing) -> Result<(), AllocError>
         ensures permits { OnOk result (self.new.permits ≡ self.old.permits ++ listed (permits effect && is_satisfied standing) place) }
         ensures forbids { OnOk result (self.new.forbids ≡ self.old.forbids ++ listed (not (permits effect) && is_satisfied standing) place) }
         ensures erring { OnOk result (self.new.erring ≡ self.old.erring ++ listed (has_erred standing) place) }
@@ -81,7 +76,7 @@ pub(crate) fn tally_of(
         erring: Seq::new(alloc),
     };
     for (place, policy) in policies.iter().enumerate() {
-        let standing = standing(alloc, policy, world)?;
+        let standing = standing_of(alloc, policy, world)?;
         tally.count(place, policy.effect, standing)?;
     }
     Ok(tally)

@@ -90,6 +90,29 @@ fn access(alloc: Global, a: Expr, name: &str) -> Result<Expr, AllocError> {
     Ok(Expr::Access(AT, Boxed::new(alloc, a)?, Text::from_str(alloc, name)?))
 }
 
+/// `VARIABLE.hasTag("KEY")` or `VARIABLE.getTag("KEY")`.
+fn tagged(
+    alloc: Global,
+    operator: BinaryOperator,
+    of: Variable,
+    key: &str,
+) -> Result<Expr, AllocError> {
+    binary(alloc, operator, variable(of), text(alloc, key)?)
+}
+
+fn or(alloc: Global, a: Expr, b: Expr) -> Result<Expr, AllocError> {
+    Ok(Expr::Or(AT, Boxed::new(alloc, a)?, Boxed::new(alloc, b)?))
+}
+
+fn and(alloc: Global, a: Expr, b: Expr) -> Result<Expr, AllocError> {
+    Ok(Expr::And(AT, Boxed::new(alloc, a)?, Boxed::new(alloc, b)?))
+}
+
+fn choice(alloc: Global, c: Expr, a: Expr, b: Expr) -> Result<Expr, AllocError> {
+    let (c, a) = (Boxed::new(alloc, c)?, Boxed::new(alloc, a)?);
+    Ok(Expr::If(AT, c, a, Boxed::new(alloc, b)?))
+}
+
 fn has(alloc: Global, a: Expr, name: &str) -> Result<Expr, AllocError> {
     let mut names = Seq::new(alloc);
     names.push(Text::from_str(alloc, name)?)?;
@@ -184,6 +207,8 @@ fn attributes_of_entities(rt: HostRuntime) -> Result<(), Fail> {
     let world = world(alloc)?;
     let age = access(alloc, variable(Variable::Principal), "age")?;
     assert!(rt; gives(alloc, &age, &world, &Value::Long(7)));
+    let absent = access(alloc, variable(Variable::Principal), "name")?;
+    assert!(rt; errs(alloc, &absent, &world, EvalError::AttrMissing));
     let absent = access(alloc, variable(Variable::Resource), "age")?;
     assert!(rt; errs(alloc, &absent, &world, EvalError::EntityMissing));
     let absent = has(alloc, variable(Variable::Resource), "age")?;
@@ -192,15 +217,26 @@ fn attributes_of_entities(rt: HostRuntime) -> Result<(), Fail> {
 }
 
 #[test]
-fn tags(rt: HostRuntime) -> Result<(), Fail> {
+fn tags_that_are_there(rt: HostRuntime) -> Result<(), Fail> {
     let alloc = rt.alloc();
     let world = world(alloc)?;
-    let principal = variable(Variable::Principal);
-    let tag = binary(alloc, BinaryOperator::GetTag, principal, text(alloc, "k")?)?;
+    let tag = tagged(alloc, BinaryOperator::HasTag, Variable::Principal, "k")?;
     assert!(rt; gives(alloc, &tag, &world, &Value::Bool(true)));
-    let resource = variable(Variable::Resource);
-    let tag = binary(alloc, BinaryOperator::HasTag, resource, text(alloc, "k")?)?;
+    let tag = tagged(alloc, BinaryOperator::GetTag, Variable::Principal, "k")?;
+    assert!(rt; gives(alloc, &tag, &world, &Value::Bool(true)));
+    Ok(())
+}
+
+#[test]
+fn tags_that_are_not_there(rt: HostRuntime) -> Result<(), Fail> {
+    let alloc = rt.alloc();
+    let world = world(alloc)?;
+    let tag = tagged(alloc, BinaryOperator::HasTag, Variable::Resource, "k")?;
     assert!(rt; gives(alloc, &tag, &world, &Value::Bool(false)));
+    let tag = tagged(alloc, BinaryOperator::GetTag, Variable::Resource, "k")?;
+    assert!(rt; errs(alloc, &tag, &world, EvalError::EntityMissing));
+    let tag = tagged(alloc, BinaryOperator::GetTag, Variable::Principal, "l")?;
+    assert!(rt; errs(alloc, &tag, &world, EvalError::TagMissing));
     Ok(())
 }
 
@@ -255,14 +291,25 @@ fn types_and_patterns(rt: HostRuntime) -> Result<(), Fail> {
 fn what_is_not_needed(rt: HostRuntime) -> Result<(), Fail> {
     let alloc = rt.alloc();
     let world = world(alloc)?;
-    let or = Expr::Or(
-        AT,
-        Boxed::new(alloc, truth(true))?,
-        Boxed::new(alloc, long(1))?,
-    );
-    assert!(rt; gives(alloc, &or, &world, &Value::Bool(true)));
-    let and = Expr::And(AT, Boxed::new(alloc, or)?, Boxed::new(alloc, long(1))?);
-    assert!(rt; errs(alloc, &and, &world, EvalError::TypeError));
+    let yes = or(alloc, truth(true), long(1))?;
+    assert!(rt; gives(alloc, &yes, &world, &Value::Bool(true)));
+    let no = and(alloc, truth(false), long(1))?;
+    assert!(rt; gives(alloc, &no, &world, &Value::Bool(false)));
+    let two = choice(alloc, truth(true), long(2), ip(alloc, "x")?)?;
+    assert!(rt; gives(alloc, &two, &world, &Value::Long(2)));
+    Ok(())
+}
+
+#[test]
+fn what_is_no_truth_value(rt: HostRuntime) -> Result<(), Fail> {
+    let alloc = rt.alloc();
+    let world = world(alloc)?;
+    let either = or(alloc, truth(false), long(1))?;
+    assert!(rt; errs(alloc, &either, &world, EvalError::TypeError));
+    let both = and(alloc, truth(true), long(1))?;
+    assert!(rt; errs(alloc, &both, &world, EvalError::TypeError));
+    let one = choice(alloc, long(1), long(2), long(3))?;
+    assert!(rt; errs(alloc, &one, &world, EvalError::TypeError));
     Ok(())
 }
 
