@@ -1,25 +1,24 @@
 -- Which worlds have the property of some questions.
-use Rattle.std.proofs.Common.{◌≡◌, ℕ, ℤ, pos, negsuc, List, [], ◌∷◌, Bool, true, false, ◌&&◌, ◌||◌, not, is_err, if◌then◌else◌, Some, Ok, Err, codes, refl, sym, ap, ◌∙◌}
+use Rattle.std.proofs.Common.{◌≡◌, ℤ, pos, negsuc, List, [], ◌∷◌, Bool, true, false, ◌&&◌, ◌||◌, not, is_err, if◌then◌else◌, Some, Ok, Err, codes, refl, ap, ◌∙◌}
 use Rattle.sc_ast.specs.declared.expr.Expr.{Expr}
 use Rattle.sc_ast.specs.declared.expr.Expr.TheVariants as expr
 use Rattle.sc_ast.specs.declared.expr.Variable.TheVariants.{Context}
 use Rattle.sc_ast.specs.declared.literal.Literal.TheVariants as literal
 use Rattle.sc_ast.specs.declared.operator.BinaryOperator.TheVariants.{Add, Equal, Less}
 use Rattle.sc_ast.specs.declared.operator.UnaryOperator.TheVariants.{Negate}
-use Rattle.sc_ast.specs.declared.policy.Effect.TheVariants.{Permit, Forbid}
+use Rattle.sc_ast.specs.declared.policy.Effect.TheVariants.{Permit}
 use Rattle.sc_ast.specs.declared.policy.Policy.{Policy}
-use Rattle.sc_ast.specs.Conditions.{condition}
 use Rattle.sc_values.specs.declared.value.Value.TheVariants as value
 use Rattle.sc_values.specs.Records.{field}
-use Rattle.sc_values.proofs.OutLaws.{out_Bool, out_Long, out_Record}
+use Rattle.sc_values.proofs.OutLaws.{out_Bool, out_Long}
 use Rattle.sc_world.specs.declared.world.World.{World}
 use Rattle.sc_eval.specs.declared.error.EvalError.TheVariants.{Overflow}
-use Rattle.sc_eval.specs.Outcomes.{Outcome, ◌>>=◌, bool_in, decide, of_bool}
-use Rattle.sc_eval.specs.Entities.{or_missing, access_in, access}
+use Rattle.sc_eval.specs.Outcomes.{◌>>=◌, bool_in, decide, of_bool}
+use Rattle.sc_eval.specs.Entities.{or_missing}
 use Rattle.sc_eval.specs.Operators.{binary, unary}
 use Rattle.sc_eval.specs.Eval.{eval}
-use Rattle.sc_eval.proofs.EvalLaws.{eval_Or, eval_And, eval_Binary, eval_Unary, eval_Access, eval_Literal, eval_Variable}
-use Rattle.sc_auth.specs.Decisions.{true_in, is_true, allows, errs, satisfied}
+use Rattle.sc_eval.proofs.EvalLaws.{eval_Or, eval_And, eval_Binary, eval_Unary, eval_Literal}
+use Rattle.sc_auth.specs.Decisions.{true_in, is_true, allows, errs}
 use Rattle.sc_auth.proofs.Examples.{at, when, mfa, condition-when, eval-context, satisfied-mfa}
 use Rattle.sc_goal.specs.declared.question.Question.TheVariants.{NeverErrors, AlwaysAllows, AlwaysDenies, Implies, Equivalent, Disjoint}
 use Rattle.sc_goal.specs.Properties.{same, has}
