@@ -1,4 +1,5 @@
-//! Evaluation of expressions in a world.
+//! Evaluation of expressions in a world: `evaluate` gives exactly the value that an expression has
+//! there, or the reason why it has none. The operators stand in a file for each group.
 #![tactic(auto)]
 
 mod addresses;
@@ -13,6 +14,8 @@ mod logic;
 mod operators;
 mod records;
 mod sets;
+#[cfg(test)]
+mod tests;
 mod texts;
 
 pub use error::EvalError;

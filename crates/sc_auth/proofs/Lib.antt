@@ -1,0 +1,3 @@
+pub mod DecisionsLaws
+pub mod PlacesLaws
+pub mod Examples

@@ -1,0 +1,10 @@
+use Rattle.std.proofs.Common.{◌≡◌, take}
+use Rattle.sc_auth.specs.Decisions.{places, is_permitting, is_forbidding, errs}
+use Rattle.sc_auth.proofs.tally.tally_of.Given as goal
+
+abbrev pub invariant-loop-place : goal.invariant-loop-place
+invariant-loop-place l = record {
+  permits : l.tally.permits ≡ places (is_permitting l.world) (take l.place l.policies);
+  forbids : l.tally.forbids ≡ places (is_forbidding l.world) (take l.place l.policies);
+  erring : l.tally.erring ≡ places (errs l.world) (take l.place l.policies);
+}

@@ -1,0 +1,15 @@
+//! Responses to requests.
+use crate::decision::Decision;
+use sc_lists::Seq;
+
+/// What a policy set answers to a request. Policies are named by their places in the set, counted
+/// from 0, in ascending order.
+#[derive(Debug, PartialEq, Eq, Drop)]
+pub struct Response {
+    /// Whether the request is allowed.
+    pub decision: Decision,
+    /// The satisfied forbids where there are any, else the satisfied permits.
+    pub determining: Seq<usize>,
+    /// The policies whose conditions have no value.
+    pub erroring: Seq<usize>,
+}

@@ -1,0 +1,2 @@
+pub mod PropertiesLaws
+mod Examples
