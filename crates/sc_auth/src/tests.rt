@@ -1,7 +1,7 @@
-use crate::{Decision, authorise};
+use crate::{Decision, Response, authorise};
 use sc_ast::{
     ActionConstraint, ActionScope, Condition, ConditionKind, Constraint, Effect, Expr, Literal,
-    Place, Policy, Scope, Variable,
+    Place, Policy, PolicySet, Scope, Variable,
 };
 use sc_lists::{Boxed, Seq, Text};
 use sc_names::{Name, Uid};
@@ -62,57 +62,95 @@ fn context(alloc: Global) -> Result<Rec, AllocError> {
     Ok(fields)
 }
 
-/// Three entities without attributes, ancestors and tags.
+/// Stores an entity without attributes, ancestors and tags.
+fn put(alloc: Global, store: &mut Store, type_name: &str, id: &str) -> Result<(), AllocError> {
+    let entity = EntityData {
+        attrs: Seq::new(alloc),
+        ancestors: Seq::new(alloc),
+        tags: Seq::new(alloc),
+    };
+    store.insert(uid(alloc, type_name, id)?, entity)
+}
+
 fn store(alloc: Global) -> Result<Store, AllocError> {
     let mut store = Store::new(alloc);
-    for (type_name, id) in [("Action", "view"), ("Doc", "0"), ("User", "0")] {
-        let entity = EntityData {
-            attrs: Seq::new(alloc),
-            ancestors: Seq::new(alloc),
-            tags: Seq::new(alloc),
-        };
-        store.insert(uid(alloc, type_name, id)?, entity)?;
-    }
+    put(alloc, &mut store, "Action", "view")?;
+    put(alloc, &mut store, "Doc", "0")?;
+    put(alloc, &mut store, "User", "0")?;
     Ok(store)
 }
 
-/// A user who views a document, with `mfa` in the context.
-fn world(alloc: Global) -> Result<World, AllocError> {
-    let request = Request {
+fn request(alloc: Global) -> Result<Request, AllocError> {
+    Ok(Request {
         principal: uid(alloc, "User", "0")?,
         action: uid(alloc, "Action", "view")?,
         resource: uid(alloc, "Doc", "0")?,
         context: context(alloc)?,
-    };
+    })
+}
+
+/// A user who views a document, with `mfa` in the context.
+fn world(alloc: Global) -> Result<World, AllocError> {
     Ok(World {
-        request,
+        request: request(alloc)?,
         store: store(alloc)?,
     })
+}
+
+fn answer(alloc: Global, policies: &PolicySet) -> Result<Response, AllocError> {
+    let world = world(alloc)?;
+    authorise(alloc, policies, &world)
+}
+
+fn is_answer(
+    response: &Response,
+    decision: Decision,
+    determining: &[usize],
+    erroring: &[usize],
+) -> bool {
+    response.decision == decision
+        && response.determining.as_slice() == determining
+        && response.erroring.as_slice() == erroring
+}
+
+fn push(
+    alloc: Global,
+    policies: &mut PolicySet,
+    effect: Effect,
+    body: Expr,
+) -> Result<(), AllocError> {
+    policies.push(policy(alloc, effect, body)?)
+}
+
+fn permit(alloc: Global) -> Result<PolicySet, AllocError> {
+    let mut policies = Seq::new(alloc);
+    push(alloc, &mut policies, Effect::Permit, mfa(alloc)?)?;
+    Ok(policies)
+}
+
+/// A permit, a permit that errs, and a forbid.
+fn mixed(alloc: Global) -> Result<PolicySet, AllocError> {
+    let mut policies = permit(alloc)?;
+    let number = Expr::Literal(at(43), Literal::Long(1));
+    push(alloc, &mut policies, Effect::Permit, number)?;
+    push(alloc, &mut policies, Effect::Forbid, mfa(alloc)?)?;
+    Ok(policies)
 }
 
 #[test]
 fn one_permit(rt: HostRuntime) -> Result<(), Fail> {
     let alloc = rt.alloc();
-    let policies = [policy(alloc, Effect::Permit, mfa(alloc)?)?];
-    let response = authorise(alloc, &policies, &world(alloc)?)?;
-    assert!(rt; response.decision == Decision::Allow);
-    assert!(rt; response.determining.as_slice() == [0].as_slice());
-    assert!(rt; response.erroring.is_empty());
+    let policies = permit(alloc)?;
+    let response = answer(alloc, &policies)?;
+    assert!(rt; is_answer(&response, Decision::Allow, &[0], &[]));
     Ok(())
 }
 
 #[test]
 fn forbid_and_error(rt: HostRuntime) -> Result<(), Fail> {
     let alloc = rt.alloc();
-    let number = Expr::Literal(at(43), Literal::Long(1));
-    let policies = [
-        policy(alloc, Effect::Permit, mfa(alloc)?)?,
-        policy(alloc, Effect::Permit, number)?,
-        policy(alloc, Effect::Forbid, mfa(alloc)?)?,
-    ];
-    let response = authorise(alloc, &policies, &world(alloc)?)?;
-    assert!(rt; response.decision == Decision::Deny);
-    assert!(rt; response.determining.as_slice() == [2].as_slice());
-    assert!(rt; response.erroring.as_slice() == [1].as_slice());
+    let policies = mixed(alloc)?;
+    let response = answer(alloc, &policies)?;
+    assert!(rt; is_answer(&response, Decision::Deny, &[2], &[1]));
     Ok(())
 }
