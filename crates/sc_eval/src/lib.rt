@@ -1,5 +1,4 @@
-//! Evaluation of expressions in a world: `evaluate` gives exactly the value that an expression has
-//! there, or the reason why it has none. The operators stand in a file for each group.
+//! Evaluation of expressions in a world.
 #![tactic(auto)]
 
 mod addresses;
@@ -14,8 +13,6 @@ mod logic;
 mod operators;
 mod records;
 mod sets;
-#[cfg(test)]
-mod tests;
 mod texts;
 
 pub use error::EvalError;
