@@ -1,2 +1,4 @@
 pub mod Declarations
+pub mod Indices
+pub mod Lawful
 pub mod Plain

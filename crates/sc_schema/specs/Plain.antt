@@ -77,7 +77,7 @@ pub record HasOneEnvironment (s : Declarations) : Type 0 where
 pub record IsBare (s : Declarations) (type_name : List ℕ) : Type 0 where
   pub attrs : attrs_of s type_name ≡ Some (Record [])
   pub tags : tags_of s type_name ≡ None
-  pub ancestors : ancestor_types s type_name ≡ []
+  pub ancestors : ancestor_types s type_name ≡ Some []
 
 -- the action of a plain schema
 abbrev pub action_of : {s : Declarations} → IsPlain s → Action
