@@ -1,11 +1,14 @@
 -- What is stored of an entity, against what a declared action stores.
-use Rattle.std.proofs.Common.{◌≡◌, ◌↔◌, ℕ, ◌<◌, List, length, get_or, Bool, true, Contains, IsTrue, sym, ap, subst, ◌∙◌}
+use Rattle.std.proofs.Common.{◌≡◌, ◌↔◌, ℕ, ◌<◌, List, length, get_or, Bool, true, All, Contains, IsTrue, sym, ap, subst, ◌∙◌}
+use Rattle.std.specs.List.{AllByRecursion}
+use Rattle.std.proofs.lemmas.List.Elements.{All-from_recursion, recursion_from_All}
 use Rattle.sc_names.specs.declared.uid.Uid.{Uid}
 use Rattle.sc_schema.specs.declared.declarations.Action.{Action}
 use Rattle.sc_schema.specs.Declarations.{Declarations, is_action_type}
 use Rattle.sc_world.specs.declared.entity.EntityData.{EntityData}
-use Rattle.sc_world.specs.WellFormed.{Entry, IsAction}
-use Rattle.sc_world.specs.Tests.{IsStoredAs, HasDataOf}
+use Rattle.sc_world.specs.WellFormed.{Entry, IsAction, IsStored}
+use Rattle.sc_world.specs.Tests.{IsStoredAs, HasDataOf, IsActionStored}
+use Rattle.sc_world.specs.Stores.{Entities}
 
 stored_parts : (u : Uid) (e : EntityData) (a : Action) → IsStoredAs u e a ↔ HasDataOf u e a
 unfolding IsStoredAs
@@ -30,3 +33,11 @@ pub action_tested : (s : Declarations) (u : Uid) (e : EntityData) (t b : Bool) �
     → (IsTrue b ↔ ((a : Action) × Contains s.actions a × IsStoredAs u e a)) → IsTrue b ↔ IsAction s (u, e)
 unfolding IsStoredAs
 action_tested s u e t b asked holds test = (λ h told. test.0 h, λ h. test.1 (h (sym asked ∙ holds)))
+
+pub each_action : (es : Entities) (actions : List Action) → All (IsActionStored es) actions → AllByRecursion (λ (a : Action). IsStored es a.uid) actions
+unfolding IsActionStored
+each_action es actions all = recursion_from_All (IsActionStored es) actions all
+
+pub all_actions : (es : Entities) (actions : List Action) → AllByRecursion (λ (a : Action). IsStored es a.uid) actions → All (IsActionStored es) actions
+unfolding IsActionStored
+all_actions es actions each = All-from_recursion (IsActionStored es) actions each

@@ -1,5 +1,6 @@
 pub mod StoreLaws
 pub mod ConformsLaws
 mod ActionLaws
+mod AncestorLaws
 mod NamedLaws
 mod TestLaws

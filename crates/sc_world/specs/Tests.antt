@@ -1,8 +1,11 @@
 -- For private clauses: the parts of a well-formed world as they are tested.
-use Rattle.std.specs.Prelude.{◌≡◌, List, [], Contains, IfSome}
+use Rattle.std.specs.Prelude.{◌≡◌, ℕ, List, [], Contains, IsTrue, IfSome}
 use Rattle.std.specs.List.{AllByRecursion}
 use Rattle.sc_names.specs.declared.uid.Uid.{Uid}
 use Rattle.sc_schema.specs.declared.declarations.Action.{Action}
+use Rattle.sc_schema.specs.declared.ty.Ty.{Ty}
+use Rattle.sc_values.specs.declared.value.Value.{Value}
+use Rattle.sc_world.specs.Conforms.{conforms}
 use Rattle.sc_world.specs.declared.entity.EntityData.{EntityData}
 use Rattle.sc_world.specs.Stores.{Entities, stored}
 use Rattle.sc_world.specs.WellFormed.{Entry, action_data, IsStored}
@@ -26,3 +29,11 @@ HasDataOf u e a = (u ≡ a.uid) × (e.attrs ≡ []) × (e.ancestors ≡ a.ancest
 -- a declared action is stored
 unfoldable pub IsActionStored : Entities → Action → Type 0
 IsActionStored es a = IsStored es a.uid
+
+-- a tag's value is of a type
+abbrev pub IsTagOf : Ty → List ℕ × Value → Type 0
+IsTagOf t tag = IsTrue (conforms t tag.1)
+
+-- a uid is of one of these types
+abbrev pub HasTypeAmong : List (List ℕ) → Uid → Type 0
+HasTypeAmong types u = Contains types u.type_name

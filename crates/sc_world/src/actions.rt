@@ -1,20 +1,31 @@
 //! Stored actions: exactly the declared ones, with their declared ancestors and nothing else.
 ghost use Rattle.std.specs.Prelude.{◌≡◌, ◌↔◌, [], All, Contains, IsTrue};
+ghost use Rattle.std.specs.List.{AllByRecursion};
 ghost use Rattle.sc_names.specs.declared.uid.Uid.{Uid as AnyUid};
 ghost use Rattle.sc_schema.specs.declared.declarations.Action.{Action as AnyAction};
 ghost use Rattle.sc_schema.specs.Declarations.{is_action_type};
 ghost use Rattle.sc_world.specs.Tests.{Holds, IsStoredAs, HasDataOf, IsActionStored};
 ghost use Rattle.sc_world.specs.WellFormed.{IsAction, IsStored};
 
+use crate::attributes::is_empty;
 use crate::entity::EntityData;
 use crate::store::Store;
 use crate::uids::{are_same, is_same, is_stored};
 use sc_names::{Name, Uid};
 use sc_schema::{Action, Schema};
-use sc_values::Rec;
+
+/// Whether the stored entities of actions' types are exactly the declared actions.
+#[tactic(auto, using(crate::proofs::TestLaws::each_from_all, crate::proofs::TestLaws::all_from_each, crate::proofs::ActionLaws::each_action, crate::proofs::ActionLaws::all_actions))]
+pub(crate) fn stores_actions(s: &Schema, store: &Store) -> bool
+    ensures { IsTrue result ↔ (AllByRecursion (IsAction s.now) store.now × AllByRecursion (λ (a : AnyAction). IsStored store.now a.uid) s.now.actions) }
+{
+    let each = are_actions(s, store);
+    let declared = has_actions(s, store);
+    each && declared
+}
 
 /// Whether each stored entity of an action's type is a declared action as it is declared.
-pub(crate) fn are_actions(s: &Schema, store: &Store) -> bool
+fn are_actions(s: &Schema, store: &Store) -> bool
     ensures { IsTrue result ↔ All (Holds (IsAction s.now)) store.now }
 {
     store
@@ -75,14 +86,8 @@ fn has_data_of(action: &Action, uid: &Uid, entity: &EntityData) -> bool
     same && attrs && ancestors && tags
 }
 
-fn is_empty(fields: &Rec) -> bool
-    ensures { IsTrue result ↔ fields.now ≡ [] }
-{
-    fields.is_empty()
-}
-
 /// Whether each declared action is stored.
-pub(crate) fn has_actions(s: &Schema, store: &Store) -> bool
+fn has_actions(s: &Schema, store: &Store) -> bool
     ensures { IsTrue result ↔ All (IsActionStored store.now) s.now.actions }
 {
     s.declared_actions()

@@ -1,5 +1,6 @@
 //! Ancestors of stored entities: those of ancestors are ancestors, and no entity is its own.
 ghost use Rattle.std.specs.Prelude.{◌↔◌, All, IsTrue};
+ghost use Rattle.std.specs.List.{AllByRecursion};
 ghost use Rattle.sc_world.specs.Tests.{Holds, HasAncestorsAmong};
 ghost use Rattle.sc_world.specs.WellFormed.{IsTransitive, IsAcyclic};
 
@@ -9,8 +10,18 @@ use crate::uids::{are_among, is_among};
 use sc_lists::Seq;
 use sc_names::Uid;
 
+/// Whether ancestors of ancestors are ancestors, and no entity is its own ancestor.
+#[tactic(auto, using(crate::proofs::TestLaws::each_from_all, crate::proofs::TestLaws::all_from_each))]
+pub(crate) fn are_ordered(store: &Store) -> bool
+    ensures { IsTrue result ↔ (AllByRecursion (IsTransitive store.now) store.now × AllByRecursion IsAcyclic store.now) }
+{
+    let transitive = are_transitive(store);
+    let acyclic = are_acyclic(store);
+    transitive && acyclic
+}
+
 /// Whether ancestors of ancestors are ancestors.
-pub(crate) fn are_transitive(store: &Store) -> bool
+fn are_transitive(store: &Store) -> bool
     ensures { IsTrue result ↔ All (Holds (IsTransitive store.now)) store.now }
 {
     store
@@ -60,7 +71,7 @@ fn has_ancestors_among(store: &Store, uids: &Seq<Uid>, uid: &Uid) -> bool
 }
 
 /// Whether no entity is its own ancestor.
-pub(crate) fn are_acyclic(store: &Store) -> bool
+fn are_acyclic(store: &Store) -> bool
     ensures { IsTrue result ↔ All (Holds IsAcyclic) store.now }
 {
     store

@@ -3,6 +3,7 @@
 
 mod actions;
 mod ancestors;
+mod attributes;
 mod closed;
 mod conformance;
 mod entity;
@@ -12,9 +13,11 @@ mod store;
 #[cfg(test)]
 mod tests;
 mod uids;
+mod well_formedness;
 mod world;
 
 pub use conformance::conforms;
 pub use entity::EntityData;
 pub use store::Store;
+pub use well_formedness::well_formed;
 pub use world::{Request, World};
