@@ -6,13 +6,12 @@ use Rattle.std.specs.Ordering.{ordering_then}
 use Rattle.std.specs.declared.cmp.Ordering.{Ordering}
 use Rattle.std.specs.declared.cmp.Ordering.TheVariants.{Less, Equal}
 use Rattle.std.proofs.lemmas.Cmp.{nat_list_cmp_total}
-use Rattle.std.proofs.lemmas.Map.Keys.{sorted_head, sorted_tail}
 use Rattle.sc_names.specs.declared.uid.Uid.{Uid}
 use Rattle.sc_names.specs.Uids.{text_cmp, uid_cmp}
 use Rattle.sc_schema.specs.declared.declarations.Action.{Action}
 use Rattle.sc_schema.specs.declared.declarations.Env.{Env}
 use Rattle.sc_schema.specs.Declarations.{Declarations, environment, environments_for, environments, env_cmp}
-use Rattle.sc_schema.specs.Lawful.{AreAscending, AreEntityTypes, IsLawfulAction, IsLawful}
+use Rattle.sc_schema.specs.Lawful.{AreAscending, IsLawfulAction, IsLawful}
 use Rattle.sc_schema.proofs.OrderLaws.{level_itself}
 
 -- each element of one list is below each of another

@@ -1,5 +1,5 @@
 -- Names put in their order, and the types above those of actions.
-use Rattle.std.proofs.Common.{append-nil, Bool, true, false, Option, cond, ◌||◌, None, unwrap_or, ◌≡◌, ◌↔◌, ◌⊎◌, ℕ, ◌+◌, ◌<◌, ◌≤◌, zero, suc, List, [], ◌∷◌, ◌++◌, map, length, take, drop, insert, get_or, Result, Ok, Err, Some, refl, sym, ap, subst, ◌∙◌, inl, inr, arith, Contains}
+use Rattle.std.proofs.Common.{append-nil, Bool, true, false, Option, cond, ◌||◌, None, unwrap_or, ◌≡◌, ◌↔◌, ◌⊎◌, ℕ, ◌<◌, ◌≤◌, zero, suc, List, [], ◌∷◌, ◌++◌, map, length, insert, Ok, Err, Some, refl, sym, ap, subst, ◌∙◌, inl, inr, arith, Contains}
 use Rattle.std.specs.List.{AllByRecursion, AllWithin, slice_get, fold, list_any}
 use Rattle.std.specs.List.Sorted.{IsStrictlySortedBy, IsSearchInRange, IsBinarySearchResult}
 use Rattle.std.specs.BTreeMap.{is_at}

@@ -1,4 +1,4 @@
-use Rattle.std.proofs.Common.{◌≡◌, ◌∙◌, ap, sym, subst, cond, unwrap_or, None, Some, [], ◌∷◌, ◌++◌, take, map, ◌+◌, List, ℕ}
+use Rattle.std.proofs.Common.{◌≡◌, ◌∙◌, ap, sym, subst, cond, unwrap_or, Some, [], ◌∷◌, ◌++◌, take, map, ◌+◌, List, ℕ}
 use Rattle.std.specs.List.{fold}
 use Rattle.std.specs.BTreeMap.{is_at}
 use Rattle.std.specs.Map.{lookup}

@@ -1,4 +1,4 @@
-use Rattle.std.proofs.Common.{◌≡◌, ◌∙◌, sym, subst, ap, Some, None, Contains, List, ℕ}
+use Rattle.std.proofs.Common.{◌≡◌, ◌∙◌, subst, ap, Some, None, Contains, List}
 use Rattle.std.specs.List.{slice_get}
 use Rattle.sc_names.specs.declared.uid.Uid.{Uid}
 use Rattle.sc_names.proofs.UidLaws.{uid_cmp_total}

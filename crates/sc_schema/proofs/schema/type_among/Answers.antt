@@ -1,4 +1,4 @@
-use Rattle.std.proofs.Common.{◌≡◌, ◌∙◌, sym, subst, ap, Some, None, Contains, List, ℕ}
+use Rattle.std.proofs.Common.{◌≡◌, ◌∙◌, subst, ap, Some, None, Contains, List, ℕ}
 use Rattle.std.specs.List.{slice_get}
 use Rattle.std.specs.Str.{bytes_eq}
 use Rattle.std.proofs.lemmas.Cmp.{nat_list_cmp_total}
