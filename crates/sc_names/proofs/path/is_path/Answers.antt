@@ -1,4 +1,4 @@
-use Rattle.std.proofs.Common.{◌≡◌, ◌∙◌, ap, false}
+use Rattle.std.proofs.Common.{◌∙◌, ap}
 use Rattle.sc_names.specs.Paths.{is_path}
 use Rattle.sc_names.proofs.PartsLaws.{is_path_not}
 use Rattle.sc_names.proofs.path.is_path.Goals as goal
