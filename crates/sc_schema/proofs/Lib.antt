@@ -3,3 +3,8 @@ pub mod PlaceLaws
 pub mod IndexLaws
 pub mod EnvironmentLaws
 pub mod EveryTypeLaws
+pub mod LawfulLaws
+pub mod AscentLaws
+pub mod LookupLaws
+pub mod PlainLaws
+pub mod SampleLaws

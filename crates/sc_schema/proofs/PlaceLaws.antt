@@ -16,7 +16,7 @@ use Rattle.std.proofs.lemmas.Map.Keys.{sorted_head, sorted_tail}
 use Rattle.std.proofs.lemmas.Map.Lookups.{CmpEqualImpliesEq}
 use Rattle.sc_schema.proofs.OrderLaws.{not_below, not_above, sorted_from_strict, of_first, of_rest}
 
-get_place : {X : Type 0} (xs : List X) (i : ℕ) (d : X) → i < length xs → slice_get xs i ≡ Some (get_or xs i d)
+pub get_place : {X : Type 0} (xs : List X) (i : ℕ) (d : X) → i < length xs → slice_get xs i ≡ Some (get_or xs i d)
 get_place [] i d h = absurd (omega arith)
 get_place (x ∷ xs) zero d h = refl
 get_place (x ∷ xs) (suc i) d h = get_place xs i d (omega arith)

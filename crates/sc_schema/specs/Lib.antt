@@ -2,3 +2,4 @@ pub mod Declarations
 pub mod Indices
 pub mod Lawful
 pub mod Plain
+pub mod Samples

@@ -44,6 +44,10 @@ plain_action id principal resource attributes =
       context = bool_record attributes;
     }
 
+-- a type of which nothing is declared but the name
+abbrev pub plain_type : List ℕ → EntityType
+plain_type name = record { name = name; ancestors = []; shape = Record []; tags = None }
+
 -- an entity of the type has no ancestors, no attributes and no tags
 pub record IsPlainType (t : EntityType) : Type 0 where
   pub name : IsTypeName t.name

@@ -11,9 +11,9 @@ mod tests;
 mod ty;
 
 pub use declarations::{Action, EntityType, Env};
-pub use law::order_laws;
+pub use law::{lookup_laws, order_laws, plain_laws};
 pub use schema::{
     Schema, action_ancestors, actions, ancestor_types, attrs_of, context_of, entity_types,
-    environments, tags_of,
+    environments, is_action_type, tags_of,
 };
 pub use ty::{Attributes, Presence, Ty};

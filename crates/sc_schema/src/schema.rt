@@ -1,11 +1,11 @@
 //! Schemas, and what they declare.
-ghost use Rattle.std.specs.Prelude.{◌≡◌, IfOk, option_map};
+ghost use Rattle.std.specs.Prelude.{◌≡◌, IfOk, IfSome, option_map};
 ghost use Rattle.std.specs.List.Sorted.{IsStrictlySortedBy};
 ghost use Rattle.std.specs.Option.{option_copied};
 ghost use Rattle.sc_names.specs.Uids.{uid_cmp};
 ghost use Rattle.sc_schema.specs.Declarations.{environments, env_cmp, entity_types, action_uids, attrs_of, tags_of, ancestor_types, action_ancestors, context_of, entity_type, action, is_action_type};
 ghost use Rattle.sc_schema.specs.Indices.{types_above_actions};
-ghost use Rattle.sc_schema.specs.Lawful.{IsLawful, AreAscending};
+ghost use Rattle.sc_schema.specs.Lawful.{IsLawful, IsLawfulType, IsLawfulAction, AreAscending};
 
 use crate::declarations::{Action, EntityType, Env};
 use crate::index::{Index, index_of};
@@ -106,11 +106,12 @@ pub fn actions(s: &Schema) -> &[Uid]
     s.index.action_uids.as_slice()
 }
 
-/// The types that an entity's ancestors may have, ascending, by the entity's type, which may be one
-/// of actions. None exactly where the type isn't declared; a type of actions is declared where it
-/// has an action.
+/// The types that an entity's ancestors may have, ascending, each once, by the entity's type, which
+/// may be one of actions. None exactly where the type isn't declared; a type of actions is declared
+/// where it has an action.
 pub fn ancestor_types<'s>(s: &'s Schema, t: &Name) -> Option<&'s [Name]>
-    ensures { option_map (λ ts. ts.now) result ≡ ancestor_types s.now t.now }
+    ensures value { option_map (λ ts. ts.now) result ≡ ancestor_types s.now t.now }
+    ensures ascending { IfSome result (λ ts. AreAscending ts.now) }
 {
     if let Some(names) = types_above(s, t) {
         return Some(names.as_slice());
@@ -119,6 +120,13 @@ pub fn ancestor_types<'s>(s: &'s Schema, t: &Name) -> Option<&'s [Name]>
         Some(declared) => Some(declared.ancestors.as_slice()),
         None => None,
     }
+}
+
+/// Whether a type is one of actions.
+pub fn is_action_type(s: &Schema, t: &Name) -> bool
+    ensures { result ≡ is_action_type s.now t.now }
+{
+    types_above(s, t).is_some()
 }
 
 /// The type of an entity's attributes, by the entity's type: a record type, and the empty one for
@@ -149,9 +157,10 @@ pub fn tags_of<'s>(s: &'s Schema, t: &Name) -> Option<&'s Ty>
     }
 }
 
-/// The actions that an action is in, ascending. None exactly where the action isn't declared.
+/// The actions that an action is in, ascending, each once. None exactly where the action isn't declared.
 pub fn action_ancestors<'s>(s: &'s Schema, a: &Uid) -> Option<&'s [Uid]>
-    ensures { option_map (λ us. us.now) result ≡ action_ancestors s.now a.now }
+    ensures value { option_map (λ us. us.now) result ≡ action_ancestors s.now a.now }
+    ensures ascending { IfSome result (λ us. IsStrictlySortedBy uid_cmp us.now) }
 {
     match action_among(s, a) {
         Some(declared) => Some(declared.ancestors.as_slice()),
@@ -170,7 +179,8 @@ pub fn context_of<'s>(s: &'s Schema, action: &Uid) -> Option<&'s Ty>
 }
 
 fn type_among<'s>(s: &'s Schema, name: &Name) -> Option<&'s EntityType>
-    ensures { option_copied result ≡ entity_type s.now name.now }
+    ensures value { option_copied result ≡ entity_type s.now name.now }
+    ensures lawful { IfSome result (λ t. IsLawfulType s.now t.now) }
 {
     let Some(at) = place_of_name(s.index.type_names.as_slice(), name) else {
         return None;
@@ -179,7 +189,8 @@ fn type_among<'s>(s: &'s Schema, name: &Name) -> Option<&'s EntityType>
 }
 
 fn action_among<'s>(s: &'s Schema, uid: &Uid) -> Option<&'s Action>
-    ensures { option_copied result ≡ action s.now uid.now }
+    ensures value { option_copied result ≡ action s.now uid.now }
+    ensures lawful { IfSome result (λ a. IsLawfulAction s.now a.now) }
 {
     let Some(at) = place_of_uid(s.index.action_uids.as_slice(), uid) else {
         return None;
@@ -191,10 +202,4 @@ fn types_above<'s>(s: &'s Schema, name: &Name) -> Option<&'s Seq<Name>>
     ensures { option_copied result ≡ types_above_actions s.now.actions name.now }
 {
     s.index.above_actions.get(name)
-}
-
-fn is_action_type(s: &Schema, name: &Name) -> bool
-    ensures { result ≡ is_action_type s.now name.now }
-{
-    types_above(s, name).is_some()
 }

@@ -15,7 +15,8 @@ use Rattle.sc_schema.specs.declared.ty.Ty.TheVariants.{Record}
 use Rattle.sc_schema.specs.declared.declarations.EntityType.{EntityType}
 use Rattle.sc_schema.specs.Declarations.{Declarations, environment, environments, uid_eq, entity_type, is_action_type, context_of}
 use Rattle.sc_schema.specs.Lawful.{names_of_fields, IsTypeLevel, IsTypeOf, IsRecordTypeOf, AreEntityTypes, IsLawfulType, IsLawfulAction, IsLawful}
-use Rattle.sc_schema.proofs.EveryTypeLaws.{every_Bool, every_Record}
+use Rattle.sc_schema.proofs.EveryTypeLaws.{every_Bool}
+use Rattle.sc_schema.proofs.LawfulLaws.{no_names_ascend, no_uids_ascend, one_uid_ascends, record_lawful, no_fields_lawful, one_type}
 use Rattle.sc_schema.specs.Plain.{bool_field, action_type, bool_record, IsTypeName, IsPlainType, IsPlain, HasOneEnvironment, IsBare, action_of, PlainLookups}
 
 bytes_eq-other : (xs ys : List ℕ) → xs ≢ ys → bytes_eq xs ys ≡ false
@@ -98,36 +99,16 @@ bool_fields-proper s (n ∷ names) = (every_Bool (IsTypeLevel s) tt, bool_fields
 bool_record-lawful : (s : Declarations) (names : List (List ℕ)) → IsStrictlySortedBy text_cmp names → AllByRecursion IsUtf8 names → IsRecordTypeOf s (bool_record names)
 bool_record-lawful s names ascend texts =
     let each = bool_fields-names names in
-    record {
-      fields = map bool_field names;
-      record_type = refl;
-      proper = every_Record (IsTypeLevel s) (map bool_field names) (rw each ascend, rw each texts) (bool_fields-proper s names);
-    }
-
-none_ascend : IsStrictlySortedBy text_cmp []
-unfolding IsStrictlySortedBy
-none_ascend = tt
-
-one_name-ascends : (name : List ℕ) → IsStrictlySortedBy text_cmp (name ∷ [])
-unfolding IsStrictlySortedBy
-one_name-ascends name = (tt, tt)
-
-no_uids-ascend : IsStrictlySortedBy uid_cmp []
-unfolding IsStrictlySortedBy
-no_uids-ascend = tt
-
-one_uid-ascends : (u : Uid) → IsStrictlySortedBy uid_cmp (u ∷ [])
-unfolding IsStrictlySortedBy
-one_uid-ascends u = (tt, tt)
+    record_lawful s (map bool_field names) (rw each ascend) (rw each texts) (bool_fields-proper s names)
 
 plain_type-lawful : (s : Declarations) → IsPlain s → (t : EntityType) → IsPlainType t → IsLawfulType s t
 plain_type-lawful s h t p =
     record {
       text = p.name.text;
       no_action = is_action_type-declared s h t.name p.name;
-      above = record { ascending = rw p.ancestors none_ascend; declared = rw p.ancestors tt };
+      above = record { ascending = rw p.ancestors no_names_ascend; declared = rw p.ancestors tt };
       closed = rw p.ancestors tt;
-      shape_type = rw p.shape (bool_record-lawful s [] none_ascend tt);
+      shape_type = rw p.shape (no_fields_lawful s);
       tag_type = rw p.tags tt;
     }
 
@@ -135,15 +116,12 @@ plain_types-lawful : (s : Declarations) → IsPlain s → (types : List EntityTy
 plain_types-lawful s h [] p = tt
 plain_types-lawful s h (t ∷ types) p = (plain_type-lawful s h t p.0, plain_types-lawful s h types p.1)
 
-one_type : (s : Declarations) (name : List ℕ) → IsSome (entity_type s name) → AreEntityTypes s (name ∷ [])
-one_type s name h = record { ascending = one_name-ascends name; declared = (h, tt) }
-
 plain_action-lawful : (s : Declarations) (h : IsPlain s) → IsLawfulAction s (action_of h)
 plain_action-lawful s h =
     record {
       type_text = IsUtf8-from_ascii action_type (search rules);
       id_text = h.id_text;
-      ascending = no_uids-ascend;
+      ascending = no_uids_ascend;
       declared = tt;
       closed = tt;
       acyclic = λ has. omega (arith, has.1);
@@ -156,7 +134,7 @@ pub IsLawful-plain : (s : Declarations) → IsPlain s → IsLawful s
 IsLawful-plain s h =
     record {
       types_ascend = h.types_ascend;
-      actions_ascend = rw h.actions (one_uid-ascends (action_of h).uid);
+      actions_ascend = rw h.actions (one_uid_ascends (action_of h).uid);
       each_type = plain_types-lawful s h s.types h.types;
       each_action = subst (AllByRecursion (IsLawfulAction s)) (sym h.actions) (plain_action-lawful s h, tt);
     }
