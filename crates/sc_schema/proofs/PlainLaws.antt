@@ -8,13 +8,13 @@ use Rattle.std.specs.List.Sorted.{IsStrictlySortedBy}
 use Rattle.std.specs.Str.{IsUtf8}
 use Rattle.std.proofs.lemmas.Str.{IsUtf8-from_ascii}
 use Rattle.sc_names.specs.declared.uid.Uid.{Uid}
-use Rattle.sc_names.specs.Uids.{text_cmp, uid_cmp}
+use Rattle.sc_names.specs.Uids.{text_cmp}
 use Rattle.sc_schema.specs.declared.ty.Presence.{Presence}
 use Rattle.sc_schema.specs.declared.ty.Ty.{Ty}
 use Rattle.sc_schema.specs.declared.ty.Ty.TheVariants.{Record}
 use Rattle.sc_schema.specs.declared.declarations.EntityType.{EntityType}
 use Rattle.sc_schema.specs.Declarations.{Declarations, environment, environments, uid_eq, entity_type, is_action_type, context_of}
-use Rattle.sc_schema.specs.Lawful.{names_of_fields, IsTypeLevel, IsTypeOf, IsRecordTypeOf, AreEntityTypes, IsLawfulType, IsLawfulAction, IsLawful}
+use Rattle.sc_schema.specs.Lawful.{names_of_fields, IsTypeLevel, IsTypeOf, IsRecordTypeOf, IsLawfulType, IsLawfulAction, IsLawful}
 use Rattle.sc_schema.proofs.EveryTypeLaws.{every_Bool}
 use Rattle.sc_schema.proofs.LawfulLaws.{no_names_ascend, no_uids_ascend, one_uid_ascends, record_lawful, no_fields_lawful, one_type}
 use Rattle.sc_schema.specs.Plain.{bool_field, action_type, bool_record, IsTypeName, IsPlainType, IsPlain, HasOneEnvironment, IsBare, action_of, PlainLookups}

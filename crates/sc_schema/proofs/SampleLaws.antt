@@ -7,9 +7,7 @@ use Rattle.sc_schema.specs.declared.ty.Presence.TheVariants.{Required}
 use Rattle.sc_schema.specs.declared.ty.Ty.TheVariants.{Bool as bool_type}
 use Rattle.sc_schema.specs.declared.declarations.EntityType.{EntityType}
 use Rattle.sc_schema.specs.declared.declarations.Action.{Action}
-use Rattle.sc_schema.specs.Declarations.{Declarations}
 use Rattle.sc_schema.specs.Lawful.{IsTypeLevel, AreEntityTypes, IsLawfulType, IsLawfulAction, IsLawful}
-use Rattle.sc_schema.specs.Plain.{plain_type}
 use Rattle.sc_schema.specs.Samples.{team, user_fields, user, view_uid, view, buy, sample}
 use Rattle.sc_schema.proofs.EveryTypeLaws.{every_Bool, every_Long, every_String}
 use Rattle.sc_schema.proofs.LawfulLaws.{ascii_text, ascii_texts, sorted, no_uids_ascend, one_uid_ascends, record_lawful, no_fields_lawful, no_types, one_type, plain_type_lawful}
