@@ -3,4 +3,5 @@ pub mod ConformsLaws
 mod ActionLaws
 mod AncestorLaws
 mod NamedLaws
+mod PartLaws
 mod TestLaws

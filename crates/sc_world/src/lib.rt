@@ -7,6 +7,7 @@ mod attributes;
 mod closed;
 mod conformance;
 mod entity;
+mod entries;
 mod proper;
 mod request;
 mod store;

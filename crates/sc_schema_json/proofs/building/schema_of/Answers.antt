@@ -1,5 +1,5 @@
 use Rattle.sc_schema_json.proofs.FormLaws.{IsPlain-schema_of}
-use Rattle.sc_schema_json.proofs.PlainLaws.{IsLawful-plain}
+use Rattle.sc_schema.proofs.PlainLaws.{IsLawful-plain}
 use Rattle.sc_schema_json.proofs.building.schema_of.Goals as goal
 
 pub new-requires : goal.new-requires
