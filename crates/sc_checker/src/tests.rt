@@ -26,6 +26,7 @@ fn env(alloc: Global) -> Result<Env, AllocError> {
 
 /// The verdict on a log's text, where the goal is `false`: clause 1 is the atom `true`, clause 2
 /// its negation.
+#[tactic(auto, using(sc_schema::proofs::LawfulLaws::nothing_lawful))]
 fn verdict_on(alloc: Global, text: &str) -> Result<Verdict, Fault<Malformed>> {
     let schema = Schema::new(alloc, Seq::new(alloc), Seq::new(alloc))?;
     let env = env(alloc)?;

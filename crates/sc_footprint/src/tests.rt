@@ -1,5 +1,5 @@
 //! The problem of the goal `false`.
-#![tactic(auto, using(crate::proofs::ProblemLaws::false_is_goal))]
+#![tactic(auto, using(crate::proofs::ProblemLaws::false_is_goal, sc_schema::proofs::LawfulLaws::nothing_lawful))]
 
 use crate::{Term, close, defining};
 use sc_clauses::Lit;

@@ -1,5 +1,6 @@
 -- Paths: identifiers joined by `::`.
-use Rattle.std.specs.Prelude.{◌≡◌, ℕ, ◌+◌, ◌<◌, ◌≤◌, List, ◌++◌, length, take, true, codes, ⊤}
+use Rattle.std.specs.Prelude.{◌≡◌, ◌==◌, ◌&&◌, ◌||◌, ℕ, ◌+◌, ◌<◌, ◌≤◌, List, [], ◌∷◌, ◌++◌, length, take, Bool, true, false, codes, if◌then◌else◌, ⊤}
+use Rattle.std.specs.List.{list_all}
 use Rattle.sc_lists.specs.declared.fault.Fault.{Fault}
 use Rattle.sc_lists.specs.declared.fault.Fault.TheVariants.{Told, NoMemory}
 use Rattle.sc_names.specs.declared.path.BadName.{BadName}
@@ -26,3 +27,27 @@ pub record IsBadAt (text : List ℕ) (at : ℕ) : Type 0 where
 abbrev pub Refuses : List ℕ → Fault BadName → Type 0
 Refuses text (Told bad) = IsBadAt text bad.at
 Refuses text NoMemory = ⊤
+
+abbrev pub is_separator : ℕ → ℕ → Bool
+is_separator c d = (c == 58) && (d == 58)
+
+-- c stands before the first of some texts
+abbrev pub with_first : ℕ → List (List ℕ) → List (List ℕ)
+with_first c [] = []
+with_first c (part ∷ parts) = (c ∷ part) ∷ parts
+
+-- what stands between the `::` of a text
+unfoldable pub parts : List ℕ → List (List ℕ)
+parts [] = [] ∷ []
+parts (c ∷ []) = (c ∷ []) ∷ []
+parts (c ∷ d ∷ cs) = if is_separator c d then [] ∷ parts cs else with_first c (parts (d ∷ cs))
+
+-- whether a text is a path: all its parts are identifiers
+abbrev pub is_path : List ℕ → Bool
+is_path text = list_all is_ident (parts text)
+
+-- whether a `::` stands in a text
+unfoldable pub is_qualified : List ℕ → Bool
+is_qualified [] = false
+is_qualified (c ∷ []) = false
+is_qualified (c ∷ d ∷ cs) = is_separator c d || is_qualified (d ∷ cs)

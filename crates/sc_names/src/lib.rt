@@ -17,5 +17,5 @@ pub use ident::{Ident, is_ident, is_reserved, is_word, read_ident};
 pub use lits::{Lits, lits_laws, lits_of, lits_union};
 pub use name::Name;
 pub use order::{compare, order_laws};
-pub use path::{BadName, bad_name_laws, read_name};
+pub use path::{BadName, bad_name_laws, is_path, path_laws, read_name};
 pub use uid::Uid;

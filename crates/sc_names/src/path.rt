@@ -1,9 +1,9 @@
 //! Reading a path: identifiers joined by `::`.
-ghost use Rattle.std.specs.Prelude.{◌≡◌, ℕ, List, ◌<◌, ◌≤◌, length, IfOk, IfErr, OnOk};
+ghost use Rattle.std.specs.Prelude.{◌≡◌, ◌↔◌, ℕ, List, ◌<◌, ◌≤◌, length, IsTrue, IfOk, IfErr, OnOk};
 ghost use Rattle.std.specs.List.{take_while};
 ghost use Rattle.sc_lists.specs.declared.fault.Fault.TheVariants.{NoMemory};
 ghost use Rattle.sc_names.specs.Names.{goes_on_word};
-ghost use Rattle.sc_names.specs.Paths.{IsPath, IsBadAt, Refuses};
+ghost use Rattle.sc_names.specs.Paths.{IsPath, is_path, IsBadAt, Refuses};
 ghost use Rattle.sc_names.specs.Scanning.{start, colons, word_len, Stands, EndsIdent};
 
 use crate::ident::{begins_word, goes_on_word, is_identifier};
@@ -118,6 +118,23 @@ pub fn read_name(alloc: Global, text: &str) -> Result<Name, Fault<BadName>>
         Err(bad) => Err(Fault::Told(bad)),
     }
 }
+
+/// Whether a text is a path.
+#[tactic(auto, using(crate::proofs::PartsLaws::is_path_when))]
+pub fn is_path(text: &str) -> bool
+    ensures { result ≡ is_path text.now }
+{
+    match check_path(text.as_bytes()) {
+        Ok(()) => true,
+        Err(_) => false,
+    }
+}
+
+/// The test of paths decides whether a text is one.
+#[tactic(auto, using(crate::proofs::PartsLaws::is_path_decides))]
+pub fn path_laws()
+    ensures { (t : List ℕ) → IsTrue (is_path t) ↔ IsPath t }
+{}
 
 /// A text has one bad place at most, and none if it is a path.
 #[tactic(auto, using(crate::proofs::BadNameLaws::one_IsBadAt))]

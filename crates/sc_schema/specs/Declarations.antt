@@ -1,9 +1,11 @@
 -- What a schema declares.
-use Rattle.std.specs.Prelude.{◌&&◌, ℕ, List, [], map, Bool, Option, Some, None, option_map, option_and_then, find, if◌then◌else◌}
+use Rattle.std.specs.Prelude.{◌&&◌, ℕ, List, [], ◌∷◌, map, fold, Bool, Option, Some, None, option_map, option_and_then, find, if◌then◌else◌}
 use Rattle.std.specs.List.{flat_map, list_any}
-use Rattle.std.specs.Option.{option_map_or}
+use Rattle.std.specs.Ordering.{match_ordering, ordering_then}
+use Rattle.std.specs.declared.cmp.Ordering.{Ordering}
 use Rattle.std.specs.Str.{bytes_eq}
 use Rattle.sc_names.specs.declared.uid.Uid.{Uid}
+use Rattle.sc_names.specs.Uids.{text_cmp, uid_cmp}
 use Rattle.sc_schema.specs.declared.ty.Ty.{Ty}
 use Rattle.sc_schema.specs.declared.ty.Ty.TheVariants.{Record}
 use Rattle.sc_schema.specs.declared.declarations.EntityType.{EntityType}
@@ -25,6 +27,18 @@ environments_for a = flat_map (λ p. map (environment a p) a.resources) a.princi
 -- the environments, in the order of action, principal type and resource type
 abbrev pub environments : Declarations → List Env
 environments s = flat_map environments_for s.actions
+
+-- environments by action, then principal type, then resource type
+abbrev pub env_cmp : Env → Env → Ordering
+env_cmp a b = ordering_then (uid_cmp a.action b.action) (ordering_then (text_cmp a.principal b.principal) (text_cmp a.resource b.resource))
+
+-- the names of the declared entity types
+abbrev pub entity_types : Declarations → List (List ℕ)
+entity_types s = map (λ (t : EntityType). t.name) s.types
+
+-- the uids of the declared actions
+abbrev pub action_uids : Declarations → List Uid
+action_uids s = map (λ (a : Action). a.uid) s.actions
 
 abbrev pub uid_eq : Uid → Uid → Bool
 uid_eq a b = bytes_eq a.type_name b.type_name && bytes_eq a.id b.id
@@ -49,13 +63,30 @@ attrs_of s name = if is_action_type s name then Some (Record []) else option_map
 abbrev pub tags_of : Declarations → List ℕ → Option Ty
 tags_of s name = if is_action_type s name then None else option_and_then (λ (t : EntityType). t.tags) (entity_type s name)
 
+-- names that ascend, with one more in its place, where it isn't there
+unfoldable pub with_name : List (List ℕ) → List ℕ → List (List ℕ)
+with_name [] name = name ∷ []
+with_name (other ∷ names) name = match_ordering (text_cmp name other) (name ∷ other ∷ names) (other ∷ names) (other ∷ with_name names name)
+
+-- the names in ascending order, each once
+abbrev pub in_order : List (List ℕ) → List (List ℕ)
+in_order = fold with_name []
+
+-- the types of the actions that actions of a type are in
+abbrev pub types_above : List Action → List ℕ → List (List ℕ)
+types_above actions name = flat_map (λ (a : Action). if bytes_eq name a.uid.type_name then map (λ (u : Uid). u.type_name) a.ancestors else []) actions
+
 -- the types that an entity's ancestors may have: those that its type declares, and for an action those of the actions
 -- that actions of its type are in
-abbrev pub ancestor_types : Declarations → List ℕ → List (List ℕ)
+abbrev pub ancestor_types : Declarations → List ℕ → Option (List (List ℕ))
 ancestor_types s name =
     if is_action_type s name
-    then flat_map (λ (a : Action). if bytes_eq name a.uid.type_name then map (λ (u : Uid). u.type_name) a.ancestors else []) s.actions
-    else option_map_or (λ (t : EntityType). t.ancestors) (entity_type s name) []
+    then Some (in_order (types_above s.actions name))
+    else option_map (λ (t : EntityType). t.ancestors) (entity_type s name)
+
+-- the actions that an action is in
+abbrev pub action_ancestors : Declarations → Uid → Option (List Uid)
+action_ancestors s u = option_map (λ (a : Action). a.ancestors) (action s u)
 
 -- the type of the context of requests for an action
 abbrev pub context_of : Declarations → Uid → Option Ty

@@ -1,2 +1,5 @@
 pub mod Declarations
+pub mod Indices
+pub mod Lawful
 pub mod Plain
+pub mod Samples

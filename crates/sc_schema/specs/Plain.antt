@@ -44,6 +44,10 @@ plain_action id principal resource attributes =
       context = bool_record attributes;
     }
 
+-- a type of which nothing is declared but the name
+abbrev pub plain_type : List ℕ → EntityType
+plain_type name = record { name = name; ancestors = []; shape = Record []; tags = None }
+
 -- an entity of the type has no ancestors, no attributes and no tags
 pub record IsPlainType (t : EntityType) : Type 0 where
   pub name : IsTypeName t.name
@@ -77,7 +81,7 @@ pub record HasOneEnvironment (s : Declarations) : Type 0 where
 pub record IsBare (s : Declarations) (type_name : List ℕ) : Type 0 where
   pub attrs : attrs_of s type_name ≡ Some (Record [])
   pub tags : tags_of s type_name ≡ None
-  pub ancestors : ancestor_types s type_name ≡ []
+  pub ancestors : ancestor_types s type_name ≡ Some []
 
 -- the action of a plain schema
 abbrev pub action_of : {s : Declarations} → IsPlain s → Action

@@ -2,11 +2,18 @@
 #![tactic(auto)]
 
 mod declarations;
+mod index;
+mod law;
+mod place;
 mod schema;
 #[cfg(test)]
 mod tests;
 mod ty;
 
 pub use declarations::{Action, EntityType, Env};
-pub use schema::{Schema, context_of, environments};
+pub use law::{lookup_laws, order_laws, plain_laws};
+pub use schema::{
+    Schema, action_ancestors, actions, ancestor_types, attrs_of, context_of, entity_types,
+    environments, is_action_type, tags_of,
+};
 pub use ty::{Attributes, Presence, Ty};

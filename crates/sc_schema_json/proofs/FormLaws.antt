@@ -5,8 +5,8 @@ use Rattle.std.specs.Str.{bytes_eq}
 use Rattle.sc_schema.specs.declared.declarations.EntityType.{EntityType}
 use Rattle.sc_schema.specs.Declarations.{Declarations}
 use Rattle.sc_schema_json.specs.declared.parts.Parts.{Parts}
-use Rattle.sc_schema.specs.Plain.{IsTypeName, IsPlainType, IsPlain}
-use Rattle.sc_schema_json.specs.Form.{members_with, empty_data, bool_data, schema_data, IsForm, Spells, plain_type, schema_of, SpellsSchema, SpellsOne}
+use Rattle.sc_schema.specs.Plain.{IsTypeName, IsPlainType, IsPlain, plain_type}
+use Rattle.sc_schema_json.specs.Form.{members_with, empty_data, bool_data, schema_data, IsForm, Spells, schema_of, SpellsSchema, SpellsOne}
 use Rattle.sc_schema_json.proofs.MembersLaws.{members_with-same}
 
 pub schema_data-same : (p q : Parts) → schema_data p ≡ schema_data q → p ≡ q

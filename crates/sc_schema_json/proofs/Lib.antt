@@ -1,3 +1,2 @@
 pub mod MembersLaws
 pub mod FormLaws
-pub mod PlainLaws

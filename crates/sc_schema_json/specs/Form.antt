@@ -1,16 +1,14 @@
 -- Schema files of one namespace without a name, with plain entity types and one action, and the schemas that they spell.
-use Rattle.std.specs.Prelude.{◌≡◌, ◌≢◌, ◌≤◌, ℕ, List, [], ◌∷◌, map, length, Some, None, IsTrue, codes}
+use Rattle.std.specs.Prelude.{◌≡◌, ◌≢◌, ◌≤◌, ℕ, List, [], ◌∷◌, map, length, Some, IsTrue, codes}
 use Rattle.std.specs.List.{AllByRecursion, list_any}
 use Rattle.std.specs.List.Sorted.{IsStrictlySortedBy}
 use Rattle.std.specs.Str.{IsUtf8, bytes_eq}
 use Rattle.serde_json.specs.Data.{Data, string, array, object, no_items, item, Members, no_members, member}
 use Rattle.serde_json.specs.Read.{read}
 use Rattle.sc_names.specs.Uids.{text_cmp}
-use Rattle.sc_schema.specs.declared.ty.Ty.TheVariants.{Record}
-use Rattle.sc_schema.specs.declared.declarations.EntityType.{EntityType}
 use Rattle.sc_schema.specs.Declarations.{Declarations}
 use Rattle.sc_schema_json.specs.declared.parts.Parts.{Parts}
-use Rattle.sc_schema.specs.Plain.{IsTypeName, plain_action}
+use Rattle.sc_schema.specs.Plain.{IsTypeName, plain_type, plain_action}
 
 -- members with these names, each with the same value
 abbrev pub members_with : Data → List (List ℕ) → Members
@@ -73,10 +71,6 @@ pub record Spells (bytes : List ℕ) (p : Parts) : Type 0 where
   pub text : IsUtf8 bytes
   pub tree : read bytes ≡ Some (schema_data p)
   pub form : IsForm p
-
--- a type of which nothing is declared but the name
-abbrev pub plain_type : List ℕ → EntityType
-plain_type name = record { name = name; ancestors = []; shape = Record []; tags = None }
 
 -- the schema that the names stand for
 abbrev pub schema_of : Parts → Declarations

@@ -1,7 +1,7 @@
 //! The schema that the names of a file stand for.
 ghost use Rattle.std.specs.Prelude.{◌≡◌, [], ◌∷◌, map, IfOk};
-ghost use Rattle.sc_schema.specs.Plain.{bool_field, plain_action};
-ghost use Rattle.sc_schema_json.specs.Form.{plain_type, schema_of};
+ghost use Rattle.sc_schema.specs.Plain.{bool_field, plain_type, plain_action};
+ghost use Rattle.sc_schema_json.specs.Form.{IsForm, schema_of};
 
 use crate::parts::Parts;
 use sc_lists::{Seq, Text};
@@ -11,6 +11,7 @@ use std::alloc::{AllocError, Global};
 
 /// The schema that the names stand for.
 pub(crate) fn schema_of(alloc: Global, parts: Parts) -> Result<Schema, AllocError>
+    requires { IsForm parts }
     ensures { IfOk result (λ s. s ≡ schema_of parts) }
 {
     let Parts {

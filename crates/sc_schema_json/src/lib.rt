@@ -13,7 +13,7 @@ mod tree;
 mod walk;
 
 pub use fault::NotForm;
-pub use law::{plain_laws, spelling_laws};
+pub use law::spelling_laws;
 pub use reading::read_schema;
 
 #[cfg(test)]

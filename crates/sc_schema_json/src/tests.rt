@@ -1,4 +1,4 @@
-use crate::{NotForm, plain_laws, read_schema, spelling_laws};
+use crate::{NotForm, read_schema, spelling_laws};
 use sc_lists::Fault;
 use sc_schema::{Presence, Ty, context_of, environments};
 use std::alloc::{AllocError, Global};
@@ -33,7 +33,6 @@ fn booleans(alloc: Global, count: u32) -> Result<String, AllocError> {
 fn sample_has_one_environment(rt: HostRuntime) -> Result<(), Fail> {
     let alloc = rt.alloc();
     spelling_laws();
-    plain_laws();
     let Ok(schema) = read_schema(alloc, SAMPLE.as_bytes()) else {
         panic!(rt; "the sample isn't read");
     };

@@ -8,9 +8,12 @@ use Rattle.sc_schema.specs.declared.ty.Ty.{out-Ty, out-roll-Ty}
 use Rattle.sc_schema.specs.declared.ty.Ty.TheOpen as ty
 use Rattle.sc_schema.specs.declared.ty.Ty.TheVariants.{Record, rolls-Record}
 use Rattle.sc_schema.specs.declared.declarations.EntityType.{EntityType}
+use Rattle.sc_schema.specs.declared.declarations.Action.{Action}
 use Rattle.sc_schema.specs.declared.declarations.Env.{Env}
 use Rattle.sc_schema.specs.Declarations.{Declarations, environments}
+use Rattle.sc_schema.specs.Lawful.{IsLawful}
 use Rattle.sc_schema.specs.Plain.{bool_field, IsTypeName, IsPlainType, IsPlain, action_type, plain_action}
+use Rattle.sc_schema.proofs.PlainLaws.{IsLawful-plain}
 use Rattle.sc_footprint.specs.declared.term.Term.{out-Term, out-roll-Term}
 use Rattle.sc_footprint.specs.declared.term.Term.TheOpen as t
 use Rattle.sc_footprint.specs.declared.term.Term.TheVariants.{Context, Field, rolls-Context}
@@ -65,6 +68,9 @@ sample_is_plain =
       attributes_ascend = ((refl, tt), (tt, tt));
     }
 
+pub sample_lawful : (types : List EntityType) (actions : List Action) → types ≡ sample.types → actions ≡ sample.actions → IsLawful (record { types = types; actions = actions })
+sample_lawful types actions all_types all_actions = rw (all_types, all_actions) (IsLawful-plain sample sample_is_plain)
+
 pub sample_plain : (s : Declarations) → s ≡ sample → IsPlain s
 sample_plain s e = subst IsPlain (sym e) sample_is_plain
 
@@ -80,4 +86,4 @@ sample_names = ap names_in (ap out-Ty (sym (rolls-Record _)) ∙ out-roll-Ty (ty
 pub sample_goal : (s : Declarations) (e : Env) → s ≡ sample → e ≡ sample_env → IsTrue (is_goal s e (Field Context (codes "a")))
 sample_goal s e p q = rw (p, q, sample_names, out_Field Context (codes "a"), out_Context) refl
 
-pub ruleset sample_laws = (sample_plain, sample_environment, sample_goal, false_is_goal)
+pub ruleset sample_laws = (sample_lawful, sample_plain, sample_environment, sample_goal, false_is_goal)

@@ -1,6 +1,8 @@
 -- What a test tells: of each element of a list, and of texts and uids that are equal.
-use Rattle.std.proofs.Common.{◌≡◌, ◌↔◌, ◌&&◌, ℕ, List, [], ◌∷◌, Bool, true, false, All, IsTrue, refl, sym, ap, ◌∙◌}
-use Rattle.std.specs.List.{AllByRecursion}
+use Rattle.std.proofs.Common.{◌≡◌, ◌↔◌, ◌&&◌, ℕ, zero, suc, List, [], ◌∷◌, length, get_or, Bool, true, false, Option, Some, Result, Ok, Err, is_ok, All, Contains, IsTrue, refl, sym, ap, subst, ◌∙◌}
+use Rattle.std.specs.Cmp.{IsTotalOrder}
+use Rattle.std.specs.List.{AllByRecursion, slice_get}
+use Rattle.std.specs.List.Sorted.{IsStrictlySortedBy, IsSearchInRange, IsBinarySearchResult}
 use Rattle.std.specs.Str.{bytes_eq}
 use Rattle.std.specs.declared.cmp.Ordering.{Ordering}
 use Rattle.std.specs.declared.cmp.Ordering.TheVariants.{Less, Equal, Greater}
@@ -8,12 +10,15 @@ use Rattle.std.specs.Ordering.{is_eq, eq_by_cmp}
 use Rattle.std.specs.Cmp.Lexicographic.{pointwise}
 use Rattle.std.proofs.lemmas.Cmp.{tied_itself}
 use Rattle.std.proofs.lemmas.List.Elements.{All-from_recursion, recursion_from_All}
+use Rattle.std.proofs.lemmas.Map.Lookups.{CmpEqualImpliesEq}
 use Rattle.std.proofs.lemmas.Slice.Eq.{bytes_eq-Decides}
 use Rattle.sc_names.specs.declared.uid.Uid.{Uid}
 use Rattle.sc_names.specs.contracts.uid.UidPartialEq.TheImpl.{ghosts}
 use Rattle.sc_names.specs.contracts.uid.UidOrd.TheImpl.Laws.{matches_eq-law}
 use Rattle.sc_names.specs.Uids.{uid_cmp}
 use Rattle.sc_names.proofs.UidLaws.{uid_cmp_total, uid_cmp_level}
+use Rattle.sc_schema.proofs.OrderLaws.{of_first, of_rest}
+use Rattle.sc_schema.proofs.PlaceLaws.{absent}
 use Rattle.sc_world.specs.Tests.{Holds}
 
 pub each_from_all : {X : Type 0} (P : X → Type 0) (xs : List X) → All (Holds P) xs → AllByRecursion P xs
@@ -71,3 +76,23 @@ one_list b xs ys is = (
   λ h. same_uids xs ys (sym is ∙ h),
   λ same. is ∙ ap (pointwise ghosts.eq xs) (sym same) ∙ themselves xs,
 )
+
+-- the element at a place is one of the list
+pub stands_in : {X : Type 0} (xs ys : List X) (i : ℕ) (x : X) → Some x ≡ slice_get xs i → xs ≡ ys → Contains ys x
+stands_in xs ys i x is same = subst (λ (zs : List _). Contains zs x) same (there xs i is) where
+  there : (zs : List _) (k : ℕ) → Some x ≡ slice_get zs k → Contains zs x
+  there [] k h = absurd cc
+  there (z ∷ zs) zero h = let one : z ≡ x = cc in subst (λ (y : _). Contains (z ∷ zs) y) one (of_first z zs)
+  there (z ∷ zs) (suc k) h = of_rest z zs x (there zs k h)
+
+-- ---- what a binary search tells
+
+-- the place that was found, or that there is none
+searched : {K : Type 0} {R : K → K → Ordering} (o : IsTotalOrder R) → CmpEqualImpliesEq R → (ks : List K) (k : K) (r : Result ℕ ℕ) → IsStrictlySortedBy R ks → IsSearchInRange r (length ks) → IsBinarySearchResult (λ j. R j k) ks r
+    → IsTrue (is_ok r) ↔ Contains ks k
+searched o level ks k (Ok i) sorted within search = (λ h. (i, within, level (get_or ks i k) k (search k)), λ h. refl)
+searched o level ks k (Err i) sorted within search = (λ h. absurd cc, λ has. absurd (absent o ks k i sorted search has))
+
+pub found_among : {K : Type 0} {R : K → K → Ordering} (o : IsTotalOrder R) → CmpEqualImpliesEq R → (ks : List K) (k : K) (r : Result ℕ ℕ) (b : Bool) → b ≡ is_ok r → IsStrictlySortedBy R ks
+    → IsSearchInRange r (length ks) → IsBinarySearchResult (λ j. R j k) ks r → IsTrue b ↔ Contains ks k
+found_among o level ks k r b is sorted within search = subst (λ c. IsTrue c ↔ Contains ks k) (sym is) (searched o level ks k r sorted within search)

@@ -54,7 +54,7 @@ HasTags s x = MatchOption (tags_of s x.0.type_name) (x.1.tags ≡ []) (λ t. All
 
 -- each ancestor is of a type that ancestors of the entity's type may have
 abbrev pub HasAncestorTypes : Declarations → Entry → Type 0
-HasAncestorTypes s x = AllByRecursion (λ (a : Uid). Contains (ancestor_types s x.0.type_name) a.type_name) x.1.ancestors
+HasAncestorTypes s x = AllByRecursion (λ (a : Uid). IsSomeAnd (ancestor_types s x.0.type_name) (λ types. Contains types a.type_name)) x.1.ancestors
 
 -- ancestors of an ancestor are ancestors
 abbrev pub IsTransitive : Entities → Entry → Type 0

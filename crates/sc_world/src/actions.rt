@@ -1,36 +1,17 @@
 //! Stored actions: exactly the declared ones, with their declared ancestors and nothing else.
-ghost use Rattle.std.specs.Prelude.{◌≡◌, ◌↔◌, [], All, Contains, IsTrue};
-ghost use Rattle.sc_names.specs.declared.uid.Uid.{Uid as AnyUid};
-ghost use Rattle.sc_schema.specs.declared.declarations.Action.{Action as AnyAction};
-ghost use Rattle.sc_schema.specs.Declarations.{is_action_type};
-ghost use Rattle.sc_world.specs.Tests.{Holds, IsStoredAs, HasDataOf, IsActionStored};
-ghost use Rattle.sc_world.specs.WellFormed.{IsAction, IsStored};
+ghost use Rattle.std.specs.Prelude.{◌↔◌, All, IsTrue};
+ghost use Rattle.sc_world.specs.Tests.{IsStoredAction, HasActionData, IsActionStored};
+ghost use Rattle.sc_world.specs.WellFormed.{IsAction};
 
+use crate::attributes::is_empty;
 use crate::entity::EntityData;
 use crate::store::Store;
-use crate::uids::{are_same, is_same, is_stored};
-use sc_names::{Name, Uid};
-use sc_schema::{Action, Schema};
-use sc_values::Rec;
+use crate::uids::{are_same, is_stored};
+use sc_names::Uid;
+use sc_schema::{Action, Schema, action_ancestors, is_action_type};
 
-/// Whether each stored entity of an action's type is a declared action as it is declared.
-pub(crate) fn are_actions(s: &Schema, store: &Store) -> bool
-    ensures { IsTrue result ↔ All (Holds (IsAction s.now)) store.now }
-{
-    store
-        .entities()
-        .iter()
-        .all(|(uid, entity)| holds_action(s, uid, entity))
-}
-
-#[tactic(auto, unfolding(crate::specs::Tests::Holds))]
-fn holds_action(s: &Schema, uid: &Uid, entity: &EntityData) -> bool
-    ensures { IsTrue result ↔ Holds (IsAction s.now) (uid.now, entity.now) }
-{
-    is_action(s, uid, entity)
-}
-
-fn is_action(s: &Schema, uid: &Uid, entity: &EntityData) -> bool
+/// Whether an entity of an action's type is a declared action, as it is declared.
+pub(crate) fn is_action(s: &Schema, uid: &Uid, entity: &EntityData) -> bool
     ensures { IsTrue result ↔ IsAction s.now (uid.now, entity.now) }
 {
     if is_action_type(s, &uid.type_name) {
@@ -40,45 +21,24 @@ fn is_action(s: &Schema, uid: &Uid, entity: &EntityData) -> bool
     }
 }
 
-fn is_action_type(s: &Schema, name: &Name) -> bool
-    ensures { result ≡ is_action_type s.now name.now }
-{
-    s.declared_actions()
-        .iter()
-        .any(|action| name.as_str() == action.uid.type_name.as_str())
-}
-
 fn is_declared(s: &Schema, uid: &Uid, entity: &EntityData) -> bool
-    ensures { IsTrue result ↔ (a : AnyAction) × Contains s.now.actions a × IsStoredAs uid.now entity.now a }
+    ensures { IsTrue result ↔ IsStoredAction s.now (uid.now, entity.now) }
 {
-    for action in s.declared_actions() {
-        if is_stored_as(action, uid, entity) {
-            return true;
-        }
+    s.laws();
+    match action_ancestors(s, uid) {
+        Some(ancestors) => has_action_data(ancestors, entity),
+        None => false,
     }
-    false
 }
 
-fn is_stored_as(action: &Action, uid: &Uid, entity: &EntityData) -> bool
-    ensures { IsTrue result ↔ IsStoredAs uid.now entity.now action.now }
+/// Whether nothing but these ancestors is stored of an entity.
+fn has_action_data(ancestors: &[Uid], entity: &EntityData) -> bool
+    ensures { IsTrue result ↔ HasActionData ancestors.now entity.now }
 {
-    has_data_of(action, uid, entity)
-}
-
-fn has_data_of(action: &Action, uid: &Uid, entity: &EntityData) -> bool
-    ensures { IsTrue result ↔ HasDataOf uid.now entity.now action.now }
-{
-    let same = is_same(uid, &action.uid);
     let attrs = is_empty(&entity.attrs);
-    let ancestors = are_same(&entity.ancestors, &action.ancestors);
+    let same = are_same(entity.ancestors.as_slice(), ancestors);
     let tags = is_empty(&entity.tags);
-    same && attrs && ancestors && tags
-}
-
-fn is_empty(fields: &Rec) -> bool
-    ensures { IsTrue result ↔ fields.now ≡ [] }
-{
-    fields.is_empty()
+    attrs && same && tags
 }
 
 /// Whether each declared action is stored.

@@ -1,49 +1,31 @@
-//! Whether each entity that a world or a policy names is stored.
+//! Whether each entity that a request, a stored entity or a value names is stored.
 ghost use Rattle.std.specs.Prelude.{◌↔◌, ℕ, List, All, IsTrue};
 ghost use Rattle.sc_values.specs.declared.value.Value.{Value as AnyValue};
 ghost use Rattle.sc_values.specs.declared.value.Value.TheVariants.{Record};
-ghost use Rattle.sc_world.specs.Tests.{Holds};
-ghost use Rattle.sc_world.specs.WellFormed.{IsStored, NamesStored, EntryNamesStored, IsClosed};
+ghost use Rattle.sc_world.specs.Tests.{RequestNamesStored};
+ghost use Rattle.sc_world.specs.WellFormed.{NamesStored, EntryNamesStored};
 
 use crate::entity::EntityData;
 use crate::store::Store;
 use crate::uids::{are_stored, is_stored};
-use crate::world::World;
-use sc_names::{Lits, Uid};
+use crate::world::Request;
+use sc_names::Uid;
 use sc_values::{Rec, Set, Value};
 
-/// Whether each entity that the request, the stored entities or some literals name is stored.
+/// Whether each entity that a request names is stored.
+pub(crate) fn request_names_stored(store: &Store, r: &Request) -> bool
+    ensures { IsTrue result ↔ RequestNamesStored store.now r.now }
+{
+    let principal = is_stored(store, &r.principal);
+    let action = is_stored(store, &r.action);
+    let resource = is_stored(store, &r.resource);
+    let context = record_names_stored(store, &r.context);
+    principal && action && resource && context
+}
+
+/// Whether each entity that a stored one names is stored.
 #[tactic(auto, using(crate::proofs::TestLaws::each_from_all, crate::proofs::TestLaws::all_from_each))]
-pub(crate) fn is_closed(w: &World, lits: &Lits) -> bool
-    ensures { IsTrue result ↔ IsClosed lits.now w.now }
-{
-    let principal = is_stored(&w.store, &w.request.principal);
-    let action = is_stored(&w.store, &w.request.action);
-    let resource = is_stored(&w.store, &w.request.resource);
-    let context = record_names_stored(&w.store, &w.request.context);
-    let entries = entries_name_stored(&w.store);
-    let written = are_stored(&w.store, lits.as_slice());
-    principal && action && resource && context && entries && written
-}
-
-fn entries_name_stored(store: &Store) -> bool
-    ensures { IsTrue result ↔ All (Holds (EntryNamesStored store.now)) store.now }
-{
-    store
-        .entities()
-        .iter()
-        .all(|(uid, entity)| holds_stored_names(store, uid, entity))
-}
-
-#[tactic(auto, unfolding(crate::specs::Tests::Holds))]
-fn holds_stored_names(store: &Store, uid: &Uid, entity: &EntityData) -> bool
-    ensures { IsTrue result ↔ Holds (EntryNamesStored store.now) (uid.now, entity.now) }
-{
-    entry_names_stored(store, uid, entity)
-}
-
-#[tactic(auto, using(crate::proofs::TestLaws::each_from_all, crate::proofs::TestLaws::all_from_each))]
-fn entry_names_stored(store: &Store, uid: &Uid, entity: &EntityData) -> bool
+pub(crate) fn entry_names_stored(store: &Store, uid: &Uid, entity: &EntityData) -> bool
     ensures { IsTrue result ↔ EntryNamesStored store.now (uid.now, entity.now) }
 {
     let attrs = record_names_stored(store, &entity.attrs);

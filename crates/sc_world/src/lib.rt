@@ -3,18 +3,22 @@
 
 mod actions;
 mod ancestors;
+mod attributes;
 mod closed;
 mod conformance;
 mod entity;
+mod entries;
 mod proper;
 mod request;
 mod store;
 #[cfg(test)]
 mod tests;
 mod uids;
+mod well_formedness;
 mod world;
 
 pub use conformance::conforms;
 pub use entity::EntityData;
 pub use store::Store;
+pub use well_formedness::well_formed;
 pub use world::{Request, World};

@@ -1,53 +1,32 @@
-//! Whether a world is made of values: numbers in range, sets and records in order, each ancestor
-//! once.
+//! Whether what a world holds is made of values: numbers in range, sets and records in order, each
+//! ancestor once.
 ghost use Rattle.std.specs.Prelude.{◌↔◌, All, IsTrue};
-ghost use Rattle.std.specs.List.{AllByRecursion};
 ghost use Rattle.std.specs.List.Sorted.{IsStrictlySortedBy};
 ghost use Rattle.sc_names.specs.Uids.{uid_cmp};
 ghost use Rattle.sc_values.specs.Proper.{IsUidText};
-ghost use Rattle.sc_world.specs.Stores.{IsMap};
-ghost use Rattle.sc_world.specs.Tests.{Holds};
-ghost use Rattle.sc_world.specs.WellFormed.{IsProperEntry, IsProperWorld};
+ghost use Rattle.sc_world.specs.Tests.{Holds, IsProperRequest};
+ghost use Rattle.sc_world.specs.WellFormed.{IsProperEntry};
 
 use crate::entity::EntityData;
-use crate::store::Store;
-use crate::world::World;
+use crate::world::Request;
 use sc_lists::{Seq, members};
 use sc_names::Uid;
 use sc_values::{is_proper_record, is_uid_text};
 
-/// Whether a world is made of values.
+/// Whether a request is made of values.
+pub(crate) fn is_proper_request(r: &Request) -> bool
+    ensures { IsTrue result ↔ IsProperRequest r.now }
+{
+    let principal = is_uid_text(&r.principal);
+    let action = is_uid_text(&r.action);
+    let resource = is_uid_text(&r.resource);
+    let context = is_proper_record(&r.context);
+    principal && action && resource && context
+}
+
+/// Whether what is stored of an entity is made of values.
 #[tactic(auto, using(crate::proofs::TestLaws::each_from_all, crate::proofs::TestLaws::all_from_each))]
-pub(crate) fn is_proper_world(w: &World) -> bool
-    ensures { IsTrue result ↔ IsProperWorld w.now }
-{
-    let principal = is_uid_text(&w.request.principal);
-    let action = is_uid_text(&w.request.action);
-    let resource = is_uid_text(&w.request.resource);
-    let context = is_proper_record(&w.request.context);
-    let entries = has_proper_entries(&w.store);
-    principal && action && resource && context && entries
-}
-
-fn has_proper_entries(store: &Store) -> bool
-    ensures entries { IsTrue result ↔ All (Holds IsProperEntry) store.now }
-    ensures ascending { IsMap store.now }
-{
-    store
-        .entities()
-        .iter()
-        .all(|(uid, entity)| holds_proper(uid, entity))
-}
-
-#[tactic(auto, unfolding(crate::specs::Tests::Holds))]
-fn holds_proper(uid: &Uid, entity: &EntityData) -> bool
-    ensures { IsTrue result ↔ Holds IsProperEntry (uid.now, entity.now) }
-{
-    is_proper_entry(uid, entity)
-}
-
-#[tactic(auto, using(crate::proofs::TestLaws::each_from_all, crate::proofs::TestLaws::all_from_each))]
-fn is_proper_entry(uid: &Uid, entity: &EntityData) -> bool
+pub(crate) fn is_proper_entry(uid: &Uid, entity: &EntityData) -> bool
     ensures { IsTrue result ↔ IsProperEntry (uid.now, entity.now) }
 {
     let named = is_uid_text(uid);

@@ -1,10 +1,11 @@
 //! Uids among others, and in a store.
 ghost use Rattle.std.specs.Prelude.{◌≡◌, ◌↔◌, All, Contains, IsTrue};
+ghost use Rattle.std.specs.List.Sorted.{IsStrictlySortedBy};
+ghost use Rattle.sc_names.specs.Uids.{uid_cmp};
 ghost use Rattle.sc_world.specs.Tests.{Holds};
 ghost use Rattle.sc_world.specs.WellFormed.{IsStored};
 
 use crate::store::Store;
-use sc_lists::Seq;
 use sc_names::{Name, Uid, compare};
 
 /// Whether two uids are one.
@@ -17,7 +18,7 @@ pub(crate) fn is_same(a: &Uid, b: &Uid) -> bool
 
 /// Whether two lists are of the same uids, in the same order.
 #[tactic(auto, using(crate::proofs::TestLaws::one_list))]
-pub(crate) fn are_same(a: &Seq<Uid>, b: &Seq<Uid>) -> bool
+pub(crate) fn are_same(a: &[Uid], b: &[Uid]) -> bool
     ensures { IsTrue result ↔ a.now ≡ b.now }
 {
     a == b
@@ -32,21 +33,24 @@ pub(crate) fn is_named(uid: &Uid, name: &Name) -> bool
 }
 
 /// Whether a uid is among others.
-pub(crate) fn is_among(uids: &Seq<Uid>, uid: &Uid) -> bool
+pub(crate) fn is_among(uids: &[Uid], uid: &Uid) -> bool
+    requires { IsStrictlySortedBy uid_cmp uids.now }
     ensures { IsTrue result ↔ Contains uids.now uid.now }
 {
-    uids.as_slice().iter().any(|other| is_same(other, uid))
+    uids.binary_search(uid).is_ok()
 }
 
 /// Whether each of some uids is among others.
-pub(crate) fn are_among(uids: &Seq<Uid>, some: &Seq<Uid>) -> bool
+pub(crate) fn are_among(uids: &[Uid], some: &[Uid]) -> bool
+    requires { IsStrictlySortedBy uid_cmp uids.now }
     ensures { IsTrue result ↔ All (Holds (Contains uids.now)) some.now }
 {
-    some.as_slice().iter().all(|uid| holds_among(uids, uid))
+    some.iter().all(|uid| holds_among(uids, uid))
 }
 
 #[tactic(auto, unfolding(crate::specs::Tests::Holds))]
-fn holds_among(uids: &Seq<Uid>, uid: &Uid) -> bool
+fn holds_among(uids: &[Uid], uid: &Uid) -> bool
+    requires { IsStrictlySortedBy uid_cmp uids.now }
     ensures { IsTrue result ↔ Holds (Contains uids.now) uid.now }
 {
     is_among(uids, uid)

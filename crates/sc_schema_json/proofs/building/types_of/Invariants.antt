@@ -1,6 +1,6 @@
 use Rattle.std.proofs.Common.{◌≡◌, ◌++◌, map}
 use Rattle.std.specs.Vec.Iter.{into_iter_items}
-use Rattle.sc_schema_json.specs.Form.{plain_type}
+use Rattle.sc_schema.specs.Plain.{plain_type}
 use Rattle.sc_schema_json.proofs.building.types_of.Given as goal
 
 abbrev pub invariant-loop-name : goal.invariant-loop-name

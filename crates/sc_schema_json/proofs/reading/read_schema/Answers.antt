@@ -1,7 +1,7 @@
 use Rattle.std.proofs.Common.{sym, subst}
 use Rattle.sc_schema.specs.Plain.{IsPlain, HasOneEnvironment}
 use Rattle.sc_schema_json.proofs.FormLaws.{IsPlain-schema_of}
-use Rattle.sc_schema_json.proofs.PlainLaws.{HasOneEnvironment-plain}
+use Rattle.sc_schema.proofs.PlainLaws.{HasOneEnvironment-plain}
 use Rattle.sc_schema_json.proofs.reading.read_schema.Goals as goal
 
 pub returns-clause-plain : goal.returns-clause-plain

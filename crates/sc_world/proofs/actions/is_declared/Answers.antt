@@ -1,10 +1,8 @@
-use Rattle.std.proofs.Common.{refl}
-use Rattle.sc_world.specs.Tests.{IsStoredAs}
-use Rattle.sc_world.proofs.ActionLaws.{stands}
+use Rattle.sc_world.proofs.ActionLaws.{declared_tested, undeclared_tested}
 use Rattle.sc_world.proofs.actions.is_declared.Goals as goal
 
-pub returns-then-is_stored_as : goal.returns-then-is_stored_as
-returns-then-is_stored_as c = (
-  λ h. stands (IsStoredAs c.args.uid.now c.args.entity.now) _ _ _ _ c.declared_actions-action-items.ensures c.loop-action-test.true c.action-item.is (c.is_stored_as.ensures.0 c.if-is_stored_as.true),
-  λ h. refl,
-)
+pub returns-in-Some : goal.returns-in-Some
+returns-in-Some c = declared_tested c.args.s.now c.args.uid.now c.args.entity.now _ _ c.laws.ensures.lawful c.in-Some.ensures.value c.has_action_data.ensures
+
+pub returns-in-None : goal.returns-in-None
+returns-in-None c = undeclared_tested c.args.s.now c.args.uid.now c.args.entity.now c.laws.ensures.lawful c.in-None.ensures.value

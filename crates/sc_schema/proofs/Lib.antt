@@ -1,0 +1,10 @@
+pub mod OrderLaws
+pub mod PlaceLaws
+pub mod IndexLaws
+pub mod EnvironmentLaws
+pub mod EveryTypeLaws
+pub mod LawfulLaws
+pub mod AscentLaws
+pub mod LookupLaws
+pub mod PlainLaws
+pub mod SampleLaws

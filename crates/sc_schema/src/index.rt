@@ -1,0 +1,144 @@
+//! What is kept beside the declarations of a schema, so that each answer is a part of it.
+ghost use Rattle.std.specs.Prelude.{◌≡◌, ◌++◌, map, IfOk, OnOk, unwrap_or};
+ghost use Rattle.std.specs.List.{flat_map, fold};
+ghost use Rattle.sc_names.specs.declared.uid.Uid.{Uid as AnyUid};
+ghost use Rattle.sc_schema.specs.declared.declarations.EntityType.{EntityType as AnyType};
+ghost use Rattle.sc_schema.specs.declared.declarations.Action.{Action as AnyAction};
+ghost use Rattle.sc_schema.specs.Declarations.{environment, environments_for, with_name};
+ghost use Rattle.sc_schema.specs.Indices.{IsAbove, IsIndexOf};
+ghost use Rattle.sc_schema.specs.Lawful.{AreAscending};
+
+use crate::declarations::{Action, EntityType, Env};
+use crate::ty::Ty;
+use sc_lists::Seq;
+use sc_names::{Name, Uid};
+use std::alloc::{AllocError, Global};
+use std::collections::BTreeMap;
+
+/// Parts of a schema that follow from its declarations.
+#[derive(Drop)]
+pub(crate) struct Index {
+    /// The environments, in their order.
+    pub environment_list: Seq<Env>,
+    /// The names of the entity types, ascending.
+    pub type_names: Seq<Name>,
+    /// The uids of the actions, ascending.
+    pub action_uids: Seq<Uid>,
+    /// For each type of actions the types of the actions that these are in, ascending.
+    pub above_actions: BTreeMap<Name, Seq<Name>>,
+    /// The type of an action's attributes, of which there are none.
+    pub no_attributes: Ty,
+}
+
+/// What is kept beside these declarations.
+pub(crate) fn index_of(
+    alloc: Global,
+    types: &[EntityType],
+    actions: &[Action],
+) -> Result<Index, AllocError>
+    ensures { IfOk result (λ i. IsIndexOf (record { types = types.now; actions = actions.now }) i) }
+{
+    Ok(Index {
+        environment_list: environments_of(alloc, actions)?,
+        type_names: names_of(alloc, types)?,
+        action_uids: uids_of(alloc, actions)?,
+        above_actions: types_above(alloc, actions)?,
+        no_attributes: Ty::Record(Seq::new(alloc)),
+    })
+}
+
+fn names_of(alloc: Global, types: &[EntityType]) -> Result<Seq<Name>, AllocError>
+    ensures { IfOk result (λ names. names ≡ map (λ (t : AnyType). t.name) types.now) }
+{
+    let mut names = Seq::new(alloc);
+    for declared in types {
+        names.push(declared.name.try_clone(alloc)?)?;
+    }
+    Ok(names)
+}
+
+fn uids_of(alloc: Global, actions: &[Action]) -> Result<Seq<Uid>, AllocError>
+    ensures { IfOk result (λ uids. uids ≡ map (λ (a : AnyAction). a.uid) actions.now) }
+{
+    let mut uids = Seq::new(alloc);
+    for action in actions {
+        uids.push(action.uid.try_clone(alloc)?)?;
+    }
+    Ok(uids)
+}
+
+fn types_above(alloc: Global, actions: &[Action]) -> Result<BTreeMap<Name, Seq<Name>>, AllocError>
+    ensures { IfOk result (λ above. IsAbove actions.now above.entries) }
+{
+    let mut above = BTreeMap::new(alloc);
+    for action in actions {
+        let name = action.uid.type_name.try_clone(alloc)?;
+        let mut names = above.remove(&name).unwrap_or(Seq::new(alloc));
+        put_types(alloc, &mut names, action.ancestors.as_slice())?;
+        above.insert(name, names)?;
+    }
+    Ok(above)
+}
+
+/// Puts the types of uids among names in their order, each once.
+fn put_types(alloc: Global, names: &mut Seq<Name>, uids: &[Uid]) -> Result<(), AllocError>
+    requires { AreAscending names.old }
+    ensures put { OnOk result (names.new ≡ fold with_name names.old (map (λ (u : AnyUid). u.type_name) uids.now)) }
+    ensures ascending { OnOk result (AreAscending names.new) }
+{
+    for uid in uids {
+        put_name(alloc, names, &uid.type_name)?;
+    }
+    Ok(())
+}
+
+fn put_name(alloc: Global, names: &mut Seq<Name>, name: &Name) -> Result<(), AllocError>
+    requires { AreAscending names.old }
+    ensures put { OnOk result (names.new ≡ with_name names.old name.now) }
+    ensures ascending { OnOk result (AreAscending names.new) }
+{
+    match names.as_slice().binary_search(name) {
+        Ok(_) => Ok(()),
+        Err(at) => {
+            names.insert(at, name.try_clone(alloc)?)?;
+            Ok(())
+        }
+    }
+}
+
+fn environments_of(alloc: Global, actions: &[Action]) -> Result<Seq<Env>, AllocError>
+    ensures { IfOk result (λ es. es ≡ flat_map environments_for actions.now) }
+{
+    let mut list = Seq::new(alloc);
+    for action in actions {
+        put_action(alloc, action, &mut list)?;
+    }
+    Ok(list)
+}
+
+fn put_action(alloc: Global, action: &Action, list: &mut Seq<Env>) -> Result<(), AllocError>
+    ensures { OnOk result (list.new ≡ list.old ++ environments_for action.now) }
+{
+    for principal in action.principals.as_slice() {
+        put_principal(alloc, action, principal, list)?;
+    }
+    Ok(())
+}
+
+fn put_principal(
+    alloc: Global,
+    action: &Action,
+    principal: &Name,
+    list: &mut Seq<Env>,
+) -> Result<(), AllocError>
+    ensures { OnOk result (list.new ≡ list.old ++ map (environment action.now principal.now) action.now.resources) }
+{
+    for resource in action.resources.as_slice() {
+        list.push(Env {
+            principal: principal.try_clone(alloc)?,
+            action: action.uid.try_clone(alloc)?,
+            resource: resource.try_clone(alloc)?,
+        })?;
+    }
+    Ok(())
+}
