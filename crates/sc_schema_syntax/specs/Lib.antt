@@ -1,0 +1,6 @@
+pub mod Faults
+pub mod Forms
+pub mod Pointers
+pub mod Syntax
+pub mod TypeWords
+pub mod Written

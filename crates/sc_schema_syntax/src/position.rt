@@ -1,0 +1,10 @@
+//! Where a type stands.
+
+/// Where a type stands, which tells whether it may have the member `required`.
+#[derive(Clone, Copy, Debug, PartialEq, Eq)]
+pub(crate) enum Position {
+    /// As the type of an attribute.
+    Attribute,
+    /// Anywhere else.
+    Elsewhere,
+}
