@@ -1,0 +1,17 @@
+//! What a schema file declares, each name in it looked up and written in full, and common types not
+//! put in yet.
+#![tactic(auto)]
+
+mod action;
+mod common_type;
+mod entity_type;
+mod namespace;
+mod resolved_type;
+mod schema;
+
+pub use action::ResolvedAction;
+pub use common_type::ResolvedCommonType;
+pub use entity_type::ResolvedEntityType;
+pub use namespace::ResolvedNamespace;
+pub use resolved_type::{ResolvedAttributes, ResolvedType};
+pub use schema::ResolvedSchema;
