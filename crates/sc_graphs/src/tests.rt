@@ -1,0 +1,55 @@
+//! Tests of what can be reached.
+#![tactic(auto)]
+
+use crate::reachable;
+use sc_lists::Seq;
+use std::alloc::{AllocError, Global};
+use std::test::Fail;
+
+fn nodes(alloc: Global, numbers: &[usize]) -> Result<Seq<usize>, AllocError> {
+    let mut list = Seq::new(alloc);
+    for number in numbers {
+        list.push(*number)?;
+    }
+    Ok(list)
+}
+
+/// 0 goes to 2 and 1, 1 to 3, 3 back to 1 and to a node past the lists, 2 to none, 4 to itself.
+fn graph(alloc: Global) -> Result<Seq<Seq<usize>>, AllocError> {
+    let mut graph = Seq::new(alloc);
+    graph.push(nodes(alloc, &[2, 1])?)?;
+    graph.push(nodes(alloc, &[3])?)?;
+    graph.push(nodes(alloc, &[])?)?;
+    graph.push(nodes(alloc, &[1, 9])?)?;
+    graph.push(nodes(alloc, &[4])?)?;
+    Ok(graph)
+}
+
+fn reaches(alloc: Global, start: usize, wanted: &[usize]) -> Result<bool, AllocError> {
+    let graph = graph(alloc)?;
+    let found = reachable(alloc, graph.as_slice(), start)?;
+    Ok(found.as_slice() == wanted)
+}
+
+#[test]
+fn a_node_reaches_what_follows_it_and_what_follows_that(rt: HostRuntime) -> Result<(), Fail> {
+    let alloc = rt.alloc();
+    assert!(rt; reaches(alloc, 0, &[1, 2, 3, 9])?);
+    Ok(())
+}
+
+#[test]
+fn a_node_reaches_itself_on_a_cycle_alone(rt: HostRuntime) -> Result<(), Fail> {
+    let alloc = rt.alloc();
+    assert!(rt; reaches(alloc, 1, &[1, 3, 9])?);
+    assert!(rt; reaches(alloc, 4, &[4])?);
+    Ok(())
+}
+
+#[test]
+fn a_node_that_the_graph_does_not_list_reaches_none(rt: HostRuntime) -> Result<(), Fail> {
+    let alloc = rt.alloc();
+    assert!(rt; reaches(alloc, 9, &[])?);
+    assert!(rt; reaches(alloc, 2, &[])?);
+    Ok(())
+}
