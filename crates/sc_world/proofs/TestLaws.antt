@@ -1,7 +1,7 @@
 -- What a test tells: of each element of a list, and of texts and uids that are equal.
-use Rattle.std.proofs.Common.{◌≡◌, ◌↔◌, ◌&&◌, ℕ, zero, suc, List, [], ◌∷◌, length, get_or, Bool, true, false, Option, Some, Result, Ok, Err, is_ok, All, Contains, IsTrue, refl, sym, ap, subst, ◌∙◌}
+use Rattle.std.proofs.Common.{◌≡◌, ◌↔◌, ◌&&◌, ℕ, List, [], ◌∷◌, length, get_or, Bool, true, false, Result, Ok, Err, is_ok, All, Contains, IsTrue, refl, sym, ap, subst, ◌∙◌}
 use Rattle.std.specs.Cmp.{IsTotalOrder}
-use Rattle.std.specs.List.{AllByRecursion, slice_get}
+use Rattle.std.specs.List.{AllByRecursion}
 use Rattle.std.specs.List.Sorted.{IsStrictlySortedBy, IsSearchInRange, IsBinarySearchResult}
 use Rattle.std.specs.Str.{bytes_eq}
 use Rattle.std.specs.declared.cmp.Ordering.{Ordering}
@@ -17,7 +17,6 @@ use Rattle.sc_names.specs.contracts.uid.UidPartialEq.TheImpl.{ghosts}
 use Rattle.sc_names.specs.contracts.uid.UidOrd.TheImpl.Laws.{matches_eq-law}
 use Rattle.sc_names.specs.Uids.{uid_cmp}
 use Rattle.sc_names.proofs.UidLaws.{uid_cmp_total, uid_cmp_level}
-use Rattle.sc_schema.proofs.OrderLaws.{of_first, of_rest}
 use Rattle.sc_schema.proofs.PlaceLaws.{absent}
 use Rattle.sc_world.specs.Tests.{Holds}
 
@@ -76,14 +75,6 @@ one_list b xs ys is = (
   λ h. same_uids xs ys (sym is ∙ h),
   λ same. is ∙ ap (pointwise ghosts.eq xs) (sym same) ∙ themselves xs,
 )
-
--- the element at a place is one of the list
-pub stands_in : {X : Type 0} (xs ys : List X) (i : ℕ) (x : X) → Some x ≡ slice_get xs i → xs ≡ ys → Contains ys x
-stands_in xs ys i x is same = subst (λ (zs : List _). Contains zs x) same (there xs i is) where
-  there : (zs : List _) (k : ℕ) → Some x ≡ slice_get zs k → Contains zs x
-  there [] k h = absurd cc
-  there (z ∷ zs) zero h = let one : z ≡ x = cc in subst (λ (y : _). Contains (z ∷ zs) y) one (of_first z zs)
-  there (z ∷ zs) (suc k) h = of_rest z zs x (there zs k h)
 
 -- ---- what a binary search tells
 
