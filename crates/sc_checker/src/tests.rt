@@ -24,16 +24,29 @@ fn env(alloc: Global) -> Result<Env, AllocError> {
     })
 }
 
-/// The verdict on a log's text, where the goal is `false`: clause 1 is the atom `true`, clause 2
-/// its negation.
-#[tactic(auto, using(sc_schema::proofs::LawfulLaws::nothing_lawful))]
-fn verdict_on(alloc: Global, text: &str) -> Result<Verdict, Fault<Malformed>> {
-    let schema = Schema::new(alloc, Seq::new(alloc), Seq::new(alloc))?;
-    let env = env(alloc)?;
+/// The schema that declares nothing.
+fn nothing(alloc: Global) -> Result<Schema, AllocError> {
+    Schema::new(alloc, Seq::new(alloc), Seq::new(alloc))
+}
+
+/// The verdict on a log, where the goal is `false`: clause 1 is the atom `true`, clause 2 its
+/// negation.
+fn verdict_of(alloc: Global, schema: &Schema, env: &Env, log: &Log) -> Result<Verdict, AllocError> {
     let literals = Lits::new(alloc);
-    let problem = close(Term::False, &schema, &env, &literals);
+    let problem = close(Term::False, schema, env, &literals);
+    check(alloc, &problem, log)
+}
+
+fn verdict_of_log(alloc: Global, log: &Log) -> Result<Verdict, AllocError> {
+    let schema = nothing(alloc)?;
+    let env = env(alloc)?;
+    verdict_of(alloc, &schema, &env, log)
+}
+
+/// The verdict on a log's text.
+fn verdict_on(alloc: Global, text: &str) -> Result<Verdict, Fault<Malformed>> {
     let log = read_log(alloc, text.as_bytes())?;
-    Ok(check(alloc, &problem, &log)?)
+    Ok(verdict_of_log(alloc, &log)?)
 }
 
 fn rejected(step: u64, reason: Reason) -> Verdict {

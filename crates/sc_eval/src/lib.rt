@@ -13,6 +13,8 @@ mod logic;
 mod operators;
 mod records;
 mod sets;
+#[cfg(test)]
+mod tests;
 mod texts;
 
 pub use error::EvalError;

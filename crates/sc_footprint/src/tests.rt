@@ -1,8 +1,8 @@
 //! The problem of the goal `false`.
-#![tactic(auto, using(crate::proofs::ProblemLaws::false_is_goal, sc_schema::proofs::LawfulLaws::nothing_lawful))]
+#![tactic(auto, using(crate::proofs::ProblemLaws::false_is_goal))]
 
-use crate::{Term, close, defining};
-use sc_clauses::Lit;
+use crate::{Problem, Term, close, defining};
+use sc_clauses::{Clause, Lit};
 use sc_lists::{Seq, Text};
 use sc_names::{Lits, Name, Uid};
 use sc_schema::{Env, Schema};
@@ -24,6 +24,11 @@ fn env(alloc: Global) -> Result<Env, AllocError> {
     })
 }
 
+/// The schema that declares nothing.
+fn nothing(alloc: Global) -> Result<Schema, AllocError> {
+    Schema::new(alloc, Seq::new(alloc), Seq::new(alloc))
+}
+
 fn is_unit(clause: &[Lit], atom: u64, negated: bool) -> bool {
     match clause {
         [lit] => lit.atom == atom && lit.negated == negated,
@@ -31,21 +36,40 @@ fn is_unit(clause: &[Lit], atom: u64, negated: bool) -> bool {
     }
 }
 
+/// Whether one atom is listed, and the goal is its negation.
+fn is_negation_of_true(problem: &Problem<'_>) -> bool {
+    let literal = problem.goal_literal();
+    problem.atom_count() == 1 && literal.atom == 1 && literal.negated
+}
+
+/// Whether the two clauses are the atom and its negation.
+fn is_contradiction(clauses: &[Clause]) -> bool {
+    match clauses {
+        [first, last] => is_unit(first.as_slice(), 1, false) && is_unit(last.as_slice(), 1, true),
+        _ => false,
+    }
+}
+
+fn defines_a_contradiction(alloc: Global, problem: &Problem<'_>) -> Result<bool, AllocError> {
+    let clauses = defining(alloc, problem)?;
+    Ok(is_contradiction(clauses.as_slice()))
+}
+
+fn is_false(alloc: Global, problem: &Problem<'_>) -> Result<bool, AllocError> {
+    Ok(is_negation_of_true(problem) && defines_a_contradiction(alloc, problem)?)
+}
+
+fn false_of(alloc: Global, schema: &Schema, env: &Env) -> Result<bool, AllocError> {
+    let literals = Lits::new(alloc);
+    let problem = close(Term::False, schema, env, &literals);
+    is_false(alloc, &problem)
+}
+
 /// Whether the goal `false` is the negation of the one listed atom, and has two clauses.
 fn false_is_the_negation_of_true(alloc: Global) -> Result<bool, AllocError> {
-    let schema = Schema::new(alloc, Seq::new(alloc), Seq::new(alloc))?;
+    let schema = nothing(alloc)?;
     let env = env(alloc)?;
-    let literals = Lits::new(alloc);
-    let problem = close(Term::False, &schema, &env, &literals);
-    let literal = problem.goal_literal();
-    let listed = problem.atom_count() == 1 && literal.atom == 1 && literal.negated;
-    let clauses = defining(alloc, &problem)?;
-    match clauses.as_slice() {
-        [first, last] => {
-            Ok(listed && is_unit(first.as_slice(), 1, false) && is_unit(last.as_slice(), 1, true))
-        }
-        _ => Ok(false),
-    }
+    false_of(alloc, &schema, &env)
 }
 
 #[test]

@@ -2,14 +2,16 @@
 //! `b`.
 #![tactic(auto, using(crate::proofs::SampleLaws::sample_laws))]
 
-ghost use Rattle.std.specs.Prelude.{◌≡◌, ◌∷◌, [], None, IfOk, codes};
+ghost use Rattle.std.specs.Prelude.{◌≡◌, ◌∷◌, [], None, IfOk, IsTrue, Contains, codes};
 ghost use Rattle.sc_footprint.specs.declared.term.Term.TheVariants.{Context, Field};
 ghost use Rattle.sc_schema.specs.declared.ty.Ty.TheVariants.{Record};
-ghost use Rattle.sc_schema.specs.Plain.{action_type, bool_field, bool_record, plain_action};
+ghost use Rattle.sc_footprint.specs.Problems.{is_goal};
+ghost use Rattle.sc_schema.specs.Declarations.{environments};
+ghost use Rattle.sc_schema.specs.Plain.{IsPlain, action_type, bool_field, bool_record, plain_action};
 
 use crate::{Solved, solve};
 use sc_checker::{Verdict, check};
-use sc_footprint::{Term, close};
+use sc_footprint::{Problem, Term, close};
 use sc_lists::{Boxed, Seq, Text};
 use sc_names::{Lits, Name, Uid};
 use sc_schema::{Action, EntityType, Env, Presence, Schema, Ty};
@@ -103,28 +105,65 @@ fn field_a(alloc: Global) -> Result<Term, AllocError>
     ))
 }
 
+/// The verdict on the log that refutes the goal of a problem.
+fn verdict_on(alloc: Global, problem: &Problem<'_>) -> Result<Option<Verdict>, AllocError>
+    requires plain { IsPlain problem.now.schema }
+    requires environment { Contains (environments problem.now.schema) problem.now.env }
+    requires literals { problem.now.literals ≡ [] }
+{
+    match solve(alloc, problem, 1)? {
+        Solved::Refuted(log) => Ok(Some(check(alloc, problem, &log)?)),
+        Solved::Violated(_) => Ok(None),
+    }
+}
+
+/// The world in which the goal of a problem is true.
+fn world_of(alloc: Global, problem: &Problem<'_>) -> Result<Option<World>, AllocError>
+    requires plain { IsPlain problem.now.schema }
+    requires environment { Contains (environments problem.now.schema) problem.now.env }
+    requires literals { problem.now.literals ≡ [] }
+{
+    match solve(alloc, problem, 1)? {
+        Solved::Refuted(_) => Ok(None),
+        Solved::Violated(world) => Ok(Some(world)),
+    }
+}
+
+fn verdict_of_false(
+    alloc: Global,
+    schema: &Schema,
+    env: &Env,
+) -> Result<Option<Verdict>, AllocError>
+    requires plain { IsPlain schema.now }
+    requires environment { Contains (environments schema.now) env.now }
+{
+    let literals = Lits::new(alloc);
+    let problem = close(Term::False, schema, env, &literals);
+    verdict_on(alloc, &problem)
+}
+
+fn world_of_a(alloc: Global, schema: &Schema, env: &Env) -> Result<Option<World>, AllocError>
+    requires plain { IsPlain schema.now }
+    requires environment { Contains (environments schema.now) env.now }
+    requires goal { IsTrue (is_goal schema.now env.now (Field Context (codes "a"))) }
+{
+    let literals = Lits::new(alloc);
+    let problem = close(field_a(alloc)?, schema, env, &literals);
+    world_of(alloc, &problem)
+}
+
 /// The verdict on the log that refutes the goal `false`.
 fn verdict_on_false(alloc: Global) -> Result<Option<Verdict>, AllocError> {
     let schema = schema(alloc)?;
     let env = env(alloc)?;
-    let literals = Lits::new(alloc);
-    let problem = close(Term::False, &schema, &env, &literals);
-    match solve(alloc, &problem, 1)? {
-        Solved::Refuted(log) => Ok(Some(check(alloc, &problem, &log)?)),
-        Solved::Violated(_) => Ok(None),
-    }
+    verdict_of_false(alloc, &schema, &env)
 }
 
 /// The world in which `context.a` is true.
 fn world_with_a(alloc: Global) -> Result<Option<World>, AllocError> {
     let schema = schema(alloc)?;
     let env = env(alloc)?;
-    let literals = Lits::new(alloc);
-    let problem = close(field_a(alloc)?, &schema, &env, &literals);
-    match solve(alloc, &problem, 1)? {
-        Solved::Refuted(_) => Ok(None),
-        Solved::Violated(world) => Ok(Some(world)),
-    }
+    world_of_a(alloc, &schema, &env)
 }
 
 #[test]
