@@ -2,6 +2,7 @@ pub mod Depth
 pub mod Faults
 pub mod Grammar
 pub mod GrammarFiles
+pub mod Keys
 pub mod Lexemes
 pub mod Limits
 pub mod Outcomes

@@ -20,6 +20,7 @@ use sc_ast::Expr;
 use sc_lexer::Kind;
 use sc_lists::{Seq, Text};
 use std::alloc::Global;
+use std::collections::BTreeSet;
 
 /// Reads the items of a list, up to the token that ends it. A comma may stand before that token.
 #[cycle(read)]
@@ -55,7 +56,7 @@ pub(crate) fn items(
 
 /// Reads the fields of a record, up to the brace that ends it. A comma may stand before it.
 #[cycle(read)]
-#[tactic(auto, using(crate::specs::Reads::fields_end, crate::specs::Reads::key_halts, crate::specs::Reads::no_colon, crate::specs::Reads::field_halts, crate::specs::Reads::last_field, crate::specs::Reads::no_field_comma, crate::specs::Reads::more_fields))]
+#[tactic(auto, using(crate::proofs::KeyLaws::no_keys, crate::specs::Reads::fields_end, crate::specs::Reads::key_halts, crate::specs::Reads::no_colon, crate::specs::Reads::field_halts, crate::specs::Reads::last_field, crate::specs::Reads::no_field_comma, crate::specs::Reads::more_fields))]
 pub(crate) fn fields(
     alloc: Global,
     ts: &[Lexeme],
@@ -68,12 +69,13 @@ pub(crate) fn fields(
     ensures ok { IfOk result (λ fs. ReadsFields ts.now cursor.old [] (read fs cursor.new)) }
     ensures err { IfErr result (λ f. Halts (ReadsFields ts.now cursor.old []) f cursor.new) }
 {
+    let mut names = BTreeSet::new(alloc);
     let mut fs = Seq::new(alloc);
     loop {
         if let Some(_) = sign_at(ts, cursor.at, Kind::CloseBrace) {
             return Ok(fs);
         }
-        let name = key(alloc, ts, cursor, fs.as_slice())?;
+        let name = key(alloc, ts, cursor, &mut names)?;
         let Some(_) = sign_at(ts, cursor.at, Kind::Colon) else {
             return Err(Stop::Unexpected);
         };

@@ -8,6 +8,7 @@ mod expr;
 mod fault;
 mod head;
 mod items;
+mod keys;
 mod lexeme;
 mod lexemes;
 mod member;
@@ -22,6 +23,8 @@ mod reading;
 mod scopes;
 mod stop;
 mod tables;
+#[cfg(test)]
+mod tests;
 mod tree;
 
 pub use fault::PolicyFault;

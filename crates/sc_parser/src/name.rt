@@ -1,19 +1,22 @@
 //! Reads identifiers and strings, and what is made of them.
-ghost use Rattle.std.specs.Prelude.{◌≡◌, ◌≤◌, ◌++◌, ◌∷◌, [], length, IfOk, IfErr, OnOk, codes, string_bytes};
+ghost use Rattle.std.specs.Prelude.{◌≡◌, ◌≤◌, ◌++◌, ◌∷◌, [], length, IfOk, IfErr, OnOk, codes, string_bytes, ℕ, List};
 ghost use Rattle.sc_parser.specs.Outcomes.{read, Halts};
 ghost use Rattle.sc_parser.specs.Reads.{ReadsIdent, ReadsString, ReadsMoreNames, ReadsNames, ReadsMorePath, ReadsPath, ReadsMoreEntity, ReadsEntity, ReadsKey};
-ghost use Rattle.sc_parser.specs.Tables.{has_key};
+ghost use Rattle.sc_ast.specs.declared.expr.Expr.{Expr as AnyExpr};
+ghost use Rattle.sc_parser.specs.Keys.{AreKeys};
 
 use crate::cursor::Cursor;
+use crate::keys::put_key;
 use crate::lexeme::Lexeme;
 use crate::peek::{ident_at, sign_at, string_at};
 use crate::stop::Stop;
-use sc_ast::{EntityLiteral, Expr, Place, TypeName};
+use sc_ast::{EntityLiteral, Place, TypeName};
 use sc_lexer::Kind;
 use sc_lists::{Seq, Text};
 use sc_names::{Name, Uid};
 use sc_pattern::Part;
 use std::alloc::{AllocError, Global};
+use std::collections::BTreeSet;
 
 /// Reads an identifier: its place and its text.
 #[tactic(auto, using(crate::specs::Reads::ident, crate::specs::Reads::ident_deep, crate::specs::Reads::no_ident))]
@@ -197,32 +200,26 @@ pub(crate) fn entity(
     more_entity(alloc, ts, cursor, place, first)
 }
 
-/// Whether a record has a field of this name.
-fn has_key(name: &str, fields: &[(Text, Expr)]) -> bool
-    ensures { result ≡ has_key name.now fields.now }
-{
-    fields.iter().any(|field| name == field.0.as_str())
-}
-
-/// Reads a key of a record that has these fields so far.
-#[tactic(auto, using(crate::specs::Reads::ident, crate::specs::Reads::string, crate::specs::Reads::key_ident, crate::specs::Reads::key_ident_deep, crate::specs::Reads::key_ident_twice, crate::specs::Reads::key_string, crate::specs::Reads::key_string_deep, crate::specs::Reads::key_string_twice, crate::specs::Reads::no_key))]
+/// Reads a key of a record that has these keys so far, and puts it among them.
+#[tactic(auto, using(crate::proofs::KeyLaws::ident_read, crate::proofs::KeyLaws::ident_twice, crate::proofs::KeyLaws::string_read, crate::proofs::KeyLaws::string_twice, crate::specs::Reads::key_ident_deep, crate::specs::Reads::key_string_deep, crate::specs::Reads::no_key))]
 pub(crate) fn key(
     alloc: Global,
     ts: &[Lexeme],
     cursor: &mut Cursor,
-    fields: &[(Text, Expr)],
+    names: &mut BTreeSet<Text>,
 ) -> Result<Text, Stop>
     requires { cursor.old.at ≤ length ts.now }
     ensures forward { cursor.old.at ≤ cursor.new.at }
     ensures within { cursor.new.at ≤ length ts.now }
-    ensures ok { IfOk result (λ w. ReadsKey ts.now cursor.old fields.now (read w cursor.new)) }
-    ensures err { IfErr result (λ f. Halts (ReadsKey ts.now cursor.old fields.now) f cursor.new) }
+    ensures keys { IfOk result (λ w. (fs : List (List ℕ × AnyExpr)) (x : AnyExpr) → AreKeys names.old fs → AreKeys names.new (fs ++ (w, x) ∷ [])) }
+    ensures ok { IfOk result (λ w. (fs : List (List ℕ × AnyExpr)) → AreKeys names.old fs → ReadsKey ts.now cursor.old fs (read w cursor.new)) }
+    ensures err { IfErr result (λ f. (fs : List (List ℕ × AnyExpr)) → AreKeys names.old fs → Halts (ReadsKey ts.now cursor.old fs) f cursor.new) }
 {
     if let Some((_, word)) = ident_at(ts, cursor.at) {
         if !cursor.fits() {
             return Err(Stop::TooDeep);
         }
-        if has_key(word, fields) {
+        if !put_key(alloc, names, word)? {
             return Err(Stop::DuplicateKey);
         }
         *cursor = cursor.next();
@@ -234,7 +231,7 @@ pub(crate) fn key(
     if !cursor.fits() {
         return Err(Stop::TooDeep);
     }
-    if has_key(text, fields) {
+    if !put_key(alloc, names, text)? {
         return Err(Stop::DuplicateKey);
     }
     *cursor = cursor.next();
