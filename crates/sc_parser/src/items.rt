@@ -1,26 +1,14 @@
 //! Reads lists of expressions, and the fields of records.
-ghost use Rattle.std.specs.Prelude.{◌≡◌, ◌≤◌, ◌<◌, length, IfOk, IfErr, [], true};
-ghost use Rattle.sc_ast.specs.declared.expr.Expr.{Expr as AnyExpr};
-ghost use Rattle.sc_lexer.specs.declared.token.Kind.TheVariants as kind;
-ghost use Rattle.sc_parser.specs.declared.lexeme.Shape.TheVariants.{Word, Sign as OfSign};
-ghost use Rattle.sc_parser.specs.declared.operator.Level.TheVariants as level_is;
-ghost use Rattle.sc_parser.specs.Depth.{fits};
-ghost use Rattle.sc_parser.specs.Lexemes.{Is, starts};
-ghost use Rattle.sc_parser.specs.Outcomes.{Outcome, read, Halts};
+ghost use Rattle.std.specs.Prelude.{◌≤◌, ◌<◌, length, IfOk, IfErr, []};
+ghost use Rattle.sc_lexemes.specs.Outcomes.{read, Halts};
 ghost use Rattle.sc_parser.specs.Reads.{ReadsItems, ReadsFields};
 
-use crate::cursor::Cursor;
 use crate::expr::inner;
-use crate::lexeme::Lexeme;
-use crate::name::key;
-use crate::operator::Close;
-use crate::peek::{close_at, sign_at};
-use crate::stop::Stop;
 use sc_ast::Expr;
+use sc_lexemes::{Close, Cursor, Lexeme, Stop, close_at, key, no_keys, sign_at};
 use sc_lexer::Kind;
 use sc_lists::{Seq, Text};
 use std::alloc::Global;
-use std::collections::BTreeSet;
 
 /// Reads the items of a list, up to the token that ends it. A comma may stand before that token.
 #[cycle(read)]
@@ -56,7 +44,7 @@ pub(crate) fn items(
 
 /// Reads the fields of a record, up to the brace that ends it. A comma may stand before it.
 #[cycle(read)]
-#[tactic(auto, using(crate::proofs::KeyLaws::no_keys, crate::specs::Reads::fields_end, crate::specs::Reads::key_halts, crate::specs::Reads::no_colon, crate::specs::Reads::field_halts, crate::specs::Reads::last_field, crate::specs::Reads::no_field_comma, crate::specs::Reads::more_fields))]
+#[tactic(auto, using(crate::specs::Reads::fields_end, crate::specs::Reads::key_halts, crate::specs::Reads::no_colon, crate::specs::Reads::field_halts, crate::specs::Reads::last_field, crate::specs::Reads::no_field_comma, crate::specs::Reads::more_fields))]
 pub(crate) fn fields(
     alloc: Global,
     ts: &[Lexeme],
@@ -69,7 +57,7 @@ pub(crate) fn fields(
     ensures ok { IfOk result (λ fs. ReadsFields ts.now cursor.old [] (read fs cursor.new)) }
     ensures err { IfErr result (λ f. Halts (ReadsFields ts.now cursor.old []) f cursor.new) }
 {
-    let mut names = BTreeSet::new(alloc);
+    let mut names = no_keys(alloc);
     let mut fs = Seq::new(alloc);
     loop {
         if let Some(_) = sign_at(ts, cursor.at, Kind::CloseBrace) {

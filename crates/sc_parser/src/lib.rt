@@ -1,28 +1,18 @@
-//! Reads policy files.
+//! Reads policy files: expressions, scopes, policies and files of them.
 #![tactic(auto)]
 
 mod chain;
 mod constraint;
-mod cursor;
 mod expr;
 mod fault;
 mod head;
 mod items;
-mod keys;
-mod lexeme;
-mod lexemes;
 mod member;
-mod name;
-mod number;
-mod operator;
-mod peek;
 mod policy;
 mod prefix;
 mod primary;
 mod reading;
 mod scopes;
-mod stop;
-mod tables;
 #[cfg(test)]
 mod tests;
 mod tree;
