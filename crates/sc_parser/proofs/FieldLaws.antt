@@ -3,13 +3,14 @@ use Rattle.std.proofs.Common.{◌≡◌, ℕ, List, [], ◌∷◌, ◌++◌}
 use Rattle.sc_ast.specs.declared.place.Place.{Place}
 use Rattle.sc_ast.specs.declared.expr.Expr.{Expr}
 use Rattle.sc_lexer.specs.declared.token.Kind.TheVariants as kind
-use Rattle.sc_parser.specs.declared.cursor.Cursor.{Cursor}
-use Rattle.sc_parser.specs.declared.lexeme.Lexeme.{Lexeme}
-use Rattle.sc_parser.specs.declared.lexeme.Shape.TheVariants.{Sign}
-use Rattle.sc_parser.specs.Depth.{next}
-use Rattle.sc_parser.specs.Lexemes.{Is, Lacks}
-use Rattle.sc_parser.specs.Outcomes.{read}
-use Rattle.sc_parser.specs.Reads.{ReadsKey, ReadsInner, ReadsFields, last_field}
+use Rattle.sc_lexemes.specs.declared.cursor.Cursor.{Cursor}
+use Rattle.sc_lexemes.specs.declared.lexeme.Lexeme.{Lexeme}
+use Rattle.sc_lexemes.specs.declared.lexeme.Shape.TheVariants.{Sign}
+use Rattle.sc_lexemes.specs.Depth.{next}
+use Rattle.sc_lexemes.specs.Lexemes.{Is, Lacks}
+use Rattle.sc_lexemes.specs.Outcomes.{read}
+use Rattle.sc_lexemes.specs.ReadsWords.{ReadsKey}
+use Rattle.sc_parser.specs.Reads.{ReadsInner, ReadsFields, last_field}
 
 pub field_read : {ts : List Lexeme} {s t u v : Cursor} {p q : Place} {fs es gs : List (List ℕ × Expr)} {w : List ℕ} {x : Expr} → Lacks ts s.at (Sign kind.CloseBrace) → es ≡ fs → ReadsKey ts s es (read w t) → Is ts t.at p (Sign kind.Colon) → u ≡ next t → ReadsInner ts u (read x v) → Is ts v.at q (Sign kind.CloseBrace) → gs ≡ fs ++ (w, x) ∷ [] → ReadsFields ts s fs (read gs v)
 field_read {ts = ts} {s = s} {t = t} {v = v} {fs = fs} {w = w} {x = x} l same k c next_is i e is =
