@@ -1,4 +1,4 @@
--- The keys of a record so far, as a set of names. No public promise speaks of it.
+-- The keys of a record so far, as a set of names. No promise about files speaks of it.
 use Rattle.std.specs.Prelude.{◌≡◌, ℕ, List}
 use Rattle.std.specs.BTreeSet.{BTreeSet, contains}
 use Rattle.std.specs.Cmp.Lexicographic.{slice_cmp}

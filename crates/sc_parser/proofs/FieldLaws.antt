@@ -12,8 +12,7 @@ use Rattle.sc_lexemes.specs.Outcomes.{read}
 use Rattle.sc_lexemes.specs.ReadsWords.{ReadsKey}
 use Rattle.sc_parser.specs.Reads.{ReadsInner, ReadsFields, last_field}
 
-pub field_read : {ts : List Lexeme} {s t u v : Cursor} {p q : Place} {fs es gs : List (List ℕ × Expr)} {w : List ℕ} {x : Expr} → Lacks ts s.at (Sign kind.CloseBrace) → es ≡ fs → ReadsKey ts s es (read w t) → Is ts t.at p (Sign kind.Colon) → u ≡ next t → ReadsInner ts u (read x v) → Is ts v.at q (Sign kind.CloseBrace) → gs ≡ fs ++ (w, x) ∷ [] → ReadsFields ts s fs (read gs v)
-field_read {ts = ts} {s = s} {t = t} {v = v} {fs = fs} {w = w} {x = x} l same k c next_is i e is =
-    let k' : ReadsKey ts s fs (read w t) = rw same at k in
+pub field_read : {ts : List Lexeme} {s t u v : Cursor} {p q : Place} {fs gs : List (List ℕ × Expr)} {w : List ℕ} {x : Expr} → Lacks ts s.at (Sign kind.CloseBrace) → ReadsKey ts s fs (read w t) → Is ts t.at p (Sign kind.Colon) → u ≡ next t → ReadsInner ts u (read x v) → Is ts v.at q (Sign kind.CloseBrace) → gs ≡ fs ++ (w, x) ∷ [] → ReadsFields ts s fs (read gs v)
+field_read {ts = ts} {t = t} {v = v} {x = x} l k c next_is i e is =
     let i' : ReadsInner ts (next t) (read x v) = rw next_is at i in
-    rw is (last_field l k' c i' e)
+    rw is (last_field l k c i' e)

@@ -5,7 +5,7 @@ use crate::PolicyFault::{
 use crate::{PolicyFault, read_policies, reading_laws};
 use sc_ast::{
     ActionConstraint, BinaryOperator, ConditionKind, Constraint, Effect, Expr, Literal, Place,
-    PolicySet, TypeName, UnaryOperator, Variable,
+    Policy, PolicySet, TypeName, UnaryOperator, Variable,
 };
 use sc_lists::{Boxed, Fault, Seq, Text};
 use sc_names::Name;
@@ -200,12 +200,6 @@ fn number_of_policies(rt: HostRuntime) {
     );
 }
 
-/// The policies of the sample with this body.
-fn policies_of_body(alloc: Global, body: &str) -> Result<PolicySet, Fault<PolicyFault>> {
-    let file = SAMPLE.replace(alloc, "BODY", body)?;
-    read_policies(alloc, file.as_bytes())
-}
-
 /// Whether the first clause of the first policy has this body.
 fn has_body(policies: &PolicySet, body: &Expr) -> bool {
     let Some(policy) = policies.get(0) else {
@@ -215,6 +209,15 @@ fn has_body(policies: &PolicySet, body: &Expr) -> bool {
         return false;
     };
     clause.body == *body
+}
+
+/// Whether the sample with this body is read as this expression.
+fn is_read_as(alloc: Global, body: &str, tree: &Expr) -> Result<bool, Fail> {
+    let file = SAMPLE.replace(alloc, "BODY", body)?;
+    match read_policies(alloc, file.as_bytes()) {
+        Ok(policies) => Ok(has_body(&policies, tree)),
+        Err(_) => Ok(false),
+    }
 }
 
 fn truth(offset: u64) -> Expr {
@@ -314,37 +317,54 @@ fn set(alloc: Global) -> Result<Expr, AllocError> {
 }
 
 #[test]
-fn trees(rt: HostRuntime) -> Result<(), Fail> {
+fn operators(rt: HostRuntime) -> Result<(), Fail> {
     let alloc = rt.alloc();
-    for (body, tree) in [
-        ("true || true && true", truths(alloc)?),
-        ("true != true || true", unequal(alloc)?),
-        ("principal has a.b", has(alloc)?),
-        ("principal like \"a\\*b*\"", like(alloc)?),
-        ("principal is A::T in principal", is_in(alloc)?),
-        ("-9223372036854775808 - - 1", difference(alloc)?),
-        ("[principal.a.isEmpty()]", set(alloc)?),
-    ] {
-        assert!(rt; has_body(&policies_of_body(alloc, body)?, &tree), "{body}");
-    }
+    assert!(rt; is_read_as(alloc, "true || true && true", &truths(alloc)?)?);
+    assert!(rt; is_read_as(alloc, "true != true || true", &unequal(alloc)?)?);
+    assert!(rt; is_read_as(alloc, "-9223372036854775808 - - 1", &difference(alloc)?)?);
+    assert!(rt; is_read_as(alloc, "[principal.a.isEmpty()]", &set(alloc)?)?);
     Ok(())
 }
 
 #[test]
+fn words(rt: HostRuntime) -> Result<(), Fail> {
+    let alloc = rt.alloc();
+    assert!(rt; is_read_as(alloc, "principal has a.b", &has(alloc)?)?);
+    assert!(rt; is_read_as(alloc, "principal like \"a\\*b*\"", &like(alloc)?)?);
+    assert!(rt; is_read_as(alloc, "principal is A::T in principal", &is_in(alloc)?)?);
+    Ok(())
+}
+
+/// The policy of a file of one.
+fn only_policy(alloc: Global, file: &str) -> Result<Policy, Fail> {
+    let mut policies = read_policies(alloc, file.as_bytes())?.into_vec();
+    Ok(policies.pop().ok_or("a policy")?)
+}
+
+/// Whether the policy forbids, and where it and its principal stand.
+fn is_forbid_at(policy: &Policy, place: Place, principal: Place) -> bool {
+    policy.effect == Effect::Forbid && policy.place == place && policy.principal.place == principal
+}
+
+/// Whether the policy has one clause, `unless` at this place.
+fn is_unless_at(policy: &Policy, place: Place) -> bool {
+    let Some(clause) = policy.conditions.get(0) else {
+        return false;
+    };
+    policy.conditions.len() == 1 && clause.kind == ConditionKind::Unless && clause.place == place
+}
+
+#[test]
 fn parts_of_a_policy(rt: HostRuntime) -> Result<(), Fail> {
+    let alloc = rt.alloc();
     let file = "@a forbid(principal is A::T, action in [], resource) unless { true };";
-    let policies = read_policies(rt.alloc(), file.as_bytes())?;
-    let policy = policies.get(0).ok_or("a policy")?;
-    assert_eq!(rt; policy.place, at(3));
-    assert_eq!(rt; policy.effect, Effect::Forbid);
-    assert_eq!(rt; policy.principal.place, at(10));
-    let named = Constraint::Is(at(20), type_name(rt.alloc(), 23)?);
+    let policy = only_policy(alloc, file)?;
+    assert!(rt; is_forbid_at(&policy, at(3), at(10)));
+    assert!(rt; is_unless_at(&policy, at(53)));
+    let named = Constraint::Is(at(20), type_name(alloc, 23)?);
     assert!(rt; policy.principal.constraint == named);
-    let none = ActionConstraint::InAny(at(36), at(39), Seq::new(rt.alloc()));
+    let none = ActionConstraint::InAny(at(36), at(39), Seq::new(alloc));
     assert!(rt; policy.action.constraint == none);
     assert!(rt; policy.resource.constraint == Constraint::Any);
-    let clause = policy.conditions.get(0).ok_or("a clause")?;
-    assert_eq!(rt; clause.kind, ConditionKind::Unless);
-    assert_eq!(rt; clause.place, at(53));
     Ok(())
 }

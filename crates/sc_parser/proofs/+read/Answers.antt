@@ -6,7 +6,7 @@ use Rattle.sc_parser.proofs.StopLaws.{handed_on}
 use Rattle.sc_parser.proofs.+read.Goals as goal
 
 pub items::fields-returns-in-Some-sign_at-2-clause-ok : goal.items::fields-returns-in-Some-sign_at-2-clause-ok
-items::fields-returns-in-Some-sign_at-2-clause-ok t c = c.loop-fs.invariant.rest _ (field_read c.in_default.ensures.lacks c.as_slice.ensures c.in_ok-name.ensures.ok c.in-Some-sign_at.ensures.found c.next.ensures c.in_ok-value.ensures.ok c.in-Some-sign_at-2.ensures.found c.in_ok-push.ensures.ok)
+items::fields-returns-in-Some-sign_at-2-clause-ok t c = c.loop-fs.invariant.rest _ (field_read c.in_default.ensures.lacks (c.in_ok-name.ensures.ok _ c.loop-fs.invariant.keys) c.in-Some-sign_at.ensures.found c.next.ensures c.in_ok-value.ensures.ok c.in-Some-sign_at-2.ensures.found c.in_ok-push.ensures.ok)
 
 pub prefix::prefixes-returns-in_err-x-clause-err : goal.prefix::prefixes-returns-in_err-x-clause-err
 prefix::prefixes-returns-in_err-x-clause-err t c = handed_on _ _ _ c.from_residual.ensures.1 (λ n. prefix_refused (omega arith) c.in-Some.ensures.found (sym c.if-not-fits.ensures) c.past.ensures c.in_default-least_behind.ensures.lacks (c.in_err-x.ensures.err n))
