@@ -204,7 +204,7 @@ fn function(
 
 /// Reads what begins with an opening bracket of any kind.
 #[cycle(read)]
-#[tactic(auto, using(crate::specs::Reads::parenthesis, crate::specs::Reads::set_halts, crate::specs::Reads::set, crate::specs::Reads::record_halts, crate::specs::Reads::fields), unfolding(crate::specs::Lexemes::starts))]
+#[tactic(auto, using(crate::specs::Reads::parenthesis, crate::specs::Reads::set_halts, crate::specs::Reads::set, crate::specs::Reads::record_halts, crate::specs::Reads::fields), unfolding(sc_lexemes::specs::Lexemes::starts))]
 fn opened(
     alloc: Global,
     ts: &[Lexeme],
