@@ -2,14 +2,14 @@
 use Rattle.std.proofs.Common.{◌≡◌, ℕ, ◌+◌, List, subst, arith}
 use Rattle.sc_ast.specs.declared.place.Place.{Place}
 use Rattle.sc_lexer.specs.declared.token.Kind.TheVariants as kind
-use Rattle.sc_parser.specs.declared.cursor.Cursor.{Cursor}
-use Rattle.sc_parser.specs.declared.lexeme.Lexeme.{Lexeme}
-use Rattle.sc_parser.specs.declared.lexeme.Shape.{Shape}
-use Rattle.sc_parser.specs.declared.lexeme.Shape.TheVariants.{Word, String, Sign}
-use Rattle.sc_parser.specs.declared.stop.Stop.TheVariants.{Unexpected}
-use Rattle.sc_parser.specs.Depth.{next}
+use Rattle.sc_lexemes.specs.declared.cursor.Cursor.{Cursor}
+use Rattle.sc_lexemes.specs.declared.lexeme.Lexeme.{Lexeme}
+use Rattle.sc_lexemes.specs.declared.lexeme.Shape.{Shape}
+use Rattle.sc_lexemes.specs.declared.lexeme.Shape.TheVariants.{Word, String, Sign}
+use Rattle.sc_lexemes.specs.declared.stop.Stop.TheVariants.{Unexpected}
+use Rattle.sc_lexemes.specs.Depth.{next}
 use Rattle.sc_pattern.specs.declared.part.Part.{Part}
-use Rattle.sc_parser.specs.Lexemes.{Is, Lacks, LacksString}
+use Rattle.sc_lexemes.specs.Lexemes.{Is, Lacks, LacksString}
 use Rattle.sc_parser.specs.ReadsFiles.{SkipsAnnotation, HaltsAnnotation, annotation, no_annotation_string, annotation_unclosed}
 
 -- how far the tokens of an annotation are from its first

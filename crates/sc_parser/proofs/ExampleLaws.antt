@@ -17,28 +17,28 @@ use lib.Utf8.{encode}
 use Rattle.sc_lexer.specs.Escapes.{escape_of}
 use Rattle.sc_lexer.specs.Pieces.{pieces_after, pieces_of, string_of}
 use Rattle.sc_pattern.specs.declared.part.Part.TheVariants.{Char, Star}
-use Rattle.sc_parser.specs.declared.cursor.Cursor.{Cursor}
-use Rattle.sc_parser.specs.declared.lexeme.Lexeme.{Lexeme}
-use Rattle.sc_parser.specs.declared.lexeme.Shape.{Shape}
-use Rattle.sc_parser.specs.declared.lexeme.Shape.TheVariants as shape
+use Rattle.sc_lexemes.specs.declared.cursor.Cursor.{Cursor}
+use Rattle.sc_lexemes.specs.declared.lexeme.Lexeme.{Lexeme}
+use Rattle.sc_lexemes.specs.declared.lexeme.Shape.{Shape}
+use Rattle.sc_lexemes.specs.declared.lexeme.Shape.TheVariants as shape
 use Rattle.sc_parser.specs.declared.scopes.Scopes.{Scopes}
-use Rattle.sc_parser.specs.declared.stop.Stop.{Stop}
-use Rattle.sc_parser.specs.declared.stop.Stop.TheVariants as stop
-use Rattle.sc_parser.specs.Depth.{fits, past, inside, back, deeper, outside}
+use Rattle.sc_lexemes.specs.declared.stop.Stop.{Stop}
+use Rattle.sc_lexemes.specs.declared.stop.Stop.TheVariants as stop
+use Rattle.sc_lexemes.specs.Depth.{fits, past, inside, back, deeper, outside}
 use Rattle.sc_parser.specs.Faults.{Passes, IsUnexpected, IsUnexpectedEnd}
 use Rattle.sc_parser.specs.Grammar.{Expression, Unary}
 use Rattle.sc_parser.specs.Grammar as grammar
 use Rattle.sc_parser.specs.GrammarFiles.{File, WholeScope, Clauses}
 use Rattle.sc_parser.specs.GrammarFiles as g
-use Rattle.sc_parser.specs.Lexemes.{Is, Lacks, LacksPrefix, IsPolicyStart, annotation_starts, effect_starts}
+use Rattle.sc_lexemes.specs.Lexemes.{Is, Lacks, LacksPrefix, IsPolicyStart, annotation_starts, effect_starts}
 use Rattle.sc_parser.specs.Limits.{Limits, all_limits}
-use Rattle.sc_parser.specs.Outcomes.{read, halt}
+use Rattle.sc_lexemes.specs.Outcomes.{read, halt}
 use Rattle.sc_parser.specs.Reads.{ReadsInner, ReadsPrimary}
 use Rattle.sc_parser.specs.Reads as reads
 use Rattle.sc_parser.specs.ReadsFiles.{ReadsScopes, ReadsPolicies}
 use Rattle.sc_parser.specs.ReadsFiles as r
-use Rattle.sc_parser.specs.Spelling.{shape_of, lexeme_of}
-use Rattle.sc_parser.specs.Tables.{least_long, prefix_of, variable_of}
+use Rattle.sc_lexemes.specs.Shapes.{shape_of, lexeme_of}
+use Rattle.sc_lexemes.specs.Tables.{least_long, prefix_of, variable_of}
 use Rattle.sc_parser.proofs.FaultLaws.{unexpected, ended, passes}
 use Rattle.sc_parser.proofs.TestLaws.{one_shape, other, other_word, minus_prefix}
 

@@ -3,14 +3,14 @@ use Rattle.std.proofs.Common.{◌≡◌, ℕ, ◌+◌, ◌<◌, ◌≤◌, ◌==
 use Rattle.std.proofs.lemmas.Bool.{cases_lt}
 use Rattle.std.proofs.lemmas.Bool.Decides.{nat_tests}
 use Rattle.sc_ast.specs.declared.policy.Policy.{Policy}
-use Rattle.sc_parser.specs.declared.lexeme.Lexeme.{Lexeme}
-use Rattle.sc_parser.specs.declared.stop.Stop.{Stop}
-use Rattle.sc_parser.specs.declared.stop.Stop.TheVariants as stop
-use Rattle.sc_parser.specs.Depth.{outside}
+use Rattle.sc_lexemes.specs.declared.lexeme.Lexeme.{Lexeme}
+use Rattle.sc_lexemes.specs.declared.stop.Stop.{Stop}
+use Rattle.sc_lexemes.specs.declared.stop.Stop.TheVariants as stop
+use Rattle.sc_lexemes.specs.Depth.{outside}
 use Rattle.sc_parser.specs.Faults.{Begins, is_limit, Passes, PassesNone, IsUnexpected, IsUnexpectedEnd}
 use Rattle.sc_parser.specs.GrammarFiles.{File}
 use Rattle.sc_parser.specs.Limits.{Limits, all_limits, no_limits, rank, before, up_to}
-use Rattle.sc_parser.specs.Outcomes.{Outcome, read, halt}
+use Rattle.sc_lexemes.specs.Outcomes.{Outcome, read, halt}
 use Rattle.sc_parser.specs.ReadsFiles.{ReadsPolicies}
 use Rattle.sc_parser.proofs.FileLaws.{complete, one_file, not_unexpected, not_ended, not_up_to, within}
 use Rattle.sc_parser.proofs.PlainTokensLaws.{Weaker, fewer}

@@ -4,14 +4,14 @@ use Rattle.std.proofs.lemmas.Bool.{lt-ltb}
 use Rattle.std.proofs.lemmas.Bool.Decides.{Decides-eqb}
 use Rattle.std.proofs.lemmas.Option.{slice_get_past}
 use Rattle.sc_ast.specs.declared.policy.Policy.{Policy}
-use Rattle.sc_parser.specs.declared.lexeme.Lexeme.{Lexeme}
-use Rattle.sc_parser.specs.declared.stop.Stop.{Stop}
-use Rattle.sc_parser.specs.declared.stop.Stop.TheVariants as stop
-use Rattle.sc_parser.specs.Depth.{outside}
+use Rattle.sc_lexemes.specs.declared.lexeme.Lexeme.{Lexeme}
+use Rattle.sc_lexemes.specs.declared.stop.Stop.{Stop}
+use Rattle.sc_lexemes.specs.declared.stop.Stop.TheVariants as stop
+use Rattle.sc_lexemes.specs.Depth.{outside}
 use Rattle.sc_parser.specs.Faults.{Shares, Begins, is_limit}
 use Rattle.sc_parser.specs.GrammarFiles.{File}
 use Rattle.sc_parser.specs.Limits.{Limits, all_limits, rank, up_to}
-use Rattle.sc_parser.specs.Outcomes.{Outcome, read, halt}
+use Rattle.sc_lexemes.specs.Outcomes.{Outcome, read, halt}
 use Rattle.sc_parser.specs.ReadsFiles.{ReadsPolicies}
 use Rattle.sc_parser.proofs.RunLaws.{Agree, only, moved, fewer, ends_within, place}
 use Rattle.sc_parser.proofs.ReadsFileLaws.{into_policies}

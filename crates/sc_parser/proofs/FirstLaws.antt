@@ -6,18 +6,18 @@ use Rattle.sc_ast.specs.declared.expr.Expr.{Expr}
 use Rattle.sc_ast.specs.declared.literal.EntityLiteral.{EntityLiteral}
 use Rattle.sc_ast.specs.declared.operator.UnaryOperator.{UnaryOperator}
 use Rattle.sc_lexer.specs.declared.token.Kind.TheVariants as kind
-use Rattle.sc_parser.specs.declared.cursor.Cursor.{Cursor}
-use Rattle.sc_parser.specs.declared.lexeme.Lexeme.{Lexeme}
-use Rattle.sc_parser.specs.declared.lexeme.Shape.{Shape}
-use Rattle.sc_parser.specs.declared.lexeme.Shape.TheVariants.{Word, Number, String, Sign}
-use Rattle.sc_parser.specs.declared.operator.Close.{Close}
-use Rattle.sc_parser.specs.declared.operator.Close.TheVariants as close
-use Rattle.sc_parser.specs.declared.operator.Level.{Level}
+use Rattle.sc_lexemes.specs.declared.cursor.Cursor.{Cursor}
+use Rattle.sc_lexemes.specs.declared.lexeme.Lexeme.{Lexeme}
+use Rattle.sc_lexemes.specs.declared.lexeme.Shape.{Shape}
+use Rattle.sc_lexemes.specs.declared.lexeme.Shape.TheVariants.{Word, Number, String, Sign}
+use Rattle.sc_lexemes.specs.declared.operator.Close.{Close}
+use Rattle.sc_lexemes.specs.declared.operator.Close.TheVariants as close
+use Rattle.sc_lexemes.specs.declared.operator.Level.{Level}
 use Rattle.sc_parser.specs.Grammar.{Ident, Str, Entity, Key, Expression, Inner, Chain, Operand, Relation, Unary, Prefixes, Member, Primary}
 use Rattle.sc_parser.specs.Grammar as g
-use Rattle.sc_parser.specs.Lexemes.{Is, Lacks, IsPrefix, IsStart, closing, starts}
+use Rattle.sc_lexemes.specs.Lexemes.{Is, Lacks, IsPrefix, IsStart, closing, starts}
 use Rattle.sc_parser.specs.Limits.{Limits}
-use Rattle.sc_parser.specs.Tables.{prefix_of}
+use Rattle.sc_lexemes.specs.Tables.{prefix_of}
 use Rattle.sc_parser.proofs.TestLaws.{one_shape, other, other_word, ident_other, minus_prefix, variable_ident, start_token, start_ident, starts_true, starts_false, starts_number, starts_string, starts_parenthesis, starts_bracket, starts_brace}
 
 -- a chain begins with a prefix or with what begins a primary expression

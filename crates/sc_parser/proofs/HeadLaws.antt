@@ -6,14 +6,14 @@ use Rattle.sc_pattern.specs.declared.part.Part.{Part}
 use Rattle.sc_ast.specs.declared.place.Place.{Place}
 use Rattle.sc_ast.specs.declared.policy.Effect.{Effect}
 use Rattle.sc_lexer.specs.declared.token.Kind.TheVariants as kind
-use Rattle.sc_parser.specs.declared.cursor.Cursor.{Cursor}
-use Rattle.sc_parser.specs.declared.lexeme.Lexeme.{Lexeme}
-use Rattle.sc_parser.specs.declared.lexeme.Shape.{Shape}
-use Rattle.sc_parser.specs.declared.lexeme.Shape.TheVariants as shape
-use Rattle.sc_parser.specs.Depth.{next}
-use Rattle.sc_parser.specs.Lexemes.{Is, Lacks, IsEffect, IsPolicyStart, annotation_starts, effect_starts}
+use Rattle.sc_lexemes.specs.declared.cursor.Cursor.{Cursor}
+use Rattle.sc_lexemes.specs.declared.lexeme.Lexeme.{Lexeme}
+use Rattle.sc_lexemes.specs.declared.lexeme.Shape.{Shape}
+use Rattle.sc_lexemes.specs.declared.lexeme.Shape.TheVariants as shape
+use Rattle.sc_lexemes.specs.Depth.{next}
+use Rattle.sc_lexemes.specs.Lexemes.{Is, Lacks, IsEffect, IsPolicyStart, annotation_starts, effect_starts}
 use Rattle.sc_parser.specs.Limits.{Limits}
-use Rattle.sc_parser.specs.Outcomes.{Outcome}
+use Rattle.sc_lexemes.specs.Outcomes.{Outcome}
 use Rattle.sc_parser.proofs.Sorts as sort
 use Rattle.sc_parser.proofs.Nonterminals as n
 use Rattle.sc_parser.proofs.Productions.{production}

@@ -9,9 +9,7 @@ pub mod GrammarFileLaws
 pub mod GrammarLaws
 pub mod GrammarWordLaws
 pub mod HeadLaws
-pub mod LexemeLaws
 pub mod Nonterminals
-pub mod NumberLaws
 pub mod PlainForwardFileLaws
 pub mod PlainForwardLaws
 pub mod PlainMovedFileLaws

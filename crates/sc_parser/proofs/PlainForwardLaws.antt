@@ -6,10 +6,10 @@ use Rattle.sc_ast.specs.declared.expr.TypeName.{TypeName}
 use Rattle.sc_ast.specs.declared.literal.EntityLiteral.{EntityLiteral}
 use Rattle.sc_ast.specs.declared.operator.UnaryOperator.{UnaryOperator}
 use Rattle.sc_pattern.specs.declared.part.Part.{Part}
-use Rattle.sc_parser.specs.declared.cursor.Cursor.{Cursor}
-use Rattle.sc_parser.specs.declared.lexeme.Lexeme.{Lexeme}
-use Rattle.sc_parser.specs.declared.operator.Close.{Close}
-use Rattle.sc_parser.specs.declared.operator.Level.{Level}
+use Rattle.sc_lexemes.specs.declared.cursor.Cursor.{Cursor}
+use Rattle.sc_lexemes.specs.declared.lexeme.Lexeme.{Lexeme}
+use Rattle.sc_lexemes.specs.declared.operator.Close.{Close}
+use Rattle.sc_lexemes.specs.declared.operator.Level.{Level}
 use Rattle.sc_parser.specs.Grammar.{Ident, Str, MoreNames, Names, MorePath, Path, Entity, Key, Expression, Inner, Enclosed, Chain, MoreOperands, Operand, Relation, Unary, Prefixes, Member, Accesses, Primary, Items, Fields, ident, string, names_end, names_more, names_string, names_idents, path_end, path_more, path, entity, key_ident, key_string, chain_or, if_then_else, inner, enclosed, chain, operands_end, operands_more, operand_or, operand_and, operand_add, operand_multiply, sum, comparison, has, like, is_type, is_in, no_prefix, prefixes, prefixes_end, least, prefix, member, no_access, index, access, method, no_method, truth, falsehood, number, text, variable, uid, function, no_function, parenthesis, set, fields, items_end, last_item, more_items, fields_end, last_field, more_fields}
 use Rattle.sc_parser.specs.Limits.{Limits}
 

@@ -10,15 +10,15 @@ use Rattle.sc_ast.specs.declared.scope.ActionConstraint.{ActionConstraint}
 use Rattle.sc_ast.specs.declared.scope.Scope.{Scope}
 use Rattle.sc_ast.specs.declared.scope.ActionScope.{ActionScope}
 use Rattle.sc_lexer.specs.declared.token.Kind.TheVariants as kind
-use Rattle.sc_parser.specs.declared.cursor.Cursor.{Cursor}
-use Rattle.sc_parser.specs.declared.lexeme.Lexeme.{Lexeme}
-use Rattle.sc_parser.specs.declared.lexeme.Shape.TheVariants.{Sign}
+use Rattle.sc_lexemes.specs.declared.cursor.Cursor.{Cursor}
+use Rattle.sc_lexemes.specs.declared.lexeme.Lexeme.{Lexeme}
+use Rattle.sc_lexemes.specs.declared.lexeme.Shape.TheVariants.{Sign}
 use Rattle.sc_parser.specs.declared.scopes.Scopes.{Scopes}
-use Rattle.sc_parser.specs.Depth.{next}
+use Rattle.sc_lexemes.specs.Depth.{next}
 use Rattle.sc_parser.specs.GrammarFiles.{Head, Slot, Asked, Entities, AskedOfAction, ScopePart, ActionPart, ScopeEnd, WholeScope, Clauses, OnePolicy, Policies, effect, bare_annotation, annotation, no_slot, any, equal, within, of_type, of_type_within, entities_end, last_entity, more_entities, any_action, equal_action, within_action, within_actions, part, action_part, scope_end, scope_comma_end, whole_scope, clauses_end, clauses_more, policy, policies_end, policies_more}
-use Rattle.sc_parser.specs.Lexemes.{Is}
+use Rattle.sc_lexemes.specs.Lexemes.{Is}
 use Rattle.sc_parser.specs.Limits.{Limits}
-use Rattle.sc_parser.specs.Outcomes.{read}
+use Rattle.sc_lexemes.specs.Outcomes.{read}
 use Rattle.sc_parser.specs.ReadsFiles.{SkipsAnnotation, ReadsHead, ReadsSlot, ReadsConstraint, ReadsEntities, ReadsActionConstraint, ReadsScope, ReadsPrincipal, ReadsAction, ReadsResource, ReadsScopes, ReadsClauses, ReadsPolicy, ReadsPolicies}
 use Rattle.sc_parser.specs.ReadsFiles as r
 use Rattle.sc_parser.proofs.PlainReadsLaws.{from_path, from_entity, from_enclosed}

@@ -6,49 +6,51 @@ use Rattle.sc_ast.specs.declared.expr.TypeName.{TypeName}
 use Rattle.sc_ast.specs.declared.literal.EntityLiteral.{EntityLiteral}
 use Rattle.sc_ast.specs.declared.operator.UnaryOperator.{UnaryOperator}
 use Rattle.sc_pattern.specs.declared.part.Part.{Part}
-use Rattle.sc_parser.specs.declared.cursor.Cursor.{Cursor}
-use Rattle.sc_parser.specs.declared.lexeme.Lexeme.{Lexeme}
-use Rattle.sc_parser.specs.declared.operator.Close.{Close}
-use Rattle.sc_parser.specs.declared.operator.Level.{Level}
-use Rattle.sc_parser.specs.declared.operator.Level.TheVariants as level
+use Rattle.sc_lexemes.specs.declared.cursor.Cursor.{Cursor}
+use Rattle.sc_lexemes.specs.declared.lexeme.Lexeme.{Lexeme}
+use Rattle.sc_lexemes.specs.declared.operator.Close.{Close}
+use Rattle.sc_lexemes.specs.declared.operator.Level.{Level}
+use Rattle.sc_lexemes.specs.declared.operator.Level.TheVariants as level
 use Rattle.sc_parser.specs.Grammar.{Ident, Str, MoreNames, Names, MorePath, Path, Entity, Key, Expression, Inner, Enclosed, Chain, MoreOperands, Operand, Relation, Unary, Prefixes, Member, Accesses, Primary, Items, Fields, ident, string, names_end, names_more, names_string, names_idents, path_end, path_more, path, entity, key_ident, key_string, chain_or, if_then_else, inner, enclosed, chain, operands_end, operands_more, operand_or, operand_and, operand_add, operand_multiply, sum, comparison, has, like, is_type, is_in, no_prefix, prefixes, prefixes_end, least, prefix, member, no_access, index, access, method, truth, falsehood, number, text, variable, uid, function, parenthesis, set, fields, items_end, last_item, more_items, fields_end, last_field, more_fields}
 use Rattle.sc_parser.specs.Limits.{Limits}
-use Rattle.sc_parser.specs.Outcomes.{read}
-use Rattle.sc_parser.specs.Reads.{ReadsIdent, ReadsString, ReadsMoreNames, ReadsNames, ReadsMorePath, ReadsPath, ReadsMoreEntity, ReadsEntity, ReadsKey, ReadsExpr, ReadsInner, ReadsEnclosed, ReadsChain, ReadsMore, ReadsOperand, ReadsRelation, ReadsTail, ReadsUnary, ReadsPrefixes, ReadsMember, ReadsAccesses, ReadsPrimary, ReadsItems, ReadsFields}
+use Rattle.sc_lexemes.specs.Outcomes.{read}
+use Rattle.sc_lexemes.specs.ReadsWords.{ReadsIdent, ReadsString, ReadsMoreNames, ReadsNames, ReadsMorePath, ReadsPath, ReadsMoreEntity, ReadsEntity, ReadsKey}
+use Rattle.sc_parser.specs.Reads.{ReadsExpr, ReadsInner, ReadsEnclosed, ReadsChain, ReadsMore, ReadsOperand, ReadsRelation, ReadsTail, ReadsUnary, ReadsPrefixes, ReadsMember, ReadsAccesses, ReadsPrimary, ReadsItems, ReadsFields}
 use Rattle.sc_parser.specs.Reads as r
+use Rattle.sc_lexemes.specs.ReadsWords as words
 
 pub from_ident : (K : Limits) {ts : List Lexeme} {s t : Cursor} {p : Place} {w : List ℕ} → ReadsIdent ts s (read (p, w) t) → Ident K ts s p w t
-from_ident K (r.ident h f) = ident h (λ k. f)
+from_ident K (words.ident h f) = ident h (λ k. f)
 
 pub from_string : (K : Limits) {ts : List Lexeme} {s t : Cursor} {w : List ℕ} {parts : List Part} → ReadsString ts s (read (w, parts) t) → Str K ts s w parts t
-from_string K (r.string h f) = string h (λ k. f)
+from_string K (words.string h f) = string h (λ k. f)
 
 pub from_more_names : (K : Limits) {ts : List Lexeme} {s t : Cursor} {ns ms : List (List ℕ)} → ReadsMoreNames ts s ns (read ms t) → MoreNames K ts s ns ms t
-from_more_names K (r.names_end n) = names_end
-from_more_names K (r.names_more h p q) = names_more h (from_ident K p) (from_more_names K q)
+from_more_names K (words.names_end n) = names_end
+from_more_names K (words.names_more h p q) = names_more h (from_ident K p) (from_more_names K q)
 
 pub from_names : (K : Limits) {ts : List Lexeme} {s t : Cursor} {ns : List (List ℕ)} → ReadsNames ts s (read ns t) → Names K ts s ns t
-from_names K (r.names_string h f) = names_string (string h (λ k. f))
-from_names K (r.names_ident p q) = names_idents (from_ident K p) (from_more_names K q)
+from_names K (words.names_string h f) = names_string (string h (λ k. f))
+from_names K (words.names_ident p q) = names_idents (from_ident K p) (from_more_names K q)
 
 pub from_more_path : (K : Limits) {ts : List Lexeme} {s t : Cursor} {n m : List ℕ} → ReadsMorePath ts s n (read m t) → MorePath K ts s n m t
-from_more_path K (r.path_end n) = path_end
-from_more_path K (r.path_more h p q) = path_more h (from_ident K p) (from_more_path K q)
+from_more_path K (words.path_end n) = path_end
+from_more_path K (words.path_more h p q) = path_more h (from_ident K p) (from_more_path K q)
 
 pub from_path : (K : Limits) {ts : List Lexeme} {s t : Cursor} {y : TypeName} → ReadsPath ts s (read y t) → Path K ts s y t
-from_path K (r.path p q) = path (from_ident K p) (from_more_path K q)
+from_path K (words.path p q) = path (from_ident K p) (from_more_path K q)
 
 -- an identifier, and what is read behind it and a path, are an entity's uid
 pub from_more_entity : (K : Limits) {ts : List Lexeme} {s t u v : Cursor} {p : Place} {w n : List ℕ} {y : EntityLiteral} → Ident K ts s p w t → ((m : List ℕ) (o : Cursor) → MorePath K ts u n m o → MorePath K ts t w m o) → ReadsMoreEntity ts u p n (read y v) → Entity K ts s y v
-from_more_entity K i f (r.entity_id h l) = entity i (f _ _ path_end) h l
-from_more_entity K i f (r.entity_more h p q) = from_more_entity K i (λ m o l. f m o (path_more h (from_ident K p) l)) q
+from_more_entity K i f (words.entity_id h l) = entity i (f _ _ path_end) h l
+from_more_entity K i f (words.entity_more h p q) = from_more_entity K i (λ m o l. f m o (path_more h (from_ident K p) l)) q
 
 pub from_entity : (K : Limits) {ts : List Lexeme} {s t : Cursor} {y : EntityLiteral} → ReadsEntity ts s (read y t) → Entity K ts s y t
-from_entity K (r.entity p q) = from_more_entity K (from_ident K p) (λ m o l. l) q
+from_entity K (words.entity p q) = from_more_entity K (from_ident K p) (λ m o l. l) q
 
 pub from_key : (K : Limits) {ts : List Lexeme} {s t : Cursor} {fs : List (List ℕ × Expr)} {w : List ℕ} → ReadsKey ts s fs (read w t) → Key K ts s fs w t
-from_key K (r.key_ident p n) = key_ident (from_ident K p) (λ k. ap not n)
-from_key K (r.key_string p n) = key_string (from_string K p) (λ k. ap not n)
+from_key K (words.key_ident p n) = key_ident (from_ident K p) (λ k. ap not n)
+from_key K (words.key_string p n) = key_string (from_string K p) (λ k. ap not n)
 
 mutual
   pub from_expr : (K : Limits) {ts : List Lexeme} {s t : Cursor} {x : Expr} → ReadsExpr ts s (read x t) → Expression K ts s x t

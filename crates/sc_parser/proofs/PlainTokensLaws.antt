@@ -3,16 +3,16 @@ use Rattle.std.proofs.Common.{◌≡◌, ℕ, ◌+◌, ◌≤◌, ◌<◌, List,
 use Rattle.sc_ast.specs.declared.place.Place.{Place}
 use Rattle.sc_ast.specs.declared.operator.UnaryOperator.{UnaryOperator}
 use Rattle.sc_lexer.specs.declared.token.Kind.TheVariants as kind
-use Rattle.sc_parser.specs.declared.lexeme.Lexeme.{Lexeme}
-use Rattle.sc_parser.specs.declared.lexeme.Shape.{Shape}
-use Rattle.sc_parser.specs.declared.lexeme.Shape.TheVariants.{Sign}
-use Rattle.sc_parser.specs.declared.operator.Level.{Level}
-use Rattle.sc_parser.specs.declared.operator.Operator.{Operator}
+use Rattle.sc_lexemes.specs.declared.lexeme.Lexeme.{Lexeme}
+use Rattle.sc_lexemes.specs.declared.lexeme.Shape.{Shape}
+use Rattle.sc_lexemes.specs.declared.lexeme.Shape.TheVariants.{Sign}
+use Rattle.sc_lexemes.specs.declared.operator.Level.{Level}
+use Rattle.sc_lexemes.specs.declared.operator.Operator.{Operator}
 use Rattle.sc_ast.specs.declared.policy.Effect.{Effect}
 use Rattle.sc_ast.specs.declared.policy.ConditionKind.{ConditionKind}
-use Rattle.sc_parser.specs.declared.stop.Stop.{Stop}
+use Rattle.sc_lexemes.specs.declared.stop.Stop.{Stop}
 use Rattle.sc_parser.specs.Faults.{Shares}
-use Rattle.sc_parser.specs.Lexemes.{Is, Lacks, IsOperator, IsPrefix, IsLeast, IsEffect, IsClause}
+use Rattle.sc_lexemes.specs.Lexemes.{Is, Lacks, IsOperator, IsPrefix, IsLeast, IsEffect, IsClause}
 use Rattle.sc_parser.specs.Limits.{Limits}
 
 -- the second keeps no more limits than the first

@@ -2,13 +2,13 @@
 use Rattle.std.proofs.Common.{◌≡◌, ℕ, ◌<◌, ◌≤◌, List, [], ◌∷◌, ◌++◌, length, nat_lt, slice_get, Some, true, false, sym, arith}
 use Rattle.std.proofs.lemmas.Option.{slice_get_past, slice_get-get_or}
 use Rattle.sc_ast.specs.declared.policy.Policy.{Policy}
-use Rattle.sc_parser.specs.declared.cursor.Cursor.{Cursor}
-use Rattle.sc_parser.specs.declared.lexeme.Lexeme.{Lexeme}
-use Rattle.sc_parser.specs.declared.stop.Stop.{Stop}
-use Rattle.sc_parser.specs.declared.stop.Stop.TheVariants.{Unexpected, TooManyPolicies}
-use Rattle.sc_parser.specs.Depth.{outside}
-use Rattle.sc_parser.specs.Lexemes.{IsPolicyStart}
-use Rattle.sc_parser.specs.Outcomes.{Outcome, read, halt}
+use Rattle.sc_lexemes.specs.declared.cursor.Cursor.{Cursor}
+use Rattle.sc_lexemes.specs.declared.lexeme.Lexeme.{Lexeme}
+use Rattle.sc_lexemes.specs.declared.stop.Stop.{Stop}
+use Rattle.sc_lexemes.specs.declared.stop.Stop.TheVariants.{Unexpected, TooManyPolicies}
+use Rattle.sc_lexemes.specs.Depth.{outside}
+use Rattle.sc_lexemes.specs.Lexemes.{IsPolicyStart}
+use Rattle.sc_lexemes.specs.Outcomes.{Outcome, read, halt}
 use Rattle.sc_parser.specs.ReadsFiles.{ReadsPolicy, ReadsPolicies, file_ends, too_many, no_policy, policy_halts, more_policies}
 
 some_token : (ts : List Lexeme) (i : ℕ) → i < length ts → (l : Lexeme) × (slice_get ts i ≡ Some l)

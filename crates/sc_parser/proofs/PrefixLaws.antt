@@ -9,17 +9,17 @@ use Rattle.sc_ast.specs.declared.operator.UnaryOperator.{UnaryOperator}
 use Rattle.sc_ast.specs.declared.operator.UnaryOperator.TheVariants.{Negate}
 use Rattle.sc_lexer.specs.declared.token.Kind.{Kind}
 use Rattle.sc_lexer.specs.declared.token.Kind.TheVariants as kind
-use Rattle.sc_parser.specs.declared.cursor.Cursor.{Cursor}
-use Rattle.sc_parser.specs.declared.lexeme.Lexeme.{Lexeme}
-use Rattle.sc_parser.specs.declared.lexeme.Shape.{Shape}
-use Rattle.sc_parser.specs.declared.lexeme.Shape.TheVariants.{Word, Number, String, Sign}
-use Rattle.sc_parser.specs.declared.stop.Stop.{Stop}
-use Rattle.sc_parser.specs.declared.stop.Stop.TheVariants.{TooDeep}
-use Rattle.sc_parser.specs.Depth.{fits, next, past}
-use Rattle.sc_parser.specs.Lexemes.{Is, Lacks, IsPrefix, IsLeast, LacksLeast}
-use Rattle.sc_parser.specs.Outcomes.{Outcome, read, halt}
+use Rattle.sc_lexemes.specs.declared.cursor.Cursor.{Cursor}
+use Rattle.sc_lexemes.specs.declared.lexeme.Lexeme.{Lexeme}
+use Rattle.sc_lexemes.specs.declared.lexeme.Shape.{Shape}
+use Rattle.sc_lexemes.specs.declared.lexeme.Shape.TheVariants.{Word, Number, String, Sign}
+use Rattle.sc_lexemes.specs.declared.stop.Stop.{Stop}
+use Rattle.sc_lexemes.specs.declared.stop.Stop.TheVariants.{TooDeep}
+use Rattle.sc_lexemes.specs.Depth.{fits, next, past}
+use Rattle.sc_lexemes.specs.Lexemes.{Is, Lacks, IsPrefix, IsLeast, LacksLeast}
+use Rattle.sc_lexemes.specs.Outcomes.{Outcome, read, halt}
 use Rattle.sc_parser.specs.Reads.{ReadsPrefixes, ReadsAccesses, least, least_deep, prefix, prefix_halts}
-use Rattle.sc_parser.specs.Tables.{prefix_of, prefix_of_sign, least_digits, least_long}
+use Rattle.sc_lexemes.specs.Tables.{prefix_of, prefix_of_sign, least_digits, least_long}
 
 minus_sign : (k : Kind) → prefix_of_sign k ≡ Some Negate → k ≡ kind.Minus
 minus_sign kind.Minus e = refl

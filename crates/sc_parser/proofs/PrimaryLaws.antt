@@ -7,17 +7,17 @@ use Rattle.sc_ast.specs.declared.expr.Expr.TheVariants as expr
 use Rattle.sc_ast.specs.declared.literal.Literal.TheVariants as literal
 use Rattle.std.specs.Str.Parse.{digits_value}
 use Rattle.sc_lexer.specs.declared.token.Kind.TheVariants as kind
-use Rattle.sc_parser.specs.declared.cursor.Cursor.{Cursor}
-use Rattle.sc_parser.specs.declared.lexeme.Lexeme.{Lexeme}
-use Rattle.sc_parser.specs.declared.lexeme.Shape.{Shape}
-use Rattle.sc_parser.specs.declared.lexeme.Shape.TheVariants.{Word, Number, String, Sign}
-use Rattle.sc_parser.specs.declared.operator.Close.TheVariants as close
-use Rattle.sc_parser.specs.declared.stop.Stop.TheVariants as stop
-use Rattle.sc_parser.specs.Depth.{next}
-use Rattle.sc_parser.specs.Lexemes.{Is, IsIdent, IsStart}
+use Rattle.sc_lexemes.specs.declared.cursor.Cursor.{Cursor}
+use Rattle.sc_lexemes.specs.declared.lexeme.Lexeme.{Lexeme}
+use Rattle.sc_lexemes.specs.declared.lexeme.Shape.{Shape}
+use Rattle.sc_lexemes.specs.declared.lexeme.Shape.TheVariants.{Word, Number, String, Sign}
+use Rattle.sc_lexemes.specs.declared.operator.Close.TheVariants as close
+use Rattle.sc_lexemes.specs.declared.stop.Stop.TheVariants as stop
+use Rattle.sc_lexemes.specs.Depth.{next}
+use Rattle.sc_lexemes.specs.Lexemes.{Is, IsIdent, IsStart}
 use Rattle.sc_parser.specs.Limits.{Limits, Fits}
-use Rattle.sc_parser.specs.Outcomes.{Outcome}
-use Rattle.sc_parser.specs.Tables.{is_long}
+use Rattle.sc_lexemes.specs.Outcomes.{Outcome}
+use Rattle.sc_lexemes.specs.Tables.{is_long}
 use Rattle.sc_parser.proofs.Sorts as sort
 use Rattle.sc_parser.proofs.Nonterminals as n
 use Rattle.sc_parser.proofs.Programs.{done, go, guard, call, to_next, here}

@@ -9,14 +9,14 @@ use Rattle.sc_ast.specs.declared.literal.Literal.TheVariants as literal
 use Rattle.sc_ast.specs.declared.scope.Constraint.TheVariants as constraint
 use Rattle.sc_ast.specs.declared.scope.ActionConstraint.TheVariants as action
 use Rattle.sc_lexer.specs.declared.token.Kind.TheVariants as kind
-use Rattle.sc_parser.specs.declared.lexeme.Shape.TheVariants.{Word, Sign}
-use Rattle.sc_parser.specs.declared.operator.Close.TheVariants as close
-use Rattle.sc_parser.specs.declared.operator.Level.{Level}
-use Rattle.sc_parser.specs.declared.operator.Level.TheVariants as level
-use Rattle.sc_parser.specs.declared.stop.Stop.TheVariants as stop
-use Rattle.sc_parser.specs.Depth.{fits}
-use Rattle.sc_parser.specs.Lexemes.{closing}
-use Rattle.sc_parser.specs.Tables.{joined, called, applied, has_key, is_long, least_long}
+use Rattle.sc_lexemes.specs.declared.lexeme.Shape.TheVariants.{Word, Sign}
+use Rattle.sc_lexemes.specs.declared.operator.Close.TheVariants as close
+use Rattle.sc_lexemes.specs.declared.operator.Level.{Level}
+use Rattle.sc_lexemes.specs.declared.operator.Level.TheVariants as level
+use Rattle.sc_lexemes.specs.declared.stop.Stop.TheVariants as stop
+use Rattle.sc_lexemes.specs.Depth.{fits}
+use Rattle.sc_lexemes.specs.Lexemes.{closing}
+use Rattle.sc_lexemes.specs.Tables.{joined, called, applied, has_key, is_long, least_long}
 use Rattle.sc_parser.proofs.Sorts.{Sort, Of}
 use Rattle.sc_parser.proofs.Sorts as sort
 use Rattle.sc_parser.proofs.Nonterminals.{Nonterminal}

@@ -1,9 +1,9 @@
 -- Reading as a program, so that a law is proved once for all productions. A step looks at one token, goes past it, asks
 -- whether a limit is kept, or reads another nonterminal.
 use Rattle.std.specs.Prelude.{Bool}
-use Rattle.sc_parser.specs.declared.cursor.Cursor.{Cursor}
-use Rattle.sc_parser.specs.declared.stop.Stop.{Stop}
-use Rattle.sc_parser.specs.Depth.{next, past, inside, back, deeper, outside}
+use Rattle.sc_lexemes.specs.declared.cursor.Cursor.{Cursor}
+use Rattle.sc_lexemes.specs.declared.stop.Stop.{Stop}
+use Rattle.sc_lexemes.specs.Depth.{next, past, inside, back, deeper, outside}
 use Rattle.sc_parser.proofs.Sorts.{Sort, Of}
 use Rattle.sc_parser.proofs.Nonterminals.{Nonterminal}
 use Rattle.sc_parser.proofs.Tests.{Test, Found}

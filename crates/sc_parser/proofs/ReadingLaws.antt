@@ -12,16 +12,17 @@ use Rattle.sc_lexer.specs.declared.token.LexFault.TheVariants.{BadUtf8, BadToken
 use Rattle.sc_lexer.specs.declared.token.Token.{Token}
 use Rattle.sc_lexer.specs.Reading.{Lexes}
 use Rattle.sc_lexer.proofs.UniqueLaws.{Lexes_same}
-use Rattle.sc_parser.specs.declared.cursor.Cursor.{Cursor}
+use Rattle.sc_lexemes.specs.declared.cursor.Cursor.{Cursor}
 use Rattle.sc_parser.specs.declared.fault.PolicyFault.{PolicyFault}
 use Rattle.sc_parser.specs.declared.fault.PolicyFault.TheVariants as fault
-use Rattle.sc_parser.specs.declared.lexeme.Lexeme.{Lexeme}
-use Rattle.sc_parser.specs.declared.stop.Stop.{Stop}
-use Rattle.sc_parser.specs.declared.stop.Stop.TheVariants as stop
+use Rattle.sc_lexemes.specs.declared.lexeme.Lexeme.{Lexeme}
+use Rattle.sc_lexemes.specs.declared.stop.Stop.{Stop}
+use Rattle.sc_lexemes.specs.declared.stop.Stop.TheVariants as stop
 use Rattle.sc_parser.specs.Faults.{is_limit}
-use Rattle.sc_parser.specs.Outcomes.{Outcome, read, halt}
+use Rattle.sc_lexemes.specs.Outcomes.{Outcome, read, halt}
 use Rattle.sc_parser.specs.ReadsFiles.{ReadsPolicies}
-use Rattle.sc_parser.specs.Spelling.{lexeme_of, AreLexemes, Spells, fault_of, HasFault, ill_formed, no_token, no_escape, unexpected, unexpected_end, passed, IsReading, spelled, faulty, ReadFails}
+use Rattle.sc_lexemes.specs.Shapes.{lexeme_of}
+use Rattle.sc_parser.specs.Spelling.{AreLexemes, Spells, fault_of, HasFault, ill_formed, no_token, no_escape, unexpected, unexpected_end, passed, IsReading, spelled, faulty, ReadFails}
 use Rattle.sc_parser.proofs.FaultLaws.{Ends, all_read, at_token, at_end, at_limit, one_end, ends, ended, passes}
 use Rattle.sc_parser.proofs.FileLaws.{past_end}
 use Rattle.sc_parser.proofs.ViableFileLaws.{found, no_token as past_token}

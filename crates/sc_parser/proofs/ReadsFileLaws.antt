@@ -10,16 +10,16 @@ use Rattle.sc_ast.specs.declared.scope.ActionConstraint.{ActionConstraint}
 use Rattle.sc_ast.specs.declared.scope.Scope.{Scope}
 use Rattle.sc_ast.specs.declared.scope.ActionScope.{ActionScope}
 use Rattle.sc_lexer.specs.declared.token.Kind.TheVariants as kind
-use Rattle.sc_parser.specs.declared.cursor.Cursor.{Cursor}
-use Rattle.sc_parser.specs.declared.lexeme.Lexeme.{Lexeme}
-use Rattle.sc_parser.specs.declared.lexeme.Shape.TheVariants as shape
+use Rattle.sc_lexemes.specs.declared.cursor.Cursor.{Cursor}
+use Rattle.sc_lexemes.specs.declared.lexeme.Lexeme.{Lexeme}
+use Rattle.sc_lexemes.specs.declared.lexeme.Shape.TheVariants as shape
 use Rattle.sc_parser.specs.declared.scopes.Scopes.{Scopes}
-use Rattle.sc_parser.specs.declared.stop.Stop.{Stop}
-use Rattle.sc_parser.specs.declared.stop.Stop.TheVariants as stop
-use Rattle.sc_parser.specs.Depth.{outside}
-use Rattle.sc_parser.specs.Lexemes.{Is}
+use Rattle.sc_lexemes.specs.declared.stop.Stop.{Stop}
+use Rattle.sc_lexemes.specs.declared.stop.Stop.TheVariants as stop
+use Rattle.sc_lexemes.specs.Depth.{outside}
+use Rattle.sc_lexemes.specs.Lexemes.{Is}
 use Rattle.sc_parser.specs.Limits.{all_limits}
-use Rattle.sc_parser.specs.Outcomes.{Outcome, read, halt}
+use Rattle.sc_lexemes.specs.Outcomes.{Outcome, read, halt}
 use Rattle.sc_parser.specs.ReadsFiles.{SkipsAnnotation, HaltsAnnotation, ReadsHead, ReadsSlot, ReadsConstraint, ReadsEntities, ReadsActionConstraint, ReadsScope, ReadsPrincipal, ReadsAction, ReadsResource, ReadsScopes, ReadsClauses, ReadsPolicy, ReadsPolicies}
 use Rattle.sc_parser.specs.ReadsFiles as r
 use Rattle.sc_parser.proofs.Sorts as sort

@@ -2,13 +2,13 @@
 use Rattle.std.proofs.Common.{◌≡◌, ℕ, ◌+◌, ◌≤◌, ◌<◌, List, length, slice_get, true, refl, sym, ap, ◌∙◌, arith, subst, le_refl}
 use Rattle.std.specs.declared.option.Option.TheVariants.{Some}
 use Rattle.std.proofs.lemmas.Option.{slice_get_within}
-use Rattle.sc_parser.specs.declared.cursor.Cursor.{Cursor}
-use Rattle.sc_parser.specs.declared.lexeme.Lexeme.{Lexeme}
-use Rattle.sc_parser.specs.declared.stop.Stop.{Stop}
-use Rattle.sc_parser.specs.declared.stop.Stop.TheVariants as stop
+use Rattle.sc_lexemes.specs.declared.cursor.Cursor.{Cursor}
+use Rattle.sc_lexemes.specs.declared.lexeme.Lexeme.{Lexeme}
+use Rattle.sc_lexemes.specs.declared.stop.Stop.{Stop}
+use Rattle.sc_lexemes.specs.declared.stop.Stop.TheVariants as stop
 use Rattle.sc_parser.specs.Faults.{is_limit}
 use Rattle.sc_parser.specs.Limits.{Limits, all_limits}
-use Rattle.sc_parser.specs.Outcomes.{Outcome, read, halt}
+use Rattle.sc_lexemes.specs.Outcomes.{Outcome, read, halt}
 use Rattle.sc_parser.proofs.Sorts.{Sort, Of}
 use Rattle.sc_parser.proofs.Nonterminals.{Nonterminal}
 use Rattle.sc_parser.proofs.Programs.{Step, to_next, to_past, step, Way, here, within, as_clause, as_policy, enter, leave, Program, done, call}

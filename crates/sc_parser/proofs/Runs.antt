@@ -1,13 +1,13 @@
 -- What comes of a program over a list of tokens, where the limits K are kept.
 use Rattle.std.specs.Prelude.{◌≡◌, ℕ, List, slice_get, Bool, true, false}
 use Rattle.std.specs.declared.option.Option.TheVariants.{Some}
-use Rattle.sc_parser.specs.declared.cursor.Cursor.{Cursor}
-use Rattle.sc_parser.specs.declared.lexeme.Lexeme.{Lexeme}
-use Rattle.sc_parser.specs.declared.stop.Stop.{Stop}
-use Rattle.sc_parser.specs.declared.stop.Stop.TheVariants as stop
+use Rattle.sc_lexemes.specs.declared.cursor.Cursor.{Cursor}
+use Rattle.sc_lexemes.specs.declared.lexeme.Lexeme.{Lexeme}
+use Rattle.sc_lexemes.specs.declared.stop.Stop.{Stop}
+use Rattle.sc_lexemes.specs.declared.stop.Stop.TheVariants as stop
 use Rattle.sc_parser.specs.Faults.{is_limit}
 use Rattle.sc_parser.specs.Limits.{Limits, Holds}
-use Rattle.sc_parser.specs.Outcomes.{Outcome, read, halt}
+use Rattle.sc_lexemes.specs.Outcomes.{Outcome, read, halt}
 use Rattle.sc_parser.proofs.Productions.{production}
 use Rattle.sc_parser.proofs.Sorts.{Sort, Of}
 use Rattle.sc_parser.proofs.Nonterminals.{Nonterminal}

@@ -4,9 +4,9 @@ use Rattle.std.specs.Str.{bytes_eq}
 use Rattle.std.proofs.lemmas.Slice.Eq.{bytes_eq-Decides}
 use Rattle.sc_ast.specs.declared.place.Place.{Place}
 use Rattle.sc_names.specs.Names.{is_ident}
-use Rattle.sc_parser.specs.declared.lexeme.Lexeme.{Lexeme}
-use Rattle.sc_parser.specs.declared.lexeme.Shape.TheVariants.{Word}
-use Rattle.sc_parser.specs.Lexemes.{Is, Lacks, starts}
+use Rattle.sc_lexemes.specs.declared.lexeme.Lexeme.{Lexeme}
+use Rattle.sc_lexemes.specs.declared.lexeme.Shape.TheVariants.{Word}
+use Rattle.sc_lexemes.specs.Lexemes.{Is, Lacks, starts}
 
 -- of the words that aren't identifiers `true` and `false` alone
 second : (w : List ℕ) (a b : Bool) → bytes_eq w (codes "true") ≡ a → bytes_eq w (codes "false") ≡ b → is_ident w ≡ false → starts (Word w) ≡ true → (w ≡ codes "true" → ⊥) → w ≡ codes "false"

@@ -3,15 +3,15 @@ use Rattle.std.proofs.Common.{◌≡◌, ℕ, ◌+◌, ◌<◌, ◌≤◌, List,
 use Rattle.std.specs.declared.option.Option.TheVariants.{Some}
 use Rattle.sc_ast.specs.declared.place.Place.{Place}
 use Rattle.sc_lexer.specs.declared.token.Kind.TheVariants as kind
-use Rattle.sc_parser.specs.declared.lexeme.Lexeme.{Lexeme}
-use Rattle.sc_parser.specs.declared.lexeme.Shape.{Shape}
-use Rattle.sc_parser.specs.declared.lexeme.Shape.TheVariants.{Word, Sign}
-use Rattle.sc_parser.specs.declared.operator.Close.{Close}
-use Rattle.sc_parser.specs.declared.operator.Close.TheVariants as close
-use Rattle.sc_parser.specs.declared.operator.Level.{Level}
-use Rattle.sc_parser.specs.declared.operator.Operator.{Operator}
-use Rattle.sc_parser.specs.Lexemes.{Is, Lacks, IsOperator, closing}
-use Rattle.sc_parser.specs.Tables.{operator_of, level_of}
+use Rattle.sc_lexemes.specs.declared.lexeme.Lexeme.{Lexeme}
+use Rattle.sc_lexemes.specs.declared.lexeme.Shape.{Shape}
+use Rattle.sc_lexemes.specs.declared.lexeme.Shape.TheVariants.{Word, Sign}
+use Rattle.sc_lexemes.specs.declared.operator.Close.{Close}
+use Rattle.sc_lexemes.specs.declared.operator.Close.TheVariants as close
+use Rattle.sc_lexemes.specs.declared.operator.Level.{Level}
+use Rattle.sc_lexemes.specs.declared.operator.Operator.{Operator}
+use Rattle.sc_lexemes.specs.Lexemes.{Is, Lacks, IsOperator, closing}
+use Rattle.sc_lexemes.specs.Tables.{operator_of, level_of}
 use Rattle.sc_parser.proofs.Strength.{rank_of, strength_by, strength_of, strength_at, Weak}
 
 -- ---- the strength of tokens

@@ -15,15 +15,15 @@ use Rattle.sc_ast.specs.declared.policy.ConditionKind.{ConditionKind}
 use Rattle.sc_ast.specs.declared.policy.ConditionKind.TheVariants.{When, Unless}
 use Rattle.sc_lexer.specs.declared.token.Kind.TheVariants as kind
 use Rattle.sc_names.specs.Names.{is_ident}
-use Rattle.sc_parser.specs.declared.lexeme.Lexeme.{Lexeme}
-use Rattle.sc_parser.specs.declared.lexeme.Shape.{Shape}
-use Rattle.sc_parser.specs.declared.lexeme.Shape.TheVariants as shape
-use Rattle.sc_parser.specs.declared.operator.Close.{Close}
-use Rattle.sc_parser.specs.declared.operator.Close.TheVariants as close
-use Rattle.sc_parser.specs.declared.operator.Level.{Level}
-use Rattle.sc_parser.specs.declared.operator.Operator.{Operator}
-use Rattle.sc_parser.specs.Lexemes.{Is, Lacks, IsIdent, IsPrefix, IsStart, closing, starts, effect_word, clause_word, IsPolicyStart, annotation_starts, effect_starts}
-use Rattle.sc_parser.specs.Tables.{operator_of, prefix_of, variable_of}
+use Rattle.sc_lexemes.specs.declared.lexeme.Lexeme.{Lexeme}
+use Rattle.sc_lexemes.specs.declared.lexeme.Shape.{Shape}
+use Rattle.sc_lexemes.specs.declared.lexeme.Shape.TheVariants as shape
+use Rattle.sc_lexemes.specs.declared.operator.Close.{Close}
+use Rattle.sc_lexemes.specs.declared.operator.Close.TheVariants as close
+use Rattle.sc_lexemes.specs.declared.operator.Level.{Level}
+use Rattle.sc_lexemes.specs.declared.operator.Operator.{Operator}
+use Rattle.sc_lexemes.specs.Lexemes.{Is, Lacks, IsIdent, IsPrefix, IsStart, closing, starts, effect_word, clause_word, IsPolicyStart, annotation_starts, effect_starts}
+use Rattle.sc_lexemes.specs.Tables.{operator_of, prefix_of, variable_of}
 use Rattle.sc_parser.proofs.Tests.{Test, Found, Meets, shaped, word, number, string, ident, operator, prefix, this_prefix, least, start, effect, clause, policy_start, end, is_zero, variable}
 use Rattle.sc_parser.proofs.Tests as test
 

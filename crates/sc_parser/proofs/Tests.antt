@@ -10,13 +10,13 @@ use Rattle.sc_ast.specs.declared.operator.UnaryOperator.{UnaryOperator}
 use Rattle.sc_ast.specs.declared.operator.UnaryOperator.TheVariants as unary
 use Rattle.sc_ast.specs.declared.policy.Effect.{Effect}
 use Rattle.sc_ast.specs.declared.policy.ConditionKind.{ConditionKind}
-use Rattle.sc_parser.specs.declared.lexeme.Lexeme.{Lexeme}
-use Rattle.sc_parser.specs.declared.lexeme.Shape.{Shape}
-use Rattle.sc_parser.specs.declared.lexeme.Shape.TheVariants as shape
-use Rattle.sc_parser.specs.declared.operator.Level.{Level}
-use Rattle.sc_parser.specs.declared.operator.Operator.{Operator}
-use Rattle.sc_parser.specs.Lexemes.{Is, IsIdent, IsOperator, IsPrefix, IsStart, IsEffect, IsClause, IsPolicyStart}
-use Rattle.sc_parser.specs.Tables.{least_digits, variable_of}
+use Rattle.sc_lexemes.specs.declared.lexeme.Lexeme.{Lexeme}
+use Rattle.sc_lexemes.specs.declared.lexeme.Shape.{Shape}
+use Rattle.sc_lexemes.specs.declared.lexeme.Shape.TheVariants as shape
+use Rattle.sc_lexemes.specs.declared.operator.Level.{Level}
+use Rattle.sc_lexemes.specs.declared.operator.Operator.{Operator}
+use Rattle.sc_lexemes.specs.Lexemes.{Is, IsIdent, IsOperator, IsPrefix, IsStart, IsEffect, IsClause, IsPolicyStart}
+use Rattle.sc_lexemes.specs.Tables.{least_digits, variable_of}
 
 pub data Test : Type 0 where
   shaped : Shape → Test

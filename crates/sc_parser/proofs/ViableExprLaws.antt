@@ -6,24 +6,24 @@ use Rattle.sc_ast.specs.declared.expr.Expr.TheVariants as expr
 use Rattle.sc_ast.specs.declared.literal.Literal.TheVariants as literal
 use Rattle.sc_ast.specs.declared.operator.UnaryOperator.{UnaryOperator}
 use Rattle.sc_lexer.specs.declared.token.Kind.TheVariants as kind
-use Rattle.sc_parser.specs.declared.cursor.Cursor.{Cursor}
-use Rattle.sc_parser.specs.declared.lexeme.Lexeme.{Lexeme}
-use Rattle.sc_parser.specs.declared.operator.Close.{Close}
-use Rattle.sc_parser.specs.declared.operator.Close.TheVariants as close
-use Rattle.sc_parser.specs.declared.operator.Level.{Level}
-use Rattle.sc_parser.specs.declared.operator.Level.TheVariants as level
-use Rattle.sc_parser.specs.declared.stop.Stop.{Stop}
-use Rattle.sc_parser.specs.declared.stop.Stop.TheVariants as stop
-use Rattle.sc_parser.specs.Depth.{fits, next, past, inside, back}
+use Rattle.sc_lexemes.specs.declared.cursor.Cursor.{Cursor}
+use Rattle.sc_lexemes.specs.declared.lexeme.Lexeme.{Lexeme}
+use Rattle.sc_lexemes.specs.declared.operator.Close.{Close}
+use Rattle.sc_lexemes.specs.declared.operator.Close.TheVariants as close
+use Rattle.sc_lexemes.specs.declared.operator.Level.{Level}
+use Rattle.sc_lexemes.specs.declared.operator.Level.TheVariants as level
+use Rattle.sc_lexemes.specs.declared.stop.Stop.{Stop}
+use Rattle.sc_lexemes.specs.declared.stop.Stop.TheVariants as stop
+use Rattle.sc_lexemes.specs.Depth.{fits, next, past, inside, back}
 use Rattle.sc_parser.specs.Faults.{Shares}
 use Rattle.sc_parser.specs.Grammar.{Ident, ident, Expression, Inner, Enclosed, Chain, MoreOperands, Operand, Relation, Prefixes, Member, Accesses, Primary, Items, Fields, Unary, chain_or, if_then_else, inner, enclosed, chain, operands_end, operands_more, operand_or, operand_and, operand_add, operand_multiply, sum, comparison, has, like, is_type, is_in, no_prefix, prefixes_end, least, prefix, member, no_access, index, access, method, no_method, truth, number, uid, no_function, parenthesis, set, fields, last_item, last_field}
 use Rattle.sc_parser.specs.Grammar as plain
 use Rattle.sc_parser.specs.Limits.{Limits, all_limits}
-use Rattle.sc_parser.specs.Lexemes.{IsIdent}
-use Rattle.sc_parser.specs.Outcomes.{halt}
+use Rattle.sc_lexemes.specs.Lexemes.{IsIdent}
+use Rattle.sc_lexemes.specs.Outcomes.{halt}
 use Rattle.sc_parser.specs.Reads.{ReadsExpr, ReadsInner, ReadsEnclosed, ReadsChain, ReadsMore, ReadsOperand, ReadsRelation, ReadsTail, ReadsUnary, ReadsPrefixes, ReadsMember, ReadsAccesses, ReadsPrimary, ReadsItems, ReadsFields}
 use Rattle.sc_parser.specs.Reads as r
-use Rattle.sc_parser.specs.Tables.{joined, called, applied, least_long}
+use Rattle.sc_lexemes.specs.Tables.{joined, called, applied, least_long}
 use Rattle.sc_parser.proofs.PlainForwardLaws.{fwd_ident, fwd_string, fwd_enclosed, fwd_operand, fwd_primary, fwd_items, fwd_inner, fwd_path}
 use Rattle.sc_parser.proofs.PlainReadsLaws.{from_ident, from_string, from_enclosed, from_operand, from_primary, from_items, from_inner, from_path}
 use Rattle.sc_parser.proofs.PlainTokensLaws.{fewer, moved, inner_same, moved_operator, moved_prefix, moved_least}

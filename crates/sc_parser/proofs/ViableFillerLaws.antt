@@ -10,18 +10,18 @@ use Rattle.sc_ast.specs.declared.operator.UnaryOperator.{UnaryOperator}
 use Rattle.sc_lexer.specs.declared.token.Kind.{Kind}
 use Rattle.sc_lexer.specs.declared.token.Kind.TheVariants as kind
 use Rattle.sc_names.specs.Names.{is_ident}
-use Rattle.sc_parser.specs.declared.cursor.Cursor.{Cursor}
-use Rattle.sc_parser.specs.declared.lexeme.Lexeme.{Lexeme}
-use Rattle.sc_parser.specs.declared.lexeme.Shape.{Shape}
-use Rattle.sc_parser.specs.declared.lexeme.Shape.TheVariants.{Word, Number, String, Sign}
-use Rattle.sc_parser.specs.declared.operator.Close.{Close}
-use Rattle.sc_parser.specs.declared.operator.Close.TheVariants as close
-use Rattle.sc_parser.specs.declared.stop.Stop.TheVariants as stop
-use Rattle.sc_parser.specs.Depth.{next, past, inside}
+use Rattle.sc_lexemes.specs.declared.cursor.Cursor.{Cursor}
+use Rattle.sc_lexemes.specs.declared.lexeme.Lexeme.{Lexeme}
+use Rattle.sc_lexemes.specs.declared.lexeme.Shape.{Shape}
+use Rattle.sc_lexemes.specs.declared.lexeme.Shape.TheVariants.{Word, Number, String, Sign}
+use Rattle.sc_lexemes.specs.declared.operator.Close.{Close}
+use Rattle.sc_lexemes.specs.declared.operator.Close.TheVariants as close
+use Rattle.sc_lexemes.specs.declared.stop.Stop.TheVariants as stop
+use Rattle.sc_lexemes.specs.Depth.{next, past, inside}
 use Rattle.sc_parser.specs.Grammar.{Ident, Expression, Inner, Enclosed, Unary, Prefixes, Accesses, Primary, Items, chain_or, inner, enclosed, chain, operands_end, operand_or, operand_and, operand_add, operand_multiply, sum, no_prefix, prefixes, prefixes_end, least, prefix, member, no_access, method, no_method, truth, falsehood, number, text, uid, function, no_function, parenthesis, set, fields, items_end, fields_end, ident}
-use Rattle.sc_parser.specs.Lexemes.{Is, IsIdent, closing, starts}
+use Rattle.sc_lexemes.specs.Lexemes.{Is, IsIdent, closing, starts}
 use Rattle.sc_parser.specs.Limits.{Limits, Fits}
-use Rattle.sc_parser.specs.Tables.{called, applied, variable_of, prefix_of}
+use Rattle.sc_lexemes.specs.Tables.{called, applied, variable_of, prefix_of}
 use Rattle.sc_parser.proofs.PlainTokensLaws.{moved}
 use Rattle.sc_parser.proofs.ViableTokensLaws.{Frees, Free, loose, Done, Ahead, head_of, rest_of, leaf, nowhere, token, sign, Stays, stays}
 use Rattle.sc_parser.proofs.ViableNamesLaws.{quotes, whole_entity, short_rest}

@@ -1,8 +1,8 @@
 -- What is read of a file is spelled by any tokens that are the same so far.
 use Rattle.std.proofs.Common.{ℕ, List, arith}
 use Rattle.sc_ast.specs.declared.place.Place.{Place}
-use Rattle.sc_parser.specs.declared.cursor.Cursor.{Cursor}
-use Rattle.sc_parser.specs.declared.lexeme.Lexeme.{Lexeme}
+use Rattle.sc_lexemes.specs.declared.cursor.Cursor.{Cursor}
+use Rattle.sc_lexemes.specs.declared.lexeme.Lexeme.{Lexeme}
 use Rattle.sc_ast.specs.declared.policy.Effect.{Effect}
 use Rattle.sc_ast.specs.declared.policy.Condition.{Condition}
 use Rattle.sc_ast.specs.declared.policy.Policy.{Policy}
@@ -11,7 +11,7 @@ use Rattle.sc_ast.specs.declared.scope.Scope.{Scope}
 use Rattle.sc_parser.specs.declared.scopes.Scopes.{Scopes}
 use Rattle.sc_parser.specs.GrammarFiles.{Head, AskedOfAction, ScopePart, WholeScope, Clauses, OnePolicy, bare_annotation, annotation}
 use Rattle.sc_parser.specs.Limits.{Limits}
-use Rattle.sc_parser.specs.Outcomes.{read}
+use Rattle.sc_lexemes.specs.Outcomes.{read}
 use Rattle.sc_parser.specs.Faults.{Shares}
 use Rattle.sc_parser.proofs.PlainTokensLaws.{moved}
 use Rattle.sc_parser.proofs.ViableTokensLaws.{stay}

@@ -5,17 +5,18 @@ use Rattle.sc_ast.specs.declared.expr.Expr.{Expr}
 use Rattle.sc_ast.specs.declared.expr.TypeName.{TypeName}
 use Rattle.sc_ast.specs.declared.literal.EntityLiteral.{EntityLiteral}
 use Rattle.sc_pattern.specs.declared.part.Part.{Part}
-use Rattle.sc_parser.specs.declared.cursor.Cursor.{Cursor}
-use Rattle.sc_parser.specs.declared.lexeme.Lexeme.{Lexeme}
-use Rattle.sc_parser.specs.declared.operator.Close.{Close}
-use Rattle.sc_parser.specs.declared.operator.Level.{Level}
+use Rattle.sc_lexemes.specs.declared.cursor.Cursor.{Cursor}
+use Rattle.sc_lexemes.specs.declared.lexeme.Lexeme.{Lexeme}
+use Rattle.sc_lexemes.specs.declared.operator.Close.{Close}
+use Rattle.sc_lexemes.specs.declared.operator.Level.{Level}
 use Rattle.sc_parser.specs.Grammar.{Ident, Str, Path, Entity, Key, Inner, Enclosed, Chain, Operand, Primary, Items}
 use Rattle.sc_parser.specs.Limits.{Limits}
-use Rattle.sc_parser.specs.Outcomes.{read}
+use Rattle.sc_lexemes.specs.Outcomes.{read}
 use Rattle.sc_parser.specs.Faults.{Shares}
 use Rattle.sc_parser.proofs.PlainTokensLaws.{Same}
 use Rattle.sc_parser.proofs.ViableTokensLaws.{stay}
-use Rattle.sc_parser.specs.Reads.{ReadsIdent, ReadsString, ReadsPath, ReadsEntity, ReadsKey, ReadsInner, ReadsEnclosed, ReadsChain, ReadsOperand, ReadsPrimary, ReadsItems}
+use Rattle.sc_lexemes.specs.ReadsWords.{ReadsIdent, ReadsString, ReadsPath, ReadsEntity, ReadsKey}
+use Rattle.sc_parser.specs.Reads.{ReadsInner, ReadsEnclosed, ReadsChain, ReadsOperand, ReadsPrimary, ReadsItems}
 use Rattle.sc_parser.proofs.PlainReadsLaws.{from_ident, from_string, from_path, from_entity, from_key, from_inner, from_enclosed, from_chain, from_operand, from_primary, from_items}
 use Rattle.sc_parser.proofs.PlainMovedLaws.{move_ident, move_string, move_path, move_entity, move_key, move_inner, move_enclosed, move_chain, move_operand, move_primary, move_items}
 

@@ -6,16 +6,16 @@ use Rattle.sc_ast.specs.declared.policy.Effect.{Effect}
 use Rattle.sc_ast.specs.declared.policy.Effect.TheVariants.{Permit}
 use Rattle.sc_ast.specs.declared.policy.Policy.{Policy}
 use Rattle.sc_lexer.specs.declared.token.Kind.TheVariants as kind
-use Rattle.sc_parser.specs.declared.cursor.Cursor.{Cursor}
-use Rattle.sc_parser.specs.declared.lexeme.Lexeme.{Lexeme}
-use Rattle.sc_parser.specs.declared.operator.Close.TheVariants as close
-use Rattle.sc_parser.specs.declared.stop.Stop.{Stop}
-use Rattle.sc_parser.specs.declared.stop.Stop.TheVariants as stop
-use Rattle.sc_parser.specs.Depth.{next, deeper, outside}
+use Rattle.sc_lexemes.specs.declared.cursor.Cursor.{Cursor}
+use Rattle.sc_lexemes.specs.declared.lexeme.Lexeme.{Lexeme}
+use Rattle.sc_lexemes.specs.declared.operator.Close.TheVariants as close
+use Rattle.sc_lexemes.specs.declared.stop.Stop.{Stop}
+use Rattle.sc_lexemes.specs.declared.stop.Stop.TheVariants as stop
+use Rattle.sc_lexemes.specs.Depth.{next, deeper, outside}
 use Rattle.sc_parser.specs.GrammarFiles.{Head, Clauses, OnePolicy, Policies, effect, bare_annotation, clauses_end, clauses_more, policy, policies_end, policies_more}
-use Rattle.sc_parser.specs.Lexemes.{IsPolicyStart, annotation_starts, effect_starts}
+use Rattle.sc_lexemes.specs.Lexemes.{IsPolicyStart, annotation_starts, effect_starts}
 use Rattle.sc_parser.specs.Limits.{Limits, all_limits}
-use Rattle.sc_parser.specs.Outcomes.{halt}
+use Rattle.sc_lexemes.specs.Outcomes.{halt}
 use Rattle.sc_parser.specs.ReadsFiles.{ReadsClauses, ReadsPolicy, ReadsPolicies}
 use Rattle.sc_parser.specs.ReadsFiles as r
 use Rattle.sc_parser.proofs.PlainForwardLaws.{fwd_enclosed}

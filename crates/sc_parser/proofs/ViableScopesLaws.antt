@@ -11,18 +11,18 @@ use Rattle.sc_ast.specs.declared.scope.ActionConstraint.TheVariants as action
 use Rattle.sc_ast.specs.declared.scope.Scope.{Scope}
 use Rattle.sc_ast.specs.declared.scope.ActionScope.{ActionScope}
 use Rattle.sc_lexer.specs.declared.token.Kind.TheVariants as kind
-use Rattle.sc_parser.specs.declared.cursor.Cursor.{Cursor}
-use Rattle.sc_parser.specs.declared.lexeme.Lexeme.{Lexeme}
-use Rattle.sc_parser.specs.declared.lexeme.Shape.TheVariants.{Word}
+use Rattle.sc_lexemes.specs.declared.cursor.Cursor.{Cursor}
+use Rattle.sc_lexemes.specs.declared.lexeme.Lexeme.{Lexeme}
+use Rattle.sc_lexemes.specs.declared.lexeme.Shape.TheVariants.{Word}
 use Rattle.sc_parser.specs.declared.scopes.Scopes.{Scopes}
-use Rattle.sc_parser.specs.declared.stop.Stop.{Stop}
-use Rattle.sc_parser.specs.declared.stop.Stop.TheVariants as stop
-use Rattle.sc_parser.specs.Depth.{next}
+use Rattle.sc_lexemes.specs.declared.stop.Stop.{Stop}
+use Rattle.sc_lexemes.specs.declared.stop.Stop.TheVariants as stop
+use Rattle.sc_lexemes.specs.Depth.{next}
 use Rattle.sc_parser.specs.Faults.{Shares}
 use Rattle.sc_parser.specs.GrammarFiles.{Head, Slot, Asked, Entities, AskedOfAction, ScopePart, ActionPart, WholeScope, effect, bare_annotation, annotation, no_slot, slot, any, equal, within, of_type, of_type_within, last_entity, any_action, equal_action, within_action, within_actions, part, action_part, scope_end, scope_comma_end}
 use Rattle.sc_parser.specs.GrammarFiles as plain
 use Rattle.sc_parser.specs.Limits.{Limits, all_limits}
-use Rattle.sc_parser.specs.Outcomes.{read, halt}
+use Rattle.sc_lexemes.specs.Outcomes.{read, halt}
 use Rattle.sc_parser.specs.ReadsFiles.{HaltsAnnotation, ReadsHead, ReadsSlot, ReadsConstraint, ReadsEntities, ReadsActionConstraint, ReadsScope, ReadsPrincipal, ReadsAction, ReadsResource, ReadsScopes}
 use Rattle.sc_parser.specs.ReadsFiles as r
 use Rattle.sc_parser.proofs.PlainForwardLaws.{fwd_path}

@@ -3,58 +3,60 @@ use Rattle.std.proofs.Common.{ℕ, ◌≤◌, ◌<◌, List, arith}
 use Rattle.sc_ast.specs.declared.place.Place.{Place}
 use Rattle.sc_ast.specs.declared.expr.Expr.{Expr}
 use Rattle.sc_ast.specs.declared.operator.UnaryOperator.{UnaryOperator}
-use Rattle.sc_parser.specs.declared.cursor.Cursor.{Cursor}
-use Rattle.sc_parser.specs.declared.lexeme.Lexeme.{Lexeme}
-use Rattle.sc_parser.specs.declared.operator.Close.{Close}
-use Rattle.sc_parser.specs.declared.operator.Level.{Level}
-use Rattle.sc_parser.specs.declared.stop.Stop.{Stop}
+use Rattle.sc_lexemes.specs.declared.cursor.Cursor.{Cursor}
+use Rattle.sc_lexemes.specs.declared.lexeme.Lexeme.{Lexeme}
+use Rattle.sc_lexemes.specs.declared.operator.Close.{Close}
+use Rattle.sc_lexemes.specs.declared.operator.Level.{Level}
+use Rattle.sc_lexemes.specs.declared.stop.Stop.{Stop}
 use Rattle.sc_parser.specs.Limits.{all_limits}
-use Rattle.sc_parser.specs.Outcomes.{halt}
-use Rattle.sc_parser.specs.Reads.{ReadsIdent, ReadsString, ReadsMoreNames, ReadsNames, ReadsMorePath, ReadsPath, ReadsMoreEntity, ReadsEntity, ReadsKey, ReadsExpr, ReadsInner, ReadsEnclosed, ReadsChain, ReadsMore, ReadsOperand, ReadsRelation, ReadsTail, ReadsUnary, ReadsPrefixes, ReadsMember, ReadsAccesses, ReadsPrimary, ReadsItems, ReadsFields}
+use Rattle.sc_lexemes.specs.Outcomes.{halt}
+use Rattle.sc_lexemes.specs.ReadsWords.{ReadsIdent, ReadsString, ReadsMoreNames, ReadsNames, ReadsMorePath, ReadsPath, ReadsMoreEntity, ReadsEntity, ReadsKey}
+use Rattle.sc_parser.specs.Reads.{ReadsExpr, ReadsInner, ReadsEnclosed, ReadsChain, ReadsMore, ReadsOperand, ReadsRelation, ReadsTail, ReadsUnary, ReadsPrefixes, ReadsMember, ReadsAccesses, ReadsPrimary, ReadsItems, ReadsFields}
 use Rattle.sc_parser.specs.Reads as r
+use Rattle.sc_lexemes.specs.ReadsWords as words
 use Rattle.sc_parser.proofs.PlainReadsLaws.{from_ident, from_string, from_path, from_key, from_inner, from_enclosed, from_chain, from_operand, from_primary, from_items}
 use Rattle.sc_parser.proofs.PlainForwardLaws.{fwd_ident, fwd_string, fwd_path, fwd_key, fwd_inner, fwd_enclosed, fwd_chain, fwd_operand, fwd_primary, fwd_items}
 
 pub stop_ident : {ts : List Lexeme} {s : Cursor} {f : Stop} {n : ℕ} → ReadsIdent ts s (halt f n) → s.at ≤ n
-stop_ident (r.ident_deep h l) = omega arith
-stop_ident (r.no_ident h) = omega arith
+stop_ident (words.ident_deep h l) = omega arith
+stop_ident (words.no_ident h) = omega arith
 
 pub stop_string : {ts : List Lexeme} {s : Cursor} {f : Stop} {n : ℕ} → ReadsString ts s (halt f n) → s.at ≤ n
-stop_string (r.string_deep h l) = omega arith
-stop_string (r.no_string h) = omega arith
+stop_string (words.string_deep h l) = omega arith
+stop_string (words.no_string h) = omega arith
 
 pub stop_more_names : {ts : List Lexeme} {s : Cursor} {ns : List (List ℕ)} {f : Stop} {n : ℕ} → ReadsMoreNames ts s ns (halt f n) → s.at < n
-stop_more_names (r.names_halt h p) = omega (arith, stop_ident p)
-stop_more_names (r.names_more h p q) = omega (arith, fwd_ident (from_ident all_limits p), stop_more_names q)
+stop_more_names (words.names_halt h p) = omega (arith, stop_ident p)
+stop_more_names (words.names_more h p q) = omega (arith, fwd_ident (from_ident all_limits p), stop_more_names q)
 
 pub stop_names : {ts : List Lexeme} {s : Cursor} {f : Stop} {n : ℕ} → ReadsNames ts s (halt f n) → s.at ≤ n
-stop_names (r.names_string_deep h l) = omega arith
-stop_names (r.names_ident_halt h p) = omega (arith, stop_ident p)
-stop_names (r.names_ident p q) = omega (arith, fwd_ident (from_ident all_limits p), stop_more_names q)
+stop_names (words.names_string_deep h l) = omega arith
+stop_names (words.names_ident_halt h p) = omega (arith, stop_ident p)
+stop_names (words.names_ident p q) = omega (arith, fwd_ident (from_ident all_limits p), stop_more_names q)
 
 pub stop_more_path : {ts : List Lexeme} {s : Cursor} {w : List ℕ} {f : Stop} {n : ℕ} → ReadsMorePath ts s w (halt f n) → s.at < n
-stop_more_path (r.path_halt h p) = omega (arith, stop_ident p)
-stop_more_path (r.path_more h p q) = omega (arith, fwd_ident (from_ident all_limits p), stop_more_path q)
+stop_more_path (words.path_halt h p) = omega (arith, stop_ident p)
+stop_more_path (words.path_more h p q) = omega (arith, fwd_ident (from_ident all_limits p), stop_more_path q)
 
 pub stop_path : {ts : List Lexeme} {s : Cursor} {f : Stop} {n : ℕ} → ReadsPath ts s (halt f n) → s.at ≤ n
-stop_path (r.path_ident_halt p) = omega (arith, stop_ident p)
-stop_path (r.path_rest_halt p q) = omega (arith, fwd_ident (from_ident all_limits p), stop_more_path q)
+stop_path (words.path_ident_halt p) = omega (arith, stop_ident p)
+stop_path (words.path_rest_halt p q) = omega (arith, fwd_ident (from_ident all_limits p), stop_more_path q)
 
 pub stop_more_entity : {ts : List Lexeme} {s : Cursor} {p : Place} {w : List ℕ} {f : Stop} {n : ℕ} → ReadsMoreEntity ts s p w (halt f n) → s.at ≤ n
-stop_more_entity (r.no_colons h) = omega arith
-stop_more_entity (r.entity_halt h l p) = omega (arith, stop_ident p)
-stop_more_entity (r.entity_more h p q) = omega (arith, fwd_ident (from_ident all_limits p), stop_more_entity q)
+stop_more_entity (words.no_colons h) = omega arith
+stop_more_entity (words.entity_halt h l p) = omega (arith, stop_ident p)
+stop_more_entity (words.entity_more h p q) = omega (arith, fwd_ident (from_ident all_limits p), stop_more_entity q)
 
 pub stop_entity : {ts : List Lexeme} {s : Cursor} {f : Stop} {n : ℕ} → ReadsEntity ts s (halt f n) → s.at ≤ n
-stop_entity (r.entity_ident_halt p) = omega (arith, stop_ident p)
-stop_entity (r.entity p q) = omega (arith, fwd_ident (from_ident all_limits p), stop_more_entity q)
+stop_entity (words.entity_ident_halt p) = omega (arith, stop_ident p)
+stop_entity (words.entity p q) = omega (arith, fwd_ident (from_ident all_limits p), stop_more_entity q)
 
 pub stop_key : {ts : List Lexeme} {s : Cursor} {fs : List (List ℕ × Expr)} {f : Stop} {n : ℕ} → ReadsKey ts s fs (halt f n) → s.at ≤ n
-stop_key (r.key_ident_deep h f) = omega arith
-stop_key (r.key_ident_twice p h) = omega (arith, fwd_ident (from_ident all_limits p))
-stop_key (r.key_string_deep h f) = omega arith
-stop_key (r.key_string_twice p h) = omega (arith, fwd_string (from_string all_limits p))
-stop_key (r.no_key h l) = omega arith
+stop_key (words.key_ident_deep h f) = omega arith
+stop_key (words.key_ident_twice p h) = omega (arith, fwd_ident (from_ident all_limits p))
+stop_key (words.key_string_deep h f) = omega arith
+stop_key (words.key_string_twice p h) = omega (arith, fwd_string (from_string all_limits p))
+stop_key (words.no_key h l) = omega arith
 
 mutual
   pub stop_expr : {ts : List Lexeme} {s : Cursor} {f : Stop} {n : ℕ} → ReadsExpr ts s (halt f n) → s.at ≤ n

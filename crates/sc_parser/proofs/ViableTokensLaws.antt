@@ -3,18 +3,18 @@ use Rattle.std.proofs.Common.{zero, suc, ◌≡◌, ℕ, ◌+◌, ◌≤◌, ◌
 use Rattle.sc_ast.specs.declared.place.Place.{Place}
 use Rattle.sc_lexer.specs.declared.token.Kind.{Kind}
 use Rattle.sc_lexer.specs.declared.token.Kind.TheVariants as kind
-use Rattle.sc_parser.specs.declared.cursor.Cursor.{Cursor}
-use Rattle.sc_parser.specs.declared.lexeme.Lexeme.{Lexeme}
-use Rattle.sc_parser.specs.declared.lexeme.Shape.{Shape}
-use Rattle.sc_parser.specs.declared.lexeme.Shape.TheVariants.{Word, Number, Sign}
-use Rattle.sc_parser.specs.declared.operator.Close.{Close}
-use Rattle.sc_parser.specs.declared.operator.Close.TheVariants as close
-use Rattle.sc_parser.specs.declared.stop.Stop.{Stop}
-use Rattle.sc_parser.specs.declared.stop.Stop.TheVariants as stop
+use Rattle.sc_lexemes.specs.declared.cursor.Cursor.{Cursor}
+use Rattle.sc_lexemes.specs.declared.lexeme.Lexeme.{Lexeme}
+use Rattle.sc_lexemes.specs.declared.lexeme.Shape.{Shape}
+use Rattle.sc_lexemes.specs.declared.lexeme.Shape.TheVariants.{Word, Number, Sign}
+use Rattle.sc_lexemes.specs.declared.operator.Close.{Close}
+use Rattle.sc_lexemes.specs.declared.operator.Close.TheVariants as close
+use Rattle.sc_lexemes.specs.declared.stop.Stop.{Stop}
+use Rattle.sc_lexemes.specs.declared.stop.Stop.TheVariants as stop
 use Rattle.sc_parser.specs.Faults.{Shares}
-use Rattle.sc_parser.specs.Lexemes.{Is, closing}
+use Rattle.sc_lexemes.specs.Lexemes.{Is, closing}
 use Rattle.sc_parser.specs.Limits.{Limits, rank}
-use Rattle.sc_parser.specs.Tables.{least_digits}
+use Rattle.sc_lexemes.specs.Tables.{least_digits}
 use Rattle.sc_parser.proofs.PlainTokensLaws.{Same, Weaker}
 
 -- how many tokens stand fast where reading stops: those before the place, and the one that passes a limit

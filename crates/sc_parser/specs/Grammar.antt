@@ -14,19 +14,19 @@ use Rattle.sc_ast.specs.declared.literal.EntityLiteral.{EntityLiteral}
 use Rattle.sc_ast.specs.declared.operator.UnaryOperator.{UnaryOperator}
 use Rattle.sc_ast.specs.declared.operator.UnaryOperator.TheVariants as unary
 use Rattle.sc_lexer.specs.declared.token.Kind.TheVariants as kind
-use Rattle.sc_parser.specs.declared.cursor.Cursor.{Cursor}
-use Rattle.sc_parser.specs.declared.lexeme.Lexeme.{Lexeme}
-use Rattle.sc_parser.specs.declared.lexeme.Shape.TheVariants.{Word, Number, String, Sign}
-use Rattle.sc_parser.specs.declared.operator.Close.{Close}
-use Rattle.sc_parser.specs.declared.operator.Close.TheVariants as close
-use Rattle.sc_parser.specs.declared.operator.Level.{Level}
-use Rattle.sc_parser.specs.declared.operator.Level.TheVariants as level
-use Rattle.sc_parser.specs.declared.operator.Operator.{Operator}
-use Rattle.sc_parser.specs.declared.stop.Stop.TheVariants as stop
-use Rattle.sc_parser.specs.Depth.{next, past, inside, back}
-use Rattle.sc_parser.specs.Lexemes.{Is, Lacks, IsIdent, closing, IsOperator, IsPrefix, IsLeast, LacksLeast}
+use Rattle.sc_lexemes.specs.declared.cursor.Cursor.{Cursor}
+use Rattle.sc_lexemes.specs.declared.lexeme.Lexeme.{Lexeme}
+use Rattle.sc_lexemes.specs.declared.lexeme.Shape.TheVariants.{Word, Number, String, Sign}
+use Rattle.sc_lexemes.specs.declared.operator.Close.{Close}
+use Rattle.sc_lexemes.specs.declared.operator.Close.TheVariants as close
+use Rattle.sc_lexemes.specs.declared.operator.Level.{Level}
+use Rattle.sc_lexemes.specs.declared.operator.Level.TheVariants as level
+use Rattle.sc_lexemes.specs.declared.operator.Operator.{Operator}
+use Rattle.sc_lexemes.specs.declared.stop.Stop.TheVariants as stop
+use Rattle.sc_lexemes.specs.Depth.{next, past, inside, back}
+use Rattle.sc_lexemes.specs.Lexemes.{Is, Lacks, IsIdent, closing, IsOperator, IsPrefix, IsLeast, LacksLeast}
 use Rattle.sc_parser.specs.Limits.{Limits, Holds, Fits}
-use Rattle.sc_parser.specs.Tables.{joined, called, applied, has_key, is_long, least_long, variable_of}
+use Rattle.sc_lexemes.specs.Tables.{joined, called, applied, has_key, is_long, least_long, variable_of}
 
 -- an identifier
 pub data Ident : Limits → List Lexeme → Cursor → Place → List ℕ → Cursor → Type 0 where

@@ -17,15 +17,15 @@ use Rattle.sc_ast.specs.declared.scope.ActionConstraint.TheVariants as action
 use Rattle.sc_ast.specs.declared.scope.Scope.{Scope}
 use Rattle.sc_ast.specs.declared.scope.ActionScope.{ActionScope}
 use Rattle.sc_lexer.specs.declared.token.Kind.TheVariants as kind
-use Rattle.sc_parser.specs.declared.cursor.Cursor.{Cursor}
-use Rattle.sc_parser.specs.declared.lexeme.Lexeme.{Lexeme}
-use Rattle.sc_parser.specs.declared.lexeme.Shape.TheVariants.{Word, String, Sign}
-use Rattle.sc_parser.specs.declared.operator.Close.TheVariants as close
+use Rattle.sc_lexemes.specs.declared.cursor.Cursor.{Cursor}
+use Rattle.sc_lexemes.specs.declared.lexeme.Lexeme.{Lexeme}
+use Rattle.sc_lexemes.specs.declared.lexeme.Shape.TheVariants.{Word, String, Sign}
+use Rattle.sc_lexemes.specs.declared.operator.Close.TheVariants as close
 use Rattle.sc_parser.specs.declared.scopes.Scopes.{Scopes}
-use Rattle.sc_parser.specs.declared.stop.Stop.TheVariants as stop
-use Rattle.sc_parser.specs.Depth.{next, deeper, outside}
+use Rattle.sc_lexemes.specs.declared.stop.Stop.TheVariants as stop
+use Rattle.sc_lexemes.specs.Depth.{next, deeper, outside}
 use Rattle.sc_parser.specs.Grammar.{Path, Entity, Enclosed}
-use Rattle.sc_parser.specs.Lexemes.{Is, IsEffect, IsClause}
+use Rattle.sc_lexemes.specs.Lexemes.{Is, IsEffect, IsClause}
 use Rattle.sc_parser.specs.Limits.{Limits, Holds}
 
 -- annotations, and the word of the effect; an annotation is `@`, a word, and perhaps a string in parentheses

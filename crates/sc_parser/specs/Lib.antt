@@ -1,11 +1,7 @@
-pub mod Depth
 pub mod Faults
 pub mod Grammar
 pub mod GrammarFiles
-pub mod Lexemes
 pub mod Limits
-pub mod Outcomes
 pub mod Reads
 pub mod ReadsFiles
 pub mod Spelling
-pub mod Tables

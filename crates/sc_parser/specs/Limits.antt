@@ -1,9 +1,9 @@
 -- The limits within which a file is read, and which of them are kept.
 use Rattle.std.specs.Prelude.{◌≡◌, ℕ, ◌+◌, ◌||◌, ◌&&◌, ◌==◌, nat_lt, Bool, true, false}
-use Rattle.sc_parser.specs.declared.cursor.Cursor.{Cursor}
-use Rattle.sc_parser.specs.declared.stop.Stop.{Stop}
-use Rattle.sc_parser.specs.declared.stop.Stop.TheVariants as stop
-use Rattle.sc_parser.specs.Depth.{fits}
+use Rattle.sc_lexemes.specs.declared.cursor.Cursor.{Cursor}
+use Rattle.sc_lexemes.specs.declared.stop.Stop.{Stop}
+use Rattle.sc_lexemes.specs.declared.stop.Stop.TheVariants as stop
+use Rattle.sc_lexemes.specs.Depth.{fits}
 
 -- whether the limit of this kind is kept at the token of this number
 abbrev pub Limits : Type 0

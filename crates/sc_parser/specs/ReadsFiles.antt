@@ -17,17 +17,18 @@ use Rattle.sc_ast.specs.declared.scope.ActionConstraint.TheVariants as action
 use Rattle.sc_ast.specs.declared.scope.Scope.{Scope}
 use Rattle.sc_ast.specs.declared.scope.ActionScope.{ActionScope}
 use Rattle.sc_lexer.specs.declared.token.Kind.TheVariants as kind
-use Rattle.sc_parser.specs.declared.cursor.Cursor.{Cursor}
-use Rattle.sc_parser.specs.declared.lexeme.Lexeme.{Lexeme}
-use Rattle.sc_parser.specs.declared.lexeme.Shape.TheVariants.{Word, String, Sign}
-use Rattle.sc_parser.specs.declared.operator.Close.TheVariants as close
+use Rattle.sc_lexemes.specs.declared.cursor.Cursor.{Cursor}
+use Rattle.sc_lexemes.specs.declared.lexeme.Lexeme.{Lexeme}
+use Rattle.sc_lexemes.specs.declared.lexeme.Shape.TheVariants.{Word, String, Sign}
+use Rattle.sc_lexemes.specs.declared.operator.Close.TheVariants as close
 use Rattle.sc_parser.specs.declared.scopes.Scopes.{Scopes}
-use Rattle.sc_parser.specs.declared.stop.Stop.{Stop}
-use Rattle.sc_parser.specs.declared.stop.Stop.TheVariants as stop
-use Rattle.sc_parser.specs.Depth.{next, deeper, outside}
-use Rattle.sc_parser.specs.Lexemes.{Is, Lacks, LacksString, LacksWord, IsEffect, LacksEffect, IsClause, LacksClause, IsPolicyStart}
-use Rattle.sc_parser.specs.Outcomes.{Outcome, read, halt}
-use Rattle.sc_parser.specs.Reads.{ReadsPath, ReadsEntity, ReadsEnclosed}
+use Rattle.sc_lexemes.specs.declared.stop.Stop.{Stop}
+use Rattle.sc_lexemes.specs.declared.stop.Stop.TheVariants as stop
+use Rattle.sc_lexemes.specs.Depth.{next, deeper, outside}
+use Rattle.sc_lexemes.specs.Lexemes.{Is, Lacks, LacksString, LacksWord, IsEffect, LacksEffect, IsClause, LacksClause, IsPolicyStart}
+use Rattle.sc_lexemes.specs.Outcomes.{Outcome, read, halt}
+use Rattle.sc_lexemes.specs.ReadsWords.{ReadsPath, ReadsEntity}
+use Rattle.sc_parser.specs.Reads.{ReadsEnclosed}
 
 -- an annotation: `@`, a word, and perhaps a string in parentheses
 pub data SkipsAnnotation : List Lexeme → Cursor → Cursor → Type 0 where

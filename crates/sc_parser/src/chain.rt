@@ -1,24 +1,15 @@
 //! Reads operands with operators between them.
-ghost use Rattle.std.specs.Prelude.{◌≡◌, ◌≤◌, ◌<◌, length, IfOk, IfErr, [], true, codes};
-ghost use Rattle.sc_ast.specs.declared.expr.Expr.{Expr as AnyExpr};
-ghost use Rattle.sc_lexer.specs.declared.token.Kind.TheVariants as kind;
-ghost use Rattle.sc_parser.specs.declared.lexeme.Shape.TheVariants.{Word, Sign as OfSign};
-ghost use Rattle.sc_parser.specs.declared.operator.Level.TheVariants as level_is;
-ghost use Rattle.sc_parser.specs.Depth.{fits};
-ghost use Rattle.sc_parser.specs.Lexemes.{Is, starts};
-ghost use Rattle.sc_parser.specs.Outcomes.{Outcome, read, Halts};
-ghost use Rattle.sc_parser.specs.Reads.{ReadsChain, ReadsOperand, ReadsRelation, ReadsTail, ReadsPath};
+ghost use Rattle.std.specs.Prelude.{◌≡◌, ◌≤◌, ◌<◌, length, IfOk, IfErr, codes};
+ghost use Rattle.sc_lexemes.specs.declared.lexeme.Shape.TheVariants.{Word};
+ghost use Rattle.sc_lexemes.specs.declared.operator.Level.TheVariants as level_is;
+ghost use Rattle.sc_lexemes.specs.Lexemes.{Is};
+ghost use Rattle.sc_lexemes.specs.Outcomes.{read, Halts};
+ghost use Rattle.sc_parser.specs.Reads.{ReadsChain, ReadsOperand, ReadsRelation, ReadsTail};
 
-use crate::cursor::Cursor;
-use crate::lexeme::Lexeme;
-use crate::name::{names, path, string};
-use crate::operator::Level;
-use crate::peek::{operator_at, word_at};
 use crate::prefix::unary;
-use crate::stop::Stop;
-use crate::tables::joined;
 use crate::tree;
 use sc_ast::{Expr, Place};
+use sc_lexemes::{Cursor, Level, Lexeme, Stop, joined, names, operator_at, path, string, word_at};
 use std::alloc::Global;
 
 /// Reads operands of a level with its operators between them.

@@ -1,16 +1,12 @@
 //! Reads what a scope asks.
-ghost use Rattle.std.specs.Prelude.{◌≡◌, ◌≤◌, ◌<◌, length, IfOk, IfErr, [], codes};
-ghost use Rattle.sc_parser.specs.Outcomes.{read, Halts};
-ghost use Rattle.sc_parser.specs.declared.lexeme.Shape.TheVariants.{Word};
-ghost use Rattle.sc_parser.specs.Lexemes.{Is};
+ghost use Rattle.std.specs.Prelude.{◌≤◌, ◌<◌, length, IfOk, IfErr, [], codes};
+ghost use Rattle.sc_lexemes.specs.Outcomes.{read, Halts};
+ghost use Rattle.sc_lexemes.specs.declared.lexeme.Shape.TheVariants.{Word};
+ghost use Rattle.sc_lexemes.specs.Lexemes.{Is};
 ghost use Rattle.sc_parser.specs.ReadsFiles.{ReadsSlot, ReadsConstraint, ReadsEntities, ReadsActionConstraint};
 
-use crate::cursor::Cursor;
-use crate::lexeme::Lexeme;
-use crate::name::{entity, path};
-use crate::peek::{sign_at, word_at};
-use crate::stop::Stop;
 use sc_ast::{ActionConstraint, Constraint, EntityLiteral, Place};
+use sc_lexemes::{Cursor, Lexeme, Stop, entity, path, sign_at, word_at};
 use sc_lexer::Kind;
 use sc_lists::Seq;
 use std::alloc::Global;

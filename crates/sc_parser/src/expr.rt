@@ -1,22 +1,12 @@
 //! Reads expressions, and those that stand inside of something.
-ghost use Rattle.std.specs.Prelude.{◌≡◌, ◌≤◌, ◌<◌, length, IfOk, IfErr, [], true};
-ghost use Rattle.sc_ast.specs.declared.expr.Expr.{Expr as AnyExpr};
-ghost use Rattle.sc_lexer.specs.declared.token.Kind.TheVariants as kind;
-ghost use Rattle.sc_parser.specs.declared.lexeme.Shape.TheVariants.{Word, Sign as OfSign};
-ghost use Rattle.sc_parser.specs.declared.operator.Level.TheVariants as level_is;
-ghost use Rattle.sc_parser.specs.Depth.{fits};
-ghost use Rattle.sc_parser.specs.Lexemes.{Is, starts};
-ghost use Rattle.sc_parser.specs.Outcomes.{Outcome, read, Halts};
+ghost use Rattle.std.specs.Prelude.{◌≤◌, ◌<◌, length, IfOk, IfErr};
+ghost use Rattle.sc_lexemes.specs.Outcomes.{read, Halts};
 ghost use Rattle.sc_parser.specs.Reads.{ReadsExpr, ReadsInner, ReadsEnclosed};
 
 use crate::chain::chain;
-use crate::cursor::Cursor;
-use crate::lexeme::Lexeme;
-use crate::operator::{Close, Level};
-use crate::peek::{close_at, word_at};
-use crate::stop::Stop;
 use crate::tree::choice;
 use sc_ast::Expr;
+use sc_lexemes::{Close, Cursor, Level, Lexeme, Stop, close_at, word_at};
 use std::alloc::Global;
 
 /// Reads an expression.

@@ -1,16 +1,13 @@
 //! Reads what comes before a policy's scope.
-ghost use Rattle.std.specs.Prelude.{◌≡◌, ◌≤◌, ◌<◌, length, IfOk, IfErr, OnOk};
+ghost use Rattle.std.specs.Prelude.{◌≤◌, ◌<◌, length, IfOk, IfErr, OnOk};
 ghost use Rattle.sc_lexer.specs.declared.token.Kind.TheVariants.{At};
-ghost use Rattle.sc_parser.specs.declared.lexeme.Shape.TheVariants.{Sign as OfSign};
-ghost use Rattle.sc_parser.specs.Lexemes.{Is};
-ghost use Rattle.sc_parser.specs.Outcomes.{read, Halts};
+ghost use Rattle.sc_lexemes.specs.declared.lexeme.Shape.TheVariants.{Sign as OfSign};
+ghost use Rattle.sc_lexemes.specs.Lexemes.{Is};
+ghost use Rattle.sc_lexemes.specs.Outcomes.{read, Halts};
 ghost use Rattle.sc_parser.specs.ReadsFiles.{SkipsAnnotation, HaltsAnnotation, ReadsHead};
 
-use crate::cursor::Cursor;
-use crate::lexeme::Lexeme;
-use crate::peek::{any_word_at, effect_at, sign_at, string_at};
-use crate::stop::Stop;
 use sc_ast::{Effect, Place};
+use sc_lexemes::{Cursor, Lexeme, Stop, any_word_at, effect_at, sign_at, string_at};
 use sc_lexer::Kind;
 
 /// Skips an annotation: `@`, a word, and perhaps a string in parentheses.

@@ -1,22 +1,11 @@
 //! Reads lists of expressions, and the fields of records.
-ghost use Rattle.std.specs.Prelude.{◌≡◌, ◌≤◌, ◌<◌, length, IfOk, IfErr, [], true};
-ghost use Rattle.sc_ast.specs.declared.expr.Expr.{Expr as AnyExpr};
-ghost use Rattle.sc_lexer.specs.declared.token.Kind.TheVariants as kind;
-ghost use Rattle.sc_parser.specs.declared.lexeme.Shape.TheVariants.{Word, Sign as OfSign};
-ghost use Rattle.sc_parser.specs.declared.operator.Level.TheVariants as level_is;
-ghost use Rattle.sc_parser.specs.Depth.{fits};
-ghost use Rattle.sc_parser.specs.Lexemes.{Is, starts};
-ghost use Rattle.sc_parser.specs.Outcomes.{Outcome, read, Halts};
+ghost use Rattle.std.specs.Prelude.{◌≤◌, ◌<◌, length, IfOk, IfErr, []};
+ghost use Rattle.sc_lexemes.specs.Outcomes.{read, Halts};
 ghost use Rattle.sc_parser.specs.Reads.{ReadsItems, ReadsFields};
 
-use crate::cursor::Cursor;
 use crate::expr::inner;
-use crate::lexeme::Lexeme;
-use crate::name::key;
-use crate::operator::Close;
-use crate::peek::{close_at, sign_at};
-use crate::stop::Stop;
 use sc_ast::Expr;
+use sc_lexemes::{Close, Cursor, Lexeme, Stop, close_at, key, no_keys, sign_at};
 use sc_lexer::Kind;
 use sc_lists::{Seq, Text};
 use std::alloc::Global;
@@ -68,12 +57,13 @@ pub(crate) fn fields(
     ensures ok { IfOk result (λ fs. ReadsFields ts.now cursor.old [] (read fs cursor.new)) }
     ensures err { IfErr result (λ f. Halts (ReadsFields ts.now cursor.old []) f cursor.new) }
 {
+    let mut names = no_keys(alloc);
     let mut fs = Seq::new(alloc);
     loop {
         if let Some(_) = sign_at(ts, cursor.at, Kind::CloseBrace) {
             return Ok(fs);
         }
-        let name = key(alloc, ts, cursor, fs.as_slice())?;
+        let name = key(alloc, ts, cursor, &mut names)?;
         let Some(_) = sign_at(ts, cursor.at, Kind::Colon) else {
             return Err(Stop::Unexpected);
         };

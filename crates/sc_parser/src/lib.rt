@@ -1,27 +1,20 @@
-//! Reads policy files.
+//! Reads policy files: expressions, scopes, policies and files of them.
 #![tactic(auto)]
 
 mod chain;
 mod constraint;
-mod cursor;
 mod expr;
 mod fault;
 mod head;
 mod items;
-mod lexeme;
-mod lexemes;
 mod member;
-mod name;
-mod number;
-mod operator;
-mod peek;
 mod policy;
 mod prefix;
 mod primary;
 mod reading;
+#[cfg(test)]
+mod reading_tests;
 mod scopes;
-mod stop;
-mod tables;
 mod tree;
 
 pub use fault::PolicyFault;

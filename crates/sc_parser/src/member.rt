@@ -1,25 +1,17 @@
 //! Reads accesses and calls of methods.
-ghost use Rattle.std.specs.Prelude.{◌≡◌, ◌≤◌, ◌<◌, length, IfOk, IfErr, [], true};
+ghost use Rattle.std.specs.Prelude.{◌≤◌, ◌<◌, length, IfOk, IfErr};
 ghost use Rattle.sc_ast.specs.declared.expr.Expr.{Expr as AnyExpr};
 ghost use Rattle.sc_lexer.specs.declared.token.Kind.TheVariants as kind;
-ghost use Rattle.sc_parser.specs.declared.lexeme.Shape.TheVariants.{Word, Sign as OfSign};
-ghost use Rattle.sc_parser.specs.declared.operator.Level.TheVariants as level_is;
-ghost use Rattle.sc_parser.specs.Depth.{fits};
-ghost use Rattle.sc_parser.specs.Lexemes.{Is, starts};
-ghost use Rattle.sc_parser.specs.Outcomes.{Outcome, read, Halts};
+ghost use Rattle.sc_lexemes.specs.declared.lexeme.Shape.TheVariants.{Sign as OfSign};
+ghost use Rattle.sc_lexemes.specs.Lexemes.{Is};
+ghost use Rattle.sc_lexemes.specs.Outcomes.{Outcome, read, Halts};
 ghost use Rattle.sc_parser.specs.Reads.{ReadsMember, ReadsAccesses};
 
-use crate::cursor::Cursor;
 use crate::items::items;
-use crate::lexeme::Lexeme;
-use crate::name::{ident, string};
-use crate::operator::Close;
-use crate::peek::sign_at;
 use crate::primary::primary;
-use crate::stop::Stop;
-use crate::tables::called;
 use crate::tree::access;
 use sc_ast::{Expr, Place};
+use sc_lexemes::{Close, Cursor, Lexeme, Stop, called, ident, sign_at, string};
 use sc_lexer::Kind;
 use std::alloc::Global;
 

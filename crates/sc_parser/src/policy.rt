@@ -1,19 +1,15 @@
 //! Reads policies.
 ghost use Rattle.std.specs.Prelude.{◌≡◌, ◌≤◌, ◌<◌, length, IfOk, IfErr, [], nat_lt};
-ghost use Rattle.sc_parser.specs.Outcomes.{read, halt, Halts};
-ghost use Rattle.sc_parser.specs.declared.stop.Stop.TheVariants.{NoMemory};
-ghost use Rattle.sc_parser.specs.Depth.{outside};
+ghost use Rattle.sc_lexemes.specs.Outcomes.{read, halt, Halts};
+ghost use Rattle.sc_lexemes.specs.declared.stop.Stop.TheVariants.{NoMemory};
+ghost use Rattle.sc_lexemes.specs.Depth.{outside};
 ghost use Rattle.sc_parser.specs.ReadsFiles.{ReadsClauses, ReadsPolicy, ReadsPolicies};
 
-use crate::cursor::Cursor;
 use crate::expr::enclosed;
 use crate::head::head;
-use crate::lexeme::Lexeme;
-use crate::operator::Close;
-use crate::peek::{clause_at, policy_at, sign_at};
 use crate::scopes::read_scopes;
-use crate::stop::Stop;
 use sc_ast::{Condition, Policy};
+use sc_lexemes::{Close, Cursor, Lexeme, Stop, clause_at, policy_at, sign_at};
 use sc_lexer::Kind;
 use sc_lists::Seq;
 use std::alloc::Global;

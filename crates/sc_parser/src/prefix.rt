@@ -1,21 +1,11 @@
 //! Reads prefixes.
-ghost use Rattle.std.specs.Prelude.{◌≡◌, ◌≤◌, ◌<◌, length, IfOk, IfErr, [], true};
-ghost use Rattle.sc_ast.specs.declared.expr.Expr.{Expr as AnyExpr};
-ghost use Rattle.sc_lexer.specs.declared.token.Kind.TheVariants as kind;
-ghost use Rattle.sc_parser.specs.declared.lexeme.Shape.TheVariants.{Word, Sign as OfSign};
-ghost use Rattle.sc_parser.specs.declared.operator.Level.TheVariants as level_is;
-ghost use Rattle.sc_parser.specs.Depth.{fits};
-ghost use Rattle.sc_parser.specs.Lexemes.{Is, starts};
-ghost use Rattle.sc_parser.specs.Outcomes.{Outcome, read, Halts};
+ghost use Rattle.std.specs.Prelude.{◌≤◌, ◌<◌, length, IfOk, IfErr};
+ghost use Rattle.sc_lexemes.specs.Outcomes.{read, Halts};
 ghost use Rattle.sc_parser.specs.Reads.{ReadsUnary, ReadsPrefixes};
 
-use crate::cursor::Cursor;
-use crate::lexeme::Lexeme;
 use crate::member::{accesses, member};
-use crate::peek::{least_behind, prefix_at, this_prefix_at};
-use crate::stop::Stop;
-use crate::tree::prefixed;
 use sc_ast::{Expr, Literal, UnaryOperator};
+use sc_lexemes::{Cursor, Lexeme, Stop, least_behind, prefix_at, prefixed, this_prefix_at};
 use std::alloc::Global;
 
 /// Reads up to four prefixes of one kind, and what they stand before.

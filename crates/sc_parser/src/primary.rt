@@ -1,31 +1,25 @@
 //! Reads what has no operator.
-ghost use Rattle.std.specs.Prelude.{◌≡◌, ◌≤◌, ◌<◌, length, IfOk, IfErr, [], true, false, None, List, ◌+◌};
-ghost use Rattle.sc_ast.specs.declared.expr.Expr.{Expr as AnyExpr};
+ghost use Rattle.std.specs.Prelude.{◌≡◌, ◌≤◌, ◌<◌, length, IfOk, IfErr, true, false, None, List, ◌+◌};
 ghost use Rattle.sc_lexer.specs.declared.token.Kind.TheVariants as kind;
-ghost use Rattle.sc_parser.specs.declared.lexeme.Shape.TheVariants.{Word, Sign as OfSign};
-ghost use Rattle.sc_parser.specs.declared.operator.Level.TheVariants as level_is;
-ghost use Rattle.sc_parser.specs.Depth.{fits};
-ghost use Rattle.sc_parser.specs.Lexemes.{Is, starts};
-ghost use Rattle.sc_parser.specs.Outcomes.{Outcome, read, Halts};
+ghost use Rattle.sc_lexemes.specs.declared.lexeme.Shape.TheVariants.{Word, Sign as OfSign};
+ghost use Rattle.sc_lexemes.specs.Depth.{fits};
+ghost use Rattle.sc_lexemes.specs.Lexemes.{Is, starts};
+ghost use Rattle.sc_lexemes.specs.Outcomes.{read, Halts};
 ghost use Rattle.sc_ast.specs.declared.place.Place.{Place as AnyPlace};
 ghost use Rattle.sc_pattern.specs.declared.part.Part.{Part as AnyPart};
 ghost use Rattle.sc_names.specs.Names.{is_ident};
-ghost use Rattle.sc_parser.specs.Tables.{variable_of};
-ghost use Rattle.sc_parser.specs.declared.lexeme.Shape.TheVariants.{Number, String as OfString};
-ghost use Rattle.sc_parser.specs.Lexemes.{IsIdent, Lacks};
-ghost use Rattle.sc_parser.specs.Reads.{ReadsPrimary, ReadsMoreEntity};
+ghost use Rattle.sc_lexemes.specs.Tables.{variable_of};
+ghost use Rattle.sc_lexemes.specs.declared.lexeme.Shape.TheVariants.{Number, String as OfString};
+ghost use Rattle.sc_lexemes.specs.Lexemes.{IsIdent, Lacks};
+ghost use Rattle.sc_parser.specs.Reads.{ReadsPrimary};
 
-use crate::cursor::Cursor;
 use crate::expr::enclosed;
 use crate::items::{fields, items};
-use crate::lexeme::{Lexeme, Shape};
-use crate::name::more_entity;
-use crate::number::long_of;
-use crate::operator::Close;
-use crate::peek::{sign_at, start_at, word_at};
-use crate::stop::Stop;
-use crate::tables::{applied, variable_of};
 use sc_ast::{Expr, Literal, Place};
+use sc_lexemes::{
+    Close, Cursor, Lexeme, Shape, Stop, applied, long_of, more_entity, sign_at, start_at,
+    variable_of, word_at,
+};
 use sc_lexer::Kind;
 use sc_lists::Text;
 use sc_names::is_ident;
@@ -210,7 +204,7 @@ fn function(
 
 /// Reads what begins with an opening bracket of any kind.
 #[cycle(read)]
-#[tactic(auto, using(crate::specs::Reads::parenthesis, crate::specs::Reads::set_halts, crate::specs::Reads::set, crate::specs::Reads::record_halts, crate::specs::Reads::fields), unfolding(crate::specs::Lexemes::starts))]
+#[tactic(auto, using(crate::specs::Reads::parenthesis, crate::specs::Reads::set_halts, crate::specs::Reads::set, crate::specs::Reads::record_halts, crate::specs::Reads::fields), unfolding(sc_lexemes::specs::Lexemes::starts))]
 fn opened(
     alloc: Global,
     ts: &[Lexeme],

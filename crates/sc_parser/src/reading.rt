@@ -4,16 +4,14 @@ ghost use Rattle.sc_ast.specs.declared.policy.Policy.{Policy as AnyPolicy};
 ghost use Rattle.sc_lexer.specs.Reading.{Lexes};
 ghost use Rattle.sc_lists.specs.Told.{Gives};
 ghost use Rattle.sc_parser.specs.declared.fault.PolicyFault.{PolicyFault as AnyFault};
-ghost use Rattle.sc_parser.specs.Outcomes.{halt};
+ghost use Rattle.sc_lexemes.specs.Outcomes.{halt};
 ghost use Rattle.sc_parser.specs.ReadsFiles.{ReadsPolicies};
 ghost use Rattle.sc_parser.specs.Spelling.{AreLexemes, Spells, HasFault, IsReading, ReadFails, fault_of};
 
 use crate::fault::PolicyFault;
-use crate::lexeme::Lexeme;
-use crate::lexemes::lexemes;
 use crate::policy::policies;
-use crate::stop::Stop;
 use sc_ast::{Place, PolicySet};
+use sc_lexemes::{Lexeme, Stop, lexemes_of};
 use sc_lexer::{LexFault, tokens};
 use sc_lists::Fault;
 use std::alloc::Global;
@@ -90,7 +88,7 @@ fn read_file(alloc: Global, bytes: &[u8]) -> Result<PolicySet, Fault<PolicyFault
         Err(Fault::Told(fault)) => return Err(Fault::Told(lexical(fault))),
         Err(Fault::NoMemory) => return Err(Fault::NoMemory),
     };
-    let lexemes = lexemes(alloc, bytes, tokens.as_slice())?;
+    let lexemes = lexemes_of(alloc, bytes, tokens.as_slice())?;
     read_lexemes(alloc, lexemes.as_slice())
 }
 

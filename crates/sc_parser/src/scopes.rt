@@ -1,14 +1,11 @@
 //! The three parts of a policy's scope.
-ghost use Rattle.std.specs.Prelude.{◌≡◌, ◌≤◌, ◌<◌, length, IfOk, IfErr, [], codes};
-ghost use Rattle.sc_parser.specs.Outcomes.{read, Halts};
+ghost use Rattle.std.specs.Prelude.{◌≤◌, ◌<◌, length, IfOk, IfErr};
+ghost use Rattle.sc_lexemes.specs.Outcomes.{read, Halts};
 ghost use Rattle.sc_parser.specs.ReadsFiles.{ReadsScope, ReadsPrincipal, ReadsAction, ReadsResource, ReadsScopes};
 
 use crate::constraint::{action_constraint, constraint};
-use crate::cursor::Cursor;
-use crate::lexeme::Lexeme;
-use crate::peek::{sign_at, word_at};
-use crate::stop::Stop;
 use sc_ast::{ActionScope, Scope};
+use sc_lexemes::{Cursor, Lexeme, Stop, sign_at, word_at};
 use sc_lexer::Kind;
 use std::alloc::Global;
 

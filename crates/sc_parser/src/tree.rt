@@ -7,36 +7,6 @@ use sc_lists::{Boxed, Seq, Text};
 use sc_pattern::{Part, pattern_of};
 use std::alloc::{AllocError, Global};
 
-/// An operator with two operands.
-pub(crate) fn binary(
-    alloc: Global,
-    place: Place,
-    operator: BinaryOperator,
-    a: Expr,
-    b: Expr,
-) -> Result<Expr, AllocError>
-    ensures { IfOk result (λ x. x ≡ expr.Binary place operator a b) }
-{
-    Ok(Expr::Binary(
-        place,
-        operator,
-        Boxed::new(alloc, a)?,
-        Boxed::new(alloc, b)?,
-    ))
-}
-
-/// An operator with one operand.
-pub(crate) fn prefixed(
-    alloc: Global,
-    place: Place,
-    operator: UnaryOperator,
-    a: Expr,
-) -> Result<Expr, AllocError>
-    ensures { IfOk result (λ x. x ≡ expr.Unary place operator a) }
-{
-    Ok(Expr::Unary(place, operator, Boxed::new(alloc, a)?))
-}
-
 /// A choice by a condition.
 pub(crate) fn choice(
     alloc: Global,

@@ -1,10 +1,11 @@
 use Rattle.std.proofs.Common.{◌≡◌, ℕ, ◌+◌, ◌-◌, ◌*◌, ◌≤◌, List, [], length, true}
 use Rattle.sc_ast.specs.declared.expr.Expr.{Expr}
-use Rattle.sc_parser.specs.declared.lexeme.Lexeme.{Lexeme}
-use Rattle.sc_parser.specs.declared.operator.Level.{Level}
-use Rattle.sc_parser.specs.declared.operator.Level.TheVariants.{Or, And, Relation, Add, Multiply}
-use Rattle.sc_parser.specs.Depth.{fits}
-use Rattle.sc_parser.specs.Outcomes.{Outcome}
+use Rattle.sc_lexemes.specs.declared.lexeme.Lexeme.{Lexeme}
+use Rattle.sc_lexemes.specs.declared.operator.Level.{Level}
+use Rattle.sc_lexemes.specs.declared.operator.Level.TheVariants.{Or, And, Relation, Add, Multiply}
+use Rattle.sc_lexemes.specs.Depth.{fits}
+use Rattle.sc_lexemes.specs.Keys.{AreKeys}
+use Rattle.sc_lexemes.specs.Outcomes.{Outcome}
 use Rattle.sc_parser.specs.Reads.{ReadsChain, ReadsMore, ReadsAccesses, ReadsItems, ReadsFields}
 use Rattle.sc_parser.proofs.+read.Given as goal
 
@@ -92,6 +93,7 @@ abbrev pub invariant-items::fields-loop-fs : goal.invariant-items::fields-loop-f
 invariant-items::fields-loop-fs l = record {
   forward : l.fn.cursor.at ≤ l.cursor.at;
   within : l.cursor.at ≤ length l.ts;
+  keys : AreKeys l.names l.fs;
   rest : (o : Outcome (List (List ℕ × Expr))) → ReadsFields l.ts l.cursor l.fs o → ReadsFields l.ts l.fn.cursor [] o;
 }
 

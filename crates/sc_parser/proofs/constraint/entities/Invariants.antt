@@ -1,6 +1,6 @@
 use Rattle.std.proofs.Common.{◌≤◌, ◌-◌, List, [], length}
 use Rattle.sc_ast.specs.declared.literal.EntityLiteral.{EntityLiteral}
-use Rattle.sc_parser.specs.Outcomes.{Outcome}
+use Rattle.sc_lexemes.specs.Outcomes.{Outcome}
 use Rattle.sc_parser.specs.ReadsFiles.{ReadsEntities}
 use Rattle.sc_parser.proofs.constraint.entities.Given as goal
 

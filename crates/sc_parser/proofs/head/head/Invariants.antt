@@ -1,7 +1,7 @@
 use Rattle.std.proofs.Common.{◌≤◌, ◌-◌, length}
 use Rattle.sc_ast.specs.declared.place.Place.{Place}
 use Rattle.sc_ast.specs.declared.policy.Effect.{Effect}
-use Rattle.sc_parser.specs.Outcomes.{Outcome}
+use Rattle.sc_lexemes.specs.Outcomes.{Outcome}
 use Rattle.sc_parser.specs.ReadsFiles.{ReadsHead}
 use Rattle.sc_parser.proofs.head.head.Given as goal
 

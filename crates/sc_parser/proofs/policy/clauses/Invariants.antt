@@ -1,6 +1,6 @@
 use Rattle.std.proofs.Common.{◌≤◌, ◌-◌, List, [], length}
 use Rattle.sc_ast.specs.declared.policy.Condition.{Condition}
-use Rattle.sc_parser.specs.Outcomes.{Outcome}
+use Rattle.sc_lexemes.specs.Outcomes.{Outcome}
 use Rattle.sc_parser.specs.ReadsFiles.{ReadsClauses}
 use Rattle.sc_parser.proofs.policy.clauses.Given as goal
 

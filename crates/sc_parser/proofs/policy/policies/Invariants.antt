@@ -1,6 +1,6 @@
 use Rattle.std.proofs.Common.{◌≤◌, ◌-◌, List, [], length}
 use Rattle.sc_ast.specs.declared.policy.Policy.{Policy}
-use Rattle.sc_parser.specs.Outcomes.{Outcome}
+use Rattle.sc_lexemes.specs.Outcomes.{Outcome}
 use Rattle.sc_parser.specs.ReadsFiles.{ReadsPolicies}
 use Rattle.sc_parser.proofs.policy.policies.Given as goal
 

@@ -1,6 +1,0 @@
-use Rattle.std.proofs.Common.{◌≡◌, map, take}
-use Rattle.sc_parser.specs.Spelling.{lexeme_of}
-use Rattle.sc_parser.proofs.lexemes.lexemes.Given as goal
-
-abbrev pub invariant-loop-token : goal.invariant-loop-token
-invariant-loop-token l = l.lexemes ≡ map (lexeme_of l.bytes) (take l.token-index l.tokens)
