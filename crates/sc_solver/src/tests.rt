@@ -75,15 +75,27 @@ fn action(alloc: Global) -> Result<Action, AllocError>
     })
 }
 
-fn schema(alloc: Global) -> Result<Schema, AllocError>
-    ensures { IfOk result (λ s. s ≡ record { types = record { name = codes "Doc"; ancestors = []; shape = Record []; tags = None } ∷ record { name = codes "User"; ancestors = []; shape = Record []; tags = None } ∷ []; actions = plain_action (codes "view") (codes "User") (codes "Doc") (codes "a" ∷ codes "b" ∷ []) ∷ [] }) }
+fn types(alloc: Global) -> Result<Seq<EntityType>, AllocError>
+    ensures { IfOk result (λ ts. ts ≡ record { name = codes "Doc"; ancestors = []; shape = Record []; tags = None } ∷ record { name = codes "User"; ancestors = []; shape = Record []; tags = None } ∷ []) }
 {
     let mut types = Seq::new(alloc);
     types.push(bare_type(alloc, "Doc")?)?;
     types.push(bare_type(alloc, "User")?)?;
+    Ok(types)
+}
+
+fn one_action(alloc: Global) -> Result<Seq<Action>, AllocError>
+    ensures { IfOk result (λ xs. xs ≡ plain_action (codes "view") (codes "User") (codes "Doc") (codes "a" ∷ codes "b" ∷ []) ∷ []) }
+{
     let mut actions = Seq::new(alloc);
     actions.push(action(alloc)?)?;
-    Schema::new(alloc, types, actions)
+    Ok(actions)
+}
+
+fn schema(alloc: Global) -> Result<Schema, AllocError>
+    ensures { IfOk result (λ s. s ≡ record { types = record { name = codes "Doc"; ancestors = []; shape = Record []; tags = None } ∷ record { name = codes "User"; ancestors = []; shape = Record []; tags = None } ∷ []; actions = plain_action (codes "view") (codes "User") (codes "Doc") (codes "a" ∷ codes "b" ∷ []) ∷ [] }) }
+{
+    Schema::new(alloc, types(alloc)?, one_action(alloc)?)
 }
 
 fn env(alloc: Global) -> Result<Env, AllocError>
