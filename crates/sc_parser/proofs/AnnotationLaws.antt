@@ -4,7 +4,6 @@ use Rattle.sc_ast.specs.declared.place.Place.{Place}
 use Rattle.sc_lexer.specs.declared.token.Kind.TheVariants as kind
 use Rattle.sc_lexemes.specs.declared.cursor.Cursor.{Cursor}
 use Rattle.sc_lexemes.specs.declared.lexeme.Lexeme.{Lexeme}
-use Rattle.sc_lexemes.specs.declared.lexeme.Shape.{Shape}
 use Rattle.sc_lexemes.specs.declared.lexeme.Shape.TheVariants.{Word, String, Sign}
 use Rattle.sc_lexemes.specs.declared.stop.Stop.TheVariants.{Unexpected}
 use Rattle.sc_lexemes.specs.Depth.{next}

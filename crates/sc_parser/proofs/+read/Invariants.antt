@@ -1,9 +1,8 @@
-use Rattle.std.proofs.Common.{◌≡◌, ℕ, ◌+◌, ◌-◌, ◌*◌, ◌≤◌, List, [], length, true}
+use Rattle.std.proofs.Common.{ℕ, ◌+◌, ◌-◌, ◌*◌, ◌≤◌, List, [], length}
 use Rattle.sc_ast.specs.declared.expr.Expr.{Expr}
 use Rattle.sc_lexemes.specs.declared.lexeme.Lexeme.{Lexeme}
 use Rattle.sc_lexemes.specs.declared.operator.Level.{Level}
 use Rattle.sc_lexemes.specs.declared.operator.Level.TheVariants.{Or, And, Relation, Add, Multiply}
-use Rattle.sc_lexemes.specs.Depth.{fits}
 use Rattle.sc_lexemes.specs.Keys.{AreKeys}
 use Rattle.sc_lexemes.specs.Outcomes.{Outcome}
 use Rattle.sc_parser.specs.Reads.{ReadsChain, ReadsMore, ReadsAccesses, ReadsItems, ReadsFields}

@@ -1,4 +1,4 @@
-use Rattle.std.proofs.Common.{◌≡◌, refl}
+use Rattle.std.proofs.Common.{refl}
 use Rattle.sc_parser.proofs.AnnotationLaws.{skipped, no_string, unclosed}
 use Rattle.sc_parser.proofs.head.annotation.Goals as goal
 
