@@ -321,6 +321,12 @@ fn operators(rt: HostRuntime) -> Result<(), Fail> {
     let alloc = rt.alloc();
     assert!(rt; is_read_as(alloc, "true || true && true", &truths(alloc)?)?);
     assert!(rt; is_read_as(alloc, "true != true || true", &unequal(alloc)?)?);
+    Ok(())
+}
+
+#[test]
+fn signs_and_calls(rt: HostRuntime) -> Result<(), Fail> {
+    let alloc = rt.alloc();
     assert!(rt; is_read_as(alloc, "-9223372036854775808 - - 1", &difference(alloc)?)?);
     assert!(rt; is_read_as(alloc, "[principal.a.isEmpty()]", &set(alloc)?)?);
     Ok(())
