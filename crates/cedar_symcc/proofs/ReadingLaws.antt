@@ -1,10 +1,16 @@
 -- Why reading the files of a command ends.
-use Rattle.std.proofs.Common.{ℕ, List}
+use Rattle.std.proofs.Common.{◌≡◌, ◌≤◌, ℕ, List, Result, Ok, Err, IfErr, subst, arith}
+use Rattle.std.proofs.Math.Path.{fun_ext}
 use Rattle.sc_lists.specs.declared.fault.Fault.{Fault}
 use Rattle.sc_lists.specs.declared.fault.Fault.TheVariants.{Told, NoMemory}
+use Rattle.sc_outside.specs.Counts.{Rose}
+use Rattle.sc_parser.specs.Spelling.{HasFault}
+use Rattle.sc_schema.specs.Declarations.{Declarations}
 use Rattle.cedar_symcc.specs.Commands.{Command}
-use Rattle.cedar_symcc.specs.Readings.{FailsSchema, FailsWith, RefusesFiles}
-use Rattle.cedar_symcc.specs.Refusals.{Content, IsContent}
+use Rattle.cedar_symcc.specs.Policies.{declared_names}
+use Rattle.cedar_symcc.specs.Readings.{FailsSchema, FailsWith, RefusesFiles, RefusesPolicies}
+use Rattle.cedar_symcc.specs.Refusals.{Content, IsContent, IsTooLong, ReadsSchema, SpellsOthers}
+use Rattle.cedar_symcc.specs.declared.reporting.Inputs.{Inputs}
 use Rattle.cedar_symcc.specs.declared.refusal.FileName.TheVariants.{Schema, Policies}
 use Rattle.cedar_symcc.specs.declared.refusal.Refusal.{Refusal}
 use Rattle.cedar_symcc.specs.declared.refusal.Refusal.TheVariants.{Usage, PolicyText, ReadFault, TooLong, NotForm}
@@ -17,3 +23,21 @@ schema-fails content c rose bytes told (Told (TooLong f)) h = absurd h
 schema-fails content c rose bytes told (Told (NotForm Schema)) h = (bytes, told, h)
 schema-fails content c rose bytes told (Told (NotForm Policies)) h = absurd h
 schema-fails content c rose bytes told NoMemory h = tt
+
+-- a count that rose since it was read once rose since it was read before
+pub rose_before : (before mid now : ℕ) → before ≤ mid → Rose mid now → Rose before now
+rose_before before mid now h r = omega (arith, h, r)
+
+pub policies-fail : (content mid : Content) (c : Command) (rose risen : Type 0) (s : Declarations) → ((name : List ℕ) → mid name ≡ content name) → (risen → rose) → ReadsSchema content c s → (r : Result Inputs (Fault Refusal)) → IfErr r (FailsWith (RefusesPolicies mid c risen s)) → IfErr r (FailsWith (RefusesFiles content c rose))
+policies-fail content mid c rose risen s same since read (Ok x) h = tt
+policies-fail content mid c rose risen s same since read (Err NoMemory) h = tt
+policies-fail content mid c rose risen s same since read (Err (Told Usage)) h = absurd h
+policies-fail content mid c rose risen s same since read (Err (Told (PolicyText f))) h =
+    ((s, read), subst (λ (told : Content). (bytes : List ℕ) × IsContent told c.policies bytes × HasFault bytes f) (fun_ext same) h)
+policies-fail content mid c rose risen s same since read (Err (Told (ReadFault Schema))) h = absurd h
+policies-fail content mid c rose risen s same since read (Err (Told (ReadFault Policies))) h = ((s, read), since h)
+policies-fail content mid c rose risen s same since read (Err (Told (TooLong Schema))) h = absurd h
+policies-fail content mid c rose risen s same since read (Err (Told (TooLong Policies))) h = ((s, read), subst (λ (told : Content). IsTooLong told c.policies) (fun_ext same) h)
+policies-fail content mid c rose risen s same since read (Err (Told (NotForm Schema))) h = absurd h
+policies-fail content mid c rose risen s same since read (Err (Told (NotForm Policies))) h =
+    (s, read, subst (λ (told : Content). (bytes : List ℕ) × IsContent told c.policies bytes × SpellsOthers (declared_names s) bytes) (fun_ext same) h)
