@@ -5,3 +5,13 @@ mod AncestorLaws
 mod NamedLaws
 mod PartLaws
 mod TestLaws
+mod UidsLaws
+mod DefaultLaws
+mod TypeLaws
+mod RequiredLaws
+mod DefaultTypeLaws
+mod FillLaws
+mod DeclaredLaws
+mod NamesLaws
+mod DefaultWorldLaws
+mod DefaultSampleLaws

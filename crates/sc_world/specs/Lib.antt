@@ -2,3 +2,6 @@ pub mod Stores
 pub mod Conforms
 pub mod WellFormed
 pub mod Tests
+pub mod Defaults
+pub mod Named
+pub mod Filling

@@ -6,8 +6,15 @@ mod ancestors;
 mod attributes;
 mod closed;
 mod conformance;
+mod default_entity;
+#[cfg(test)]
+mod default_tests;
+mod default_value;
+mod default_worlds;
 mod entity;
 mod entries;
+mod filling;
+mod named;
 mod proper;
 mod request;
 mod store;
@@ -18,6 +25,7 @@ mod well_formedness;
 mod world;
 
 pub use conformance::conforms;
+pub use default_worlds::{default_world, world_for};
 pub use entity::EntityData;
 pub use store::Store;
 pub use well_formedness::well_formed;
