@@ -13,5 +13,6 @@ mod DefaultTypeLaws
 mod FillLaws
 mod DeclaredLaws
 mod NamesLaws
+mod ReachedLaws
 mod DefaultWorldLaws
 mod DefaultSampleLaws
