@@ -65,7 +65,9 @@ action_texts s (a ∷ actions) h = ((h.0.type_text, h.0.id_text), action_texts s
 
 pub default_uid-text : (s : Declarations) (name : List ℕ) → IsLawful s → IsUtf8 name → IsUidText (default_uid s name)
 default_uid-text s name lawful text =
-    found_or IsUidText _ (nameless name) (λ v e. found_all IsUidText _ (action_uids s) v (action_texts s s.actions lawful.each_action) e) (text, ascii_text [] refl)
+    found_or IsUidText (find (λ (u : Uid). bytes_eq name u.type_name) (action_uids s)) (nameless name)
+    (λ v e. found_all IsUidText (λ (u : Uid). bytes_eq name u.type_name) (action_uids s) v (action_texts s s.actions lawful.each_action) e)
+    (text, ascii_text [] refl)
 
 -- ---- declared types
 

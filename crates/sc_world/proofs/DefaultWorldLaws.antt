@@ -384,17 +384,26 @@ module _ (s : Declarations) (lawful : IsLawful s) where
     text_of : (u : Uid) → Contains (request_uids r) u → IsUidText u
     text_of u has = of_key IsUidText u es texts (of_request u has)
 
+    abbrev context_uids : List Uid
+    context_uids = uids_in (value.Record r.context)
+
     first_of : Contains (request_uids r) r.principal
-    first_of = of_first r.principal _
+    first_of = of_first r.principal (r.action ∷ r.resource ∷ context_uids)
+
+    after_first : (u : Uid) → Contains (r.action ∷ r.resource ∷ context_uids) u → Contains (request_uids r) u
+    after_first u has = of_rest r.principal (r.action ∷ r.resource ∷ context_uids) u has
 
     second_of : Contains (request_uids r) r.action
-    second_of = of_rest r.principal _ r.action (of_first r.action _)
+    second_of = after_first r.action (of_first r.action (r.resource ∷ context_uids))
+
+    after_second : (u : Uid) → Contains (r.resource ∷ context_uids) u → Contains (request_uids r) u
+    after_second u has = after_first u (of_rest r.action (r.resource ∷ context_uids) u has)
 
     third_of : Contains (request_uids r) r.resource
-    third_of = of_rest r.principal _ r.resource (of_rest r.action _ r.resource (of_first r.resource _))
+    third_of = after_second r.resource (of_first r.resource context_uids)
 
-    rest_of : (u : Uid) → Contains (uids_in (value.Record r.context)) u → Contains (request_uids r) u
-    rest_of u has = of_rest r.principal _ u (of_rest r.action _ u (of_rest r.resource _ u has))
+    rest_of : (u : Uid) → Contains context_uids u → Contains (request_uids r) u
+    rest_of u has = after_second u (of_rest r.resource context_uids u has)
 
     parts : HasWellFormedParts s env literals (record { request = r; store = es })
     parts =

@@ -78,12 +78,12 @@ level_tested Equal h = refl
 level_tested Greater h = absurd cc
 
 look_at : (P : Entry → Type 0) (u : Uid) (e : EntityData) (x : Entry) (b : Bool) (rest : Option EntityData) → is_eq (uid_cmp u x.0) ≡ b → P x → (rest ≡ Some e → P (u, e)) → cond b (Some x.1) rest ≡ Some e → P (u, e)
-look_at P u e x true rest level h later is =
+look_at P u e x true rest level h others is =
     let same : u ≡ x.0 = uid_cmp_level u x.0 (level_tested (uid_cmp u x.0) level) in
     let one : x.1 ≡ e = cc in
     let entry : ◌≡◌ {A = Entry} x (u, e) = λ i. (sym same i, one i) in
     subst P entry h
-look_at P u e x false rest level h later is = later is
+look_at P u e x false rest level h others is = others is
 
 look : (P : Entry → Type 0) (u : Uid) (e : EntityData) (es : Entities) → AllByRecursion P es → lookup (is_at (uid_cmp u)) es ≡ Some e → P (u, e)
 look P u e [] h is = absurd cc
@@ -117,6 +117,21 @@ each_stored (x ∷ es) = (
   found_here _ x.1 _ (ap is_eq (tied_itself uid_cmp_total x.0)),
   weaker (λ (y : Entry). IsStored es y.0) (λ (y : Entry). IsStored (x ∷ es) y.0) (λ y h. found_later _ x.1 _ h) es (each_stored es),
 )
+
+-- ---- one step
+
+-- the entity at a place of the list
+at_place : (uids items : List Uid) (at : ℕ) (u d : Uid) → items ≡ uids → u ≡ get_or items at u → at < length uids → u ≡ get_or uids at d
+at_place uids items at u d same is within = is ∙ ap (λ (us : List Uid). get_or us at u) same ∙ same_place uids at u d within
+
+pub known-at : (s : Declarations) (uids items : List Uid) (es : Entities) (at : ℕ) (u : Uid) → items ≡ uids → u ≡ get_or items at u → at < length uids → IsStored es u → (d : Uid) → IsStep s uids es (get_or uids at d) uids es
+known-at s uids items es at u same is within here d = subst (λ (v : Uid). IsStep s uids es v uids es) (at_place uids items at u d same is within) (known here)
+
+pub added-at : (s : Declarations) (uids items more : List Uid) (es fs : Entities) (at : ℕ) (u v : Uid) → items ≡ uids → u ≡ get_or items at u → at < length uids → v ≡ u → IsUidText v
+    → more ≡ uids ++ attribute_uids s v → fs ≡ with_entity v (default_data s v) es → (d : Uid) → IsStep s uids es (get_or uids at d) more fs
+added-at s uids items more es fs at u v same is within copy text uids_are store_is d =
+    let there : v ≡ get_or uids at d = copy ∙ at_place uids items at u d same is within in
+    rw (uids_are, store_is) (subst (λ (w : Uid). IsStep s uids es w (uids ++ attribute_uids s v) (with_entity v (default_data s v) es)) there (added text))
 
 -- ---- filling
 
@@ -155,40 +170,40 @@ module _ (s : Declarations) (first : List Uid) where
       → IsFilled s first (uids ++ attribute_uids s u) (done + 1) (with_entity u (default_data s u) es)
   filled-added uids es done u within is text h =
       let more = attribute_uids s u in
-      let data_ = default_data s u in
+      let entity = default_data s u in
       let stands : Contains uids u = subst (Contains uids) (is u) (stands_in uids done u within) in
       let kept = λ (v : Uid) (has : Contains uids v). Contains-append_left uids more v has in
       let reached = of_element (IsReached s first) uids u h.reached stands in
-      let now = stored-with_entity u data_ es in
+      let now = stored-with_entity u entity es in
       let old = λ (k : ℕ) (d : Uid) (below : k < length uids). before_end uids more k d below in
       record {
         begins = weaker (Contains uids) (Contains (uids ++ more)) kept first h.begins;
         reached = all-append (IsReached s first) uids more h.reached (each_of (IsReached s first) more (λ v has. later u reached has));
-        listed = each-with_entity (λ (x : Entry). Contains (uids ++ more) x.0) u data_ es (kept u stands)
+        listed = each-with_entity (λ (x : Entry). Contains (uids ++ more) x.0) u entity es (kept u stands)
             (weaker (λ (x : Entry). Contains uids x.0) (λ (x : Entry). Contains (uids ++ more) x.0) (λ x has. kept x.0 has) es h.listed);
-        texts = each-with_entity (λ (x : Entry). IsUidText x.0) u data_ es text h.texts;
-        defaults = each-with_entity (λ (x : Entry). x.1 ≡ default_data s x.0) u data_ es refl h.defaults;
+        texts = each-with_entity (λ (x : Entry). IsUidText x.0) u entity es text h.texts;
+        defaults = each-with_entity (λ (x : Entry). x.1 ≡ default_data s x.0) u entity es refl h.defaults;
         so_far = λ k d below. elim (cases_lt k done) [
-          | inl less ↦ subst (IsStored (with_entity u data_ es)) (sym (old k d (omega arith))) (stored-kept (get_or uids k d) u data_ es (h.so_far k d less))
+          | inl less ↦ subst (IsStored (with_entity u entity es)) (sym (old k d (omega arith))) (stored-kept (get_or uids k d) u entity es (h.so_far k d less))
           | inr most ↦
               let at : k ≡ done = omega arith in
               let same : get_or (uids ++ more) k d ≡ u = old k d (omega arith) ∙ ap (λ (n : ℕ). get_or uids n d) at ∙ is d in
-              subst (IsStored (with_entity u data_ es)) (sym same) now
+              subst (IsStored (with_entity u entity es)) (sym same) now
         ];
-        closed = each-with_entity (λ (x : Entry). AllByRecursion (Contains (uids ++ more)) (attribute_uids s x.0)) u data_ es
+        closed = each-with_entity (λ (x : Entry). AllByRecursion (Contains (uids ++ more)) (attribute_uids s x.0)) u entity es
             (each_of (Contains (uids ++ more)) more (λ v has. Contains-append_right uids more v has))
             (weaker (λ (x : Entry). AllByRecursion (Contains uids) (attribute_uids s x.0)) (λ (x : Entry). AllByRecursion (Contains (uids ++ more)) (attribute_uids s x.0))
             (λ x all. weaker (Contains uids) (Contains (uids ++ more)) kept (attribute_uids s x.0) all) es h.closed);
       }
 
-  step : (uids more : List Uid) (es fs : Entities) (done : ℕ) (u : Uid) → IsStep s uids es u more fs → done < length uids → ((d : Uid) → get_or uids done d ≡ u) → IsFilled s first uids done es → IsFilled s first more (done + 1) fs
-  step uids more es fs done u (known is) within at h = filled-known uids es done within (λ d. subst (IsStored es) (sym (at d)) is) h
-  step uids more es fs done u (added text) within at h = filled-added uids es done u within at text h
+  step : (uids : List Uid) (es : Entities) (u : Uid) (more : List Uid) (fs : Entities) (done : ℕ) → IsStep s uids es u more fs → done < length uids → ((d : Uid) → get_or uids done d ≡ u) → IsFilled s first uids done es → IsFilled s first more (done + 1) fs
+  step uids es u more fs done (known is) within at h = filled-known uids es done within (λ d. subst (IsStored es) (sym (at d)) is) h
+  step uids es u more fs done (added text) within at h = filled-added uids es done u within at text h
 
   pub filled-step : (uids more : List Uid) (es fs : Entities) (done : ℕ) → done < length uids → ((d : Uid) → IsStep s uids es (get_or uids done d) more fs) → IsFilled s first uids done es → IsFilled s first more (done + 1) fs
   filled-step [] more es fs done within steps h = absurd (omega arith)
   filled-step (v ∷ uids) more es fs done within steps h =
-      step (v ∷ uids) more es fs done (get_or (v ∷ uids) done v) (steps v) within (λ d. same_place (v ∷ uids) done d v within) h
+      step (v ∷ uids) es (get_or (v ∷ uids) done v) more fs done (steps v) within (λ d. same_place (v ∷ uids) done d v within) h
 
   -- ---- the end
 

@@ -16,7 +16,7 @@ module _ (s : Declarations) (r : Request) (literals : List Uid) where
   first_named : (u : Uid) → Contains first u → IsNamed s r literals u
   first_named u has = elim (Contains-append_cases (action_uids s) (request_uids r ++ literals) u has) [
     | inl declared ↦ by_schema declared
-    | inr others ↦ elim (Contains-append_cases (request_uids r) literals u others) [ | inl asked ↦ by_request asked | inr written ↦ by_policy written ]
+    | inr others ↦ elim (Contains-append_cases (request_uids r) literals u others) [ inl asked ↦ by_request asked | inr written ↦ by_policy written ]
   ]
 
   reached_named : (u : Uid) → IsReached s first u → IsNamed s r literals u
