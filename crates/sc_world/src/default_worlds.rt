@@ -16,6 +16,7 @@ use crate::world::{Request, World};
 use sc_lists::Seq;
 use sc_names::{Lits, Uid};
 use sc_schema::{Env, Schema, actions, context_of};
+use sc_values::Rec;
 use std::alloc::{AllocError, Global};
 
 /// The world of a request in which what is stored is as it is by default. Stored are the declared
@@ -93,6 +94,13 @@ fn default_request(alloc: Global, s: &Schema, env: &Env) -> Result<Request, Allo
         principal: default_uid(alloc, s, &env.principal)?,
         action: env.action.try_clone(alloc)?,
         resource: default_uid(alloc, s, &env.resource)?,
-        context: fields_of(alloc, s, context_of(s, &env.action))?,
+        context: default_context(alloc, s, env)?,
     })
+}
+
+/// The context of the requests of an environment, by default.
+pub fn default_context(alloc: Global, s: &Schema, env: &Env) -> Result<Rec, AllocError>
+    ensures { IfOk result (λ r. r ≡ defaults.default_fields s.now (schema.context_of s.now env.now.action)) }
+{
+    fields_of(alloc, s, context_of(s, &env.action))
 }

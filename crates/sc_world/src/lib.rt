@@ -25,7 +25,7 @@ mod well_formedness;
 mod world;
 
 pub use conformance::conforms;
-pub use default_worlds::{default_world, world_for};
+pub use default_worlds::{default_context, default_world, world_for};
 pub use entity::EntityData;
 pub use store::Store;
 pub use well_formedness::well_formed;
