@@ -1,5 +1,5 @@
 -- The entities that a value of a type names are declared.
-use Rattle.std.proofs.Common.{◌≡◌, ◌||◌, ◌&&◌, ℕ, List, [], ◌∷◌, ◌++◌, map, Bool, true, false, Option, Some, cond, is_some, IsTrue, IsSome, Less, Equal, option_map, refl, ap, sym, subst, ◌∙◌}
+use Rattle.std.proofs.Common.{◌≡◌, ◌||◌, ◌&&◌, ℕ, List, [], ◌∷◌, ◌++◌, map, Bool, true, false, Option, Some, cond, is_some, IsTrue, Less, Equal, option_map, refl, ap, sym, subst, ◌∙◌}
 use Rattle.std.specs.List.{AllByRecursion, flat_map, list_all, list_any}
 use Rattle.std.specs.List.Sorted.{IsStrictlySortedBy}
 use Rattle.std.specs.Map.{keys_of}
@@ -12,18 +12,17 @@ use Rattle.sc_schema.specs.declared.declarations.EntityType.{EntityType}
 use Rattle.sc_schema.specs.declared.ty.Presence.{Presence}
 use Rattle.sc_schema.specs.declared.ty.Ty.{Ty, Ty-F, roll-Ty, map-Ty, ind-Ty, fold-roll-Ty}
 use Rattle.sc_schema.specs.declared.ty.Ty.TheOpen as t
-use Rattle.sc_schema.specs.Declarations.{Declarations, entity_type, action, attrs_of, is_action_type}
+use Rattle.sc_schema.specs.Declarations.{Declarations, entity_type, attrs_of, is_action_type}
 use Rattle.sc_schema.specs.Lawful.{IsEntityType, IsTypeLevel, IsTypeOf, IsLawful}
 use Rattle.sc_values.specs.declared.value.Value.{Value, Value-F, out-Value, roll-Value, map-Value, fold_out-Value, roll-out-Value}
 use Rattle.sc_values.specs.declared.value.Value.TheOpen as v
-use Rattle.sc_values.specs.declared.value.Value.TheVariants as value
 use Rattle.sc_values.specs.declared.value.Value.TheVariants.{rolls-Set, rolls-Record}
 use Rattle.sc_values.specs.Proper.{IsProper, IsProperLevel}
 use Rattle.sc_values.specs.Records.{Fields, field}
 use Rattle.sc_values.proofs.LevelLaws as level
 use Rattle.sc_world.specs.Conforms.{Test, Shape, is_bool, is_truth, is_long, is_string, is_decimal, is_ip, is_entity_of, is_set_of, is_record_of, passes, conforms_step, conforms}
 use Rattle.sc_world.specs.Named.{uids_step, uids_in, IsDeclared}
-use Rattle.sc_world.proofs.DefaultTypeLaws.{IsTypeNamed, type_named}
+use Rattle.sc_world.proofs.DefaultTypeLaws.{type_named}
 use Rattle.sc_world.proofs.TypeLaws as of_type
 
 both : (a b : Bool) → IsTrue (a && b) → IsTrue a × IsTrue b

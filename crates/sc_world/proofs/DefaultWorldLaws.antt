@@ -1,5 +1,5 @@
 -- A world that stores just what is named, each entity as it is by default, is well-formed.
-use Rattle.std.proofs.Common.{◌≡◌, ◌↔◌, ◌⊎◌, ◌||◌, ◌++◌, ℕ, List, [], ◌∷◌, map, Bool, true, false, cond, Option, Some, None, is_some, IsSome, IsSomeAnd, IfSome, MatchOption, IsTrue, option_map, unwrap_or, Contains, inl, inr, refl, ap, sym, subst, ◌∙◌}
+use Rattle.std.proofs.Common.{◌≡◌, ◌||◌, ℕ, List, [], ◌∷◌, map, Bool, true, false, cond, Option, Some, None, is_some, IsSome, IsSomeAnd, IfSome, MatchOption, IsTrue, option_map, unwrap_or, Contains, inl, inr, refl, ap, sym, subst, ◌∙◌}
 use Rattle.std.specs.List.{AllByRecursion, flat_map, list_any}
 use Rattle.std.specs.List.Sorted.{IsStrictlySortedBy}
 use Rattle.std.specs.Str.{bytes_eq}
@@ -12,28 +12,28 @@ use Rattle.sc_schema.specs.declared.declarations.EntityType.{EntityType}
 use Rattle.sc_schema.specs.declared.declarations.Env.{Env}
 use Rattle.sc_schema.specs.declared.ty.Ty.{Ty}
 use Rattle.sc_schema.specs.declared.ty.Ty.TheVariants as ty
-use Rattle.sc_schema.specs.Declarations.{Declarations, environment, environments, environments_for, entity_type, action, action_uids, action_ancestors, attrs_of, tags_of, is_action_type, types_above, in_order, ancestor_types, context_of}
-use Rattle.sc_schema.specs.Lawful.{IsEntityType, AreEntityTypes, IsTypeOf, IsRecordTypeOf, IsActionWithin, IsLawfulAction, IsLawful}
+use Rattle.sc_schema.specs.Declarations.{Declarations, environment, environments, environments_for, entity_type, action, action_uids, action_ancestors, attrs_of, tags_of, is_action_type, types_above, ancestor_types, context_of}
+use Rattle.sc_schema.specs.Lawful.{IsEntityType, AreEntityTypes, IsRecordTypeOf, IsActionWithin, IsLawfulAction, IsLawful}
 use Rattle.sc_schema.proofs.IndexLaws.{in_order_members}
 use Rattle.sc_schema.proofs.LawfulLaws.{no_fields_lawful, no_names_ascend, no_uids_ascend}
 use Rattle.sc_schema.proofs.LookupLaws.{action_found, action_declared}
 use Rattle.sc_schema.proofs.OrderLaws.{of_first, of_rest, no_element, split}
-use Rattle.sc_values.specs.declared.value.Value.{Value, out-Value}
+use Rattle.sc_values.specs.declared.value.Value.{Value}
 use Rattle.sc_values.specs.declared.value.Value.TheVariants as value
-use Rattle.sc_values.specs.Proper.{IsProper, IsProperLevel, IsProperRecord, IsUidText}
+use Rattle.sc_values.specs.Proper.{IsProperLevel, IsProperRecord, IsUidText}
 use Rattle.sc_values.proofs.LevelLaws as level
 use Rattle.sc_world.specs.declared.entity.EntityData.{EntityData}
 use Rattle.sc_world.specs.declared.world.Request.{Request}
 use Rattle.sc_world.specs.Conforms.{conforms}
-use Rattle.sc_world.specs.Defaults.{default_value, default_fields, default_attrs, default_data, default_request, default_uid, fields_in}
+use Rattle.sc_world.specs.Defaults.{default_value, default_fields, default_attrs, default_data, default_request}
 use Rattle.sc_world.specs.Filling.{HaveTexts}
 use Rattle.sc_world.specs.Named.{uids_in, request_uids, attribute_uids, IsNamed, by_schema, by_request, by_policy, by_entity, StoresNamed, AreDefaults, IsDeclared, IsRequestAmong}
 use Rattle.sc_world.specs.Stores.{Entities, stored, IsMap}
 use Rattle.sc_world.specs.Tests.{IsWellFormedEntry, HasWellFormedParts}
-use Rattle.sc_world.specs.WellFormed.{Entry, IsStored, IsProperEntry, HasAttributes, HasTags, HasAncestorTypes, IsTransitive, IsAcyclic, IsAction, action_data, EntryNamesStored, NamesStored, NamesStoredLevel, IsWellFormed, IsRequestOf}
+use Rattle.sc_world.specs.WellFormed.{Entry, IsStored, IsProperEntry, HasAttributes, HasAncestorTypes, IsTransitive, IsAcyclic, IsAction, action_data, EntryNamesStored, NamesStoredLevel, IsWellFormed}
 use Rattle.sc_world.proofs.DeclaredLaws.{declared_type, names_declared}
-use Rattle.sc_world.proofs.DefaultLaws.{default_Record, fields_Record, required_fields}
-use Rattle.sc_world.proofs.DefaultTypeLaws.{some_of, IsTypeNamed, type_named, type_text, IsDefaultOf, default_of, default_uid-type}
+use Rattle.sc_world.proofs.DefaultLaws.{default_Record, fields_Record}
+use Rattle.sc_world.proofs.DefaultTypeLaws.{some_of, type_named, IsDefaultOf, default_of, default_uid-type}
 use Rattle.sc_world.proofs.FillLaws.{each_of, of_element, of_stored, of_key, each_stored}
 use Rattle.sc_world.proofs.NamesLaws.{names_stored}
 use Rattle.sc_world.proofs.PartLaws.{parts_tested}

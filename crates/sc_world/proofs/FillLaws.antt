@@ -1,5 +1,5 @@
 -- A store that is filled from a list: what each step keeps, and what is stored at the end.
-use Rattle.std.proofs.Common.{◌≡◌, ◌↔◌, ◌⊎◌, ◌<◌, ◌≤◌, ◌+◌, ◌++◌, ℕ, zero, suc, List, [], ◌∷◌, length, get_or, Option, Some, None, IsSome, Bool, true, false, cond, Contains, inl, inr, refl, ap, sym, subst, ◌∙◌, arith}
+use Rattle.std.proofs.Common.{◌≡◌, ◌↔◌, ◌<◌, ◌≤◌, ◌+◌, ◌++◌, ℕ, zero, suc, List, [], ◌∷◌, length, get_or, Option, Some, None, IsSome, Bool, true, false, cond, Contains, inl, inr, refl, ap, sym, subst, ◌∙◌, arith}
 use Rattle.std.specs.BTreeMap.{insert_entry, is_at}
 use Rattle.std.specs.List.{AllByRecursion}
 use Rattle.std.specs.Map.{lookup}
@@ -13,12 +13,12 @@ use Rattle.sc_names.specs.declared.uid.Uid.{Uid}
 use Rattle.sc_names.specs.Uids.{uid_cmp}
 use Rattle.sc_names.proofs.UidLaws.{uid_cmp_total, uid_cmp_level}
 use Rattle.sc_schema.specs.Declarations.{Declarations}
-use Rattle.sc_schema.proofs.OrderLaws.{of_first, of_rest, no_element}
+use Rattle.sc_schema.proofs.OrderLaws.{of_first, of_rest}
 use Rattle.sc_values.specs.Proper.{IsUidText}
 use Rattle.sc_world.specs.declared.entity.EntityData.{EntityData}
 use Rattle.sc_world.specs.Defaults.{default_data}
-use Rattle.sc_world.specs.Filling.{IsReached, at_first, later, IsStep, known, added, HaveTexts, IsFilled}
-use Rattle.sc_world.specs.Named.{AreDefaults, attribute_uids}
+use Rattle.sc_world.specs.Filling.{IsReached, at_first, later, IsStep, known, added, IsFilled}
+use Rattle.sc_world.specs.Named.{attribute_uids}
 use Rattle.sc_world.specs.Stores.{Entities, stored, with_entity}
 use Rattle.sc_world.specs.WellFormed.{Entry, IsStored}
 use Rattle.sc_world.proofs.StoreLaws.{stored-with_entity, stored-kept}

@@ -5,7 +5,7 @@ use Rattle.sc_names.specs.declared.uid.Uid.{Uid}
 use Rattle.sc_schema.specs.Declarations.{Declarations, action_uids}
 use Rattle.sc_world.specs.declared.world.Request.{Request}
 use Rattle.sc_world.specs.Filling.{first_uids, IsReached, at_first, later}
-use Rattle.sc_world.specs.Named.{request_uids, attribute_uids, IsNamed, by_schema, by_request, by_policy, by_entity, StoresNamed}
+use Rattle.sc_world.specs.Named.{request_uids, IsNamed, by_schema, by_request, by_policy, by_entity, StoresNamed}
 use Rattle.sc_world.specs.Stores.{Entities}
 use Rattle.sc_world.specs.WellFormed.{IsStored}
 

@@ -1,5 +1,5 @@
 -- The default of each type, and what is stored of an entity where nothing else is known of it.
-use Rattle.std.specs.Prelude.{◌++◌, ℕ, List, [], ◌∷◌, map, find, flat_map, unwrap_or, Option, Some, None, false, true, pos}
+use Rattle.std.specs.Prelude.{ℕ, List, [], ◌∷◌, find, flat_map, unwrap_or, Option, Some, None, false, true, pos}
 use Rattle.std.specs.Str.{bytes_eq}
 use Rattle.sc_ip.specs.declared.ip.Ip.TheVariants.{V4}
 use Rattle.sc_names.specs.declared.uid.Uid.{Uid}

@@ -1,5 +1,5 @@
 -- Which entities have to be stored, where each is as it is by default.
-use Rattle.std.specs.Prelude.{◌≡◌, ◌↔◌, ◌++◌, ℕ, List, [], ◌∷◌, flat_map, Contains, IsTrue, IsSome}
+use Rattle.std.specs.Prelude.{◌≡◌, ◌↔◌, ℕ, List, [], ◌∷◌, flat_map, Contains, IsTrue, IsSome}
 use Rattle.std.specs.List.{AllByRecursion}
 use Rattle.sc_names.specs.declared.uid.Uid.{Uid}
 use Rattle.sc_schema.specs.declared.declarations.Env.{Env}

@@ -1,4 +1,4 @@
-use Rattle.std.proofs.Common.{Result, Ok, Err, OnOk, ◌∙◌}
+use Rattle.std.proofs.Common.{Result, Ok, Err, OnOk}
 use Rattle.sc_world.proofs.FillLaws.{known-at, added-at}
 use Rattle.sc_world.proofs.filling.fill_at.Goals as goal
 
