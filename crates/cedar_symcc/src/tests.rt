@@ -268,6 +268,20 @@ fn files_of_the_greatest_length(rt: HostRuntime) -> Result<(), Fail> {
 }
 
 #[test]
+fn comment_as_long_as_a_file_may_be(rt: HostRuntime) -> Result<(), Fail> {
+    let alloc = rt.alloc();
+    let words = command(alloc)?;
+    let mut comment = Vec::from_slice(alloc, b"//")?;
+    comment.resize(16_777_216, b'x')?;
+    let mut files = files_of(alloc, SCHEMA.as_bytes(), &comment, Vec::new(alloc))?;
+    let mut out = MemSink::new(alloc, Vec::new(alloc));
+    let status = run(alloc, &words, &mut files, &mut out);
+    assert_eq!(rt; status.code, 15);
+    assert!(rt; out.text() == b"error 15 policies\n".as_slice());
+    Ok(())
+}
+
+#[test]
 fn output_that_cannot_be_written(rt: HostRuntime) -> Result<(), Fail> {
     let alloc = rt.alloc();
     let words = command(alloc)?;
