@@ -1,0 +1,40 @@
+-- What leads to what.
+use Rattle.std.proofs.Common.{◌≡◌, ◌⊎◌, ℕ, List, [], ◌∷◌, ◌++◌, Contains, inl, inr, subst}
+use Rattle.sc_schema.proofs.OrderLaws.{split, of_first, no_element}
+use Rattle.sc_schema_types.specs.References.{Names, Graph, Reaches, at_once, through}
+use Rattle.sc_schema_types.specs.Searches.{IsPath}
+
+module _ (graph : Graph) where
+  -- one step further
+  pub then_one : {a b : List ℕ} (c : List ℕ) → Reaches graph a b → Contains (graph b) c → Reaches graph a c
+  then_one {a} {b} c (at_once h) e = through b h (at_once e)
+  then_one c (through m h r) e = through m h (then_one c r e)
+
+  pub path_push : (front : Names) (a b : List ℕ) → IsPath graph (front ++ a ∷ []) → Contains (graph a) b → IsPath graph ((front ++ a ∷ []) ++ b ∷ [])
+  unfolding IsPath
+  path_push [] a b h e = (e, tt)
+  path_push (x ∷ []) a b h e = (h.0, (e, tt))
+  path_push (x ∷ y ∷ front) a b h e = (h.0, path_push (y ∷ front) a b h.1 e)
+
+  pub path_pop : (front : Names) (a : List ℕ) → IsPath graph (front ++ a ∷ []) → IsPath graph front
+  unfolding IsPath
+  path_pop [] a h = tt
+  path_pop (x ∷ []) a h = tt
+  path_pop (x ∷ y ∷ front) a h = (h.0, path_pop (y ∷ front) a h.1)
+
+  pub path_one : (a : List ℕ) → IsPath graph (a ∷ [])
+  unfolding IsPath
+  path_one a = tt
+
+  -- what stands on a path before its end leads to its end
+  pub path_reach : (front : Names) (a q : List ℕ) → IsPath graph (front ++ a ∷ []) → Contains front q → Reaches graph q a
+  unfolding IsPath
+  path_reach [] a q h found = absurd (no_element q found)
+  path_reach (x ∷ []) a q h found = pick (split x [] q found) where
+    pick : (x ≡ q) ⊎ Contains [] q → Reaches graph q a
+    pick (inl is) = subst (λ (y : List ℕ). Reaches graph y a) is (at_once h.0)
+    pick (inr none) = absurd (no_element q none)
+  path_reach (x ∷ y ∷ front) a q h found = pick (split x (y ∷ front) q found) (path_reach (y ∷ front) a y h.1 (of_first y front)) (path_reach (y ∷ front) a q h.1) where
+    pick : (x ≡ q) ⊎ Contains (y ∷ front) q → Reaches graph y a → (Contains (y ∷ front) q → Reaches graph q a) → Reaches graph q a
+    pick (inl is) r f = subst (λ (z : List ℕ). Reaches graph z a) is (through y h.0 r)
+    pick (inr later) r f = f later

@@ -1,0 +1,9 @@
+pub mod Expansions
+pub mod Faults
+pub mod Orders
+pub mod Reached
+pub mod References
+pub mod Searches
+pub mod Sizes
+pub mod Tables
+pub mod Types

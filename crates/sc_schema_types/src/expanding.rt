@@ -1,0 +1,144 @@
+//! Schemas, each common type in them written out.
+ghost use Rattle.std.specs.Prelude.{◌≡◌, ◌++◌, map, option_map, IfOk, IfErr, OnOk};
+ghost use Rattle.std.specs.Option.{option_copied};
+ghost use Rattle.sc_schema_types.specs.Expansions.{expanded};
+ghost use Rattle.sc_schema_types.specs.Orders.{IsOrder};
+ghost use Rattle.sc_schema_types.specs.Tables.{type_in};
+ghost use Rattle.sc_schema_types.specs.Types.{record_type, expanded_action, expanded_entity_type, expanded_schema, IsExpansion, Refuses};
+
+use crate::bodies::bodies_of;
+use crate::copying::{copy_names, copy_uids};
+use crate::expansion::{expanded, meaning_of};
+use crate::faults::first_fault;
+use crate::outline::outlines_of;
+use sc_lists::{Fault, Seq};
+use sc_names::Name;
+use sc_schema::Ty;
+use sc_schema_resolved::{
+    ExpandedAction, ExpandedEntityType, ExpandedSchema, ResolvedAction, ResolvedEntityType,
+    ResolvedSchema, ResolvedType,
+};
+use sc_schema_syntax::SchemaFault;
+use std::alloc::{AllocError, Global};
+use std::collections::BTreeMap;
+
+/// What a schema declares, each common type written out, by the order of its common types that
+/// `order_types` gives.
+///
+/// # Errors
+///
+/// The first fault in a walk that takes the members of an object in the order of their bytes:
+/// `NotRecord` for a context or a shape that stands for no record type, and `TypeTooLarge` for a
+/// common type, context, shape or type of tags that stands for one of more than 32 levels or 4,096
+/// nodes. `NoMemory` comes for want of memory.
+pub fn expand(
+    alloc: Global,
+    schema: &ResolvedSchema,
+    order: &[Name],
+) -> Result<ExpandedSchema, Fault<SchemaFault>>
+    requires { IsOrder schema.now order.now }
+    ensures ok { IfOk result (λ all. IsExpansion schema.now all) }
+    ensures err { IfErr result (λ fault. Refuses schema.now fault) }
+{
+    let bodies = bodies_of(alloc, schema)?;
+    let outlines = outlines_of(alloc, &bodies, order)?;
+    match first_fault(alloc, &outlines, schema)? {
+        Some(fault) => Err(Fault::Told(fault)),
+        None => {
+            let table = meaning_of(alloc, &bodies, order)?;
+            Ok(expanded_schema(alloc, &table, schema)?)
+        }
+    }
+}
+
+/// What a schema declares, each common type being looked up in a table.
+fn expanded_schema(
+    alloc: Global,
+    table: &BTreeMap<Name, Ty>,
+    schema: &ResolvedSchema,
+) -> Result<ExpandedSchema, AllocError>
+    ensures { IfOk result (λ all. all ≡ expanded_schema (type_in table.now.entries) schema.now) }
+{
+    let mut entity_types = Seq::new(alloc);
+    let mut actions = Seq::new(alloc);
+    for namespace in schema.namespaces.as_slice() {
+        put_entity_types(
+            alloc,
+            table,
+            &mut entity_types,
+            namespace.entity_types.as_slice(),
+        )?;
+        put_actions(alloc, table, &mut actions, namespace.actions.as_slice())?;
+    }
+    Ok(ExpandedSchema {
+        entity_types,
+        actions,
+    })
+}
+
+fn put_entity_types(
+    alloc: Global,
+    table: &BTreeMap<Name, Ty>,
+    all: &mut Seq<ExpandedEntityType>,
+    types: &[ResolvedEntityType],
+) -> Result<(), AllocError>
+    ensures { OnOk result (all.new ≡ all.old ++ map (expanded_entity_type (type_in table.now.entries)) types.now) }
+{
+    for declared in types {
+        all.push(ExpandedEntityType {
+            name: declared.name.try_clone(alloc)?,
+            parents: copy_names(alloc, &declared.parents)?,
+            shape: record_type(alloc, table, declared.shape.as_ref())?,
+            tags: tag_type(alloc, table, declared.tags.as_ref())?,
+        })?;
+    }
+    Ok(())
+}
+
+fn put_actions(
+    alloc: Global,
+    table: &BTreeMap<Name, Ty>,
+    all: &mut Seq<ExpandedAction>,
+    actions: &[ResolvedAction],
+) -> Result<(), AllocError>
+    ensures { OnOk result (all.new ≡ all.old ++ map (expanded_action (type_in table.now.entries)) actions.now) }
+{
+    for action in actions {
+        all.push(ExpandedAction {
+            uid: action.uid.try_clone(alloc)?,
+            parents: copy_uids(alloc, &action.parents)?,
+            principals: copy_names(alloc, &action.principals)?,
+            resources: copy_names(alloc, &action.resources)?,
+            context: record_type(alloc, table, action.context.as_ref())?,
+        })?;
+    }
+    Ok(())
+}
+
+/// The type of attributes, and that of records without attributes where none is written.
+fn record_type(
+    alloc: Global,
+    table: &BTreeMap<Name, Ty>,
+    resolved: Option<&ResolvedType>,
+) -> Result<Ty, AllocError>
+    ensures { IfOk result (λ ty. ty ≡ record_type (type_in table.now.entries) (option_copied resolved.entry)) }
+{
+    match resolved {
+        Some(resolved) => expanded(alloc, table, resolved),
+        None => Ok(Ty::Record(Seq::new(alloc))),
+    }
+}
+
+/// The type of tags, if one is written.
+fn tag_type(
+    alloc: Global,
+    table: &BTreeMap<Name, Ty>,
+    resolved: Option<&ResolvedType>,
+) -> Result<Option<Ty>, AllocError>
+    ensures { IfOk result (λ ty. ty ≡ option_map (expanded (type_in table.now.entries)) (option_copied resolved.entry)) }
+{
+    match resolved {
+        Some(resolved) => Ok(Some(expanded(alloc, table, resolved)?)),
+        None => Ok(None),
+    }
+}
