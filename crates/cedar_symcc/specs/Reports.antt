@@ -4,7 +4,7 @@ use Rattle.std.specs.List.{AllByRecursion, flat_map, list_any}
 use Rattle.sc_names.specs.declared.uid.Uid.{Uid}
 use Rattle.sc_ast.specs.declared.policy.Policy.{Policy}
 use Rattle.sc_ast.specs.Literals.{literals}
-use Rattle.sc_goal.specs.declared.question.Question.{Question}
+use Rattle.sc_question.specs.declared.question.Question.{Question}
 use Rattle.sc_goal.specs.Properties.{has}
 use Rattle.sc_names.specs.Escapes.{uid_text}
 use Rattle.sc_schema.specs.declared.declarations.Env.{Env}

@@ -2,7 +2,7 @@
 use Rattle.std.specs.Prelude.{◌≡◌, ◌≤◌, ◌<◌, ◌⊎◌, ℕ, List, [], Option, Some, length, take}
 use Rattle.std.specs.List.{Contains}
 use Rattle.sc_outside.specs.Writes.{appended}
-use Rattle.sc_goal.specs.declared.question.Question.TheVariants.{AlwaysDenies}
+use Rattle.sc_question.specs.declared.question.Question.TheVariants.{AlwaysDenies}
 use Rattle.sc_schema.specs.declared.declarations.Env.{Env}
 use Rattle.sc_schema.specs.Declarations.{Declarations, environments}
 use Rattle.sc_schema_json.specs.Form.{SpellsSchema}

@@ -7,7 +7,7 @@ use Rattle.sc_ast.specs.Conditions.{condition}
 use Rattle.sc_world.specs.declared.world.World.{World}
 use Rattle.sc_eval.specs.Eval.{eval}
 use Rattle.sc_auth.specs.Decisions.{allows, errs}
-use Rattle.sc_goal.specs.declared.question.Question.TheVariants.{NeverErrors, AlwaysDenies, Implies, Equivalent, Disjoint}
+use Rattle.sc_question.specs.declared.question.Question.TheVariants.{NeverErrors, AlwaysDenies, Implies, Equivalent, Disjoint}
 use Rattle.sc_goal.specs.Properties.{same, has}
 
 not-decides : (b : Bool) → IsTrue (not b) ↔ ¬ IsTrue b

@@ -4,8 +4,8 @@ use Rattle.std.specs.List.{list_any}
 use Rattle.sc_ast.specs.declared.policy.Policy.{Policy}
 use Rattle.sc_world.specs.declared.world.World.{World}
 use Rattle.sc_auth.specs.Decisions.{allows, errs}
-use Rattle.sc_goal.specs.declared.question.Question.{Question}
-use Rattle.sc_goal.specs.declared.question.Question.TheVariants.{NeverErrors, AlwaysAllows, AlwaysDenies, Implies, Equivalent, Disjoint}
+use Rattle.sc_question.specs.declared.question.Question.{Question}
+use Rattle.sc_question.specs.declared.question.Question.TheVariants.{NeverErrors, AlwaysAllows, AlwaysDenies, Implies, Equivalent, Disjoint}
 
 abbrev pub same : Bool → Bool → Bool
 same true b = b

@@ -6,7 +6,7 @@ ghost use Rattle.sc_world.specs.declared.world.World.{World as AnyWorld};
 ghost use Rattle.sc_eval.specs.Eval.{eval};
 ghost use Rattle.sc_auth.specs.Decisions.{allows};
 ghost use Rattle.sc_goal.specs.Properties.{has};
-ghost use Rattle.sc_goal.specs.declared.question.Question.TheVariants.{NeverErrors, AlwaysAllows, AlwaysDenies, Implies, Equivalent, Disjoint};
+ghost use Rattle.sc_question.specs.declared.question.Question.TheVariants.{NeverErrors, AlwaysAllows, AlwaysDenies, Implies, Equivalent, Disjoint};
 
 /// Which worlds have the property that a question asks about, of policy sets `a` and `b`.
 #[tactic(auto, using(crate::proofs::PropertiesLaws::never_errors_decides, crate::proofs::PropertiesLaws::denies_decides, crate::proofs::PropertiesLaws::implies_decides, crate::proofs::PropertiesLaws::equivalent_decides, crate::proofs::PropertiesLaws::disjoint_decides))]

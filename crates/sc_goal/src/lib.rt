@@ -2,7 +2,6 @@
 #![tactic(auto)]
 
 mod laws;
-mod question;
 
 pub use laws::property_laws;
-pub use question::Question;
+pub use sc_question::Question;

@@ -1,0 +1,296 @@
+use crate::{Analyse, Command, Replay, command_of};
+use sc_question::Question;
+use std::alloc::{AllocError, Global};
+
+/// The words of a line, between its spaces.
+fn words_of(alloc: Global, line: &str) -> Result<Vec<String>, AllocError> {
+    let mut words = Vec::new(alloc);
+    for word in line.split(' ') {
+        words.push(String::from_str(alloc, word)?)?;
+    }
+    Ok(words)
+}
+
+fn reads(alloc: Global, line: &str, wanted: Option<Command<'_>>) -> Result<bool, AllocError> {
+    let words = words_of(alloc, line)?;
+    Ok(command_of(alloc, &words)? == wanted)
+}
+
+fn is_refused(alloc: Global, line: &str) -> bool {
+    reads(alloc, line, None).unwrap_or(false)
+}
+
+fn are_refused(alloc: Global, lines: &[&str]) -> bool {
+    lines.iter().all(|line| is_refused(alloc, line))
+}
+
+fn analyses(alloc: Global, line: &str, wanted: Analyse<'_>) -> bool {
+    reads(alloc, line, Some(Command::Analyse(wanted))).unwrap_or(false)
+}
+
+fn all_analyse(alloc: Global, wanted: Analyse<'_>, lines: &[&str]) -> bool {
+    lines.iter().all(|line| analyses(alloc, line, wanted))
+}
+
+fn replays(alloc: Global, line: &str, wanted: Replay<'_>) -> bool {
+    reads(alloc, line, Some(Command::Replay(wanted))).unwrap_or(false)
+}
+
+fn denies<'w>(schema: &'w str, policies: &'w str, budget: u64) -> Analyse<'w> {
+    Analyse {
+        schema,
+        policies,
+        against: None,
+        question: Question::AlwaysDenies,
+        budget,
+    }
+}
+
+fn asks<'w>(question: Question, against: Option<&'w str>) -> Analyse<'w> {
+    Analyse {
+        schema: "s",
+        policies: "p",
+        against,
+        question,
+        budget: 10,
+    }
+}
+
+#[test]
+fn options_come_in_any_order(rt: HostRuntime) {
+    let lines = [
+        "analyse --schema s --policies p --query always-denies --budget 10",
+        "analyse --budget 10 --query always-denies --policies p --schema s",
+        "analyse --policies p --budget 10 --schema s --query always-denies",
+    ];
+    assert!(rt; all_analyse(rt.alloc(), denies("s", "p", 10), &lines));
+}
+
+#[test]
+fn a_value_may_stand_behind_an_equals_sign(rt: HostRuntime) {
+    let lines = [
+        "analyse --schema=-s --policies=p=q --query=always-denies --budget=10",
+        "analyse --schema=-s --policies p=q --query always-denies --budget=10",
+    ];
+    assert!(rt; all_analyse(rt.alloc(), denies("-s", "p=q", 10), &lines));
+}
+
+#[test]
+fn a_name_may_be_empty(rt: HostRuntime) {
+    let lines = [
+        "analyse --schema= --policies p --query always-denies --budget 10",
+        "analyse --schema  --policies p --query always-denies --budget 10",
+    ];
+    assert!(rt; all_analyse(rt.alloc(), denies("", "p", 10), &lines));
+}
+
+#[test]
+fn a_hyphen_alone_is_a_value(rt: HostRuntime) {
+    let line = "analyse --schema - --policies p --query always-denies --budget 10";
+    assert!(rt; analyses(rt.alloc(), line, denies("-", "p", 10)));
+}
+
+#[test]
+fn two_hyphens_may_end_the_options(rt: HostRuntime) {
+    let line = "analyse --schema s --policies p --query always-denies --budget 10 --";
+    assert!(rt; analyses(rt.alloc(), line, denies("s", "p", 10)));
+}
+
+#[test]
+fn nothing_stands_behind_two_hyphens(rt: HostRuntime) {
+    let lines = [
+        "analyse --schema s --policies p --query always-denies --budget 10 -- x",
+        "analyse --schema s --policies p --query always-denies -- --budget 10",
+        "analyse --schema s --policies p --query always-denies --budget 10 -- --",
+    ];
+    assert!(rt; are_refused(rt.alloc(), &lines));
+}
+
+#[test]
+fn questions_of_one_set(rt: HostRuntime) {
+    let alloc = rt.alloc();
+    let line = "analyse --schema s --policies p --query never-errors --budget 10";
+    assert!(rt; analyses(alloc, line, asks(Question::NeverErrors, None)));
+    let line = "analyse --schema s --policies p --query always-allows --budget 10";
+    assert!(rt; analyses(alloc, line, asks(Question::AlwaysAllows, None)));
+}
+
+#[test]
+fn questions_of_two_sets(rt: HostRuntime) {
+    let alloc = rt.alloc();
+    let line = "analyse --schema s --policies p --against q --query implies --budget 10";
+    assert!(rt; analyses(alloc, line, asks(Question::Implies, Some("q"))));
+    let line = "analyse --against=q --schema s --policies p --query equivalent --budget 10";
+    assert!(rt; analyses(alloc, line, asks(Question::Equivalent, Some("q"))));
+    let line = "analyse --schema s --policies p --query disjoint --budget 10 --against q";
+    assert!(rt; analyses(alloc, line, asks(Question::Disjoint, Some("q"))));
+}
+
+#[test]
+fn a_second_set_has_to_be_there(rt: HostRuntime) {
+    let lines = [
+        "analyse --schema s --policies p --query implies --budget 10",
+        "analyse --schema s --policies p --query equivalent --budget 10",
+        "analyse --schema s --policies p --query disjoint --budget 10",
+    ];
+    assert!(rt; are_refused(rt.alloc(), &lines));
+}
+
+#[test]
+fn a_second_set_has_to_be_asked_of(rt: HostRuntime) {
+    let lines = [
+        "analyse --schema s --policies p --against q --query never-errors --budget 10",
+        "analyse --schema s --policies p --against q --query always-allows --budget 10",
+        "analyse --schema s --policies p --against q --query always-denies --budget 10",
+    ];
+    assert!(rt; are_refused(rt.alloc(), &lines));
+}
+
+#[test]
+fn other_questions_are_refused(rt: HostRuntime) {
+    let lines = [
+        "analyse --schema s --policies p --query always --budget 10",
+        "analyse --schema s --policies p --query Always-Denies --budget 10",
+        "analyse --schema s --policies p --query= --budget 10",
+    ];
+    assert!(rt; are_refused(rt.alloc(), &lines));
+}
+
+#[test]
+fn budgets(rt: HostRuntime) {
+    let alloc = rt.alloc();
+    let line = "analyse --schema s --policies p --query always-denies --budget 1";
+    assert!(rt; analyses(alloc, line, denies("s", "p", 1)));
+    let line = "analyse --schema s --policies p --query always-denies --budget 000001";
+    assert!(rt; analyses(alloc, line, denies("s", "p", 1)));
+    let line = "analyse --schema s --policies p --query always-denies --budget 1000000000";
+    assert!(rt; analyses(alloc, line, denies("s", "p", 1_000_000_000)));
+}
+
+#[test]
+fn other_budgets_are_refused(rt: HostRuntime) {
+    let lines = [
+        "analyse --schema s --policies p --query always-denies --budget 0",
+        "analyse --schema s --policies p --query always-denies --budget 1000000001",
+        "analyse --schema s --policies p --query always-denies --budget 18446744073709551617",
+        "analyse --schema s --policies p --query always-denies --budget +5",
+        "analyse --schema s --policies p --query always-denies --budget=-5",
+        "analyse --schema s --policies p --query always-denies --budget 1e3",
+        "analyse --schema s --policies p --query always-denies --budget 1_000",
+        "analyse --schema s --policies p --query always-denies --budget ",
+    ];
+    assert!(rt; are_refused(rt.alloc(), &lines));
+}
+
+#[test]
+fn each_option_has_to_be_there(rt: HostRuntime) {
+    let lines = [
+        "analyse --policies p --query always-denies --budget 10",
+        "analyse --schema s --query always-denies --budget 10",
+        "analyse --schema s --policies p --budget 10",
+        "analyse --schema s --policies p --query always-denies",
+        "analyse --schema s --policies p --query always-denies --budget",
+    ];
+    assert!(rt; are_refused(rt.alloc(), &lines));
+}
+
+#[test]
+fn no_option_comes_twice(rt: HostRuntime) {
+    let lines = [
+        "analyse --schema s --schema s --policies p --query always-denies --budget 10",
+        "analyse --schema s --policies p --query always-denies --budget=10 --budget=10",
+        "analyse --schema s --policies p --against q --against q --query implies --budget 10",
+    ];
+    assert!(rt; are_refused(rt.alloc(), &lines));
+}
+
+#[test]
+fn an_option_is_no_value(rt: HostRuntime) {
+    let lines = [
+        "analyse --schema -s --policies p --query always-denies --budget 10",
+        "analyse --schema -- --policies p --query always-denies --budget 10",
+        "analyse --schema --policies p --query always-denies --budget 10",
+    ];
+    assert!(rt; are_refused(rt.alloc(), &lines));
+}
+
+#[test]
+fn other_words_are_refused(rt: HostRuntime) {
+    let lines = [
+        "analyse --schema s --policies p --query always-denies --budget 10 x",
+        "analyse --schema s --policies p --query always-denies --budget 10 -s",
+        "analyse --schema s --policies p --query always-denies --budget 10 --log",
+        "analyse --schema s --policies p --query always-denies --budget 10 --world w",
+        "analyse --sch s --policies p --query always-denies --budget 10",
+        "analyse s p always-denies 10",
+    ];
+    assert!(rt; are_refused(rt.alloc(), &lines));
+}
+
+#[test]
+fn a_command_has_to_be_there(rt: HostRuntime) {
+    let lines = [
+        "",
+        "analyze --schema s --policies p --query always-denies --budget 10",
+        "--schema s --policies p --query always-denies --budget 10",
+        "--schema s analyse --policies p --query always-denies --budget 10",
+        "-- analyse --schema s --policies p --query always-denies --budget 10",
+        "cedar_symcc analyse --schema s --policies p --query always-denies --budget 10",
+    ];
+    assert!(rt; are_refused(rt.alloc(), &lines));
+}
+
+#[test]
+fn no_words_are_no_command(rt: HostRuntime) {
+    let words: [String; 0] = [];
+    let read = command_of(rt.alloc(), &words);
+    assert!(rt; matches!(read, Ok(None)));
+}
+
+#[test]
+fn help_is_no_command(rt: HostRuntime) {
+    let lines = [
+        "--help",
+        "-h",
+        "help",
+        "help analyse",
+        "--version",
+        "analyse --help",
+        "analyse -h",
+        "analyse --schema s --policies p --query always-denies --budget 10 --help",
+    ];
+    assert!(rt; are_refused(rt.alloc(), &lines));
+}
+
+#[test]
+fn worlds_are_replayed(rt: HostRuntime) {
+    let wanted = Replay {
+        schema: "s",
+        policies: "p",
+        world: "w",
+    };
+    assert!(rt;
+        replays(
+            rt.alloc(),
+            "replay --schema s --policies p --world w",
+            wanted
+        )
+    );
+    assert!(rt;
+        replays(
+            rt.alloc(),
+            "replay --world=w --schema s --policies p",
+            wanted
+        )
+    );
+}
+
+#[test]
+fn each_command_has_its_own_options(rt: HostRuntime) {
+    let lines = [
+        "replay --schema s --policies p",
+        "replay --schema s --policies p --world w --budget 10",
+        "analyse --schema s --policies p --world w",
+    ];
+    assert!(rt; are_refused(rt.alloc(), &lines));
+}

@@ -1,0 +1,10 @@
+//! The questions that are asked of policy sets, and their names.
+#![tactic(auto)]
+
+mod name;
+mod question;
+#[cfg(test)]
+mod tests;
+
+pub use name::{name_laws, question_named};
+pub use question::{Question, takes_two};
