@@ -48,3 +48,13 @@ pub no_fault_of_member : (level : Level) (key : List ℕ) (value : Data) (ms : M
 unfolding value_fault
 no_fault_of_member level key value ms whole rest told =
     rest ∙ ap (λ (f : Option SchemaFault). option_or (option_map (under key) f) (members_fault level ms)) (sym told)
+
+-- ---- where there is no fault
+
+pub no_fault_either : (a b : Option SchemaFault) → option_or a b ≡ None → (a ≡ None) × (b ≡ None)
+no_fault_either None b e = (refl, e)
+no_fault_either (Some fault) b e = absurd cc
+
+pub no_fault_under : (key : List ℕ) (a : Option SchemaFault) → option_map (under key) a ≡ None → a ≡ None
+no_fault_under key None e = refl
+no_fault_under key (Some fault) e = absurd cc

@@ -3,4 +3,5 @@ pub mod Forms
 pub mod Pointers
 pub mod Syntax
 pub mod TypeWords
+pub mod WellWritten
 pub mod Written

@@ -1,0 +1,12 @@
+pub mod DeclaredLaws
+pub mod DistinctLaws
+pub mod EveryResolvedLaws
+pub mod FullLaws
+pub mod KindsLaws
+pub mod LookupLaws
+pub mod NamespaceLaws
+pub mod OwnNamesLaws
+pub mod RecordsLaws
+pub mod ResolvedLaws
+pub mod ResolvesLaws
+pub mod TypesLaws
