@@ -1,0 +1,14 @@
+mod AboveLaws
+mod BuildingLaws
+mod CountLaws
+mod CycleLaws
+mod GraphLaws
+mod LinksLaws
+mod MemberLaws
+mod OneLaws
+mod PickedLaws
+mod PlaceLaws
+mod SampleLaws
+mod SchemaLaws
+mod SortingLaws
+mod TypeLaws

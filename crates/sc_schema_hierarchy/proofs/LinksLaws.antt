@@ -1,0 +1,92 @@
+-- What stands above what, by any list of the same links.
+use Rattle.std.proofs.Common.{◌≡◌, List, [], ◌∷◌, map, refl, sym, ap, subst, inl, inr, Contains, IsPermutation}
+use Rattle.std.specs.List.{AllByRecursion}
+use Rattle.std.specs.Map.{keys_of}
+use Rattle.std.specs.declared.cmp.Ordering.{Ordering}
+use Rattle.std.proofs.lemmas.List.Elements.{All-contains, All-from_recursion}
+use Rattle.std.proofs.lemmas.List.Sorted.{Contains-permutation, IsPermutation-map, IsPermutation-sym}
+use Rattle.sc_schema.proofs.OrderLaws.{of_first, of_rest, split, no_element}
+use Rattle.sc_schema_hierarchy.specs.Above.{Links, IsParent, IsAbove, parent, further, AreAbove, NamesKeys}
+
+-- ---- elements of lists
+
+pub contains_map : {X Y : Type 0} (f : X → Y) (xs : List X) (x : X) → Contains xs x → Contains (map f xs) (f x)
+contains_map f [] x has = absurd (no_element x has)
+contains_map {X} {Y} f (y ∷ ys) x has = elim (split y ys x has) [
+  | inl same ↦ subst (λ (z : Y). Contains (f y ∷ map f ys) z) (ap f same) (of_first (f y) (map f ys))
+  | inr more ↦ of_rest (f y) (map f ys) (f x) (contains_map f ys x more)
+]
+
+pub contains_from_map : {X Y : Type 0} (f : X → Y) (xs : List X) (y : Y) → Contains (map f xs) y → (x : X) × Contains xs x × (f x ≡ y)
+contains_from_map f [] y has = absurd (no_element y has)
+contains_from_map {X} {Y} f (x ∷ xs) y has = elim (split (f x) (map f xs) y has) [
+  | inl same ↦ (x, of_first x xs, same)
+  | inr more ↦ later (contains_from_map f xs y more)
+] where
+  later : (z : X) × Contains xs z × (f z ≡ y) → (z : X) × Contains (x ∷ xs) z × (f z ≡ y)
+  later found = (found.0, of_rest x xs found.0 found.1, found.2)
+
+pub each_of : {X : Type 0} (P : X → Type 0) (xs : List X) (x : X) → AllByRecursion P xs → Contains xs x → P x
+each_of P xs x all has = All-contains P xs x (All-from_recursion P xs all) has
+
+pub all_of : {X : Type 0} (P : X → Type 0) (xs : List X) → ((x : X) → Contains xs x → P x) → AllByRecursion P xs
+all_of P [] each = tt
+all_of P (x ∷ xs) each = (each x (of_first x xs), all_of P xs (λ y has. each y (of_rest x xs y has)))
+
+-- ---- the same links, the same above
+
+pub above_within : {K : Type 0} (links others : Links K) → ((l : K × List K) → Contains links l → Contains others l) → {a b : K} → IsAbove links a b → IsAbove others a b
+above_within links others has (parent a b p) = parent a b (record { above = p.above; listed = has (a, p.above) p.listed; parent = p.parent })
+above_within links others has (further a b c p r) = further a b c (record { above = p.above; listed = has (a, p.above) p.listed; parent = p.parent }) (above_within links others has r)
+
+pub are_above_permuted : {K : Type 0} (R : K → K → Ordering) (links others : Links K) (a : K) (ks : List K) → IsPermutation links others → AreAbove R others a ks → AreAbove R links a ks
+are_above_permuted R links others a ks permutation above =
+    record {
+      ascending = above.ascending;
+      members = λ b. (
+        λ has. above_within others links (λ l. Contains-permutation others links l (IsPermutation-sym links others permutation)) ((above.members b).0 has),
+        λ is. (above.members b).1 (above_within links others (λ l. Contains-permutation links others l permutation) is),
+      );
+    }
+
+pub named_permuted : {K : Type 0} (links others : Links K) → IsPermutation links others → NamesKeys links → NamesKeys others
+named_permuted {K} links others permutation named =
+    all_of (λ (l : K × List K). AllByRecursion (Contains (keys_of others)) l.1) others (λ l has.
+    all_of (Contains (keys_of others)) l.1 (λ k above.
+    Contains-permutation (keys_of links) (keys_of others) k (IsPermutation-map (λ (m : K × List K). m.0) links others permutation)
+    (each_of (Contains (keys_of links)) l.1 k (each_of (λ (m : K × List K). AllByRecursion (Contains (keys_of links)) m.1) links l named (Contains-permutation others links l (IsPermutation-sym links others permutation) has)) above)))
+
+-- ---- chains
+
+pub above_above : {K : Type 0} {links : Links K} {a b : K} (c : K) → IsAbove links a b → IsAbove links b c → IsAbove links a c
+above_above c (parent a b p) r = further a b c p r
+above_above c (further a b d p q) r = further a b c p (above_above c q r)
+
+-- what stands above a key, and what something stands above, is a key
+
+parent_key : {K : Type 0} {links : Links K} {a b : K} → NamesKeys links → IsParent links a b → Contains (keys_of links) b
+parent_key {K} {links} {a} {b} named p =
+    each_of (Contains (keys_of links)) p.above b (each_of (λ (l : K × List K). AllByRecursion (Contains (keys_of links)) l.1) links (a, p.above) named p.listed) p.parent
+
+pub above_key : {K : Type 0} {links : Links K} {a b : K} → NamesKeys links → IsAbove links a b → Contains (keys_of links) b
+above_key named (parent a b p) = parent_key named p
+above_key named (further a b c p r) = above_key named r
+
+pub below_link : {K : Type 0} {links : Links K} {a b : K} → IsAbove links a b → (above : List K) × Contains links (a, above)
+below_link (parent a b p) = (p.above, p.listed)
+below_link (further a b c p r) = (p.above, p.listed)
+
+-- ---- the links of declarations
+
+pub keys_of_links : {K D : Type 0} (key : D → K) (above : D → List K) (ds : List D) → keys_of (map (λ (d : D). (key d, above d)) ds) ≡ map key ds
+keys_of_links key above [] = refl
+keys_of_links {K} key above (d ∷ ds) = ap (λ (ks : List K). key d ∷ ks) (keys_of_links key above ds)
+
+pub links_named : {K D : Type 0} (key : D → K) (above : D → List K) (ds : List D) → ((d : D) → Contains ds d → AllByRecursion (Contains (map key ds)) (above d)) → NamesKeys (map (λ (d : D). (key d, above d)) ds)
+links_named {K} {D} key above ds each =
+    all_of (λ (l : K × List K). AllByRecursion (Contains (keys_of (map (λ (d : D). (key d, above d)) ds))) l.1) (map (λ (d : D). (key d, above d)) ds)
+    (λ l has. one l (contains_from_map (λ (d : D). (key d, above d)) ds l has)) where
+      one : (l : K × List K) → (d : D) × Contains ds d × ((key d, above d) ≡ l) → AllByRecursion (Contains (keys_of (map (λ (d : D). (key d, above d)) ds))) l.1
+      one l found =
+          subst (λ (m : K × List K). AllByRecursion (Contains (keys_of (map (λ (d : D). (key d, above d)) ds))) m.1) found.2
+          (subst (λ (ks : List K). AllByRecursion (Contains ks) (above found.0)) (sym (keys_of_links key above ds)) (each found.0 found.1))

@@ -1,0 +1,23 @@
+use Rattle.std.proofs.Common.{rules, ◌≡◌, Some, ap, ◌∙◌}
+use Rattle.std.specs.List.{slice_get}
+use Rattle.std.specs.Vec.Iter.{into_iter_items}
+use Rattle.sc_schema_hierarchy.specs.Schemas.{type_links, IsEntityTypeOf}
+use Rattle.sc_schema_hierarchy.proofs.BuildingLaws.{built_at, built_next, type_made}
+use Rattle.sc_schema_hierarchy.proofs.types.types_with_ancestors.Goals as goal
+
+pub loop-entity_type-preserved : goal.loop-entity_type-preserved
+loop-entity_type-preserved c =
+    let all = c.args.declared in
+    let left = into_iter_items c.loop-entity_type.entity_type-iterator in
+    let rest = into_iter_items c.next.new.self in
+    let there : slice_get all c.len.result ≡ Some c.in-Some.entity_type =
+    ap (slice_get all) c.len.ensures ∙ built_at (IsEntityTypeOf (type_links all)) all left rest c.loop-entity_type.types c.in-Some.entity_type c.loop-entity_type.invariant.built c.in-Some.ensures.steps.0 in
+    let made : IsEntityTypeOf (type_links all) c.in-Some.entity_type c.with_ancestors.result =
+    type_made all c.as_slice-in-loop-entity_type.result.now c.len.result c.in-Some.entity_type c.in_ok-ancestors.ancestors c.with_ancestors.result
+    (c.as_slice-in-loop-entity_type.ensures ∙ (c.in_ok-links.ensures ∙ ap type_links c.as_slice.ensures)) there c.with_ancestors.ensures c.in_ok-ancestors.ensures in
+    record {
+      goes_on = search rules;
+      ends = search rules;
+      built =
+          built_next (IsEntityTypeOf (type_links all)) all left rest c.loop-entity_type.types c.push.new.self c.in-Some.entity_type c.with_ancestors.result c.loop-entity_type.invariant.built c.in-Some.ensures.steps.0 made c.in_ok-push.ensures.ok;
+    }

@@ -1,0 +1,4 @@
+pub mod Above
+pub mod Graphs
+pub mod Samples
+pub mod Schemas

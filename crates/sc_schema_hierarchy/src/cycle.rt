@@ -1,0 +1,91 @@
+//! The least action that stands above itself.
+ghost use Rattle.std.specs.Prelude.{◌≡◌, ◌↔◌, ◌<◌, ◌++◌, List, Some, length, IsTrue, IfOk, OnOk, IfSome, IfNone};
+ghost use Rattle.std.specs.List.{slice_get};
+ghost use Rattle.std.specs.List.Sorted.{IsStrictlySortedBy};
+ghost use Rattle.std.specs.Map.{keys_of};
+ghost use Rattle.sc_names.specs.Uids.{uid_cmp};
+ghost use Rattle.sc_schema_resolved.specs.Resolved.{IsResolved, actions};
+ghost use Rattle.sc_schema_hierarchy.specs.Above.{IsAbove, NamesKeys, NoCycle, IsLeastCycle};
+ghost use Rattle.sc_schema_hierarchy.specs.Graphs.{IsGraphOf};
+ghost use Rattle.sc_schema_hierarchy.specs.Schemas.{resolved_links};
+
+use crate::above::keys_above;
+use crate::graph::graph_of;
+use crate::key::{Key, copies};
+use crate::sorting::links_in_order;
+use sc_lists::Seq;
+use sc_names::Uid;
+use sc_schema_resolved::{ResolvedAction, ResolvedSchema};
+use std::alloc::{AllocError, Global};
+
+/// The least action that stands above itself, by the order of uids; none exactly where no action
+/// does.
+pub fn least_cycle(alloc: Global, schema: &ResolvedSchema) -> Result<Option<Uid>, AllocError>
+    requires { IsResolved schema.now }
+    ensures found { IfOk result (λ r. IfSome r (IsLeastCycle uid_cmp (resolved_links (actions schema.now)))) }
+    ensures none { IfOk result (λ r. IfNone r (NoCycle (resolved_links (actions schema.now)))) }
+{
+    let links = links_in_order(links_of(alloc, schema)?);
+    least_above_itself(alloc, links.as_slice())
+}
+
+/// The actions of all namespaces, each with those that it is directly in.
+fn links_of(alloc: Global, schema: &ResolvedSchema) -> Result<Seq<(Uid, Seq<Uid>)>, AllocError>
+    ensures { IfOk result (λ links. links ≡ resolved_links (actions schema.now)) }
+{
+    let mut links = Seq::new(alloc);
+    for namespace in schema.namespaces.as_slice() {
+        put_links(alloc, &mut links, namespace.actions.as_slice())?;
+    }
+    Ok(links)
+}
+
+/// Puts actions behind others, each with those that it is directly in.
+fn put_links(
+    alloc: Global,
+    links: &mut Seq<(Uid, Seq<Uid>)>,
+    actions: &[ResolvedAction],
+) -> Result<(), AllocError>
+    ensures { OnOk result (links.new ≡ links.old ++ resolved_links actions.now) }
+{
+    for action in actions {
+        links.push((
+            action.uid.try_clone(alloc)?,
+            copies(alloc, action.parents.as_slice())?,
+        ))?;
+    }
+    Ok(())
+}
+
+/// The least key that stands above itself.
+fn least_above_itself<K: Key>(alloc: Global, links: &[(K, Seq<K>)]) -> Result<Option<K>, AllocError>
+    requires ascending { IsStrictlySortedBy K.order (keys_of links.now) }
+    requires declared { NamesKeys links.now }
+    ensures found { IfOk result (λ r. IfSome r (IsLeastCycle K.order links.now)) }
+    ensures none { IfOk result (λ r. IfNone r (NoCycle links.now)) }
+{
+    let graph = graph_of(alloc, links)?;
+    for at in 0..links.len() {
+        if stands_above_itself(alloc, links, graph.as_slice(), at)? {
+            return Ok(Some(links[at].0.copy(alloc)?));
+        }
+    }
+    Ok(None)
+}
+
+/// Whether the key at a place stands above itself.
+fn stands_above_itself<K: Key>(
+    alloc: Global,
+    links: &[(K, Seq<K>)],
+    graph: &[Seq<usize>],
+    at: usize,
+) -> Result<bool, AllocError>
+    requires ascending { IsStrictlySortedBy K.order (keys_of links.now) }
+    requires declared { NamesKeys links.now }
+    requires graph { IsGraphOf links.now graph.now }
+    requires within { at < length links.now }
+    ensures { IfOk result (λ is. (key : K) (above : List K) → slice_get links.now at ≡ Some (key, above) → IsTrue is ↔ IsAbove links.now key key) }
+{
+    let keys = keys_above(alloc, links, graph, at)?;
+    Ok(K::is_in(keys.as_slice(), &links[at].0))
+}
