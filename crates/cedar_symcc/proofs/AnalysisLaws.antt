@@ -1,5 +1,6 @@
 -- The goal is true where the policies allow, so the solver's answers are verdicts.
-use Rattle.std.proofs.Common.{◌≡◌, ◌&&◌, ◌||◌, ◌++◌, ℕ, List, [], Bool, true, false, not, Option, Some, None, Ok, IsTrue, Contains, map, unwrap_or, if◌then◌else◌, refl, ap, sym, ◌∙◌, subst}
+use Rattle.std.proofs.Common.{◌≡◌, ◌&&◌, ◌||◌, ◌++◌, ℕ, zero, suc, List, [], ◌∷◌, Bool, true, false, not, Option, Some, None, Ok, IsTrue, Contains, unwrap_or, if◌then◌else◌, refl, ap, sym, ◌∙◌, subst, arith}
+use Rattle.std.specs.List.{AllByRecursion}
 use Rattle.sc_ast.specs.declared.expr.Expr.{Expr}
 use Rattle.sc_ast.specs.declared.expr.Expr.TheVariants.{Access, Literal, Variable}
 use Rattle.sc_ast.specs.declared.literal.Literal.TheVariants as literal
@@ -11,12 +12,8 @@ use Rattle.sc_eval.specs.Outcomes.{Outcome, ◌>>=◌, decide, of_bool, bool_in}
 use Rattle.sc_eval.specs.Entities.{access, access_in, or_missing}
 use Rattle.sc_eval.specs.Eval.{eval}
 use Rattle.sc_eval.proofs.EvalLaws.{eval_And, eval_Access, eval_Literal, eval_Variable}
-use Rattle.sc_footprint.specs.declared.term.Term.{Term, out-Term, out-roll-Term}
-use Rattle.sc_footprint.specs.declared.term.Term.TheVariants as term
-use Rattle.sc_footprint.specs.declared.term.Term.TheVariants.{rolls-Context, rolls-False}
-use Rattle.sc_footprint.specs.declared.term.Term.TheOpen as t
-use Rattle.sc_footprint.specs.Problems.{Posed, of_context, is_goal, context_names, names_in}
-use Rattle.sc_footprint.proofs.ProblemLaws.{out_Field}
+use Rattle.sc_footprint.specs.declared.term.Term.{Term}
+use Rattle.sc_footprint.specs.Problems.{Posed, of_context, is_goal}
 use Rattle.sc_footprint.specs.Terms.{is_true, truth_in}
 use Rattle.sc_footprint.proofs.TermLaws.{is_true_False, val_of_context}
 use Rattle.sc_checker.specs.Truths.{IsUnsatisfiable}
@@ -24,8 +21,6 @@ use Rattle.sc_solver.specs.Solutions.{Satisfies}
 use Rattle.sc_names.specs.declared.uid.Uid.{Uid}
 use Rattle.sc_schema.specs.declared.declarations.Env.{Env}
 use Rattle.sc_schema.specs.Declarations.{Declarations, environments}
-use Rattle.sc_schema.specs.Plain.{IsPlain, bool_field}
-use Rattle.sc_solver.proofs.WorldLaws.{env-plain, names-plain, names-bools, out_Record as out_Record_type}
 use Rattle.sc_values.specs.declared.value.Value.{Value, Value-F, out-Value}
 use Rattle.sc_values.specs.declared.value.Value.TheOpen as v
 use Rattle.sc_values.specs.declared.value.Value.TheVariants as value
@@ -33,8 +28,7 @@ use Rattle.sc_values.specs.Records.{field}
 use Rattle.sc_values.proofs.OutLaws.{out_Bool, out_Record}
 use Rattle.sc_world.specs.declared.world.World.{World}
 use Rattle.sc_world.specs.WellFormed.{IsWellFormed}
-use Rattle.cedar_symcc.specs.Analyses.{goal_for, IsDeclared}
-use Rattle.cedar_symcc.specs.Policies.{at, policy_on, policies_of, declared_names}
+use Rattle.cedar_symcc.specs.Policies.{at, policy_on, policies_of, goal_for, IsServed}
 use Rattle.cedar_symcc.specs.Reports.{written_uids, IsWorldOf, AlwaysHas, Violates}
 use Rattle.cedar_symcc.specs.Runs.{asked}
 
@@ -121,20 +115,11 @@ satisfied-violates s env o w h = record {
 
 -- ---- the goal is one that is posed
 
-out_Context : out-Term term.Context ≡ t.Context
-out_Context = ap out-Term (sym rolls-Context) ∙ out-roll-Term t.Context
+one-of : {X : Type 0} (P : X → Type 0) (xs : List X) (x : X) → AllByRecursion P xs → Contains xs x → P x
+one-of P [] x all (k, h, is) = absurd (omega arith)
+one-of P (y ∷ xs) x all (zero, h, is) = subst P is all.0
+one-of P (y ∷ xs) x all (suc k, h, is) = one-of P xs x all.1 (k, omega arith, is)
 
-out_False : out-Term term.False ≡ t.False
-out_False = ap out-Term (sym rolls-False) ∙ out-roll-Term t.False
-
-names-declared : (s : Declarations) (env : Env) (h : IsPlain s) → Contains (environments s) env → context_names s env ≡ declared_names s
-names-declared s env h c =
-    names-plain h env (env-plain h env c)
-    ∙ sym (rw h.actions (ap names_in (out_Record_type (map bool_field h.attributes)) ∙ names-bools h.attributes))
-
-goal-posed_at : (s : Declarations) (env : Env) (o : Option (List ℕ)) → context_names s env ≡ declared_names s → IsDeclared s o → IsTrue (is_goal s env (goal_for o))
-goal-posed_at s env None e h = rw out_False refl
-goal-posed_at s env (Some name) e h = rw (out_Field term.Context name, out_Context, e) h
-
-pub goal-posed : (s : Declarations) (env : Env) (o : Option (List ℕ)) (goal : Term) → IsPlain s → Contains (environments s) env → IsDeclared s o → goal ≡ goal_for o → IsTrue (is_goal s env goal)
-goal-posed s env o goal h c d e = subst (λ (x : Term). IsTrue (is_goal s env x)) (sym e) (goal-posed_at s env o (names-declared s env h c) d)
+pub goal-posed : (s : Declarations) (env : Env) (o : Option (List ℕ)) (goal : Term) → Contains (environments s) env → IsServed s o → goal ≡ goal_for o → IsTrue (is_goal s env goal)
+goal-posed s env o goal among served is =
+    subst (λ (x : Term). IsTrue (is_goal s env x)) (sym is) (one-of (λ (e : Env). IsTrue (is_goal s e (goal_for o))) (environments s) env served among)

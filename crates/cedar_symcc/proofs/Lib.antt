@@ -1,5 +1,5 @@
 pub mod AnalysisLaws
-pub mod WordsLaws
+pub mod ServingLaws
 pub mod PoliciesLaws
 pub mod ReportLaws
 pub mod ReadingLaws

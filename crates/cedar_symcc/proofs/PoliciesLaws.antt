@@ -1,10 +1,6 @@
 -- Files that spell policies of another form.
-use Rattle.std.proofs.Common.{◌≡◌, ◌≢◌, ◌↔◌, ℕ, List, [], ◌∷◌, ◌||◌, Bool, true, false, IsTrue, map, slice_get, Option, Some, None, Ok, refl, ap, sym, ◌∙◌, subst}
-use Rattle.std.specs.List.{list_any}
-use Rattle.std.specs.Str.{bytes_eq}
-use Rattle.sc_lists.specs.declared.text.Text.{Text}
-use Rattle.sc_schema.specs.declared.ty.Presence.{Presence}
-use Rattle.sc_schema.specs.declared.ty.Ty.{Ty}
+use Rattle.std.proofs.Common.{◌≡◌, ◌≢◌, ◌↔◌, ℕ, List, [], ◌∷◌, Bool, false, IsTrue, slice_get, Option, Some, None, Ok, ap, sym, ◌∙◌, subst}
+use Rattle.sc_schema.specs.Declarations.{Declarations}
 use Rattle.sc_ast.specs.declared.expr.Expr.{Expr, Expr-F, out-Expr, out-roll-Expr}
 use Rattle.sc_ast.specs.declared.expr.Expr.TheOpen as e
 use Rattle.sc_ast.specs.declared.expr.Expr.TheVariants.{Variable, rolls-Access}
@@ -13,7 +9,7 @@ use Rattle.sc_ast.specs.declared.policy.Condition.{Condition}
 use Rattle.sc_ast.specs.declared.policy.Policy.{Policy}
 use Rattle.sc_parser.specs.Spelling.{Spells, spelled}
 use Rattle.sc_parser.proofs.ReadingLaws.{one_reading}
-use Rattle.cedar_symcc.specs.Policies.{at, attribute_at, policy_on, policies_of, IsFormOf, SpellsPolicies}
+use Rattle.cedar_symcc.specs.Policies.{at, attribute_at, policy_on, policies_of, IsTextOf, IsServed, SpellsPolicies}
 use Rattle.cedar_symcc.specs.Refusals.{SpellsOthers}
 
 same-policies : {bytes : List ℕ} {ps qs : List Policy} → Spells bytes ps → Spells bytes qs → ps ≡ qs
@@ -46,30 +42,25 @@ one-attribute (Some n) None e = absurd cc
 one-attribute (Some n) (Some q) e = ap Some (one-name n q e)
 
 -- the policies are of no form that is served
-pub others_by_tree : {declared : List (List ℕ)} {bytes : List ℕ} {ps : List Policy} → Spells bytes ps → ((o : Option (List ℕ)) → ps ≢ policies_of o) → SpellsOthers declared bytes
-others_by_tree {ps = ps} s none = record { policies = ps; spelled = s; none = λ o h. none o (same-policies s h.spelled) }
+pub others_by_tree : {s : Declarations} {bytes : List ℕ} {ps : List Policy} → Spells bytes ps → ((o : Option (List ℕ)) → ps ≢ policies_of o) → SpellsOthers s bytes
+others_by_tree {ps = ps} spells none = record { policies = ps; spelled = spells; none = λ o h. none o (same-policies spells h.spelled) }
 
--- they are, but the file's text isn't theirs
-pub others_by_text : {declared : List (List ℕ)} {bytes : List ℕ} {ps : List Policy} (o : Option (List ℕ)) → Spells bytes ps → ps ≡ policies_of o → (IsFormOf declared bytes o → ⊥) → SpellsOthers declared bytes
-others_by_text {declared = declared} {bytes = bytes} {ps = ps} o s is none =
-    record { policies = ps; spelled = s; none = λ p h. none (subst (IsFormOf declared bytes) (one-attribute p o (sym (same-policies s h.spelled) ∙ is)) h.form) }
+-- they are, and what isn't so of their attribute isn't so of any that the bytes spell
+others_by : {s : Declarations} {bytes : List ℕ} {ps : List Policy} (P : Option (List ℕ) → Type 0) (o : Option (List ℕ)) → Spells bytes ps → ps ≡ policies_of o → (P o → ⊥) → ((p : Option (List ℕ)) → SpellsPolicies s bytes p → P p) → SpellsOthers s bytes
+others_by {ps = ps} P o spells is none asked =
+    record { policies = ps; spelled = spells; none = λ p h. none (subst P (one-attribute p o (sym (same-policies spells h.spelled) ∙ is)) (asked p h)) }
 
--- the same where a test tells that the text isn't theirs
-pub others_by_test : {declared names : List (List ℕ)} {bytes : List ℕ} {ps : List Policy} {b : Bool} (o : Option (List ℕ)) → Spells bytes ps → names ≡ declared → IsTrue b ↔ IsFormOf names bytes o → b ≡ false → ps ≡ policies_of o → SpellsOthers declared bytes
-others_by_test {bytes = bytes} o s same decides refused is =
-    others_by_text o s is (λ h. let held = decides.1 (subst (λ names. IsFormOf names bytes o) (sym same) h) in cc)
+-- a test tells that the file's text isn't theirs
+pub others_by_text : {s : Declarations} {bytes : List ℕ} {ps : List Policy} {b : Bool} (o : Option (List ℕ)) → Spells bytes ps → ps ≡ policies_of o → IsTrue b ↔ IsTextOf bytes o → b ≡ false → SpellsOthers s bytes
+others_by_text {bytes = bytes} o spells is decides refused =
+    others_by (IsTextOf bytes) o spells is (λ h. let held = decides.1 h in cc) (λ p h. h.text)
+
+-- a test tells that their goal isn't posed
+pub others_by_goal : {s : Declarations} {bytes : List ℕ} {ps : List Policy} {b : Bool} (o : Option (List ℕ)) → Spells bytes ps → ps ≡ policies_of o → IsTrue b ↔ IsServed s o → b ≡ false → SpellsOthers s bytes
+others_by_goal {s = s} o spells is decides refused =
+    others_by (IsServed s) o spells is (λ h. let held = decides.1 h in cc) (λ p h. h.served)
 
 -- the first policy isn't the one on an attribute
 pub none-of : (ps : List Policy) (p : Policy) → slice_get ps 0 ≡ Some p → ((name : List ℕ) → p ≢ policy_on name) → (o : Option (List ℕ)) → ps ≢ policies_of o
 none-of ps p first none None e = absurd (let no : slice_get [] 0 ≡ Some p = ap (λ xs. slice_get xs 0) (sym e) ∙ first in cc)
 none-of ps p first none (Some name) e = none name (let same : Some p ≡ Some (policy_on name) = sym first ∙ ap (λ xs. slice_get xs 0) e in cc)
-
--- ---- declared attributes
-
-abbrev pub Field : Type 0
-Field = Text × Presence × Ty
-
--- a name among those of fields
-pub any-names : (name : List ℕ) (fields : List Field) → list_any (bytes_eq name) (map (λ (a : Field). a.0) fields) ≡ list_any (λ (a : Field). bytes_eq name a.0) fields
-any-names name [] = refl
-any-names name (a ∷ fields) = ap (λ b. bytes_eq name a.0 || b) (any-names name fields)

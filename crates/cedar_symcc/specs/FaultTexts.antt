@@ -1,9 +1,13 @@
--- The faults of policy files as text: a fault's name, and its place in bytes where it has one.
+-- The faults of files as text: a fault's name, and its place where it has one, in bytes of a policy file or as a path in a
+-- schema file.
 use Rattle.std.specs.Prelude.{ℕ, List, ◌++◌, codes}
 use Rattle.std.specs.Fmt.{decimal}
 use Rattle.sc_ast.specs.declared.place.Place.{Place}
+use Rattle.sc_names.specs.Escapes.{escaped_text, uid_text}
 use Rattle.sc_parser.specs.declared.fault.PolicyFault.{PolicyFault}
 use Rattle.sc_parser.specs.declared.fault.PolicyFault.TheVariants.{BadUtf8, BadToken, BadEscape, Unexpected, UnexpectedEnd, TooManyPolicies, Template, TooDeep, IntRange, DuplicateKey, BadCall}
+use Rattle.sc_schema_syntax.specs.declared.fault.SchemaFault.{SchemaFault}
+use Rattle.sc_schema_syntax.specs.declared.fault.SchemaFault.TheVariants.{NotJson, BadShape, BadName, UnknownType, UnknownAction, TypeCycle, ActionCycle, NotRecord, TypeTooLarge, TooManyEnvironments}
 
 -- a name and a place
 unfoldable pub placed : List ℕ → Place → List ℕ
@@ -21,3 +25,23 @@ fault_text (TooDeep p) = placed (codes "TooDeep") p
 fault_text (IntRange p) = placed (codes "IntRange") p
 fault_text (DuplicateKey p) = placed (codes "DuplicateKey") p
 fault_text (BadCall p) = placed (codes "BadCall") p
+
+-- a name and a text
+unfoldable pub named : List ℕ → List ℕ → List ℕ
+named name text = name ++ (codes " at " ++ text)
+
+-- a name and a path, with the escapes of uids
+abbrev pub on_path : List ℕ → List ℕ → List ℕ
+on_path name path = named name (escaped_text path)
+
+abbrev pub schema_fault_text : SchemaFault → List ℕ
+schema_fault_text NotJson = codes "NotJson"
+schema_fault_text (BadShape path) = on_path (codes "BadShape") path
+schema_fault_text (BadName path) = on_path (codes "BadName") path
+schema_fault_text (UnknownType path) = on_path (codes "UnknownType") path
+schema_fault_text (UnknownAction path) = on_path (codes "UnknownAction") path
+schema_fault_text (TypeCycle name) = named (codes "TypeCycle") name
+schema_fault_text (ActionCycle uid) = named (codes "ActionCycle") (uid_text uid)
+schema_fault_text (NotRecord path) = on_path (codes "NotRecord") path
+schema_fault_text (TypeTooLarge path) = on_path (codes "TypeTooLarge") path
+schema_fault_text TooManyEnvironments = codes "TooManyEnvironments"

@@ -1,10 +1,9 @@
-pub mod Commands
+pub mod Serving
 pub mod Policies
 pub mod Reports
 pub mod Refusals
 pub mod Progress
 pub mod Runs
-pub mod Analyses
 pub mod Readings
 pub mod View
 pub mod FaultTexts

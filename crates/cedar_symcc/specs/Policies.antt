@@ -1,7 +1,6 @@
--- The policy files that are read so far: none, or one policy that permits where an attribute of the context is true.
-use Rattle.std.specs.Prelude.{◌≡◌, ◌⊎◌, ℕ, List, [], ◌∷◌, ◌++◌, Option, Some, None, codes, true}
-use Rattle.std.specs.List.{list_any}
-use Rattle.std.specs.Str.{bytes_eq}
+-- The policies that are served so far: none, or one that permits where an attribute of the context is true.
+use Rattle.std.specs.Prelude.{◌≡◌, ◌⊎◌, ℕ, List, [], ◌∷◌, ◌++◌, Option, Some, None, codes, true, IsTrue}
+use Rattle.std.specs.List.{AllByRecursion}
 use Rattle.sc_ast.specs.declared.place.Place.{Place}
 use Rattle.sc_ast.specs.declared.expr.Expr.{Expr}
 use Rattle.sc_ast.specs.declared.expr.Expr.TheVariants.{Access, Variable}
@@ -14,12 +13,13 @@ use Rattle.sc_ast.specs.declared.scope.ActionConstraint.TheVariants as action
 use Rattle.sc_ast.specs.declared.scope.ActionScope.{ActionScope}
 use Rattle.sc_ast.specs.declared.scope.Constraint.TheVariants.{Any}
 use Rattle.sc_ast.specs.declared.scope.Scope.{Scope}
-use Rattle.sc_footprint.specs.Problems.{names_in}
+use Rattle.sc_footprint.specs.declared.term.Term.{Term}
+use Rattle.sc_footprint.specs.declared.term.Term.TheVariants.{False}
+use Rattle.sc_footprint.specs.Problems.{of_context, is_goal}
 use Rattle.sc_names.specs.Names.{is_ident}
 use Rattle.sc_parser.specs.Spelling.{Spells}
-use Rattle.sc_schema.specs.declared.ty.Ty.{out-Ty}
-use Rattle.sc_schema.specs.declared.declarations.Action.{Action}
-use Rattle.sc_schema.specs.Declarations.{Declarations}
+use Rattle.sc_schema.specs.declared.declarations.Env.{Env}
+use Rattle.sc_schema.specs.Declarations.{Declarations, environments}
 
 -- up to the name of an attribute of the context
 unfoldable pub policy_front : List ℕ
@@ -36,10 +36,10 @@ IsPolicyText bytes name = (end : List ℕ) × IsPolicyEnd end × (bytes ≡ poli
 abbrev pub IsPolicyOn : List ℕ → List ℕ → Type 0
 IsPolicyOn bytes name = (is_ident name ≡ true) × IsPolicyText bytes name
 
--- the bytes are none, or the text of the policy on a declared attribute
-abbrev pub IsFormOf : List (List ℕ) → List ℕ → Option (List ℕ) → Type 0
-IsFormOf declared bytes None = bytes ≡ []
-IsFormOf declared bytes (Some name) = (list_any (bytes_eq name) declared ≡ true) × IsPolicyOn bytes name
+-- the bytes are none, or the text of the policy on an identifier
+abbrev pub IsTextOf : List ℕ → Option (List ℕ) → Type 0
+IsTextOf bytes None = bytes ≡ []
+IsTextOf bytes (Some name) = IsPolicyOn bytes name
 
 abbrev pub at : ℕ → Place
 at offset = record { offset = offset }
@@ -88,15 +88,17 @@ abbrev pub policies_of : Option (List ℕ) → List Policy
 policies_of None = []
 policies_of (Some name) = policy_on name ∷ []
 
--- the bytes spell the policies, and they are of the form
-pub record SpellsPolicies (declared : List (List ℕ)) (bytes : List ℕ) (o : Option (List ℕ)) : Type 0 where
-  pub form : IsFormOf declared bytes o
+-- the goal of the policies: it is true where they allow
+abbrev pub goal_for : Option (List ℕ) → Term
+goal_for None = False
+goal_for (Some name) = of_context name
+
+-- the goal is posed in each environment: the context has the attribute, and required truth values alone
+abbrev pub IsServed : Declarations → Option (List ℕ) → Type 0
+IsServed s o = AllByRecursion (λ (env : Env). IsTrue (is_goal s env (goal_for o))) (environments s)
+
+-- the bytes spell the policies, and they are of the form that is served
+pub record SpellsPolicies (s : Declarations) (bytes : List ℕ) (o : Option (List ℕ)) : Type 0 where
+  pub text : IsTextOf bytes o
   pub spelled : Spells bytes (policies_of o)
-
--- the attributes of the context of requests for the first action
-abbrev pub first_context : List Action → List (List ℕ)
-first_context [] = []
-first_context (a ∷ actions) = names_in (out-Ty a.context)
-
-abbrev pub declared_names : Declarations → List (List ℕ)
-declared_names s = first_context s.actions
+  pub served : IsServed s o

@@ -2,15 +2,17 @@
 use Rattle.std.specs.Prelude.{◌≡◌, ◌≤◌, ◌<◌, ◌⊎◌, ℕ, List, [], Option, Some, length, take}
 use Rattle.std.specs.List.{Contains}
 use Rattle.sc_outside.specs.Writes.{appended}
+use Rattle.sc_ast.specs.declared.policy.Policy.{Policy}
 use Rattle.sc_question.specs.declared.question.Question.TheVariants.{AlwaysDenies}
 use Rattle.sc_schema.specs.declared.declarations.Env.{Env}
 use Rattle.sc_schema.specs.Declarations.{Declarations, environments}
-use Rattle.sc_schema_json.specs.Form.{SpellsSchema}
+use Rattle.sc_schema_json.specs.Spelling as schema_file
+use Rattle.sc_schema_syntax.specs.declared.fault.SchemaFault.{SchemaFault}
 use Rattle.sc_parser.specs.declared.fault.PolicyFault.{PolicyFault}
-use Rattle.sc_parser.specs.Spelling.{HasFault}
+use Rattle.sc_parser.specs.Spelling.{Spells, HasFault}
 use Rattle.sc_world.specs.declared.world.World.{World}
-use Rattle.cedar_symcc.specs.Commands.{Command, Commands}
-use Rattle.cedar_symcc.specs.Policies.{SpellsPolicies, policies_of, declared_names}
+use Rattle.cedar_symcc.specs.Serving.{Command, Serves}
+use Rattle.cedar_symcc.specs.Policies.{SpellsPolicies, policies_of}
 use Rattle.cedar_symcc.specs.Progress.{Reported}
 use Rattle.cedar_symcc.specs.Refusals.{Refusal, IsRefusal, code_of, refusal_text, Content, IsContent, IsTooLong, ReadsSchema, ReadsPolicies, SpellsOthers, limit}
 use Rattle.cedar_symcc.specs.Reports.{Asked, Line, counterexample, IsReport, AlwaysHas, Violates, report_text}
@@ -34,12 +36,12 @@ run_of content words read_rose write_rose before after code =
 abbrev pub asked : Declarations → Option (List ℕ) → Asked
 asked s o = record { schema = s; question = AlwaysDenies; first = policies_of o; second = [] }
 
--- the words are a command, and its files were read and spell a schema and policies
+-- the words are a command that is served, and its files were read and spell a schema and policies
 pub record ReadsAll (content : Content) (words : List (List ℕ)) (s : Declarations) (o : Option (List ℕ)) : Type 0 where
   pub command : Command
-  pub commands : Commands words command
+  pub commands : Serves words command
   pub schema : ReadsSchema content command s
-  pub policies : ReadsPolicies content command (declared_names s) o
+  pub policies : ReadsPolicies content command s o
 
 -- a refusal's line is written whole, or a front of it; or the report is written, as far as it came; or memory ran out
 -- before anything was written
@@ -73,10 +75,10 @@ pub record SomeFails (r : Run) : Type 0 where
   pub printed : Contains lines (record { env = env; verdict = counterexample world })
   pub violates : Violates (asked schema policies) env world
 
--- the words are a command, both files are told and short enough, and they spell a schema and policies
+-- the words are a command that is served, both files are told and short enough, and they spell a schema and policies
 pub record IsReadable (r : Run) : Type 0 where
   pub command : Command
-  pub commands : Commands r.words command
+  pub commands : Serves r.words command
   pub schema_bytes : List ℕ
   pub policy_bytes : List ℕ
   pub schema_told : r.content command.schema ≡ Some schema_bytes
@@ -85,8 +87,8 @@ pub record IsReadable (r : Run) : Type 0 where
   pub policies_short : length policy_bytes ≤ limit
   pub schema : Declarations
   pub policies : Option (List ℕ)
-  pub schema_spelled : SpellsSchema schema_bytes schema
-  pub policies_spelled : SpellsPolicies (declared_names schema) policy_bytes policies
+  pub schema_spelled : schema_file.Spells schema_bytes schema
+  pub policies_spelled : SpellsPolicies schema policy_bytes policies
 
 -- one of the statuses of a whole report, or want of memory
 abbrev pub IsWhole : ℕ → Type 0
@@ -98,19 +100,32 @@ MustBe n code = (code ≡ n) ⊎ ((code ≡ 21) ⊎ (code ≡ 30))
 
 -- a file of the command is told and longer than its limit, and the files before it are read
 pub data TooLong (r : Run) : Type 0 where
-  schema_long : (c : Command) → Commands r.words c → IsTooLong r.content c.schema → TooLong r
-  policies_long : (c : Command) → Commands r.words c → (s : Declarations) → ReadsSchema r.content c s → IsTooLong r.content c.policies → TooLong r
+  schema_long : (c : Command) → Serves r.words c → IsTooLong r.content c.schema → TooLong r
+  policies_long : (c : Command) → Serves r.words c → (s : Declarations) → ReadsSchema r.content c s → IsTooLong r.content c.policies → TooLong r
 
--- a file of the command isn't of the form, and the files before it are read
-pub data NotForm (r : Run) : Type 0 where
-  schema_not : (c : Command) → Commands r.words c → (bytes : List ℕ) → IsContent r.content c.schema bytes → ((s : Declarations) → SpellsSchema bytes s → ⊥) → NotForm r
-  policies_not : (c : Command) → Commands r.words c → (s : Declarations) → ReadsSchema r.content c s → (bytes : List ℕ) → IsContent r.content c.policies bytes
-      → SpellsOthers (declared_names s) bytes → NotForm r
+-- the policy file of the command spells policies of another form, and the schema is read
+pub record NotForm (r : Run) : Type 0 where
+  pub command : Command
+  pub commands : Serves r.words command
+  pub schema : Declarations
+  pub reads : ReadsSchema r.content command schema
+  pub bytes : List ℕ
+  pub told : IsContent r.content command.policies bytes
+  pub others : SpellsOthers schema bytes
+
+-- the schema file of the command spells no schema, and its first fault is told
+pub record IsFaultySchema (r : Run) : Type 0 where
+  pub command : Command
+  pub commands : Serves r.words command
+  pub bytes : List ℕ
+  pub told : IsContent r.content command.schema bytes
+  pub fault : SchemaFault
+  pub has : schema_file.HasFault bytes fault
 
 -- the policy file of the command spells no policies, its first fault is told, and the files before it are read
 pub record IsFaulty (r : Run) : Type 0 where
   pub command : Command
-  pub commands : Commands r.words command
+  pub commands : Serves r.words command
   pub schema : Declarations
   pub reads : ReadsSchema r.content command schema
   pub bytes : List ℕ
@@ -118,39 +133,39 @@ pub record IsFaulty (r : Run) : Type 0 where
   pub fault : PolicyFault
   pub has : HasFault bytes fault
 
--- the words are a command whose schema file is told
+-- the words are a command that is served whose schema file is told
 pub record SchemaTold (r : Run) : Type 0 where
   pub command : Command
-  pub commands : Commands r.words command
+  pub commands : Serves r.words command
   pub bytes : List ℕ
   pub told : r.content command.schema ≡ Some bytes
 
--- and of the form, and the policy file is told too
+-- and spells a schema, and the policy file is told too
 pub record PoliciesTold (r : Run) : Type 0 where
   pub command : Command
-  pub commands : Commands r.words command
+  pub commands : Serves r.words command
   pub schema_bytes : List ℕ
   pub schema_told : r.content command.schema ≡ Some schema_bytes
   pub schema_short : length schema_bytes ≤ limit
   pub schema : Declarations
-  pub spelled : SpellsSchema schema_bytes schema
+  pub spelled : schema_file.Spells schema_bytes schema
   pub bytes : List ℕ
   pub told : r.content command.policies ≡ Some bytes
 
 abbrev pub SchemaIsLong : Run → Type 0
 SchemaIsLong r = (t : SchemaTold r) × (limit < length t.bytes)
 
-abbrev pub SchemaIsNot : Run → Type 0
-SchemaIsNot r = (t : SchemaTold r) × (length t.bytes ≤ limit) × ((s : Declarations) → SpellsSchema t.bytes s → ⊥)
+abbrev pub SchemaIsFaulty : Run → Type 0
+SchemaIsFaulty r = (t : SchemaTold r) × (length t.bytes ≤ limit) × ((s : Declarations) → schema_file.Spells t.bytes s → ⊥)
 
 abbrev pub PoliciesAreLong : Run → Type 0
 PoliciesAreLong r = (t : PoliciesTold r) × (limit < length t.bytes)
 
 abbrev pub PoliciesAreNot : Run → Type 0
-PoliciesAreNot r = (t : PoliciesTold r) × (length t.bytes ≤ limit) × SpellsOthers (declared_names t.schema) t.bytes
+PoliciesAreNot r = (t : PoliciesTold r) × (length t.bytes ≤ limit) × SpellsOthers t.schema t.bytes
 
 abbrev pub PoliciesAreFaulty : Run → Type 0
-PoliciesAreFaulty r = (t : PoliciesTold r) × (length t.bytes ≤ limit) × ((f : PolicyFault) × HasFault t.bytes f)
+PoliciesAreFaulty r = (t : PoliciesTold r) × (length t.bytes ≤ limit) × ((ps : List Policy) → Spells t.bytes ps → ⊥)
 
 -- how a refusal ends: its line is written whole, or a front of it, or memory runs out and nothing is written
 abbrev pub Refuses : Refusal → Option (List ℕ) → Option (List ℕ) → Type 0 → ℕ → Type 0

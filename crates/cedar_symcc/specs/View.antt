@@ -16,10 +16,11 @@ file_view file.Policies = spec.policies_file
 
 abbrev pub refusal_view : Refusal → spec.Refusal
 refusal_view refusal.Usage = spec.usage
+refusal_view (refusal.SchemaText f) = spec.schema_text f
 refusal_view (refusal.PolicyText f) = spec.policy_text f
 refusal_view (refusal.ReadFault f) = spec.read_fault (file_view f)
 refusal_view (refusal.TooLong f) = spec.too_long (file_view f)
-refusal_view (refusal.NotForm f) = spec.not_form (file_view f)
+refusal_view refusal.NotForm = spec.not_form
 
 abbrev pub verdict_view : EnvAnswer → Verdict
 verdict_view (Holds log) = holds

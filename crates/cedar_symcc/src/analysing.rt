@@ -1,15 +1,15 @@
 //! Analyses one environment.
 ghost use Rattle.std.specs.Prelude.{◌≡◌, ◌≤◌, Contains, IfOk};
 ghost use Rattle.sc_schema.specs.Declarations.{environments};
-ghost use Rattle.sc_schema.specs.Plain.{IsPlain};
-ghost use Rattle.cedar_symcc.specs.Analyses.{goal_for, IsDeclared};
+ghost use Rattle.cedar_symcc.specs.Policies.{IsServed};
 ghost use Rattle.cedar_symcc.specs.Reports.{IsVerdict};
 ghost use Rattle.cedar_symcc.specs.Runs.{asked};
 ghost use Rattle.cedar_symcc.specs.View.{verdict_view};
 
+use crate::posing::goal_for;
 use sc_checker::Log;
-use sc_footprint::{Term, close};
-use sc_lists::{Boxed, Text};
+use sc_footprint::close;
+use sc_lists::Text;
 use sc_names::Lits;
 use sc_schema::{Env, Schema};
 use sc_solver::{Solved, solve};
@@ -25,16 +25,6 @@ pub enum EnvAnswer {
     Violated(World),
 }
 
-/// The goal: it is true where the policies allow.
-fn goal_for(alloc: Global, attribute: &Option<Text>) -> Result<Term, AllocError>
-    ensures { IfOk result (λ t. t ≡ goal_for attribute.now) }
-{
-    match attribute {
-        None => Ok(Term::False),
-        Some(name) => Ok(Term::Field(Boxed::new(alloc, Term::Context)?, name.try_clone(alloc)?)),
-    }
-}
-
 /// Whether the policies always deny in an environment: no policy, or the one that permits where
 /// this attribute of the context is true.
 pub fn analyse_env(
@@ -44,13 +34,12 @@ pub fn analyse_env(
     attribute: &Option<Text>,
     budget: u64,
 ) -> Result<EnvAnswer, AllocError>
-    requires plain { IsPlain schema.now }
     requires environment { Contains (environments schema.now) env.now }
-    requires declared { IsDeclared schema.now attribute.now }
+    requires served { IsServed schema.now attribute.now }
     requires units { 1 ≤ budget }
     ensures { IfOk result (λ a. IsVerdict (asked schema.now attribute.now) env.now (verdict_view a)) }
 {
-    let goal = goal_for(alloc, attribute)?;
+    let goal = goal_for(alloc, attribute.as_ref())?;
     let literals = Lits::new(alloc);
     let problem = close(goal, schema, env, &literals);
     match solve(alloc, &problem, budget)? {

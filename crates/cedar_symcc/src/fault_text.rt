@@ -1,11 +1,13 @@
-//! The faults of policy files as text.
+//! The faults of files as text.
 ghost use Rattle.std.specs.Prelude.{◌≡◌, ◌++◌, OnOk};
-ghost use Rattle.cedar_symcc.specs.FaultTexts.{placed, fault_text};
+ghost use Rattle.cedar_symcc.specs.FaultTexts.{placed, named, on_path, fault_text, schema_fault_text};
 
 use crate::put::{put, put_number};
 use sc_ast::Place;
+use sc_names::{put_escaped, uid_text};
 use sc_parser::PolicyFault;
-use std::alloc::AllocError;
+use sc_schema_syntax::SchemaFault;
+use std::alloc::{AllocError, Global};
 
 #[tactic(auto, unfolding(crate::specs::FaultTexts::placed))]
 fn put_placed(out: &mut Vec<u8>, name: &[u8], place: Place) -> Result<(), AllocError>
@@ -16,7 +18,7 @@ fn put_placed(out: &mut Vec<u8>, name: &[u8], place: Place) -> Result<(), AllocE
     put_number(out, place.offset)
 }
 
-/// Puts a fault at the end: its name, and its place where it has one.
+/// Puts a fault of a policy file at the end: its name, and its place where it has one.
 pub fn put_fault(out: &mut Vec<u8>, fault: PolicyFault) -> Result<(), AllocError>
     ensures { OnOk result (out.new.items ≡ out.old.items ++ fault_text fault) }
 {
@@ -32,5 +34,50 @@ pub fn put_fault(out: &mut Vec<u8>, fault: PolicyFault) -> Result<(), AllocError
         PolicyFault::IntRange(place) => put_placed(out, b"IntRange", place),
         PolicyFault::DuplicateKey(place) => put_placed(out, b"DuplicateKey", place),
         PolicyFault::BadCall(place) => put_placed(out, b"BadCall", place),
+    }
+}
+
+#[tactic(auto, unfolding(crate::specs::FaultTexts::named))]
+fn put_named(out: &mut Vec<u8>, name: &[u8], text: &str) -> Result<(), AllocError>
+    ensures { OnOk result (out.new.items ≡ out.old.items ++ named name.now text.now) }
+{
+    put(out, name)?;
+    put(out, b" at ")?;
+    put(out, text.as_bytes())
+}
+
+fn put_on_path(alloc: Global, out: &mut Vec<u8>, name: &[u8], path: &str) -> Result<(), AllocError>
+    ensures { OnOk result (out.new.items ≡ out.old.items ++ on_path name.now path.now) }
+{
+    let mut text = String::new(alloc);
+    put_escaped(&mut text, path)?;
+    put_named(out, name, &text)
+}
+
+/// Puts a fault of a schema file at the end: its name, and where it has one its path, type or
+/// action.
+pub fn put_schema_fault(
+    alloc: Global,
+    out: &mut Vec<u8>,
+    fault: &SchemaFault,
+) -> Result<(), AllocError>
+    ensures { OnOk result (out.new.items ≡ out.old.items ++ schema_fault_text fault.now) }
+{
+    match fault {
+        SchemaFault::NotJson => put(out, b"NotJson"),
+        SchemaFault::BadShape(path) => put_on_path(alloc, out, b"BadShape", path.as_str()),
+        SchemaFault::BadName(path) => put_on_path(alloc, out, b"BadName", path.as_str()),
+        SchemaFault::UnknownType(path) => put_on_path(alloc, out, b"UnknownType", path.as_str()),
+        SchemaFault::UnknownAction(path) => {
+            put_on_path(alloc, out, b"UnknownAction", path.as_str())
+        }
+        SchemaFault::TypeCycle(name) => put_named(out, b"TypeCycle", name.as_str()),
+        SchemaFault::ActionCycle(uid) => {
+            let text = uid_text(alloc, uid)?;
+            put_named(out, b"ActionCycle", &text)
+        }
+        SchemaFault::NotRecord(path) => put_on_path(alloc, out, b"NotRecord", path.as_str()),
+        SchemaFault::TypeTooLarge(path) => put_on_path(alloc, out, b"TypeTooLarge", path.as_str()),
+        SchemaFault::TooManyEnvironments => put(out, b"TooManyEnvironments"),
     }
 }

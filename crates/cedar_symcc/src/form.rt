@@ -1,13 +1,10 @@
 //! The text of the policy files that are served so far.
-ghost use Rattle.std.specs.Prelude.{◌≡◌, ◌≢◌, ◌↔◌, ◌++◌, ℕ, List, map, true, IfSome, IfNone, IsTrue};
-ghost use Rattle.std.specs.List.{list_any};
-ghost use Rattle.std.specs.Str.{bytes_eq};
+ghost use Rattle.std.specs.Prelude.{◌≡◌, ◌≢◌, ◌↔◌, ◌++◌, ℕ, List, IfSome, IfNone, IsTrue};
 ghost use Rattle.std.specs.Option.{option_copied};
-ghost use Rattle.cedar_symcc.specs.Policies.{policy_front, IsPolicyEnd, IsPolicyText, IsPolicyOn, IsFormOf};
+ghost use Rattle.cedar_symcc.specs.Policies.{policy_front, IsPolicyEnd, IsPolicyText, IsPolicyOn, IsTextOf};
 
 use sc_lists::Text;
 use sc_names::is_ident;
-use sc_schema::{Presence, Ty};
 
 fn strip<'b>(bytes: &'b [u8], front: &[u8]) -> Option<&'b [u8]>
     ensures found { IfSome result (λ rest. bytes.now ≡ front.now ++ rest.now) }
@@ -47,31 +44,12 @@ fn is_policy_on(bytes: &[u8], name: &str) -> bool
     is_ident(name) && is_policy_text(bytes, name)
 }
 
-fn is_declared(fields: &[(Text, Presence, Ty)], name: &Text) -> bool
-    ensures { result ≡ list_any (bytes_eq name.now) (map (λ a. a.0) fields.now) }
-{
-    for field in fields {
-        if name.is_same(&field.0) {
-            return true;
-        }
-    }
-    false
-}
-
-/// Whether a file is the text of no policy, or of the one on a declared attribute.
-pub fn is_form_of(bytes: &[u8], fields: &[(Text, Presence, Ty)], attribute: Option<&Text>) -> bool
-    ensures { IsTrue result ↔ IsFormOf (map (λ a. a.0) fields.now) bytes.now (option_copied attribute.entry) }
+/// Whether a file is the text of no policy, or of the one on an identifier.
+pub fn is_text_of(bytes: &[u8], attribute: Option<&Text>) -> bool
+    ensures { IsTrue result ↔ IsTextOf bytes.now (option_copied attribute.entry) }
 {
     match attribute {
-        Some(name) => is_form_on(bytes, fields, name),
+        Some(name) => is_policy_on(bytes, name.as_str()),
         None => bytes.is_empty(),
     }
-}
-
-fn is_form_on(bytes: &[u8], fields: &[(Text, Presence, Ty)], name: &Text) -> bool
-    ensures { IsTrue result ↔ (list_any (bytes_eq name.now) (map (λ a. a.0) fields.now) ≡ true × IsPolicyOn bytes.now name.now) }
-{
-    let declared = is_declared(fields, name);
-    let text = is_policy_on(bytes, name.as_str());
-    declared && text
 }

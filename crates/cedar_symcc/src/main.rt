@@ -6,14 +6,15 @@ mod fault_text;
 mod form;
 mod line;
 mod policies;
+mod posing;
 mod put;
 mod reading;
 mod refusal;
 mod reporting;
 mod running;
+mod serving;
 #[cfg(test)]
 mod tests;
-mod words;
 
 use sc_outside::{RealFiles, RealSink};
 use std::alloc::AllocError;

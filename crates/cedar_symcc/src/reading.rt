@@ -2,30 +2,28 @@
 ghost use Rattle.std.specs.Prelude.{◌≡◌, ◌≤◌, ◌<◌, ◌⊎◌, ℕ, List, Option, Err, map, IfOk, IfSome, IfErr, length};
 ghost use Rattle.sc_outside.specs.Counts.{Rose};
 ghost use Rattle.sc_schema.specs.Declarations.{Declarations};
-ghost use Rattle.sc_footprint.specs.Problems.{names_in};
-ghost use Rattle.sc_schema.specs.declared.ty.Ty.{out-Ty};
 ghost use Rattle.sc_parser.specs.Spelling.{Spells};
-ghost use Rattle.sc_schema.specs.Plain.{IsPlain};
 ghost use Rattle.std.specs.Option.{option_copied};
-ghost use Rattle.sc_schema_json.specs.Form.{SpellsSchema};
-ghost use Rattle.cedar_symcc.specs.Analyses.{IsDeclared};
-ghost use Rattle.cedar_symcc.specs.Commands.{command_view, words_view};
-ghost use Rattle.cedar_symcc.specs.Policies.{SpellsPolicies, declared_names};
+ghost use Rattle.sc_schema_json.specs.Spelling.{Spells as SpellsSchema};
+ghost use Rattle.sc_command.specs.CommandLine.{words_view};
+ghost use Rattle.cedar_symcc.specs.Serving.{served_view};
+ghost use Rattle.cedar_symcc.specs.Policies.{SpellsPolicies, IsServed};
 ghost use Rattle.cedar_symcc.specs.Readings.{FailsReading, FailsPolicies, FailsSchema, FailsWith, RefusesPolicies, RefusesFiles, ReadsInputs};
 ghost use Rattle.cedar_symcc.specs.Refusals.{IsContent, IsRefusal, ReadsPolicies};
 ghost use Rattle.cedar_symcc.specs.Runs.{ReadsAll};
 ghost use Rattle.cedar_symcc.specs.View.{file_view};
 
-use crate::form::is_form_of;
+use crate::form::is_text_of;
 use crate::policies::attribute_of;
+use crate::posing::is_served;
 use crate::refusal::{FileName, Refusal};
 use crate::reporting::Inputs;
-use crate::words::{Analyse, command_of};
+use crate::serving::{Served, served_by};
 use sc_ast::PolicySet;
 use sc_lists::{Fault, Text};
 use sc_outside::{FileFault, Files};
 use sc_parser::read_policies;
-use sc_schema::{Presence, Schema, Ty};
+use sc_schema::Schema;
 use sc_schema_json::read_schema;
 use std::alloc::{AllocError, Global};
 
@@ -52,25 +50,6 @@ fn content_of<F: Files>(
     }
 }
 
-/// The attributes of the context of requests for the first action.
-fn context_fields(schema: &Schema) -> &[(Text, Presence, Ty)]
-    ensures { map (λ a. a.0) result.now ≡ declared_names schema.now }
-{
-    match schema.declared_actions().first() {
-        Some(action) => fields_of(&action.context),
-        None => &[],
-    }
-}
-
-fn fields_of(ty: &Ty) -> &[(Text, Presence, Ty)]
-    ensures { map (λ a. a.0) result.now ≡ names_in (out-Ty ty.now) }
-{
-    match ty {
-        Ty::Record(attributes) => attributes.as_slice(),
-        _ => &[],
-    }
-}
-
 /// The attribute that the policies of a file read, or none where there is no policy.
 fn attribute_in_form(
     alloc: Global,
@@ -79,14 +58,17 @@ fn attribute_in_form(
     schema: &Schema,
 ) -> Result<Option<Text>, Fault<Refusal>>
     requires { Spells bytes.now policies.now }
-    ensures spelled { IfOk result (λ o. SpellsPolicies (declared_names schema.now) bytes.now o) }
-    ensures fails { IfErr result (FailsPolicies (declared_names schema.now) bytes.now) }
+    ensures spelled { IfOk result (λ o. SpellsPolicies schema.now bytes.now o) }
+    ensures fails { IfErr result (FailsPolicies schema.now bytes.now) }
 {
     let Some(attribute) = attribute_of(policies.as_slice()) else {
-        return Err(Fault::Told(Refusal::NotForm(FileName::Policies)));
+        return Err(Fault::Told(Refusal::NotForm));
     };
-    if !is_form_of(bytes, context_fields(schema), attribute) {
-        return Err(Fault::Told(Refusal::NotForm(FileName::Policies)));
+    if !is_text_of(bytes, attribute) {
+        return Err(Fault::Told(Refusal::NotForm));
+    }
+    if !is_served(alloc, schema, attribute)? {
+        return Err(Fault::Told(Refusal::NotForm));
     }
     match copy_of(alloc, attribute) {
         Ok(copy) => Ok(copy),
@@ -109,8 +91,8 @@ fn attribute_in(
     bytes: &[u8],
     schema: &Schema,
 ) -> Result<Option<Text>, Fault<Refusal>>
-    ensures spelled { IfOk result (λ o. SpellsPolicies (declared_names schema.now) bytes.now o) }
-    ensures fails { IfErr result (FailsPolicies (declared_names schema.now) bytes.now) }
+    ensures spelled { IfOk result (λ o. SpellsPolicies schema.now bytes.now o) }
+    ensures fails { IfErr result (FailsPolicies schema.now bytes.now) }
 {
     match read_policies(alloc, bytes) {
         Ok(policies) => attribute_in_form(alloc, bytes, &policies, schema),
@@ -122,12 +104,11 @@ fn attribute_in(
 /// The schema that the bytes spell.
 fn schema_in(alloc: Global, bytes: &[u8]) -> Result<Schema, Fault<Refusal>>
     ensures spelled { IfOk result (SpellsSchema bytes.now) }
-    ensures plain { IfOk result IsPlain }
     ensures fails { IfErr result (FailsSchema bytes.now) }
 {
     match read_schema(alloc, bytes) {
         Ok(schema) => Ok(schema),
-        Err(Fault::Told(_)) => Err(Fault::Told(Refusal::NotForm(FileName::Schema))),
+        Err(Fault::Told(fault)) => Err(Fault::Told(Refusal::SchemaText(fault))),
         Err(Fault::NoMemory) => Err(Fault::NoMemory),
     }
 }
@@ -136,15 +117,14 @@ fn schema_in(alloc: Global, bytes: &[u8]) -> Result<Schema, Fault<Refusal>>
 fn with_schema<F: Files>(
     alloc: Global,
     files: &mut F,
-    command: &Analyse<'_>,
+    command: &Served<'_>,
     schema: Schema,
 ) -> Result<Inputs, Fault<Refusal>>
-    requires { IsPlain schema }
     ensures schema { IfOk result (λ i. i.schema ≡ schema) }
-    ensures policies { IfOk result (λ i. ReadsPolicies (F.content files.old) (command_view command.now) (declared_names schema) i.attribute) }
-    ensures declared { IfOk result (λ i. IsDeclared schema i.attribute) }
+    ensures policies { IfOk result (λ i. ReadsPolicies (F.content files.old) (served_view command.now) schema i.attribute) }
+    ensures served { IfOk result (λ i. IsServed schema i.attribute) }
     ensures budget { IfOk result (λ i. i.budget ≡ command.now.budget) }
-    ensures fails { IfErr result (FailsWith (RefusesPolicies (F.content files.old) (command_view command.now) (Rose (F.faults files.old) (F.faults files.new)) schema)) }
+    ensures fails { IfErr result (FailsWith (RefusesPolicies (F.content files.old) (served_view command.now) (Rose (F.faults files.old) (F.faults files.new)) schema)) }
     ensures later { F.faults files.old ≤ F.faults files.new }
 {
     match content_of(alloc, files, command.policies, FileName::Policies) {
@@ -164,10 +144,10 @@ fn with_schema<F: Files>(
 fn with_command<F: Files>(
     alloc: Global,
     files: &mut F,
-    command: &Analyse<'_>,
+    command: &Served<'_>,
 ) -> Result<Inputs, Fault<Refusal>>
-    ensures reads { IfOk result (ReadsInputs (F.content files.old) (command_view command.now)) }
-    ensures fails { IfErr result (FailsWith (RefusesFiles (F.content files.old) (command_view command.now) (Rose (F.faults files.old) (F.faults files.new)))) }
+    ensures reads { IfOk result (ReadsInputs (F.content files.old) (served_view command.now)) }
+    ensures fails { IfErr result (FailsWith (RefusesFiles (F.content files.old) (served_view command.now) (Rose (F.faults files.old) (F.faults files.new)))) }
     ensures later { F.faults files.old ≤ F.faults files.new }
 {
     match content_of(alloc, files, command.schema, FileName::Schema) {
@@ -186,14 +166,14 @@ pub fn inputs_of<F: Files>(
     files: &mut F,
 ) -> Result<Inputs, Fault<Refusal>>
     ensures reads { IfOk result (λ i. ReadsAll (F.content files.old) (words_view words.now) i.schema i.attribute) }
-    ensures plain { IfOk result (λ i. IsPlain i.schema) }
-    ensures declared { IfOk result (λ i. IsDeclared i.schema i.attribute) }
+    ensures served { IfOk result (λ i. IsServed i.schema i.attribute) }
     ensures units { IfOk result (λ i. 1 ≤ i.budget) }
     ensures fails { IfErr result (FailsWith (IsRefusal (F.content files.old) (words_view words.now) (Rose (F.faults files.old) (F.faults files.new)))) }
     ensures later { F.faults files.old ≤ F.faults files.new }
 {
-    match command_of(words) {
-        Some(command) => with_command(alloc, files, &command),
-        None => Err(Fault::Told(Refusal::Usage)),
+    match served_by(alloc, words) {
+        Ok(Some(command)) => with_command(alloc, files, &command),
+        Ok(None) => Err(Fault::Told(Refusal::Usage)),
+        Err(_) => Err(Fault::NoMemory),
     }
 }

@@ -1,12 +1,13 @@
 //! The answers other than a report.
 ghost use Rattle.std.specs.Prelude.{◌≡◌, ◌++◌, OnOk, IfOk, codes};
 ghost use Rattle.cedar_symcc.specs.Refusals.{code_of, refusal_text, file_name};
-ghost use Rattle.cedar_symcc.specs.FaultTexts.{fault_text};
+ghost use Rattle.cedar_symcc.specs.FaultTexts.{fault_text, schema_fault_text};
 ghost use Rattle.cedar_symcc.specs.View.{file_view, refusal_view};
 
-use crate::fault_text::put_fault;
+use crate::fault_text::{put_fault, put_schema_fault};
 use crate::put::put;
 use sc_parser::PolicyFault;
+use sc_schema_syntax::SchemaFault;
 use std::alloc::{AllocError, Global};
 
 /// One of the files that a command names.
@@ -19,30 +20,33 @@ pub enum FileName {
 }
 
 /// An answer other than a report.
-#[derive(Clone, Copy, Debug, PartialEq, Eq)]
+#[derive(Debug, PartialEq, Eq, Drop)]
 pub enum Refusal {
     /// The words are no command.
     Usage,
+    /// The schema file spells no schema.
+    SchemaText(SchemaFault),
     /// The policy file spells no policies.
     PolicyText(PolicyFault),
     /// A file couldn't be read.
     ReadFault(FileName),
     /// A file is longer than its limit.
     TooLong(FileName),
-    /// A file isn't of the form that is served so far.
-    NotForm(FileName),
+    /// The policy file spells policies that aren't served so far.
+    NotForm,
 }
 
 /// The status of a refusal.
-pub fn code(refusal: Refusal) -> u8
-    ensures { result ≡ code_of (refusal_view refusal) }
+pub fn code(refusal: &Refusal) -> u8
+    ensures { result ≡ code_of (refusal_view refusal.now) }
 {
     match refusal {
         Refusal::Usage => 10,
         Refusal::PolicyText(_) => 11,
+        Refusal::SchemaText(_) => 12,
         Refusal::ReadFault(_) => 20,
         Refusal::TooLong(_) => 22,
-        Refusal::NotForm(_) => 15,
+        Refusal::NotForm => 15,
     }
 }
 
@@ -71,23 +75,32 @@ fn put_policy_text(out: &mut Vec<u8>, fault: PolicyFault) -> Result<(), AllocErr
     put(out, b"\n")
 }
 
-fn put_refusal(out: &mut Vec<u8>, refusal: Refusal) -> Result<(), AllocError>
-    ensures { OnOk result (out.new.items ≡ out.old.items ++ refusal_text (refusal_view refusal)) }
+fn put_schema_text(alloc: Global, out: &mut Vec<u8>, fault: &SchemaFault) -> Result<(), AllocError>
+    ensures { OnOk result (out.new.items ≡ out.old.items ++ (codes "error 12 " ++ schema_fault_text fault.now ++ codes "\n")) }
+{
+    put(out, b"error 12 ")?;
+    put_schema_fault(alloc, out, fault)?;
+    put(out, b"\n")
+}
+
+fn put_refusal(alloc: Global, out: &mut Vec<u8>, refusal: &Refusal) -> Result<(), AllocError>
+    ensures { OnOk result (out.new.items ≡ out.old.items ++ refusal_text (refusal_view refusal.now)) }
 {
     match refusal {
         Refusal::Usage => put(out, b"error 10 usage\n"),
-        Refusal::PolicyText(fault) => put_policy_text(out, fault),
-        Refusal::ReadFault(file) => put_error(out, b"error 20 ", file),
-        Refusal::TooLong(file) => put_error(out, b"error 22 ", file),
-        Refusal::NotForm(file) => put_error(out, b"error 15 ", file),
+        Refusal::SchemaText(fault) => put_schema_text(alloc, out, fault),
+        Refusal::PolicyText(fault) => put_policy_text(out, *fault),
+        Refusal::ReadFault(file) => put_error(out, b"error 20 ", *file),
+        Refusal::TooLong(file) => put_error(out, b"error 22 ", *file),
+        Refusal::NotForm => put(out, b"error 15 policies\n"),
     }
 }
 
 /// The line of a refusal, with its newline.
-pub fn text_of(alloc: Global, refusal: Refusal) -> Result<Vec<u8>, AllocError>
-    ensures { IfOk result (λ v. v.items ≡ refusal_text (refusal_view refusal)) }
+pub fn text_of(alloc: Global, refusal: &Refusal) -> Result<Vec<u8>, AllocError>
+    ensures { IfOk result (λ v. v.items ≡ refusal_text (refusal_view refusal.now)) }
 {
     let mut out = Vec::new(alloc);
-    put_refusal(&mut out, refusal)?;
+    put_refusal(alloc, &mut out, refusal)?;
     Ok(out)
 }

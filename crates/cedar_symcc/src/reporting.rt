@@ -2,8 +2,7 @@
 ghost use Rattle.std.specs.Prelude.{◌≡◌, ◌≤◌, ◌||◌, Contains, if◌then◌else◌};
 ghost use Rattle.sc_outside.specs.Counts.{Rose};
 ghost use Rattle.sc_schema.specs.Declarations.{environments};
-ghost use Rattle.sc_schema.specs.Plain.{IsPlain};
-ghost use Rattle.cedar_symcc.specs.Analyses.{IsDeclared};
+ghost use Rattle.cedar_symcc.specs.Policies.{IsServed};
 ghost use Rattle.cedar_symcc.specs.Progress.{Puts, ReportsEnv, ReportsAll, ReportsNone, Reported};
 ghost use Rattle.cedar_symcc.specs.Reports.{line_text, is_counterexample};
 ghost use Rattle.cedar_symcc.specs.Runs.{asked};
@@ -50,9 +49,8 @@ fn report_env<O: Sink>(
     env: &Env,
     out: &mut O,
 ) -> Result<bool, SinkFault>
-    requires plain { IsPlain inputs.now.schema }
     requires environment { Contains (environments inputs.now.schema) env.now }
-    requires declared { IsDeclared inputs.now.schema inputs.now.attribute }
+    requires served { IsServed inputs.now.schema inputs.now.attribute }
     requires units { 1 ≤ inputs.now.budget }
     ensures reports { ReportsEnv (asked inputs.now.schema inputs.now.attribute) env.now (O.written out.old) (O.written out.new) (Rose (O.faults out.old) (O.faults out.new)) result }
     ensures later { O.faults out.old ≤ O.faults out.new }
@@ -81,9 +79,8 @@ fn report_all<O: Sink>(
     envs: &[Env],
     out: &mut O,
 ) -> Result<bool, SinkFault>
-    requires plain { IsPlain inputs.now.schema }
     requires environments { envs.now ≡ environments inputs.now.schema }
-    requires declared { IsDeclared inputs.now.schema inputs.now.attribute }
+    requires served { IsServed inputs.now.schema inputs.now.attribute }
     requires units { 1 ≤ inputs.now.budget }
     ensures reports { ReportsAll (asked inputs.now.schema inputs.now.attribute) envs.now (O.written out.old) (O.written out.new) (Rose (O.faults out.old) (O.faults out.new)) result }
     ensures later { O.faults out.old ≤ O.faults out.new }
@@ -125,8 +122,7 @@ fn status_of(found: bool) -> u8
 
 /// Reports on each environment of the schema. Gives the status.
 pub fn report<O: Sink>(alloc: Global, inputs: &Inputs, out: &mut O) -> u8
-    requires plain { IsPlain inputs.now.schema }
-    requires declared { IsDeclared inputs.now.schema inputs.now.attribute }
+    requires served { IsServed inputs.now.schema inputs.now.attribute }
     requires units { 1 ≤ inputs.now.budget }
     ensures { Reported (asked inputs.now.schema inputs.now.attribute) (O.written out.old) (O.written out.new) (Rose (O.faults out.old) (O.faults out.new)) result }
 {

@@ -1,8 +1,9 @@
 //! The top call.
 ghost use Rattle.std.specs.Prelude.{◌≡◌, []};
 ghost use Rattle.sc_outside.specs.Counts.{Rose};
-ghost use Rattle.cedar_symcc.specs.Commands.{Command, Commands, words_view};
-ghost use Rattle.cedar_symcc.specs.Runs.{Ends, run_of, Refuses, AllHold, SomeFails, IsReadable, IsWhole, MustBe, TooLong, NotForm, SchemaIsLong, SchemaIsNot, PoliciesAreLong, PoliciesAreNot, PoliciesAreFaulty, IsFaulty};
+ghost use Rattle.sc_command.specs.CommandLine.{words_view};
+ghost use Rattle.cedar_symcc.specs.Serving.{Command, Serves};
+ghost use Rattle.cedar_symcc.specs.Runs.{Ends, run_of, Refuses, AllHold, SomeFails, IsReadable, IsWhole, MustBe, TooLong, NotForm, SchemaIsLong, SchemaIsFaulty, PoliciesAreLong, PoliciesAreNot, PoliciesAreFaulty, IsFaulty, IsFaultySchema};
 ghost use Rattle.cedar_symcc.specs.View.{refusal_view};
 
 use crate::reading::inputs_of;
@@ -11,6 +12,7 @@ use crate::reporting::report;
 use sc_checker::Log;
 use sc_lists::Fault;
 use sc_outside::{Files, Sink, SinkFault};
+use sc_schema_json::spelling_laws;
 use std::alloc::Global;
 
 /// The status of a run, and the logs of the environments that are reported as unknown.
@@ -23,8 +25,8 @@ pub struct Status {
 }
 
 /// Puts out the line of a refusal. Gives the status.
-fn refuse<O: Sink>(alloc: Global, refusal: Refusal, out: &mut O) -> u8
-    ensures { Refuses (refusal_view refusal) (O.written out.old) (O.written out.new) (Rose (O.faults out.old) (O.faults out.new)) result }
+fn refuse<O: Sink>(alloc: Global, refusal: &Refusal, out: &mut O) -> u8
+    ensures { Refuses (refusal_view refusal.now) (O.written out.old) (O.written out.new) (Rose (O.faults out.old) (O.faults out.new)) result }
 {
     let Ok(text) = text_of(alloc, refusal) else {
         return 30;
@@ -41,7 +43,7 @@ fn ends<F: Files, O: Sink>(alloc: Global, words: &[String], files: &mut F, out: 
 {
     match inputs_of(alloc, words, files) {
         Ok(inputs) => report(alloc, &inputs, out),
-        Err(Fault::Told(refusal)) => refuse(alloc, refusal, out),
+        Err(Fault::Told(refusal)) => refuse(alloc, &refusal, out),
         Err(Fault::NoMemory) => 30,
     }
 }
@@ -63,18 +65,19 @@ pub fn run<F: Files, O: Sink>(alloc: Global, words: &[String], files: &mut F, ou
     // memory ran out.
     ensures complete { IsReadable (run_of (F.content files.old) (words_view words.now) (Rose (F.faults files.old) (F.faults files.new)) (Rose (O.faults out.old) (O.faults out.new)) (O.written out.old) (O.written out.new) result.code) → (Rose (F.faults files.old) (F.faults files.new) → ⊥) → (Rose (O.faults out.old) (O.faults out.new) → ⊥) → IsWhole result.code }
 
-    // Words that are no command are refused, and nothing else is refused so.
-    ensures unusable { ((c : Command) → Commands (words_view words.now) c → ⊥) → MustBe 10 result.code }
-    ensures usage { result.code ≡ 10 → (c : Command) → Commands (words_view words.now) c → ⊥ }
+    // Words that are no command that is served are refused, and nothing else is refused so.
+    ensures unusable { ((c : Command) → Serves (words_view words.now) c → ⊥) → MustBe 10 result.code }
+    ensures usage { result.code ≡ 10 → (c : Command) → Serves (words_view words.now) c → ⊥ }
 
-    // Files that are too long, that spell nothing or that are of another form are refused, where reading didn't fail.
+    // Files that are too long or spell nothing are refused, and so are policies that aren't served, where reading didn't fail.
     ensures schema_is_long { SchemaIsLong (run_of (F.content files.old) (words_view words.now) (Rose (F.faults files.old) (F.faults files.new)) (Rose (O.faults out.old) (O.faults out.new)) (O.written out.old) (O.written out.new) result.code) → (Rose (F.faults files.old) (F.faults files.new) → ⊥) → MustBe 22 result.code }
-    ensures schema_is_not { SchemaIsNot (run_of (F.content files.old) (words_view words.now) (Rose (F.faults files.old) (F.faults files.new)) (Rose (O.faults out.old) (O.faults out.new)) (O.written out.old) (O.written out.new) result.code) → (Rose (F.faults files.old) (F.faults files.new) → ⊥) → MustBe 15 result.code }
+    ensures schema_is_faulty { SchemaIsFaulty (run_of (F.content files.old) (words_view words.now) (Rose (F.faults files.old) (F.faults files.new)) (Rose (O.faults out.old) (O.faults out.new)) (O.written out.old) (O.written out.new) result.code) → (Rose (F.faults files.old) (F.faults files.new) → ⊥) → MustBe 12 result.code }
     ensures policies_are_long { PoliciesAreLong (run_of (F.content files.old) (words_view words.now) (Rose (F.faults files.old) (F.faults files.new)) (Rose (O.faults out.old) (O.faults out.new)) (O.written out.old) (O.written out.new) result.code) → (Rose (F.faults files.old) (F.faults files.new) → ⊥) → MustBe 22 result.code }
     ensures policies_are_not { PoliciesAreNot (run_of (F.content files.old) (words_view words.now) (Rose (F.faults files.old) (F.faults files.new)) (Rose (O.faults out.old) (O.faults out.new)) (O.written out.old) (O.written out.new) result.code) → (Rose (F.faults files.old) (F.faults files.new) → ⊥) → MustBe 15 result.code }
     ensures policies_are_faulty { PoliciesAreFaulty (run_of (F.content files.old) (words_view words.now) (Rose (F.faults files.old) (F.faults files.new)) (Rose (O.faults out.old) (O.faults out.new)) (O.written out.old) (O.written out.new) result.code) → (Rose (F.faults files.old) (F.faults files.new) → ⊥) → MustBe 11 result.code }
 
     // The cause of each status.
+    ensures schema_fault { result.code ≡ 12 → IsFaultySchema (run_of (F.content files.old) (words_view words.now) (Rose (F.faults files.old) (F.faults files.new)) (Rose (O.faults out.old) (O.faults out.new)) (O.written out.old) (O.written out.new) result.code) }
     ensures policy_fault { result.code ≡ 11 → IsFaulty (run_of (F.content files.old) (words_view words.now) (Rose (F.faults files.old) (F.faults files.new)) (Rose (O.faults out.old) (O.faults out.new)) (O.written out.old) (O.written out.new) result.code) }
     ensures read_fault { result.code ≡ 20 → Rose (F.faults files.old) (F.faults files.new) }
     ensures write_fault { result.code ≡ 21 → Rose (O.faults out.old) (O.faults out.new) }
@@ -84,6 +87,7 @@ pub fn run<F: Files, O: Sink>(alloc: Global, words: &[String], files: &mut F, ou
     // No environment is unknown so far: the solver decides each goal that is served.
     ensures none_spent { result.spent.items ≡ [] }
 {
+    spelling_laws();
     let code = ends(alloc, words, files, out);
     Status {
         code,

@@ -19,18 +19,20 @@ pub struct Served<'w> {
 }
 
 /// The command, if it is served.
-fn served<'w>(command: &Command<'w>) -> Option<Served<'w>>
+fn as_served<'w>(command: &Command<'w>) -> Option<Served<'w>>
     ensures found { IfSome result (λ s. command_view command.now ≡ as_command (served_view s)) }
     ensures none { IfNone result ((c : AnyServed) → command_view command.now ≢ as_command c) }
 {
     match command {
-        Command::Analyse(Analyse {
-            schema,
-            policies,
-            against: None,
-            question: Question::AlwaysDenies,
-            budget,
-        }) => Some(Served {
+        Command::Analyse(
+            Analyse {
+                schema,
+                policies,
+                against: None,
+                question: Question::AlwaysDenies,
+                budget,
+            },
+        ) => Some(Served {
             schema,
             policies,
             budget: *budget,
@@ -48,5 +50,5 @@ pub fn served_by<'w>(alloc: Global, words: &'w [String]) -> Result<Option<Served
     let Some(command) = command_of(alloc, words)? else {
         return Ok(None);
     };
-    Ok(served(&command))
+    Ok(as_served(&command))
 }

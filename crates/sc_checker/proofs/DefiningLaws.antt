@@ -1,5 +1,5 @@
 -- The clauses that define a problem, in a world in which its goal is true.
-use Rattle.std.proofs.Common.{◌≡◌, ◌+◌, ◌-◌, ◌<◌, ◌==◌, ℕ, suc, List, [], ◌∷◌, map, Bool, true, false, not, cond, ◌||◌, Some, None, length, slice_get, IsTrue, refl, sym, ap, ◌∙◌, arith}
+use Rattle.std.proofs.Common.{◌≡◌, ◌+◌, ◌-◌, ◌<◌, ◌==◌, ◌++◌, ◌&&◌, ℕ, suc, List, [], ◌∷◌, map, Bool, true, false, not, cond, ◌||◌, Some, None, length, slice_get, IsTrue, refl, sym, ap, ◌∙◌, arith}
 use Rattle.std.specs.List.{list_any, position_or_len}
 use Rattle.std.specs.Str.{bytes_eq}
 use Rattle.std.proofs.lemmas.Slice.Eq.{bytes_eq-Decides}
@@ -11,9 +11,9 @@ use Rattle.sc_world.specs.declared.world.World.{World}
 use Rattle.sc_clauses.specs.Clauses.{holds, positive, bool_eq}
 use Rattle.sc_footprint.specs.declared.term.Term.{Term, Term-F, out-Term, roll-Term, roll-out-Term, fold-Term, fold-roll-Term}
 use Rattle.sc_footprint.specs.declared.term.Term.TheOpen as t
-use Rattle.sc_footprint.specs.declared.term.Term.TheVariants.{True, Context, Field, rolls-True, rolls-Context, rolls-Field}
+use Rattle.sc_footprint.specs.declared.term.Term.TheVariants.{True, Principal, Resource, Context, Eq, Field, rolls-True, rolls-Context, rolls-Field}
 use Rattle.sc_footprint.specs.Terms.{Denotation, val, val_step, truth_in, is_true}
-use Rattle.sc_footprint.specs.Problems.{Posed, is_goal, is_goal_under, is_context, context_names, of_context, atoms, atoms_under, literal_under, defining}
+use Rattle.sc_footprint.specs.Problems.{Posed, is_goal, is_goal_under, is_context, has_plain_context, context_names, of_context, is_one_type, equalities, atoms, atoms_under, literal_under, defining}
 use Rattle.sc_checker.specs.Refutations.{is_listed, are_listed}
 use Rattle.sc_checker.specs.declared.checking.Verdict.{Verdict}
 use Rattle.sc_checker.specs.declared.checking.Verdict.TheVariants.{Refuted}
@@ -67,6 +67,7 @@ is_context_at x t.True is e = absurd (true≢false (sym e))
 is_context_at x t.False is e = absurd (true≢false (sym e))
 is_context_at x t.Principal is e = absurd (true≢false (sym e))
 is_context_at x t.Resource is e = absurd (true≢false (sym e))
+is_context_at x (t.Eq y z) is e = absurd (true≢false (sym e))
 is_context_at x (t.Field y name) is e = absurd (true≢false (sym e))
 
 pub field_is : (goal x : Term) (name : List ℕ) → out-Term goal ≡ t.Field x name → is_context (out-Term x) ≡ true → goal ≡ of_context name
@@ -78,41 +79,59 @@ pub length_map : {X Y : Type 0} (f : X → Y) (xs : List X) → length (map f xs
 length_map f [] = refl
 length_map f (x ∷ xs) = ap suc (length_map f xs)
 
-goal_listed : (names : List (List ℕ)) (y : Term-F Term) → is_goal_under names y ≡ true → is_listed (length (atoms_under names y)) (literal_under names y) ≡ true
-goal_listed names t.False e = refl
-goal_listed names (t.Field x name) e =
-    let within : position_or_len (bytes_eq name) names < length names = place_below name names (and_parts (is_context (out-Term x)) (list_any (bytes_eq name) names) e).1 in
+-- a field that is posed as a goal is one of the context
+pub record IsPosedField (names : List (List ℕ)) (x : Term) (name : List ℕ) : Type 0 where
+  pub of : is_context (out-Term x) ≡ true
+  pub named : list_any (bytes_eq name) names ≡ true
+
+pub posed_field : (plain : Bool) (names : List (List ℕ)) (x : Term) (name : List ℕ) → is_goal_under plain names (t.Field x name) ≡ true → IsPosedField names x name
+posed_field plain names x name e =
+    let tests = and_parts plain (is_context (out-Term x) && list_any (bytes_eq name) names) e in
+    let parts = and_parts (is_context (out-Term x)) (list_any (bytes_eq name) names) tests.1 in
+    record { of = parts.0; named = parts.1 }
+
+goal_listed : (plain one : Bool) (names : List (List ℕ)) (y : Term-F Term) → is_goal_under plain names y ≡ true → is_listed (length (atoms_under one names y)) (literal_under one names y) ≡ true
+goal_listed plain one names t.False e = le-leb 1 (length (True ∷ equalities one)) (omega arith)
+goal_listed plain true names (t.Field x name) e =
+    let within : position_or_len (bytes_eq name) names < length names = place_below name names (posed_field plain names x name e).named in
+    and_from _ _ (lt-ltb 0 (3 + position_or_len (bytes_eq name) names) (omega arith))
+    (le-leb (3 + position_or_len (bytes_eq name) names) (length (True ∷ Eq Principal Resource ∷ map of_context names)) (omega (arith, length_map of_context names)))
+goal_listed plain false names (t.Field x name) e =
+    let within : position_or_len (bytes_eq name) names < length names = place_below name names (posed_field plain names x name e).named in
     and_from _ _ (lt-ltb 0 (2 + position_or_len (bytes_eq name) names) (omega arith))
     (le-leb (2 + position_or_len (bytes_eq name) names) (length (True ∷ map of_context names)) (omega (arith, length_map of_context names)))
-goal_listed names t.True e = absurd (true≢false (sym e))
-goal_listed names t.Principal e = absurd (true≢false (sym e))
-goal_listed names t.Resource e = absurd (true≢false (sym e))
-goal_listed names t.Context e = absurd (true≢false (sym e))
+goal_listed plain one names t.True e = absurd (true≢false (sym e))
+goal_listed plain one names t.Principal e = absurd (true≢false (sym e))
+goal_listed plain one names t.Resource e = absurd (true≢false (sym e))
+goal_listed plain one names t.Context e = absurd (true≢false (sym e))
+goal_listed plain one names (t.Eq x z) e = absurd (true≢false (sym e))
 
-truth_listed : (names : List (List ℕ)) (y : Term-F Term) → is_listed (length (atoms_under names y)) (positive 1) ≡ true
-truth_listed names t.False = refl
-truth_listed names (t.Field x name) = le-leb 1 (length (True ∷ map of_context names)) (omega arith)
-truth_listed names t.True = refl
-truth_listed names t.Principal = refl
-truth_listed names t.Resource = refl
-truth_listed names t.Context = refl
+truth_listed : (one : Bool) (names : List (List ℕ)) (y : Term-F Term) → is_listed (length (atoms_under one names y)) (positive 1) ≡ true
+truth_listed one names (t.Field x name) = le-leb 1 (length (True ∷ (equalities one ++ map of_context names))) (omega arith)
+truth_listed one names t.False = le-leb 1 (length (True ∷ equalities one)) (omega arith)
+truth_listed one names t.True = le-leb 1 (length (True ∷ equalities one)) (omega arith)
+truth_listed one names t.Principal = le-leb 1 (length (True ∷ equalities one)) (omega arith)
+truth_listed one names t.Resource = le-leb 1 (length (True ∷ equalities one)) (omega arith)
+truth_listed one names t.Context = le-leb 1 (length (True ∷ equalities one)) (omega arith)
+truth_listed one names (t.Eq x z) = le-leb 1 (length (True ∷ equalities one)) (omega arith)
 
 -- the clauses that define a problem have literals of listed atoms
 pub defining_listed : (p : Posed) → IsTrue (is_goal p.schema p.env p.goal) → are_listed (length (atoms p)) (defining p) ≡ true
 defining_listed p e =
-    and_from _ _ (and_from _ _ (truth_listed (context_names p.schema p.env) (out-Term p.goal)) refl)
-    (and_from _ _ (and_from _ _ (goal_listed (context_names p.schema p.env) (out-Term p.goal) e) refl) refl)
+    and_from _ _ (and_from _ _ (truth_listed (is_one_type p.env) (context_names p.schema p.env) (out-Term p.goal)) refl)
+    (and_from _ _ (and_from _ _ (goal_listed (has_plain_context p.schema p.env) (is_one_type p.env) (context_names p.schema p.env) (out-Term p.goal) e) refl) refl)
 
-abbrev truths_under : List (List ℕ) → Term-F Term → World → ℕ → Bool
-truths_under names y w n = is_true_at (cond (n == 0) None (slice_get (atoms_under names y) (n - 1))) w
+abbrev truths_under : Bool → List (List ℕ) → Term-F Term → World → ℕ → Bool
+truths_under one names y w n = is_true_at (cond (n == 0) None (slice_get (atoms_under one names y) (n - 1))) w
 
-first_true : (names : List (List ℕ)) (y : Term-F Term) (w : World) → truths_under names y w 1 ≡ true
-first_true names t.False w = true_is_true w
-first_true names (t.Field x name) w = true_is_true w
-first_true names t.True w = true_is_true w
-first_true names t.Principal w = true_is_true w
-first_true names t.Resource w = true_is_true w
-first_true names t.Context w = true_is_true w
+first_true : (one : Bool) (names : List (List ℕ)) (y : Term-F Term) (w : World) → truths_under one names y w 1 ≡ true
+first_true one names t.False w = true_is_true w
+first_true one names (t.Field x name) w = true_is_true w
+first_true one names t.True w = true_is_true w
+first_true one names t.Principal w = true_is_true w
+first_true one names t.Resource w = true_is_true w
+first_true one names t.Context w = true_is_true w
+first_true one names (t.Eq x z) w = true_is_true w
 
 place_true : (fields : List Term) (k : ℕ) (x : Term) (w : World) → slice_get fields k ≡ Some x → is_true x w ≡ true → is_true_at (cond ((2 + k) == 0) None (slice_get (True ∷ fields) ((2 + k) - 1))) w ≡ true
 place_true fields k x w at e =
@@ -120,26 +139,36 @@ place_true fields k x w at e =
     let before : (2 + k) - 1 ≡ suc k = omega arith in
     rw (before, ne_eqb (2 + k) 0 (λ (z : 2 + k ≡ 0). absurd (omega arith)), at) e
 
+place_true_after : (fields : List Term) (k : ℕ) (x : Term) (w : World) → slice_get fields k ≡ Some x → is_true x w ≡ true → is_true_at (cond ((3 + k) == 0) None (slice_get (True ∷ Eq Principal Resource ∷ fields) ((3 + k) - 1))) w ≡ true
+place_true_after fields k x w at e =
+    let before : (3 + k) - 1 ≡ suc (suc k) = omega arith in
+    rw (before, ne_eqb (3 + k) 0 (λ (z : 3 + k ≡ 0). absurd (omega arith)), at) e
+
 bool_true : (b : Bool) → b ≡ true → bool_eq b true ≡ true
 bool_true true e = refl
 bool_true false e = e
 
-goal_true : (names : List (List ℕ)) (goal : Term) (y : Term-F Term) (w : World) → out-Term goal ≡ y → is_goal_under names y ≡ true → is_true goal w ≡ true → holds (truths_under names y w) (literal_under names y) ≡ true
-goal_true names goal t.False w is e h = absurd (true≢false (sym h ∙ false_is_false goal w is))
-goal_true names goal (t.Field x name) w is e h =
-    let parts = and_parts (is_context (out-Term x)) (list_any (bytes_eq name) names) e in
-    let same : goal ≡ of_context name = field_is goal x name is parts.0 in
-    bool_true (truths_under names (t.Field x name) w (2 + position_or_len (bytes_eq name) names)) (place_true (map of_context names) (position_or_len (bytes_eq name) names) goal w (field_found name names parts.1 ∙ ap Some (sym same)) h)
-goal_true names goal t.True w is e h = absurd (true≢false (sym e))
-goal_true names goal t.Principal w is e h = absurd (true≢false (sym e))
-goal_true names goal t.Resource w is e h = absurd (true≢false (sym e))
-goal_true names goal t.Context w is e h = absurd (true≢false (sym e))
+goal_true : (plain one : Bool) (names : List (List ℕ)) (goal : Term) (y : Term-F Term) (w : World) → out-Term goal ≡ y → is_goal_under plain names y ≡ true → is_true goal w ≡ true → holds (truths_under one names y w) (literal_under one names y) ≡ true
+goal_true plain one names goal t.False w is e h = absurd (true≢false (sym h ∙ false_is_false goal w is))
+goal_true plain true names goal (t.Field x name) w is e h =
+    let parts = posed_field plain names x name e in
+    let same : goal ≡ of_context name = field_is goal x name is parts.of in
+    bool_true (truths_under true names (t.Field x name) w (3 + position_or_len (bytes_eq name) names)) (place_true_after (map of_context names) (position_or_len (bytes_eq name) names) goal w (field_found name names parts.named ∙ ap Some (sym same)) h)
+goal_true plain false names goal (t.Field x name) w is e h =
+    let parts = posed_field plain names x name e in
+    let same : goal ≡ of_context name = field_is goal x name is parts.of in
+    bool_true (truths_under false names (t.Field x name) w (2 + position_or_len (bytes_eq name) names)) (place_true (map of_context names) (position_or_len (bytes_eq name) names) goal w (field_found name names parts.named ∙ ap Some (sym same)) h)
+goal_true plain one names goal t.True w is e h = absurd (true≢false (sym e))
+goal_true plain one names goal t.Principal w is e h = absurd (true≢false (sym e))
+goal_true plain one names goal t.Resource w is e h = absurd (true≢false (sym e))
+goal_true plain one names goal t.Context w is e h = absurd (true≢false (sym e))
+goal_true plain one names goal (t.Eq x z) w is e h = absurd (true≢false (sym e))
 
 -- in a world in which the goal is true, the clauses that define the problem are true
 pub defining_hold : (p : Posed) (w : World) → IsTrue (is_goal p.schema p.env p.goal) → is_true p.goal w ≡ true → AllHold (truths p w) (defining p)
 defining_hold p w e h = (
-  ap (λ (b : Bool). bool_eq b true || false) (first_true (context_names p.schema p.env) (out-Term p.goal) w),
-  (ap (λ (b : Bool). b || false) (goal_true (context_names p.schema p.env) p.goal (out-Term p.goal) w refl e h), tt),
+  ap (λ (b : Bool). bool_eq b true || false) (first_true (is_one_type p.env) (context_names p.schema p.env) (out-Term p.goal) w),
+  (ap (λ (b : Bool). b || false) (goal_true (has_plain_context p.schema p.env) (is_one_type p.env) (context_names p.schema p.env) p.goal (out-Term p.goal) w refl e h), tt),
 )
 
 -- the goal of an accepted log is true in no well-formed world

@@ -7,5 +7,5 @@ mod term;
 #[cfg(test)]
 mod tests;
 
-pub use problem::{Problem, close, defining};
+pub use problem::{Problem, close, context_fields, defining, first_field, is_goal, is_one_type};
 pub use term::Term;

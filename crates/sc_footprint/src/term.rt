@@ -15,6 +15,8 @@ pub enum Term {
     Resource,
     /// The request's context.
     Context,
+    /// Whether two terms are one entity; the lesser term comes first.
+    Eq(Boxed<Term>, Boxed<Term>),
     /// A required field of a record.
     Field(Boxed<Term>, Text),
 }

@@ -1,7 +1,7 @@
-//! The problem of the goal `false`.
+//! The problem of the goal `false`, and which goals are posed.
 #![tactic(auto, using(crate::proofs::ProblemLaws::false_is_goal))]
 
-use crate::{Problem, Term, close, defining};
+use crate::{Problem, Term, close, defining, is_goal};
 use sc_clauses::{Clause, Lit};
 use sc_lists::{Seq, Text};
 use sc_names::{Lits, Name, Uid};
@@ -13,14 +13,15 @@ fn name(alloc: Global, text: &str) -> Result<Name, AllocError> {
     Ok(Name::from_text(Text::from_str(alloc, text)?))
 }
 
-fn env(alloc: Global) -> Result<Env, AllocError> {
+/// The environment of a user who views a resource of this type.
+fn env(alloc: Global, resource: &str) -> Result<Env, AllocError> {
     Ok(Env {
         principal: name(alloc, "User")?,
         action: Uid {
             type_name: name(alloc, "Action")?,
             id: Text::from_str(alloc, "view")?,
         },
-        resource: name(alloc, "Doc")?,
+        resource: name(alloc, resource)?,
     })
 }
 
@@ -68,7 +69,7 @@ fn false_of(alloc: Global, schema: &Schema, env: &Env) -> Result<bool, AllocErro
 /// Whether the goal `false` is the negation of the one listed atom, and has two clauses.
 fn false_is_the_negation_of_true(alloc: Global) -> Result<bool, AllocError> {
     let schema = nothing(alloc)?;
-    let env = env(alloc)?;
+    let env = env(alloc, "Doc")?;
     false_of(alloc, &schema, &env)
 }
 
@@ -76,5 +77,40 @@ fn false_is_the_negation_of_true(alloc: Global) -> Result<bool, AllocError> {
 fn goal_false(rt: HostRuntime) -> Result<(), Fail> {
     let is_so = false_is_the_negation_of_true(rt.alloc())?;
     assert!(rt; is_so);
+    Ok(())
+}
+
+/// How many atoms are listed for the goal `false`.
+fn atoms_of_false(alloc: Global, resource: &str) -> Result<u64, AllocError> {
+    let schema = nothing(alloc)?;
+    let env = env(alloc, resource)?;
+    let literals = Lits::new(alloc);
+    Ok(close(Term::False, &schema, &env, &literals).atom_count())
+}
+
+#[test]
+fn one_entity_is_listed_where_there_is_one_type(rt: HostRuntime) -> Result<(), Fail> {
+    let listed = atoms_of_false(rt.alloc(), "User")?;
+    assert!(rt; listed == 2);
+    Ok(())
+}
+
+fn is_posed(alloc: Global, goal: &Term) -> Result<bool, AllocError> {
+    let schema = nothing(alloc)?;
+    let env = env(alloc, "Doc")?;
+    Ok(is_goal(goal, &schema, &env))
+}
+
+#[test]
+fn false_is_posed(rt: HostRuntime) -> Result<(), Fail> {
+    let posed = is_posed(rt.alloc(), &Term::False)?;
+    assert!(rt; posed);
+    Ok(())
+}
+
+#[test]
+fn principal_is_not_posed(rt: HostRuntime) -> Result<(), Fail> {
+    let posed = is_posed(rt.alloc(), &Term::Principal)?;
+    assert!(rt; !posed);
     Ok(())
 }

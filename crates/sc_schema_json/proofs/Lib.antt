@@ -1,2 +1,3 @@
-pub mod MembersLaws
-pub mod FormLaws
+pub mod DescribingLaws
+pub mod ReadingLaws
+pub mod SpellingLaws

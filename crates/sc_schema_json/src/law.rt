@@ -1,12 +1,18 @@
-//! Laws of what a file spells.
+//! Laws of what a file spells and of its faults.
 ghost use Rattle.std.specs.Prelude.{ℕ, List};
-ghost use Rattle.sc_schema.specs.Declarations.{Declarations};
-ghost use Rattle.sc_schema.specs.Plain.{IsPlain};
-ghost use Rattle.sc_schema_json.specs.Form.{SpellsSchema, SpellsOne};
+ghost use Rattle.sc_schema_json.specs.Spelling.{IsSettled};
 
-/// A file spells one schema at most, and that schema is plain: its entity types have no ancestors,
-/// no attributes and no tags, and its one action has a context of Booleans.
+use sc_schema_hierarchy::schema_laws;
+use sc_schema_names::resolution_laws;
+use sc_schema_syntax::syntax_laws;
+use sc_schema_types::type_laws;
+
+/// A file spells one schema at most, has one fault at most, and not both.
 pub fn spelling_laws()
-    ensures one { (bytes : List ℕ) → SpellsOne bytes }
-    ensures plain { (bytes : List ℕ) (s : Declarations) → SpellsSchema bytes s → IsPlain s }
-{}
+    ensures { (bytes : List ℕ) → IsSettled bytes }
+{
+    syntax_laws();
+    resolution_laws();
+    type_laws();
+    schema_laws();
+}

@@ -1,20 +1,15 @@
-//! Reads schemas from JSON (Cedar's JSON schema format): so far files of one namespace without a
-//! name, with plain entity types and one action, whose context has Boolean attributes.
+//! Reads schemas from JSON, in Cedar's JSON schema format.
 #![tactic(auto)]
 
-mod building;
-mod fault;
-mod form;
+mod describing;
 mod law;
-mod members;
-mod parts;
+#[cfg(test)]
+mod limit_tests;
 mod reading;
-mod tree;
-mod walk;
-
-pub use fault::NotForm;
-pub use law::spelling_laws;
-pub use reading::read_schema;
-
+#[cfg(test)]
+mod schema_tests;
 #[cfg(test)]
 mod tests;
+
+pub use law::spelling_laws;
+pub use reading::read_schema;

@@ -100,14 +100,14 @@ all-declared m n [] xs h = refl
 all-declared m n (y ∷ ys) xs h = and_both _ _ (declared-among y xs ∙ h.0) (all-declared m (n + 1) ys xs h.1)
 
 -- the context is of the record type of these names
-pub context-conforms : (m : Assignment) (names : List (List ℕ)) → conforms (bool_record names) (value.Record (fields_from m 2 names)) ≡ true
-context-conforms m names =
-    conforms_Record (map bool_field names) (fields_from m 2 names)
-    ∙ and_both _ _ (all-pass m 2 names names (among-self names)) (all-declared m 2 names names (among-self names))
+pub context-conforms : (m : Assignment) (n : ℕ) (names : List (List ℕ)) → conforms (bool_record names) (value.Record (fields_from m n names)) ≡ true
+context-conforms m n names =
+    conforms_Record (map bool_field names) (fields_from m n names)
+    ∙ and_both _ _ (all-pass m n names names (among-self names)) (all-declared m n names names (among-self names))
 
 -- and a record
-pub context-proper : (m : Assignment) (names : List (List ℕ)) → IsStrictlySortedBy text_cmp names → AllByRecursion IsUtf8 names → IsStrictlySortedBy text_cmp (keys_of (fields_from m 2 names)) × AllByRecursion IsUtf8 (keys_of (fields_from m 2 names))
-context-proper m names s t = rw (keys-fields_from m 2 names) (s, t)
+pub context-proper : (m : Assignment) (n : ℕ) (names : List (List ℕ)) → IsStrictlySortedBy text_cmp names → AllByRecursion IsUtf8 names → IsStrictlySortedBy text_cmp (keys_of (fields_from m n names)) × AllByRecursion IsUtf8 (keys_of (fields_from m n names))
+context-proper m n names s t = rw (keys-fields_from m n names) (s, t)
 
 less-differs : (x y : List ℕ) → text_cmp x y ≡ Less → bytes_eq y x ≡ false
 less-differs x y e = at (bytes_eq y x) refl where

@@ -1,5 +1,6 @@
 pub mod ContextLaws
-pub mod WorldLaws
+pub mod RequestLaws
 pub mod TruthLaws
+pub mod RebuiltLaws
 pub mod SolvingLaws
 pub mod SampleLaws

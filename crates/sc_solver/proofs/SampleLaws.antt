@@ -1,23 +1,29 @@
--- A plain schema: documents, users, and an action for them, whose context has two truth values.
-use Rattle.std.proofs.Common.{◌≡◌, ◌<◌, ◌∙◌, arith, ap, map, ℕ, zero, suc, slice_index, List, [], ◌∷◌, None, IsTrue, Contains, codes, refl, sym, subst}
-use Rattle.std.specs.List.{AllByRecursion}
+-- Schemas for tests: documents, users, and an action for them, whose context has two truth values; and people who meet,
+-- each of whom has a manager.
+use Rattle.std.proofs.Common.{◌≡◌, ◌<◌, ◌∙◌, arith, ap, map, ℕ, zero, suc, slice_index, List, [], ◌∷◌, Some, None, true, IsTrue, Contains, codes, refl, sym}
+use Rattle.std.specs.List.{AllByRecursion, list_all}
 use Rattle.std.specs.List.Sorted.{IsStrictlySortedBy}
 use Rattle.std.specs.Str.{IsUtf8}
 use Rattle.std.proofs.lemmas.Str.{IsUtf8-from_ascii}
-use Rattle.sc_schema.specs.declared.ty.Ty.{out-Ty, out-roll-Ty}
+use Rattle.sc_schema.specs.declared.ty.Presence.{Presence}
+use Rattle.sc_schema.specs.declared.ty.Presence.TheVariants.{Required}
+use Rattle.sc_schema.specs.declared.ty.Ty.{Ty, out-Ty, out-roll-Ty}
 use Rattle.sc_schema.specs.declared.ty.Ty.TheOpen as ty
-use Rattle.sc_schema.specs.declared.ty.Ty.TheVariants.{Record, rolls-Record}
+use Rattle.sc_schema.specs.declared.ty.Ty.TheVariants.{Bool as bool_type, Entity, Record, rolls-Bool, rolls-Record}
 use Rattle.sc_schema.specs.declared.declarations.EntityType.{EntityType}
 use Rattle.sc_schema.specs.declared.declarations.Action.{Action}
 use Rattle.sc_schema.specs.declared.declarations.Env.{Env}
 use Rattle.sc_schema.specs.Declarations.{Declarations, environments}
-use Rattle.sc_schema.specs.Lawful.{IsLawful}
-use Rattle.sc_schema.specs.Plain.{bool_field, IsTypeName, IsPlainType, IsPlain, action_type, plain_action}
+use Rattle.sc_schema.specs.Lawful.{IsLawful, IsLawfulType, IsLawfulAction, IsTypeLevel}
+use Rattle.sc_schema.specs.Plain.{bool_field, bool_record, IsTypeName, IsPlainType, IsPlain, action_type, plain_action}
+use Rattle.sc_schema.proofs.EveryTypeLaws.{every_Bool, every_Entity}
+use Rattle.sc_schema.proofs.LawfulLaws.{ascii_text, ascii_texts, no_uids_ascend, one_name_ascends, one_uid_ascends, record_lawful, no_types, one_type}
+use Rattle.sc_schema.proofs.OrderLaws.{no_element}
 use Rattle.sc_schema.proofs.PlainLaws.{IsLawful-plain}
 use Rattle.sc_footprint.specs.declared.term.Term.{out-Term, out-roll-Term}
 use Rattle.sc_footprint.specs.declared.term.Term.TheOpen as t
 use Rattle.sc_footprint.specs.declared.term.Term.TheVariants.{Context, Field, rolls-Context}
-use Rattle.sc_footprint.specs.Problems.{is_goal, names_in, context_names}
+use Rattle.sc_footprint.specs.Problems.{is_goal, is_bool_field, are_bools, are_bools_in, has_plain_context, names_in, context_names}
 use Rattle.sc_footprint.proofs.ProblemLaws.{out_Field, false_is_goal}
 
 abbrev pub bare_type : List ℕ → EntityType
@@ -71,9 +77,6 @@ sample_is_plain =
 pub sample_lawful : (types : List EntityType) (actions : List Action) → types ≡ sample.types → actions ≡ sample.actions → IsLawful (record { types = types; actions = actions })
 sample_lawful types actions all_types all_actions = rw (all_types, all_actions) (IsLawful-plain sample sample_is_plain)
 
-pub sample_plain : (s : Declarations) → s ≡ sample → IsPlain s
-sample_plain s e = subst IsPlain (sym e) sample_is_plain
-
 pub sample_environment : (s : Declarations) (e : Env) → s ≡ sample → e ≡ sample_env → Contains (environments s) e
 sample_environment s e p q = rw (p, q) (0, omega arith, refl)
 
@@ -83,7 +86,86 @@ out_Context = ap out-Term (sym rolls-Context) ∙ out-roll-Term t.Context
 sample_names : context_names sample sample_env ≡ codes "a" ∷ codes "b" ∷ []
 sample_names = ap names_in (ap out-Ty (sym (rolls-Record _)) ∙ out-roll-Ty (ty.Record (map bool_field (codes "a" ∷ codes "b" ∷ []))))
 
-pub sample_goal : (s : Declarations) (e : Env) → s ≡ sample → e ≡ sample_env → IsTrue (is_goal s e (Field Context (codes "a")))
-sample_goal s e p q = rw (p, q, sample_names, out_Field Context (codes "a"), out_Context) refl
+out_bool : out-Ty bool_type ≡ ty.Bool
+out_bool = ap out-Ty (sym rolls-Bool) ∙ out-roll-Ty ty.Bool
 
-pub ruleset sample_laws = (sample_lawful, sample_plain, sample_environment, sample_goal, false_is_goal)
+all_bools : (names : List (List ℕ)) → list_all is_bool_field (map bool_field names) ≡ true
+all_bools [] = refl
+all_bools (x ∷ names) = rw out_bool (all_bools names)
+
+record_of_bools : (names : List (List ℕ)) → are_bools (Some (bool_record names)) ≡ true
+record_of_bools names = ap are_bools_in (ap out-Ty (sym (rolls-Record (map bool_field names))) ∙ out-roll-Ty (ty.Record (map bool_field names))) ∙ all_bools names
+
+sample_context : has_plain_context sample sample_env ≡ true
+sample_context = record_of_bools (codes "a" ∷ codes "b" ∷ [])
+
+pub sample_goal : (s : Declarations) (e : Env) → s ≡ sample → e ≡ sample_env → IsTrue (is_goal s e (Field Context (codes "a")))
+sample_goal s e p q = rw (p, q, sample_context, sample_names, out_Field Context (codes "a"), out_Context) refl
+
+-- ---- people, each with a manager, and an action of one on another
+
+abbrev manager : List (List ℕ × Presence × Ty)
+manager = (codes "manager", Required, Entity (codes "User")) ∷ []
+
+abbrev person : EntityType
+person = record { name = codes "User"; ancestors = []; shape = Record manager; tags = None }
+
+abbrev meet : Action
+meet = plain_action (codes "meet") (codes "User") (codes "User") (codes "a" ∷ [])
+
+abbrev people : Declarations
+people = record { types = person ∷ []; actions = meet ∷ [] }
+
+abbrev people_env : Env
+people_env = record { principal = codes "User"; action = record { type_name = action_type; id = codes "meet" }; resource = codes "User" }
+
+person_lawful : IsLawfulType people person
+person_lawful =
+    record {
+      text = ascii_text (codes "User") refl;
+      no_action = refl;
+      above = no_types people;
+      closed = tt;
+      shape_type = record_lawful people manager (one_name_ascends (codes "manager")) (ascii_texts (codes "manager" ∷ []) refl) (every_Entity (IsTypeLevel people) (codes "User") refl, tt);
+      tag_type = tt;
+    }
+
+meet_lawful : IsLawfulAction people meet
+meet_lawful =
+    record {
+      type_text = ascii_text action_type refl;
+      id_text = ascii_text (codes "meet") refl;
+      ascending = no_uids_ascend;
+      declared = tt;
+      closed = tt;
+      acyclic = no_element meet.uid;
+      principal_types = one_type people (codes "User") refl;
+      resource_types = one_type people (codes "User") refl;
+      context_type = record_lawful people (bool_field (codes "a") ∷ []) (one_name_ascends (codes "a")) (ascii_texts (codes "a" ∷ []) refl) (every_Bool (IsTypeLevel people) tt, tt);
+    }
+
+people_are_lawful : IsLawful people
+people_are_lawful =
+    record {
+      types_ascend = one_name_ascends (codes "User");
+      actions_ascend = one_uid_ascends meet.uid;
+      each_type = (person_lawful, tt);
+      each_action = (meet_lawful, tt);
+    }
+
+pub people_lawful : (types : List EntityType) (actions : List Action) → types ≡ people.types → actions ≡ people.actions → IsLawful (record { types = types; actions = actions })
+people_lawful types actions all_types all_actions = rw (all_types, all_actions) people_are_lawful
+
+pub people_environment : (s : Declarations) (e : Env) → s ≡ people → e ≡ people_env → Contains (environments s) e
+people_environment s e p q = rw (p, q) (0, omega arith, refl)
+
+people_names : context_names people people_env ≡ codes "a" ∷ []
+people_names = ap names_in (ap out-Ty (sym (rolls-Record _)) ∙ out-roll-Ty (ty.Record (map bool_field (codes "a" ∷ []))))
+
+people_context : has_plain_context people people_env ≡ true
+people_context = record_of_bools (codes "a" ∷ [])
+
+pub people_goal : (s : Declarations) (e : Env) → s ≡ people → e ≡ people_env → IsTrue (is_goal s e (Field Context (codes "a")))
+people_goal s e p q = rw (p, q, people_context, people_names, out_Field Context (codes "a"), out_Context) refl
+
+pub ruleset sample_laws = (sample_lawful, sample_environment, sample_goal, people_lawful, people_environment, people_goal, false_is_goal)

@@ -1,20 +1,20 @@
 -- Why the solver's answers are right.
 use Rattle.std.proofs.Common.{◌≡◌, ◌+◌, ◌-◌, ◌<◌, ◌≤◌, ◌==◌, ◌&&◌, ◌||◌, ℕ, suc, List, [], ◌∷◌, map, length, Bool, true, false, cond, Option, Some, None, IsSome, IsTrue, slice_get, refl, ap, sym, ◌∙◌, subst, arith, Result, Ok, Err, IfOk}
-use Rattle.std.specs.List.{list_any, position_or_len}
+use Rattle.std.specs.List.{position_or_len}
 use Rattle.std.specs.Str.{bytes_eq}
-use Rattle.std.proofs.lemmas.Bool.{and_parts, ne_eqb}
+use Rattle.std.proofs.lemmas.Bool.{ne_eqb}
 use Rattle.std.proofs.lemmas.Bool.Decides.{Decides-eqb}
 use Rattle.sc_checker.specs.declared.log.Step.{Step}
 use Rattle.sc_checker.specs.declared.log.Step.TheVariants.{Learned}
 use Rattle.sc_checker.specs.Truths.{IsUnsatisfiable}
 use Rattle.sc_checker.specs.Verdicts.{IsAccepted, no_step, first_step}
-use Rattle.sc_checker.proofs.DefiningLaws.{place_below, field_found, field_is, false_is_false, length_map}
+use Rattle.sc_checker.proofs.DefiningLaws.{place_below, posed_field, field_found, field_is, false_is_false, length_map}
 use Rattle.sc_clauses.specs.declared.lit.Lit.{Lit}
 use Rattle.sc_clauses.specs.Assignments.{Assignment, value_of, is_false}
 use Rattle.sc_footprint.specs.declared.term.Term.{Term, Term-F, out-Term}
 use Rattle.sc_footprint.specs.declared.term.Term.TheOpen as t
-use Rattle.sc_footprint.specs.declared.term.Term.TheVariants.{True}
-use Rattle.sc_footprint.specs.Problems.{Posed, atoms, atoms_under, goal_literal, literal_under, is_goal, is_goal_under, is_context, of_context, context_names}
+use Rattle.sc_footprint.specs.declared.term.Term.TheVariants.{True, Principal, Resource, Eq}
+use Rattle.sc_footprint.specs.Problems.{Posed, atoms, atoms_under, goal_literal, literal_under, is_goal, is_goal_under, has_plain_context, is_one_type, of_context, context_names}
 use Rattle.sc_footprint.specs.Terms.{is_true}
 use Rattle.sc_world.specs.declared.world.World.{World}
 use Rattle.sc_world.specs.WellFormed.{IsWellFormed}
@@ -45,51 +45,72 @@ or_true true = refl
 or_true false = refl
 
 -- the goal's atom is true, and it is the goal's
-record IsGoalAtom (names : List (List ℕ)) (y : Term-F Term) (goal : Term) (m : Assignment) : Type 0 where
+record IsGoalAtom (one : Bool) (names : List (List ℕ)) (y : Term-F Term) (goal : Term) (m : Assignment) : Type 0 where
   pub atom : ℕ
   pub valued : value_of m atom ≡ Some true
-  pub not_false : is_false m (literal_under names y) ≡ false
-  pub is : cond (atom == 0) None (slice_get (atoms_under names y) (atom - 1)) ≡ Some goal
+  pub not_false : is_false m (literal_under one names y) ≡ false
+  pub is : cond (atom == 0) None (slice_get (atoms_under one names y) (atom - 1)) ≡ Some goal
 
-goal_atom : (names : List (List ℕ)) (y : Term-F Term) (goal : Term) (m : Assignment) → out-Term goal ≡ y → IsField y → is_goal_under names y ≡ true → IsGoalAlone (length (atoms_under names y)) (literal_under names y).atom m → IsGoalAtom names y goal m
-goal_atom names (t.Field x name) goal m is field e values =
+-- the atom of the goal's own literal
+goal_valued : (m : Assignment) (count n : ℕ) → 1 ≤ n → n ≤ count → IsGoalAlone count n m → value_of m n ≡ Some true
+goal_valued m count n least most values = values n least most ∙ ap Some (ap (λ b. (n == 1) || b) (itself n) ∙ or_true (n == 1))
+
+goal_atom : (plain one : Bool) (names : List (List ℕ)) (y : Term-F Term) (goal : Term) (m : Assignment) → out-Term goal ≡ y → IsField y → is_goal_under plain names y ≡ true
+    → IsGoalAlone (length (atoms_under one names y)) (literal_under one names y).atom m → IsGoalAtom one names y goal m
+goal_atom plain true names (t.Field x name) goal m is field e values =
     let k = position_or_len (bytes_eq name) names in
-    let parts = and_parts (is_context (out-Term x)) (list_any (bytes_eq name) names) e in
-    let within : k < length names = place_below name names parts.1 in
+    let parts = posed_field plain names x name e in
+    let within : k < length names = place_below name names parts.named in
+    let listed : 3 + k ≤ length (True ∷ Eq Principal Resource ∷ map of_context names) = omega (arith, length_map of_context names) in
+    let value : value_of m (3 + k) ≡ Some true = goal_valued m (length (True ∷ Eq Principal Resource ∷ map of_context names)) (3 + k) (omega arith) listed values in
+    let before : (3 + k) - 1 ≡ suc (suc k) = omega arith in
+    record {
+      atom = 3 + k;
+      valued = value;
+      not_false = rw value refl;
+      is = rw (before, ne_eqb (3 + k) 0 (λ (z : 3 + k ≡ 0). absurd (omega arith))) (field_found name names parts.named ∙ ap Some (sym (field_is goal x name is parts.of)));
+    }
+goal_atom plain false names (t.Field x name) goal m is field e values =
+    let k = position_or_len (bytes_eq name) names in
+    let parts = posed_field plain names x name e in
+    let within : k < length names = place_below name names parts.named in
     let listed : 2 + k ≤ length (True ∷ map of_context names) = omega (arith, length_map of_context names) in
-    let value : value_of m (2 + k) ≡ Some true =
-    values (2 + k) (omega arith) listed ∙ ap Some (ap (λ b. ((2 + k) == 1) || b) (itself (2 + k)) ∙ or_true ((2 + k) == 1)) in
-    let next : 2 + k ≡ suc (suc k) = omega arith in
+    let value : value_of m (2 + k) ≡ Some true = goal_valued m (length (True ∷ map of_context names)) (2 + k) (omega arith) listed values in
     let before : (2 + k) - 1 ≡ suc k = omega arith in
     record {
       atom = 2 + k;
       valued = value;
       not_false = rw value refl;
-      is = rw (before, ne_eqb (2 + k) 0 (λ (z : 2 + k ≡ 0). absurd (omega arith))) (field_found name names parts.1 ∙ ap Some (sym (field_is goal x name is parts.0)));
+      is = rw (before, ne_eqb (2 + k) 0 (λ (z : 2 + k ≡ 0). absurd (omega arith))) (field_found name names parts.named ∙ ap Some (sym (field_is goal x name is parts.of)));
     }
-goal_atom names t.True goal m is field e values = absurd field
-goal_atom names t.False goal m is field e values = absurd field
-goal_atom names t.Principal goal m is field e values = absurd field
-goal_atom names t.Resource goal m is field e values = absurd field
-goal_atom names t.Context goal m is field e values = absurd field
+goal_atom plain one names t.True goal m is field e values = absurd field
+goal_atom plain one names t.False goal m is field e values = absurd field
+goal_atom plain one names t.Principal goal m is field e values = absurd field
+goal_atom plain one names t.Resource goal m is field e values = absurd field
+goal_atom plain one names t.Context goal m is field e values = absurd field
+goal_atom plain one names (t.Eq x z) goal m is field e values = absurd field
 
-some_atom : (names : List (List ℕ)) (y : Term-F Term) → IsField y → 1 ≤ length (atoms_under names y)
-some_atom names (t.Field x name) h = omega arith
-some_atom names t.True h = absurd h
-some_atom names t.False h = absurd h
-some_atom names t.Principal h = absurd h
-some_atom names t.Resource h = absurd h
-some_atom names t.Context h = absurd h
+some_atom : (one : Bool) (names : List (List ℕ)) (y : Term-F Term) → IsField y → 1 ≤ length (atoms_under one names y)
+some_atom one names (t.Field x name) h = omega arith
+some_atom one names t.True h = absurd h
+some_atom one names t.False h = absurd h
+some_atom one names t.Principal h = absurd h
+some_atom one names t.Resource h = absurd h
+some_atom one names t.Context h = absurd h
+some_atom one names (t.Eq x z) h = absurd h
 
 module _ (p : Posed) (m : Assignment) (field : IsField (out-Term p.goal)) (posed : IsTrue (is_goal p.schema p.env p.goal)) (values : IsGoalAlone (length (atoms p)) (goal_literal p).atom m) where
   abbrev names : List (List ℕ)
   names = context_names p.schema p.env
 
-  atom : IsGoalAtom names (out-Term p.goal) p.goal m
-  atom = goal_atom names (out-Term p.goal) p.goal m refl field posed values
+  abbrev one : Bool
+  one = is_one_type p.env
+
+  atom : IsGoalAtom one names (out-Term p.goal) p.goal m
+  atom = goal_atom (has_plain_context p.schema p.env) one names (out-Term p.goal) p.goal m refl field posed values
 
   first : value_of m 1 ≡ Some true
-  first = values 1 (omega arith) (some_atom names (out-Term p.goal) field)
+  first = values 1 (omega arith) (some_atom one names (out-Term p.goal) field)
 
   pub goal_alone_consistent : IsConsistent p m
   goal_alone_consistent = record {

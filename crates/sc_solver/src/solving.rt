@@ -6,7 +6,6 @@ ghost use Rattle.sc_clauses.specs.Assignments.{value_of};
 ghost use Rattle.sc_footprint.specs.declared.term.Term.{out-Term};
 ghost use Rattle.sc_footprint.specs.declared.term.Term.TheOpen as t;
 ghost use Rattle.sc_schema.specs.Declarations.{environments};
-ghost use Rattle.sc_schema.specs.Plain.{IsPlain};
 ghost use Rattle.sc_solver.specs.Solutions.{IsSolution, Satisfies, IsField};
 
 use crate::rebuilding::rebuild;
@@ -64,7 +63,6 @@ fn refuted(alloc: Global, problem: &Problem<'_>) -> Result<Log, AllocError>
 
 /// A world in which a field of the context is true.
 fn violated(alloc: Global, problem: &Problem<'_>) -> Result<World, AllocError>
-    requires plain { IsPlain problem.now.schema }
     requires environment { Contains (environments problem.now.schema) problem.now.env }
     requires literals { problem.now.literals ≡ [] }
     requires field { IsField (out-Term problem.now.goal) }
@@ -78,9 +76,8 @@ fn violated(alloc: Global, problem: &Problem<'_>) -> Result<World, AllocError>
 
 /// A refutation of the problem's goal, or a well-formed world in which the goal is true.
 ///
-/// So far it serves schemas of plain types with one action, and no literals.
+/// So far it serves no literals.
 pub fn solve(alloc: Global, problem: &Problem<'_>, budget: u64) -> Result<Solved, AllocError>
-    requires plain { IsPlain problem.now.schema }
     requires environment { Contains (environments problem.now.schema) problem.now.env }
     requires literals { problem.now.literals ≡ [] }
     requires units { 1 ≤ budget }

@@ -7,7 +7,7 @@ ghost use Rattle.sc_footprint.specs.declared.term.Term.TheVariants.{Context, Fie
 ghost use Rattle.sc_schema.specs.declared.ty.Ty.TheVariants.{Record};
 ghost use Rattle.sc_footprint.specs.Problems.{is_goal};
 ghost use Rattle.sc_schema.specs.Declarations.{environments};
-ghost use Rattle.sc_schema.specs.Plain.{IsPlain, action_type, bool_field, bool_record, plain_action};
+ghost use Rattle.sc_schema.specs.Plain.{action_type, bool_field, bool_record, plain_action};
 
 use crate::{Solved, solve};
 use sc_checker::{Verdict, check};
@@ -20,7 +20,7 @@ use sc_world::World;
 use std::alloc::{AllocError, Global};
 use std::test::Fail;
 
-fn uid(alloc: Global, type_name: &str, id: &str) -> Result<Uid, AllocError>
+pub(crate) fn uid(alloc: Global, type_name: &str, id: &str) -> Result<Uid, AllocError>
     ensures { IfOk result (λ u. u ≡ record { type_name = type_name.now; id = id.now }) }
 {
     Ok(Uid {
@@ -29,13 +29,13 @@ fn uid(alloc: Global, type_name: &str, id: &str) -> Result<Uid, AllocError>
     })
 }
 
-fn name(alloc: Global, text: &str) -> Result<Name, AllocError>
+pub(crate) fn name(alloc: Global, text: &str) -> Result<Name, AllocError>
     ensures { IfOk result (λ n. n ≡ text.now) }
 {
     Ok(Name::from_text(Text::from_str(alloc, text)?))
 }
 
-fn names(alloc: Global, text: &str) -> Result<Seq<Name>, AllocError>
+pub(crate) fn names(alloc: Global, text: &str) -> Result<Seq<Name>, AllocError>
     ensures { IfOk result (λ ns. ns ≡ text.now ∷ []) }
 {
     let mut names = Seq::new(alloc);
@@ -108,7 +108,7 @@ fn env(alloc: Global) -> Result<Env, AllocError>
     })
 }
 
-fn field_a(alloc: Global) -> Result<Term, AllocError>
+pub(crate) fn field_a(alloc: Global) -> Result<Term, AllocError>
     ensures { IfOk result (λ t. t ≡ Field Context (codes "a")) }
 {
     Ok(Term::Field(
@@ -119,7 +119,6 @@ fn field_a(alloc: Global) -> Result<Term, AllocError>
 
 /// The verdict on the log that refutes the goal of a problem.
 fn verdict_on(alloc: Global, problem: &Problem<'_>) -> Result<Option<Verdict>, AllocError>
-    requires plain { IsPlain problem.now.schema }
     requires environment { Contains (environments problem.now.schema) problem.now.env }
     requires literals { problem.now.literals ≡ [] }
 {
@@ -131,7 +130,6 @@ fn verdict_on(alloc: Global, problem: &Problem<'_>) -> Result<Option<Verdict>, A
 
 /// The world in which the goal of a problem is true.
 fn world_of(alloc: Global, problem: &Problem<'_>) -> Result<Option<World>, AllocError>
-    requires plain { IsPlain problem.now.schema }
     requires environment { Contains (environments problem.now.schema) problem.now.env }
     requires literals { problem.now.literals ≡ [] }
 {
@@ -146,7 +144,6 @@ fn verdict_of_false(
     schema: &Schema,
     env: &Env,
 ) -> Result<Option<Verdict>, AllocError>
-    requires plain { IsPlain schema.now }
     requires environment { Contains (environments schema.now) env.now }
 {
     let literals = Lits::new(alloc);
@@ -154,8 +151,11 @@ fn verdict_of_false(
     verdict_on(alloc, &problem)
 }
 
-fn world_of_a(alloc: Global, schema: &Schema, env: &Env) -> Result<Option<World>, AllocError>
-    requires plain { IsPlain schema.now }
+pub(crate) fn world_of_a(
+    alloc: Global,
+    schema: &Schema,
+    env: &Env,
+) -> Result<Option<World>, AllocError>
     requires environment { Contains (environments schema.now) env.now }
     requires goal { IsTrue (is_goal schema.now env.now (Field Context (codes "a"))) }
 {

@@ -1,4 +1,4 @@
-use Rattle.std.proofs.Common.{◌≡◌, subst}
+use Rattle.std.proofs.Common.{◌≡◌, subst, rules}
 use Rattle.sc_checker.specs.Truths.{IsUnsatisfiable}
 use Rattle.sc_footprint.specs.Problems.{Posed}
 use Rattle.sc_solver.specs.Solutions.{Satisfies}
@@ -6,7 +6,7 @@ use Rattle.cedar_symcc.proofs.AnalysisLaws.{posed, refuted-holds, satisfied-viol
 use Rattle.cedar_symcc.proofs.analysing.analyse_env.Goals as goal
 
 pub close-problem-requires : goal.close-problem-requires
-close-problem-requires c = goal-posed c.args.schema.now c.args.env.now c.args.attribute.now c.in_ok-goal.goal c.requires.plain c.requires.environment c.requires.declared c.in_ok-goal.ensures
+close-problem-requires c = goal-posed c.args.schema.now c.args.env.now c.args.attribute.now c.in_ok-goal.goal c.requires.environment c.requires.served (search rules)
 
 pub returns-in-Refuted : goal.returns-in-Refuted
 returns-in-Refuted c =

@@ -1,7 +1,13 @@
 use Rattle.std.proofs.Common.{◌≡◌, ◌==◌, length, true, false, sym, ◌∙◌, refl}
 use Rattle.std.proofs.lemmas.Bool.Decides.{Decides-eqb}
-use Rattle.cedar_symcc.proofs.ReportLaws.{reported-whole, reported-cut, reported-stopped}
+use Rattle.std.proofs.lemmas.List.{nil_from_length}
+use Rattle.cedar_symcc.proofs.ReportLaws.{reported-none, reported-whole, reported-cut, reported-stopped}
 use Rattle.cedar_symcc.proofs.reporting.report.Goals as goal
+
+pub returns-then-is_empty : goal.returns-then-is_empty
+returns-then-is_empty g c =
+    let none = nil_from_length c.environments-envs.result.now ((Decides-eqb _ 0).0 (sym c.is_empty.ensures ∙ c.if-is_empty.true)) in
+    reported-none _ _ _ _ _ (sym c.environments-envs.ensures ∙ none) c.report_none.ensures.reports
 
 pub returns-in-Ok : goal.returns-in-Ok
 returns-in-Ok g c =

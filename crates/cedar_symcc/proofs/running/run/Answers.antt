@@ -1,4 +1,4 @@
-use Rattle.cedar_symcc.proofs.RunLaws.{all-hold, some-fails, complete, unusable, no-command, schema-is-long, schema-is-not, policies-are-long, policies-are-not, policies-are-faulty, read-rose, write-rose, is-too-long, is-not-form, is-faulty}
+use Rattle.cedar_symcc.proofs.RunLaws.{all-hold, some-fails, complete, unusable, no-command, schema-is-long, schema-is-faulty, policies-are-long, policies-are-not, policies-are-faulty, read-rose, write-rose, is-too-long, is-not-form, is-faulty, is-faulty-schema}
 use Rattle.cedar_symcc.proofs.running.run.Goals as goal
 
 pub returns-clause-holds : goal.returns-clause-holds
@@ -8,7 +8,7 @@ pub returns-clause-counterexample : goal.returns-clause-counterexample
 returns-clause-counterexample g c = some-fails _ c.ends-code.ensures
 
 pub returns-clause-complete : goal.returns-clause-complete
-returns-clause-complete g c = λ x f h. complete _ c.ends-code.ensures x f h
+returns-clause-complete g c = λ x f h. complete _ c.spelling_laws.ensures c.ends-code.ensures x f h
 
 pub returns-clause-unusable : goal.returns-clause-unusable
 returns-clause-unusable g c = λ x. unusable _ c.ends-code.ensures x
@@ -19,14 +19,14 @@ returns-clause-usage g c = no-command _ c.ends-code.ensures
 pub returns-clause-schema_is_long : goal.returns-clause-schema_is_long
 returns-clause-schema_is_long g c = λ x f. schema-is-long _ c.ends-code.ensures x f
 
-pub returns-clause-schema_is_not : goal.returns-clause-schema_is_not
-returns-clause-schema_is_not g c = λ x f. schema-is-not _ c.ends-code.ensures x f
+pub returns-clause-schema_is_faulty : goal.returns-clause-schema_is_faulty
+returns-clause-schema_is_faulty g c = λ x f. schema-is-faulty _ c.ends-code.ensures x f
 
 pub returns-clause-policies_are_long : goal.returns-clause-policies_are_long
-returns-clause-policies_are_long g c = λ x f. policies-are-long _ c.ends-code.ensures x f
+returns-clause-policies_are_long g c = λ x f. policies-are-long _ c.spelling_laws.ensures c.ends-code.ensures x f
 
 pub returns-clause-policies_are_not : goal.returns-clause-policies_are_not
-returns-clause-policies_are_not g c = λ x f. policies-are-not _ c.ends-code.ensures x f
+returns-clause-policies_are_not g c = λ x f. policies-are-not _ c.spelling_laws.ensures c.ends-code.ensures x f
 
 pub returns-clause-read_fault : goal.returns-clause-read_fault
 returns-clause-read_fault g c = read-rose _ c.ends-code.ensures
@@ -41,7 +41,10 @@ pub returns-clause-not_form : goal.returns-clause-not_form
 returns-clause-not_form g c = is-not-form _ c.ends-code.ensures
 
 pub returns-clause-policies_are_faulty : goal.returns-clause-policies_are_faulty
-returns-clause-policies_are_faulty g c = λ x f. policies-are-faulty _ c.ends-code.ensures x f
+returns-clause-policies_are_faulty g c = λ x f. policies-are-faulty _ c.spelling_laws.ensures c.ends-code.ensures x f
 
 pub returns-clause-policy_fault : goal.returns-clause-policy_fault
 returns-clause-policy_fault g c = is-faulty _ c.ends-code.ensures
+
+pub returns-clause-schema_fault : goal.returns-clause-schema_fault
+returns-clause-schema_fault g c = is-faulty-schema _ c.ends-code.ensures

@@ -1,8 +1,5 @@
-use Rattle.sc_schema_json.proofs.FormLaws.{SpellsOne-any, IsPlain-spelled}
+use Rattle.sc_schema_json.proofs.SpellingLaws.{settled}
 use Rattle.sc_schema_json.proofs.law.spelling_laws.Goals as goal
 
-pub returns-clause-one : goal.returns-clause-one
-returns-clause-one c = SpellsOne-any
-
-pub returns-clause-plain : goal.returns-clause-plain
-returns-clause-plain c = IsPlain-spelled
+pub returns : goal.returns
+returns c = settled c.syntax_laws.ensures.one c.syntax_laws.ensures.written c.resolution_laws.ensures.one c.resolution_laws.ensures.resolved c.type_laws.ensures.settled c.schema_laws.ensures.one

@@ -1,20 +1,28 @@
-use Rattle.std.proofs.Common.{sym, subst}
-use Rattle.std.proofs.lemmas.Result.{IfOk-weaker}
-use Rattle.sc_world.specs.declared.world.World.{World}
-use Rattle.sc_world.specs.WellFormed.{IsWellFormed}
-use Rattle.sc_solver.specs.Rebuilding.{HasTruths}
-use Rattle.sc_solver.proofs.WorldLaws.{well_formed, names-ascend}
-use Rattle.sc_solver.proofs.TruthLaws.{rebuilt-truths}
+use Rattle.std.proofs.Common.{subst}
+use Rattle.sc_schema.specs.Lawful.{IsLawful}
+use Rattle.sc_solver.proofs.RebuiltLaws.{of_problem, is_rebuilt, is_well_formed, has_truths}
 use Rattle.sc_solver.proofs.rebuilding.rebuild.Goals as goal
+
+pub returns-clause-rebuilt : goal.returns-clause-rebuilt
+returns-clause-rebuilt c =
+    let p = c.args.problem.now in
+    let m = c.args.m.now in
+    is_rebuilt p m c.world_for.result
+    (of_problem p m _ _ _ c.world_for.result c.schema-schema.ensures c.in_ok-request.ensures c.lits.ensures
+    (record { of_request = c.world_for.ensures.request; value = c.world_for.ensures.value; exact = c.world_for.ensures.exact; well_formed = c.world_for.ensures.well_formed }))
 
 pub returns-clause-well_formed : goal.returns-clause-well_formed
 returns-clause-well_formed c =
     let p = c.args.problem.now in
-    IfOk-weaker c.exact_world.result _ _
-    (λ w e. subst (λ (x : World). IsWellFormed p.schema p.env p.literals x) (sym e) (well_formed p c.args.m.now c.requires.plain c.requires.environment c.requires.literals)) c.exact_world.ensures
+    let m = c.args.m.now in
+    is_well_formed p m c.world_for.result (subst IsLawful c.schema-schema.ensures c.laws.ensures.lawful) c.requires.consistent c.requires.environment c.requires.literals c.goal_term-posed.ensures.posed
+    (of_problem p m _ _ _ c.world_for.result c.schema-schema.ensures c.in_ok-request.ensures c.lits.ensures
+    (record { of_request = c.world_for.ensures.request; value = c.world_for.ensures.value; exact = c.world_for.ensures.exact; well_formed = c.world_for.ensures.well_formed }))
 
 pub returns-clause-truths : goal.returns-clause-truths
 returns-clause-truths c =
     let p = c.args.problem.now in
-    IfOk-weaker c.exact_world.result _ _
-    (λ w e. subst (λ (x : World). HasTruths p c.args.m.now x) (sym e) (rebuilt-truths p c.args.m.now c.requires.consistent (names-ascend p.schema p.env c.requires.plain c.requires.environment))) c.exact_world.ensures
+    let m = c.args.m.now in
+    has_truths p m c.world_for.result (subst IsLawful c.schema-schema.ensures c.laws.ensures.lawful) c.requires.consistent c.goal_term-posed.ensures.posed
+    (of_problem p m _ _ _ c.world_for.result c.schema-schema.ensures c.in_ok-request.ensures c.lits.ensures
+    (record { of_request = c.world_for.ensures.request; value = c.world_for.ensures.value; exact = c.world_for.ensures.exact; well_formed = c.world_for.ensures.well_formed }))
