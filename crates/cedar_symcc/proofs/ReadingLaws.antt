@@ -1,55 +1,188 @@
--- Why reading the files of a command ends.
-use Rattle.std.proofs.Common.{◌≡◌, ◌≤◌, ℕ, List, Result, Ok, Err, IfErr, subst, arith}
+-- Why reading the files of a command ends, and what it gives.
+use Rattle.std.proofs.Common.{◌≡◌, ◌≤◌, ◌⊎◌, ℕ, List, None, Result, Ok, Err, IfOk, IfErr, refl, sym, subst, arith, ⊎_elim}
 use Rattle.std.proofs.Math.Path.{fun_ext}
 use Rattle.sc_lists.specs.declared.fault.Fault.{Fault}
 use Rattle.sc_lists.specs.declared.fault.Fault.TheVariants.{Told, NoMemory}
+use Rattle.sc_ast.specs.declared.policy.Policy.{Policy}
 use Rattle.sc_outside.specs.Counts.{Rose}
-use Rattle.sc_parser.specs.Spelling.{HasFault}
+use Rattle.sc_parser.specs.Spelling.{Spells}
 use Rattle.sc_schema.specs.Declarations.{Declarations}
-use Rattle.cedar_symcc.specs.Serving.{Command, Serves}
-use Rattle.cedar_symcc.specs.Readings.{FailsSchema, FailsWith, RefusesFiles, RefusesPolicies}
-use Rattle.cedar_symcc.specs.Refusals.{Content, IsRefusal, IsContent, IsTooLong, ReadsSchema, SpellsOthers}
-use Rattle.cedar_symcc.specs.declared.reporting.Inputs.{Inputs}
-use Rattle.cedar_symcc.specs.declared.refusal.FileName.TheVariants.{Schema, Policies}
+use Rattle.sc_world.specs.declared.world.World.{World}
+use Rattle.sc_world_json.specs.Reading.{SpellsWorld}
+use Rattle.cedar_symcc.specs.Serving.{Command, Serves, HasUnits, Task, asking, replaying}
+use Rattle.cedar_symcc.proofs.ServingLaws.{units_of}
+use Rattle.sc_typing.specs.Names.{name_fault}
+use Rattle.cedar_symcc.specs.Policies.{IsServed}
+use Rattle.cedar_symcc.specs.Readings.{FailsWith, IsNoSchema, IsNoPolicies, IsOther, IsNoWorld, IsUnknown, ReadsRest, ReadsInputs, IsRead, RefusesScene, by_policies, by_world, by_names}
+use Rattle.cedar_symcc.specs.Refusals as spec
+use Rattle.cedar_symcc.specs.Refusals.{Content, File, IsRefusal, no_command, of_schema, of_policies, of_world, of_names, IsContent, ReadsSchema, HasPolicies, HasWorld, ReachesWorld, RefusesFile, unread, long, RefusesSchema, schema_unread, schema_faulty, RefusesPolicies, policies_unread, policies_faulty, policies_other, RefusesWorld, world_unread, world_faulty, schema_file, policies_file, world_file}
+use Rattle.cedar_symcc.specs.View.{refusal_view}
+use Rattle.cedar_symcc.specs.declared.inputs.Inputs.{Inputs}
+use Rattle.cedar_symcc.specs.declared.inputs.Inputs.TheVariants.{Asked, Replayed}
 use Rattle.cedar_symcc.specs.declared.refusal.Refusal.{Refusal}
-use Rattle.cedar_symcc.specs.declared.refusal.Refusal.TheVariants.{Usage, SchemaText, PolicyText, ReadFault, TooLong, NotForm}
 
-pub schema-fails : (content : Content) (c : Command) (rose : Type 0) (bytes : List ℕ) → IsContent content c.schema bytes → (f : Fault Refusal) → FailsSchema bytes f → FailsWith (RefusesFiles content c rose) f
-schema-fails content c rose bytes told (Told Usage) h = absurd h
-schema-fails content c rose bytes told (Told (SchemaText f)) h = (bytes, told, h)
-schema-fails content c rose bytes told (Told (PolicyText f)) h = absurd h
-schema-fails content c rose bytes told (Told (ReadFault f)) h = absurd h
-schema-fails content c rose bytes told (Told (TooLong f)) h = absurd h
-schema-fails content c rose bytes told (Told NotForm) h = absurd h
-schema-fails content c rose bytes told NoMemory h = tt
+-- ---- one file
+
+-- what is so of each refusal is so of what a call was refused with
+pub fails_so : (P Q : spec.Refusal → Type 0) → ((a : spec.Refusal) → P a → Q a) → (f : Fault Refusal) → FailsWith P f → FailsWith Q f
+fails_so P Q so (Told r) h = so (refusal_view r) h
+fails_so P Q so NoMemory h = tt
+
+pub schema_so : (content : Content) (c : Command) (rose : Type 0) (bytes : List ℕ) → IsContent content c.schema bytes → (a : spec.Refusal) → IsNoSchema bytes a → RefusesSchema content c rose a
+schema_so content c rose bytes told a h = subst (RefusesSchema content c rose) (sym h.1) (schema_faulty h.0 bytes told h.2)
+
+pub policies_so : (content : Content) (name : List ℕ) (task : Task) (rose : Type 0) (s : Declarations) (bytes : List ℕ) → IsContent content name bytes → (a : spec.Refusal) → IsNoPolicies bytes a → RefusesPolicies content name task rose s a
+policies_so content name task rose s bytes told a h = subst (RefusesPolicies content name task rose s) (sym h.1) (policies_faulty h.0 bytes told h.2)
+
+-- the same where a question is asked
+pub asked_so : (content : Content) (name : List ℕ) (budget : ℕ) (rose : Type 0) (s : Declarations) (bytes : List ℕ) → IsContent content name bytes → (a : spec.Refusal) → IsNoPolicies bytes a ⊎ IsOther s bytes a → RefusesPolicies content name (asking budget) rose s a
+asked_so content name budget rose s bytes told a h =
+    ⊎_elim (λ n. policies_so content name (asking budget) rose s bytes told a n) (λ o. subst (RefusesPolicies content name (asking budget) rose s) (sym o.0) (policies_other budget bytes refl told o.1)) h
+
+pub world_so : (content : Content) (name : List ℕ) (rose : Type 0) (bytes : List ℕ) → IsContent content name bytes → (a : spec.Refusal) → IsNoWorld bytes a → RefusesWorld content name rose a
+world_so content name rose bytes told a h = subst (RefusesWorld content name rose) (sym h.1) (world_faulty h.0 bytes told h.2)
+
+-- ---- a count that rose later rose, and what files hold stays
 
 -- a count that rose since it was read once rose since it was read before
 pub rose_before : (before mid now : ℕ) → before ≤ mid → Rose mid now → Rose before now
 rose_before before mid now h r = omega (arith, h, r)
 
-pub policies-fail : (content mid : Content) (c : Command) (rose risen : Type 0) (s : Declarations) → ((name : List ℕ) → mid name ≡ content name) → (risen → rose) → ReadsSchema content c s → (r : Result Inputs (Fault Refusal)) → IfErr r (FailsWith (RefusesPolicies mid c risen s)) → IfErr r (FailsWith (RefusesFiles content c rose))
-policies-fail content mid c rose risen s same since read (Ok x) h = tt
-policies-fail content mid c rose risen s same since read (Err NoMemory) h = tt
-policies-fail content mid c rose risen s same since read (Err (Told Usage)) h = absurd h
-policies-fail content mid c rose risen s same since read (Err (Told (SchemaText f))) h = absurd h
-policies-fail content mid c rose risen s same since read (Err (Told (PolicyText f))) h =
-    ((s, read), subst (λ (told : Content). (bytes : List ℕ) × IsContent told c.policies bytes × HasFault bytes f) (fun_ext same) h)
-policies-fail content mid c rose risen s same since read (Err (Told (ReadFault Schema))) h = absurd h
-policies-fail content mid c rose risen s same since read (Err (Told (ReadFault Policies))) h = ((s, read), since h)
-policies-fail content mid c rose risen s same since read (Err (Told (TooLong Schema))) h = absurd h
-policies-fail content mid c rose risen s same since read (Err (Told (TooLong Policies))) h = ((s, read), subst (λ (told : Content). IsTooLong told c.policies) (fun_ext same) h)
-policies-fail content mid c rose risen s same since read (Err (Told NotForm)) h =
-    (s, read, subst (λ (told : Content). (bytes : List ℕ) × IsContent told c.policies bytes × SpellsOthers s bytes) (fun_ext same) h)
+-- a count that had risen has risen
+pub rose_after : (before mid now : ℕ) → mid ≤ now → Rose before mid → Rose before now
+rose_after before mid now h r = omega (arith, h, r)
 
--- what the files of a command lead to, words that are the command lead to
-pub words-fail : (content : Content) (words : List (List ℕ)) (c : Command) (rose : Type 0) → Serves words c → (r : Result Inputs (Fault Refusal)) → IfErr r (FailsWith (RefusesFiles content c rose)) → IfErr r (FailsWith (IsRefusal content words rose))
-words-fail content words c rose serves (Ok x) h = tt
-words-fail content words c rose serves (Err NoMemory) h = tt
-words-fail content words c rose serves (Err (Told Usage)) h = absurd h
-words-fail content words c rose serves (Err (Told (SchemaText f))) h = (c, serves, h)
-words-fail content words c rose serves (Err (Told (PolicyText f))) h = (c, serves, h.0, h.1)
-words-fail content words c rose serves (Err (Told (ReadFault Schema))) h = (c, serves, h)
-words-fail content words c rose serves (Err (Told (ReadFault Policies))) h = (c, serves, h.0, h.1)
-words-fail content words c rose serves (Err (Told (TooLong Schema))) h = (c, serves, h)
-words-fail content words c rose serves (Err (Told (TooLong Policies))) h = (c, serves, h.0, h.1)
-words-fail content words c rose serves (Err (Told NotForm)) h = (c, serves, h)
+module _ {risen rose : Type 0} (since : risen → rose) where
+  pub file_rises : (content : Content) (name : List ℕ) (file : File) (a : spec.Refusal) → RefusesFile content name risen file a → RefusesFile content name rose file a
+  file_rises content name file _ (unread h) = unread (since h)
+  file_rises content name file _ (long h) = long h
+
+  pub schema_rises : (content : Content) (c : Command) (a : spec.Refusal) → RefusesSchema content c risen a → RefusesSchema content c rose a
+  schema_rises content c _ (schema_unread a h) = schema_unread a (file_rises content c.schema schema_file a h)
+  schema_rises content c _ (schema_faulty f bytes told h) = schema_faulty f bytes told h
+
+  pub policies_rise : (content : Content) (name : List ℕ) (task : Task) (s : Declarations) (a : spec.Refusal) → RefusesPolicies content name task risen s a → RefusesPolicies content name task rose s a
+  policies_rise content name task s _ (policies_unread a h) = policies_unread a (file_rises content name policies_file a h)
+  policies_rise content name task s _ (policies_faulty f bytes told h) = policies_faulty f bytes told h
+  policies_rise content name task s _ (policies_other budget bytes is told h) = policies_other budget bytes is told h
+
+  pub world_rises : (content : Content) (name : List ℕ) (a : spec.Refusal) → RefusesWorld content name risen a → RefusesWorld content name rose a
+  world_rises content name _ (world_unread a h) = world_unread a (file_rises content name world_file a h)
+  world_rises content name _ (world_faulty f bytes told h) = world_faulty f bytes told h
+
+  pub scene_rises : (content : Content) (policies name : List ℕ) (s : Declarations) (a : spec.Refusal) → RefusesScene content policies name risen s a → RefusesScene content policies name rose s a
+  scene_rises content policies name s _ (by_policies a h) = by_policies a (policies_rise content policies (replaying name) s a h)
+  scene_rises content policies name s _ (by_world a ps has h) = by_world a ps has (world_rises content name a h)
+  scene_rises content policies name s _ (by_names f ps w has holds is) = by_names f ps w has holds is
+
+  pub refusal_rises : (content : Content) (words : List (List ℕ)) (a : spec.Refusal) → IsRefusal content words risen a → IsRefusal content words rose a
+  refusal_rises content words _ (no_command none) = no_command none
+  refusal_rises content words _ (of_schema a c h i) = of_schema a c h (schema_rises content c a i)
+  refusal_rises content words _ (of_policies a c s h reads i) = of_policies a c s h reads (policies_rise content c.policies c.task s a i)
+  refusal_rises content words _ (of_world a s ps name reaches i) = of_world a s ps name reaches (world_rises content name a i)
+  refusal_rises content words _ (of_names f s ps name w reaches has is) = of_names f s ps name w reaches has is
+
+-- ---- what reading a file gives, call by call
+
+pub has_policies : (content : Content) (name bytes : List ℕ) → IsContent content name bytes → (r : Result (List Policy) (Fault Refusal)) → IfOk r (λ ps. Spells bytes ps) → IfOk r (λ ps. HasPolicies content name ps)
+has_policies content name bytes is (Ok ps) h = record { bytes = bytes; told = is; spelled = h }
+has_policies content name bytes is (Err f) h = tt
+
+pub has_world : (content : Content) (name bytes : List ℕ) → IsContent content name bytes → (r : Result World (Fault Refusal)) → IfOk r (SpellsWorld bytes) → IfOk r (HasWorld content name)
+has_world content name bytes is (Ok w) h = record { bytes = bytes; told = is; spelled = h }
+has_world content name bytes is (Err f) h = tt
+
+pub result_fails : {T : Type 0} (P Q : spec.Refusal → Type 0) → ((a : spec.Refusal) → P a → Q a) → (r : Result T (Fault Refusal)) → IfErr r (FailsWith P) → IfErr r (FailsWith Q)
+result_fails P Q so (Ok x) h = tt
+result_fails P Q so (Err f) h = fails_so P Q so f h
+
+pub policies_fail : (content : Content) (name bytes : List ℕ) (rose : Type 0) → IsContent content name bytes → (r : Result (List Policy) (Fault Refusal)) → IfErr r (FailsWith (IsNoPolicies bytes))
+    → IfErr r (λ fault. (task : Task) (s : Declarations) → FailsWith (RefusesPolicies content name task rose s) fault)
+policies_fail content name bytes rose is (Ok ps) h = tt
+policies_fail content name bytes rose is (Err f) h = λ task s. fails_so (IsNoPolicies bytes) (RefusesPolicies content name task rose s) (policies_so content name task rose s bytes is) f h
+
+-- ---- the policies and the world of a replay
+
+pub names_so : (content : Content) (policies name : List ℕ) (rose : Type 0) (s : Declarations) (ps : List Policy) (w : World) → HasPolicies content policies ps → HasWorld content name w
+    → (a : spec.Refusal) → IsUnknown s ps a → RefusesScene content policies name rose s a
+names_so content policies name rose s ps w has holds a h = subst (RefusesScene content policies name rose s) (sym h.1) (by_names h.0 ps w has holds h.2)
+
+-- the files were read in another state, which holds the same
+pub scene_later : (content mid : Content) (policies name : List ℕ) (risen rose : Type 0) (s : Declarations) (ps : List Policy) → ((file : List ℕ) → mid file ≡ content file) → (risen → rose) → HasPolicies content policies ps
+    → (f : Fault Refusal) → ((file : List ℕ) → HasPolicies mid file ps → FailsWith (RefusesScene mid file name risen s) f) → FailsWith (RefusesScene content policies name rose s) f
+scene_later content mid policies name risen rose s ps same since has f h =
+    let there = subst (λ (told : Content). HasPolicies told policies ps) (sym (fun_ext same)) has in
+    let here = subst (λ (told : Content). FailsWith (RefusesScene told policies name risen s) f) (fun_ext same) (h policies there) in
+    fails_so (RefusesScene content policies name risen s) (RefusesScene content policies name rose s) (scene_rises since content policies name s) f here
+
+pub world_later : (content mid : Content) (name : List ℕ) (w : World) → ((file : List ℕ) → mid file ≡ content file) → HasWorld mid name w → HasWorld content name w
+world_later content mid name w same h = subst (λ (told : Content). HasWorld told name w) (fun_ext same) h
+
+-- ---- a command, where the schema is read
+
+pub analysis_refused : (content : Content) (words : List (List ℕ)) (c : Command) (budget : ℕ) (rose : Type 0) (s : Declarations) → c.task ≡ asking budget → Serves words c → ReadsSchema content c s
+    → (a : spec.Refusal) → RefusesPolicies content c.policies (asking budget) rose s a → IsRefusal content words rose a
+analysis_refused content words c budget rose s task serves reads a h = of_policies a c s serves reads (subst (λ t. RefusesPolicies content c.policies t rose s a) (sym task) h)
+
+pub scene_refused : (content : Content) (words : List (List ℕ)) (c : Command) (name : List ℕ) (rose : Type 0) (s : Declarations) → c.task ≡ replaying name → Serves words c → ReadsSchema content c s
+    → (a : spec.Refusal) → RefusesScene content c.policies name rose s a → IsRefusal content words rose a
+scene_refused content words c name rose s task serves reads _ (by_policies a h) = of_policies a c s serves reads (subst (λ t. RefusesPolicies content c.policies t rose s a) (sym task) h)
+scene_refused content words c name rose s task serves reads _ (by_world a ps has h) =
+    of_world a s ps name (record { command = c; commands = serves; task = task; schema = reads; policies = has }) h
+scene_refused content words c name rose s task serves reads _ (by_names f ps w has holds is) =
+    of_names f s ps name w (record { command = c; commands = serves; task = task; schema = reads; policies = has }) holds is
+
+-- ---- a command
+
+-- what is read after the schema file
+pub rest_later : (content mid : Content) (c : Command) (s : Declarations) (i : Inputs) → ((file : List ℕ) → mid file ≡ content file) → ReadsRest mid c s i → ReadsRest content c s i
+rest_later content mid c s i same h = subst (λ (told : Content). ReadsRest told c s i) (fun_ext same) h
+
+pub inputs_later : (content mid : Content) (c : Command) (s : Declarations) → ((file : List ℕ) → mid file ≡ content file) → ReadsSchema content c s
+    → (r : Result Inputs (Fault Refusal)) → IfOk r (ReadsRest mid c s) → IfOk r (ReadsInputs content c)
+inputs_later content mid c s same reads (Ok i) h = record { declared = s; schema = reads; rest = rest_later content mid c s i same h }
+inputs_later content mid c s same reads (Err f) h = tt
+
+pub rest_fails : (content mid : Content) (c : Command) (risen rose : Type 0) (s : Declarations) → ((file : List ℕ) → mid file ≡ content file) → (risen → rose) → ReadsSchema content c s
+    → (r : Result Inputs (Fault Refusal)) → IfErr r (λ fault. (words : List (List ℕ)) → Serves words c → ReadsSchema mid c s → FailsWith (IsRefusal mid words risen) fault)
+    → IfErr r (λ fault. (words : List (List ℕ)) → Serves words c → FailsWith (IsRefusal content words rose) fault)
+rest_fails content mid c risen rose s same since reads (Ok i) h = tt
+rest_fails content mid c risen rose s same since reads (Err f) h =
+    λ words serves.
+    let there = subst (λ (told : Content). ReadsSchema told c s) (sym (fun_ext same)) reads in
+    let here = subst (λ (told : Content). FailsWith (IsRefusal told words risen) f) (fun_ext same) (h words serves there) in
+    fails_so (IsRefusal content words risen) (IsRefusal content words rose) (refusal_rises since content words) f here
+
+-- ---- the words of a command
+
+pub schema_at : (content : Content) (c : Command) (s d : Declarations) → s ≡ d → ReadsSchema content c d → ReadsSchema content c s
+schema_at content c s d e h = subst (ReadsSchema content c) (sym e) h
+
+words-read-one : (content : Content) (words : List (List ℕ)) (c : Command) (s : Declarations) (i : Inputs) → Serves words c → ReadsSchema content c s → ReadsRest content c s i → IsRead content words i
+words-read-one content words c s (Asked i) serves reads h = (
+  record {
+    command = c;
+    commands = serves;
+    budget = i.budget;
+    task = h.task;
+    schema = schema_at content c i.schema s h.schema reads;
+    policies = subst (λ d. spec.ReadsPolicies content c.policies d i.attribute) (sym h.schema) h.policies;
+  },
+  subst (λ d. IsServed d i.attribute) (sym h.schema) h.served,
+  subst HasUnits h.task (units_of words c serves),
+)
+words-read-one content words c s (Replayed x) serves reads h = record {
+  name = h.0;
+  reaches = record { command = c; commands = serves; task = h.1; schema = schema_at content c x.schema s h.2.schema reads; policies = h.2.policies_read };
+  spelled = h.2.world;
+  declared = subst (λ d. name_fault d x.policies ≡ None) (sym h.2.schema) h.2.names;
+}
+
+pub words_read : (content : Content) (words : List (List ℕ)) (c : Command) → Serves words c → (r : Result Inputs (Fault Refusal)) → IfOk r (ReadsInputs content c) → IfOk r (IsRead content words)
+words_read content words c serves (Ok i) h = words-read-one content words c h.declared i serves h.schema h.rest
+words_read content words c serves (Err f) h = tt
+
+pub words_fail : (content : Content) (words : List (List ℕ)) (c : Command) (rose : Type 0) → Serves words c → (r : Result Inputs (Fault Refusal))
+    → IfErr r (λ fault. (words : List (List ℕ)) → Serves words c → FailsWith (IsRefusal content words rose) fault) → IfErr r (FailsWith (IsRefusal content words rose))
+words_fail content words c rose serves (Ok i) h = tt
+words_fail content words c rose serves (Err f) h = h words serves

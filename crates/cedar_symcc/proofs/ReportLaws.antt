@@ -16,11 +16,11 @@ rose-later a b c le h = omega arith
 
 -- ---- texts
 
-appended-twice : (o : Option (List ℕ)) (s t : List ℕ) → appended (appended o s) t ≡ appended o (s ++ t)
+pub appended-twice : (o : Option (List ℕ)) (s t : List ℕ) → appended (appended o s) t ≡ appended o (s ++ t)
 appended-twice None s t = refl
 appended-twice (Some text) s t = ap Some (append_assoc text s t)
 
-append-nil : (xs : List ℕ) → xs ++ [] ≡ xs
+pub append-nil : (xs : List ℕ) → xs ++ [] ≡ xs
 append-nil [] = refl
 append-nil (x ∷ xs) = ap (λ ys. x ∷ ys) (append-nil xs)
 
@@ -121,7 +121,7 @@ reported-stopped q envs old new rose code is r c = stopped r.lines (subst (λ es
 no-front : (q : Asked) → environments q.schema ≡ [] → IsFront q (environments q.schema) []
 no-front q e = record { rest = []; in_order = sym e; lines_true = tt }
 
-appended-nothing : (o : Option (List ℕ)) → o ≡ appended o []
+pub appended-nothing : (o : Option (List ℕ)) → o ≡ appended o []
 appended-nothing None = refl
 appended-nothing (Some text) = ap Some (sym (append-nil text))
 

@@ -1,5 +1,5 @@
 -- The faults of files as text: a fault's name, and its place where it has one, in bytes of a policy file or as a path in a
--- schema file.
+-- schema file or a world file.
 use Rattle.std.specs.Prelude.{ℕ, List, ◌++◌, codes}
 use Rattle.std.specs.Fmt.{decimal}
 use Rattle.sc_ast.specs.declared.place.Place.{Place}
@@ -8,6 +8,11 @@ use Rattle.sc_parser.specs.declared.fault.PolicyFault.{PolicyFault}
 use Rattle.sc_parser.specs.declared.fault.PolicyFault.TheVariants.{BadUtf8, BadToken, BadEscape, Unexpected, UnexpectedEnd, TooManyPolicies, Template, TooDeep, IntRange, DuplicateKey, BadCall}
 use Rattle.sc_schema_syntax.specs.declared.fault.SchemaFault.{SchemaFault}
 use Rattle.sc_schema_syntax.specs.declared.fault.SchemaFault.TheVariants.{NotJson, BadShape, BadName, UnknownType, UnknownAction, TypeCycle, ActionCycle, NotRecord, TypeTooLarge, TooManyEnvironments}
+use Rattle.sc_typing.specs.declared.name_fault.NameFault.{NameFault}
+use Rattle.sc_typing.specs.declared.name_fault.NameKind.{NameKind}
+use Rattle.sc_typing.specs.declared.name_fault.NameKind.TheVariants as kind
+use Rattle.sc_world_json.specs.declared.fault.WorldFault.{WorldFault}
+use Rattle.sc_world_json.specs.declared.fault.WorldFault.TheVariants as world
 
 -- a name and a place
 unfoldable pub placed : List ℕ → Place → List ℕ
@@ -45,3 +50,15 @@ schema_fault_text (ActionCycle uid) = named (codes "ActionCycle") (uid_text uid)
 schema_fault_text (NotRecord path) = on_path (codes "NotRecord") path
 schema_fault_text (TypeTooLarge path) = on_path (codes "TypeTooLarge") path
 schema_fault_text TooManyEnvironments = codes "TooManyEnvironments"
+
+abbrev pub world_fault_text : WorldFault → List ℕ
+world_fault_text world.NotJson = codes "NotJson"
+world_fault_text (world.BadWorld path) = on_path (codes "BadWorld") path
+
+abbrev pub kind_name : NameKind → List ℕ
+kind_name kind.UnknownEntityType = codes "UnknownEntityType"
+kind_name kind.UnknownAction = codes "UnknownAction"
+
+-- a name that isn't declared: the policy that writes it, what it stands for, and its place
+unfoldable pub name_fault_text : NameFault → List ℕ
+name_fault_text f = codes "policy" ++ (decimal f.policy ++ (codes " " ++ placed (kind_name f.kind) f.place))

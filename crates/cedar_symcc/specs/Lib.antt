@@ -3,6 +3,7 @@ pub mod Policies
 pub mod Reports
 pub mod Refusals
 pub mod Progress
+pub mod Replays
 pub mod Runs
 pub mod Readings
 pub mod View

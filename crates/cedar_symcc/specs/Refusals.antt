@@ -1,23 +1,31 @@
 -- The answers other than a report, and when each may come.
-use Rattle.std.specs.Prelude.{◌≡◌, ◌≤◌, ◌<◌, ℕ, List, ◌++◌, Option, IfSome, codes, length}
+use Rattle.std.specs.Prelude.{◌≡◌, ◌≤◌, ◌<◌, ℕ, List, ◌++◌, Option, IfSome, Some, codes, length}
 use Rattle.sc_schema.specs.Declarations.{Declarations}
 use Rattle.sc_schema_json.specs.Spelling as schema
 use Rattle.sc_schema_syntax.specs.declared.fault.SchemaFault.{SchemaFault}
 use Rattle.sc_ast.specs.declared.policy.Policy.{Policy}
 use Rattle.sc_parser.specs.declared.fault.PolicyFault.{PolicyFault}
 use Rattle.sc_parser.specs.Spelling.{Spells, HasFault}
-use Rattle.cedar_symcc.specs.Serving.{Command, Serves}
-use Rattle.cedar_symcc.specs.FaultTexts.{fault_text, schema_fault_text}
+use Rattle.sc_typing.specs.declared.name_fault.NameFault.{NameFault}
+use Rattle.sc_typing.specs.Names.{name_fault}
+use Rattle.sc_world.specs.declared.world.World.{World}
+use Rattle.sc_world_json.specs.declared.fault.WorldFault.{WorldFault}
+use Rattle.sc_world_json.specs.Reading as world
+use Rattle.cedar_symcc.specs.Serving.{Command, Serves, Task, asking, replaying}
+use Rattle.cedar_symcc.specs.FaultTexts.{fault_text, schema_fault_text, world_fault_text, name_fault_text}
 use Rattle.cedar_symcc.specs.Policies.{SpellsPolicies}
 
 pub data File : Type 0 where
   schema_file : File
   policies_file : File
+  world_file : File
 
 pub data Refusal : Type 0 where
   usage : Refusal
   schema_text : SchemaFault → Refusal
   policy_text : PolicyFault → Refusal
+  world_text : WorldFault → Refusal
+  unknown_name : NameFault → Refusal
   read_fault : File → Refusal
   too_long : File → Refusal
   not_form : Refusal
@@ -25,11 +33,14 @@ pub data Refusal : Type 0 where
 abbrev pub file_name : File → List ℕ
 file_name schema_file = codes "schema"
 file_name policies_file = codes "policies"
+file_name world_file = codes "world"
 
 abbrev pub code_of : Refusal → ℕ
 code_of usage = 10
 code_of (schema_text f) = 12
 code_of (policy_text f) = 11
+code_of (world_text f) = 17
+code_of (unknown_name f) = 13
 code_of (read_fault f) = 20
 code_of (too_long f) = 22
 code_of not_form = 15
@@ -38,9 +49,13 @@ abbrev pub refusal_text : Refusal → List ℕ
 refusal_text usage = codes "error 10 usage\n"
 refusal_text (schema_text f) = codes "error 12 " ++ schema_fault_text f ++ codes "\n"
 refusal_text (policy_text f) = codes "error 11 policies " ++ fault_text f ++ codes "\n"
+refusal_text (world_text f) = codes "error 17 " ++ world_fault_text f ++ codes "\n"
+refusal_text (unknown_name f) = codes "error 13 policies " ++ name_fault_text f ++ codes "\n"
 refusal_text (read_fault f) = codes "error 20 " ++ file_name f ++ codes "\n"
 refusal_text (too_long f) = codes "error 22 " ++ file_name f ++ codes "\n"
 refusal_text not_form = codes "error 15 policies\n"
+
+-- ---- files
 
 -- how long a file may be
 abbrev pub limit : ℕ
@@ -64,10 +79,10 @@ pub record ReadsSchema (content : Content) (c : Command) (s : Declarations) : Ty
   pub told : IsContent content c.schema bytes
   pub spelled : schema.Spells bytes s
 
--- the policy file spells the policies
-pub record ReadsPolicies (content : Content) (c : Command) (s : Declarations) (o : Option (List ℕ)) : Type 0 where
+-- the file of this name spells the policies, which are of the form that questions are served for
+pub record ReadsPolicies (content : Content) (name : List ℕ) (s : Declarations) (o : Option (List ℕ)) : Type 0 where
   pub bytes : List ℕ
-  pub told : IsContent content c.policies bytes
+  pub told : IsContent content name bytes
   pub spelled : SpellsPolicies s bytes o
 
 -- the bytes spell policies, but not of the form that is served
@@ -76,17 +91,54 @@ pub record SpellsOthers (s : Declarations) (bytes : List ℕ) : Type 0 where
   pub spelled : Spells bytes policies
   pub none : (o : Option (List ℕ)) → SpellsPolicies s bytes o → ⊥
 
--- when a refusal may come; `rose` says that the count of read faults rose
-abbrev pub IsRefusal : Content → List (List ℕ) → Type 0 → Refusal → Type 0
-IsRefusal content words rose usage = (c : Command) → Serves words c → ⊥
-IsRefusal content words rose (schema_text f) =
-    (c : Command) × Serves words c × ((bytes : List ℕ) × IsContent content c.schema bytes × schema.HasFault bytes f)
-IsRefusal content words rose (policy_text f) =
-    (c : Command) × Serves words c × ((s : Declarations) × ReadsSchema content c s) × ((bytes : List ℕ) × IsContent content c.policies bytes × HasFault bytes f)
-IsRefusal content words rose (read_fault schema_file) = (c : Command) × Serves words c × rose
-IsRefusal content words rose (read_fault policies_file) = (c : Command) × Serves words c × ((s : Declarations) × ReadsSchema content c s) × rose
-IsRefusal content words rose (too_long schema_file) = (c : Command) × Serves words c × IsTooLong content c.schema
-IsRefusal content words rose (too_long policies_file) = (c : Command) × Serves words c × ((s : Declarations) × ReadsSchema content c s) × IsTooLong content c.policies
-IsRefusal content words rose not_form =
-    (c : Command) × Serves words c
-    × ((s : Declarations) × ReadsSchema content c s × ((bytes : List ℕ) × IsContent content c.policies bytes × SpellsOthers s bytes))
+-- the file of this name spells the policies, whatever their form
+pub record HasPolicies (content : Content) (name : List ℕ) (ps : List Policy) : Type 0 where
+  pub bytes : List ℕ
+  pub told : IsContent content name bytes
+  pub spelled : Spells bytes ps
+
+-- the file of this name spells the world
+pub record HasWorld (content : Content) (name : List ℕ) (w : World) : Type 0 where
+  pub bytes : List ℕ
+  pub told : IsContent content name bytes
+  pub spelled : world.SpellsWorld bytes w
+
+-- the words are the command to replay the world of the file of this name, whose other files spell the schema and the policies
+pub record ReachesWorld (content : Content) (words : List (List ℕ)) (s : Declarations) (ps : List Policy) (name : List ℕ) : Type 0 where
+  pub command : Command
+  pub commands : Serves words command
+  pub task : command.task ≡ replaying name
+  pub schema : ReadsSchema content command s
+  pub policies : HasPolicies content command.policies ps
+
+-- ---- refusals; `rose` says that the count of read faults rose
+
+-- a file isn't read: the count rose, or it is too long
+pub data RefusesFile (content : Content) (name : List ℕ) (rose : Type 0) (file : File) : Refusal → Type 0 where
+  unread : rose → RefusesFile content name rose file (read_fault file)
+  long : IsTooLong content name → RefusesFile content name rose file (too_long file)
+
+-- the schema file isn't read, or spells no schema
+pub data RefusesSchema (content : Content) (c : Command) (rose : Type 0) : Refusal → Type 0 where
+  schema_unread : (a : Refusal) → RefusesFile content c.schema rose schema_file a → RefusesSchema content c rose a
+  schema_faulty : (f : SchemaFault) (bytes : List ℕ) → IsContent content c.schema bytes → schema.HasFault bytes f → RefusesSchema content c rose (schema_text f)
+
+-- the policy file of this name isn't read, or spells no policies, or a question is asked of policies of another form
+pub data RefusesPolicies (content : Content) (name : List ℕ) (task : Task) (rose : Type 0) (s : Declarations) : Refusal → Type 0 where
+  policies_unread : (a : Refusal) → RefusesFile content name rose policies_file a → RefusesPolicies content name task rose s a
+  policies_faulty : (f : PolicyFault) (bytes : List ℕ) → IsContent content name bytes → HasFault bytes f → RefusesPolicies content name task rose s (policy_text f)
+  policies_other : (budget : ℕ) (bytes : List ℕ) → task ≡ asking budget → IsContent content name bytes → SpellsOthers s bytes → RefusesPolicies content name task rose s not_form
+
+-- the world file of this name isn't read, or spells no world
+pub data RefusesWorld (content : Content) (name : List ℕ) (rose : Type 0) : Refusal → Type 0 where
+  world_unread : (a : Refusal) → RefusesFile content name rose world_file a → RefusesWorld content name rose a
+  world_faulty : (f : WorldFault) (bytes : List ℕ) → IsContent content name bytes → world.HasFault bytes f → RefusesWorld content name rose (world_text f)
+
+-- the words are no command that is served; or a file is refused, where those before it are read; or the policies write a
+-- name that isn't declared, where all files of a replay are read
+pub data IsRefusal (content : Content) (words : List (List ℕ)) (rose : Type 0) : Refusal → Type 0 where
+  no_command : ((c : Command) → Serves words c → ⊥) → IsRefusal content words rose usage
+  of_schema : (a : Refusal) (c : Command) → Serves words c → RefusesSchema content c rose a → IsRefusal content words rose a
+  of_policies : (a : Refusal) (c : Command) (s : Declarations) → Serves words c → ReadsSchema content c s → RefusesPolicies content c.policies c.task rose s a → IsRefusal content words rose a
+  of_world : (a : Refusal) (s : Declarations) (ps : List Policy) (name : List ℕ) → ReachesWorld content words s ps name → RefusesWorld content name rose a → IsRefusal content words rose a
+  of_names : (f : NameFault) (s : Declarations) (ps : List Policy) (name : List ℕ) (w : World) → ReachesWorld content words s ps name → HasWorld content name w → name_fault s ps ≡ Some f → IsRefusal content words rose (unknown_name f)

@@ -1,21 +1,31 @@
 -- How a run ends.
-use Rattle.std.specs.Prelude.{◌≡◌, ◌≤◌, ◌<◌, ◌⊎◌, ℕ, List, [], Option, Some, length, take}
+use Rattle.std.specs.Prelude.{◌≡◌, ◌≤◌, ◌<◌, ◌⊎◌, ℕ, List, [], Option, Some, None, length, take}
 use Rattle.std.specs.List.{Contains}
 use Rattle.sc_outside.specs.Writes.{appended}
 use Rattle.sc_ast.specs.declared.policy.Policy.{Policy}
+use Rattle.sc_ast.specs.Literals.{literals}
 use Rattle.sc_question.specs.declared.question.Question.TheVariants.{AlwaysDenies}
+use Rattle.sc_replay.specs.Reports.{status_of}
 use Rattle.sc_schema.specs.declared.declarations.Env.{Env}
 use Rattle.sc_schema.specs.Declarations.{Declarations, environments}
 use Rattle.sc_schema_json.specs.Spelling as schema_file
 use Rattle.sc_schema_syntax.specs.declared.fault.SchemaFault.{SchemaFault}
 use Rattle.sc_parser.specs.declared.fault.PolicyFault.{PolicyFault}
 use Rattle.sc_parser.specs.Spelling.{Spells, HasFault}
+use Rattle.sc_typing.specs.declared.name_fault.NameFault.{NameFault}
+use Rattle.sc_typing.specs.Names.{name_fault}
 use Rattle.sc_world.specs.declared.world.World.{World}
-use Rattle.cedar_symcc.specs.Serving.{Command, Serves}
+use Rattle.sc_world.specs.WellFormed.{IsWellFormed}
+use Rattle.sc_world_breaks.specs.declared.breaks.Break.{Break}
+use Rattle.sc_world_json.specs.declared.fault.WorldFault.{WorldFault}
+use Rattle.sc_world_json.specs.Reading as world_file
+use Rattle.cedar_symcc.specs.Serving.{Command, Serves, asking, replaying}
 use Rattle.cedar_symcc.specs.Policies.{SpellsPolicies, policies_of}
 use Rattle.cedar_symcc.specs.Progress.{Reported}
-use Rattle.cedar_symcc.specs.Refusals.{Refusal, IsRefusal, code_of, refusal_text, Content, IsContent, IsTooLong, ReadsSchema, ReadsPolicies, SpellsOthers, limit}
+use Rattle.cedar_symcc.specs.Replays.{Finds, Replayed, lines_of, text_of}
+use Rattle.cedar_symcc.specs.Refusals.{Refusal, IsRefusal, code_of, refusal_text, Content, IsContent, IsTooLong, ReadsSchema, ReadsPolicies, SpellsOthers, HasWorld, ReachesWorld, limit}
 use Rattle.cedar_symcc.specs.Reports.{Asked, Line, counterexample, IsReport, AlwaysHas, Violates, report_text}
+use Rattle.cedar_symcc.specs.declared.inputs.Scene.{Scene}
 
 -- What a run sees and does: what the files hold, the words, whether the counts of faults rose, what was written before it
 -- and is written after it, and the status.
@@ -36,12 +46,26 @@ run_of content words read_rose write_rose before after code =
 abbrev pub asked : Declarations → Option (List ℕ) → Asked
 asked s o = record { schema = s; question = AlwaysDenies; first = policies_of o; second = [] }
 
--- the words are a command that is served, and its files were read and spell a schema and policies
+-- the words are a command to ask a question, and its files were read and spell a schema and policies
 pub record ReadsAll (content : Content) (words : List (List ℕ)) (s : Declarations) (o : Option (List ℕ)) : Type 0 where
   pub command : Command
   pub commands : Serves words command
+  pub budget : ℕ
+  pub task : command.task ≡ asking budget
   pub schema : ReadsSchema content command s
-  pub policies : ReadsPolicies content command s o
+  pub policies : ReadsPolicies content command.policies s o
+
+-- the words are a command to replay a world, its files were read and spell a schema, policies and the world, and the
+-- policies write declared names alone
+pub record ReadsWorld (content : Content) (words : List (List ℕ)) (s : Declarations) (ps : List Policy) (w : World) : Type 0 where
+  pub name : List ℕ
+  pub reaches : ReachesWorld content words s ps name
+  pub spelled : HasWorld content name w
+  pub declared : name_fault s ps ≡ None
+
+-- what is replayed
+abbrev pub scene : Declarations → List Policy → World → Scene
+scene s ps w = record { schema = s; policies = ps; world = w }
 
 -- a refusal's line is written whole, or a front of it; or the report is written, as far as it came; or memory ran out
 -- before anything was written
@@ -49,6 +73,7 @@ pub data Ends (r : Run) : Type 0 where
   refused : (a : Refusal) → IsRefusal r.content r.words r.read_rose a → r.code ≡ code_of a → r.after ≡ appended r.before (refusal_text a) → Ends r
   refusal_cut : (a : Refusal) (n : ℕ) → IsRefusal r.content r.words r.read_rose a → r.write_rose → r.code ≡ 21 → r.after ≡ appended r.before (take n (refusal_text a)) → Ends r
   reported : (s : Declarations) (o : Option (List ℕ)) → ReadsAll r.content r.words s o → Reported (asked s o) r.before r.after r.write_rose r.code → Ends r
+  replayed : (s : Declarations) (ps : List Policy) (w : World) → ReadsWorld r.content r.words s ps w → Replayed (scene s ps w) r.before r.after r.write_rose r.code → Ends r
   no_memory : r.code ≡ 30 → r.after ≡ r.before → Ends r
 
 -- each environment is reported to hold: every well-formed world of it has the property
@@ -75,10 +100,37 @@ pub record SomeFails (r : Run) : Type 0 where
   pub printed : Contains lines (record { env = env; verdict = counterexample world })
   pub violates : Violates (asked schema policies) env world
 
--- the words are a command that is served, both files are told and short enough, and they spell a schema and policies
+-- a whole report on a world is written, and what it finds first is this, or nothing
+pub record Tells (r : Run) (found : Option Break) : Type 0 where
+  pub schema : Declarations
+  pub policies : List Policy
+  pub world : World
+  pub reads : ReadsWorld r.content r.words schema policies world
+  pub first : Finds (scene schema policies world) found
+  pub text : r.after ≡ appended r.before (text_of (lines_of (scene schema policies world) found))
+
+-- a whole report tells that nothing keeps a world from being well-formed, and the world is well-formed for an environment of
+-- the schema and the uids that the policies write
+pub record IsWell (r : Run) : Type 0 where
+  pub told : Tells r None
+  pub env : Env
+  pub listed : Contains (environments told.schema) env
+  pub well_formed : IsWellFormed told.schema env (literals told.policies) told.world
+
+-- status 0: a question's property holds in each environment, or a world is replayed that is well-formed
+abbrev pub AllWell : Run → Type 0
+AllWell r = AllHold r ⊎ IsWell r
+
+-- status 3: a world is replayed that isn't well-formed
+abbrev pub IsBroken : Run → Type 0
+IsBroken r = (b : Break) × Tells r (Some b)
+
+-- the words are a command to ask a question, both files are told and short enough, and they spell a schema and policies
 pub record IsReadable (r : Run) : Type 0 where
   pub command : Command
   pub commands : Serves r.words command
+  pub budget : ℕ
+  pub task : command.task ≡ asking budget
   pub schema_bytes : List ℕ
   pub policy_bytes : List ℕ
   pub schema_told : r.content command.schema ≡ Some schema_bytes
@@ -102,11 +154,14 @@ MustBe n code = (code ≡ n) ⊎ ((code ≡ 21) ⊎ (code ≡ 30))
 pub data TooLong (r : Run) : Type 0 where
   schema_long : (c : Command) → Serves r.words c → IsTooLong r.content c.schema → TooLong r
   policies_long : (c : Command) → Serves r.words c → (s : Declarations) → ReadsSchema r.content c s → IsTooLong r.content c.policies → TooLong r
+  world_long : (s : Declarations) (ps : List Policy) (name : List ℕ) → ReachesWorld r.content r.words s ps name → IsTooLong r.content name → TooLong r
 
--- the policy file of the command spells policies of another form, and the schema is read
+-- the policy file of a command to ask a question spells policies of another form, and the schema is read
 pub record NotForm (r : Run) : Type 0 where
   pub command : Command
   pub commands : Serves r.words command
+  pub budget : ℕ
+  pub task : command.task ≡ asking budget
   pub schema : Declarations
   pub reads : ReadsSchema r.content command schema
   pub bytes : List ℕ
@@ -133,6 +188,28 @@ pub record IsFaulty (r : Run) : Type 0 where
   pub fault : PolicyFault
   pub has : HasFault bytes fault
 
+-- the world file of the command spells no world, its first fault is told, and the files before it are read
+pub record IsFaultyWorld (r : Run) : Type 0 where
+  pub schema : Declarations
+  pub policies : List Policy
+  pub name : List ℕ
+  pub reaches : ReachesWorld r.content r.words schema policies name
+  pub bytes : List ℕ
+  pub told : IsContent r.content name bytes
+  pub fault : WorldFault
+  pub has : world_file.HasFault bytes fault
+
+-- the policies of the command write a name that isn't declared, the first one is told, and all files are read
+pub record HasUnknownName (r : Run) : Type 0 where
+  pub schema : Declarations
+  pub policies : List Policy
+  pub name : List ℕ
+  pub reaches : ReachesWorld r.content r.words schema policies name
+  pub world : World
+  pub spelled : HasWorld r.content name world
+  pub fault : NameFault
+  pub first : name_fault schema policies ≡ Some fault
+
 -- the words are a command that is served whose schema file is told
 pub record SchemaTold (r : Run) : Type 0 where
   pub command : Command
@@ -152,6 +229,25 @@ pub record PoliciesTold (r : Run) : Type 0 where
   pub bytes : List ℕ
   pub told : r.content command.policies ≡ Some bytes
 
+-- the words are a command to replay a world whose files are told, and the first two spell a schema and policies
+pub record WorldTold (r : Run) : Type 0 where
+  pub command : Command
+  pub commands : Serves r.words command
+  pub name : List ℕ
+  pub task : command.task ≡ replaying name
+  pub schema_bytes : List ℕ
+  pub policy_bytes : List ℕ
+  pub bytes : List ℕ
+  pub schema_told : r.content command.schema ≡ Some schema_bytes
+  pub policies_told : r.content command.policies ≡ Some policy_bytes
+  pub told : r.content name ≡ Some bytes
+  pub schema_short : length schema_bytes ≤ limit
+  pub policies_short : length policy_bytes ≤ limit
+  pub schema : Declarations
+  pub policies : List Policy
+  pub schema_spelled : schema_file.Spells schema_bytes schema
+  pub policies_spelled : Spells policy_bytes policies
+
 abbrev pub SchemaIsLong : Run → Type 0
 SchemaIsLong r = (t : SchemaTold r) × (limit < length t.bytes)
 
@@ -162,10 +258,36 @@ abbrev pub PoliciesAreLong : Run → Type 0
 PoliciesAreLong r = (t : PoliciesTold r) × (limit < length t.bytes)
 
 abbrev pub PoliciesAreNot : Run → Type 0
-PoliciesAreNot r = (t : PoliciesTold r) × (length t.bytes ≤ limit) × SpellsOthers t.schema t.bytes
+PoliciesAreNot r = (t : PoliciesTold r) × (length t.bytes ≤ limit) × SpellsOthers t.schema t.bytes × ((budget : ℕ) × (t.command.task ≡ asking budget))
 
 abbrev pub PoliciesAreFaulty : Run → Type 0
 PoliciesAreFaulty r = (t : PoliciesTold r) × (length t.bytes ≤ limit) × ((ps : List Policy) → Spells t.bytes ps → ⊥)
+
+abbrev pub WorldIsLong : Run → Type 0
+WorldIsLong r = (t : WorldTold r) × (limit < length t.bytes)
+
+abbrev pub WorldIsFaulty : Run → Type 0
+WorldIsFaulty r = (t : WorldTold r) × (length t.bytes ≤ limit) × ((w : World) → world_file.SpellsWorld t.bytes w → ⊥)
+
+-- its world file spells a world
+pub record WorldSpelled (r : Run) : Type 0 where
+  pub before : WorldTold r
+  pub short : length before.bytes ≤ limit
+  pub world : World
+  pub spelled : world_file.SpellsWorld before.bytes world
+
+abbrev pub NamesAreUnknown : Run → Type 0
+NamesAreUnknown r = (t : WorldSpelled r) × ((f : NameFault) × (name_fault t.before.schema t.before.policies ≡ Some f))
+
+abbrev pub IsReplayable : Run → Type 0
+IsReplayable r = (t : WorldSpelled r) × (name_fault t.before.schema t.before.policies ≡ None)
+
+-- the whole report on the world is written, and the status says whether it is well-formed; or memory ran out
+abbrev pub IsReplayed : (r : Run) → IsReplayable r → Type 0
+IsReplayed r x =
+    ((found : Option Break) × Finds (scene x.0.before.schema x.0.before.policies x.0.world) found × (r.code ≡ status_of found)
+    × (r.after ≡ appended r.before (text_of (lines_of (scene x.0.before.schema x.0.before.policies x.0.world) found))))
+    ⊎ (r.code ≡ 30)
 
 -- how a refusal ends: its line is written whole, or a front of it, or memory runs out and nothing is written
 abbrev pub Refuses : Refusal → Option (List ℕ) → Option (List ℕ) → Type 0 → ℕ → Type 0

@@ -13,11 +13,14 @@ use Rattle.cedar_symcc.specs.declared.analysing.EnvAnswer.TheVariants.{Holds, Vi
 abbrev pub file_view : FileName → spec.File
 file_view file.Schema = spec.schema_file
 file_view file.Policies = spec.policies_file
+file_view file.World = spec.world_file
 
 abbrev pub refusal_view : Refusal → spec.Refusal
 refusal_view refusal.Usage = spec.usage
 refusal_view (refusal.SchemaText f) = spec.schema_text f
 refusal_view (refusal.PolicyText f) = spec.policy_text f
+refusal_view (refusal.WorldText f) = spec.world_text f
+refusal_view (refusal.UnknownName f) = spec.unknown_name f
 refusal_view (refusal.ReadFault f) = spec.read_fault (file_view f)
 refusal_view (refusal.TooLong f) = spec.too_long (file_view f)
 refusal_view refusal.NotForm = spec.not_form

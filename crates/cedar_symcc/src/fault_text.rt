@@ -1,12 +1,14 @@
 //! The faults of files as text.
 ghost use Rattle.std.specs.Prelude.{◌≡◌, ◌++◌, OnOk};
-ghost use Rattle.cedar_symcc.specs.FaultTexts.{placed, named, on_path, fault_text, schema_fault_text};
+ghost use Rattle.cedar_symcc.specs.FaultTexts.{placed, named, on_path, fault_text, schema_fault_text, world_fault_text, kind_name, name_fault_text};
 
 use crate::put::{put, put_number};
 use sc_ast::Place;
 use sc_names::{put_escaped, uid_text};
 use sc_parser::PolicyFault;
 use sc_schema_syntax::SchemaFault;
+use sc_typing::{NameFault, NameKind};
+use sc_world_json::WorldFault;
 use std::alloc::{AllocError, Global};
 
 #[tactic(auto, unfolding(crate::specs::FaultTexts::placed))]
@@ -80,4 +82,39 @@ pub fn put_schema_fault(
         SchemaFault::TypeTooLarge(path) => put_on_path(alloc, out, b"TypeTooLarge", path.as_str()),
         SchemaFault::TooManyEnvironments => put(out, b"TooManyEnvironments"),
     }
+}
+
+/// Puts a fault of a world file at the end: its name, and its path where it has one.
+pub fn put_world_fault(
+    alloc: Global,
+    out: &mut Vec<u8>,
+    fault: &WorldFault,
+) -> Result<(), AllocError>
+    ensures { OnOk result (out.new.items ≡ out.old.items ++ world_fault_text fault.now) }
+{
+    match fault {
+        WorldFault::NotJson => put(out, b"NotJson"),
+        WorldFault::BadWorld(path) => put_on_path(alloc, out, b"BadWorld", path.as_str()),
+    }
+}
+
+fn kind_name(kind: NameKind) -> &'static [u8]
+    ensures { result.now ≡ kind_name kind }
+{
+    match kind {
+        NameKind::UnknownEntityType => b"UnknownEntityType",
+        NameKind::UnknownAction => b"UnknownAction",
+    }
+}
+
+/// Puts a name that isn't declared at the end: the policy that writes it, what it stands for, and
+/// its place.
+#[tactic(auto, unfolding(crate::specs::FaultTexts::name_fault_text))]
+pub fn put_name_fault(out: &mut Vec<u8>, fault: &NameFault) -> Result<(), AllocError>
+    ensures { OnOk result (out.new.items ≡ out.old.items ++ name_fault_text fault.now) }
+{
+    put(out, b"policy")?;
+    put_number(out, fault.policy as u64)?;
+    put(out, b" ")?;
+    put_placed(out, kind_name(fault.kind), fault.place)
 }

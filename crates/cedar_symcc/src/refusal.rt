@@ -1,13 +1,15 @@
 //! The answers other than a report.
 ghost use Rattle.std.specs.Prelude.{◌≡◌, ◌++◌, OnOk, IfOk, codes};
 ghost use Rattle.cedar_symcc.specs.Refusals.{code_of, refusal_text, file_name};
-ghost use Rattle.cedar_symcc.specs.FaultTexts.{fault_text, schema_fault_text};
+ghost use Rattle.cedar_symcc.specs.FaultTexts.{fault_text, schema_fault_text, world_fault_text, name_fault_text};
 ghost use Rattle.cedar_symcc.specs.View.{file_view, refusal_view};
 
-use crate::fault_text::{put_fault, put_schema_fault};
+use crate::fault_text::{put_fault, put_name_fault, put_schema_fault, put_world_fault};
 use crate::put::put;
 use sc_parser::PolicyFault;
 use sc_schema_syntax::SchemaFault;
+use sc_typing::NameFault;
+use sc_world_json::WorldFault;
 use std::alloc::{AllocError, Global};
 
 /// One of the files that a command names.
@@ -17,6 +19,8 @@ pub enum FileName {
     Schema,
     /// The policy file.
     Policies,
+    /// The file with a world.
+    World,
 }
 
 /// An answer other than a report.
@@ -28,11 +32,15 @@ pub enum Refusal {
     SchemaText(SchemaFault),
     /// The policy file spells no policies.
     PolicyText(PolicyFault),
+    /// The world file spells no world.
+    WorldText(WorldFault),
+    /// The policies write a name that the schema doesn't declare.
+    UnknownName(NameFault),
     /// A file couldn't be read.
     ReadFault(FileName),
     /// A file is longer than its limit.
     TooLong(FileName),
-    /// The policy file spells policies that aren't served so far.
+    /// The policy file spells policies of which no question is served so far.
     NotForm,
 }
 
@@ -44,6 +52,8 @@ pub fn code(refusal: &Refusal) -> u8
         Refusal::Usage => 10,
         Refusal::PolicyText(_) => 11,
         Refusal::SchemaText(_) => 12,
+        Refusal::UnknownName(_) => 13,
+        Refusal::WorldText(_) => 17,
         Refusal::ReadFault(_) => 20,
         Refusal::TooLong(_) => 22,
         Refusal::NotForm => 15,
@@ -56,6 +66,7 @@ fn file_name(file: FileName) -> &'static [u8]
     match file {
         FileName::Schema => b"schema",
         FileName::Policies => b"policies",
+        FileName::World => b"world",
     }
 }
 
@@ -83,6 +94,22 @@ fn put_schema_text(alloc: Global, out: &mut Vec<u8>, fault: &SchemaFault) -> Res
     put(out, b"\n")
 }
 
+fn put_world_text(alloc: Global, out: &mut Vec<u8>, fault: &WorldFault) -> Result<(), AllocError>
+    ensures { OnOk result (out.new.items ≡ out.old.items ++ (codes "error 17 " ++ world_fault_text fault.now ++ codes "\n")) }
+{
+    put(out, b"error 17 ")?;
+    put_world_fault(alloc, out, fault)?;
+    put(out, b"\n")
+}
+
+fn put_unknown_name(out: &mut Vec<u8>, fault: &NameFault) -> Result<(), AllocError>
+    ensures { OnOk result (out.new.items ≡ out.old.items ++ (codes "error 13 policies " ++ name_fault_text fault.now ++ codes "\n")) }
+{
+    put(out, b"error 13 policies ")?;
+    put_name_fault(out, fault)?;
+    put(out, b"\n")
+}
+
 fn put_refusal(alloc: Global, out: &mut Vec<u8>, refusal: &Refusal) -> Result<(), AllocError>
     ensures { OnOk result (out.new.items ≡ out.old.items ++ refusal_text (refusal_view refusal.now)) }
 {
@@ -90,6 +117,8 @@ fn put_refusal(alloc: Global, out: &mut Vec<u8>, refusal: &Refusal) -> Result<()
         Refusal::Usage => put(out, b"error 10 usage\n"),
         Refusal::SchemaText(fault) => put_schema_text(alloc, out, fault),
         Refusal::PolicyText(fault) => put_policy_text(out, *fault),
+        Refusal::WorldText(fault) => put_world_text(alloc, out, fault),
+        Refusal::UnknownName(fault) => put_unknown_name(out, fault),
         Refusal::ReadFault(file) => put_error(out, b"error 20 ", *file),
         Refusal::TooLong(file) => put_error(out, b"error 22 ", *file),
         Refusal::NotForm => put(out, b"error 15 policies\n"),

@@ -9,22 +9,11 @@ ghost use Rattle.cedar_symcc.specs.Runs.{asked};
 ghost use Rattle.cedar_symcc.specs.View.{verdict_view, IsPrintable};
 
 use crate::analysing::{EnvAnswer, analyse_env};
+use crate::inputs::Analysis;
 use crate::line::line_of;
-use sc_lists::Text;
 use sc_outside::{Sink, SinkFault};
-use sc_schema::{Env, Schema, environments};
+use sc_schema::{Env, environments};
 use std::alloc::Global;
-
-/// What a command asks of which policies.
-#[derive(Drop)]
-pub struct Inputs {
-    /// The schema.
-    pub schema: Schema,
-    /// The attribute of the context that the one policy reads, where there is a policy.
-    pub attribute: Option<Text>,
-    /// How many units of work each environment may take.
-    pub budget: u64,
-}
 
 fn put_line<O: Sink>(
     alloc: Global,
@@ -45,7 +34,7 @@ fn put_line<O: Sink>(
 /// Analyses an environment and puts out its line. Tells whether that is a counterexample.
 fn report_env<O: Sink>(
     alloc: Global,
-    inputs: &Inputs,
+    inputs: &Analysis,
     env: &Env,
     out: &mut O,
 ) -> Result<bool, SinkFault>
@@ -75,7 +64,7 @@ fn is_counterexample(answer: &EnvAnswer) -> bool
 /// Reports on environments, one after another. Tells whether there is a counterexample.
 fn report_all<O: Sink>(
     alloc: Global,
-    inputs: &Inputs,
+    inputs: &Analysis,
     envs: &[Env],
     out: &mut O,
 ) -> Result<bool, SinkFault>
@@ -121,7 +110,7 @@ fn status_of(found: bool) -> u8
 }
 
 /// Reports on each environment of the schema. Gives the status.
-pub fn report<O: Sink>(alloc: Global, inputs: &Inputs, out: &mut O) -> u8
+pub fn report<O: Sink>(alloc: Global, inputs: &Analysis, out: &mut O) -> u8
     requires served { IsServed inputs.now.schema inputs.now.attribute }
     requires units { 1 ≤ inputs.now.budget }
     ensures { Reported (asked inputs.now.schema inputs.now.attribute) (O.written out.old) (O.written out.new) (Rose (O.faults out.old) (O.faults out.new)) result }

@@ -3,16 +3,20 @@ ghost use Rattle.std.specs.Prelude.{◌≡◌, []};
 ghost use Rattle.sc_outside.specs.Counts.{Rose};
 ghost use Rattle.sc_command.specs.CommandLine.{words_view};
 ghost use Rattle.cedar_symcc.specs.Serving.{Command, Serves};
-ghost use Rattle.cedar_symcc.specs.Runs.{Ends, run_of, Refuses, AllHold, SomeFails, IsReadable, IsWhole, MustBe, TooLong, NotForm, SchemaIsLong, SchemaIsFaulty, PoliciesAreLong, PoliciesAreNot, PoliciesAreFaulty, IsFaulty, IsFaultySchema};
+ghost use Rattle.cedar_symcc.specs.Runs.{Ends, run_of, Refuses, AllWell, SomeFails, IsBroken, IsReadable, IsWhole, IsReplayable, IsReplayed, MustBe, TooLong, NotForm, SchemaIsLong, SchemaIsFaulty, PoliciesAreLong, PoliciesAreNot, PoliciesAreFaulty, WorldIsLong, WorldIsFaulty, NamesAreUnknown, IsFaulty, IsFaultySchema, IsFaultyWorld, HasUnknownName};
 ghost use Rattle.cedar_symcc.specs.View.{refusal_view};
 
+use crate::inputs::Inputs;
 use crate::reading::inputs_of;
 use crate::refusal::{Refusal, code, text_of};
+use crate::replaying::replay;
 use crate::reporting::report;
 use sc_checker::Log;
 use sc_lists::Fault;
 use sc_outside::{Files, Sink, SinkFault};
 use sc_schema_json::spelling_laws;
+use sc_world_breaks::break_laws;
+use sc_world_json::reading_laws;
 use std::alloc::Global;
 
 /// The status of a run, and the logs of the environments that are reported as unknown.
@@ -42,7 +46,8 @@ fn ends<F: Files, O: Sink>(alloc: Global, words: &[String], files: &mut F, out: 
     ensures { Ends (run_of (F.content files.old) (words_view words.now) (Rose (F.faults files.old) (F.faults files.new)) (Rose (O.faults out.old) (O.faults out.new)) (O.written out.old) (O.written out.new) result) }
 {
     match inputs_of(alloc, words, files) {
-        Ok(inputs) => report(alloc, &inputs, out),
+        Ok(Inputs::Asked(analysis)) => report(alloc, &analysis, out),
+        Ok(Inputs::Replayed(scene)) => replay(alloc, &scene, out),
         Err(Fault::Told(refusal)) => refuse(alloc, &refusal, out),
         Err(Fault::NoMemory) => 30,
     }
@@ -55,30 +60,44 @@ pub fn run<F: Files, O: Sink>(alloc: Global, words: &[String], files: &mut F, ou
     // How it ends, whatever comes: what is written, and the status.
     ensures ends { Ends (run_of (F.content files.old) (words_view words.now) (Rose (F.faults files.old) (F.faults files.new)) (Rose (O.faults out.old) (O.faults out.new)) (O.written out.old) (O.written out.new) result.code) }
 
-    // 0 comes only where each environment is reported to hold: each of its well-formed worlds has the property.
-    ensures holds { result.code ≡ 0 → AllHold (run_of (F.content files.old) (words_view words.now) (Rose (F.faults files.old) (F.faults files.new)) (Rose (O.faults out.old) (O.faults out.new)) (O.written out.old) (O.written out.new) result.code) }
+    // 0 comes only where each environment is reported to hold: each of its well-formed worlds has the property; or where a
+    // world is replayed that is well-formed for an environment of the schema.
+    ensures holds { result.code ≡ 0 → AllWell (run_of (F.content files.old) (words_view words.now) (Rose (F.faults files.old) (F.faults files.new)) (Rose (O.faults out.old) (O.faults out.new)) (O.written out.old) (O.written out.new) result.code) }
 
     // 1 comes only where a line prints a counterexample: a well-formed world of its environment that lacks the property.
     ensures counterexample { result.code ≡ 1 → SomeFails (run_of (F.content files.old) (words_view words.now) (Rose (F.faults files.old) (F.faults files.new)) (Rose (O.faults out.old) (O.faults out.new)) (O.written out.old) (O.written out.new) result.code) }
+
+    // 3 comes only where a world is replayed, and its report tells what keeps it from being well-formed, first of all.
+    ensures replayed { result.code ≡ 3 → IsBroken (run_of (F.content files.old) (words_view words.now) (Rose (F.faults files.old) (F.faults files.new)) (Rose (O.faults out.old) (O.faults out.new)) (O.written out.old) (O.written out.new) result.code) }
 
     // Where both files are told, short enough and spelled, and no count of faults rose, a whole report is written or
     // memory ran out.
     ensures complete { IsReadable (run_of (F.content files.old) (words_view words.now) (Rose (F.faults files.old) (F.faults files.new)) (Rose (O.faults out.old) (O.faults out.new)) (O.written out.old) (O.written out.new) result.code) → (Rose (F.faults files.old) (F.faults files.new) → ⊥) → (Rose (O.faults out.old) (O.faults out.new) → ⊥) → IsWhole result.code }
 
+    // Where all files of a replay are so, and the policies write declared names alone, the whole report on the world is
+    // written, and the status says whether the world is well-formed; or memory ran out.
+    ensures complete_replay { (x : IsReplayable (run_of (F.content files.old) (words_view words.now) (Rose (F.faults files.old) (F.faults files.new)) (Rose (O.faults out.old) (O.faults out.new)) (O.written out.old) (O.written out.new) result.code)) → (Rose (F.faults files.old) (F.faults files.new) → ⊥) → (Rose (O.faults out.old) (O.faults out.new) → ⊥) → IsReplayed (run_of (F.content files.old) (words_view words.now) (Rose (F.faults files.old) (F.faults files.new)) (Rose (O.faults out.old) (O.faults out.new)) (O.written out.old) (O.written out.new) result.code) x }
+
     // Words that are no command that is served are refused, and nothing else is refused so.
     ensures unusable { ((c : Command) → Serves (words_view words.now) c → ⊥) → MustBe 10 result.code }
     ensures usage { result.code ≡ 10 → (c : Command) → Serves (words_view words.now) c → ⊥ }
 
-    // Files that are too long or spell nothing are refused, and so are policies that aren't served, where reading didn't fail.
+    // Files that are too long or spell nothing are refused, and so are policies that aren't served or write undeclared names,
+    // where reading didn't fail.
     ensures schema_is_long { SchemaIsLong (run_of (F.content files.old) (words_view words.now) (Rose (F.faults files.old) (F.faults files.new)) (Rose (O.faults out.old) (O.faults out.new)) (O.written out.old) (O.written out.new) result.code) → (Rose (F.faults files.old) (F.faults files.new) → ⊥) → MustBe 22 result.code }
     ensures schema_is_faulty { SchemaIsFaulty (run_of (F.content files.old) (words_view words.now) (Rose (F.faults files.old) (F.faults files.new)) (Rose (O.faults out.old) (O.faults out.new)) (O.written out.old) (O.written out.new) result.code) → (Rose (F.faults files.old) (F.faults files.new) → ⊥) → MustBe 12 result.code }
     ensures policies_are_long { PoliciesAreLong (run_of (F.content files.old) (words_view words.now) (Rose (F.faults files.old) (F.faults files.new)) (Rose (O.faults out.old) (O.faults out.new)) (O.written out.old) (O.written out.new) result.code) → (Rose (F.faults files.old) (F.faults files.new) → ⊥) → MustBe 22 result.code }
     ensures policies_are_not { PoliciesAreNot (run_of (F.content files.old) (words_view words.now) (Rose (F.faults files.old) (F.faults files.new)) (Rose (O.faults out.old) (O.faults out.new)) (O.written out.old) (O.written out.new) result.code) → (Rose (F.faults files.old) (F.faults files.new) → ⊥) → MustBe 15 result.code }
     ensures policies_are_faulty { PoliciesAreFaulty (run_of (F.content files.old) (words_view words.now) (Rose (F.faults files.old) (F.faults files.new)) (Rose (O.faults out.old) (O.faults out.new)) (O.written out.old) (O.written out.new) result.code) → (Rose (F.faults files.old) (F.faults files.new) → ⊥) → MustBe 11 result.code }
+    ensures world_is_long { WorldIsLong (run_of (F.content files.old) (words_view words.now) (Rose (F.faults files.old) (F.faults files.new)) (Rose (O.faults out.old) (O.faults out.new)) (O.written out.old) (O.written out.new) result.code) → (Rose (F.faults files.old) (F.faults files.new) → ⊥) → MustBe 22 result.code }
+    ensures world_is_faulty { WorldIsFaulty (run_of (F.content files.old) (words_view words.now) (Rose (F.faults files.old) (F.faults files.new)) (Rose (O.faults out.old) (O.faults out.new)) (O.written out.old) (O.written out.new) result.code) → (Rose (F.faults files.old) (F.faults files.new) → ⊥) → MustBe 17 result.code }
+    ensures names_are_unknown { NamesAreUnknown (run_of (F.content files.old) (words_view words.now) (Rose (F.faults files.old) (F.faults files.new)) (Rose (O.faults out.old) (O.faults out.new)) (O.written out.old) (O.written out.new) result.code) → (Rose (F.faults files.old) (F.faults files.new) → ⊥) → MustBe 13 result.code }
 
     // The cause of each status.
     ensures schema_fault { result.code ≡ 12 → IsFaultySchema (run_of (F.content files.old) (words_view words.now) (Rose (F.faults files.old) (F.faults files.new)) (Rose (O.faults out.old) (O.faults out.new)) (O.written out.old) (O.written out.new) result.code) }
     ensures policy_fault { result.code ≡ 11 → IsFaulty (run_of (F.content files.old) (words_view words.now) (Rose (F.faults files.old) (F.faults files.new)) (Rose (O.faults out.old) (O.faults out.new)) (O.written out.old) (O.written out.new) result.code) }
+    ensures world_fault { result.code ≡ 17 → IsFaultyWorld (run_of (F.content files.old) (words_view words.now) (Rose (F.faults files.old) (F.faults files.new)) (Rose (O.faults out.old) (O.faults out.new)) (O.written out.old) (O.written out.new) result.code) }
+    ensures name_fault { result.code ≡ 13 → HasUnknownName (run_of (F.content files.old) (words_view words.now) (Rose (F.faults files.old) (F.faults files.new)) (Rose (O.faults out.old) (O.faults out.new)) (O.written out.old) (O.written out.new) result.code) }
     ensures read_fault { result.code ≡ 20 → Rose (F.faults files.old) (F.faults files.new) }
     ensures write_fault { result.code ≡ 21 → Rose (O.faults out.old) (O.faults out.new) }
     ensures too_long { result.code ≡ 22 → TooLong (run_of (F.content files.old) (words_view words.now) (Rose (F.faults files.old) (F.faults files.new)) (Rose (O.faults out.old) (O.faults out.new)) (O.written out.old) (O.written out.new) result.code) }
@@ -88,6 +107,8 @@ pub fn run<F: Files, O: Sink>(alloc: Global, words: &[String], files: &mut F, ou
     ensures none_spent { result.spent.items ≡ [] }
 {
     spelling_laws();
+    reading_laws();
+    break_laws();
     let code = ends(alloc, words, files, out);
     Status {
         code,

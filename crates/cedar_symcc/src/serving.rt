@@ -1,21 +1,31 @@
 //! The commands that are served so far.
-ghost use Rattle.std.specs.Prelude.{◌≡◌, ◌≢◌, ◌≤◌, IfNone, IfOk, IfSome};
+ghost use Rattle.std.specs.Prelude.{◌≡◌, ◌≢◌, IfNone, IfOk, IfSome};
 ghost use Rattle.sc_command.specs.CommandLine.{command_view, words_view};
-ghost use Rattle.cedar_symcc.specs.Serving.{Command as AnyServed, Serves, as_command, served_view};
+ghost use Rattle.cedar_symcc.specs.Serving.{Command as AnyServed, HasUnits, Serves, as_command, served_view};
 
-use sc_command::{Analyse, Command, command_of};
+use sc_command::{Analyse, Command, Replay, command_of};
 use sc_question::Question;
 use std::alloc::{AllocError, Global};
 
-/// The command to ask of one policy file whether it always denies.
+/// What is done with a policy file.
+#[derive(Clone, Copy)]
+pub enum Task<'w> {
+    /// To ask whether the policies always deny. The number says how many units of work each
+    /// environment may take.
+    AlwaysDenies(u64),
+    /// To tell what they do in the world of the file of this name.
+    Replay(&'w str),
+}
+
+/// A command over one policy file.
 #[derive(Clone, Copy)]
 pub struct Served<'w> {
     /// The name of the schema file.
     pub schema: &'w str,
     /// The name of the policy file.
     pub policies: &'w str,
-    /// How many units of work each environment may take.
-    pub budget: u64,
+    /// What is done.
+    pub task: Task<'w>,
 }
 
 /// The command, if it is served.
@@ -35,16 +45,26 @@ fn as_served<'w>(command: &Command<'w>) -> Option<Served<'w>>
         ) => Some(Served {
             schema,
             policies,
-            budget: *budget,
+            task: Task::AlwaysDenies(*budget),
         }),
-        _ => None,
+        Command::Analyse(_) => None,
+        Command::Replay(
+            Replay {
+                schema,
+                policies,
+                world,
+            },
+        ) => Some(Served {
+            schema,
+            policies,
+            task: Task::Replay(*world),
+        }),
     }
 }
 
 /// The command that the words are, if it is served.
 pub fn served_by<'w>(alloc: Global, words: &'w [String]) -> Result<Option<Served<'w>>, AllocError>
     ensures found { IfOk result (λ o. IfSome o (λ s. Serves (words_view words.now) (served_view s))) }
-    ensures units { IfOk result (λ o. IfSome o (λ s. 1 ≤ s.budget)) }
     ensures none { IfOk result (λ o. IfNone o ((c : AnyServed) → Serves (words_view words.now) c → ⊥)) }
 {
     let Some(command) = command_of(alloc, words)? else {

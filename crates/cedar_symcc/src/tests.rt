@@ -7,7 +7,7 @@ use std::test::Fail;
 const COMMAND: &str = "analyse --schema s --policies p --query always-denies --budget 10000";
 
 /// Users view documents; the context has one truth value.
-const SCHEMA: &str =
+pub const SCHEMA: &str =
     r#"{"":{"entityTypes":{"User":{},"Doc":{}},"actions":{"view":{"appliesTo":{"principalTypes":["User"],"resourceTypes":["Doc"],"context":{"type":"Record","attributes":{"mfa":{"type":"Boolean"}}}}}}}}"#;
 
 /// Users and documents view documents.
@@ -29,13 +29,13 @@ const GROUPS: &str =
 const MANY_KINDS: &str =
     r#"{"":{"entityTypes":{"Group":{"memberOfTypes":["Group"]},"User":{"memberOfTypes":["Group"],"shape":{"type":"Record","attributes":{"boss":{"type":"Entity","name":"User"},"age":{"type":"Long"},"nick":{"type":"String","required":false}}}},"Doc":{"shape":{"type":"Record","attributes":{"owner":{"type":"Entity","name":"User"}}}}},"actions":{"view":{"appliesTo":{"principalTypes":["User"],"resourceTypes":["Doc"],"context":{"type":"Record","attributes":{"n":{"type":"Long"},"s":{"type":"Set","element":{"type":"Boolean"}},"t":{"type":"Set","element":{"type":"Boolean"}},"q":{"type":"Set","element":{"type":"Long"}},"name":{"type":"String"},"addr":{"type":"Extension","name":"ipaddr"}}}}}}}}"#;
 
-const PERMIT: &str = "permit(principal, action, resource) when { context.mfa };";
+pub const PERMIT: &str = "permit(principal, action, resource) when { context.mfa };";
 
 const HOLDS: &str = "env User Action::\"view\" Doc: holds";
 
 const USAGE: &str = "error 10 usage";
 
-const OF_USER: &str =
+pub const OF_USER: &str =
     r#"env User Action::"view" Doc: counterexample {"entities":[{"attrs":{},"parents":[],"tags":{},"uid":{"id":"view","type":"Action"}},{"attrs":{},"parents":[],"tags":{},"uid":{"id":"0","type":"Doc"}},{"attrs":{},"parents":[],"tags":{},"uid":{"id":"0","type":"User"}}],"request":{"action":{"id":"view","type":"Action"},"context":{"mfa":true},"principal":{"id":"0","type":"User"},"resource":{"id":"0","type":"Doc"}}}"#;
 
 const OF_TWO_ATTRIBUTES: &str =
@@ -51,7 +51,7 @@ const OF_GROUPS: &str =
     r#"env User Action::"view" Doc: counterexample {"entities":[{"attrs":{},"parents":[],"tags":{},"uid":{"id":"all","type":"Action"}},{"attrs":{},"parents":[{"id":"all","type":"Action"}],"tags":{},"uid":{"id":"view","type":"Action"}},{"attrs":{},"parents":[],"tags":{},"uid":{"id":"0","type":"Doc"}},{"attrs":{"boss":{"__entity":{"id":"","type":"User"}}},"parents":[],"tags":{},"uid":{"id":"","type":"User"}},{"attrs":{"boss":{"__entity":{"id":"","type":"User"}}},"parents":[],"tags":{},"uid":{"id":"0","type":"User"}}],"request":{"action":{"id":"view","type":"Action"},"context":{"mfa":true},"principal":{"id":"0","type":"User"},"resource":{"id":"0","type":"Doc"}}}"#;
 
 /// The words of a line, between its spaces.
-fn words_of(alloc: Global, line: &str) -> Result<Vec<String>, AllocError> {
+pub fn words_of(alloc: Global, line: &str) -> Result<Vec<String>, AllocError> {
     let mut words = Vec::new(alloc);
     for word in line.split(' ') {
         words.push(String::from_str(alloc, word)?)?;
@@ -60,7 +60,7 @@ fn words_of(alloc: Global, line: &str) -> Result<Vec<String>, AllocError> {
 }
 
 /// A schema file `s` and a policy file `p`.
-fn files_of(
+pub fn files_of(
     alloc: Global,
     schema: &[u8],
     policies: &[u8],
@@ -78,7 +78,7 @@ fn files_of(
 }
 
 /// Each line with its newline.
-fn text_of(alloc: Global, lines: &[&str]) -> Result<String, AllocError> {
+pub fn text_of(alloc: Global, lines: &[&str]) -> Result<String, AllocError> {
     let mut text = String::new(alloc);
     for line in lines {
         text.push_str(line)?;
@@ -321,7 +321,6 @@ fn commands_that_are_not_served(rt: HostRuntime) {
         "analyse --schema s --policies p --query always-allows --budget 1",
         "analyse --schema s --policies p --query implies --budget 1",
         "analyse --schema s --policies p --against p --query implies --budget 1",
-        "replay --schema s --policies p --world w",
         "check --schema s --policies p",
     ];
     assert!(rt; all_words_end(rt.alloc(), &words, 10, USAGE));
@@ -355,7 +354,7 @@ fn files_that_cannot_be_read(rt: HostRuntime) -> Result<(), Fail> {
 }
 
 /// A file that begins so, and is filled to this length with one byte.
-fn filled(alloc: Global, front: &[u8], length: usize, byte: u8) -> Result<Vec<u8>, AllocError> {
+pub fn filled(alloc: Global, front: &[u8], length: usize, byte: u8) -> Result<Vec<u8>, AllocError> {
     let mut bytes = Vec::from_slice(alloc, front)?;
     bytes.resize(length, byte)?;
     Ok(bytes)

@@ -46,7 +46,7 @@ neither : (a b : Bool) → a ≡ false → b ≡ false → a || b ≡ false
 neither true b e h = absurd cc
 neither false b e h = h
 
-no_float-integer : (z : ℤ) → is_float (of_integer z) ≡ false
+pub no_float-integer : (z : ℤ) → is_float (of_integer z) ≡ false
 no_float-integer (pos n) = refl
 no_float-integer (negsuc n) = refl
 
@@ -69,7 +69,7 @@ mutual
 
 -- ---- what is printed is a number, and it reads back
 
-number_of-integer : (z : ℤ) → FitsSigned w64 z → number_of (number_text (of_integer z)) ≡ Some (of_integer z)
+pub number_of-integer : (z : ℤ) → FitsSigned w64 z → number_of (number_text (of_integer z)) ≡ Some (of_integer z)
 number_of-integer (pos n) h = number_of-decimal n (omega arith)
 number_of-integer (negsuc n) h = number_of-negative n (omega arith)
 
@@ -78,7 +78,7 @@ IsNumber-integer (pos n) h = IsNumber-decimal n (omega arith)
 IsNumber-integer (negsuc n) h = IsNumber-signed_decimal (negsuc n) (omega arith)
 
 mutual
-  numbers : (d : Data) → IsWhole d → HasNumbers (outline d)
+  pub numbers : (d : Data) → IsWhole d → HasNumbers (outline d)
   numbers null h = tt
   numbers (boolean b) h = tt
   numbers (number n) h = subst (λ m. IsNumber (number_text m)) (sym h.is) (IsNumber-integer h.integer h.in_range)

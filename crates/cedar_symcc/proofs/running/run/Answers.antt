@@ -1,8 +1,8 @@
-use Rattle.cedar_symcc.proofs.RunLaws.{all-hold, some-fails, complete, unusable, no-command, schema-is-long, schema-is-faulty, policies-are-long, policies-are-not, policies-are-faulty, read-rose, write-rose, is-too-long, is-not-form, is-faulty, is-faulty-schema}
+use Rattle.cedar_symcc.proofs.RunLaws.{all-well, some-fails, is-broken, complete, complete-replay, world-is-long, world-is-faulty, names-are-unknown, is-faulty-world, has-unknown-name, unusable, no-command, schema-is-long, schema-is-faulty, policies-are-long, policies-are-not, policies-are-faulty, read-rose, write-rose, is-too-long, is-not-form, is-faulty, is-faulty-schema}
 use Rattle.cedar_symcc.proofs.running.run.Goals as goal
 
 pub returns-clause-holds : goal.returns-clause-holds
-returns-clause-holds g c = all-hold _ c.ends-code.ensures
+returns-clause-holds g c = all-well _ c.break_laws.ensures.nowhere c.reading_laws.ensures.stored c.ends-code.ensures
 
 pub returns-clause-counterexample : goal.returns-clause-counterexample
 returns-clause-counterexample g c = some-fails _ c.ends-code.ensures
@@ -48,3 +48,24 @@ returns-clause-policy_fault g c = is-faulty _ c.ends-code.ensures
 
 pub returns-clause-schema_fault : goal.returns-clause-schema_fault
 returns-clause-schema_fault g c = is-faulty-schema _ c.ends-code.ensures
+
+pub returns-clause-replayed : goal.returns-clause-replayed
+returns-clause-replayed g c = is-broken _ c.ends-code.ensures
+
+pub returns-clause-complete_replay : goal.returns-clause-complete_replay
+returns-clause-complete_replay g c = λ x f h. complete-replay _ c.spelling_laws.ensures c.reading_laws.ensures.settled c.ends-code.ensures x f h
+
+pub returns-clause-world_is_long : goal.returns-clause-world_is_long
+returns-clause-world_is_long g c = λ x f. world-is-long _ c.spelling_laws.ensures c.ends-code.ensures x f
+
+pub returns-clause-world_is_faulty : goal.returns-clause-world_is_faulty
+returns-clause-world_is_faulty g c = λ x f. world-is-faulty _ c.spelling_laws.ensures c.ends-code.ensures x f
+
+pub returns-clause-names_are_unknown : goal.returns-clause-names_are_unknown
+returns-clause-names_are_unknown g c = λ x f. names-are-unknown _ c.spelling_laws.ensures c.reading_laws.ensures.settled c.ends-code.ensures x f
+
+pub returns-clause-world_fault : goal.returns-clause-world_fault
+returns-clause-world_fault g c = is-faulty-world _ c.ends-code.ensures
+
+pub returns-clause-name_fault : goal.returns-clause-name_fault
+returns-clause-name_fault g c = has-unknown-name _ c.ends-code.ensures

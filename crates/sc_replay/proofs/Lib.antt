@@ -1,0 +1,2 @@
+mod BreakLaws
+mod SampleLaws

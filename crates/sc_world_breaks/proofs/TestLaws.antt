@@ -1,0 +1,89 @@
+-- What a test tells: of each element of a list, and of texts and uids that are equal.
+use Rattle.std.proofs.Common.{◌≡◌, ◌↔◌, ◌&&◌, ℕ, List, [], ◌∷◌, length, get_or, Bool, true, false, Result, Ok, Err, is_ok, All, Contains, IsTrue, refl, sym, ap, subst, ◌∙◌}
+use Rattle.std.specs.Cmp.{IsTotalOrder}
+use Rattle.std.specs.List.{AllByRecursion}
+use Rattle.std.specs.List.Sorted.{IsStrictlySortedBy, IsSearchInRange, IsBinarySearchResult}
+use Rattle.std.specs.Str.{bytes_eq}
+use Rattle.std.specs.declared.cmp.Ordering.{Ordering}
+use Rattle.std.specs.declared.cmp.Ordering.TheVariants.{Less, Equal, Greater}
+use Rattle.std.specs.Ordering.{is_eq, eq_by_cmp}
+use Rattle.std.specs.Cmp.Lexicographic.{pointwise}
+use Rattle.std.proofs.lemmas.Cmp.{tied_itself}
+use Rattle.std.proofs.lemmas.List.Elements.{All-from_recursion, recursion_from_All}
+use Rattle.std.proofs.lemmas.Map.Lookups.{CmpEqualImpliesEq}
+use Rattle.std.proofs.lemmas.Slice.Eq.{bytes_eq-Decides}
+use Rattle.sc_names.specs.declared.uid.Uid.{Uid}
+use Rattle.sc_names.specs.contracts.uid.UidPartialEq.TheImpl.{ghosts}
+use Rattle.sc_names.specs.contracts.uid.UidOrd.TheImpl.Laws.{matches_eq-law}
+use Rattle.sc_names.specs.Uids.{uid_cmp}
+use Rattle.sc_names.proofs.UidLaws.{uid_cmp_total, uid_cmp_level}
+use Rattle.sc_schema.proofs.PlaceLaws.{absent}
+use Rattle.sc_world.specs.Tests.{Holds}
+
+pub each_from_all : {X : Type 0} (P : X → Type 0) (xs : List X) → All (Holds P) xs → AllByRecursion P xs
+unfolding Holds
+each_from_all P xs all = recursion_from_All P xs all
+
+pub all_from_each : {X : Type 0} (P : X → Type 0) (xs : List X) → AllByRecursion P xs → All (Holds P) xs
+unfolding Holds
+all_from_each P xs each = All-from_recursion P xs each
+
+pub one_text : (b : Bool) (x y : List ℕ) → b ≡ bytes_eq x y → IsTrue b ↔ x ≡ y
+one_text b x y is = (λ h. (bytes_eq-Decides x y).0 (sym is ∙ h), λ same. is ∙ (bytes_eq-Decides x y).1 same)
+
+level_tested : (o : Ordering) → is_eq o ≡ true → o ≡ Equal
+level_tested Less h = cc
+level_tested Equal h = refl
+level_tested Greater h = cc
+
+pub one_uid : (r : Bool) (o : Ordering) (a b : Uid) → r ≡ is_eq o → o ≡ uid_cmp a b → IsTrue r ↔ a ≡ b
+one_uid r o a b is level = (
+  λ h. uid_cmp_level a b (sym level ∙ level_tested o (sym is ∙ h)),
+  λ same. is ∙ ap is_eq (level ∙ ap (uid_cmp a) (sym same) ∙ tied_itself uid_cmp_total a),
+)
+
+-- the derived `==`
+ties : (a b : Uid) → ghosts.eq a b ≡ eq_by_cmp uid_cmp a b
+ties a b = matches_eq-law a b
+
+same_uid : (a b : Uid) → ghosts.eq a b ≡ true → a ≡ b
+same_uid a b h = uid_cmp_level a b (level_tested (uid_cmp a b) (sym (ties a b) ∙ h))
+
+itself : (a : Uid) → ghosts.eq a a ≡ true
+itself a = ties a a ∙ ap is_eq (tied_itself uid_cmp_total a)
+
+both_true : (a b : Bool) → (a && b) ≡ true → (a ≡ true) × (b ≡ true)
+both_true true b h = (refl, h)
+both_true false b h = cc
+
+same_uids : (xs ys : List Uid) → pointwise ghosts.eq xs ys ≡ true → xs ≡ ys
+same_uids [] [] h = refl
+same_uids [] (y ∷ ys) h = cc
+same_uids (x ∷ xs) [] h = cc
+same_uids (x ∷ xs) (y ∷ ys) h =
+    let parts = both_true (ghosts.eq x y) (pointwise ghosts.eq xs ys) h in
+    let first : x ≡ y = same_uid x y parts.0 in
+    let rest : xs ≡ ys = same_uids xs ys parts.1 in
+    cc
+
+themselves : (xs : List Uid) → pointwise ghosts.eq xs xs ≡ true
+themselves [] = refl
+themselves (x ∷ xs) = ap (λ (b : Bool). b && pointwise ghosts.eq xs xs) (itself x) ∙ themselves xs
+
+pub one_list : (b : Bool) (xs ys : List Uid) → b ≡ pointwise ghosts.eq xs ys → IsTrue b ↔ xs ≡ ys
+one_list b xs ys is = (
+  λ h. same_uids xs ys (sym is ∙ h),
+  λ same. is ∙ ap (pointwise ghosts.eq xs) (sym same) ∙ themselves xs,
+)
+
+-- ---- what a binary search tells
+
+-- the place that was found, or that there is none
+searched : {K : Type 0} {R : K → K → Ordering} (o : IsTotalOrder R) → CmpEqualImpliesEq R → (ks : List K) (k : K) (r : Result ℕ ℕ) → IsStrictlySortedBy R ks → IsSearchInRange r (length ks) → IsBinarySearchResult (λ j. R j k) ks r
+    → IsTrue (is_ok r) ↔ Contains ks k
+searched o level ks k (Ok i) sorted within search = (λ h. (i, within, level (get_or ks i k) k (search k)), λ h. refl)
+searched o level ks k (Err i) sorted within search = (λ h. absurd cc, λ has. absurd (absent o ks k i sorted search has))
+
+pub found_among : {K : Type 0} {R : K → K → Ordering} (o : IsTotalOrder R) → CmpEqualImpliesEq R → (ks : List K) (k : K) (r : Result ℕ ℕ) (b : Bool) → b ≡ is_ok r → IsStrictlySortedBy R ks
+    → IsSearchInRange r (length ks) → IsBinarySearchResult (λ j. R j k) ks r → IsTrue b ↔ Contains ks k
+found_among o level ks k r b is sorted within search = subst (λ c. IsTrue c ↔ Contains ks k) (sym is) (searched o level ks k r sorted within search)
