@@ -28,7 +28,7 @@ use Rattle.sc_values.specs.Records.{field}
 use Rattle.sc_values.proofs.OutLaws.{out_Bool, out_Record}
 use Rattle.sc_world.specs.declared.world.World.{World}
 use Rattle.sc_world.specs.WellFormed.{IsWellFormed}
-use Rattle.cedar_symcc.specs.Policies.{at, policy_on, policies_of, goal_for, IsServed}
+use Rattle.sc_inputs.specs.Policies.{at, policy_on, policies_of, goal_for, IsServed}
 use Rattle.cedar_symcc.specs.Reports.{written_uids, IsWorldOf, AlwaysHas, Violates}
 use Rattle.cedar_symcc.specs.Runs.{asked}
 

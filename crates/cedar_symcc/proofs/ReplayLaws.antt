@@ -8,7 +8,7 @@ use Rattle.sc_replay.specs.Reports.{status_of}
 use Rattle.sc_world_breaks.specs.declared.breaks.Break.{Break}
 use Rattle.cedar_symcc.proofs.ReportLaws.{appended-twice, append-nil, appended-nothing}
 use Rattle.cedar_symcc.specs.Replays.{Finds, Replayed, told_whole, told_front, told_first, CutLines, FirstLines, PutsLines, lines_of, text_of}
-use Rattle.cedar_symcc.specs.declared.inputs.Scene.{Scene}
+use Rattle.sc_inputs.specs.declared.inputs.Scene.{Scene}
 
 text_of-push : (lines : List (List ℕ)) (line : List ℕ) → text_of (lines ++ line ∷ []) ≡ text_of lines ++ line
 text_of-push [] line = append-nil line

@@ -12,7 +12,9 @@ use Rattle.sc_names.specs.declared.uid.Uid.{Uid}
 use Rattle.sc_parser.specs.declared.fault.PolicyFault.{PolicyFault}
 use Rattle.sc_parser.specs.Spelling.{Spells, HasFault, spelled, faulty}
 use Rattle.sc_parser.proofs.ReadingLaws.{one_reading}
+use Rattle.sc_typing.specs.declared.ill_typed.IllTyped.{IllTyped}
 use Rattle.sc_typing.specs.declared.name_fault.NameFault.{NameFault}
+use Rattle.sc_typing.specs.Checking.{type_fault}
 use Rattle.sc_typing.specs.Names.{name_fault}
 use Rattle.sc_world.specs.declared.world.World.{World}
 use Rattle.sc_world.specs.Stores.{IsMap}
@@ -20,14 +22,15 @@ use Rattle.sc_world.specs.WellFormed.{IsWellFormed}
 use Rattle.sc_world_breaks.specs.Breaks.{IsFirstBreak}
 use Rattle.sc_world_breaks.specs.declared.breaks.Break.{Break}
 use Rattle.sc_world_json.specs.Reading as world
-use Rattle.cedar_symcc.specs.Serving.{Command, Serves, asking}
-use Rattle.cedar_symcc.proofs.ServingLaws.{same_policies, same_schema, same_task, not_both_tasks, one_world_file}
-use Rattle.cedar_symcc.specs.Policies.{SpellsPolicies, policies_of}
+use Rattle.sc_inputs.specs.Serving.{Command, Serves, asking}
+use Rattle.sc_inputs.proofs.ServingLaws.{same_policies, same_schema, same_task, not_both_tasks, one_world_file}
+use Rattle.sc_inputs.specs.Policies.{SpellsPolicies, policies_of}
+use Rattle.sc_inputs.specs.Readings.{ReadsAll, ReadsWorld}
 use Rattle.cedar_symcc.specs.Progress.{Reported, whole, cut, cut_none, stopped}
 use Rattle.cedar_symcc.specs.Replays.{Replayed, told_whole, told_front, told_first, untold}
-use Rattle.cedar_symcc.specs.Refusals.{Refusal, usage, schema_text, policy_text, world_text, unknown_name, read_fault, too_long, not_form, IsRefusal, no_command, of_schema, of_policies, of_world, of_names, unread, long, RefusesSchema, schema_unread, schema_faulty, RefusesPolicies, policies_unread, policies_faulty, policies_other, RefusesWorld, world_unread, world_faulty, code_of, Content, IsContent, IsTooLong, ReadsSchema, HasPolicies, HasWorld, ReachesWorld, limit}
+use Rattle.sc_inputs.specs.Refusals.{Refusal, usage, schema_text, policy_text, world_text, unknown_name, ill_typed, read_fault, too_long, not_form, IsRefusal, no_command, of_schema, of_policies, of_world, of_names, of_types, of_form, unread, long, RefusesSchema, schema_unread, schema_faulty, RefusesPolicies, policies_unread, policies_faulty, RefusesWorld, world_unread, world_faulty, code_of, Content, IsContent, IsTooLong, ReadsSchema, HasPolicies, HasWorld, ReachesQuestion, ReachesWorld, ReachesNames, to_ask, to_replay, AreOthers, limit}
 use Rattle.cedar_symcc.specs.Reports.{Asked, Line, Verdict, holds, counterexample, IsLine, AlwaysHas, Violates, is_counterexample, status_of}
-use Rattle.cedar_symcc.specs.Runs.{Run, Ends, refused, refusal_cut, reported, replayed, no_memory, asked, scene, ReadsAll, ReadsWorld, Refuses, AllHold, Tells, IsWell, AllWell, SomeFails, IsBroken, IsReadable, IsWhole, MustBe, TooLong, schema_long, policies_long, world_long, NotForm, SchemaTold, PoliciesTold, WorldTold, WorldSpelled, SchemaIsLong, SchemaIsFaulty, PoliciesAreLong, PoliciesAreNot, PoliciesAreFaulty, WorldIsLong, WorldIsFaulty, NamesAreUnknown, IsReplayable, IsReplayed, IsFaulty, IsFaultySchema, IsFaultyWorld, HasUnknownName}
+use Rattle.cedar_symcc.specs.Runs.{Run, Ends, refused, refusal_cut, reported, replayed, no_memory, asked, scene, Refuses, AllHold, Tells, IsWell, AllWell, AsksQuestion, ReplaysWorld, SomeFails, IsBroken, IsReadable, IsWhole, MustBe, TooLong, schema_long, policies_long, world_long, NotForm, SchemaTold, PoliciesTold, WorldTold, WorldSpelled, QuestionSpelled, SchemaIsLong, SchemaIsFaulty, PoliciesAreLong, PoliciesAreNot, PoliciesAreFaulty, WorldIsLong, WorldIsFaulty, NamesAreUnknown, PoliciesAreUntyped, IsReplayable, IsReplayed, IsFaulty, IsFaultySchema, IsFaultyWorld, IsUntyped}
 
 pub refusal-ends : (r : Run) (a : Refusal) → IsRefusal r.content r.words r.read_rose a → Refuses a r.before r.after r.write_rose r.code → Ends r
 refusal-ends r a h e = ⊎_elim (λ w. refused a h w.0 w.1) (λ s. ⊎_elim (λ f. refusal_cut a f.2.0 h f.0 f.1 f.2.1) (λ m. no_memory m.0 m.1) s) e
@@ -67,6 +70,7 @@ refusal-code (schema_text f) = record { least = omega arith; most = omega arith;
 refusal-code (policy_text f) = record { least = omega arith; most = omega arith; no_write = λ e. absurd (omega (arith, e)) }
 refusal-code (world_text f) = record { least = omega arith; most = omega arith; no_write = λ e. absurd (omega (arith, e)) }
 refusal-code (unknown_name f) = record { least = omega arith; most = omega arith; no_write = λ e. absurd (omega (arith, e)) }
+refusal-code (ill_typed f) = record { least = omega arith; most = omega arith; no_write = λ e. absurd (omega (arith, e)) }
 refusal-code (read_fault f) = record { least = omega arith; most = omega arith; no_write = λ e. absurd (omega (arith, e)) }
 refusal-code (too_long f) = record { least = omega arith; most = omega arith; no_write = λ e. absurd (omega (arith, e)) }
 refusal-code not_form = record { least = omega arith; most = omega arith; no_write = λ e. absurd (omega (arith, e)) }
@@ -159,6 +163,20 @@ module _ (r : Run) where
   all-well nowhere stored (replayed s ps w reads report) e = inr (is-well nowhere stored (well-replayed s ps w reads report e))
   all-well nowhere stored (no_memory c t) e = absurd (omega (arith, c, e))
 
+  not-replayed : AsksQuestion r → IsWell r → ⊥
+  not-replayed x w =
+      let reaches = w.told.reads.reaches in
+      not_both_tasks x.command.task x.budget w.told.reads.name x.task (same_task r.words x.command reaches.command x.commands reaches.commands ∙ reaches.task)
+
+  not-asked : ReplaysWorld r → AllHold r → ⊥
+  not-asked x h = not_both_tasks h.reads.command.task h.reads.budget x.name h.reads.task (same_task r.words h.reads.command x.command h.reads.commands x.commands ∙ x.task)
+
+  pub all-hold : Nowhere → Stored → Ends r → AsksQuestion r → r.code ≡ 0 → AllHold r
+  all-hold nowhere stored ends x e = ⊎_elim (λ (h : AllHold r). h) (λ (w : IsWell r). absurd (not-replayed x w)) (all-well nowhere stored ends e)
+
+  pub well-formed : Nowhere → Stored → Ends r → ReplaysWorld r → r.code ≡ 0 → IsWell r
+  well-formed nowhere stored ends x e = ⊎_elim (λ (h : AllHold r). absurd (not-asked x h)) (λ (w : IsWell r). w) (all-well nowhere stored ends e)
+
   broken-replayed : (s : Declarations) (ps : List Policy) (w : World) → ReadsWorld r.content r.words s ps w → Replayed (scene s ps w) r.before r.after r.write_rose r.code → r.code ≡ 3 → IsBroken r
   broken-replayed s ps w reads (told_whole None finds c text) e = absurd (omega (arith, c, e))
   broken-replayed s ps w reads (told_whole (Some b) finds c text) e = (b, record { schema = s; policies = ps; world = w; reads = reads; first = finds; text = text })
@@ -247,7 +265,8 @@ CauseOf r usage = (c : Command) → Serves r.words c → ⊥
 CauseOf r (schema_text f) = IsFaultySchema r
 CauseOf r (policy_text f) = IsFaulty r
 CauseOf r (world_text f) = IsFaultyWorld r
-CauseOf r (unknown_name f) = HasUnknownName r
+CauseOf r (unknown_name f) = IsUntyped r
+CauseOf r (ill_typed f) = IsUntyped r
 CauseOf r (read_fault f) = r.read_rose
 CauseOf r (too_long f) = TooLong r
 CauseOf r not_form = NotForm r
@@ -257,12 +276,10 @@ schema-cause r c h _ (schema_unread _ (unread rose)) = rose
 schema-cause r c h _ (schema_unread _ (long is)) = schema_long c h is
 schema-cause r c h _ (schema_faulty f bytes is has) = record { command = c; commands = h; bytes = bytes; told = is; fault = f; has = has }
 
-policies-cause : (r : Run) (c : Command) (s : Declarations) → Serves r.words c → ReadsSchema r.content c s → (a : Refusal) → RefusesPolicies r.content c.policies c.task r.read_rose s a → CauseOf r a
+policies-cause : (r : Run) (c : Command) (s : Declarations) → Serves r.words c → ReadsSchema r.content c s → (a : Refusal) → RefusesPolicies r.content c.policies r.read_rose a → CauseOf r a
 policies-cause r c s h reads _ (policies_unread _ (unread rose)) = rose
 policies-cause r c s h reads _ (policies_unread _ (long is)) = policies_long c h s reads is
 policies-cause r c s h reads _ (policies_faulty f bytes is has) = record { command = c; commands = h; schema = s; reads = reads; bytes = bytes; told = is; fault = f; has = has }
-policies-cause r c s h reads _ (policies_other budget bytes task is others) =
-    record { command = c; commands = h; budget = budget; task = task; schema = s; reads = reads; bytes = bytes; told = is; others = others }
 
 world-cause : (r : Run) (s : Declarations) (ps : List Policy) (name : List ℕ) → ReachesWorld r.content r.words s ps name → (a : Refusal) → RefusesWorld r.content name r.read_rose a → CauseOf r a
 world-cause r s ps name reaches _ (world_unread _ (unread rose)) = rose
@@ -274,7 +291,9 @@ cause-of r _ (no_command none) = none
 cause-of r _ (of_schema a c h i) = schema-cause r c h a i
 cause-of r _ (of_policies a c s h reads i) = policies-cause r c s h reads a i
 cause-of r _ (of_world a s ps name reaches i) = world-cause r s ps name reaches a i
-cause-of r _ (of_names f s ps name w reaches has is) = record { schema = s; policies = ps; name = name; reaches = reaches; world = w; spelled = has; fault = f; first = is }
+cause-of r _ (of_names f s ps reaches is) = inl (record { schema = s; policies = ps; reaches = reaches; fault = f; first = is })
+cause-of r _ (of_types f s ps reaches declared is) = inr (record { schema = s; policies = ps; reaches = reaches; declared = declared; fault = f; first = is })
+cause-of r _ (of_form s ps reaches is) = record { schema = s; policies = ps; reaches = reaches; others = is }
 
 -- what a status tells of the run, where it is that of a refusal
 abbrev either : Bool → Type 0 → Type 0 → Type 0
@@ -287,7 +306,7 @@ Cause r n =
     (either (n == 12) (IsFaultySchema r)
     (either (n == 11) (IsFaulty r)
     (either (n == 17) (IsFaultyWorld r)
-    (either (n == 13) (HasUnknownName r)
+    (either (n == 13) (IsUntyped r)
     (either (n == 20) r.read_rose
     (either (n == 22) (TooLong r)
     (either (n == 15) (NotForm r) ⊤)))))))
@@ -298,6 +317,7 @@ cause-at r (schema_text f) h = h
 cause-at r (policy_text f) h = h
 cause-at r (world_text f) h = h
 cause-at r (unknown_name f) h = h
+cause-at r (ill_typed f) h = h
 cause-at r (read_fault f) h = h
 cause-at r (too_long f) h = h
 cause-at r not_form h = h
@@ -326,8 +346,8 @@ is-faulty-schema r ends e = told-by r 12 ends e (omega arith) (λ h. omega (arit
 pub is-faulty-world : (r : Run) → Ends r → r.code ≡ 17 → IsFaultyWorld r
 is-faulty-world r ends e = told-by r 17 ends e (omega arith) (λ h. omega (arith, h)) (λ h. omega (arith, h))
 
-pub has-unknown-name : (r : Run) → Ends r → r.code ≡ 13 → HasUnknownName r
-has-unknown-name r ends e = told-by r 13 ends e (omega arith) (λ h. omega (arith, h)) (λ h. omega (arith, h))
+pub is-untyped : (r : Run) → Ends r → r.code ≡ 13 → IsUntyped r
+is-untyped r ends e = told-by r 13 ends e (omega arith) (λ h. omega (arith, h)) (λ h. omega (arith, h))
 
 reported-rose : (q : Asked) (old new : Option (List ℕ)) (rose : Type 0) (code : ℕ) → Reported q old new rose code → code ≡ 21 → rose
 reported-rose q old new rose code (whole lines report c text) e = absurd (⊎_elim (λ (h : code ≡ 0). omega (arith, h, e)) (λ (h : code ≡ 1). omega (arith, h, e)) (status-code lines code c))
@@ -371,13 +391,36 @@ policies-spelled content name b ps at h = subst (λ bytes. Spells bytes ps) (con
 world-spelled : (content : Content) (name b : List ℕ) (w : World) → content name ≡ Some b → HasWorld content name w → world.SpellsWorld b w
 world-spelled content name b w at h = subst (λ bytes. world.SpellsWorld bytes w) (content-is content name b h.bytes at h.told).0 h.spelled
 
+-- a schema and policies that the words and the files give
+record Reaches (content : Content) (words : List (List ℕ)) (s : Declarations) (ps : List Policy) : Type 0 where
+  pub command : Command
+  pub commands : Serves words command
+  pub schema : ReadsSchema content command s
+  pub policies : HasPolicies content command.policies ps
+
+reach-question : (content : Content) (words : List (List ℕ)) (s : Declarations) (ps : List Policy) → ReachesQuestion content words s ps → Reaches content words s ps
+reach-question content words s ps x = record { command = x.command; commands = x.commands; schema = x.schema; policies = x.policies }
+
+reach-names : (content : Content) (words : List (List ℕ)) (s : Declarations) (ps : List Policy) → ReachesNames content words s ps → Reaches content words s ps
+reach-names content words s ps (to_ask x) = reach-question content words s ps x
+reach-names content words s ps (to_replay name w x has) = record { command = x.command; commands = x.commands; schema = x.schema; policies = x.policies }
+
+reach-world : (content : Content) (words : List (List ℕ)) (s : Declarations) (ps : List Policy) (name : List ℕ) → ReachesWorld content words s ps name → Reaches content words s ps
+reach-world content words s ps name x = record { command = x.command; commands = x.commands; schema = x.schema; policies = x.policies }
+
+reach-all : (content : Content) (words : List (List ℕ)) (s : Declarations) (o : Option (List ℕ)) → ReadsAll content words s o → Reaches content words s (policies_of o)
+reach-all content words s o x =
+    record { command = x.command; commands = x.commands; schema = x.schema; policies = record { bytes = x.policies.bytes; told = x.policies.told; spelled = x.policies.spelled.spelled } }
+
 -- a run must end with a status, where each refusal that may come has it, and no report comes
 record Only (r : Run) (n : ℕ) : Type 0 where
   pub words : ((c : Command) → Serves r.words c → ⊥) → 10 ≡ n
   pub schema : (a : Refusal) (c : Command) → Serves r.words c → RefusesSchema r.content c r.read_rose a → code_of a ≡ n
-  pub policies : (a : Refusal) (c : Command) (s : Declarations) → Serves r.words c → ReadsSchema r.content c s → RefusesPolicies r.content c.policies c.task r.read_rose s a → code_of a ≡ n
+  pub policies : (a : Refusal) (c : Command) (s : Declarations) → Serves r.words c → ReadsSchema r.content c s → RefusesPolicies r.content c.policies r.read_rose a → code_of a ≡ n
   pub world : (a : Refusal) (s : Declarations) (ps : List Policy) (name : List ℕ) → ReachesWorld r.content r.words s ps name → RefusesWorld r.content name r.read_rose a → code_of a ≡ n
-  pub names : (f : NameFault) (s : Declarations) (ps : List Policy) (name : List ℕ) (w : World) → ReachesWorld r.content r.words s ps name → HasWorld r.content name w → name_fault s ps ≡ Some f → 13 ≡ n
+  pub names : (f : NameFault) (s : Declarations) (ps : List Policy) → ReachesNames r.content r.words s ps → name_fault s ps ≡ Some f → 13 ≡ n
+  pub types : (f : IllTyped) (s : Declarations) (ps : List Policy) → ReachesQuestion r.content r.words s ps → name_fault s ps ≡ None → type_fault s ps ≡ Some f → 13 ≡ n
+  pub form : (s : Declarations) (ps : List Policy) (reaches : ReachesQuestion r.content r.words s ps) → AreOthers s reaches.policies.bytes ps → 15 ≡ n
   pub report : (s : Declarations) (o : Option (List ℕ)) → ReadsAll r.content r.words s o → ⊥
   pub replay : (s : Declarations) (ps : List Policy) (w : World) → ReadsWorld r.content r.words s ps w → ⊥
 
@@ -393,7 +436,9 @@ module _ (r : Run) where
   refused-as n x _ (of_schema a c h i) = x.schema a c h i
   refused-as n x _ (of_policies a c s h reads i) = x.policies a c s h reads i
   refused-as n x _ (of_world a s ps name reaches i) = x.world a s ps name reaches i
-  refused-as n x _ (of_names f s ps name w reaches has is) = x.names f s ps name w reaches has is
+  refused-as n x _ (of_names f s ps reaches is) = x.names f s ps reaches is
+  refused-as n x _ (of_types f s ps reaches declared is) = x.types f s ps reaches declared is
+  refused-as n x _ (of_form s ps reaches is) = x.form s ps reaches is
 
   must-be : (n : ℕ) → Ends r → Only r n → MustBe n r.code
   must-be n (refused a h c t) x = inl (c ∙ refused-as n x a h)
@@ -408,7 +453,9 @@ module _ (r : Run) where
     schema = λ a c h i. absurd (none c h);
     policies = λ a c s h reads i. absurd (none c h);
     world = λ a s ps name reaches i. absurd (none reaches.command reaches.commands);
-    names = λ f s ps name w reaches has is. absurd (none reaches.command reaches.commands);
+    names = λ f s ps reaches is. let x = reach-names r.content r.words s ps reaches in absurd (none x.command x.commands);
+    types = λ f s ps reaches declared is. absurd (none reaches.command reaches.commands);
+    form = λ s ps reaches is. absurd (none reaches.command reaches.commands);
     report = λ s o reads. none reads.command reads.commands;
     replay = λ s ps w reads. none reads.reaches.command reads.reaches.commands;
   })
@@ -423,7 +470,9 @@ module _ (r : Run) where
     schema = refuses;
     policies = λ a c s h reads i. absurd (unread_schema c h s reads);
     world = λ a s ps name reaches i. absurd (unread_schema reaches.command reaches.commands s reaches.schema);
-    names = λ f s ps name w reaches has is. absurd (unread_schema reaches.command reaches.commands s reaches.schema);
+    names = λ f s ps reaches is. let x = reach-names r.content r.words s ps reaches in absurd (unread_schema x.command x.commands s x.schema);
+    types = λ f s ps reaches declared is. absurd (unread_schema reaches.command reaches.commands s reaches.schema);
+    form = λ s ps reaches is. absurd (unread_schema reaches.command reaches.commands s reaches.schema);
     report = λ s o reads. unread_schema reads.command reads.commands s reads.schema;
     replay = λ s ps w reads. unread_schema reads.reaches.command reads.reaches.commands s reads.reaches.schema;
   }
@@ -479,22 +528,23 @@ module _ (r : Run) where
     -- where no policies are read, what comes is what the policy file is refused for
     at-policies : (n : ℕ) (t : PoliciesTold r) → (r.read_rose → ⊥)
         → ((c : Command) → Serves r.words c → (bytes : List ℕ) → IsContent r.content c.policies bytes → (ps : List Policy) → Spells bytes ps → ⊥)
-        → ((a : Refusal) (c : Command) (s : Declarations) → Serves r.words c → ReadsSchema r.content c s → RefusesPolicies r.content c.policies c.task r.read_rose s a → code_of a ≡ n) → Only r n
+        → ((a : Refusal) (c : Command) (s : Declarations) → Serves r.words c → ReadsSchema r.content c s → RefusesPolicies r.content c.policies r.read_rose a → code_of a ≡ n) → Only r n
     at-policies n t calm unread_policies refuses = record {
       words = λ none. absurd (none t.command t.commands);
       schema = λ a c h i. absurd (schema-read t calm a c h i);
       policies = refuses;
       world = λ a s ps name reaches i. absurd (unread_policies reaches.command reaches.commands reaches.policies.bytes reaches.policies.told ps reaches.policies.spelled);
-      names = λ f s ps name w reaches has is. absurd (unread_policies reaches.command reaches.commands reaches.policies.bytes reaches.policies.told ps reaches.policies.spelled);
+      names = λ f s ps reaches is. let x = reach-names r.content r.words s ps reaches in absurd (unread_policies x.command x.commands x.policies.bytes x.policies.told ps x.policies.spelled);
+      types = λ f s ps reaches declared is. absurd (unread_policies reaches.command reaches.commands reaches.policies.bytes reaches.policies.told ps reaches.policies.spelled);
+      form = λ s ps reaches is. absurd (unread_policies reaches.command reaches.commands reaches.policies.bytes reaches.policies.told ps reaches.policies.spelled);
       report = λ s o reads. unread_policies reads.command reads.commands reads.policies.bytes reads.policies.told (policies_of o) reads.policies.spelled.spelled;
       replay = λ s ps w reads. unread_policies reads.reaches.command reads.reaches.commands reads.reaches.policies.bytes reads.reaches.policies.told ps reads.reaches.policies.spelled;
     }
 
-    policies-long-case : (t : PoliciesTold r) → limit < length t.bytes → (r.read_rose → ⊥) → (a : Refusal) (c : Command) (s : Declarations) → Serves r.words c → ReadsSchema r.content c s → RefusesPolicies r.content c.policies c.task r.read_rose s a → code_of a ≡ 22
+    policies-long-case : (t : PoliciesTold r) → limit < length t.bytes → (r.read_rose → ⊥) → (a : Refusal) (c : Command) (s : Declarations) → Serves r.words c → ReadsSchema r.content c s → RefusesPolicies r.content c.policies r.read_rose a → code_of a ≡ 22
     policies-long-case t far calm _ c s h reads (policies_unread _ (unread rose)) = absurd (calm rose)
     policies-long-case t far calm _ c s h reads (policies_unread _ (long is)) = refl
     policies-long-case t far calm _ c s h reads (policies_faulty f bytes is has) = absurd (omega (arith, far, (policies-content t c h bytes is).1))
-    policies-long-case t far calm _ c s h reads (policies_other budget bytes task is others) = absurd (omega (arith, far, (policies-content t c h bytes is).1))
 
     pub policies-are-long : Ends r → PoliciesAreLong r → (r.read_rose → ⊥) → MustBe 22 r.code
     policies-are-long ends x calm =
@@ -503,44 +553,95 @@ module _ (r : Run) where
     unspelled : (x : PoliciesAreFaulty r) → (c : Command) → Serves r.words c → (bytes : List ℕ) → IsContent r.content c.policies bytes → (ps : List Policy) → Spells bytes ps → ⊥
     unspelled x c h bytes is ps spells = x.2 ps (subst (λ b. Spells b ps) (policies-content x.0 c h bytes is).0 spells)
 
-    faulty-case : (x : PoliciesAreFaulty r) → (r.read_rose → ⊥) → (a : Refusal) (c : Command) (s : Declarations) → Serves r.words c → ReadsSchema r.content c s → RefusesPolicies r.content c.policies c.task r.read_rose s a → code_of a ≡ 11
+    faulty-case : (x : PoliciesAreFaulty r) → (r.read_rose → ⊥) → (a : Refusal) (c : Command) (s : Declarations) → Serves r.words c → ReadsSchema r.content c s → RefusesPolicies r.content c.policies r.read_rose a → code_of a ≡ 11
     faulty-case x calm _ c s h reads (policies_unread _ (unread rose)) = absurd (calm rose)
     faulty-case x calm _ c s h reads (policies_unread _ (long is)) = absurd (no-long-policies x.0 x.1 c h is)
     faulty-case x calm _ c s h reads (policies_faulty f bytes is has) = refl
-    faulty-case x calm _ c s h reads (policies_other budget bytes task is others) = absurd (unspelled x c h bytes is others.policies others.spelled)
 
     pub policies-are-faulty : Ends r → PoliciesAreFaulty r → (r.read_rose → ⊥) → MustBe 11 r.code
     policies-are-faulty ends x calm = must-be 11 ends (at-policies 11 x.0 calm (unspelled x) (faulty-case x calm))
 
-    -- ---- policies of another form
+    -- ---- a policy file that spells policies
 
-    others-case : (x : PoliciesAreNot r) → (r.read_rose → ⊥) → (a : Refusal) (c : Command) (s : Declarations) → Serves r.words c → ReadsSchema r.content c s → RefusesPolicies r.content c.policies c.task r.read_rose s a → code_of a ≡ 15
-    others-case x calm _ c s h reads (policies_unread _ (unread rose)) = absurd (calm rose)
-    others-case x calm _ c s h reads (policies_unread _ (long is)) = absurd (no-long-policies x.0 x.1 c h is)
-    others-case x calm _ c s h reads (policies_faulty f bytes is has) =
-        absurd (not-both x.2.spelled (subst (λ b. HasFault b f) (policies-content x.0 c h bytes is).0 has))
-    others-case x calm _ c s h reads (policies_other budget bytes task is others) = refl
+    -- it isn't refused
+    policies-read : (t : PoliciesTold r) → length t.bytes ≤ limit → (ps : List Policy) → Spells t.bytes ps → (r.read_rose → ⊥) → (a : Refusal) (c : Command) → Serves r.words c → RefusesPolicies r.content c.policies r.read_rose a → ⊥
+    policies-read t short ps spells calm _ c h (policies_unread _ (unread rose)) = calm rose
+    policies-read t short ps spells calm _ c h (policies_unread _ (long is)) = no-long-policies t short c h is
+    policies-read t short ps spells calm _ c h (policies_faulty f bytes is has) = not-both spells (subst (λ b. HasFault b f) (policies-content t c h bytes is).0 has)
 
-    policies-unread : (x : PoliciesAreNot r) → (s : Declarations) (o : Option (List ℕ)) → ReadsAll r.content r.words s o → ⊥
-    policies-unread x s o reads =
-        let same = one-schema x.0 reads.command reads.commands s reads.schema in
-        let bytes = (policies-content x.0 reads.command reads.commands reads.policies.bytes reads.policies.told).0 in
-        x.2.none o (subst (λ b. SpellsPolicies x.0.schema b o) bytes (subst (λ d. SpellsPolicies d reads.policies.bytes o) same reads.policies.spelled))
+    one-policies : (t : PoliciesTold r) (qs : List Policy) → Spells t.bytes qs → (c : Command) → Serves r.words c → (ps : List Policy) → HasPolicies r.content c.policies ps → ps ≡ qs
+    one-policies t qs spells c h ps has = same-policies (policies-spelled r.content c.policies t.bytes ps (policies-at c t.command t.bytes t.commands t.told h) has) spells
 
-    -- no world is replayed where the words are a command to ask
-    no-replay : (d : Command) → Serves r.words d → (budget : ℕ) → d.task ≡ asking budget → (s : Declarations) (ps : List Policy) (name : List ℕ) → ReachesWorld r.content r.words s ps name → ⊥
-    no-replay d k budget task s ps name reaches = not_both_tasks d.task budget name task (same_task r.words d reaches.command k reaches.commands ∙ reaches.task)
+    -- what is found in the policies that are reached, under their schema, is found in these
+    found-in : {X : Type 0} (t : PoliciesTold r) (qs : List Policy) → Spells t.bytes qs → (find : Declarations → List Policy → Option X) (o : Option X) (s : Declarations) (ps : List Policy) → Reaches r.content r.words s ps → find s ps ≡ o → find t.schema qs ≡ o
+    found-in t qs spells find o s ps x e =
+        subst (λ d. find d qs ≡ o) (one-schema t x.command x.commands s x.schema) (subst (λ us. find s us ≡ o) (one-policies t qs spells x.command x.commands ps x.policies) e)
+
+    -- ---- policies of which a question is asked
+
+    question-read : (t : QuestionSpelled r) → (r.read_rose → ⊥) → (a : Refusal) (c : Command) → Serves r.words c → RefusesPolicies r.content c.policies r.read_rose a → ⊥
+    question-read t calm a c h i = policies-read t.before t.short t.policies t.spelled calm a c h i
+
+    -- no world is replayed
+    no-replay : (t : QuestionSpelled r) → (s : Declarations) (ps : List Policy) (name : List ℕ) → ReachesWorld r.content r.words s ps name → ⊥
+    no-replay t s ps name reaches =
+        not_both_tasks t.before.command.task t.budget name t.task (same_task r.words t.before.command reaches.command t.before.commands reaches.commands ∙ reaches.task)
+
+    -- what is found in the policies that are reached is found in those of the question
+    question-has : {X : Type 0} (t : QuestionSpelled r) (find : Declarations → List Policy → Option X) (o : Option X) (s : Declarations) (ps : List Policy) → Reaches r.content r.words s ps → find s ps ≡ o → find t.before.schema t.policies ≡ o
+    question-has t find o s ps x e = found-in t.before t.policies t.spelled find o s ps x e
+
+    -- it isn't found where these have none
+    has-none : {X : Type 0} (t : QuestionSpelled r) (find : Declarations → List Policy → Option X) (f : X) (s : Declarations) (ps : List Policy) → find t.before.schema t.policies ≡ None → Reaches r.content r.words s ps → find s ps ≡ Some f → ⊥
+    has-none t find f s ps none x e = let some = question-has t find (Some f) s ps x e in absurd cc
+
+    -- and it is found where these have one
+    has-some : {X : Type 0} (t : QuestionSpelled r) (find : Declarations → List Policy → Option X) (f : X) (s : Declarations) (ps : List Policy) → find t.before.schema t.policies ≡ Some f → Reaches r.content r.words s ps → find s ps ≡ None → ⊥
+    has-some t find f s ps some x e = let none = question-has t find None s ps x e in absurd cc
+
+    -- where a question is asked, what comes is what its policies are refused for
+    at-question : (n : ℕ) (t : QuestionSpelled r) → (r.read_rose → ⊥)
+        → ((f : NameFault) (s : Declarations) (ps : List Policy) → Reaches r.content r.words s ps → name_fault s ps ≡ Some f → 13 ≡ n)
+        → ((f : IllTyped) (s : Declarations) (ps : List Policy) → Reaches r.content r.words s ps → name_fault s ps ≡ None → type_fault s ps ≡ Some f → 13 ≡ n)
+        → ((s : Declarations) (ps : List Policy) (reaches : ReachesQuestion r.content r.words s ps) → AreOthers s reaches.policies.bytes ps → 15 ≡ n)
+        → ((s : Declarations) (o : Option (List ℕ)) → ReadsAll r.content r.words s o → ⊥) → Only r n
+    at-question n t calm unknown untyped others no_report = record {
+      words = λ none. absurd (none t.before.command t.before.commands);
+      schema = λ a c h i. absurd (schema-read t.before calm a c h i);
+      policies = λ a c s h reads i. absurd (question-read t calm a c h i);
+      world = λ a s ps name reaches i. absurd (no-replay t s ps name reaches);
+      names = λ f s ps reaches is. unknown f s ps (reach-names r.content r.words s ps reaches) is;
+      types = λ f s ps reaches declared is. untyped f s ps (reach-question r.content r.words s ps reaches) declared is;
+      form = others;
+      report = no_report;
+      replay = λ s ps w reads. no-replay t s ps reads.name reads.reaches;
+    }
+
+    -- they write a name that isn't declared
+    question-unknown : Ends r → (t : QuestionSpelled r) (f : NameFault) → name_fault t.before.schema t.policies ≡ Some f → (r.read_rose → ⊥) → MustBe 13 r.code
+    question-unknown ends t f is calm =
+        must-be 13 ends (at-question 13 t calm (λ g s ps x e. refl) (λ g s ps x declared e. refl)
+        (λ s ps reaches h. absurd (has-some t name_fault f s ps is (reach-question r.content r.words s ps reaches) h.declared))
+        (λ s o reads. has-some t name_fault f s (policies_of o) is (reach-all r.content r.words s o reads) reads.declared))
+
+    -- one of them isn't typed
+    pub policies-are-untyped : Ends r → PoliciesAreUntyped r → (r.read_rose → ⊥) → MustBe 13 r.code
+    policies-are-untyped ends x calm =
+        must-be 13 ends (at-question 13 x.0 calm (λ g s ps y e. refl) (λ g s ps y declared e. refl)
+        (λ s ps reaches h. absurd (has-some x.0 type_fault x.2.0 s ps x.2.1 (reach-question r.content r.words s ps reaches) h.typed))
+        (λ s o reads. has-some x.0 type_fault x.2.0 s (policies_of o) x.2.1 (reach-all r.content r.words s o reads) reads.typed))
+
+    -- they are of another form
+    other-unread : (x : PoliciesAreNot r) → (s : Declarations) (o : Option (List ℕ)) → ReadsAll r.content r.words s o → ⊥
+    other-unread x s o reads =
+        let same = one-schema x.0.before reads.command reads.commands s reads.schema in
+        let bytes = (policies-content x.0.before reads.command reads.commands reads.policies.bytes reads.policies.told).0 in
+        x.1.other o (subst (λ b. SpellsPolicies x.0.before.schema b o) bytes (subst (λ d. SpellsPolicies d reads.policies.bytes o) same reads.policies.spelled))
 
     pub policies-are-not : Ends r → PoliciesAreNot r → (r.read_rose → ⊥) → MustBe 15 r.code
-    policies-are-not ends x calm = must-be 15 ends (record {
-      words = λ none. absurd (none x.0.command x.0.commands);
-      schema = λ a c h i. absurd (schema-read x.0 calm a c h i);
-      policies = others-case x calm;
-      world = λ a s ps name reaches i. absurd (no-replay x.0.command x.0.commands x.3.0 x.3.1 s ps name reaches);
-      names = λ f s ps name w reaches has is. absurd (no-replay x.0.command x.0.commands x.3.0 x.3.1 s ps name reaches);
-      report = policies-unread x;
-      replay = λ s ps w reads. no-replay x.0.command x.0.commands x.3.0 x.3.1 s ps reads.name reads.reaches;
-    })
+    policies-are-not ends x calm =
+        must-be 15 ends (at-question 15 x.0 calm (λ f s ps y e. absurd (has-none x.0 name_fault f s ps x.1.declared y e))
+        (λ f s ps y declared e. absurd (has-none x.0 type_fault f s ps x.1.typed y e)) (λ s ps reaches h. refl) (other-unread x))
 
     -- ---- where all of a question is readable
 
@@ -557,24 +658,34 @@ module _ (r : Run) where
       told = x.policies_told;
     }
 
-    readable-policies : (x : IsReadable r) → (r.read_rose → ⊥) → (a : Refusal) (c : Command) (s : Declarations) → Serves r.words c → ReadsSchema r.content c s → RefusesPolicies r.content c.policies c.task r.read_rose s a → ⊥
+    question_of : IsReadable r → QuestionSpelled r
     unfolding told_of
-    readable-policies x calm _ c s h reads (policies_unread _ (unread rose)) = calm rose
-    readable-policies x calm _ c s h reads (policies_unread _ (long is)) = no-long-policies (told_of x) x.policies_short c h is
-    readable-policies x calm _ c s h reads (policies_faulty f bytes is has) =
-        not-both x.policies_spelled.spelled (subst (λ b. HasFault b f) (policies-content (told_of x) c h bytes is).0 has)
-    readable-policies x calm _ c s h reads (policies_other budget bytes task is others) =
-        let same = one-schema (told_of x) c h s reads in
-        let at = (policies-content (told_of x) c h bytes is).0 in
-        others.none x.policies (subst (λ b. SpellsPolicies s b x.policies) (sym at) (subst (λ d. SpellsPolicies d x.policy_bytes x.policies) (sym same) x.policies_spelled))
+    question_of x = record {
+      before = told_of x;
+      short = x.policies_short;
+      budget = x.budget;
+      task = x.task;
+      policies = policies_of x.policies;
+      spelled = x.policies_spelled.spelled;
+    }
+
+    -- what is reached is of the form that questions are served for
+    none-other : (x : IsReadable r) → (s : Declarations) (ps : List Policy) (reaches : ReachesQuestion r.content r.words s ps) → AreOthers s reaches.policies.bytes ps → ⊥
+    unfolding told_of
+    none-other x s ps reaches others =
+        let same = one-schema (told_of x) reaches.command reaches.commands s reaches.schema in
+        let at = (policies-content (told_of x) reaches.command reaches.commands reaches.policies.bytes reaches.policies.told).0 in
+        others.other x.policies (subst (λ b. SpellsPolicies s b x.policies) (sym at) (subst (λ d. SpellsPolicies d x.policy_bytes x.policies) (sym same) x.policies_spelled))
 
     none-refused : (x : IsReadable r) → (r.read_rose → ⊥) → (a : Refusal) → IsRefusal r.content r.words r.read_rose a → ⊥
-    unfolding told_of
+    unfolding told_of question_of
     none-refused x calm _ (no_command none) = none x.command x.commands
     none-refused x calm _ (of_schema a c h i) = schema-read (told_of x) calm a c h i
-    none-refused x calm _ (of_policies a c s h reads i) = readable-policies x calm a c s h reads i
-    none-refused x calm _ (of_world a s ps name reaches i) = no-replay x.command x.commands x.budget x.task s ps name reaches
-    none-refused x calm _ (of_names f s ps name w reaches has is) = no-replay x.command x.commands x.budget x.task s ps name reaches
+    none-refused x calm _ (of_policies a c s h reads i) = question-read (question_of x) calm a c h i
+    none-refused x calm _ (of_world a s ps name reaches i) = no-replay (question_of x) s ps name reaches
+    none-refused x calm _ (of_names f s ps reaches is) = has-none (question_of x) name_fault f s ps x.declared (reach-names r.content r.words s ps reaches) is
+    none-refused x calm _ (of_types f s ps reaches declared is) = has-none (question_of x) type_fault f s ps x.typed (reach-question r.content r.words s ps reaches) is
+    none-refused x calm _ (of_form s ps reaches is) = none-other x s ps reaches is
 
     reported-whole : (q : Asked) (code : ℕ) → Reported q r.before r.after r.write_rose code → (r.write_rose → ⊥) → IsWhole code
     reported-whole q code (whole lines report c text) calm = ⊎_elim (λ (h : code ≡ 0). inl h) (λ (h : code ≡ 1). inr (inl h)) (status-code lines code c)
@@ -586,7 +697,7 @@ module _ (r : Run) where
     complete (refused a h c t) x calm still = absurd (none-refused x calm a h)
     complete (refusal_cut a k h rose c t) x calm still = absurd (still rose)
     complete (reported s o reads report) x calm still = reported-whole (asked s o) r.code report still
-    complete (replayed s ps w reads report) x calm still = absurd (no-replay x.command x.commands x.budget x.task s ps reads.name reads.reaches)
+    complete (replayed s ps w reads report) x calm still = absurd (no-replay (question_of x) s ps reads.name reads.reaches)
     complete (no_memory c t) x calm still = inr (inr c)
 
     -- ---- a world file, where the schema and the policies are read
@@ -611,13 +722,9 @@ module _ (r : Run) where
     no-report : (t : WorldTold r) → (c : Command) → Serves r.words c → (budget : ℕ) → c.task ≡ asking budget → ⊥
     no-report t c h budget task = not_both_tasks t.command.task budget t.name (same_task r.words t.command c t.commands h ∙ task) t.task
 
-    policies-read : (t : WorldTold r) → (r.read_rose → ⊥) → (a : Refusal) (c : Command) (s : Declarations) → Serves r.words c → ReadsSchema r.content c s → RefusesPolicies r.content c.policies c.task r.read_rose s a → ⊥
+    world-policies : (t : WorldTold r) → (r.read_rose → ⊥) → (a : Refusal) (c : Command) → Serves r.words c → RefusesPolicies r.content c.policies r.read_rose a → ⊥
     unfolding policies_told
-    policies-read t calm _ c s h reads (policies_unread _ (unread rose)) = calm rose
-    policies-read t calm _ c s h reads (policies_unread _ (long is)) = no-long-policies (policies_told t) t.policies_short c h is
-    policies-read t calm _ c s h reads (policies_faulty f bytes is has) =
-        not-both t.policies_spelled (subst (λ b. HasFault b f) (policies-content (policies_told t) c h bytes is).0 has)
-    policies-read t calm _ c s h reads (policies_other budget bytes task is others) = no-report t c h budget task
+    world-policies t calm a c h i = policies-read (policies_told t) t.policies_short t.policies t.policies_spelled calm a c h i
 
     -- what is reached is this schema, these policies and this file
     reached-file : (t : WorldTold r) → (s : Declarations) (ps : List Policy) (name : List ℕ) → ReachesWorld r.content r.words s ps name → name ≡ t.name
@@ -629,11 +736,17 @@ module _ (r : Run) where
     reached-schema t s ps name reaches = one-schema (policies_told t) reaches.command reaches.commands s reaches.schema
 
     reached-policies : (t : WorldTold r) → (s : Declarations) (ps : List Policy) (name : List ℕ) → ReachesWorld r.content r.words s ps name → ps ≡ t.policies
-    reached-policies t s ps name reaches =
-        same-policies (policies-spelled r.content reaches.command.policies t.policy_bytes ps (policies-at reaches.command t.command t.policy_bytes t.commands t.policies_told reaches.commands) reaches.policies) t.policies_spelled
+    unfolding policies_told
+    reached-policies t s ps name reaches = one-policies (policies_told t) t.policies t.policies_spelled reaches.command reaches.commands ps reaches.policies
 
     world-at : (t : WorldTold r) → (s : Declarations) (ps : List Policy) (name : List ℕ) → ReachesWorld r.content r.words s ps name → r.content name ≡ Some t.bytes
     world-at t s ps name reaches = ap r.content (reached-file t s ps name reaches) ∙ t.told
+
+    -- names are looked up where the world is read
+    no-names : (t : WorldTold r) → ((s : Declarations) (ps : List Policy) (name : List ℕ) → ReachesWorld r.content r.words s ps name → (w : World) → HasWorld r.content name w → ⊥)
+        → (s : Declarations) (ps : List Policy) → ReachesNames r.content r.words s ps → ⊥
+    no-names t unread_world s ps (to_ask x) = no-report t x.command x.commands x.budget x.task
+    no-names t unread_world s ps (to_replay name w reaches has) = unread_world s ps name reaches w has
 
     -- where no world is read, what comes is what the world file is refused for
     at-world : (n : ℕ) (t : WorldTold r) → (r.read_rose → ⊥)
@@ -642,9 +755,11 @@ module _ (r : Run) where
     at-world n t calm unread_world refuses = record {
       words = λ none. absurd (none t.command t.commands);
       schema = λ a c h i. absurd (world-schema t calm a c h i);
-      policies = λ a c s h reads i. absurd (policies-read t calm a c s h reads i);
+      policies = λ a c s h reads i. absurd (world-policies t calm a c h i);
       world = refuses;
-      names = λ f s ps name w reaches has is. absurd (unread_world s ps name reaches w has);
+      names = λ f s ps reaches is. absurd (no-names t unread_world s ps reaches);
+      types = λ f s ps reaches declared is. absurd (no-report t reaches.command reaches.commands reaches.budget reaches.task);
+      form = λ s ps reaches is. absurd (no-report t reaches.command reaches.commands reaches.budget reaches.task);
       report = λ s o reads. no-report t reads.command reads.commands reads.budget reads.task;
       replay = λ s ps w reads. unread_world s ps reads.name reads.reaches w reads.spelled;
     }
@@ -683,29 +798,36 @@ module _ (r : Run) where
       one-world t s ps name reaches w has = (worlds t.before.bytes).one_world w t.world (world-spelled r.content name t.before.bytes w (world-at t.before s ps name reaches) has) t.spelled
 
       -- what is reached has the names that these policies have under this schema
-      reached-names : (t : WorldTold r) (o : Option NameFault) → (s : Declarations) (ps : List Policy) (name : List ℕ) → ReachesWorld r.content r.words s ps name → name_fault s ps ≡ o → name_fault t.schema t.policies ≡ o
-      reached-names t o s ps name reaches e =
-          subst (λ d. name_fault d t.policies ≡ o) (reached-schema t s ps name reaches) (subst (λ qs. name_fault s qs ≡ o) (reached-policies t s ps name reaches) e)
+      reached-names : (t : WorldTold r) (o : Option NameFault) → (s : Declarations) (ps : List Policy) → Reaches r.content r.words s ps → name_fault s ps ≡ o → name_fault t.schema t.policies ≡ o
+      unfolding policies_told
+      reached-names t o s ps x e = found-in (policies_told t) t.policies t.policies_spelled name_fault o s ps x e
+
+      replay-unknown : Ends r → (t : WorldSpelled r) (f : NameFault) → name_fault t.before.schema t.before.policies ≡ Some f → (r.read_rose → ⊥) → MustBe 13 r.code
+      replay-unknown ends t f first calm = must-be 13 ends (record {
+        words = λ none. absurd (none t.before.command t.before.commands);
+        schema = λ a c h i. absurd (world-schema t.before calm a c h i);
+        policies = λ a c s h reads i. absurd (world-policies t.before calm a c h i);
+        world = λ a s ps name reaches i. absurd (world-read t calm a s ps name reaches i);
+        names = λ g s ps reaches is. refl;
+        types = λ g s ps reaches declared is. refl;
+        form = λ s ps reaches is. absurd (no-report t.before reaches.command reaches.commands reaches.budget reaches.task);
+        report = λ s o reads. no-report t.before reads.command reads.commands reads.budget reads.task;
+        replay = λ s ps w reads. absurd (let none = reached-names t.before None s ps (reach-world r.content r.words s ps reads.name reads.reaches) reads.declared in cc);
+      })
 
       pub names-are-unknown : Ends r → NamesAreUnknown r → (r.read_rose → ⊥) → MustBe 13 r.code
-      names-are-unknown ends x calm = must-be 13 ends (record {
-        words = λ none. absurd (none x.0.before.command x.0.before.commands);
-        schema = λ a c h i. absurd (world-schema x.0.before calm a c h i);
-        policies = λ a c s h reads i. absurd (policies-read x.0.before calm a c s h reads i);
-        world = λ a s ps name reaches i. absurd (world-read x.0 calm a s ps name reaches i);
-        names = λ f s ps name w reaches has is. refl;
-        report = λ s o reads. no-report x.0.before reads.command reads.commands reads.budget reads.task;
-        replay = λ s ps w reads. absurd (let none = reached-names x.0.before None s ps reads.name reads.reaches reads.declared in let some = x.1.1 in cc);
-      })
+      names-are-unknown ends x calm = ⊎_elim (λ y. replay-unknown ends y.0 y.1.0 y.1.1 calm) (λ y. question-unknown ends y.0 y.1.0 y.1.1 calm) x
 
       -- ---- where all of a replay is readable
 
       replayable : (x : IsReplayable r) → (r.read_rose → ⊥) → (a : Refusal) → IsRefusal r.content r.words r.read_rose a → ⊥
       replayable x calm _ (no_command none) = none x.0.before.command x.0.before.commands
       replayable x calm _ (of_schema a c h i) = world-schema x.0.before calm a c h i
-      replayable x calm _ (of_policies a c s h reads i) = policies-read x.0.before calm a c s h reads i
+      replayable x calm _ (of_policies a c s h reads i) = world-policies x.0.before calm a c h i
       replayable x calm _ (of_world a s ps name reaches i) = world-read x.0 calm a s ps name reaches i
-      replayable x calm _ (of_names f s ps name w reaches has is) = absurd (let some = reached-names x.0.before (Some f) s ps name reaches is in let none = x.1 in cc)
+      replayable x calm _ (of_names f s ps reaches is) = absurd (let some = reached-names x.0.before (Some f) s ps (reach-names r.content r.words s ps reaches) is in let none = x.1 in cc)
+      replayable x calm _ (of_types f s ps reaches declared is) = no-report x.0.before reaches.command reaches.commands reaches.budget reaches.task
+      replayable x calm _ (of_form s ps reaches is) = no-report x.0.before reaches.command reaches.commands reaches.budget reaches.task
 
       replayed-whole : (x : IsReplayable r) → Replayed (scene x.0.before.schema x.0.before.policies x.0.world) r.before r.after r.write_rose r.code → (r.write_rose → ⊥) → IsReplayed r x
       replayed-whole x (told_whole found finds c text) still = inl (found, finds, c, text)

@@ -1,10 +1,5 @@
-pub mod Serving
-pub mod Policies
 pub mod Reports
-pub mod Refusals
 pub mod Progress
 pub mod Replays
 pub mod Runs
-pub mod Readings
 pub mod View
-pub mod FaultTexts

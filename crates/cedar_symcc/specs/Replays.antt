@@ -7,7 +7,7 @@ use Rattle.sc_ast.specs.Literals.{literals}
 use Rattle.sc_replay.specs.Reports.{report_lines, status_of}
 use Rattle.sc_world_breaks.specs.declared.breaks.Break.{Break}
 use Rattle.sc_world_breaks.specs.Breaks.{IsFirstBreak}
-use Rattle.cedar_symcc.specs.declared.inputs.Scene.{Scene}
+use Rattle.sc_inputs.specs.declared.inputs.Scene.{Scene}
 
 -- what keeps the world from being well-formed, first of all, or that nothing does
 abbrev pub Finds : Scene → Option Break → Type 0

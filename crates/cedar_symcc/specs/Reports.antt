@@ -6,7 +6,7 @@ use Rattle.sc_ast.specs.declared.policy.Policy.{Policy}
 use Rattle.sc_ast.specs.Literals.{literals}
 use Rattle.sc_question.specs.declared.question.Question.{Question}
 use Rattle.sc_goal.specs.Properties.{has}
-use Rattle.sc_names.specs.Escapes.{uid_text}
+use Rattle.sc_inputs.specs.FaultTexts.{env_text}
 use Rattle.sc_schema.specs.declared.declarations.Env.{Env}
 use Rattle.sc_schema.specs.Declarations.{Declarations}
 use Rattle.sc_world.specs.declared.world.World.{World}
@@ -59,9 +59,6 @@ IsLine q l = IsVerdict q l.env l.verdict
 pub record IsReport (q : Asked) (envs : List Env) (lines : List Line) : Type 0 where
   pub in_order : map (λ (l : Line). l.env) lines ≡ envs
   pub lines_true : AllByRecursion (IsLine q) lines
-
-unfoldable pub env_text : Env → List ℕ
-env_text env = codes "env " ++ env.principal ++ codes " " ++ uid_text env.action ++ codes " " ++ env.resource
 
 abbrev pub verdict_text : Verdict → List ℕ
 verdict_text holds = codes "holds"

@@ -12,20 +12,23 @@ use Rattle.sc_schema_json.specs.Spelling as schema_file
 use Rattle.sc_schema_syntax.specs.declared.fault.SchemaFault.{SchemaFault}
 use Rattle.sc_parser.specs.declared.fault.PolicyFault.{PolicyFault}
 use Rattle.sc_parser.specs.Spelling.{Spells, HasFault}
+use Rattle.sc_typing.specs.declared.ill_typed.IllTyped.{IllTyped}
 use Rattle.sc_typing.specs.declared.name_fault.NameFault.{NameFault}
+use Rattle.sc_typing.specs.Checking.{type_fault}
 use Rattle.sc_typing.specs.Names.{name_fault}
 use Rattle.sc_world.specs.declared.world.World.{World}
 use Rattle.sc_world.specs.WellFormed.{IsWellFormed}
 use Rattle.sc_world_breaks.specs.declared.breaks.Break.{Break}
 use Rattle.sc_world_json.specs.declared.fault.WorldFault.{WorldFault}
 use Rattle.sc_world_json.specs.Reading as world_file
-use Rattle.cedar_symcc.specs.Serving.{Command, Serves, asking, replaying}
-use Rattle.cedar_symcc.specs.Policies.{SpellsPolicies, policies_of}
+use Rattle.sc_inputs.specs.Serving.{Command, Serves, asking, replaying}
+use Rattle.sc_inputs.specs.Policies.{SpellsPolicies, policies_of}
+use Rattle.sc_inputs.specs.Readings.{ReadsAll, ReadsWorld}
 use Rattle.cedar_symcc.specs.Progress.{Reported}
 use Rattle.cedar_symcc.specs.Replays.{Finds, Replayed, lines_of, text_of}
-use Rattle.cedar_symcc.specs.Refusals.{Refusal, IsRefusal, code_of, refusal_text, Content, IsContent, IsTooLong, ReadsSchema, ReadsPolicies, SpellsOthers, HasWorld, ReachesWorld, limit}
+use Rattle.sc_inputs.specs.Refusals.{Refusal, IsRefusal, code_of, refusal_text, Content, IsContent, IsTooLong, ReadsSchema, ReachesQuestion, ReachesWorld, ReachesNames, AreOthers, limit}
 use Rattle.cedar_symcc.specs.Reports.{Asked, Line, counterexample, IsReport, AlwaysHas, Violates, report_text}
-use Rattle.cedar_symcc.specs.declared.inputs.Scene.{Scene}
+use Rattle.sc_inputs.specs.declared.inputs.Scene.{Scene}
 
 -- What a run sees and does: what the files hold, the words, whether the counts of faults rose, what was written before it
 -- and is written after it, and the status.
@@ -45,23 +48,6 @@ run_of content words read_rose write_rose before after code =
 -- what is asked under a schema of the policies that a file spells
 abbrev pub asked : Declarations → Option (List ℕ) → Asked
 asked s o = record { schema = s; question = AlwaysDenies; first = policies_of o; second = [] }
-
--- the words are a command to ask a question, and its files were read and spell a schema and policies
-pub record ReadsAll (content : Content) (words : List (List ℕ)) (s : Declarations) (o : Option (List ℕ)) : Type 0 where
-  pub command : Command
-  pub commands : Serves words command
-  pub budget : ℕ
-  pub task : command.task ≡ asking budget
-  pub schema : ReadsSchema content command s
-  pub policies : ReadsPolicies content command.policies s o
-
--- the words are a command to replay a world, its files were read and spell a schema, policies and the world, and the
--- policies write declared names alone
-pub record ReadsWorld (content : Content) (words : List (List ℕ)) (s : Declarations) (ps : List Policy) (w : World) : Type 0 where
-  pub name : List ℕ
-  pub reaches : ReachesWorld content words s ps name
-  pub spelled : HasWorld content name w
-  pub declared : name_fault s ps ≡ None
 
 -- what is replayed
 abbrev pub scene : Declarations → List Policy → World → Scene
@@ -117,6 +103,20 @@ pub record IsWell (r : Run) : Type 0 where
   pub listed : Contains (environments told.schema) env
   pub well_formed : IsWellFormed told.schema env (literals told.policies) told.world
 
+-- the words are a command to ask a question
+pub record AsksQuestion (r : Run) : Type 0 where
+  pub command : Command
+  pub commands : Serves r.words command
+  pub budget : ℕ
+  pub task : command.task ≡ asking budget
+
+-- the words are a command to replay a world
+pub record ReplaysWorld (r : Run) : Type 0 where
+  pub command : Command
+  pub commands : Serves r.words command
+  pub name : List ℕ
+  pub task : command.task ≡ replaying name
+
 -- status 0: a question's property holds in each environment, or a world is replayed that is well-formed
 abbrev pub AllWell : Run → Type 0
 AllWell r = AllHold r ⊎ IsWell r
@@ -125,7 +125,8 @@ AllWell r = AllHold r ⊎ IsWell r
 abbrev pub IsBroken : Run → Type 0
 IsBroken r = (b : Break) × Tells r (Some b)
 
--- the words are a command to ask a question, both files are told and short enough, and they spell a schema and policies
+-- the words are a command to ask a question, both files are told and short enough, they spell a schema and policies of the form
+-- that questions are served for, and the policies write declared names alone and are typed in each environment
 pub record IsReadable (r : Run) : Type 0 where
   pub command : Command
   pub commands : Serves r.words command
@@ -141,6 +142,8 @@ pub record IsReadable (r : Run) : Type 0 where
   pub policies : Option (List ℕ)
   pub schema_spelled : schema_file.Spells schema_bytes schema
   pub policies_spelled : SpellsPolicies schema policy_bytes policies
+  pub declared : name_fault schema (policies_of policies) ≡ None
+  pub typed : type_fault schema (policies_of policies) ≡ None
 
 -- one of the statuses of a whole report, or want of memory
 abbrev pub IsWhole : ℕ → Type 0
@@ -156,17 +159,12 @@ pub data TooLong (r : Run) : Type 0 where
   policies_long : (c : Command) → Serves r.words c → (s : Declarations) → ReadsSchema r.content c s → IsTooLong r.content c.policies → TooLong r
   world_long : (s : Declarations) (ps : List Policy) (name : List ℕ) → ReachesWorld r.content r.words s ps name → IsTooLong r.content name → TooLong r
 
--- the policy file of a command to ask a question spells policies of another form, and the schema is read
+-- a question is asked of policies that write declared names alone and are typed, and are of another form
 pub record NotForm (r : Run) : Type 0 where
-  pub command : Command
-  pub commands : Serves r.words command
-  pub budget : ℕ
-  pub task : command.task ≡ asking budget
   pub schema : Declarations
-  pub reads : ReadsSchema r.content command schema
-  pub bytes : List ℕ
-  pub told : IsContent r.content command.policies bytes
-  pub others : SpellsOthers schema bytes
+  pub policies : List Policy
+  pub reaches : ReachesQuestion r.content r.words schema policies
+  pub others : AreOthers schema reaches.policies.bytes policies
 
 -- the schema file of the command spells no schema, and its first fault is told
 pub record IsFaultySchema (r : Run) : Type 0 where
@@ -203,12 +201,23 @@ pub record IsFaultyWorld (r : Run) : Type 0 where
 pub record HasUnknownName (r : Run) : Type 0 where
   pub schema : Declarations
   pub policies : List Policy
-  pub name : List ℕ
-  pub reaches : ReachesWorld r.content r.words schema policies name
-  pub world : World
-  pub spelled : HasWorld r.content name world
+  pub reaches : ReachesNames r.content r.words schema policies
   pub fault : NameFault
   pub first : name_fault schema policies ≡ Some fault
+
+-- a question is asked of policies that write declared names alone, and one has no type in an environment: the first one, in the
+-- first such environment, is told
+pub record IsIllTyped (r : Run) : Type 0 where
+  pub schema : Declarations
+  pub policies : List Policy
+  pub reaches : ReachesQuestion r.content r.words schema policies
+  pub declared : name_fault schema policies ≡ None
+  pub fault : IllTyped
+  pub first : type_fault schema policies ≡ Some fault
+
+-- status 13: an undeclared name, or a policy without a type
+abbrev pub IsUntyped : Run → Type 0
+IsUntyped r = HasUnknownName r ⊎ IsIllTyped r
 
 -- the words are a command that is served whose schema file is told
 pub record SchemaTold (r : Run) : Type 0 where
@@ -257,9 +266,6 @@ SchemaIsFaulty r = (t : SchemaTold r) × (length t.bytes ≤ limit) × ((s : Dec
 abbrev pub PoliciesAreLong : Run → Type 0
 PoliciesAreLong r = (t : PoliciesTold r) × (limit < length t.bytes)
 
-abbrev pub PoliciesAreNot : Run → Type 0
-PoliciesAreNot r = (t : PoliciesTold r) × (length t.bytes ≤ limit) × SpellsOthers t.schema t.bytes × ((budget : ℕ) × (t.command.task ≡ asking budget))
-
 abbrev pub PoliciesAreFaulty : Run → Type 0
 PoliciesAreFaulty r = (t : PoliciesTold r) × (length t.bytes ≤ limit) × ((ps : List Policy) → Spells t.bytes ps → ⊥)
 
@@ -276,8 +282,29 @@ pub record WorldSpelled (r : Run) : Type 0 where
   pub world : World
   pub spelled : world_file.SpellsWorld before.bytes world
 
+-- a question is asked, and its policy file spells policies
+pub record QuestionSpelled (r : Run) : Type 0 where
+  pub before : PoliciesTold r
+  pub short : length before.bytes ≤ limit
+  pub budget : ℕ
+  pub task : before.command.task ≡ asking budget
+  pub policies : List Policy
+  pub spelled : Spells before.bytes policies
+
+-- all files are read, and the policies write a name that isn't declared
 abbrev pub NamesAreUnknown : Run → Type 0
-NamesAreUnknown r = (t : WorldSpelled r) × ((f : NameFault) × (name_fault t.before.schema t.before.policies ≡ Some f))
+NamesAreUnknown r =
+    ((t : WorldSpelled r) × ((f : NameFault) × (name_fault t.before.schema t.before.policies ≡ Some f)))
+    ⊎ ((t : QuestionSpelled r) × ((f : NameFault) × (name_fault t.before.schema t.policies ≡ Some f)))
+
+-- a question is asked of policies that write declared names alone, and one of them isn't typed
+abbrev pub PoliciesAreUntyped : Run → Type 0
+PoliciesAreUntyped r =
+    (t : QuestionSpelled r) × (name_fault t.before.schema t.policies ≡ None) × ((f : IllTyped) × (type_fault t.before.schema t.policies ≡ Some f))
+
+-- a question is asked of policies that are typed, and not of the form that is served
+abbrev pub PoliciesAreNot : Run → Type 0
+PoliciesAreNot r = (t : QuestionSpelled r) × AreOthers t.before.schema t.before.bytes t.policies
 
 abbrev pub IsReplayable : Run → Type 0
 IsReplayable r = (t : WorldSpelled r) × (name_fault t.before.schema t.before.policies ≡ None)

@@ -1,14 +1,14 @@
 //! Analyses one environment.
-ghost use Rattle.std.specs.Prelude.{◌≡◌, ◌≤◌, Contains, IfOk};
+ghost use Rattle.std.specs.Prelude.{◌≤◌, Contains, IfOk};
 ghost use Rattle.sc_schema.specs.Declarations.{environments};
-ghost use Rattle.cedar_symcc.specs.Policies.{IsServed};
+ghost use Rattle.sc_inputs.specs.Policies.{IsServed};
 ghost use Rattle.cedar_symcc.specs.Reports.{IsVerdict};
 ghost use Rattle.cedar_symcc.specs.Runs.{asked};
 ghost use Rattle.cedar_symcc.specs.View.{verdict_view};
 
-use crate::posing::goal_for;
 use sc_checker::Log;
 use sc_footprint::close;
+use sc_inputs::posing::goal_for;
 use sc_lists::Text;
 use sc_names::Lits;
 use sc_schema::{Env, Schema};

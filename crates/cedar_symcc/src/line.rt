@@ -1,27 +1,14 @@
 //! The line of an environment.
 ghost use Rattle.std.specs.Prelude.{◌≡◌, ◌++◌, OnOk, IfOk};
-ghost use Rattle.cedar_symcc.specs.Reports.{env_text, verdict_text, line_text};
+ghost use Rattle.cedar_symcc.specs.Reports.{verdict_text, line_text};
 ghost use Rattle.cedar_symcc.specs.View.{verdict_view, IsPrintable};
 
 use crate::analysing::EnvAnswer;
-use crate::put::put;
-use sc_names::uid_text;
+use sc_inputs::put::put;
+use sc_inputs::put_env;
 use sc_schema::Env;
 use sc_world_json::world_text;
 use std::alloc::{AllocError, Global};
-
-#[tactic(auto, unfolding(crate::specs::Reports::env_text))]
-fn put_env(alloc: Global, out: &mut Vec<u8>, env: &Env) -> Result<(), AllocError>
-    ensures { OnOk result (out.new.items ≡ out.old.items ++ env_text env.now) }
-{
-    put(out, b"env ")?;
-    put(out, env.principal.as_str().as_bytes())?;
-    put(out, b" ")?;
-    let action = uid_text(alloc, &env.action)?;
-    put(out, action.as_bytes())?;
-    put(out, b" ")?;
-    put(out, env.resource.as_str().as_bytes())
-}
 
 fn put_verdict(alloc: Global, out: &mut Vec<u8>, answer: &EnvAnswer) -> Result<(), AllocError>
     requires { IsPrintable answer.now }

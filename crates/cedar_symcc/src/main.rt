@@ -2,25 +2,16 @@
 #![tactic(auto)]
 
 mod analysing;
-mod fault_text;
-mod files;
-mod form;
-mod inputs;
 mod line;
-mod policies;
-mod posing;
-mod put;
-mod reading;
-mod refusal;
 #[cfg(test)]
 mod replay_tests;
 mod replaying;
 mod reporting;
 mod running;
-mod serving;
 #[cfg(test)]
 mod tests;
-mod world_reading;
+#[cfg(test)]
+mod typing_tests;
 
 use sc_outside::{RealFiles, RealSink};
 use std::alloc::AllocError;

@@ -1,9 +1,9 @@
 //! Tells what policies do in a world.
-ghost use Rattle.std.specs.Prelude.{◌≡◌, ◌≤◌};
+ghost use Rattle.std.specs.Prelude.{◌≤◌};
 ghost use Rattle.sc_outside.specs.Counts.{Rose};
 ghost use Rattle.cedar_symcc.specs.Replays.{PutsLines, Replayed};
 
-use crate::inputs::Scene;
+use sc_inputs::Scene;
 use sc_lists::Text;
 use sc_outside::{Sink, SinkFault};
 use sc_replay::report_of;

@@ -2,15 +2,15 @@
 ghost use Rattle.std.specs.Prelude.{◌≡◌, ◌≤◌, ◌||◌, Contains, if◌then◌else◌};
 ghost use Rattle.sc_outside.specs.Counts.{Rose};
 ghost use Rattle.sc_schema.specs.Declarations.{environments};
-ghost use Rattle.cedar_symcc.specs.Policies.{IsServed};
+ghost use Rattle.sc_inputs.specs.Policies.{IsServed};
 ghost use Rattle.cedar_symcc.specs.Progress.{Puts, ReportsEnv, ReportsAll, ReportsNone, Reported};
 ghost use Rattle.cedar_symcc.specs.Reports.{line_text, is_counterexample};
 ghost use Rattle.cedar_symcc.specs.Runs.{asked};
 ghost use Rattle.cedar_symcc.specs.View.{verdict_view, IsPrintable};
 
 use crate::analysing::{EnvAnswer, analyse_env};
-use crate::inputs::Analysis;
 use crate::line::line_of;
+use sc_inputs::Analysis;
 use sc_outside::{Sink, SinkFault};
 use sc_schema::{Env, environments};
 use std::alloc::Global;

@@ -2,16 +2,14 @@
 ghost use Rattle.std.specs.Prelude.{◌≡◌, []};
 ghost use Rattle.sc_outside.specs.Counts.{Rose};
 ghost use Rattle.sc_command.specs.CommandLine.{words_view};
-ghost use Rattle.cedar_symcc.specs.Serving.{Command, Serves};
-ghost use Rattle.cedar_symcc.specs.Runs.{Ends, run_of, Refuses, AllWell, SomeFails, IsBroken, IsReadable, IsWhole, IsReplayable, IsReplayed, MustBe, TooLong, NotForm, SchemaIsLong, SchemaIsFaulty, PoliciesAreLong, PoliciesAreNot, PoliciesAreFaulty, WorldIsLong, WorldIsFaulty, NamesAreUnknown, IsFaulty, IsFaultySchema, IsFaultyWorld, HasUnknownName};
-ghost use Rattle.cedar_symcc.specs.View.{refusal_view};
+ghost use Rattle.sc_inputs.specs.Serving.{Command, Serves};
+ghost use Rattle.cedar_symcc.specs.Runs.{Ends, run_of, Refuses, AllHold, AllWell, AsksQuestion, IsWell, ReplaysWorld, SomeFails, IsBroken, IsReadable, IsWhole, IsReplayable, IsReplayed, MustBe, TooLong, NotForm, SchemaIsLong, SchemaIsFaulty, PoliciesAreLong, PoliciesAreNot, PoliciesAreFaulty, PoliciesAreUntyped, WorldIsLong, WorldIsFaulty, NamesAreUnknown, IsFaulty, IsFaultySchema, IsFaultyWorld, IsUntyped};
+ghost use Rattle.sc_inputs.specs.View.{refusal_view};
 
-use crate::inputs::Inputs;
-use crate::reading::inputs_of;
-use crate::refusal::{Refusal, code, text_of};
 use crate::replaying::replay;
 use crate::reporting::report;
 use sc_checker::Log;
+use sc_inputs::{Inputs, Refusal, code, inputs_of, text_of};
 use sc_lists::Fault;
 use sc_outside::{Files, Sink, SinkFault};
 use sc_schema_json::spelling_laws;
@@ -64,6 +62,12 @@ pub fn run<F: Files, O: Sink>(alloc: Global, words: &[String], files: &mut F, ou
     // world is replayed that is well-formed for an environment of the schema.
     ensures holds { result.code ≡ 0 → AllWell (run_of (F.content files.old) (words_view words.now) (Rose (F.faults files.old) (F.faults files.new)) (Rose (O.faults out.old) (O.faults out.new)) (O.written out.old) (O.written out.new) result.code) }
 
+    // Of a question 0 says that each well-formed world of each environment has the property.
+    ensures always { AsksQuestion (run_of (F.content files.old) (words_view words.now) (Rose (F.faults files.old) (F.faults files.new)) (Rose (O.faults out.old) (O.faults out.new)) (O.written out.old) (O.written out.new) result.code) → result.code ≡ 0 → AllHold (run_of (F.content files.old) (words_view words.now) (Rose (F.faults files.old) (F.faults files.new)) (Rose (O.faults out.old) (O.faults out.new)) (O.written out.old) (O.written out.new) result.code) }
+
+    // Of a replay 0 says that the world is well-formed.
+    ensures well_formed { ReplaysWorld (run_of (F.content files.old) (words_view words.now) (Rose (F.faults files.old) (F.faults files.new)) (Rose (O.faults out.old) (O.faults out.new)) (O.written out.old) (O.written out.new) result.code) → result.code ≡ 0 → IsWell (run_of (F.content files.old) (words_view words.now) (Rose (F.faults files.old) (F.faults files.new)) (Rose (O.faults out.old) (O.faults out.new)) (O.written out.old) (O.written out.new) result.code) }
+
     // 1 comes only where a line prints a counterexample: a well-formed world of its environment that lacks the property.
     ensures counterexample { result.code ≡ 1 → SomeFails (run_of (F.content files.old) (words_view words.now) (Rose (F.faults files.old) (F.faults files.new)) (Rose (O.faults out.old) (O.faults out.new)) (O.written out.old) (O.written out.new) result.code) }
 
@@ -92,12 +96,13 @@ pub fn run<F: Files, O: Sink>(alloc: Global, words: &[String], files: &mut F, ou
     ensures world_is_long { WorldIsLong (run_of (F.content files.old) (words_view words.now) (Rose (F.faults files.old) (F.faults files.new)) (Rose (O.faults out.old) (O.faults out.new)) (O.written out.old) (O.written out.new) result.code) → (Rose (F.faults files.old) (F.faults files.new) → ⊥) → MustBe 22 result.code }
     ensures world_is_faulty { WorldIsFaulty (run_of (F.content files.old) (words_view words.now) (Rose (F.faults files.old) (F.faults files.new)) (Rose (O.faults out.old) (O.faults out.new)) (O.written out.old) (O.written out.new) result.code) → (Rose (F.faults files.old) (F.faults files.new) → ⊥) → MustBe 17 result.code }
     ensures names_are_unknown { NamesAreUnknown (run_of (F.content files.old) (words_view words.now) (Rose (F.faults files.old) (F.faults files.new)) (Rose (O.faults out.old) (O.faults out.new)) (O.written out.old) (O.written out.new) result.code) → (Rose (F.faults files.old) (F.faults files.new) → ⊥) → MustBe 13 result.code }
+    ensures policies_are_untyped { PoliciesAreUntyped (run_of (F.content files.old) (words_view words.now) (Rose (F.faults files.old) (F.faults files.new)) (Rose (O.faults out.old) (O.faults out.new)) (O.written out.old) (O.written out.new) result.code) → (Rose (F.faults files.old) (F.faults files.new) → ⊥) → MustBe 13 result.code }
 
     // The cause of each status.
     ensures schema_fault { result.code ≡ 12 → IsFaultySchema (run_of (F.content files.old) (words_view words.now) (Rose (F.faults files.old) (F.faults files.new)) (Rose (O.faults out.old) (O.faults out.new)) (O.written out.old) (O.written out.new) result.code) }
     ensures policy_fault { result.code ≡ 11 → IsFaulty (run_of (F.content files.old) (words_view words.now) (Rose (F.faults files.old) (F.faults files.new)) (Rose (O.faults out.old) (O.faults out.new)) (O.written out.old) (O.written out.new) result.code) }
     ensures world_fault { result.code ≡ 17 → IsFaultyWorld (run_of (F.content files.old) (words_view words.now) (Rose (F.faults files.old) (F.faults files.new)) (Rose (O.faults out.old) (O.faults out.new)) (O.written out.old) (O.written out.new) result.code) }
-    ensures name_fault { result.code ≡ 13 → HasUnknownName (run_of (F.content files.old) (words_view words.now) (Rose (F.faults files.old) (F.faults files.new)) (Rose (O.faults out.old) (O.faults out.new)) (O.written out.old) (O.written out.new) result.code) }
+    ensures untyped { result.code ≡ 13 → IsUntyped (run_of (F.content files.old) (words_view words.now) (Rose (F.faults files.old) (F.faults files.new)) (Rose (O.faults out.old) (O.faults out.new)) (O.written out.old) (O.written out.new) result.code) }
     ensures read_fault { result.code ≡ 20 → Rose (F.faults files.old) (F.faults files.new) }
     ensures write_fault { result.code ≡ 21 → Rose (O.faults out.old) (O.faults out.new) }
     ensures too_long { result.code ≡ 22 → TooLong (run_of (F.content files.old) (words_view words.now) (Rose (F.faults files.old) (F.faults files.new)) (Rose (O.faults out.old) (O.faults out.new)) (O.written out.old) (O.written out.new) result.code) }

@@ -1,6 +1,6 @@
 use Rattle.std.proofs.Common.{subst}
 use Rattle.sc_command.specs.CommandLine.{words_view}
-use Rattle.cedar_symcc.specs.Readings.{IsRead}
+use Rattle.sc_inputs.specs.Readings.{IsRead}
 use Rattle.cedar_symcc.specs.Runs.{reported, replayed}
 use Rattle.cedar_symcc.proofs.RunLaws.{refusal-ends}
 use Rattle.cedar_symcc.proofs.running.ends.Goals as goal

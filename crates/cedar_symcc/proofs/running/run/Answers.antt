@@ -1,8 +1,14 @@
-use Rattle.cedar_symcc.proofs.RunLaws.{all-well, some-fails, is-broken, complete, complete-replay, world-is-long, world-is-faulty, names-are-unknown, is-faulty-world, has-unknown-name, unusable, no-command, schema-is-long, schema-is-faulty, policies-are-long, policies-are-not, policies-are-faulty, read-rose, write-rose, is-too-long, is-not-form, is-faulty, is-faulty-schema}
+use Rattle.cedar_symcc.proofs.RunLaws.{all-well, all-hold, well-formed, some-fails, is-broken, complete, complete-replay, world-is-long, world-is-faulty, names-are-unknown, is-faulty-world, is-untyped, unusable, no-command, schema-is-long, schema-is-faulty, policies-are-long, policies-are-not, policies-are-untyped, policies-are-faulty, read-rose, write-rose, is-too-long, is-not-form, is-faulty, is-faulty-schema}
 use Rattle.cedar_symcc.proofs.running.run.Goals as goal
 
 pub returns-clause-holds : goal.returns-clause-holds
 returns-clause-holds g c = all-well _ c.break_laws.ensures.nowhere c.reading_laws.ensures.stored c.ends-code.ensures
+
+pub returns-clause-always : goal.returns-clause-always
+returns-clause-always g c = λ x e. all-hold _ c.break_laws.ensures.nowhere c.reading_laws.ensures.stored c.ends-code.ensures x e
+
+pub returns-clause-well_formed : goal.returns-clause-well_formed
+returns-clause-well_formed g c = λ x e. well-formed _ c.break_laws.ensures.nowhere c.reading_laws.ensures.stored c.ends-code.ensures x e
 
 pub returns-clause-counterexample : goal.returns-clause-counterexample
 returns-clause-counterexample g c = some-fails _ c.ends-code.ensures
@@ -27,6 +33,9 @@ returns-clause-policies_are_long g c = λ x f. policies-are-long _ c.spelling_la
 
 pub returns-clause-policies_are_not : goal.returns-clause-policies_are_not
 returns-clause-policies_are_not g c = λ x f. policies-are-not _ c.spelling_laws.ensures c.ends-code.ensures x f
+
+pub returns-clause-policies_are_untyped : goal.returns-clause-policies_are_untyped
+returns-clause-policies_are_untyped g c = λ x f. policies-are-untyped _ c.spelling_laws.ensures c.ends-code.ensures x f
 
 pub returns-clause-read_fault : goal.returns-clause-read_fault
 returns-clause-read_fault g c = read-rose _ c.ends-code.ensures
@@ -67,5 +76,5 @@ returns-clause-names_are_unknown g c = λ x f. names-are-unknown _ c.spelling_la
 pub returns-clause-world_fault : goal.returns-clause-world_fault
 returns-clause-world_fault g c = is-faulty-world _ c.ends-code.ensures
 
-pub returns-clause-name_fault : goal.returns-clause-name_fault
-returns-clause-name_fault g c = has-unknown-name _ c.ends-code.ensures
+pub returns-clause-untyped : goal.returns-clause-untyped
+returns-clause-untyped g c = is-untyped _ c.ends-code.ensures

@@ -1,0 +1,4 @@
+pub mod ServingLaws
+pub mod PoliciesLaws
+pub mod CheckingLaws
+pub mod ReadingLaws

@@ -1,0 +1,36 @@
+use Rattle.std.proofs.Common.{ap}
+use Rattle.sc_outside.specs.Counts.{Rose}
+use Rattle.sc_inputs.specs.Readings.{RefusesAnalysis, RefusesScene}
+use Rattle.sc_inputs.specs.Refusals.{IsRefusal}
+use Rattle.sc_inputs.specs.Serving.{served_view, task_view}
+use Rattle.sc_inputs.proofs.ReadingLaws.{analysis_refused, scene_refused, fails_so}
+use Rattle.sc_inputs.proofs.reading.with_schema.Goals as goal
+
+pub returns-in-Ok-clause-reads : goal.returns-in-Ok-clause-reads
+returns-in-Ok-clause-reads g c = record {
+  schema = c.in-Ok.ensures.schema;
+  policies = c.in-Ok.ensures.policies;
+  declared = c.in-Ok.ensures.declared;
+  typed = c.in-Ok.ensures.typed;
+  served = c.in-Ok.ensures.served;
+  task = cc (ap task_view c.in-AlwaysDenies.is, c.in-Ok.ensures.budget);
+}
+
+pub returns-in-Err-clause-fails : goal.returns-in-Err-clause-fails
+returns-in-Err-clause-fails g c =
+    λ words serves reads.
+    let content = g.F.Files.content c.args.files.now in
+    let rose = Rose (g.F.Files.faults c.args.files.now) (g.F.Files.faults c.analysis_of.new.files) in
+    fails_so (RefusesAnalysis content c.args.command.now.policies.now rose c.args.schema) (IsRefusal content words rose)
+    (analysis_refused content words (served_view c.args.command.now) c.in-AlwaysDenies.budget rose c.args.schema (ap task_view c.in-AlwaysDenies.is) serves reads) c.in-Err.fault c.in-Err.ensures.fails
+
+pub returns-in-Ok-scene_of-clause-reads : goal.returns-in-Ok-scene_of-clause-reads
+returns-in-Ok-scene_of-clause-reads g c = (c.in-Replay.world.now, ap task_view c.in-Replay.is, c.in-Ok-scene_of.ensures.reads)
+
+pub returns-in-Err-scene_of-clause-fails : goal.returns-in-Err-scene_of-clause-fails
+returns-in-Err-scene_of-clause-fails g c =
+    λ words serves reads.
+    let content = g.F.Files.content c.args.files.now in
+    let rose = Rose (g.F.Files.faults c.args.files.now) (g.F.Files.faults c.scene_of.new.files) in
+    fails_so (RefusesScene content c.args.command.now.policies.now c.in-Replay.world.now rose c.args.schema) (IsRefusal content words rose)
+    (scene_refused content words (served_view c.args.command.now) c.in-Replay.world.now rose c.args.schema (ap task_view c.in-Replay.is) serves reads) c.in-Err-scene_of.fault c.in-Err-scene_of.ensures.fails

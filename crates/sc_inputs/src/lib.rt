@@ -1,0 +1,21 @@
+//! What the words and the files of a command give, or why they are refused.
+#![tactic(auto)]
+
+mod checks;
+mod fault_text;
+mod files;
+mod form;
+mod inputs;
+mod policies;
+pub mod posing;
+pub mod put;
+mod reading;
+mod refusal;
+mod serving;
+mod type_text;
+mod world_reading;
+
+pub use inputs::{Analysis, Inputs, Scene};
+pub use reading::inputs_of;
+pub use refusal::{FileName, Refusal, code, text_of};
+pub use type_text::put_env;

@@ -1,0 +1,5 @@
+pub mod LogicLaws
+pub mod EqualLaws
+pub mod MembershipLaws
+pub mod OperatorLaws
+pub mod ConstructLaws

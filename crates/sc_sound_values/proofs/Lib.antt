@@ -1,0 +1,7 @@
+pub mod ValueLaws
+pub mod ListLaws
+pub mod JoinLaws
+pub mod ObjectLaws
+pub mod BareLaws
+pub mod HoldingLaws
+pub mod PathLaws

@@ -1,0 +1,4 @@
+mod ActingLaws
+mod ConditionLaws
+mod CollectionLaws
+mod SoundLaws

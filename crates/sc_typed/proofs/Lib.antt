@@ -1,0 +1,5 @@
+pub mod JoinLaws
+pub mod TypeOfLaws
+pub mod UntypedLaws
+pub mod OutcomeLaws
+pub mod CapabilityLaws

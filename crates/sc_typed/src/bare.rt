@@ -1,0 +1,121 @@
+//! Expressions without places.
+ghost use Rattle.std.specs.Prelude.{◌≡◌, ℕ, List, map, IfOk};
+ghost use Rattle.sc_ast.specs.declared.expr.Expr.{Expr as AnyExpr};
+ghost use Rattle.sc_typed.specs.Capabilities.{bare, bare_name};
+
+use sc_ast::{Expr, Place, TypeName};
+use sc_lists::{Boxed, Seq, Text};
+use std::alloc::{AllocError, Global};
+
+/// The place in every expression without places.
+pub const NOWHERE: Place = Place { offset: 0 };
+
+/// A copy of an expression in which each place is 0. The copying goes as deep as the expression does.
+#[cycle(bare)]
+#[tactic(auto, unfolding(crate::specs::Capabilities::bare))]
+pub fn bare(alloc: Global, expr: &Expr) -> Result<Expr, AllocError>
+    ensures { IfOk result (λ copy. copy ≡ bare expr.now) }
+{
+    match expr {
+        Expr::If(_, c, a, b) => Ok(Expr::If(
+            NOWHERE,
+            bare_boxed(alloc, c)?,
+            bare_boxed(alloc, a)?,
+            bare_boxed(alloc, b)?,
+        )),
+        Expr::Or(_, a, b) => Ok(Expr::Or(NOWHERE, bare_boxed(alloc, a)?, bare_boxed(alloc, b)?)),
+        Expr::And(_, a, b) => Ok(Expr::And(NOWHERE, bare_boxed(alloc, a)?, bare_boxed(alloc, b)?)),
+        Expr::Binary(_, operator, a, b) => Ok(Expr::Binary(
+            NOWHERE,
+            *operator,
+            bare_boxed(alloc, a)?,
+            bare_boxed(alloc, b)?,
+        )),
+        Expr::Has(_, a, names) => Ok(Expr::Has(
+            NOWHERE,
+            bare_boxed(alloc, a)?,
+            copy_of_names(alloc, names.as_slice())?,
+        )),
+        Expr::Like(_, a, pattern) => Ok(Expr::Like(
+            NOWHERE,
+            bare_boxed(alloc, a)?,
+            pattern.try_clone(alloc)?,
+        )),
+        Expr::Is(_, a, type_name) => Ok(Expr::Is(
+            NOWHERE,
+            bare_boxed(alloc, a)?,
+            bare_name(alloc, type_name)?,
+        )),
+        Expr::IsIn(_, a, type_name, _, b) => Ok(Expr::IsIn(
+            NOWHERE,
+            bare_boxed(alloc, a)?,
+            bare_name(alloc, type_name)?,
+            NOWHERE,
+            bare_boxed(alloc, b)?,
+        )),
+        Expr::Unary(_, operator, a) => {
+            Ok(Expr::Unary(NOWHERE, *operator, bare_boxed(alloc, a)?))
+        }
+        Expr::Access(_, a, name) => Ok(Expr::Access(
+            NOWHERE,
+            bare_boxed(alloc, a)?,
+            name.try_clone(alloc)?,
+        )),
+        Expr::Literal(_, literal) => Ok(Expr::Literal(NOWHERE, literal.try_clone(alloc)?)),
+        Expr::Variable(_, variable) => Ok(Expr::Variable(NOWHERE, *variable)),
+        Expr::Set(_, members) => Ok(Expr::Set(NOWHERE, bare_all(alloc, members.as_slice())?)),
+        Expr::Record(_, fields) => Ok(Expr::Record(
+            NOWHERE,
+            bare_fields(alloc, fields.as_slice())?,
+        )),
+    }
+}
+
+#[cycle(bare)]
+fn bare_boxed(alloc: Global, expr: &Boxed<Expr>) -> Result<Boxed<Expr>, AllocError>
+    ensures { IfOk result (λ copy. copy ≡ bare expr.now) }
+{
+    Boxed::new(alloc, bare(alloc, expr.get())?)
+}
+
+#[cycle(bare)]
+fn bare_all(alloc: Global, exprs: &[Expr]) -> Result<Seq<Expr>, AllocError>
+    ensures { IfOk result (λ copies. copies ≡ map bare exprs.now) }
+{
+    let mut copies = Seq::new(alloc);
+    for expr in exprs {
+        copies.push(bare(alloc, expr)?)?;
+    }
+    Ok(copies)
+}
+
+#[cycle(bare)]
+fn bare_fields(alloc: Global, fields: &[(Text, Expr)]) -> Result<Seq<(Text, Expr)>, AllocError>
+    ensures { IfOk result (λ copies. copies ≡ map (λ (f : List ℕ × AnyExpr). (f.0, bare f.1)) fields.now) }
+{
+    let mut copies = Seq::new(alloc);
+    for field in fields {
+        copies.push((field.0.try_clone(alloc)?, bare(alloc, &field.1)?))?;
+    }
+    Ok(copies)
+}
+
+fn bare_name(alloc: Global, type_name: &TypeName) -> Result<TypeName, AllocError>
+    ensures { IfOk result (λ copy. copy ≡ bare_name type_name.now) }
+{
+    Ok(TypeName {
+        place: NOWHERE,
+        name: type_name.name.try_clone(alloc)?,
+    })
+}
+
+/// Copies of names.
+pub fn copy_of_names(alloc: Global, names: &[Text]) -> Result<Seq<Text>, AllocError>
+    ensures { IfOk result (λ copies. copies ≡ names.now) }
+{
+    let mut copies = Seq::new(alloc);
+    for name in names {
+        copies.push(name.try_clone(alloc)?)?;
+    }
+    Ok(copies)
+}

@@ -1,0 +1,227 @@
+//! Types: copies, the type that two types join to, and attributes.
+ghost use Rattle.std.specs.Prelude.{◌≡◌, ◌&&◌, [], IfOk, option_map, unwrap_or, if◌then◌else◌};
+ghost use Rattle.std.specs.Option.{option_copied, option_and_then};
+ghost use Rattle.std.specs.Str.{bytes_eq};
+ghost use Rattle.sc_schema.specs.Declarations.{attrs_of};
+ghost use Rattle.sc_typed.specs.Types.{is_true, is_false, is_boolean, truth, only_if, same_name, joining, join, join_fields, same_presence, entity_name, member, record_fields, attributes, attribute, is_required};
+
+use crate::kinds::{
+    entity_name, is_boolean, is_decimal, is_false, is_ip, is_long, is_string, is_true, member,
+    record_fields,
+};
+use sc_lists::{Boxed, Seq, Text};
+use sc_names::Name;
+use sc_schema::{Attributes, Presence, Schema, Ty, attrs_of};
+use std::alloc::{AllocError, Global};
+
+/// The type of a truth value.
+pub fn truth(value: bool) -> Ty
+    ensures { result ≡ truth value }
+{
+    if value { Ty::True } else { Ty::False }
+}
+
+/// A copy, which equals the type.
+#[cycle(copy)]
+pub fn copy_of_type(alloc: Global, ty: &Ty) -> Result<Ty, AllocError>
+    ensures { IfOk result (λ copy. copy ≡ ty.now) }
+{
+    match ty {
+        Ty::True => Ok(Ty::True),
+        Ty::False => Ok(Ty::False),
+        Ty::Bool => Ok(Ty::Bool),
+        Ty::Long => Ok(Ty::Long),
+        Ty::String => Ok(Ty::String),
+        Ty::Decimal => Ok(Ty::Decimal),
+        Ty::Ip => Ok(Ty::Ip),
+        Ty::Entity(name) => Ok(Ty::Entity(name.try_clone(alloc)?)),
+        Ty::Set(member) => Ok(Ty::Set(Boxed::new(alloc, copy_of_type(alloc, member.get())?)?)),
+        Ty::Record(fields) => Ok(Ty::Record(copy_of_fields(alloc, fields)?)),
+    }
+}
+
+#[cycle(copy)]
+fn copy_of_fields(alloc: Global, fields: &Attributes) -> Result<Attributes, AllocError>
+    ensures { IfOk result (λ copy. copy ≡ fields.now) }
+{
+    let mut copy = Seq::new(alloc);
+    for field in fields.as_slice() {
+        let name = field.0.try_clone(alloc)?;
+        copy.push((name, field.1, copy_of_type(alloc, &field.2)?))?;
+    }
+    Ok(copy)
+}
+
+/// The type that two types join to: equal ones to themselves, two Boolean ones that differ to `Bool`,
+/// sets by their members, and records with the same names and the same required fields by their
+/// fields. None where they don't join.
+#[cycle(join)]
+#[tactic(auto, unfolding(crate::specs::Types::join))]
+pub fn join(alloc: Global, a: &Ty, b: &Ty) -> Result<Option<Ty>, AllocError>
+    ensures { IfOk result (λ o. o ≡ join a.now b.now) }
+{
+    match a {
+        Ty::True => Ok(join_true(b)),
+        Ty::False => Ok(join_false(b)),
+        Ty::Bool => Ok(only_if(is_boolean(b), Ty::Bool)),
+        Ty::Long => Ok(only_if(is_long(b), Ty::Long)),
+        Ty::String => Ok(only_if(is_string(b), Ty::String)),
+        Ty::Decimal => Ok(only_if(is_decimal(b), Ty::Decimal)),
+        Ty::Ip => Ok(only_if(is_ip(b), Ty::Ip)),
+        Ty::Entity(name) => join_entity(alloc, name, b),
+        Ty::Set(member) => join_set(alloc, member.get(), b),
+        Ty::Record(fields) => join_record(alloc, fields.as_slice(), b),
+    }
+}
+
+/// The type, if it may be had.
+fn only_if(may: bool, ty: Ty) -> Option<Ty>
+    ensures { result ≡ only_if may ty }
+{
+    if may { Some(ty) } else { None }
+}
+
+fn join_true(b: &Ty) -> Option<Ty>
+    ensures { result ≡ (if is_true b.now then Some Ty.True else only_if (is_boolean b.now) Ty.Bool) }
+{
+    if is_true(b) {
+        return Some(Ty::True);
+    }
+    only_if(is_boolean(b), Ty::Bool)
+}
+
+fn join_false(b: &Ty) -> Option<Ty>
+    ensures { result ≡ (if is_false b.now then Some Ty.False else only_if (is_boolean b.now) Ty.Bool) }
+{
+    if is_false(b) {
+        return Some(Ty::False);
+    }
+    only_if(is_boolean(b), Ty::Bool)
+}
+
+fn join_entity(alloc: Global, name: &Name, b: &Ty) -> Result<Option<Ty>, AllocError>
+    ensures { IfOk result (λ o. o ≡ option_and_then (same_name name.now) (entity_name b.now)) }
+{
+    let Some(other) = entity_name(b) else {
+        return Ok(None);
+    };
+    if name.as_str() != other.as_str() {
+        return Ok(None);
+    }
+    Ok(Some(Ty::Entity(other.try_clone(alloc)?)))
+}
+
+#[cycle(join)]
+fn join_set(alloc: Global, a: &Ty, b: &Ty) -> Result<Option<Ty>, AllocError>
+    ensures { IfOk result (λ o. o ≡ option_and_then (λ m. option_map Ty.Set (join a.now m)) (member b.now)) }
+{
+    let Some(other) = member(b) else {
+        return Ok(None);
+    };
+    let Some(joined) = join(alloc, a, other)? else {
+        return Ok(None);
+    };
+    Ok(Some(Ty::Set(Boxed::new(alloc, joined)?)))
+}
+
+#[cycle(join)]
+fn join_record(
+    alloc: Global,
+    fields: &[(Text, Presence, Ty)],
+    b: &Ty,
+) -> Result<Option<Ty>, AllocError>
+    ensures { IfOk result (λ o. o ≡ option_and_then (λ gs. option_map Ty.Record (join_fields (joining fields.now) gs)) (record_fields b.now)) }
+{
+    let Some(others) = record_fields(b) else {
+        return Ok(None);
+    };
+    let Some(joined) = join_fields(alloc, fields, others)? else {
+        return Ok(None);
+    };
+    Ok(Some(Ty::Record(joined)))
+}
+
+/// The fields of two record types, joined one by one.
+#[cycle(join)]
+fn join_fields(
+    alloc: Global,
+    fields: &[(Text, Presence, Ty)],
+    others: &[(Text, Presence, Ty)],
+) -> Result<Option<Attributes>, AllocError>
+    ensures { IfOk result (λ o. o ≡ join_fields (joining fields.now) others.now) }
+{
+    let mut joined = Seq::new(alloc);
+    for (i, field) in fields.iter().enumerate() {
+        let Some(other) = others.get(i) else {
+            return Ok(None);
+        };
+        if !is_alike(field, other) {
+            return Ok(None);
+        }
+        let Some(ty) = join(alloc, &field.2, &other.2)? else {
+            return Ok(None);
+        };
+        joined.push((other.0.try_clone(alloc)?, other.1, ty))?;
+    }
+    if fields.len() < others.len() {
+        return Ok(None);
+    }
+    Ok(Some(joined))
+}
+
+/// Whether two fields have one name and presence.
+fn is_alike(a: &(Text, Presence, Ty), b: &(Text, Presence, Ty)) -> bool
+    ensures { result ≡ (bytes_eq a.now.0 b.now.0 && same_presence a.now.1 b.now.1) }
+{
+    a.0.is_same(&b.0) && same_presence(a.1, b.1)
+}
+
+fn same_presence(a: Presence, b: Presence) -> bool
+    ensures { result ≡ same_presence a b }
+{
+    match a {
+        Presence::Required => matches!(b, Presence::Required),
+        Presence::Optional => matches!(b, Presence::Optional),
+    }
+}
+
+/// The attributes that records or entities of a type may have; none where it is of neither.
+pub fn attributes<'s>(schema: &'s Schema, ty: &'s Ty) -> Option<&'s [(Text, Presence, Ty)]>
+    ensures { option_map (λ fields. fields.now) result ≡ attributes schema.now ty.now }
+{
+    match ty {
+        Ty::Record(fields) => Some(fields.as_slice()),
+        Ty::Entity(name) => Some(declared(schema, name)),
+        _ => None,
+    }
+}
+
+/// The attributes that entities of a type may have.
+fn declared<'s>(schema: &'s Schema, name: &Name) -> &'s [(Text, Presence, Ty)]
+    ensures { result.now ≡ unwrap_or (option_and_then record_fields (attrs_of schema.now name.now)) [] }
+{
+    let Some(shape) = attrs_of(schema, name) else {
+        return &[];
+    };
+    match record_fields(shape) {
+        Some(fields) => fields,
+        None => &[],
+    }
+}
+
+/// The attribute of a name, if there is one.
+pub fn attribute<'f>(
+    fields: &'f [(Text, Presence, Ty)],
+    name: &Text,
+) -> Option<&'f (Text, Presence, Ty)>
+    ensures { option_copied result ≡ attribute name.now fields.now }
+{
+    fields.iter().find(|field| name.is_same(&field.0))
+}
+
+/// Whether each object has an attribute.
+pub fn is_required(field: &(Text, Presence, Ty)) -> bool
+    ensures { result ≡ is_required field.now }
+{
+    same_presence(field.1, Presence::Required)
+}

@@ -1,0 +1,131 @@
+//! Expressions with the action's uid in place of `action`.
+ghost use Rattle.std.specs.Prelude.{◌≡◌, ℕ, List, map, IfOk};
+ghost use Rattle.sc_ast.specs.declared.expr.Expr.{Expr as AnyExpr};
+ghost use Rattle.sc_typing.specs.Policies.{acting, acting_variable};
+
+use sc_ast::{Expr, Literal, Place, Variable};
+use sc_lists::{Boxed, Seq, Text};
+use sc_names::Uid;
+use sc_typed::bare::copy_of_names;
+use std::alloc::{AllocError, Global};
+
+/// A copy of an expression with the action's uid in place of `action`. The copying goes as deep as
+/// the expression does.
+#[cycle(acting)]
+#[tactic(auto, unfolding(crate::specs::Policies::acting))]
+pub(crate) fn acting(alloc: Global, action: &Uid, expr: &Expr) -> Result<Expr, AllocError>
+    ensures { IfOk result (λ copy. copy ≡ acting action.now expr.now) }
+{
+    match expr {
+        Expr::If(place, c, a, b) => Ok(Expr::If(
+            *place,
+            acting_boxed(alloc, action, c)?,
+            acting_boxed(alloc, action, a)?,
+            acting_boxed(alloc, action, b)?,
+        )),
+        Expr::Or(place, a, b) => Ok(Expr::Or(
+            *place,
+            acting_boxed(alloc, action, a)?,
+            acting_boxed(alloc, action, b)?,
+        )),
+        Expr::And(place, a, b) => Ok(Expr::And(
+            *place,
+            acting_boxed(alloc, action, a)?,
+            acting_boxed(alloc, action, b)?,
+        )),
+        Expr::Binary(place, operator, a, b) => Ok(Expr::Binary(
+            *place,
+            *operator,
+            acting_boxed(alloc, action, a)?,
+            acting_boxed(alloc, action, b)?,
+        )),
+        Expr::Has(place, a, names) => Ok(Expr::Has(
+            *place,
+            acting_boxed(alloc, action, a)?,
+            copy_of_names(alloc, names.as_slice())?,
+        )),
+        Expr::Like(place, a, pattern) => Ok(Expr::Like(
+            *place,
+            acting_boxed(alloc, action, a)?,
+            pattern.try_clone(alloc)?,
+        )),
+        Expr::Is(place, a, type_name) => Ok(Expr::Is(
+            *place,
+            acting_boxed(alloc, action, a)?,
+            type_name.try_clone(alloc)?,
+        )),
+        Expr::IsIn(place, a, type_name, in_place, b) => Ok(Expr::IsIn(
+            *place,
+            acting_boxed(alloc, action, a)?,
+            type_name.try_clone(alloc)?,
+            *in_place,
+            acting_boxed(alloc, action, b)?,
+        )),
+        Expr::Unary(place, operator, a) => {
+            Ok(Expr::Unary(*place, *operator, acting_boxed(alloc, action, a)?))
+        }
+        Expr::Access(place, a, name) => Ok(Expr::Access(
+            *place,
+            acting_boxed(alloc, action, a)?,
+            name.try_clone(alloc)?,
+        )),
+        Expr::Literal(place, literal) => Ok(Expr::Literal(*place, literal.try_clone(alloc)?)),
+        Expr::Variable(place, variable) => Ok(acting_variable(alloc, action, *place, *variable)?),
+        Expr::Set(place, members) => Ok(Expr::Set(
+            *place,
+            acting_all(alloc, action, members.as_slice())?,
+        )),
+        Expr::Record(place, fields) => Ok(Expr::Record(
+            *place,
+            acting_fields(alloc, action, fields.as_slice())?,
+        )),
+    }
+}
+
+#[cycle(acting)]
+fn acting_boxed(alloc: Global, action: &Uid, expr: &Boxed<Expr>) -> Result<Boxed<Expr>, AllocError>
+    ensures { IfOk result (λ copy. copy ≡ acting action.now expr.now) }
+{
+    Boxed::new(alloc, acting(alloc, action, expr.get())?)
+}
+
+#[cycle(acting)]
+fn acting_all(alloc: Global, action: &Uid, exprs: &[Expr]) -> Result<Seq<Expr>, AllocError>
+    ensures { IfOk result (λ copies. copies ≡ map (acting action.now) exprs.now) }
+{
+    let mut copies = Seq::new(alloc);
+    for expr in exprs {
+        copies.push(acting(alloc, action, expr)?)?;
+    }
+    Ok(copies)
+}
+
+#[cycle(acting)]
+fn acting_fields(
+    alloc: Global,
+    action: &Uid,
+    fields: &[(Text, Expr)],
+) -> Result<Seq<(Text, Expr)>, AllocError>
+    ensures { IfOk result (λ copies. copies ≡ map (λ (f : List ℕ × AnyExpr). (f.0, acting action.now f.1)) fields.now) }
+{
+    let mut copies = Seq::new(alloc);
+    for field in fields {
+        copies.push((field.0.try_clone(alloc)?, acting(alloc, action, &field.1)?))?;
+    }
+    Ok(copies)
+}
+
+/// A variable, or the action's uid in its place.
+fn acting_variable(
+    alloc: Global,
+    action: &Uid,
+    place: Place,
+    variable: Variable,
+) -> Result<Expr, AllocError>
+    ensures { IfOk result (λ e. e ≡ acting_variable action.now place variable) }
+{
+    match variable {
+        Variable::Action => Ok(Expr::Literal(place, Literal::Entity(action.try_clone(alloc)?))),
+        _ => Ok(Expr::Variable(place, variable)),
+    }
+}

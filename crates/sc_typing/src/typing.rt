@@ -1,0 +1,426 @@
+//! Typing of expressions. It goes as deep as the expression does.
+ghost use Rattle.std.specs.Prelude.{◌≡◌, ◌++◌, ℕ, List, map};
+ghost use Rattle.sc_lists.specs.Told.{Gives};
+ghost use Rattle.sc_ast.specs.declared.expr.Expr.{Expr as AnyExpr};
+ghost use Rattle.sc_typing.specs.Settings.{seen, typed_in, choice_first, choice_second, choice_rest, tested_among};
+ghost use Rattle.sc_typing_rules.specs.Rules.{choice, choice_open, either, both, operated, contained, membership, computed, having, matching, tested, tested_in, applied, accessed, all_typed, set_literal, fields_typed, record_literal};
+ghost use Rattle.sc_typing.specs.Typing.{typing};
+
+use sc_ast::{BinaryOperator, Expr, Place, TypeName, UnaryOperator};
+use sc_lists::{Boxed, Fault, Seq, Text};
+use sc_pattern::Pattern;
+use sc_schema::Ty;
+use sc_typed::capability::copies;
+use sc_typed::operands::{is_false, is_true};
+use sc_typed::types::truth;
+use sc_typed::{Capability, TypeFault, Typed, TypedExpr};
+use sc_typing_rules::Setting;
+use sc_typing_rules::actions::decided;
+use sc_typing_rules::collections::{record_of, set_of};
+use sc_typing_rules::leaves::{leaves, literal, variable};
+use sc_typing_rules::logic::{
+    and_false, branches, conjunction, disjunction, first_branch, or_true, second_branch,
+};
+use sc_typing_rules::objects::{access, has};
+use sc_typing_rules::operations::{
+    apply, contain, is, is_in, is_not, is_of, like, operate, with_right,
+};
+
+/// The types of an expression where some capabilities are known, and the capabilities that it gives.
+/// Operands are typed from left to right, but for those that a rule skips, and then their kinds are
+/// asked for. The first fault stands.
+#[cycle(typing)]
+#[tactic(auto, using(crate::proofs::AnswersLaws::gives_Or, crate::proofs::AnswersLaws::gives_And, crate::proofs::AnswersLaws::gives_Binary, crate::proofs::AnswersLaws::gives_Has, crate::proofs::AnswersLaws::gives_Like, crate::proofs::AnswersLaws::gives_Is, crate::proofs::AnswersLaws::gives_IsIn, crate::proofs::AnswersLaws::gives_Unary, crate::proofs::AnswersLaws::gives_Access))]
+pub(crate) fn type_expr(setting: &Setting<'_>, expr: &Expr) -> Result<Typed, Fault<TypeFault>>
+    ensures { Gives result (typed_in setting.now expr.now) }
+{
+    match expr {
+        Expr::If(place, c, a, b) => choose(setting, *place, c.get(), a.get(), b.get()),
+        Expr::Or(place, a, b) => or_else(setting, *place, a.get(), b.get()),
+        Expr::And(place, a, b) => and_also(setting, *place, a.get(), b.get()),
+        Expr::Binary(place, operator, a, b) => {
+            type_binary(setting, *place, *operator, a.get(), b.get())
+        }
+        Expr::Has(place, a, names) => type_has(setting, *place, names.as_slice(), a.get()),
+        Expr::Like(place, a, pattern) => type_like(setting, *place, pattern, a.get()),
+        Expr::Is(place, a, type_name) => type_is(setting, *place, type_name, a.get()),
+        Expr::IsIn(place, a, type_name, in_place, b) => {
+            type_is_in(setting, *place, type_name, *in_place, a.get(), b.get())
+        }
+        Expr::Unary(place, operator, a) => type_unary(setting, *place, *operator, a.get()),
+        Expr::Access(place, a, name) => type_access(setting, *place, name, a.get()),
+        Expr::Literal(place, l) => Ok(literal(setting.alloc, *place, l)?),
+        Expr::Variable(place, x) => Ok(variable(setting, *place, *x)?),
+        Expr::Set(place, members) => type_set(setting, *place, members.as_slice()),
+        Expr::Record(place, fields) => type_record(setting, *place, fields.as_slice()),
+    }
+}
+
+/// The same in a box, so that little has to be dropped where it is held while others are typed.
+#[cycle(typing)]
+pub(crate) fn type_boxed(
+    setting: &Setting<'_>,
+    expr: &Expr,
+) -> Result<Boxed<Typed>, Fault<TypeFault>>
+    ensures { Gives result (typed_in setting.now expr.now) }
+{
+    let x = type_expr(setting, expr)?;
+    Ok(Boxed::new(setting.alloc, x)?)
+}
+
+/// The types of an expression where further capabilities are known.
+#[cycle(typing)]
+fn type_under(
+    setting: &Setting<'_>,
+    given: &[Capability],
+    expr: &Expr,
+) -> Result<Boxed<Typed>, Fault<TypeFault>>
+    ensures { Gives result (typing setting.now.schema.now setting.now.env.now expr.now (setting.now.known.now ++ given.now)) }
+{
+    if given.is_empty() {
+        return type_boxed(setting, expr);
+    }
+    let all = copies(setting.alloc, setting.known, given)?;
+    let more = Setting {
+        alloc: setting.alloc,
+        schema: setting.schema,
+        env: setting.env,
+        known: all.as_slice(),
+    };
+    type_boxed(&more, expr)
+}
+
+#[cycle(typing)]
+fn choose(
+    setting: &Setting<'_>,
+    place: Place,
+    c: &Expr,
+    a: &Expr,
+    b: &Expr,
+) -> Result<Typed, Fault<TypeFault>>
+    ensures { Gives result (choice place (seen setting.now c.now) (seen setting.now a.now) (seen setting.now b.now) setting.now.known.now) }
+{
+    let x = type_boxed(setting, c)?;
+    if is_true(&x.get().expr) {
+        return choose_first(setting, place, x, a, b);
+    }
+    if is_false(&x.get().expr) {
+        return choose_second(setting, place, x, a, b);
+    }
+    choose_open(setting, place, x, a, b)
+}
+
+/// `if c then a else b` where c is true.
+#[cycle(typing)]
+fn choose_first(
+    setting: &Setting<'_>,
+    place: Place,
+    x: Boxed<Typed>,
+    a: &Expr,
+    b: &Expr,
+) -> Result<Typed, Fault<TypeFault>>
+    ensures { Gives result (choice_first place x (seen setting.now a.now) b.now setting.now.known.now) }
+{
+    let y = type_under(setting, x.get().given.as_slice(), a)?;
+    Ok(first_branch(setting.alloc, place, x.into_inner(), y.into_inner(), b)?)
+}
+
+/// `if c then a else b` where c is false.
+#[cycle(typing)]
+fn choose_second(
+    setting: &Setting<'_>,
+    place: Place,
+    x: Boxed<Typed>,
+    a: &Expr,
+    b: &Expr,
+) -> Result<Typed, Fault<TypeFault>>
+    ensures { Gives result (choice_second place x a.now (seen setting.now b.now) setting.now.known.now) }
+{
+    let z = type_expr(setting, b)?;
+    Ok(second_branch(setting.alloc, place, x.into_inner(), a, z)?)
+}
+
+/// `if c then a else b` where c may be true or false.
+#[cycle(typing)]
+fn choose_open(
+    setting: &Setting<'_>,
+    place: Place,
+    x: Boxed<Typed>,
+    a: &Expr,
+    b: &Expr,
+) -> Result<Typed, Fault<TypeFault>>
+    ensures { Gives result (choice_open place x (seen setting.now a.now) (seen setting.now b.now) setting.now.known.now) }
+{
+    let y = type_under(setting, x.get().given.as_slice(), a)?;
+    choose_rest(setting, place, x, y, b)
+}
+
+/// The same, of c and of a with their types.
+#[cycle(typing)]
+fn choose_rest(
+    setting: &Setting<'_>,
+    place: Place,
+    x: Boxed<Typed>,
+    y: Boxed<Typed>,
+    b: &Expr,
+) -> Result<Typed, Fault<TypeFault>>
+    ensures { Gives result (choice_rest place x y (seen setting.now b.now) setting.now.known.now) }
+{
+    let z = type_expr(setting, b)?;
+    branches(setting.alloc, place, x.into_inner(), y.into_inner(), z)
+}
+
+#[cycle(typing)]
+fn or_else(
+    setting: &Setting<'_>,
+    place: Place,
+    a: &Expr,
+    b: &Expr,
+) -> Result<Typed, Fault<TypeFault>>
+    ensures { Gives result (either place (seen setting.now a.now) (seen setting.now b.now) setting.now.known.now) }
+{
+    let x = type_boxed(setting, a)?;
+    if is_true(&x.get().expr) {
+        return Ok(or_true(setting.alloc, place, x.into_inner(), b)?);
+    }
+    let y = type_expr(setting, b)?;
+    disjunction(setting.alloc, place, x.into_inner(), y)
+}
+
+#[cycle(typing)]
+fn and_also(
+    setting: &Setting<'_>,
+    place: Place,
+    a: &Expr,
+    b: &Expr,
+) -> Result<Typed, Fault<TypeFault>>
+    ensures { Gives result (both place (seen setting.now a.now) (seen setting.now b.now) setting.now.known.now) }
+{
+    let x = type_boxed(setting, a)?;
+    if is_false(&x.get().expr) {
+        return Ok(and_false(setting.alloc, place, x.into_inner(), b)?);
+    }
+    let y = type_under(setting, x.get().given.as_slice(), b)?;
+    conjunction(setting.alloc, place, x.into_inner(), y.into_inner())
+}
+
+#[cycle(typing)]
+fn type_binary(
+    setting: &Setting<'_>,
+    place: Place,
+    operator: BinaryOperator,
+    a: &Expr,
+    b: &Expr,
+) -> Result<Typed, Fault<TypeFault>>
+    ensures { Gives result (operated setting.now.schema.now place operator (seen setting.now a.now) (seen setting.now b.now) setting.now.known.now) }
+{
+    match operator {
+        BinaryOperator::In => type_in(setting, place, a, b),
+        _ => type_operands(setting, place, operator, a, b),
+    }
+}
+
+#[cycle(typing)]
+fn type_operands(
+    setting: &Setting<'_>,
+    place: Place,
+    operator: BinaryOperator,
+    a: &Expr,
+    b: &Expr,
+) -> Result<Typed, Fault<TypeFault>>
+    ensures { Gives result (computed setting.now.schema.now place operator (seen setting.now a.now) (seen setting.now b.now) setting.now.known.now) }
+{
+    let x = type_boxed(setting, a)?;
+    let y = type_expr(setting, b)?;
+    let x = x.into_inner().into_expr();
+    operate(setting, place, operator, a, b, x, y.into_expr())
+}
+
+#[cycle(typing)]
+fn type_in(
+    setting: &Setting<'_>,
+    place: Place,
+    a: &Expr,
+    b: &Expr,
+) -> Result<Typed, Fault<TypeFault>>
+    ensures { Gives result (contained setting.now.schema.now place (seen setting.now a.now) (seen setting.now b.now) setting.now.known.now) }
+{
+    let x = type_boxed(setting, a)?;
+    let right = type_right(setting, a, b, &x.get().expr)?;
+    Ok(contain(setting.alloc, place, x.into_inner().into_expr(), right)?)
+}
+
+/// The right side of `a in b`, of a with its types, and the type of the whole.
+#[cycle(typing)]
+fn type_right(
+    setting: &Setting<'_>,
+    a: &Expr,
+    b: &Expr,
+    x: &TypedExpr,
+) -> Result<(Ty, TypedExpr), Fault<TypeFault>>
+    ensures { Gives result (membership setting.now.schema.now a.now (seen setting.now b.now) setting.now.known.now x.now) }
+{
+    if let Some(is_in) = decided(setting.schema, a, b) {
+        let right = leaves(setting.alloc, b)?;
+        return Ok((truth(is_in), right));
+    }
+    let y = type_expr(setting, b)?;
+    Ok(with_right(setting.schema, x, y.into_expr())?)
+}
+
+#[cycle(typing)]
+fn type_has(
+    setting: &Setting<'_>,
+    place: Place,
+    names: &[Text],
+    a: &Expr,
+) -> Result<Typed, Fault<TypeFault>>
+    ensures { Gives result (having setting.now.schema.now place names.now (seen setting.now a.now) setting.now.known.now) }
+{
+    let x = type_expr(setting, a)?;
+    has(setting, place, names, a, x.into_expr())
+}
+
+#[cycle(typing)]
+fn type_like(
+    setting: &Setting<'_>,
+    place: Place,
+    pattern: &Pattern,
+    a: &Expr,
+) -> Result<Typed, Fault<TypeFault>>
+    ensures { Gives result (matching place pattern.now (seen setting.now a.now) setting.now.known.now) }
+{
+    let x = type_expr(setting, a)?;
+    like(setting.alloc, place, pattern, x.into_expr())
+}
+
+#[cycle(typing)]
+fn type_is(
+    setting: &Setting<'_>,
+    place: Place,
+    type_name: &TypeName,
+    a: &Expr,
+) -> Result<Typed, Fault<TypeFault>>
+    ensures { Gives result (tested place type_name.now (seen setting.now a.now) setting.now.known.now) }
+{
+    let x = type_expr(setting, a)?;
+    is(setting.alloc, place, type_name, x.into_expr())
+}
+
+#[cycle(typing)]
+fn type_is_in(
+    setting: &Setting<'_>,
+    place: Place,
+    type_name: &TypeName,
+    in_place: Place,
+    a: &Expr,
+    b: &Expr,
+) -> Result<Typed, Fault<TypeFault>>
+    ensures { Gives result (tested_in setting.now.schema.now place type_name.now in_place (seen setting.now a.now) (seen setting.now b.now) setting.now.known.now) }
+{
+    let x = type_boxed(setting, a)?;
+    if is_of(&x.get().expr, type_name)? {
+        return type_among(setting, place, type_name, in_place, a, x, b);
+    }
+    let x = x.into_inner().into_expr();
+    Ok(is_not(setting.alloc, place, type_name, in_place, x, b)?)
+}
+
+/// `a is T in b` where a is of the type T.
+#[cycle(typing)]
+fn type_among(
+    setting: &Setting<'_>,
+    place: Place,
+    type_name: &TypeName,
+    in_place: Place,
+    a: &Expr,
+    x: Boxed<Typed>,
+    b: &Expr,
+) -> Result<Typed, Fault<TypeFault>>
+    ensures { Gives result (tested_among setting.now.schema.now place type_name.now in_place a.now x.expr (seen setting.now b.now) setting.now.known.now) }
+{
+    let right = type_right(setting, a, b, &x.get().expr)?;
+    let x = x.into_inner().into_expr();
+    Ok(is_in(setting.alloc, place, type_name, in_place, x, right)?)
+}
+
+#[cycle(typing)]
+fn type_unary(
+    setting: &Setting<'_>,
+    place: Place,
+    operator: UnaryOperator,
+    a: &Expr,
+) -> Result<Typed, Fault<TypeFault>>
+    ensures { Gives result (applied place operator (seen setting.now a.now) setting.now.known.now) }
+{
+    let x = type_expr(setting, a)?;
+    apply(setting.alloc, place, operator, a, x.into_expr())
+}
+
+#[cycle(typing)]
+fn type_access(
+    setting: &Setting<'_>,
+    place: Place,
+    name: &Text,
+    a: &Expr,
+) -> Result<Typed, Fault<TypeFault>>
+    ensures { Gives result (accessed setting.now.schema.now place name.now (seen setting.now a.now) setting.now.known.now) }
+{
+    let x = type_expr(setting, a)?;
+    access(setting, place, name, a, x.into_expr())
+}
+
+#[cycle(typing)]
+fn type_set(
+    setting: &Setting<'_>,
+    place: Place,
+    members: &[Expr],
+) -> Result<Typed, Fault<TypeFault>>
+    ensures { Gives result (set_literal place (map (seen setting.now) members.now) setting.now.known.now) }
+{
+    let typed = type_all(setting, members)?;
+    set_of(setting.alloc, place, typed)
+}
+
+/// Members with their types, in order.
+#[cycle(typing)]
+#[tactic(auto, using(crate::proofs::ToComeLaws::members_to_come_more))]
+fn type_all(setting: &Setting<'_>, members: &[Expr]) -> Result<Seq<TypedExpr>, Fault<TypeFault>>
+    ensures { Gives result (all_typed (map (seen setting.now) members.now) setting.now.known.now) }
+{
+    let mut typed = Seq::new(setting.alloc);
+    for member in members {
+        typed.push(type_expr(setting, member)?.into_expr())?;
+    }
+    Ok(typed)
+}
+
+#[cycle(typing)]
+fn type_record(
+    setting: &Setting<'_>,
+    place: Place,
+    fields: &[(Text, Expr)],
+) -> Result<Typed, Fault<TypeFault>>
+    ensures { Gives result (record_literal place (map (λ (f : List ℕ × AnyExpr). (f.0, seen setting.now f.1)) fields.now) setting.now.known.now) }
+{
+    let typed = type_fields(setting, fields)?;
+    Ok(record_of(setting.alloc, place, typed)?)
+}
+
+/// The names of fields, and these with their types, in order.
+#[cycle(typing)]
+#[tactic(auto, using(crate::proofs::ToComeLaws::fields_to_come_more))]
+fn type_fields(
+    setting: &Setting<'_>,
+    fields: &[(Text, Expr)],
+) -> Result<Seq<(Text, TypedExpr)>, Fault<TypeFault>>
+    ensures { Gives result (fields_typed (map (λ (f : List ℕ × AnyExpr). (f.0, seen setting.now f.1)) fields.now) setting.now.known.now) }
+{
+    let mut typed = Seq::new(setting.alloc);
+    for field in fields {
+        let name = field.0.try_clone(setting.alloc)?;
+        let x = type_expr(setting, &field.1)?;
+        typed.push((name, x.into_expr()))?;
+    }
+    Ok(typed)
+}

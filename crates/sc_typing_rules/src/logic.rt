@@ -1,0 +1,236 @@
+//! `if`, `||` and `&&`, of operands with their types.
+ghost use Rattle.std.specs.Prelude.{◌≡◌, ◌++◌, [], IfOk, if◌then◌else◌};
+ghost use Rattle.sc_lists.specs.Told.{Gives};
+ghost use Rattle.sc_typed.specs.Outcomes.{ty, made, joined};
+ghost use Rattle.sc_typed.specs.Types.{is_false};
+ghost use Rattle.sc_typing_rules.specs.Rules.{first_branch, second_branch, branches, or_type, or_given, disjunction, and_type, and_given, conjunction};
+
+use sc_ast::{Expr, Place, try_clone};
+use sc_lists::{Boxed, Fault, Seq};
+use sc_schema::Ty;
+use sc_typed::capability::{common, joined};
+use sc_typed::operands::{boolean, copy_of_ty, is_false, is_true};
+use sc_typed::types::join;
+use sc_typed::{Capability, TypeFault, TypeRule, Typed, TypedExpr};
+use std::alloc::{AllocError, Global};
+
+/// An expression that is skipped.
+pub fn skipped(alloc: Global, expr: &Expr) -> Result<Boxed<TypedExpr>, AllocError>
+    ensures { IfOk result (λ x. x ≡ TypedExpr.Skipped expr.now) }
+{
+    Boxed::new(alloc, TypedExpr::Skipped(try_clone(alloc, expr)?))
+}
+
+/// The type that two types join to; where they don't, a fault at a place.
+pub fn joined_type(alloc: Global, place: Place, a: &Ty, b: &Ty) -> Result<Ty, Fault<TypeFault>>
+    ensures { Gives result (joined place a.now b.now) }
+{
+    match join(alloc, a, b)? {
+        Some(ty) => Ok(ty),
+        None => Err(Fault::Told(TypeFault {
+            rule: TypeRule::NoJoin,
+            at: place,
+        })),
+    }
+}
+
+/// `if c then a else b` where c is always true.
+pub fn first_branch(
+    alloc: Global,
+    place: Place,
+    c: Typed,
+    a: Typed,
+    b: &Expr,
+) -> Result<Typed, AllocError>
+    ensures { IfOk result (λ x. x ≡ first_branch place c a b.now) }
+{
+    let ty = copy_of_ty(alloc, &a.expr)?;
+    let given = joined(c.given, a.given)?;
+    let condition = Boxed::new(alloc, c.expr)?;
+    let taken = Boxed::new(alloc, a.expr)?;
+    let expr = TypedExpr::If(place, ty, condition, taken, skipped(alloc, b)?);
+    Ok(Typed { expr, given })
+}
+
+/// `if c then a else b` where c is always false.
+pub fn second_branch(
+    alloc: Global,
+    place: Place,
+    c: Typed,
+    a: &Expr,
+    b: Typed,
+) -> Result<Typed, AllocError>
+    ensures { IfOk result (λ x. x ≡ second_branch place c a.now b) }
+{
+    let ty = copy_of_ty(alloc, &b.expr)?;
+    let condition = Boxed::new(alloc, c.into_expr())?;
+    let taken = Boxed::new(alloc, b.expr)?;
+    let expr = TypedExpr::If(place, ty, condition, skipped(alloc, a)?, taken);
+    Ok(Typed {
+        expr,
+        given: b.given,
+    })
+}
+
+/// `if c then a else b` where c may be true or false.
+pub fn branches(
+    alloc: Global,
+    place: Place,
+    c: Typed,
+    a: Typed,
+    b: Typed,
+) -> Result<Typed, Fault<TypeFault>>
+    ensures { Gives result (branches place c a b) }
+{
+    boolean(&c.expr)?;
+    let ty = branches_type(alloc, place, &a.expr, &b.expr)?;
+    let given = common(alloc, joined(c.given, a.given)?, b.given.as_slice())?;
+    let condition = Boxed::new(alloc, c.expr)?;
+    let first = Boxed::new(alloc, a.expr)?;
+    let second = Boxed::new(alloc, b.expr)?;
+    let expr = TypedExpr::If(place, ty, condition, first, second);
+    Ok(Typed { expr, given })
+}
+
+/// The type that those of two expressions join to; where they don't, a fault at a place.
+pub fn branches_type(
+    alloc: Global,
+    place: Place,
+    a: &TypedExpr,
+    b: &TypedExpr,
+) -> Result<Ty, Fault<TypeFault>>
+    ensures { Gives result (joined place (ty a.now) (ty b.now)) }
+{
+    let first = copy_of_ty(alloc, a)?;
+    let second = copy_of_ty(alloc, b)?;
+    joined_type(alloc, place, &first, &second)
+}
+
+/// `a || b` where a isn't always true.
+pub fn disjunction(
+    alloc: Global,
+    place: Place,
+    a: Typed,
+    b: Typed,
+) -> Result<Typed, Fault<TypeFault>>
+    ensures { Gives result (disjunction place a b) }
+{
+    boolean(&a.expr)?;
+    boolean(&b.expr)?;
+    let ty = or_type(alloc, &a.expr, &b.expr)?;
+    let Typed {
+        expr: a,
+        given: first,
+    } = a;
+    let Typed {
+        expr: b,
+        given: second,
+    } = b;
+    let given = or_given(alloc, &a, &b, first, second)?;
+    let expr = TypedExpr::Or(place, ty, Boxed::new(alloc, a)?, Boxed::new(alloc, b)?);
+    Ok(Typed { expr, given })
+}
+
+fn or_type(alloc: Global, a: &TypedExpr, b: &TypedExpr) -> Result<Ty, AllocError>
+    ensures { IfOk result (λ t. t ≡ or_type a.now b.now) }
+{
+    if is_false(a) {
+        return copy_of_ty(alloc, b);
+    }
+    if is_true(b) {
+        return Ok(Ty::True);
+    }
+    Ok(Ty::Bool)
+}
+
+/// What a disjunction gives, of what its operands give.
+fn or_given(
+    alloc: Global,
+    a: &TypedExpr,
+    b: &TypedExpr,
+    first: Seq<Capability>,
+    second: Seq<Capability>,
+) -> Result<Seq<Capability>, AllocError>
+    ensures { IfOk result (λ given. given ≡ or_given (made a.now first) (made b.now second)) }
+{
+    if is_false(a) {
+        return Ok(second);
+    }
+    if is_true(b) {
+        return Ok(Seq::new(alloc));
+    }
+    if is_false(b) {
+        return Ok(first);
+    }
+    common(alloc, first, second.as_slice())
+}
+
+/// `a && b` where a isn't always false.
+pub fn conjunction(
+    alloc: Global,
+    place: Place,
+    a: Typed,
+    b: Typed,
+) -> Result<Typed, Fault<TypeFault>>
+    ensures { Gives result (conjunction place a b) }
+{
+    boolean(&a.expr)?;
+    boolean(&b.expr)?;
+    let ty = and_type(alloc, &a.expr, &b.expr)?;
+    let Typed {
+        expr: a,
+        given: first,
+    } = a;
+    let Typed {
+        expr: b,
+        given: second,
+    } = b;
+    let given = and_given(alloc, &b, first, second)?;
+    let expr = TypedExpr::And(place, ty, Boxed::new(alloc, a)?, Boxed::new(alloc, b)?);
+    Ok(Typed { expr, given })
+}
+
+fn and_type(alloc: Global, a: &TypedExpr, b: &TypedExpr) -> Result<Ty, AllocError>
+    ensures { IfOk result (λ t. t ≡ and_type a.now b.now) }
+{
+    if is_false(b) {
+        return Ok(Ty::False);
+    }
+    if is_true(b) {
+        return copy_of_ty(alloc, a);
+    }
+    Ok(Ty::Bool)
+}
+
+/// What a conjunction gives, of what its operands give.
+fn and_given(
+    alloc: Global,
+    b: &TypedExpr,
+    first: Seq<Capability>,
+    second: Seq<Capability>,
+) -> Result<Seq<Capability>, AllocError>
+    ensures { IfOk result (λ given. given ≡ (if is_false (ty b.now) then [] else first ++ second)) }
+{
+    if is_false(b) {
+        return Ok(Seq::new(alloc));
+    }
+    joined(first, second)
+}
+
+/// `a || b` where a is always true.
+pub fn or_true(alloc: Global, place: Place, a: Typed, b: &Expr) -> Result<Typed, AllocError>
+    ensures { IfOk result (λ x. x ≡ made (TypedExpr.Or place Ty.True a.expr (TypedExpr.Skipped b.now)) []) }
+{
+    let first = Boxed::new(alloc, a.into_expr())?;
+    let expr = TypedExpr::Or(place, Ty::True, first, skipped(alloc, b)?);
+    Ok(Typed::plain(alloc, expr))
+}
+
+/// `a && b` where a is always false.
+pub fn and_false(alloc: Global, place: Place, a: Typed, b: &Expr) -> Result<Typed, AllocError>
+    ensures { IfOk result (λ x. x ≡ made (TypedExpr.And place Ty.False a.expr (TypedExpr.Skipped b.now)) []) }
+{
+    let first = Boxed::new(alloc, a.into_expr())?;
+    let expr = TypedExpr::And(place, Ty::False, first, skipped(alloc, b)?);
+    Ok(Typed::plain(alloc, expr))
+}
