@@ -1,125 +1,223 @@
--- The goal is true where the policies allow, so the solver's answers are verdicts.
-use Rattle.std.proofs.Common.{◌≡◌, ◌&&◌, ◌||◌, ◌++◌, ℕ, zero, suc, List, [], ◌∷◌, Bool, true, false, not, Option, Some, None, Ok, IsTrue, Contains, unwrap_or, if◌then◌else◌, refl, ap, sym, ◌∙◌, subst, arith}
+-- A query has a goal in each environment, and what the solver answers of its problem is a verdict.
+use Rattle.std.proofs.Common.{◌≡◌, ◌↔◌, ◌≤◌, ◌⊎◌, ◌++◌, ℕ, suc, List, [], ◌∷◌, Bool, true, false, not, Option, Some, None, IfSome, IsSome, Contains, unwrap_or, refl, sym, ap, ◌∙◌, subst, arith, ⊎_elim}
+use Rattle.std.specs.Bool.{⊤}
 use Rattle.std.specs.List.{AllByRecursion}
-use Rattle.sc_ast.specs.declared.expr.Expr.{Expr}
-use Rattle.sc_ast.specs.declared.expr.Expr.TheVariants.{Access, Literal, Variable}
-use Rattle.sc_ast.specs.declared.literal.Literal.TheVariants as literal
-use Rattle.sc_ast.specs.declared.expr.Variable.TheVariants.{Context}
-use Rattle.sc_ast.specs.Literals.{expr_uids}
-use Rattle.sc_ast.proofs.LiteralsLaws.{uids_Access, uids_Variable}
-use Rattle.sc_auth.specs.Decisions as auth
-use Rattle.sc_eval.specs.Outcomes.{Outcome, ◌>>=◌, decide, of_bool, bool_in}
-use Rattle.sc_eval.specs.Entities.{access, access_in, or_missing}
-use Rattle.sc_eval.specs.Eval.{eval}
-use Rattle.sc_eval.proofs.EvalLaws.{eval_And, eval_Access, eval_Literal, eval_Variable}
-use Rattle.sc_footprint.specs.declared.term.Term.{Term}
-use Rattle.sc_footprint.specs.Problems.{Posed, of_context, is_goal}
-use Rattle.sc_footprint.specs.Terms.{is_true, truth_in}
-use Rattle.sc_footprint.proofs.TermLaws.{is_true_False, val_of_context}
-use Rattle.sc_checker.specs.Truths.{IsUnsatisfiable}
-use Rattle.sc_solver.specs.Solutions.{Satisfies}
+use Rattle.std.specs.Option.{option_or}
+use Rattle.std.proofs.lemmas.List.Elements.{Contains-append_left, Contains-append_right, Contains-append_cases}
+use Rattle.sc_ast.specs.declared.policy.Policy.{Policy}
+use Rattle.sc_ast.specs.Literals.{literals}
+use Rattle.sc_constructs.specs.First.{unsupported, first_from}
+use Rattle.sc_clauses.specs.declared.step.Step.{Step}
+use Rattle.sc_footprint.specs.Problems.{Posed, IsPosed, IsProblemOf, IsOverLimit}
+use Rattle.sc_footprint.specs.Problems as problem
+use Rattle.sc_footprint.specs.Truths.{Satisfies, IsUnsatisfiable, is_true}
+use Rattle.sc_goal.specs.Goals.{all_compiled, goal_term}
+use Rattle.sc_goal.specs.Properties.{has}
+use Rattle.sc_goal.specs.Queries.{Asked as Query, IsAsked, second}
+use Rattle.sc_inputs.specs.Readings.{IsRead}
+use Rattle.sc_inputs.specs.Refusals.{Content, Side, policies_side, against_side, on, in_against, first_fault, AreServed}
+use Rattle.sc_inputs.specs.Serving.{Serves, Task, asking, replaying}
+use Rattle.sc_inputs.specs.declared.inputs.Analysis.{Analysis}
+use Rattle.sc_inputs.specs.declared.inputs.Inputs.TheVariants as inputs
 use Rattle.sc_names.specs.declared.uid.Uid.{Uid}
+use Rattle.sc_question.specs.declared.question.Question.{Question}
 use Rattle.sc_schema.specs.declared.declarations.Env.{Env}
 use Rattle.sc_schema.specs.Declarations.{Declarations, environments}
-use Rattle.sc_values.specs.declared.value.Value.{Value, Value-F, out-Value}
-use Rattle.sc_values.specs.declared.value.Value.TheOpen as v
-use Rattle.sc_values.specs.declared.value.Value.TheVariants as value
-use Rattle.sc_values.specs.Records.{field}
-use Rattle.sc_values.proofs.OutLaws.{out_Bool, out_Record}
+use Rattle.sc_schema.specs.Lawful.{IsLawful}
+use Rattle.sc_solver.specs.Solutions.{rules_of}
+use Rattle.sc_solver.specs.Units.{IsSpent}
+use Rattle.sc_terms.specs.declared.node.Node.{Node}
+use Rattle.sc_terms.specs.Tables.{StandsFor}
+use Rattle.sc_terms.specs.Trees.{Tree}
+use Rattle.sc_terms.specs.Values.{val, truth}
+use Rattle.sc_typing.specs.Checking.{type_fault, fault_from}
+use Rattle.sc_typing.specs.Names.{name_fault}
 use Rattle.sc_world.specs.declared.world.World.{World}
+use Rattle.sc_world.specs.Named.{IsDeclared}
 use Rattle.sc_world.specs.WellFormed.{IsWellFormed}
-use Rattle.sc_inputs.specs.Policies.{at, policy_on, policies_of, goal_for, IsServed}
-use Rattle.cedar_symcc.specs.Reports.{written_uids, IsWorldOf, AlwaysHas, Violates}
+use Rattle.cedar_symcc.specs.Analyses.{asked_in, asked_of, most_units, IsAnswer, IsGoalOf, IsQueryOf, MayBeAsked}
 use Rattle.cedar_symcc.specs.Runs.{asked}
+use Rattle.cedar_symcc.specs.View.{IsPrintable}
+use Rattle.cedar_symcc.specs.declared.analysing.EnvAnswer.{EnvAnswer}
+use Rattle.cedar_symcc.specs.declared.analysing.EnvAnswer.TheVariants.{Holds, Violated, Spent, OverLimit}
+use Rattle.cedar_symcc.specs.Reports.{Asked, written_uids, has_property, IsWorldOf, AlwaysHas, Violates, IsProblem, IsUndecided, IsTooLarge}
 
--- ---- the policy's condition
+-- ---- the laws of other crates on which these rest
 
-level-true : (y : Value-F Value) → auth.is_true (bool_in y >>= of_bool) ≡ truth_in y
-level-true (v.Bool b) = ap auth.true_in (out_Bool b)
-level-true (v.Long n) = refl
-level-true (v.String text) = refl
-level-true (v.Entity u) = refl
-level-true (v.Set members) = refl
-level-true (v.Record fields) = refl
-level-true (v.Decimal n) = refl
-level-true (v.Ip ip) = refl
+abbrev Compiling : Type 0
+Compiling = (s : Declarations) (env : Env) (ps : List Policy) → type_fault s ps ≡ None → unsupported s ps ≡ None → Contains (environments s) env → IsSome (all_compiled s env ps)
 
-field-true : (o : Option Value) → auth.is_true (decide (or_missing o) of_bool) ≡ truth_in (out-Value (unwrap_or o (value.Bool false)))
-field-true None = sym (ap truth_in (out_Bool false))
-field-true (Some x) = level-true (out-Value x)
+abbrev Posing : Type 0
+Posing = (s : Declarations) (env : Env) (q : Question) (a b : List Policy) → IsSome (all_compiled s env a) → IsSome (all_compiled s env b) → IsSome (goal_term s env q a b)
 
-abbrev attribute : List ℕ → Expr
-attribute name = Access (at 50) (Variable (at 43) Context) name
+abbrev Declaring : Type 0
+Declaring = (s : Declarations) (ps : List Policy) (u : Uid) → name_fault s ps ≡ None → Contains (literals ps) u → IsDeclared s u
 
-eval-attribute : (name : List ℕ) (w : World) → eval (attribute name) w ≡ or_missing (field name w.request.context)
-eval-attribute name w =
-    eval_Access (at 50) (Variable (at 43) Context) name w
-    ∙ ap (λ o. o >>= access name w) (eval_Variable (at 43) Context w)
-    ∙ ap (access_in name w) (out_Record w.request.context)
+abbrev Right : Type 0
+Right = (s : Declarations) (env : Env) (lits : List Uid) (w : World) (q : Question) (a b : List Policy) (t : Tree)
+    → IsLawful s → IsWellFormed s env lits w → ((u : Uid) → Contains (literals a) u → Contains lits u) → ((u : Uid) → Contains (literals b) u → Contains lits u)
+    → goal_term s env q a b ≡ Some t → truth (val t w) ≡ not (has q a b w)
 
-true-first : (o : Outcome) → decide (Ok (value.Bool true)) (λ p. if p then o else of_bool false) ≡ o
-true-first o = ap (λ y. bool_in y >>= (λ p. if p then o else of_bool false)) (out_Bool true)
+abbrev Fewer : Type 0
+Fewer = (s : Declarations) (env : Env) (us vs : List Uid) (w : World) → ((u : Uid) → Contains us u → Contains vs u) → IsWellFormed s env vs w → IsWellFormed s env us w
 
--- the policy is satisfied where the attribute is true
-satisfied-on : (name : List ℕ) (w : World) → auth.satisfied w (policy_on name) ≡ is_true (of_context name) w
-satisfied-on name w =
-    ap auth.is_true
-    (eval_And (at 36) (Literal (at 0) (literal.Bool true)) (attribute name) w
-    ∙ ap (λ o. decide o (λ p. if p then decide (eval (attribute name) w) of_bool else of_bool false)) (eval_Literal (at 0) (literal.Bool true) w)
-    ∙ true-first (decide (eval (attribute name) w) of_bool)
-    ∙ ap (λ o. decide o of_bool) (eval-attribute name w))
-    ∙ field-true (field name w.request.context)
-    ∙ ap (λ x. truth_in (out-Value x)) (sym (val_of_context name w))
+-- ---- one set or two
 
-one-permit : (b : Bool) → (b || false) && not (false || false) ≡ b
-one-permit true = refl
-one-permit false = refl
+no-left : {F : Type 0} (a b : Option F) → option_or a b ≡ None → a ≡ None
+no-left None b e = refl
+no-left (Some x) b e = absurd cc
 
--- the policies allow where the goal is true
-pub allows-goal : (o : Option (List ℕ)) (w : World) → auth.allows w (policies_of o) ≡ is_true (goal_for o) w
-allows-goal None w = sym (is_true_False w)
-allows-goal (Some name) w = ap (λ b. (b || false) && not (false || false)) (satisfied-on name w) ∙ one-permit (is_true (of_context name) w)
+no-right : {F : Type 0} (a b : Option F) → option_or a b ≡ None → b ≡ None
+no-right None b e = e
+no-right (Some x) b e = absurd cc
 
--- ---- the uids that the policies write
+not-on : {F : Type 0} (side : Side) (o : Option F) → on side o ≡ None → o ≡ None
+not-on side None e = refl
+not-on side (Some f) e = absurd cc
 
-attribute-uids : (name : List ℕ) → expr_uids (attribute name) ≡ []
-attribute-uids name = uids_Access (at 50) (Variable (at 43) Context) name ∙ uids_Variable (at 43) Context
+first-none : {F : Type 0} (fault : List Policy → Option F) (first : List Policy) (against : Option (List Policy)) → first_fault fault first against ≡ None → fault first ≡ None
+first-none fault first against e = not-on policies_side (fault first) (no-left (on policies_side (fault first)) (in_against fault against) e)
 
-pub no-uids : (s : Declarations) (o : Option (List ℕ)) → written_uids (asked s o) ≡ []
-no-uids s None = refl
-no-uids s (Some name) = ap (λ us. ((us ++ []) ++ []) ++ []) (attribute-uids name)
+second-none : {F : Type 0} (fault : List Policy → Option F) (first : List Policy) (against : Option (List Policy)) → fault [] ≡ None → first_fault fault first against ≡ None → fault (unwrap_or against []) ≡ None
+second-none fault first None empty e = empty
+second-none fault first (Some ps) empty e = not-on against_side (fault ps) (no-right (on policies_side (fault first)) (on against_side (fault ps)) e)
+
+empty-typed : (s : Declarations) → type_fault s [] ≡ None
+unfolding fault_from
+empty-typed s = refl
+
+empty-supported : (s : Declarations) → unsupported s [] ≡ None
+unfolding first_from
+empty-supported s = refl
+
+-- ---- the goal of a query
+
+pub query-posed : Compiling → Posing → (s : Declarations) (env : Env) (q : Query) → AreServed s q.first q.against → Contains (environments s) env → IsSome (goal_term s env q.question q.first (second q))
+query-posed compiled posed s env q served among =
+    posed s env q.question q.first (second q)
+    (compiled s env q.first (first-none (type_fault s) q.first q.against served.typed) (first-none (unsupported s) q.first q.against served.supported) among)
+    (compiled s env (second q) (second-none (type_fault s) q.first q.against (empty-typed s) served.typed) (second-none (unsupported s) q.first q.against (empty-supported s) served.supported) among)
+
+-- there is one, and it is what a number stands for
+pub some-goal : (o : Option Tree) → IsSome o → (t : Tree) × (o ≡ Some t)
+some-goal None h = absurd cc
+some-goal (Some t) h = (t, refl)
+
+pub goal-stands : (o : Option Tree) (nodes : List Node) (n : ℕ) → IsSome o → IfSome o (λ t. StandsFor nodes n t) → (t : Tree) × (o ≡ Some t) × StandsFor nodes n t
+goal-stands None nodes n h stands = absurd cc
+goal-stands (Some t) nodes n h stands = (t, refl, stands)
+
+all-from : {X : Type 0} (P : X → Type 0) (xs : List X) → ((x : X) → Contains xs x → P x) → AllByRecursion P xs
+all-from P [] h = tt
+all-from P (x ∷ xs) h = (h x (0, omega arith, refl), all-from P xs (λ y c. h y (suc c.0, omega (arith, c.1), c.2)))
+
+-- the uids of a query are declared
+pub query-declared : Declaring → (s : Declarations) (q : Query) → IsAsked q → AreServed s q.first q.against → AllByRecursion (IsDeclared s) q.literals
+query-declared declared s q asked served =
+    all-from (IsDeclared s) q.literals
+    (λ u c. ⊎_elim
+    (λ (h : Contains (literals q.first) u). declared s q.first u (first-none (name_fault s) q.first q.against served.declared) h)
+    (λ (h : Contains (literals (second q)) u). declared s (second q) u (second-none (name_fault s) q.first q.against refl served.declared) h)
+    ((asked.written u).0 c))
+
+-- ---- the problem of a query
+
+either-set : (xs ys : List Uid) (u : Uid) → Contains xs u ⊎ Contains ys u → Contains (xs ++ ys) u
+either-set xs ys u h = ⊎_elim (λ (a : Contains xs u). Contains-append_left xs ys u a) (λ (b : Contains ys u). Contains-append_right xs ys u b) h
+
+written-in : (q : Query) → IsAsked q → (lits : List Uid) → lits ≡ q.literals → (u : Uid) → Contains lits u ↔ Contains (literals q.first ++ literals (second q)) u
+written-in q asked lits is u = (
+  λ c. either-set (literals q.first) (literals (second q)) u ((asked.written u).0 (subst (λ us. Contains us u) is c)),
+  λ c. subst (λ us. Contains us u) (sym is) ((asked.written u).1 (Contains-append_cases (literals q.first) (literals (second q)) u c)),
+)
+
+pub query-problem : (s : Declarations) (env : Env) (q : Query) (budget : ℕ) (p : Posed) (t : Tree) → IsAsked q → IsPosed p → IsGoalOf s env q t → IsProblemOf s env q.literals t p → IsProblem (asked_of s q budget) env p
+query-problem s env q budget p t asked posed goal is = record {
+  posed = posed;
+  schema_is = is.schema_is;
+  env_is = is.env_is;
+  literals_are = written-in q asked p.literals is.literals_are;
+  goal_is = record { is = goal ∙ ap Some (sym is.goal_is) };
+}
+
+pub query-too-large : (s : Declarations) (env : Env) (q : Query) (budget : ℕ) (t : Tree) → IsGoalOf s env q t → IsOverLimit env t → IsTooLarge (asked_of s q budget) env
+query-too-large s env q budget t goal over = record { goal = t; is_goal = record { is = goal }; over_limit = over }
 
 -- ---- verdicts
 
-abbrev pub posed : Declarations → Env → Option (List ℕ) → Posed
-posed s env o = record { schema = s; env = env; literals = []; goal = goal_for o }
+-- the goal is true where the property fails
+goal-truth : Right → (q : Asked) (env : Env) (p : Posed) (w : World) → IsLawful q.schema → IsProblem q env p → IsWorldOf q env w → is_true (problem.goal_term p) w ≡ not (has_property q w)
+goal-truth right q env p w lawful is world =
+    right q.schema env (written_uids q) w q.question q.first q.second (problem.goal_term p) lawful world
+    (λ u c. Contains-append_left (literals q.first) (literals q.second) u c) (λ u c. Contains-append_right (literals q.first) (literals q.second) u c) is.goal_is.is
 
-formed : (s : Declarations) (env : Env) (o : Option (List ℕ)) (w : World) → IsWorldOf (asked s o) env w → IsWellFormed s env [] w
-formed s env o w h = subst (λ (us : List Uid). IsWellFormed s env us w) (no-uids s o) h
+-- the worlds of the question are those of the problem
+to-problem : Fewer → (q : Asked) (env : Env) (p : Posed) (w : World) → IsProblem q env p → IsWorldOf q env w → IsWellFormed p.schema p.env p.literals w
+to-problem fewer q env p w is world =
+    subst (λ s. IsWellFormed s p.env p.literals w) (sym is.schema_is)
+    (subst (λ e. IsWellFormed q.schema e p.literals w) (sym is.env_is) (fewer q.schema env p.literals (written_uids q) w (λ u c. (is.literals_are u).0 c) world))
 
-not-true : (b : Bool) → (b ≡ true → ⊥) → not b ≡ true
-not-true true h = absurd (h refl)
-not-true false h = refl
+to-question : Fewer → (q : Asked) (env : Env) (p : Posed) (w : World) → IsProblem q env p → IsWellFormed p.schema p.env p.literals w → IsWorldOf q env w
+to-question fewer q env p w is world =
+    fewer q.schema env (written_uids q) p.literals w (λ u c. (is.literals_are u).1 c)
+    (subst (λ e. IsWellFormed q.schema e p.literals w) is.env_is (subst (λ s. IsWellFormed s p.env p.literals w) is.schema_is world))
 
--- a goal that is true in no world shows that the policies always deny
-pub refuted-holds : (s : Declarations) (env : Env) (o : Option (List ℕ)) → IsUnsatisfiable (posed s env o) → AlwaysHas (asked s o) env
-refuted-holds s env o h w world =
-    not-true (auth.allows w (policies_of o)) (λ e. h w (formed s env o w world) (sym (allows-goal o w) ∙ e))
+is-so : (b : Bool) → (b ≡ false → ⊥) → b ≡ true
+is-so true h = refl
+is-so false h = absurd (h refl)
 
--- a world in which the goal is true is one in which they don't
-pub satisfied-violates : (s : Declarations) (env : Env) (o : Option (List ℕ)) (w : World) → Satisfies (posed s env o) w → Violates (asked s o) env w
-satisfied-violates s env o w h = record {
-  well_formed = subst (λ (us : List Uid). IsWellFormed s env us w) (sym (no-uids s o)) h.well_formed;
-  lacks = ap not (allows-goal o w ∙ h.goal_true);
-}
+not-so : (b : Bool) → true ≡ not b → b ≡ false
+not-so true h = absurd cc
+not-so false h = refl
 
--- ---- the goal is one that is posed
+-- a goal that is true in no world shows that the property always holds
+pub refuted-holds : Right → Fewer → (q : Asked) (env : Env) (p : Posed) → IsLawful q.schema → IsProblem q env p → IsUnsatisfiable p → AlwaysHas q env
+refuted-holds right fewer q env p lawful is none w world =
+    is-so (has_property q w)
+    (λ lacks. none w (record { well_formed = to-problem fewer q env p w is world; goal_true = goal-truth right q env p w lawful is world ∙ ap not lacks }))
 
-one-of : {X : Type 0} (P : X → Type 0) (xs : List X) (x : X) → AllByRecursion P xs → Contains xs x → P x
-one-of P [] x all (k, h, is) = absurd (omega arith)
-one-of P (y ∷ xs) x all (zero, h, is) = subst P is all.0
-one-of P (y ∷ xs) x all (suc k, h, is) = one-of P xs x all.1 (k, omega arith, is)
+-- a world in which it is true lacks the property
+pub satisfied-violates : Right → Fewer → (q : Asked) (env : Env) (p : Posed) (w : World) → IsLawful q.schema → IsProblem q env p → Satisfies p w → Violates q env w
+satisfied-violates right fewer q env p w lawful is found =
+    let world = to-question fewer q env p w is found.well_formed in
+    record { well_formed = world; lacks = not-so (has_property q w) (sym found.goal_true ∙ goal-truth right q env p w lawful is world) }
 
-pub goal-posed : (s : Declarations) (env : Env) (o : Option (List ℕ)) (goal : Term) → Contains (environments s) env → IsServed s o → goal ≡ goal_for o → IsTrue (is_goal s env goal)
-goal-posed s env o goal among served is =
-    subst (λ (x : Term). IsTrue (is_goal s env x)) (sym is) (one-of (λ (e : Env). IsTrue (is_goal s e (goal_for o))) (environments s) env served among)
+pub spent-undecided : (q : Asked) (env : Env) (p : Posed) (log : List Step) → IsProblem q env p → IsSpent (rules_of p) p q.budget log → (q.budget ≡ q.budget) × IsUndecided q env q.budget log
+spent-undecided q env p log is spent = (refl, record { posed = p; is_problem = is; spent = spent })
+
+-- ---- what a command asks
+
+abbrev HasMost : Task → Type 0
+HasMost (asking question against budget) = budget ≤ most_units
+HasMost (replaying world) = ⊤
+
+most-of-task : (words : List (List ℕ)) (schema policies : List ℕ) (t : Task) → Serves words (record { schema = schema; policies = policies; task = t }) → HasMost t
+most-of-task words schema policies (asking question against budget) h = h.reads.2.budget_given.spelled.most
+most-of-task words schema policies (replaying world) h = tt
+
+-- what is read may be asked
+pub may-be-asked : (content : Content) (words : List (List ℕ)) (i : Analysis) → IsRead content words (inputs.Asked i) → MayBeAsked i
+may-be-asked content words i read =
+    let c = read.0.reaches.command in
+    record { served = read.0.served; units = subst HasMost read.0.reaches.task (most-of-task words c.schema c.policies c.task read.0.reaches.commands); sets = read.2 }
+
+-- the query of a command asks what the command does
+pub asked-same : (i : Analysis) (q : Query) → IsQueryOf i q → asked_of i.schema q i.budget ≡ asked_in i
+asked-same i q is =
+    ap (λ x. asked i.schema x q.first q.against i.budget) is.question
+    ∙ ap (λ ps. asked i.schema i.question ps q.against i.budget) is.first
+    ∙ ap (λ o. asked i.schema i.question i.policies o i.budget) is.against
+
+pub query-served : (i : Analysis) (q : Query) → IsQueryOf i q → MayBeAsked i → AreServed i.schema q.first q.against
+query-served i q is may =
+    subst (λ ps. AreServed i.schema ps q.against) (sym is.first) (subst (λ o. AreServed i.schema i.policies o) (sym is.against) may.served)
+
+pub query-answered : (i : Analysis) (q : Query) (env : Env) (a : EnvAnswer) → IsQueryOf i q → IsAnswer (asked_of i.schema q i.budget) env a → IsAnswer (asked_in i) env a
+query-answered i q env a is answer = subst (λ x. IsAnswer x env a) (asked-same i q is) answer
+
+-- a world that is answered can be printed
+pub answer-printable : (q : Asked) (env : Env) (a : EnvAnswer) → IsAnswer q env a → IsPrintable a
+answer-printable q env (Holds log) answer = tt
+answer-printable q env (Violated w) answer = answer.well_formed.proper
+answer-printable q env (Spent log) answer = tt
+answer-printable q env OverLimit answer = tt

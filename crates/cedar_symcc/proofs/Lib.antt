@@ -1,4 +1,5 @@
-pub mod AnalysisLaws
 pub mod ReportLaws
+pub mod StatusLaws
+pub mod DeterminedLaws
 pub mod ReplayLaws
-pub mod RunLaws
+pub mod AnalysisLaws

@@ -3,3 +3,4 @@ pub mod Progress
 pub mod Replays
 pub mod Runs
 pub mod View
+pub mod Analyses

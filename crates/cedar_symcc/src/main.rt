@@ -2,12 +2,20 @@
 #![tactic(auto)]
 
 mod analysing;
+#[cfg(test)]
+mod budget_tests;
+#[cfg(test)]
+mod construct_tests;
 mod line;
+#[cfg(test)]
+mod question_tests;
 #[cfg(test)]
 mod replay_tests;
 mod replaying;
 mod reporting;
 mod running;
+mod status;
+mod tally;
 #[cfg(test)]
 mod tests;
 #[cfg(test)]

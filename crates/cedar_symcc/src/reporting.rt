@@ -1,93 +1,152 @@
 //! Reports on the environments of a schema, one after another.
-ghost use Rattle.std.specs.Prelude.{◌≡◌, ◌≤◌, ◌||◌, Contains, if◌then◌else◌};
+ghost use Rattle.std.specs.Prelude.{◌≡◌, ◌≢◌, ◌≤◌, [], ◌∷◌, true, false, Contains, IfOk};
 ghost use Rattle.sc_outside.specs.Counts.{Rose};
 ghost use Rattle.sc_schema.specs.Declarations.{environments};
-ghost use Rattle.sc_inputs.specs.Policies.{IsServed};
-ghost use Rattle.cedar_symcc.specs.Progress.{Puts, ReportsEnv, ReportsAll, ReportsNone, Reported};
-ghost use Rattle.cedar_symcc.specs.Reports.{line_text, is_counterexample};
-ghost use Rattle.cedar_symcc.specs.Runs.{asked};
-ghost use Rattle.cedar_symcc.specs.View.{verdict_view, IsPrintable};
+ghost use Rattle.cedar_symcc.specs.Analyses.{asked_in, IsQueryOf, MayBeAsked};
+ghost use Rattle.cedar_symcc.specs.Progress.{IsFresh, PutsCounted, ReportsEnv, ReportsAll, ReportsNone, Reported, status_after};
+ghost use Rattle.cedar_symcc.specs.Reports.{is_counterexample, is_open, log_of};
+ghost use Rattle.cedar_symcc.specs.View.{verdict_view};
 
 use crate::analysing::{EnvAnswer, analyse_env};
 use crate::line::line_of;
+use crate::status::Status;
+use crate::tally::Tally;
+use sc_checker::Log;
+use sc_goal::{Query, query};
 use sc_inputs::Analysis;
 use sc_outside::{Sink, SinkFault};
 use sc_schema::{Env, environments};
-use std::alloc::Global;
+use std::alloc::{AllocError, Global};
 
-fn put_line<O: Sink>(
-    alloc: Global,
-    env: &Env,
-    answer: &EnvAnswer,
+/// Puts out the line of an environment whose log is one more.
+fn put_spent<O: Sink>(
+    tally: &mut Tally,
+    log: Log,
+    text: &[u8],
     out: &mut O,
 ) -> Result<(), SinkFault>
-    requires { IsPrintable answer.now }
-    ensures puts { Puts (O.written out.old) (O.written out.new) (line_text (record { env = env.now; verdict = verdict_view answer.now })) (Rose (O.faults out.old) (O.faults out.new)) result }
+    ensures puts { PutsCounted tally.old tally.new false true (log ∷ []) (O.written out.old) (O.written out.new) text.now (Rose (O.faults out.old) (O.faults out.new)) result }
     ensures later { O.faults out.old ≤ O.faults out.new }
 {
-    let Ok(text) = line_of(alloc, env, answer) else {
+    if tally.spent.push(log).is_err() {
         return Err(SinkFault::NoMemory);
-    };
-    out.write(&text)
+    }
+    match out.write(text) {
+        Ok(()) => {
+            tally.undecided = true;
+            Ok(())
+        }
+        Err(fault) => {
+            let _log = tally.spent.pop();
+            Err(fault)
+        }
+    }
 }
 
-/// Analyses an environment and puts out its line. Tells whether that is a counterexample.
+/// Puts out the line of an environment, and counts it.
+fn put_answer<O: Sink>(
+    tally: &mut Tally,
+    answer: EnvAnswer,
+    text: &[u8],
+    out: &mut O,
+) -> Result<(), SinkFault>
+    ensures puts { PutsCounted tally.old tally.new (is_counterexample (verdict_view 0 answer)) (is_open (verdict_view 0 answer)) (log_of (verdict_view 0 answer)) (O.written out.old) (O.written out.new) text.now (Rose (O.faults out.old) (O.faults out.new)) result }
+    ensures later { O.faults out.old ≤ O.faults out.new }
+{
+    match answer {
+        EnvAnswer::Holds(_) => out.write(text),
+        EnvAnswer::Violated(_) => put_counterexample(tally, text, out),
+        EnvAnswer::Spent(log) => put_spent(tally, log, text, out),
+        EnvAnswer::OverLimit => put_open(tally, text, out),
+    }
+}
+
+/// Puts out the line of a counterexample.
+fn put_counterexample<O: Sink>(tally: &mut Tally, text: &[u8], out: &mut O) -> Result<(), SinkFault>
+    ensures puts { PutsCounted tally.old tally.new true false [] (O.written out.old) (O.written out.new) text.now (Rose (O.faults out.old) (O.faults out.new)) result }
+    ensures later { O.faults out.old ≤ O.faults out.new }
+{
+    match out.write(text) {
+        Ok(()) => {
+            tally.counterexample = true;
+            Ok(())
+        }
+        Err(fault) => Err(fault),
+    }
+}
+
+/// Puts out the line of an environment that is too large.
+fn put_open<O: Sink>(tally: &mut Tally, text: &[u8], out: &mut O) -> Result<(), SinkFault>
+    ensures puts { PutsCounted tally.old tally.new false true [] (O.written out.old) (O.written out.new) text.now (Rose (O.faults out.old) (O.faults out.new)) result }
+    ensures later { O.faults out.old ≤ O.faults out.new }
+{
+    match out.write(text) {
+        Ok(()) => {
+            tally.undecided = true;
+            Ok(())
+        }
+        Err(fault) => Err(fault),
+    }
+}
+
+/// Analyses an environment, puts out its line and counts it.
 fn report_env<O: Sink>(
     alloc: Global,
     inputs: &Analysis,
+    query: &Query<'_>,
     env: &Env,
+    tally: &mut Tally,
     out: &mut O,
-) -> Result<bool, SinkFault>
+) -> Result<(), SinkFault>
     requires environment { Contains (environments inputs.now.schema) env.now }
-    requires served { IsServed inputs.now.schema inputs.now.attribute }
-    requires units { 1 ≤ inputs.now.budget }
-    ensures reports { ReportsEnv (asked inputs.now.schema inputs.now.attribute) env.now (O.written out.old) (O.written out.new) (Rose (O.faults out.old) (O.faults out.new)) result }
+    requires asked { IsQueryOf inputs.now query.now }
+    requires allowed { MayBeAsked inputs.now }
+    ensures reports { ReportsEnv (asked_in inputs.now) env.now tally.old tally.new (O.written out.old) (O.written out.new) (Rose (O.faults out.old) (O.faults out.new)) result }
     ensures later { O.faults out.old ≤ O.faults out.new }
 {
-    let Ok(answer) = analyse_env(alloc, &inputs.schema, env, &inputs.attribute, inputs.budget)
-    else {
+    let Ok(answer) = analyse_env(alloc, &inputs.schema, env, query, inputs.budget) else {
         return Err(SinkFault::NoMemory);
     };
-    put_line(alloc, env, &answer, out)?;
-    Ok(is_counterexample(&answer))
+    let Ok(text) = line_of(alloc, env, inputs.budget, &answer) else {
+        return Err(SinkFault::NoMemory);
+    };
+    put_answer(tally, answer, &text, out)
 }
 
-fn is_counterexample(answer: &EnvAnswer) -> bool
-    ensures { result ≡ is_counterexample (verdict_view answer.now) }
-{
-    match answer {
-        EnvAnswer::Holds(_) => false,
-        EnvAnswer::Violated(_) => true,
-    }
-}
-
-/// Reports on environments, one after another. Tells whether there is a counterexample.
+/// Reports on environments, one after another, and counts their lines.
 fn report_all<O: Sink>(
     alloc: Global,
     inputs: &Analysis,
+    query: &Query<'_>,
     envs: &[Env],
+    tally: &mut Tally,
     out: &mut O,
-) -> Result<bool, SinkFault>
+) -> Result<(), SinkFault>
     requires environments { envs.now ≡ environments inputs.now.schema }
-    requires served { IsServed inputs.now.schema inputs.now.attribute }
-    requires units { 1 ≤ inputs.now.budget }
-    ensures reports { ReportsAll (asked inputs.now.schema inputs.now.attribute) envs.now (O.written out.old) (O.written out.new) (Rose (O.faults out.old) (O.faults out.new)) result }
+    requires asked { IsQueryOf inputs.now query.now }
+    requires allowed { MayBeAsked inputs.now }
+    requires nothing { IsFresh tally.old }
+    ensures reports { ReportsAll (asked_in inputs.now) envs.now tally.new (O.written out.old) (O.written out.new) (Rose (O.faults out.old) (O.faults out.new)) result }
     ensures later { O.faults out.old ≤ O.faults out.new }
 {
-    let mut found = false;
     for env in envs {
-        match report_env(alloc, inputs, env, out) {
-            Ok(is_counterexample) => found = either(found, is_counterexample),
+        match report_env(alloc, inputs, query, env, tally, out) {
+            Ok(()) => {}
             Err(fault) => return Err(fault),
         }
     }
-    Ok(found)
+    Ok(())
 }
 
-fn either(a: bool, b: bool) -> bool
-    ensures { result ≡ (a || b) }
+/// The status after environments were reported on.
+fn status_after(tally: &Tally, outcome: Result<(), SinkFault>) -> u8
+    ensures { result ≡ status_after tally.now outcome }
 {
-    a || b
+    match outcome {
+        Ok(()) => tally.status(),
+        Err(SinkFault::Failed) => 21,
+        Err(SinkFault::NoMemory) => 30,
+    }
 }
 
 /// The line of a schema without environments.
@@ -102,26 +161,52 @@ fn report_none<O: Sink>(out: &mut O) -> u8
     }
 }
 
-/// The status of a whole report, in which there is a counterexample or not.
-fn status_of(found: bool) -> u8
-    ensures { result ≡ (if found then 1 else 0) }
+/// Reports on each of the environments of the schema, of which there are some.
+fn report_some<O: Sink>(
+    alloc: Global,
+    inputs: &Analysis,
+    query: &Query<'_>,
+    envs: &[Env],
+    out: &mut O,
+) -> Status
+    requires environments { envs.now ≡ environments inputs.now.schema }
+    requires some { envs.now ≢ [] }
+    requires asked { IsQueryOf inputs.now query.now }
+    requires allowed { MayBeAsked inputs.now }
+    ensures { Reported (asked_in inputs.now) (O.written out.old) (O.written out.new) (Rose (O.faults out.old) (O.faults out.new)) result.code result.spent.items }
 {
-    if found { 1 } else { 0 }
+    let mut tally = Tally::new(alloc);
+    let outcome = report_all(alloc, inputs, query, envs, &mut tally, out);
+    Status {
+        code: status_after(&tally, outcome),
+        spent: tally.spent,
+    }
 }
 
-/// Reports on each environment of the schema. Gives the status.
-pub fn report<O: Sink>(alloc: Global, inputs: &Analysis, out: &mut O) -> u8
-    requires served { IsServed inputs.now.schema inputs.now.attribute }
-    requires units { 1 ≤ inputs.now.budget }
-    ensures { Reported (asked inputs.now.schema inputs.now.attribute) (O.written out.old) (O.written out.new) (Rose (O.faults out.old) (O.faults out.new)) result }
+/// Reports on each environment of the schema.
+pub fn report<O: Sink>(alloc: Global, inputs: &Analysis, out: &mut O) -> Status
+    requires { MayBeAsked inputs.now }
+    ensures { Reported (asked_in inputs.now) (O.written out.old) (O.written out.new) (Rose (O.faults out.old) (O.faults out.new)) result.code result.spent.items }
 {
     let envs = environments(&inputs.schema);
     if envs.is_empty() {
-        return report_none(out);
+        return Status::without_logs(alloc, report_none(out));
     }
-    match report_all(alloc, inputs, envs, out) {
-        Ok(found) => status_of(found),
-        Err(SinkFault::Failed) => 21,
-        Err(SinkFault::NoMemory) => 30,
+    match query_of(alloc, inputs) {
+        Ok(query) => report_some(alloc, inputs, &query, envs, out),
+        Err(_) => Status::without_logs(alloc, 30),
     }
+}
+
+/// The query that the inputs of a command are.
+fn query_of(alloc: Global, inputs: &Analysis) -> Result<Query<'_>, AllocError>
+    requires { MayBeAsked inputs.now }
+    ensures { IfOk result (λ q. IsQueryOf inputs.now q) }
+{
+    query(
+        alloc,
+        inputs.question,
+        &inputs.policies,
+        inputs.against.as_ref(),
+    )
 }

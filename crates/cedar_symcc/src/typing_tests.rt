@@ -1,13 +1,11 @@
-use crate::tests::{MANY_KINDS, SCHEMA, answers};
+use crate::tests::{MANY_KINDS, OF_USER_BY_DEFAULT, SCHEMA, answers};
 use std::alloc::{AllocError, Global};
 use std::test::Fail;
-
-const NOT_FORM: &str = "error 15 policies";
 
 const IN_VIEW: &str = "error 13 policies policy0 env User Action::\"view\" Doc ";
 
 /// Whether a policy under this condition ends so.
-fn ends_so(
+pub fn ends_so(
     alloc: Global,
     schema: &str,
     condition: &str,
@@ -47,7 +45,15 @@ fn policies_without_a_type(rt: HostRuntime) -> Result<(), Fail> {
 #[test]
 fn operands_that_are_skipped_need_no_type(rt: HostRuntime) -> Result<(), Fail> {
     let alloc = rt.alloc();
-    assert!(rt; ends_so(alloc, SCHEMA, "true || 1 + \"a\" < 2", 15, NOT_FORM)?);
+    assert!(rt;
+        ends_so(
+            alloc,
+            SCHEMA,
+            "true || 1 + \"a\" < 2",
+            1,
+            OF_USER_BY_DEFAULT
+        )?
+    );
     Ok(())
 }
 
@@ -57,7 +63,8 @@ fn attributes_that_may_be_absent(rt: HostRuntime) -> Result<(), Fail> {
     let nick = "principal.nick == \"x\"";
     assert!(rt; breaks(alloc, MANY_KINDS, nick, "MaybeAbsent at 52")?);
     let asked = "principal has nick && principal.nick == \"x\"";
-    assert!(rt; ends_so(alloc, MANY_KINDS, asked, 15, NOT_FORM)?);
+    let told = "error 15 policies policy0 variable at 43";
+    assert!(rt; ends_so(alloc, MANY_KINDS, asked, 15, told)?);
     Ok(())
 }
 

@@ -2,8 +2,9 @@ pub mod KnownLaws
 pub mod RefutationLaws
 pub mod VerdictLaws
 pub mod Soundness
-pub mod DefiningLaws
+pub mod AcceptedLaws
 pub mod TextLaws
 pub mod WordLaws
 pub mod LineLaws
 pub mod ReadingLaws
+pub mod SampleLaws

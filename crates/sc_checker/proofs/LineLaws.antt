@@ -12,12 +12,12 @@ use Rattle.std.proofs.lemmas.List.Folds.{list_all-append}
 use Rattle.std.proofs.lemmas.List.Splits.{slice_split_none, slice_split_at, join_with_byte-slice_split}
 use Rattle.std.proofs.lemmas.Slice.Eq.{bytes_eq-Decides}
 use Rattle.sc_clauses.specs.declared.lit.Lit.{Lit}
-use Rattle.sc_checker.specs.declared.log.Word.{Word}
-use Rattle.sc_checker.specs.declared.log.Word.TheVariants.{Number, Signs}
-use Rattle.sc_checker.specs.declared.log.Step.{Step}
-use Rattle.sc_checker.specs.declared.log.Step.TheVariants.{Instance, Learned}
-use Rattle.sc_checker.specs.declared.log.Instance as instance
-use Rattle.sc_checker.specs.declared.log.Learned as learned
+use Rattle.sc_clauses.specs.declared.step.Word.{Word}
+use Rattle.sc_clauses.specs.declared.step.Word.TheVariants.{Number, Signs}
+use Rattle.sc_clauses.specs.declared.step.Step.{Step}
+use Rattle.sc_clauses.specs.declared.step.Step.TheVariants.{Instance, Learned}
+use Rattle.sc_clauses.specs.declared.step.Instance as instance
+use Rattle.sc_clauses.specs.declared.step.Learned as learned
 use Rattle.sc_checker.specs.Writable.{is_number, is_between, is_letter_or_digit, is_rule_word, is_word, is_lit, is_hint, are_hints, is_instance, is_learned, is_writable}
 use Rattle.sc_checker.specs.Texts.{sign_text, word_text, lit_text, zero_text, has_no_zero, instance_words, hint_words, learned_words, step_words, step_line}
 use Rattle.sc_checker.specs.Readings.{Reads}

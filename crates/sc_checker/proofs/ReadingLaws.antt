@@ -8,12 +8,12 @@ use Rattle.sc_lists.specs.declared.fault.Fault.{Fault}
 use Rattle.sc_lists.specs.declared.fault.Fault.TheVariants.{Told, NoMemory}
 use Rattle.sc_lists.specs.Told.{Gives}
 use Rattle.sc_clauses.specs.declared.lit.Lit.{Lit}
-use Rattle.sc_checker.specs.declared.log.Word.{Word}
-use Rattle.sc_checker.specs.declared.log.Word.TheVariants.{Number, Signs}
-use Rattle.sc_checker.specs.declared.log.Step.{Step}
-use Rattle.sc_checker.specs.declared.log.Step.TheVariants.{Instance, Learned}
-use Rattle.sc_checker.specs.declared.log.Instance as instance
-use Rattle.sc_checker.specs.declared.log.Learned as learned
+use Rattle.sc_clauses.specs.declared.step.Word.{Word}
+use Rattle.sc_clauses.specs.declared.step.Word.TheVariants.{Number, Signs}
+use Rattle.sc_clauses.specs.declared.step.Step.{Step}
+use Rattle.sc_clauses.specs.declared.step.Step.TheVariants.{Instance, Learned}
+use Rattle.sc_clauses.specs.declared.step.Instance as instance
+use Rattle.sc_clauses.specs.declared.step.Learned as learned
 use Rattle.sc_checker.specs.declared.reading.Malformed.{Malformed}
 use Rattle.sc_checker.specs.Writable.{is_number, is_rule_word, is_word, is_lit, is_hint, are_hints, is_instance, is_learned, is_writable}
 use Rattle.sc_checker.specs.Texts.{sign_text, word_text, lit_text, zero_text, instance_words, hint_words, learned_words, step_words, step_line, has_no_newline, steps_text, first_line, log_text}

@@ -7,11 +7,12 @@ use Rattle.sc_clauses.specs.declared.lit.Lit.{Lit}
 use Rattle.sc_clauses.specs.Clauses.{Clause, bool_eq, lit_eq, negation, is_in, holds, clause_holds}
 use Rattle.sc_checker.specs.declared.refuting.Residual.{Residual}
 use Rattle.sc_checker.specs.declared.refuting.Residual.TheVariants.{Conflict, Unit, Open}
-use Rattle.sc_checker.specs.declared.log.Step.{Step}
-use Rattle.sc_checker.specs.declared.log.Step.TheVariants.{Instance, Learned}
-use Rattle.sc_checker.specs.declared.checking.Reason.TheVariants.{NotRefuted}
+use Rattle.sc_clauses.specs.declared.step.Instance as instance
+use Rattle.sc_clauses.specs.declared.step.Step.{Step}
+use Rattle.sc_clauses.specs.declared.step.Step.TheVariants.{Instance, Learned}
+use Rattle.sc_checker.specs.declared.checking.Reason.TheVariants.{NoInstance, NotRefuted}
 use Rattle.sc_checker.specs.Refutations.{LitSet, negated, with_lit, open_lits, residual, residual_at, clause_at, is_nil, goes_on, refutes, is_clause}
-use Rattle.sc_checker.specs.Verdicts.{added, Adds, no_step, first_step}
+use Rattle.sc_checker.specs.Verdicts.{Rules, added, Adds, no_step, first_step}
 use Rattle.sc_checker.proofs.RefutationLaws.{lit_eq-true}
 
 abbrev pub AllHold : (ℕ → Bool) → List Clause → Type 0
@@ -120,28 +121,36 @@ shown-holds v count cs d c hints true true h e is = let same : d ≡ c = cc in s
 shown-holds v count cs d c hints true false h e is = absurd cc
 shown-holds v count cs d c hints false b h e is = absurd cc
 
--- the clause that a step adds is true where those before it are
-added-holds : (v : ℕ → Bool) (count : ℕ) (cs : List Clause) (s : Step) (c : Clause) → AllHold v cs → added count cs s ≡ Ok c → clause_holds v c ≡ true
-added-holds v count cs (Instance i) c h e = absurd cc
-added-holds v count cs (Learned l) c h e = shown-holds v count cs l.clause c l.hints (is_clause count l.clause) _ h refl e
+instance_holds : (v : ℕ → Bool) (d c : Clause) (b : Bool) → (b ≡ true → clause_holds v d ≡ true) → cond b (Ok d) (Err NoInstance) ≡ Ok c → clause_holds v c ≡ true
+instance_holds v d c true h is = let same : d ≡ c = cc in subst (λ (x : Clause). clause_holds v x ≡ true) same (h refl)
+instance_holds v d c false h is = absurd cc
+
+-- the clause of each instance of the rules is true
+abbrev pub AreTrue : (ℕ → Bool) → Rules → Type 0
+AreTrue v rules = (i : instance.Instance) → rules.accepts i ≡ true → clause_holds v (rules.clause_of i) ≡ true
+
+-- the clause that a step adds is true where those before it and those of the rules are
+added-holds : (v : ℕ → Bool) (rules : Rules) (count : ℕ) (cs : List Clause) (s : Step) (c : Clause) → AreTrue v rules → AllHold v cs → added rules count cs s ≡ Ok c → clause_holds v c ≡ true
+added-holds v rules count cs (Instance i) c t h e = instance_holds v (rules.clause_of i) c (rules.accepts i) (t i) e
+added-holds v rules count cs (Learned l) c t h e = shown-holds v count cs l.clause c l.hints (is_clause count l.clause) _ h refl e
 
 all-push : (v : ℕ → Bool) (cs : List Clause) (c : Clause) → AllHold v cs → clause_holds v c ≡ true → AllHold v (cs ++ c ∷ [])
 all-push v [] c h e = (e, tt)
 all-push v (d ∷ cs) c h e = (h.0, all-push v cs c h.1 e)
 
 -- each clause that the steps add is true
-adds-hold : (v : ℕ → Bool) (count : ℕ) (clauses : List Clause) (steps : List Step) (cs : List Clause) → AllHold v clauses → Adds count clauses steps cs → AllHold v cs
-adds-hold v count clauses [] [] h no_step = tt
-adds-hold v count clauses [] (c ∷ cs) h adds = elim adds [ ]
-adds-hold v count clauses (s ∷ ss) [] h adds = elim adds [ ]
-adds-hold v count clauses (s ∷ ss) (c ∷ cs) h (first_step is rest) =
-    let holds-c : clause_holds v c ≡ true = added-holds v count clauses s c h is in
-    (holds-c, adds-hold v count (clauses ++ c ∷ []) ss cs (all-push v clauses c h holds-c) rest)
+adds-hold : (v : ℕ → Bool) (rules : Rules) (count : ℕ) (clauses : List Clause) (steps : List Step) (cs : List Clause) → AreTrue v rules → AllHold v clauses → Adds rules count clauses steps cs → AllHold v cs
+adds-hold v rules count clauses [] [] t h no_step = tt
+adds-hold v rules count clauses [] (c ∷ cs) t h adds = elim adds [ ]
+adds-hold v rules count clauses (s ∷ ss) [] t h adds = elim adds [ ]
+adds-hold v rules count clauses (s ∷ ss) (c ∷ cs) t h (first_step is rest) =
+    let holds-c : clause_holds v c ≡ true = added-holds v rules count clauses s c t h is in
+    (holds-c, adds-hold v rules count (clauses ++ c ∷ []) ss cs t (all-push v clauses c h holds-c) rest)
 
 last-false : (v : ℕ → Bool) (before : List Clause) → AllHold v (before ++ [] ∷ []) → ⊥
 last-false v [] h = true≢false (sym h.0)
 last-false v (c ∷ before) h = last-false v before h.1
 
--- steps that end in the empty clause leave no assignment that makes the clauses before them true
-pub accepted-sound : (v : ℕ → Bool) (count : ℕ) (clauses : List Clause) (steps : List Step) (before : List Clause) → AllHold v clauses → Adds count clauses steps (before ++ [] ∷ []) → ⊥
-accepted-sound v count clauses steps before h adds = last-false v before (adds-hold v count clauses steps (before ++ [] ∷ []) h adds)
+-- steps that end in the empty clause leave no assignment that makes the clauses before them, and those of the rules, true
+pub accepted-sound : (v : ℕ → Bool) (rules : Rules) (count : ℕ) (clauses : List Clause) (steps : List Step) (before : List Clause) → AreTrue v rules → AllHold v clauses → Adds rules count clauses steps (before ++ [] ∷ []) → ⊥
+accepted-sound v rules count clauses steps before t h adds = last-false v before (adds-hold v rules count clauses steps (before ++ [] ∷ []) t h adds)

@@ -2,8 +2,8 @@
 use Rattle.std.proofs.Common.{◌≡◌, ℕ, List, [], ◌∷◌, ◌++◌, map, refl, sym, ap, ◌∙◌, append_assoc, append-nil}
 use Rattle.std.specs.Fmt.{decimal}
 use Rattle.std.specs.List.{flat_map, join_with_byte}
-use Rattle.sc_checker.specs.declared.log.Instance as instance
-use Rattle.sc_checker.specs.declared.log.Learned as learned
+use Rattle.sc_clauses.specs.declared.step.Instance as instance
+use Rattle.sc_clauses.specs.declared.step.Learned as learned
 use Rattle.sc_checker.specs.Texts.{spaced, word_text, lit_text, zero_text, instance_words, learned_words}
 
 -- words that are separated by one space

@@ -2,6 +2,6 @@ pub mod Writable
 pub mod Refutations
 pub mod Known
 pub mod Verdicts
-pub mod Truths
 pub mod Texts
 pub mod Readings
+pub mod Samples

@@ -3,7 +3,7 @@ use Rattle.std.specs.Prelude.{◌≡◌, ◌≢◌, ◌+◌, ◌⊎◌, ℕ, Lis
 use Rattle.std.specs.List.{list_all}
 use Rattle.sc_lists.specs.declared.fault.Fault.{Fault}
 use Rattle.sc_lists.specs.declared.fault.Fault.TheVariants.{Told, NoMemory}
-use Rattle.sc_checker.specs.declared.log.Step.{Step}
+use Rattle.sc_clauses.specs.declared.step.Step.{Step}
 use Rattle.sc_checker.specs.declared.reading.Malformed.{Malformed}
 use Rattle.sc_checker.specs.Writable.{is_writable}
 use Rattle.sc_checker.specs.Texts.{step_line, steps_text, first_line, log_text}

@@ -4,12 +4,12 @@ use Rattle.std.specs.Str.{bytes_eq}
 use Rattle.std.specs.Fmt.{decimal}
 use Rattle.std.specs.List.{flat_map, list_all, join_with_byte}
 use Rattle.sc_clauses.specs.declared.lit.Lit.{Lit}
-use Rattle.sc_checker.specs.declared.log.Word.{Word}
-use Rattle.sc_checker.specs.declared.log.Word.TheVariants.{Number, Signs}
-use Rattle.sc_checker.specs.declared.log.Instance as instance
-use Rattle.sc_checker.specs.declared.log.Learned as learned
-use Rattle.sc_checker.specs.declared.log.Step.{Step}
-use Rattle.sc_checker.specs.declared.log.Step.TheVariants.{Instance, Learned}
+use Rattle.sc_clauses.specs.declared.step.Word.{Word}
+use Rattle.sc_clauses.specs.declared.step.Word.TheVariants.{Number, Signs}
+use Rattle.sc_clauses.specs.declared.step.Instance as instance
+use Rattle.sc_clauses.specs.declared.step.Learned as learned
+use Rattle.sc_clauses.specs.declared.step.Step.{Step}
+use Rattle.sc_clauses.specs.declared.step.Step.TheVariants.{Instance, Learned}
 
 -- `+` or `-`
 abbrev pub sign_text : Bool → ℕ

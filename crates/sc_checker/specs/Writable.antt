@@ -2,12 +2,12 @@
 use Rattle.std.specs.Prelude.{◌&&◌, ◌||◌, ◌==◌, ◌^◌, ℕ, List, Bool, not, nat_lt, nat_le, length}
 use Rattle.std.specs.List.{list_all}
 use Rattle.sc_clauses.specs.declared.lit.Lit.{Lit}
-use Rattle.sc_checker.specs.declared.log.Word.{Word}
-use Rattle.sc_checker.specs.declared.log.Word.TheVariants.{Number, Signs}
-use Rattle.sc_checker.specs.declared.log.Instance as instance
-use Rattle.sc_checker.specs.declared.log.Learned as learned
-use Rattle.sc_checker.specs.declared.log.Step.{Step}
-use Rattle.sc_checker.specs.declared.log.Step.TheVariants.{Instance, Learned}
+use Rattle.sc_clauses.specs.declared.step.Word.{Word}
+use Rattle.sc_clauses.specs.declared.step.Word.TheVariants.{Number, Signs}
+use Rattle.sc_clauses.specs.declared.step.Instance as instance
+use Rattle.sc_clauses.specs.declared.step.Learned as learned
+use Rattle.sc_clauses.specs.declared.step.Step.{Step}
+use Rattle.sc_clauses.specs.declared.step.Step.TheVariants.{Instance, Learned}
 
 -- a number of at most 18 digits
 abbrev pub is_number : ℕ → Bool

@@ -14,6 +14,7 @@ mod words;
 mod writing;
 
 pub use checking::{Reason, Verdict, check};
-pub use log::{Instance, Learned, Log, Step, Word, are_writable, is_writable};
+pub use log::{Log, are_writable, is_writable};
 pub use reading::{Malformed, read_log};
+pub use sc_clauses::{Instance, Learned, Step, Word};
 pub use writing::write_log;

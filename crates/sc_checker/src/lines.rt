@@ -6,8 +6,9 @@ ghost use Rattle.sc_checker.specs.Readings.{Reads};
 ghost use Rattle.sc_checker.specs.Texts.{zero_text, has_no_zero, instance_words, hint_words, learned_words, step_words, step_line};
 ghost use Rattle.sc_checker.specs.Writable.{is_rule_word, is_instance, are_hints, is_learned, is_writable};
 
-use crate::log::{Instance, Learned, Step, is_rule_word};
+use crate::log::is_rule_word;
 use crate::words::{hints_of, lits_of, words_of};
+use sc_clauses::{Instance, Learned, Step};
 use sc_lists::{Seq, Text};
 use std::alloc::{AllocError, Global};
 use std::str;

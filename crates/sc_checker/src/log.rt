@@ -3,46 +3,9 @@ ghost use Rattle.std.specs.Prelude.{◌≡◌, IsTrue};
 ghost use Rattle.std.specs.List.{list_all};
 ghost use Rattle.sc_checker.specs.Writable.{is_number, is_letter_or_digit, is_rule_word, is_word, is_lit, is_hint, are_hints, is_instance, is_learned, is_writable};
 
-use sc_clauses::{Clause, Lit};
-use sc_lists::{Seq, Text};
+use sc_clauses::{Instance, Learned, Lit, Step, Word};
+use sc_lists::Seq;
 use std::marker::Model;
-
-/// What a step gives to its rule.
-#[derive(Drop)]
-pub enum Word {
-    /// A number.
-    Number(u64),
-    /// Signs, each `+` or `-`; true is `+`.
-    Signs(Seq<bool>),
-}
-
-/// An instance of a rule: the rule's word, and what the rule is applied to.
-#[derive(Drop)]
-pub struct Instance {
-    /// The rule's word.
-    pub rule: Text,
-    /// What it is applied to, in order.
-    pub words: Seq<Word>,
-}
-
-/// A learned clause, and the numbers of the earlier clauses that show it.
-#[derive(Drop)]
-pub struct Learned {
-    /// The clause, its literals in the order in which they are written.
-    pub clause: Clause,
-    /// The hints: numbers of clauses, counted from 1, first those that define the problem and then
-    /// those of the steps.
-    pub hints: Seq<u64>,
-}
-
-/// A step of a log: it adds a clause to those before it.
-#[derive(Drop)]
-pub enum Step {
-    /// The clause of an instance of a rule.
-    Instance(Instance),
-    /// A clause that earlier clauses show.
-    Learned(Learned),
-}
 
 /// The steps of a refutation, numbered from 1. Each of them has a text.
 #[derive(Drop)]
@@ -53,7 +16,7 @@ pub struct Log {
 impl Model for Log {
     ghost use Rattle.std.specs.Prelude.{List, IsTrue};
     ghost use Rattle.std.specs.List.{list_all};
-    ghost use Rattle.sc_checker.specs.declared.log.Step.{Step};
+    ghost use Rattle.sc_clauses.specs.declared.step.Step.{Step};
     ghost use Rattle.sc_checker.specs.Writable.{is_writable};
 
     ghost Value = { List Step };

@@ -1,13 +1,14 @@
 //! Reads the text of a log.
 ghost use Rattle.std.specs.Prelude.{◌≡◌, ◌∷◌, ◌++◌, ℕ, List, Result, IfOk, IfErr, IsTrue, MatchOption};
 ghost use Rattle.sc_lists.specs.Told.{Gives};
-ghost use Rattle.sc_checker.specs.declared.log.Step.{Step};
+ghost use Rattle.sc_clauses.specs.declared.step.Step.{Step};
 ghost use Rattle.sc_checker.specs.Readings.{Reads, IfTold, AreWritable, BeginsWith, StopsAt, IsFault, IsText, IsReading};
 ghost use Rattle.sc_checker.specs.Texts.{has_no_newline, step_line, steps_text, first_line, log_text};
 ghost use Rattle.sc_checker.specs.Writable.{is_writable};
 
 use crate::lines::read_step;
-use crate::log::{Log, Step};
+use crate::log::Log;
+use sc_clauses::Step;
 use sc_lists::{Fault, Seq};
 use std::alloc::{AllocError, Global};
 

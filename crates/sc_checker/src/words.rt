@@ -6,9 +6,9 @@ ghost use Rattle.sc_checker.specs.Readings.{Reads};
 ghost use Rattle.sc_checker.specs.Texts.{sign_text, word_text, lit_text};
 ghost use Rattle.sc_checker.specs.Writable.{is_number, is_word, is_lit, is_hint};
 
-use crate::log::{Word, is_hint, is_number};
+use crate::log::{is_hint, is_number};
 use itoa::Buffer;
-use sc_clauses::{Clause, Lit};
+use sc_clauses::{Clause, Lit, Word};
 use sc_lists::Seq;
 use std::alloc::{AllocError, Global};
 use std::str;

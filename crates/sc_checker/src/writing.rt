@@ -3,9 +3,9 @@ ghost use Rattle.std.specs.Prelude.{◌≡◌, ◌++◌, ◌∷◌, [], map, cod
 ghost use Rattle.sc_checker.specs.Texts.{sign_text, word_text, lit_text, spaced, instance_words, learned_words, step_line, steps_text, log_text};
 ghost use Rattle.std.specs.List.{join_with_byte};
 
-use crate::log::{Instance, Learned, Log, Step, Word};
+use crate::log::Log;
 use itoa::Buffer;
-use sc_clauses::Lit;
+use sc_clauses::{Instance, Learned, Lit, Step, Word};
 use std::alloc::{AllocError, Global};
 
 fn write_number(text: &mut String, number: u64) -> Result<(), AllocError>

@@ -1,12 +1,14 @@
-//! Literals, clauses and assignments of truth values to atoms.
+//! Literals, clauses, assignments of truth values to atoms, and the steps of a refutation.
 #![tactic(auto)]
 
 mod assignment;
 mod clause;
 mod lit;
+mod step;
 #[cfg(test)]
 mod tests;
 
 pub use assignment::{Assignment, falsifies};
 pub use clause::{Clause, contained};
 pub use lit::{Atom, Lit, negation};
+pub use step::{Instance, Learned, Step, Word};

@@ -1,122 +1,158 @@
--- The problem of a goal: its listed atoms and the clauses that define them.
-use Rattle.std.specs.Prelude.{◌≡◌, ◌&&◌, ◌+◌, ◌-◌, ◌==◌, ◌++◌, ℕ, Bool, true, false, List, [], ◌∷◌, map, length, Option, Some, None, slice_get, if◌then◌else◌, IsTrue}
-use Rattle.std.specs.List.{list_all, list_any, position_or_len}
-use Rattle.std.specs.Str.{bytes_eq}
-use Rattle.sc_clauses.specs.declared.lit.Lit.{Lit}
-use Rattle.sc_clauses.specs.Clauses.{Clause, positive, negation}
+-- The problem of a goal: its closed terms and its listed atoms, both numbered from 1 in the order of terms.
+use Rattle.std.specs.Prelude.{◌≡◌, ◌↔◌, ◌<◌, ◌≤◌, ◌+◌, ◌-◌, ◌==◌, ℕ, Bool, true, false, not, ◌&&◌, List, [], ◌∷◌, map, filter, length, Option, Some, None, slice_get, if◌then◌else◌, ⊤}
+use Rattle.std.specs.List.{AllByRecursion, Contains}
+use Rattle.std.specs.List.Sorted.{IsStrictlySortedBy}
+use Rattle.sc_lists.specs.declared.fault.Fault.{Fault}
+use Rattle.sc_lists.specs.declared.fault.Fault.TheVariants.{Told, NoMemory}
 use Rattle.sc_names.specs.declared.uid.Uid.{Uid}
-use Rattle.sc_schema.specs.declared.ty.Presence.{Presence}
-use Rattle.sc_schema.specs.declared.ty.Presence.TheVariants.{Required, Optional}
-use Rattle.sc_schema.specs.declared.ty.Ty.{Ty, Ty-F, out-Ty}
-use Rattle.sc_schema.specs.declared.ty.Ty.TheOpen as ty
 use Rattle.sc_schema.specs.declared.declarations.Env.{Env}
-use Rattle.sc_schema.specs.Declarations.{Declarations, context_of}
-use Rattle.sc_footprint.specs.declared.term.Term.{Term, Term-F, out-Term}
-use Rattle.sc_footprint.specs.declared.term.Term.TheOpen as t
-use Rattle.sc_footprint.specs.declared.term.Term.TheVariants.{True, Principal, Resource, Context, Eq, Field}
+use Rattle.sc_schema.specs.Declarations.{Declarations, context_of, environments}
+use Rattle.sc_world.specs.Named.{IsDeclared}
+use Rattle.sc_clauses.specs.declared.lit.Lit.{Lit}
+use Rattle.sc_clauses.specs.Clauses.{positive, negation}
+use Rattle.sc_sorts.specs.declared.sort.Sort.{Sort, Sort-F, out-Sort}
+use Rattle.sc_sorts.specs.declared.sort.Sort.TheOpen as s
+use Rattle.sc_terms.specs.declared.node.Node.{Node}
+use Rattle.sc_terms.specs.declared.node.Leaf.TheVariants.{Literal}
+use Rattle.sc_terms.specs.declared.node.Literal.TheVariants.{Bool as bool}
+use Rattle.sc_terms.specs.declared.node.UnaryOp.TheVariants.{Not}
+use Rattle.sc_terms.specs.Trees.{Tree, leaf, one, two, choice}
+use Rattle.sc_terms.specs.Tables.{tree}
+use Rattle.sc_terms.specs.TreeSorts.{tree_sort}
+use Rattle.sc_terms.specs.Order.{tree_cmp, tree_eq}
+use Rattle.sc_terms.specs.Booleans.{IsBoolean}
+use Rattle.sc_footprint.specs.Closure.{Closed}
 
--- a goal over the variables of an environment, and the uids that are to be stored
+-- a goal, by its number in a table of terms, the closed terms by theirs, and the uids that are to be stored
 pub record Posed : Type 0 where
   pub schema : Declarations
   pub env : Env
   pub literals : List Uid
-  pub goal : Term
+  pub nodes : List Node
+  pub goal : ℕ
+  pub closed : List ℕ
 
--- the names of a record type's fields
-abbrev pub names_in : Ty-F Ty → List (List ℕ)
-names_in (ty.Record attributes) = map (λ (a : List ℕ × Presence × Ty). a.0) attributes
-names_in _ = []
+abbrev pub goal_term : Posed → Tree
+goal_term p = tree p.nodes p.goal
 
-abbrev pub names_of : Option Ty → List (List ℕ)
-names_of None = []
-names_of (Some x) = names_in (out-Ty x)
+-- the closed terms
+abbrev pub closed_terms : Posed → List Tree
+closed_terms p = map (tree p.nodes) p.closed
 
--- the names of the context's fields
-abbrev pub context_names : Declarations → Env → List (List ℕ)
-context_names s env = names_of (context_of s env.action)
+-- the terms are just the closed ones of a goal, in order
+pub record AreClosed (env : Env) (goal : Tree) (ts : List Tree) : Type 0 where
+  pub ordered : IsStrictlySortedBy tree_cmp ts
+  pub just : (t : Tree) → Contains ts t ↔ Closed env goal t
 
-abbrev pub of_context : List ℕ → Term
-of_context name = Field Context name
+-- in an environment of the schema, whose literals are declared; the goal is of the fragment of Booleans, and the closed terms are
+-- its own
+pub record IsPosed (p : Posed) : Type 0 where
+  pub environment : Contains (environments p.schema) p.env
+  pub declared : AllByRecursion (IsDeclared p.schema) p.literals
+  pub goal_within : p.goal < length p.nodes
+  pub within : AllByRecursion (λ n. n < length p.nodes) p.closed
+  pub boolean : IsBoolean (context_of p.schema p.env.action) (goal_term p)
+  pub are_closed : AreClosed p.env (goal_term p) (closed_terms p)
 
--- a field that is a required truth value
-abbrev pub is_bool : Ty-F Ty → Bool
-is_bool ty.Bool = true
-is_bool _ = false
+-- ---- atoms
 
-abbrev pub is_required : Presence → Bool
-is_required Required = true
-is_required Optional = false
+abbrev pub is_bool_in : Sort-F Sort → Bool
+is_bool_in s.Bool = true
+is_bool_in _ = false
 
-abbrev pub is_bool_field : List ℕ × Presence × Ty → Bool
-is_bool_field a = is_required a.1 && is_bool (out-Ty a.2)
+-- a truth value
+abbrev pub is_bool : Tree → Bool
+is_bool t = is_bool_in (out-Sort (tree_sort t))
 
-abbrev pub are_bools_in : Ty-F Ty → Bool
-are_bools_in (ty.Record attributes) = list_all is_bool_field attributes
-are_bools_in _ = false
+-- `false`, or a negation
+abbrev pub is_opposite : Tree → Bool
+is_opposite (leaf (Literal (bool false))) = true
+is_opposite (one Not a) = true
+is_opposite _ = false
 
-abbrev pub are_bools : Option Ty → Bool
-are_bools None = false
-are_bools (Some x) = are_bools_in (out-Ty x)
+abbrev pub is_atom : Tree → Bool
+is_atom t = is_bool t && not (is_opposite t)
 
--- each field of the context is a required truth value
-abbrev pub has_plain_context : Declarations → Env → Bool
-has_plain_context s env = are_bools (context_of s env.action)
+abbrev pub atoms_among : List Tree → List Tree
+atoms_among ts = filter is_atom ts
 
-abbrev pub is_context : Term-F Term → Bool
-is_context t.Context = true
-is_context _ = false
+-- the listed atoms
+abbrev pub atoms : Posed → List Tree
+atoms p = atoms_among (closed_terms p)
 
-abbrev pub is_goal_under : Bool → List (List ℕ) → Term-F Term → Bool
-is_goal_under plain names t.False = true
-is_goal_under plain names (t.Field x name) = plain && (is_context (out-Term x) && list_any (bytes_eq name) names)
-is_goal_under plain names _ = false
+-- the term of a number, counted from 1
+abbrev pub numbered : {X : Type 0} → List X → ℕ → Option X
+numbered xs n = if n == 0 then None else slice_get xs (n - 1)
 
--- The goals that are posed so far: `false`, or a field of a context of required truth values.
-abbrev pub is_goal : Declarations → Env → Term → Bool
-is_goal s env goal = is_goal_under (has_plain_context s env) (context_names s env) (out-Term goal)
+abbrev pub one_more : ℕ → ℕ
+one_more n = if n == 0 then 0 else n + 1
 
--- principal and resource have one type
-abbrev pub is_one_type : Env → Bool
-is_one_type env = bytes_eq env.principal env.resource
+-- the number of a term, counted from 1; 0 where it isn't there
+abbrev pub number_among : List Tree → Tree → ℕ
+number_among [] t = 0
+number_among (x ∷ xs) t = if tree_eq x t then 1 else one_more (number_among xs t)
 
--- whether principal and resource are one entity, where they have one type
-abbrev pub equalities : Bool → List Term
-equalities true = Eq Principal Resource ∷ []
-equalities false = []
+-- the number of an atom
+abbrev pub atom_number : Posed → Tree → ℕ
+atom_number p t = number_among (atoms p) t
 
--- the closed terms of sort Bool but `false`, in the order of terms: `true`, whether principal and resource are one where
--- they have one type, and where the context is a part of the goal each field of it
-abbrev pub atoms_under : Bool → List (List ℕ) → Term-F Term → List Term
-atoms_under one names (t.Field x name) = True ∷ (equalities one ++ map of_context names)
-atoms_under one names _ = True ∷ equalities one
+-- ---- numbers of closed terms
 
-abbrev pub atoms : Posed → List Term
-atoms p = atoms_under (is_one_type p.env) (context_names p.schema p.env) (out-Term p.goal)
+-- the number of a term, given by its number in the table; 0 where it isn't there
+abbrev pub place_among : List ℕ → ℕ → ℕ
+place_among [] n = 0
+place_among (m ∷ ms) n = if m == n then 1 else one_more (place_among ms n)
 
--- the atom of a number, counted from 1
-abbrev pub atom_at : Posed → ℕ → Option Term
-atom_at p n = if n == 0 then None else slice_get (atoms p) (n - 1)
+abbrev pub if_any : ℕ → Option ℕ
+if_any n = if n == 0 then None else Some n
 
--- the number of the context's first field, where fields are listed
-abbrev pub first_field : Bool → ℕ
-first_field true = 3
-first_field false = 2
+-- the number of a closed term
+abbrev pub number_of : Posed → ℕ → Option ℕ
+number_of p n = if_any (place_among p.closed n)
 
--- the literal of a goal: that of `false` is the negation of `true`
-abbrev pub literal_under : Bool → List (List ℕ) → Term-F Term → Lit
-literal_under one names t.False = negation (positive 1)
-literal_under one names (t.Field x name) = positive (first_field one + position_or_len (bytes_eq name) names)
-literal_under one names _ = positive 1
+-- ---- literals
 
+-- of an atom its number, of `false` the negation of atom 1, which is `true`, and of a negation the negation of its part's
+unfoldable pub literal : (Tree → ℕ) → Tree → Lit
+literal number (leaf l) = if is_opposite (leaf l) then negation (positive 1) else positive (number (leaf l))
+literal number (one Not a) = negation (literal number a)
+literal number (one o a) = positive (number (one o a))
+literal number (two o a b) = positive (number (two o a b))
+literal number (choice c a b) = positive (number (choice c a b))
+
+abbrev pub literal_in : Posed → Tree → Lit
+literal_in p t = literal (atom_number p) t
+
+-- the literal that is true where the goal is
 abbrev pub goal_literal : Posed → Lit
-goal_literal p = literal_under (is_one_type p.env) (context_names p.schema p.env) (out-Term p.goal)
+goal_literal p = literal_in p (goal_term p)
 
--- the clause of `true`, and last the goal's literal
-abbrev pub defining : Posed → List Clause
-defining p = (positive 1 ∷ []) ∷ (goal_literal p ∷ []) ∷ []
+-- the literal of a closed term, where that is a truth value
+abbrev pub literal_at : Posed → Option Tree → Option Lit
+literal_at p None = None
+literal_at p (Some t) = if is_bool t then Some (literal_in p t) else None
 
--- the goal is one that is posed, and this is its literal and the number of listed atoms
-pub record IsPosed (p : Posed) (literal : Lit) (count : ℕ) : Type 0 where
-  pub goal : IsTrue (is_goal p.schema p.env p.goal)
-  pub goal_literal_is : literal ≡ goal_literal p
-  pub count_is : count ≡ length (atoms p)
+-- ---- limits
+
+-- no more atoms are listed
+abbrev pub most_atoms : ℕ
+most_atoms = 4194304
+
+-- ---- problems of a goal
+
+-- the problem of this goal, with as many atoms as may be listed
+pub record IsProblemOf (schema : Declarations) (env : Env) (literals : List Uid) (goal : Tree) (p : Posed) : Type 0 where
+  pub schema_is : p.schema ≡ schema
+  pub env_is : p.env ≡ env
+  pub literals_are : p.literals ≡ literals
+  pub goal_is : goal_term p ≡ goal
+  pub within_limit : length (atoms p) ≤ most_atoms
+
+-- the goal lists more atoms
+abbrev pub IsOverLimit : Env → Tree → Type 0
+IsOverLimit env goal = (ts : List Tree) → AreClosed env goal ts → most_atoms < length (atoms_among ts)
+
+-- why a goal has no problem: it is over the limit, or memory ran out
+abbrev pub IsRefused : {E : Type 0} → Env → Tree → Fault E → Type 0
+IsRefused env goal (Told fault) = IsOverLimit env goal
+IsRefused env goal NoMemory = ⊤

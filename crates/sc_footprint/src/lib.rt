@@ -1,11 +1,23 @@
-//! The problem whether some well-formed world makes a goal true: its terms, its listed atoms, and
-//! the clauses that define them.
+//! The problem whether some well-formed world makes a goal true: its closed terms, its listed atoms
+//! and their literals, and what a theory of such problems is.
 #![tactic(auto)]
 
+mod closed;
+mod closing;
+mod following;
+mod kind;
+mod law;
+mod limit;
+mod listing;
+mod numbers;
 mod problem;
-mod term;
+mod sorting;
 #[cfg(test)]
 mod tests;
+mod theory;
 
-pub use problem::{Problem, close, context_fields, defining, first_field, is_goal, is_one_type};
-pub use term::Term;
+pub use closing::close;
+pub use law::problem_laws;
+pub use limit::OverLimit;
+pub use problem::Problem;
+pub use theory::Theory;

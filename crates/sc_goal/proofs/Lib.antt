@@ -1,2 +1,7 @@
 pub mod PropertiesLaws
+pub mod GoalsLaws
+pub mod QueriesLaws
+pub mod RightLaws
+pub mod BooleansLaws
+pub mod PosedLaws
 mod Examples

@@ -1,1 +1,3 @@
 pub mod Properties
+pub mod Queries
+pub mod Goals

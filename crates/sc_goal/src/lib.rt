@@ -1,7 +1,17 @@
-//! The questions that are asked of policy sets, and the property of worlds that each asks about.
+//! The questions that are asked of policy sets: the property of worlds that each asks about, and the
+//! goal, a term that is true in the worlds that lack it.
 #![tactic(auto)]
 
+mod asking;
+mod compiling;
 mod laws;
+mod posing;
+mod queries;
+#[cfg(test)]
+mod tests;
 
-pub use laws::property_laws;
+pub use asking::query;
+pub use laws::{goal_laws, property_laws};
+pub use posing::goal;
+pub use queries::Query;
 pub use sc_question::Question;

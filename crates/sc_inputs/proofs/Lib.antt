@@ -1,4 +1,3 @@
 pub mod ServingLaws
-pub mod PoliciesLaws
 pub mod CheckingLaws
 pub mod ReadingLaws

@@ -1,22 +1,21 @@
 -- Why reading the files of a command ends, and what it gives.
-use Rattle.std.proofs.Common.{◌≡◌, ◌≤◌, ◌⊎◌, ℕ, List, Option, None, Result, Ok, Err, IfOk, IfErr, sym, subst, arith, ⊎_elim, inr}
+use Rattle.std.proofs.Common.{◌≡◌, ◌≤◌, ℕ, List, Option, Some, None, Result, Ok, Err, IfOk, IfErr, OnOk, is_some, refl, sym, subst, ◌∙◌, arith}
 use Rattle.std.proofs.Math.Path.{fun_ext}
 use Rattle.sc_lists.specs.declared.fault.Fault.{Fault}
 use Rattle.sc_lists.specs.declared.fault.Fault.TheVariants.{Told, NoMemory}
 use Rattle.sc_ast.specs.declared.policy.Policy.{Policy}
 use Rattle.sc_outside.specs.Counts.{Rose}
 use Rattle.sc_parser.specs.Spelling.{Spells}
+use Rattle.sc_question.specs.declared.question.Question.{Question}
 use Rattle.sc_schema.specs.Declarations.{Declarations}
 use Rattle.sc_world.specs.declared.world.World.{World}
 use Rattle.sc_world_json.specs.Reading.{SpellsWorld}
-use Rattle.sc_inputs.specs.Serving.{Command, Serves, HasUnits, asking, replaying}
-use Rattle.sc_inputs.proofs.ServingLaws.{units_of}
-use Rattle.sc_typing.specs.Checking.{type_fault}
 use Rattle.sc_typing.specs.Names.{name_fault}
-use Rattle.sc_inputs.specs.Policies.{IsServed, policies_of}
-use Rattle.sc_inputs.specs.Readings.{FailsWith, IsNoSchema, IsNoPolicies, IsNoQuestion, IsOther, IsNoWorld, IsUnknown, IsUntyped, RefusesQuestion, undeclared, untyped, others, ReadsRest, ReadsInputs, IsRead, RefusesAnalysis, by_file, by_question, RefusesScene, by_policies, by_world, by_names}
+use Rattle.sc_inputs.specs.Serving.{Command, Serves, HasUnits, HasSets, asking, replaying}
+use Rattle.sc_inputs.proofs.ServingLaws.{units_of, sets_of}
+use Rattle.sc_inputs.specs.Readings.{FailsWith, Checks, IsNoSchema, IsNoPolicies, IsNoWorld, ReadsRest, ReadsInputs, IsRead, RefusesSets, by_first, by_against, RefusesAnalysis, by_files, by_question, RefusesScene, by_policies, by_world, by_names}
 use Rattle.sc_inputs.specs.Refusals as spec
-use Rattle.sc_inputs.specs.Refusals.{Content, File, IsRefusal, no_command, of_schema, of_policies, of_world, of_names, of_types, of_form, to_ask, to_replay, IsContent, ReadsSchema, HasPolicies, HasWorld, ReachesQuestion, RefusesFile, unread, long, RefusesSchema, schema_unread, schema_faulty, RefusesPolicies, policies_unread, policies_faulty, RefusesWorld, world_unread, world_faulty, schema_file, policies_file, world_file}
+use Rattle.sc_inputs.specs.Refusals.{Content, File, Side, policies_side, against_side, IsRefusal, no_command, of_schema, of_policies, of_against, of_world, of_names, of_question, IsContent, ReadsSchema, HasPolicies, HasAgainst, HasWorld, AreServed, ReachesQuestion, RefusesQuestion, RefusesFile, unread, long, RefusesSchema, schema_unread, schema_faulty, RefusesPolicies, policies_unread, policies_faulty, RefusesWorld, world_unread, world_faulty, schema_file, policy_file, world_file}
 use Rattle.sc_inputs.specs.View.{refusal_view}
 use Rattle.sc_inputs.specs.declared.inputs.Inputs.{Inputs}
 use Rattle.sc_inputs.specs.declared.inputs.Inputs.TheVariants.{Asked, Replayed}
@@ -32,13 +31,8 @@ fails_so P Q so NoMemory h = tt
 pub schema_so : (content : Content) (c : Command) (rose : Type 0) (bytes : List ℕ) → IsContent content c.schema bytes → (a : spec.Refusal) → IsNoSchema bytes a → RefusesSchema content c rose a
 schema_so content c rose bytes told a h = subst (RefusesSchema content c rose) (sym h.1) (schema_faulty h.0 bytes told h.2)
 
-pub policies_so : (content : Content) (name : List ℕ) (rose : Type 0) (bytes : List ℕ) → IsContent content name bytes → (a : spec.Refusal) → IsNoPolicies bytes a → RefusesPolicies content name rose a
-policies_so content name rose bytes told a h = subst (RefusesPolicies content name rose) (sym h.1) (policies_faulty h.0 bytes told h.2)
-
--- the same where a question is asked
-pub asked_so : (content : Content) (name : List ℕ) (rose : Type 0) (s : Declarations) (bytes : List ℕ) → IsContent content name bytes → (a : spec.Refusal) → IsNoPolicies bytes a ⊎ IsNoQuestion s bytes a → RefusesAnalysis content name rose s a
-asked_so content name rose s bytes told a h =
-    ⊎_elim (λ (n : IsNoPolicies bytes a). by_file a (policies_so content name rose bytes told a n)) (λ (q : IsNoQuestion s bytes a). by_question a q.0 (record { bytes = bytes; told = told; spelled = q.1 }) q.2) h
+pub policies_so : (content : Content) (name : List ℕ) (side : Side) (rose : Type 0) (bytes : List ℕ) → IsContent content name bytes → (a : spec.Refusal) → IsNoPolicies bytes side a → RefusesPolicies content name side rose a
+policies_so content name side rose bytes told a h = subst (RefusesPolicies content name side rose) (sym h.1) (policies_faulty h.0 bytes told h.2)
 
 pub world_so : (content : Content) (name : List ℕ) (rose : Type 0) (bytes : List ℕ) → IsContent content name bytes → (a : spec.Refusal) → IsNoWorld bytes a → RefusesWorld content name rose a
 world_so content name rose bytes told a h = subst (RefusesWorld content name rose) (sym h.1) (world_faulty h.0 bytes told h.2)
@@ -62,27 +56,35 @@ module _ {risen rose : Type 0} (since : risen → rose) where
   schema_rises content c _ (schema_unread a h) = schema_unread a (file_rises content c.schema schema_file a h)
   schema_rises content c _ (schema_faulty f bytes told h) = schema_faulty f bytes told h
 
-  pub policies_rise : (content : Content) (name : List ℕ) (a : spec.Refusal) → RefusesPolicies content name risen a → RefusesPolicies content name rose a
-  policies_rise content name _ (policies_unread a h) = policies_unread a (file_rises content name policies_file a h)
-  policies_rise content name _ (policies_faulty f bytes told h) = policies_faulty f bytes told h
+  pub policies_rise : (content : Content) (name : List ℕ) (side : Side) (a : spec.Refusal) → RefusesPolicies content name side risen a → RefusesPolicies content name side rose a
+  policies_rise content name side _ (policies_unread a h) = policies_unread a (file_rises content name (policy_file side) a h)
+  policies_rise content name side _ (policies_faulty f bytes told h) = policies_faulty f bytes told h
+
+  pub sets_rise : (content : Content) (policies : List ℕ) (against : Option (List ℕ)) (a : spec.Refusal) → RefusesSets content policies against risen a → RefusesSets content policies against rose a
+  sets_rise content policies against _ (by_first a h) = by_first a (policies_rise content policies policies_side a h)
+  sets_rise content policies against _ (by_against a first name has is h) = by_against a first name has is (policies_rise content name against_side a h)
+
+  pub analysis_rises : (content : Content) (policies : List ℕ) (against : Option (List ℕ)) (s : Declarations) (a : spec.Refusal) → RefusesAnalysis content policies against risen s a → RefusesAnalysis content policies against rose s a
+  analysis_rises content policies against s _ (by_files a h) = by_files a (sets_rise content policies against a h)
+  analysis_rises content policies against s _ (by_question a first second has others h) = by_question a first second has others h
 
   pub world_rises : (content : Content) (name : List ℕ) (a : spec.Refusal) → RefusesWorld content name risen a → RefusesWorld content name rose a
   world_rises content name _ (world_unread a h) = world_unread a (file_rises content name world_file a h)
   world_rises content name _ (world_faulty f bytes told h) = world_faulty f bytes told h
 
   pub scene_rises : (content : Content) (policies name : List ℕ) (s : Declarations) (a : spec.Refusal) → RefusesScene content policies name risen s a → RefusesScene content policies name rose s a
-  scene_rises content policies name s _ (by_policies a h) = by_policies a (policies_rise content policies a h)
+  scene_rises content policies name s _ (by_policies a h) = by_policies a (policies_rise content policies policies_side a h)
   scene_rises content policies name s _ (by_world a ps has h) = by_world a ps has (world_rises content name a h)
   scene_rises content policies name s _ (by_names f ps w has holds is) = by_names f ps w has holds is
 
   pub refusal_rises : (content : Content) (words : List (List ℕ)) (a : spec.Refusal) → IsRefusal content words risen a → IsRefusal content words rose a
   refusal_rises content words _ (no_command none) = no_command none
   refusal_rises content words _ (of_schema a c h i) = of_schema a c h (schema_rises content c a i)
-  refusal_rises content words _ (of_policies a c s h reads i) = of_policies a c s h reads (policies_rise content c.policies a i)
+  refusal_rises content words _ (of_policies a c s h reads i) = of_policies a c s h reads (policies_rise content c.policies policies_side a i)
+  refusal_rises content words _ (of_against a c s question name budget first h task reads has i) = of_against a c s question name budget first h task reads has (policies_rise content name against_side a i)
   refusal_rises content words _ (of_world a s ps name reaches i) = of_world a s ps name reaches (world_rises content name a i)
-  refusal_rises content words _ (of_names f s ps reaches is) = of_names f s ps reaches is
-  refusal_rises content words _ (of_types f s ps reaches declared is) = of_types f s ps reaches declared is
-  refusal_rises content words _ (of_form s ps reaches is) = of_form s ps reaches is
+  refusal_rises content words _ (of_names f s ps name w reaches has is) = of_names f s ps name w reaches has is
+  refusal_rises content words _ (of_question a s question first against budget reaches h) = of_question a s question first against budget reaches h
 
 -- ---- what reading a file gives, call by call
 
@@ -98,33 +100,37 @@ pub result_fails : {T : Type 0} (P Q : spec.Refusal → Type 0) → ((a : spec.R
 result_fails P Q so (Ok x) h = tt
 result_fails P Q so (Err f) h = fails_so P Q so f h
 
-pub policies_fail : (content : Content) (name bytes : List ℕ) (rose : Type 0) → IsContent content name bytes → (r : Result (List Policy) (Fault Refusal)) → IfErr r (FailsWith (IsNoPolicies bytes))
-    → IfErr r (FailsWith (RefusesPolicies content name rose))
-policies_fail content name bytes rose is r h = result_fails (IsNoPolicies bytes) (RefusesPolicies content name rose) (policies_so content name rose bytes is) r h
+pub policies_fail : (content : Content) (name bytes : List ℕ) (side : Side) (rose : Type 0) → IsContent content name bytes → (r : Result (List Policy) (Fault Refusal)) → IfErr r (FailsWith (IsNoPolicies bytes side))
+    → IfErr r (FailsWith (RefusesPolicies content name side rose))
+policies_fail content name bytes side rose is r h = result_fails (IsNoPolicies bytes side) (RefusesPolicies content name side rose) (policies_so content name side rose bytes is) r h
 
--- ---- policies of which a question may be asked
+-- ---- the policy sets of a question
 
--- their attribute tells them, so they have no fault where theirs have none
-pub same_none : {X : Type 0} (find : List Policy → Option X) (ps : List Policy) (r : Result (Option (List ℕ)) (Fault Refusal)) → find ps ≡ None → IfOk r (λ o. ps ≡ policies_of o) → IfOk r (λ o. find (policies_of o) ≡ None)
-same_none find ps (Ok o) none is = subst (λ qs. find qs ≡ None) is none
-same_none find ps (Err f) none is = tt
+-- the files were read in another state, which holds the same
+pub policies_later : (content mid : Content) (name : List ℕ) (ps : List Policy) → ((file : List ℕ) → mid file ≡ content file) → HasPolicies mid name ps → HasPolicies content name ps
+policies_later content mid name ps same h = subst (λ (told : Content). HasPolicies told name ps) (fun_ext same) h
 
-pub other_so : (s : Declarations) (bytes : List ℕ) (ps : List Policy) → name_fault s ps ≡ None → type_fault s ps ≡ None → (a : spec.Refusal) → IsOther s bytes a → RefusesQuestion s bytes ps a
-other_so s bytes ps declared typed a h = subst (RefusesQuestion s bytes ps) (sym h.0) (others (record { declared = declared; typed = typed; other = h.1 }))
+pub against_later : (content mid : Content) (name : Option (List ℕ)) (o : Option (List Policy)) → ((file : List ℕ) → mid file ≡ content file) → HasAgainst mid name o → HasAgainst content name o
+against_later content mid name o same h = subst (λ (told : Content). HasAgainst told name o) (fun_ext same) h
 
-pub untyped_so : (s : Declarations) (bytes : List ℕ) (ps : List Policy) (a : spec.Refusal) → IsUnknown s ps a ⊎ ((name_fault s ps ≡ None) × IsUntyped s ps a) → RefusesQuestion s bytes ps a
-untyped_so s bytes ps a h =
-    ⊎_elim (λ (n : IsUnknown s ps a). subst (RefusesQuestion s bytes ps) (sym n.1) (undeclared n.0 n.2))
-    (λ (t : (name_fault s ps ≡ None) × IsUntyped s ps a). subst (RefusesQuestion s bytes ps) (sym t.1.1) (untyped t.1.0 t.0 t.1.2)) h
-
-pub question_so : (s : Declarations) (bytes : List ℕ) (ps : List Policy) → Spells bytes ps → (a : spec.Refusal) → RefusesQuestion s bytes ps a → IsNoPolicies bytes a ⊎ IsNoQuestion s bytes a
-question_so s bytes ps spells a h = inr (ps, spells, h)
+pub sets_later : (content mid : Content) (policies : List ℕ) (against : Option (List ℕ)) (risen rose : Type 0) (ps : List Policy) → ((file : List ℕ) → mid file ≡ content file) → (risen → rose) → HasPolicies content policies ps
+    → (f : Fault Refusal) → ((file : List ℕ) (qs : List Policy) → HasPolicies mid file qs → FailsWith (RefusesSets mid file against risen) f) → FailsWith (RefusesSets content policies against rose) f
+sets_later content mid policies against risen rose ps same since has f h =
+    let there = subst (λ (told : Content). HasPolicies told policies ps) (sym (fun_ext same)) has in
+    let here = subst (λ (told : Content). FailsWith (RefusesSets told policies against risen) f) (fun_ext same) (h policies ps there) in
+    fails_so (RefusesSets content policies against risen) (RefusesSets content policies against rose) (sets_rise since content policies against) f here
 
 -- ---- the policies and the world of a replay
 
 pub names_so : (content : Content) (policies name : List ℕ) (rose : Type 0) (s : Declarations) (ps : List Policy) (w : World) → HasPolicies content policies ps → HasWorld content name w
-    → (a : spec.Refusal) → IsUnknown s ps a → RefusesScene content policies name rose s a
-names_so content policies name rose s ps w has holds a h = subst (RefusesScene content policies name rose s) (sym h.1) (by_names h.0 ps w has holds h.2)
+    → (r : Result (Unit {0}) (Fault Refusal)) → Checks (name_fault s ps) (spec.unknown_name policies_side) r → IfErr r (FailsWith (RefusesScene content policies name rose s))
+names_so content policies name rose s ps w has holds (Ok x) h = tt
+names_so content policies name rose s ps w has holds (Err (Told r)) h = subst (RefusesScene content policies name rose s) (sym h.2) (by_names h.0 ps w has holds h.1)
+names_so content policies name rose s ps w has holds (Err NoMemory) h = tt
+
+pub names_none : (s : Declarations) (ps : List Policy) (r : Result (Unit {0}) (Fault Refusal)) → Checks (name_fault s ps) (spec.unknown_name policies_side) r → OnOk r (name_fault s ps ≡ None)
+names_none s ps (Ok x) h = h
+names_none s ps (Err f) h = tt
 
 -- the files were read in another state, which holds the same
 pub scene_later : (content mid : Content) (policies name : List ℕ) (risen rose : Type 0) (s : Declarations) (ps : List Policy) → ((file : List ℕ) → mid file ≡ content file) → (risen → rose) → HasPolicies content policies ps
@@ -139,16 +145,17 @@ world_later content mid name w same h = subst (λ (told : Content). HasWorld tol
 
 -- ---- a command, where the schema is read
 
-question_refused : (content : Content) (words : List (List ℕ)) (rose : Type 0) (s : Declarations) (ps : List Policy) (reaches : ReachesQuestion content words s ps) → (a : spec.Refusal) → RefusesQuestion s reaches.policies.bytes ps a → IsRefusal content words rose a
-question_refused content words rose s ps reaches _ (undeclared f is) = of_names f s ps (to_ask reaches) is
-question_refused content words rose s ps reaches _ (untyped f declared is) = of_types f s ps reaches declared is
-question_refused content words rose s ps reaches _ (others is) = of_form s ps reaches is
+sets_refused : (content : Content) (words : List (List ℕ)) (c : Command) (question : Question) (name : Option (List ℕ)) (budget : ℕ) (rose : Type 0) (s : Declarations) → c.task ≡ asking question name budget → Serves words c → ReadsSchema content c s
+    → (a : spec.Refusal) → RefusesSets content c.policies name rose a → IsRefusal content words rose a
+sets_refused content words c question name budget rose s task serves reads _ (by_first a h) = of_policies a c s serves reads h
+sets_refused content words c question name budget rose s task serves reads _ (by_against a first other has is h) =
+    of_against a c s question other budget first serves (subst (λ (o : Option (List ℕ)). c.task ≡ asking question o budget) is task) reads has h
 
-pub analysis_refused : (content : Content) (words : List (List ℕ)) (c : Command) (budget : ℕ) (rose : Type 0) (s : Declarations) → c.task ≡ asking budget → Serves words c → ReadsSchema content c s
-    → (a : spec.Refusal) → RefusesAnalysis content c.policies rose s a → IsRefusal content words rose a
-analysis_refused content words c budget rose s task serves reads _ (by_file a h) = of_policies a c s serves reads h
-analysis_refused content words c budget rose s task serves reads _ (by_question a ps has h) =
-    question_refused content words rose s ps (record { command = c; commands = serves; budget = budget; task = task; schema = reads; policies = has }) a h
+pub analysis_refused : (content : Content) (words : List (List ℕ)) (c : Command) (question : Question) (name : Option (List ℕ)) (budget : ℕ) (rose : Type 0) (s : Declarations) → c.task ≡ asking question name budget → Serves words c → ReadsSchema content c s
+    → (a : spec.Refusal) → RefusesAnalysis content c.policies name rose s a → IsRefusal content words rose a
+analysis_refused content words c question name budget rose s task serves reads _ (by_files a h) = sets_refused content words c question name budget rose s task serves reads a h
+analysis_refused content words c question name budget rose s task serves reads _ (by_question a first second has others h) =
+    of_question a s question first second budget (record { command = c; commands = serves; name = name; task = task; schema = reads; policies = has; others = others }) h
 
 pub scene_refused : (content : Content) (words : List (List ℕ)) (c : Command) (name : List ℕ) (rose : Type 0) (s : Declarations) → c.task ≡ replaying name → Serves words c → ReadsSchema content c s
     → (a : spec.Refusal) → RefusesScene content c.policies name rose s a → IsRefusal content words rose a
@@ -156,7 +163,7 @@ scene_refused content words c name rose s task serves reads _ (by_policies a h) 
 scene_refused content words c name rose s task serves reads _ (by_world a ps has h) =
     of_world a s ps name (record { command = c; commands = serves; task = task; schema = reads; policies = has }) h
 scene_refused content words c name rose s task serves reads _ (by_names f ps w has holds is) =
-    of_names f s ps (to_replay name w (record { command = c; commands = serves; task = task; schema = reads; policies = has }) holds) is
+    of_names f s ps name w (record { command = c; commands = serves; task = task; schema = reads; policies = has }) holds is
 
 -- ---- a command
 
@@ -184,20 +191,28 @@ rest_fails content mid c risen rose s same since reads (Err f) h =
 pub schema_at : (content : Content) (c : Command) (s d : Declarations) → s ≡ d → ReadsSchema content c d → ReadsSchema content c s
 schema_at content c s d e h = subst (ReadsSchema content c) (sym e) h
 
+some-where-read : (content : Content) (name : Option (List ℕ)) (o : Option (List Policy)) → HasAgainst content name o → is_some name ≡ is_some o
+some-where-read content None None h = refl
+some-where-read content None (Some ps) h = absurd h
+some-where-read content (Some n) None h = absurd h
+some-where-read content (Some n) (Some ps) h = refl
+
 words-read-one : (content : Content) (words : List (List ℕ)) (c : Command) (s : Declarations) (i : Inputs) → Serves words c → ReadsSchema content c s → ReadsRest content c s i → IsRead content words i
 words-read-one content words c s (Asked i) serves reads h = (
   record {
-    command = c;
-    commands = serves;
-    budget = i.budget;
-    task = h.task;
-    schema = schema_at content c i.schema s h.schema reads;
-    policies = subst (λ d. spec.ReadsPolicies content c.policies d i.attribute) (sym h.schema) h.policies;
-    declared = subst (λ d. name_fault d (policies_of i.attribute) ≡ None) (sym h.schema) h.declared;
-    typed = subst (λ d. type_fault d (policies_of i.attribute) ≡ None) (sym h.schema) h.typed;
+    reaches = record {
+      command = c;
+      commands = serves;
+      name = h.name;
+      task = h.task;
+      schema = schema_at content c i.schema s h.schema reads;
+      policies = h.policies_read;
+      others = h.others_read;
+    };
+    served = subst (λ d. AreServed d i.policies i.against) (sym h.schema) h.served;
   },
-  subst (λ d. IsServed d i.attribute) (sym h.schema) h.served,
   subst HasUnits h.task (units_of words c serves),
+  sym (some-where-read content h.name i.against h.others_read) ∙ subst HasSets h.task (sets_of words c serves),
 )
 words-read-one content words c s (Replayed x) serves reads h = record {
   name = h.0;

@@ -1,5 +1,4 @@
 pub mod Serving
-pub mod Policies
 pub mod FaultTexts
 pub mod Refusals
 pub mod View

@@ -1,5 +1,6 @@
 -- The answers other than a report, and when each may come.
-use Rattle.std.specs.Prelude.{◌≡◌, ◌≤◌, ◌<◌, ℕ, List, ◌++◌, Option, IfSome, Some, None, codes, length}
+use Rattle.std.specs.Prelude.{◌≡◌, ◌≤◌, ◌<◌, ℕ, List, ◌++◌, Option, IfSome, Some, None, option_map, codes, length, ⊤}
+use Rattle.std.specs.Option.{option_or}
 use Rattle.sc_schema.specs.Declarations.{Declarations}
 use Rattle.sc_schema_json.specs.Spelling as schema
 use Rattle.sc_schema_syntax.specs.declared.fault.SchemaFault.{SchemaFault}
@@ -14,51 +15,66 @@ use Rattle.sc_world.specs.declared.world.World.{World}
 use Rattle.sc_world_json.specs.declared.fault.WorldFault.{WorldFault}
 use Rattle.sc_world_json.specs.Reading as world
 use Rattle.sc_inputs.specs.Serving.{Command, Serves, asking, replaying}
-use Rattle.sc_inputs.specs.FaultTexts.{fault_text, schema_fault_text, world_fault_text, name_fault_text, type_fault_text}
-use Rattle.sc_inputs.specs.Policies.{SpellsPolicies}
+use Rattle.sc_inputs.specs.FaultTexts.{fault_text, schema_fault_text, world_fault_text, name_fault_text, type_fault_text, construct_text}
+use Rattle.sc_constructs.specs.declared.unsupported.Unsupported.{Unsupported}
+use Rattle.sc_constructs.specs.First.{unsupported as unsupported_in}
+use Rattle.sc_question.specs.declared.question.Question.{Question}
+
+-- a policy set of a command
+pub data Side : Type 0 where
+  policies_side : Side
+  against_side : Side
 
 pub data File : Type 0 where
   schema_file : File
-  policies_file : File
+  policy_file : Side → File
   world_file : File
 
 pub data Refusal : Type 0 where
   usage : Refusal
   schema_text : SchemaFault → Refusal
-  policy_text : PolicyFault → Refusal
+  policy_text : Side → PolicyFault → Refusal
   world_text : WorldFault → Refusal
-  unknown_name : NameFault → Refusal
-  ill_typed : IllTyped → Refusal
+  unknown_name : Side → NameFault → Refusal
+  ill_typed : Side → IllTyped → Refusal
+  unsupported : Side → Unsupported → Refusal
   read_fault : File → Refusal
   too_long : File → Refusal
-  not_form : Refusal
+
+abbrev pub side_name : Side → List ℕ
+side_name policies_side = codes "policies"
+side_name against_side = codes "against"
 
 abbrev pub file_name : File → List ℕ
 file_name schema_file = codes "schema"
-file_name policies_file = codes "policies"
+file_name (policy_file side) = side_name side
 file_name world_file = codes "world"
 
 abbrev pub code_of : Refusal → ℕ
 code_of usage = 10
 code_of (schema_text f) = 12
-code_of (policy_text f) = 11
+code_of (policy_text side f) = 11
 code_of (world_text f) = 17
-code_of (unknown_name f) = 13
-code_of (ill_typed f) = 13
+code_of (unknown_name side f) = 13
+code_of (ill_typed side f) = 13
+code_of (unsupported side u) = 15
 code_of (read_fault f) = 20
 code_of (too_long f) = 22
-code_of not_form = 15
+
+-- an error of policies of a side
+abbrev pub on_side : List ℕ → Side → List ℕ → List ℕ
+on_side front side text = front ++ (side_name side ++ (codes " " ++ (text ++ codes "\n")))
 
 abbrev pub refusal_text : Refusal → List ℕ
 refusal_text usage = codes "error 10 usage\n"
 refusal_text (schema_text f) = codes "error 12 " ++ schema_fault_text f ++ codes "\n"
-refusal_text (policy_text f) = codes "error 11 policies " ++ fault_text f ++ codes "\n"
+refusal_text (policy_text side f) = on_side (codes "error 11 ") side (fault_text f)
 refusal_text (world_text f) = codes "error 17 " ++ world_fault_text f ++ codes "\n"
-refusal_text (unknown_name f) = codes "error 13 policies " ++ name_fault_text f ++ codes "\n"
-refusal_text (ill_typed f) = codes "error 13 policies " ++ type_fault_text f ++ codes "\n"
+refusal_text (unknown_name side f) = on_side (codes "error 13 ") side (name_fault_text f)
+refusal_text (ill_typed side f) = on_side (codes "error 13 ") side (type_fault_text f)
+refusal_text (unsupported side u) = on_side (codes "error 15 ") side (construct_text u)
 refusal_text (read_fault f) = codes "error 20 " ++ file_name f ++ codes "\n"
 refusal_text (too_long f) = codes "error 22 " ++ file_name f ++ codes "\n"
-refusal_text not_form = codes "error 15 policies\n"
 
 -- ---- files
 
@@ -84,13 +100,7 @@ pub record ReadsSchema (content : Content) (c : Command) (s : Declarations) : Ty
   pub told : IsContent content c.schema bytes
   pub spelled : schema.Spells bytes s
 
--- the file of this name spells the policies, which are of the form that questions are served for
-pub record ReadsPolicies (content : Content) (name : List ℕ) (s : Declarations) (o : Option (List ℕ)) : Type 0 where
-  pub bytes : List ℕ
-  pub told : IsContent content name bytes
-  pub spelled : SpellsPolicies s bytes o
-
--- the file of this name spells the policies, whatever their form
+-- the file of this name spells the policies
 pub record HasPolicies (content : Content) (name : List ℕ) (ps : List Policy) : Type 0 where
   pub bytes : List ℕ
   pub told : IsContent content name bytes
@@ -102,14 +112,23 @@ pub record HasWorld (content : Content) (name : List ℕ) (w : World) : Type 0 w
   pub told : IsContent content name bytes
   pub spelled : world.SpellsWorld bytes w
 
--- the words are the command to ask a question of these policies under this schema: both files spell them
-pub record ReachesQuestion (content : Content) (words : List (List ℕ)) (s : Declarations) (ps : List Policy) : Type 0 where
+-- the file of this name, where there is one, spells the policies
+abbrev pub HasAgainst : Content → Option (List ℕ) → Option (List Policy) → Type 0
+HasAgainst content None None = ⊤
+HasAgainst content None (Some ps) = ⊥
+HasAgainst content (Some name) None = ⊥
+HasAgainst content (Some name) (Some ps) = HasPolicies content name ps
+
+-- the words are the command to ask a question, within a budget, of the policies `first`, and of `against` where it takes two sets;
+-- all files of it are read
+pub record ReachesQuestion (content : Content) (words : List (List ℕ)) (s : Declarations) (question : Question) (first : List Policy) (against : Option (List Policy)) (budget : ℕ) : Type 0 where
   pub command : Command
   pub commands : Serves words command
-  pub budget : ℕ
-  pub task : command.task ≡ asking budget
+  pub name : Option (List ℕ)
+  pub task : command.task ≡ asking question name budget
   pub schema : ReadsSchema content command s
-  pub policies : HasPolicies content command.policies ps
+  pub policies : HasPolicies content command.policies first
+  pub others : HasAgainst content name against
 
 -- the words are the command to replay the world of the file of this name, whose other files spell the schema and the policies
 pub record ReachesWorld (content : Content) (words : List (List ℕ)) (s : Declarations) (ps : List Policy) (name : List ℕ) : Type 0 where
@@ -119,17 +138,33 @@ pub record ReachesWorld (content : Content) (words : List (List ℕ)) (s : Decla
   pub schema : ReadsSchema content command s
   pub policies : HasPolicies content command.policies ps
 
--- all files of the command are read, and these are its schema and its policies
-pub data ReachesNames (content : Content) (words : List (List ℕ)) (s : Declarations) (ps : List Policy) : Type 0 where
-  to_ask : ReachesQuestion content words s ps → ReachesNames content words s ps
-  to_replay : (name : List ℕ) (w : World) → ReachesWorld content words s ps name → HasWorld content name w → ReachesNames content words s ps
+-- ---- faults of one or two policy sets: the first set that has one tells it
 
--- policies write declared names alone and are typed in each environment, but the bytes that spell them aren't of the form
--- that questions are served for
-pub record AreOthers (s : Declarations) (bytes : List ℕ) (ps : List Policy) : Type 0 where
-  pub declared : name_fault s ps ≡ None
-  pub typed : type_fault s ps ≡ None
-  pub other : (o : Option (List ℕ)) → SpellsPolicies s bytes o → ⊥
+abbrev pub on : {F : Type 0} → Side → Option F → Option (Side × F)
+on side fault = option_map (λ f. (side, f)) fault
+
+abbrev pub in_against : {F : Type 0} → (List Policy → Option F) → Option (List Policy) → Option (Side × F)
+in_against fault None = None
+in_against fault (Some ps) = on against_side (fault ps)
+
+abbrev pub first_fault : {F : Type 0} → (List Policy → Option F) → List Policy → Option (List Policy) → Option (Side × F)
+first_fault fault first against = option_or (on policies_side (fault first)) (in_against fault against)
+
+-- the first name that isn't declared, the first policy without a type, and the first construct that isn't supported
+abbrev pub names_fault : Declarations → List Policy → Option (List Policy) → Option (Side × NameFault)
+names_fault s first against = first_fault (name_fault s) first against
+
+abbrev pub types_fault : Declarations → List Policy → Option (List Policy) → Option (Side × IllTyped)
+types_fault s first against = first_fault (type_fault s) first against
+
+abbrev pub constructs_fault : Declarations → List Policy → Option (List Policy) → Option (Side × Unsupported)
+constructs_fault s first against = first_fault (unsupported_in s) first against
+
+-- the policies write declared names alone, are typed in each environment, and have supported constructs alone
+pub record AreServed (s : Declarations) (first : List Policy) (against : Option (List Policy)) : Type 0 where
+  pub declared : names_fault s first against ≡ None
+  pub typed : types_fault s first against ≡ None
+  pub supported : constructs_fault s first against ≡ None
 
 -- ---- refusals; `rose` says that the count of read faults rose
 
@@ -144,23 +179,30 @@ pub data RefusesSchema (content : Content) (c : Command) (rose : Type 0) : Refus
   schema_faulty : (f : SchemaFault) (bytes : List ℕ) → IsContent content c.schema bytes → schema.HasFault bytes f → RefusesSchema content c rose (schema_text f)
 
 -- the policy file of this name isn't read, or spells no policies
-pub data RefusesPolicies (content : Content) (name : List ℕ) (rose : Type 0) : Refusal → Type 0 where
-  policies_unread : (a : Refusal) → RefusesFile content name rose policies_file a → RefusesPolicies content name rose a
-  policies_faulty : (f : PolicyFault) (bytes : List ℕ) → IsContent content name bytes → HasFault bytes f → RefusesPolicies content name rose (policy_text f)
+pub data RefusesPolicies (content : Content) (name : List ℕ) (side : Side) (rose : Type 0) : Refusal → Type 0 where
+  policies_unread : (a : Refusal) → RefusesFile content name rose (policy_file side) a → RefusesPolicies content name side rose a
+  policies_faulty : (f : PolicyFault) (bytes : List ℕ) → IsContent content name bytes → HasFault bytes f → RefusesPolicies content name side rose (policy_text side f)
 
 -- the world file of this name isn't read, or spells no world
 pub data RefusesWorld (content : Content) (name : List ℕ) (rose : Type 0) : Refusal → Type 0 where
   world_unread : (a : Refusal) → RefusesFile content name rose world_file a → RefusesWorld content name rose a
   world_faulty : (f : WorldFault) (bytes : List ℕ) → IsContent content name bytes → world.HasFault bytes f → RefusesWorld content name rose (world_text f)
 
--- the words are no command that is served; or a file is refused, where those before it are read; or, where all files are
--- read, the policies write a name that isn't declared; or a question is asked of policies that aren't typed, or of others than
--- those that are served
+-- all files of a question are read, and its policies are refused: a name isn't declared; or all are, and a policy has no type; or all
+-- have, and a construct isn't supported
+pub data RefusesQuestion (s : Declarations) (first : List Policy) (against : Option (List Policy)) : Refusal → Type 0 where
+  undeclared : (side : Side) (f : NameFault) → names_fault s first against ≡ Some (side, f) → RefusesQuestion s first against (unknown_name side f)
+  untyped : (side : Side) (f : IllTyped) → names_fault s first against ≡ None → types_fault s first against ≡ Some (side, f) → RefusesQuestion s first against (ill_typed side f)
+  has_construct : (side : Side) (u : Unsupported) → names_fault s first against ≡ None → types_fault s first against ≡ None → constructs_fault s first against ≡ Some (side, u) → RefusesQuestion s first against (unsupported side u)
+
+-- the words are no command; or a file is refused, where those before it are read; or, where all files are read, the policies of a
+-- replay write a name that isn't declared, or those of a question are refused
 pub data IsRefusal (content : Content) (words : List (List ℕ)) (rose : Type 0) : Refusal → Type 0 where
   no_command : ((c : Command) → Serves words c → ⊥) → IsRefusal content words rose usage
   of_schema : (a : Refusal) (c : Command) → Serves words c → RefusesSchema content c rose a → IsRefusal content words rose a
-  of_policies : (a : Refusal) (c : Command) (s : Declarations) → Serves words c → ReadsSchema content c s → RefusesPolicies content c.policies rose a → IsRefusal content words rose a
+  of_policies : (a : Refusal) (c : Command) (s : Declarations) → Serves words c → ReadsSchema content c s → RefusesPolicies content c.policies policies_side rose a → IsRefusal content words rose a
+  of_against : (a : Refusal) (c : Command) (s : Declarations) (question : Question) (name : List ℕ) (budget : ℕ) (first : List Policy) → Serves words c → c.task ≡ asking question (Some name) budget → ReadsSchema content c s
+      → HasPolicies content c.policies first → RefusesPolicies content name against_side rose a → IsRefusal content words rose a
   of_world : (a : Refusal) (s : Declarations) (ps : List Policy) (name : List ℕ) → ReachesWorld content words s ps name → RefusesWorld content name rose a → IsRefusal content words rose a
-  of_names : (f : NameFault) (s : Declarations) (ps : List Policy) → ReachesNames content words s ps → name_fault s ps ≡ Some f → IsRefusal content words rose (unknown_name f)
-  of_types : (f : IllTyped) (s : Declarations) (ps : List Policy) → ReachesQuestion content words s ps → name_fault s ps ≡ None → type_fault s ps ≡ Some f → IsRefusal content words rose (ill_typed f)
-  of_form : (s : Declarations) (ps : List Policy) (reaches : ReachesQuestion content words s ps) → AreOthers s reaches.policies.bytes ps → IsRefusal content words rose not_form
+  of_names : (f : NameFault) (s : Declarations) (ps : List Policy) (name : List ℕ) (w : World) → ReachesWorld content words s ps name → HasWorld content name w → name_fault s ps ≡ Some f → IsRefusal content words rose (unknown_name policies_side f)
+  of_question : (a : Refusal) (s : Declarations) (question : Question) (first : List Policy) (against : Option (List Policy)) (budget : ℕ) → ReachesQuestion content words s question first against budget → RefusesQuestion s first against a → IsRefusal content words rose a

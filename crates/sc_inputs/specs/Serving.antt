@@ -1,7 +1,7 @@
--- The commands that are served so far: to ask of one policy file whether it always denies, and to tell what its policies do
--- in one world.
-use Rattle.std.specs.Prelude.{◌≤◌, ℕ, List, None, ⊤}
-use Rattle.sc_question.specs.declared.question.Question.TheVariants.{AlwaysDenies}
+-- The commands, by what is done with the policies under a schema.
+use Rattle.std.specs.Prelude.{◌≡◌, ◌≤◌, ℕ, List, Option, option_map, is_some, ⊤}
+use Rattle.sc_question.specs.Questions.{takes_two}
+use Rattle.sc_question.specs.declared.question.Question.{Question}
 use Rattle.sc_command.specs.CommandLine.{Command as AnyCommand, Commands, analyse, replay}
 use Rattle.sc_inputs.specs.declared.serving.Served.{Served}
 use Rattle.sc_inputs.specs.declared.serving.Task as code
@@ -9,8 +9,8 @@ use Rattle.sc_inputs.specs.declared.serving.Task.TheVariants as task
 
 -- what is done with a policy file
 pub data Task : Type 0 where
-  -- to ask whether the policies always deny, within this budget
-  asking : ℕ → Task
+  -- to ask a question of the policies, and of those of another file where it takes two sets, within this budget
+  asking : Question → Option (List ℕ) → ℕ → Task
   -- to tell what they do in the world of the file of this name
   replaying : List ℕ → Task
 
@@ -21,8 +21,8 @@ pub record Command : Type 0 where
 
 -- a task under a schema file and a policy file, among all commands
 abbrev pub command_for : List ℕ → List ℕ → Task → AnyCommand
-command_for schema policies (asking budget) =
-    analyse (record { schema = schema; policies = policies; against = None; question = AlwaysDenies; budget = budget })
+command_for schema policies (asking question against budget) =
+    analyse (record { schema = schema; policies = policies; against = against; question = question; budget = budget })
 command_for schema policies (replaying world) = replay (record { schema = schema; policies = policies; world = world })
 
 abbrev pub as_command : Command → AnyCommand
@@ -34,11 +34,16 @@ Serves words c = Commands words (as_command c)
 
 -- a budget allows some work
 abbrev pub HasUnits : Task → Type 0
-HasUnits (asking budget) = 1 ≤ budget
+HasUnits (asking question against budget) = 1 ≤ budget
 HasUnits (replaying world) = ⊤
 
+-- a second file is named exactly where the question takes two sets
+abbrev pub HasSets : Task → Type 0
+HasSets (asking question against budget) = is_some against ≡ takes_two question
+HasSets (replaying world) = ⊤
+
 abbrev pub task_view : code.Task → Task
-task_view (task.AlwaysDenies budget) = asking budget
+task_view (task.Ask question against budget) = asking question (option_map (λ name. name.now) against) budget
 task_view (task.Replay world) = replaying world.now
 
 abbrev pub served_view : Served → Command

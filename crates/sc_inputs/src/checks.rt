@@ -1,53 +1,136 @@
 //! Checks the policies of a command.
-ghost use Rattle.std.specs.Prelude.{◌≡◌, ◌⊎◌, None, OnOk, IfErr};
+ghost use Rattle.std.specs.Prelude.{◌≡◌, None, OnOk, IfErr, option_map};
+ghost use Rattle.sc_constructs.specs.First.{unsupported as unsupported_in};
 ghost use Rattle.sc_typing.specs.Checking.{type_fault};
 ghost use Rattle.sc_typing.specs.Names.{name_fault};
-ghost use Rattle.sc_inputs.specs.Readings.{FailsWith, IsUnknown, IsUntyped};
+ghost use Rattle.sc_inputs.specs.Readings.{Checks, FailsWith};
+ghost use Rattle.sc_inputs.specs.Refusals.{names_fault, types_fault, constructs_fault, AreServed, RefusesQuestion, unknown_name, ill_typed, unsupported};
+ghost use Rattle.sc_inputs.specs.View.{side_view};
 
-use crate::refusal::Refusal;
+use crate::refusal::{Refusal, Side};
 use sc_ast::PolicySet;
+use sc_constructs::first_unsupported;
 use sc_lists::Fault;
 use sc_schema::Schema;
 use sc_typing::{check_names, check_types};
 use std::alloc::Global;
 
-/// Checks that the policies write declared names alone.
-pub fn check_declared(schema: &Schema, policies: &PolicySet) -> Result<(), Fault<Refusal>>
-    ensures ok { OnOk result (name_fault schema.now policies.now ≡ None) }
-    ensures fails { IfErr result (FailsWith (IsUnknown schema.now policies.now)) }
+/// Checks that the policies of a set write declared names alone.
+pub fn check_declared(
+    schema: &Schema,
+    policies: &PolicySet,
+    side: Side,
+) -> Result<(), Fault<Refusal>>
+    ensures { Checks (name_fault schema.now policies.now) (unknown_name (side_view side)) result }
 {
     match check_names(schema, policies) {
         Ok(()) => Ok(()),
-        Err(fault) => Err(Fault::Told(Refusal::UnknownName(fault))),
+        Err(fault) => Err(Fault::Told(Refusal::UnknownName(side, fault))),
     }
 }
 
-/// Checks that the policies are typed in each environment.
+/// Checks that the policies of a set are typed in each environment.
 #[tactic(auto, using(crate::proofs::CheckingLaws::none_where_passed, crate::proofs::CheckingLaws::some_where_refused))]
-fn check_typed(alloc: Global, schema: &Schema, policies: &PolicySet) -> Result<(), Fault<Refusal>>
-    ensures ok { OnOk result (type_fault schema.now policies.now ≡ None) }
-    ensures fails { IfErr result (FailsWith (IsUntyped schema.now policies.now)) }
+fn check_typed(
+    alloc: Global,
+    schema: &Schema,
+    policies: &PolicySet,
+    side: Side,
+) -> Result<(), Fault<Refusal>>
+    ensures { Checks (type_fault schema.now policies.now) (ill_typed (side_view side)) result }
 {
     match check_types(alloc, schema, policies) {
         Ok(()) => Ok(()),
-        Err(Fault::Told(fault)) => Err(Fault::Told(Refusal::IllTyped(fault))),
+        Err(Fault::Told(fault)) => Err(Fault::Told(Refusal::IllTyped(side, fault))),
         Err(Fault::NoMemory) => Err(Fault::NoMemory),
     }
 }
 
-/// Checks that the policies write declared names alone, and then that they are typed in each
-/// environment.
-pub fn check_policies(
+/// Checks that the policies of a set have supported constructs alone.
+fn check_constructs(
     alloc: Global,
     schema: &Schema,
     policies: &PolicySet,
+    side: Side,
 ) -> Result<(), Fault<Refusal>>
-    ensures declared { OnOk result (name_fault schema.now policies.now ≡ None) }
-    ensures typed { OnOk result (type_fault schema.now policies.now ≡ None) }
-    ensures fails { IfErr result (FailsWith (λ a. IsUnknown schema.now policies.now a ⊎ ((name_fault schema.now policies.now ≡ None) × IsUntyped schema.now policies.now a))) }
+    ensures { Checks (unsupported_in schema.now policies.now) (unsupported (side_view side)) result }
 {
-    match check_declared(schema, policies) {
-        Ok(()) => check_typed(alloc, schema, policies),
+    match first_unsupported(alloc, schema, policies) {
+        Ok(None) => Ok(()),
+        Ok(Some(found)) => Err(Fault::Told(Refusal::Unsupported(side, found))),
+        Err(_) => Err(Fault::NoMemory),
+    }
+}
+
+/// Checks that the policies of both sets write declared names alone.
+fn declared(
+    schema: &Schema,
+    policies: &PolicySet,
+    against: Option<&PolicySet>,
+) -> Result<(), Fault<Refusal>>
+    ensures { Checks (names_fault schema.now policies.now (option_map (λ ps. ps.now) against.entry)) (λ x. unknown_name x.0 x.1) result }
+{
+    match check_declared(schema, policies, Side::Policies) {
+        Ok(()) => match against {
+            Some(others) => check_declared(schema, others, Side::Against),
+            None => Ok(()),
+        },
+        Err(fault) => Err(fault),
+    }
+}
+
+/// Checks that the policies of both sets are typed in each environment.
+fn typed(
+    alloc: Global,
+    schema: &Schema,
+    policies: &PolicySet,
+    against: Option<&PolicySet>,
+) -> Result<(), Fault<Refusal>>
+    ensures { Checks (types_fault schema.now policies.now (option_map (λ ps. ps.now) against.entry)) (λ x. ill_typed x.0 x.1) result }
+{
+    match check_typed(alloc, schema, policies, Side::Policies) {
+        Ok(()) => match against {
+            Some(others) => check_typed(alloc, schema, others, Side::Against),
+            None => Ok(()),
+        },
+        Err(fault) => Err(fault),
+    }
+}
+
+/// Checks that the policies of both sets have supported constructs alone.
+fn supported(
+    alloc: Global,
+    schema: &Schema,
+    policies: &PolicySet,
+    against: Option<&PolicySet>,
+) -> Result<(), Fault<Refusal>>
+    ensures { Checks (constructs_fault schema.now policies.now (option_map (λ ps. ps.now) against.entry)) (λ x. unsupported x.0 x.1) result }
+{
+    match check_constructs(alloc, schema, policies, Side::Policies) {
+        Ok(()) => match against {
+            Some(others) => check_constructs(alloc, schema, others, Side::Against),
+            None => Ok(()),
+        },
+        Err(fault) => Err(fault),
+    }
+}
+
+/// Checks the policies of a question: the names of both sets, then their types, then their
+/// constructs.
+pub fn check_question(
+    alloc: Global,
+    schema: &Schema,
+    policies: &PolicySet,
+    against: Option<&PolicySet>,
+) -> Result<(), Fault<Refusal>>
+    ensures ok { OnOk result (AreServed schema.now policies.now (option_map (λ ps. ps.now) against.entry)) }
+    ensures fails { IfErr result (FailsWith (RefusesQuestion schema.now policies.now (option_map (λ ps. ps.now) against.entry))) }
+{
+    match declared(schema, policies, against) {
+        Ok(()) => match typed(alloc, schema, policies, against) {
+            Ok(()) => supported(alloc, schema, policies, against),
+            Err(fault) => Err(fault),
+        },
         Err(fault) => Err(fault),
     }
 }

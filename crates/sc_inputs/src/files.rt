@@ -6,9 +6,9 @@ ghost use Rattle.sc_schema_json.specs.Spelling.{Spells as SpellsSchema};
 ghost use Rattle.sc_world_json.specs.Reading.{SpellsWorld};
 ghost use Rattle.sc_inputs.specs.Readings.{FailsWith, IsNoSchema, IsNoPolicies, IsNoWorld};
 ghost use Rattle.sc_inputs.specs.Refusals.{IsContent, RefusesFile};
-ghost use Rattle.sc_inputs.specs.View.{file_view};
+ghost use Rattle.sc_inputs.specs.View.{file_view, side_view};
 
-use crate::refusal::{FileName, Refusal};
+use crate::refusal::{FileName, Refusal, Side};
 use sc_ast::PolicySet;
 use sc_lists::Fault;
 use sc_outside::{FileFault, Files};
@@ -54,14 +54,14 @@ pub fn schema_in(alloc: Global, bytes: &[u8]) -> Result<Schema, Fault<Refusal>>
     }
 }
 
-/// The policies that the bytes spell.
-pub fn policies_in(alloc: Global, bytes: &[u8]) -> Result<PolicySet, Fault<Refusal>>
+/// The policies that the bytes of a set's file spell.
+pub fn policies_in(alloc: Global, bytes: &[u8], side: Side) -> Result<PolicySet, Fault<Refusal>>
     ensures spelled { IfOk result (λ policies. Spells bytes.now policies) }
-    ensures fails { IfErr result (FailsWith (IsNoPolicies bytes.now)) }
+    ensures fails { IfErr result (FailsWith (IsNoPolicies bytes.now (side_view side))) }
 {
     match read_policies(alloc, bytes) {
         Ok(policies) => Ok(policies),
-        Err(Fault::Told(fault)) => Err(Fault::Told(Refusal::PolicyText(fault))),
+        Err(Fault::Told(fault)) => Err(Fault::Told(Refusal::PolicyText(side, fault))),
         Err(Fault::NoMemory) => Err(Fault::NoMemory),
     }
 }

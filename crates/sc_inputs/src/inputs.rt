@@ -1,6 +1,6 @@
 //! What the words and the files of a command give.
 use sc_ast::PolicySet;
-use sc_lists::Text;
+use sc_question::Question;
 use sc_schema::Schema;
 use sc_world::World;
 
@@ -9,8 +9,12 @@ use sc_world::World;
 pub struct Analysis {
     /// The schema.
     pub schema: Schema,
-    /// The attribute of the context that the one policy reads, where there is a policy.
-    pub attribute: Option<Text>,
+    /// The question.
+    pub question: Question,
+    /// The policies.
+    pub policies: PolicySet,
+    /// The second set of policies, where the question takes two.
+    pub against: Option<PolicySet>,
     /// How many units of work each environment may take.
     pub budget: u64,
 }
@@ -29,7 +33,7 @@ pub struct Scene {
 /// What there is to do.
 #[derive(Drop)]
 pub enum Inputs {
-    /// To ask of policies whether they always deny.
+    /// To ask a question of policies.
     Asked(Analysis),
     /// To tell what policies do in a world.
     Replayed(Scene),

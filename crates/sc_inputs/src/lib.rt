@@ -2,12 +2,11 @@
 #![tactic(auto)]
 
 mod checks;
+mod construct_text;
 mod fault_text;
 mod files;
-mod form;
 mod inputs;
-mod policies;
-pub mod posing;
+mod policy_reading;
 pub mod put;
 mod reading;
 mod refusal;
@@ -17,5 +16,5 @@ mod world_reading;
 
 pub use inputs::{Analysis, Inputs, Scene};
 pub use reading::inputs_of;
-pub use refusal::{FileName, Refusal, code, text_of};
+pub use refusal::{FileName, Refusal, Side, code, text_of};
 pub use type_text::put_env;

@@ -1,99 +1,44 @@
 //! Reads what a command names.
-ghost use Rattle.std.specs.Prelude.{◌≡◌, ◌≤◌, ◌⊎◌, ℕ, List, None, IfOk, IfErr};
-ghost use Rattle.std.specs.Option.{option_copied};
+ghost use Rattle.std.specs.Prelude.{◌≡◌, ◌≤◌, ℕ, List, IfOk, IfErr, option_map};
 ghost use Rattle.sc_outside.specs.Counts.{Rose};
-ghost use Rattle.sc_parser.specs.Spelling.{Spells};
 ghost use Rattle.sc_command.specs.CommandLine.{words_view};
-ghost use Rattle.sc_typing.specs.Checking.{type_fault};
-ghost use Rattle.sc_typing.specs.Names.{name_fault};
 ghost use Rattle.sc_inputs.specs.Serving.{Serves, served_view};
-ghost use Rattle.sc_inputs.specs.Policies.{SpellsPolicies, IsServed, policies_of};
-ghost use Rattle.sc_inputs.specs.Readings.{FailsWith, IsNoPolicies, IsNoQuestion, IsOther, ReadsInputs, ReadsRest, RefusesAnalysis, RefusesQuestion, IsRead};
-ghost use Rattle.sc_inputs.specs.Refusals.{IsRefusal, ReadsPolicies, ReadsSchema};
+ghost use Rattle.sc_inputs.specs.Readings.{FailsWith, ReadsInputs, ReadsRest, RefusesAnalysis, IsRead};
+ghost use Rattle.sc_inputs.specs.Refusals.{AreServed, HasAgainst, HasPolicies, IsRefusal, ReadsSchema};
 
-use crate::checks::check_policies;
-use crate::files::{content_of, policies_in, schema_in};
-use crate::form::is_text_of;
+use crate::checks::check_question;
+use crate::files::{content_of, schema_in};
 use crate::inputs::{Analysis, Inputs};
-use crate::policies::attribute_of;
-use crate::posing::is_served;
+use crate::policy_reading::sets_of;
 use crate::refusal::{FileName, Refusal};
 use crate::serving::{Served, Task, served_by};
 use crate::world_reading::scene_of;
 use sc_ast::PolicySet;
-use sc_lists::{Fault, Text};
+use sc_lists::Fault;
 use sc_outside::Files;
+use sc_question::Question;
 use sc_schema::Schema;
-use std::alloc::{AllocError, Global};
+use std::alloc::Global;
 
-/// The attribute that the policies of a file read, or none where there is no policy.
-fn attribute_in_form(
+/// The policy sets of a question, where the schema is read.
+fn checked_sets<F: Files>(
     alloc: Global,
-    bytes: &[u8],
-    policies: &PolicySet,
+    files: &mut F,
+    policies: &str,
+    against: Option<&str>,
     schema: &Schema,
-) -> Result<Option<Text>, Fault<Refusal>>
-    requires { Spells bytes.now policies.now }
-    ensures spelled { IfOk result (λ o. SpellsPolicies schema.now bytes.now o) }
-    ensures same { IfOk result (λ o. policies.now ≡ policies_of o) }
-    ensures fails { IfErr result (FailsWith (IsOther schema.now bytes.now)) }
+) -> Result<(PolicySet, Option<PolicySet>), Fault<Refusal>>
+    ensures first { IfOk result (λ sets. HasPolicies (F.content files.old) policies.now sets.0) }
+    ensures second { IfOk result (λ sets. HasAgainst (F.content files.old) (option_map (λ n. n.now) against.entry) sets.1) }
+    ensures served { IfOk result (λ sets. AreServed schema.now sets.0 sets.1) }
+    ensures fails { IfErr result (FailsWith (RefusesAnalysis (F.content files.old) policies.now (option_map (λ n. n.now) against.entry) (Rose (F.faults files.old) (F.faults files.new)) schema.now)) }
+    ensures later { F.faults files.old ≤ F.faults files.new }
 {
-    let Some(attribute) = attribute_of(policies.as_slice()) else {
-        return Err(Fault::Told(Refusal::NotForm));
-    };
-    if !is_text_of(bytes, attribute) {
-        return Err(Fault::Told(Refusal::NotForm));
-    }
-    if !is_served(alloc, schema, attribute)? {
-        return Err(Fault::Told(Refusal::NotForm));
-    }
-    match copy_of(alloc, attribute) {
-        Ok(copy) => Ok(copy),
-        Err(_) => Err(Fault::NoMemory),
-    }
-}
-
-fn copy_of(alloc: Global, attribute: Option<&Text>) -> Result<Option<Text>, AllocError>
-    ensures { IfOk result (λ o. o ≡ option_copied attribute.entry) }
-{
-    match attribute {
-        Some(name) => Ok(Some(name.try_clone(alloc)?)),
-        None => Ok(None),
-    }
-}
-
-/// The same of policies that write declared names alone and are typed in each environment.
-fn attribute_of_typed(
-    alloc: Global,
-    bytes: &[u8],
-    policies: &PolicySet,
-    schema: &Schema,
-) -> Result<Option<Text>, Fault<Refusal>>
-    requires { Spells bytes.now policies.now }
-    ensures spelled { IfOk result (λ o. SpellsPolicies schema.now bytes.now o) }
-    ensures declared { IfOk result (λ o. name_fault schema.now (policies_of o) ≡ None) }
-    ensures typed { IfOk result (λ o. type_fault schema.now (policies_of o) ≡ None) }
-    ensures fails { IfErr result (FailsWith (RefusesQuestion schema.now bytes.now policies.now)) }
-{
-    match check_policies(alloc, schema, policies) {
-        Ok(()) => attribute_in_form(alloc, bytes, policies, schema),
-        Err(fault) => Err(fault),
-    }
-}
-
-/// The attribute that the policies read, or none where there is no policy.
-fn attribute_in(
-    alloc: Global,
-    bytes: &[u8],
-    schema: &Schema,
-) -> Result<Option<Text>, Fault<Refusal>>
-    ensures spelled { IfOk result (λ o. SpellsPolicies schema.now bytes.now o) }
-    ensures declared { IfOk result (λ o. name_fault schema.now (policies_of o) ≡ None) }
-    ensures typed { IfOk result (λ o. type_fault schema.now (policies_of o) ≡ None) }
-    ensures fails { IfErr result (FailsWith (λ a. IsNoPolicies bytes.now a ⊎ IsNoQuestion schema.now bytes.now a)) }
-{
-    match policies_in(alloc, bytes) {
-        Ok(policies) => attribute_of_typed(alloc, bytes, &policies, schema),
+    match sets_of(alloc, files, policies, against) {
+        Ok((policies, others)) => match check_question(alloc, schema, &policies, others.as_ref()) {
+            Ok(()) => Ok((policies, others)),
+            Err(fault) => Err(fault),
+        },
         Err(fault) => Err(fault),
     }
 }
@@ -102,28 +47,29 @@ fn attribute_in(
 fn analysis_of<F: Files>(
     alloc: Global,
     files: &mut F,
-    policies: &str,
+    command: &Served<'_>,
+    question: Question,
+    against: Option<&str>,
     budget: u64,
     schema: Schema,
 ) -> Result<Analysis, Fault<Refusal>>
     ensures schema { IfOk result (λ i. i.schema ≡ schema) }
-    ensures policies { IfOk result (λ i. ReadsPolicies (F.content files.old) policies.now schema i.attribute) }
-    ensures declared { IfOk result (λ i. name_fault schema (policies_of i.attribute) ≡ None) }
-    ensures typed { IfOk result (λ i. type_fault schema (policies_of i.attribute) ≡ None) }
-    ensures served { IfOk result (λ i. IsServed schema i.attribute) }
+    ensures question { IfOk result (λ i. i.question ≡ question) }
     ensures budget { IfOk result (λ i. i.budget ≡ budget) }
-    ensures fails { IfErr result (FailsWith (RefusesAnalysis (F.content files.old) policies.now (Rose (F.faults files.old) (F.faults files.new)) schema)) }
+    ensures first { IfOk result (λ i. HasPolicies (F.content files.old) command.now.policies.now i.policies) }
+    ensures second { IfOk result (λ i. HasAgainst (F.content files.old) (option_map (λ n. n.now) against.entry) i.against) }
+    ensures served { IfOk result (λ i. AreServed schema i.policies i.against) }
+    ensures fails { IfErr result (FailsWith (RefusesAnalysis (F.content files.old) command.now.policies.now (option_map (λ n. n.now) against.entry) (Rose (F.faults files.old) (F.faults files.new)) schema)) }
     ensures later { F.faults files.old ≤ F.faults files.new }
 {
-    match content_of(alloc, files, policies, FileName::Policies) {
-        Ok(bytes) => match attribute_in(alloc, &bytes, &schema) {
-            Ok(attribute) => Ok(Analysis {
-                schema,
-                attribute,
-                budget,
-            }),
-            Err(fault) => Err(fault),
-        },
+    match checked_sets(alloc, files, command.policies, against, &schema) {
+        Ok((policies, others)) => Ok(Analysis {
+            schema,
+            question,
+            policies,
+            against: others,
+            budget,
+        }),
         Err(fault) => Err(fault),
     }
 }
@@ -140,8 +86,8 @@ fn with_schema<F: Files>(
     ensures later { F.faults files.old ≤ F.faults files.new }
 {
     match command.task {
-        Task::AlwaysDenies(budget) => {
-            match analysis_of(alloc, files, command.policies, budget, schema) {
+        Task::Ask(question, against, budget) => {
+            match analysis_of(alloc, files, command, question, against, budget, schema) {
                 Ok(analysis) => Ok(Inputs::Asked(analysis)),
                 Err(fault) => Err(fault),
             }

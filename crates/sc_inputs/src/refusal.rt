@@ -1,25 +1,36 @@
 //! The answers other than a report.
 ghost use Rattle.std.specs.Prelude.{◌≡◌, ◌++◌, OnOk, IfOk, codes};
-ghost use Rattle.sc_inputs.specs.Refusals.{code_of, refusal_text, file_name};
-ghost use Rattle.sc_inputs.specs.FaultTexts.{fault_text, schema_fault_text, world_fault_text, name_fault_text, type_fault_text};
-ghost use Rattle.sc_inputs.specs.View.{file_view, refusal_view};
+ghost use Rattle.sc_inputs.specs.Refusals.{code_of, refusal_text, file_name, side_name, on_side};
+ghost use Rattle.sc_inputs.specs.FaultTexts.{fault_text, schema_fault_text, world_fault_text, name_fault_text, type_fault_text, construct_text};
+ghost use Rattle.sc_inputs.specs.View.{side_view, file_view, refusal_view};
 
+use crate::construct_text::put_construct;
 use crate::fault_text::{put_fault, put_name_fault, put_schema_fault, put_world_fault};
 use crate::put::put;
 use crate::type_text::put_type_fault;
+use sc_constructs::Unsupported;
 use sc_parser::PolicyFault;
 use sc_schema_syntax::SchemaFault;
 use sc_typing::{IllTyped, NameFault};
 use sc_world_json::WorldFault;
 use std::alloc::{AllocError, Global};
 
+/// A policy set of a command.
+#[derive(Clone, Copy, Debug, PartialEq, Eq)]
+pub enum Side {
+    /// The first one.
+    Policies,
+    /// The one that the first is compared with.
+    Against,
+}
+
 /// One of the files that a command names.
 #[derive(Clone, Copy, Debug, PartialEq, Eq)]
 pub enum FileName {
     /// The schema file.
     Schema,
-    /// The policy file.
-    Policies,
+    /// A policy file.
+    Policies(Side),
     /// The file with a world.
     World,
 }
@@ -31,20 +42,20 @@ pub enum Refusal {
     Usage,
     /// The schema file spells no schema.
     SchemaText(SchemaFault),
-    /// The policy file spells no policies.
-    PolicyText(PolicyFault),
+    /// A policy file spells no policies.
+    PolicyText(Side, PolicyFault),
     /// The world file spells no world.
     WorldText(WorldFault),
-    /// The policies write a name that the schema doesn't declare.
-    UnknownName(NameFault),
-    /// A policy has no type in an environment.
-    IllTyped(IllTyped),
+    /// The policies of a set write a name that the schema doesn't declare.
+    UnknownName(Side, NameFault),
+    /// A policy of a set has no type in an environment.
+    IllTyped(Side, IllTyped),
+    /// A policy of a set has a construct that isn't supported.
+    Unsupported(Side, Unsupported),
     /// A file couldn't be read.
     ReadFault(FileName),
     /// A file is longer than its limit.
     TooLong(FileName),
-    /// The policy file spells policies of which no question is served so far.
-    NotForm,
 }
 
 /// The status of a refusal.
@@ -53,13 +64,22 @@ pub fn code(refusal: &Refusal) -> u8
 {
     match refusal {
         Refusal::Usage => 10,
-        Refusal::PolicyText(_) => 11,
+        Refusal::PolicyText(_, _) => 11,
         Refusal::SchemaText(_) => 12,
-        Refusal::UnknownName(_) | Refusal::IllTyped(_) => 13,
+        Refusal::UnknownName(_, _) | Refusal::IllTyped(_, _) => 13,
+        Refusal::Unsupported(_, _) => 15,
         Refusal::WorldText(_) => 17,
         Refusal::ReadFault(_) => 20,
         Refusal::TooLong(_) => 22,
-        Refusal::NotForm => 15,
+    }
+}
+
+fn side_name(side: Side) -> &'static [u8]
+    ensures { result.now ≡ side_name (side_view side) }
+{
+    match side {
+        Side::Policies => b"policies",
+        Side::Against => b"against",
     }
 }
 
@@ -68,7 +88,7 @@ fn file_name(file: FileName) -> &'static [u8]
 {
     match file {
         FileName::Schema => b"schema",
-        FileName::Policies => b"policies",
+        FileName::Policies(side) => side_name(side),
         FileName::World => b"world",
     }
 }
@@ -78,14 +98,6 @@ fn put_error(out: &mut Vec<u8>, number: &[u8], file: FileName) -> Result<(), All
 {
     put(out, number)?;
     put(out, file_name(file))?;
-    put(out, b"\n")
-}
-
-fn put_policy_text(out: &mut Vec<u8>, fault: PolicyFault) -> Result<(), AllocError>
-    ensures { OnOk result (out.new.items ≡ out.old.items ++ (codes "error 11 policies " ++ fault_text fault ++ codes "\n")) }
-{
-    put(out, b"error 11 policies ")?;
-    put_fault(out, fault)?;
     put(out, b"\n")
 }
 
@@ -105,19 +117,49 @@ fn put_world_text(alloc: Global, out: &mut Vec<u8>, fault: &WorldFault) -> Resul
     put(out, b"\n")
 }
 
-fn put_unknown_name(out: &mut Vec<u8>, fault: &NameFault) -> Result<(), AllocError>
-    ensures { OnOk result (out.new.items ≡ out.old.items ++ (codes "error 13 policies " ++ name_fault_text fault.now ++ codes "\n")) }
+/// The front of an error of a policy set.
+fn put_side(out: &mut Vec<u8>, number: &[u8], side: Side) -> Result<(), AllocError>
+    ensures { OnOk result (out.new.items ≡ out.old.items ++ (number.now ++ (side_name (side_view side) ++ codes " "))) }
 {
-    put(out, b"error 13 policies ")?;
+    put(out, number)?;
+    put(out, side_name(side))?;
+    put(out, b" ")
+}
+
+fn put_policy_text(out: &mut Vec<u8>, side: Side, fault: PolicyFault) -> Result<(), AllocError>
+    ensures { OnOk result (out.new.items ≡ out.old.items ++ on_side (codes "error 11 ") (side_view side) (fault_text fault)) }
+{
+    put_side(out, b"error 11 ", side)?;
+    put_fault(out, fault)?;
+    put(out, b"\n")
+}
+
+fn put_unknown_name(out: &mut Vec<u8>, side: Side, fault: &NameFault) -> Result<(), AllocError>
+    ensures { OnOk result (out.new.items ≡ out.old.items ++ on_side (codes "error 13 ") (side_view side) (name_fault_text fault.now)) }
+{
+    put_side(out, b"error 13 ", side)?;
     put_name_fault(out, fault)?;
     put(out, b"\n")
 }
 
-fn put_ill_typed(alloc: Global, out: &mut Vec<u8>, fault: &IllTyped) -> Result<(), AllocError>
-    ensures { OnOk result (out.new.items ≡ out.old.items ++ (codes "error 13 policies " ++ type_fault_text fault.now ++ codes "\n")) }
+fn put_ill_typed(
+    alloc: Global,
+    out: &mut Vec<u8>,
+    side: Side,
+    fault: &IllTyped,
+) -> Result<(), AllocError>
+    ensures { OnOk result (out.new.items ≡ out.old.items ++ on_side (codes "error 13 ") (side_view side) (type_fault_text fault.now)) }
 {
-    put(out, b"error 13 policies ")?;
+    put_side(out, b"error 13 ", side)?;
     put_type_fault(alloc, out, fault)?;
+    put(out, b"\n")
+}
+
+fn put_unsupported(out: &mut Vec<u8>, side: Side, found: Unsupported) -> Result<(), AllocError>
+    ensures { OnOk result (out.new.items ≡ out.old.items ++ on_side (codes "error 15 ") (side_view side) (construct_text found)) }
+{
+    put_side(out, b"error 15 ", side)?;
+    put_construct(out, found)?;
     put(out, b"\n")
 }
 
@@ -127,13 +169,13 @@ fn put_refusal(alloc: Global, out: &mut Vec<u8>, refusal: &Refusal) -> Result<()
     match refusal {
         Refusal::Usage => put(out, b"error 10 usage\n"),
         Refusal::SchemaText(fault) => put_schema_text(alloc, out, fault),
-        Refusal::PolicyText(fault) => put_policy_text(out, *fault),
+        Refusal::PolicyText(side, fault) => put_policy_text(out, *side, *fault),
         Refusal::WorldText(fault) => put_world_text(alloc, out, fault),
-        Refusal::UnknownName(fault) => put_unknown_name(out, fault),
-        Refusal::IllTyped(fault) => put_ill_typed(alloc, out, fault),
+        Refusal::UnknownName(side, fault) => put_unknown_name(out, *side, fault),
+        Refusal::IllTyped(side, fault) => put_ill_typed(alloc, out, *side, fault),
+        Refusal::Unsupported(side, found) => put_unsupported(out, *side, *found),
         Refusal::ReadFault(file) => put_error(out, b"error 20 ", *file),
         Refusal::TooLong(file) => put_error(out, b"error 22 ", *file),
-        Refusal::NotForm => put(out, b"error 15 policies\n"),
     }
 }
 

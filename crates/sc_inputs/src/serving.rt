@@ -1,5 +1,5 @@
-//! The commands that are served so far.
-ghost use Rattle.std.specs.Prelude.{◌≡◌, ◌≢◌, IfNone, IfOk, IfSome};
+//! The commands, by what is done with the policies under a schema.
+ghost use Rattle.std.specs.Prelude.{◌≡◌, IfNone, IfOk, IfSome};
 ghost use Rattle.sc_command.specs.CommandLine.{command_view, words_view};
 ghost use Rattle.sc_inputs.specs.Serving.{Command as AnyServed, Serves, as_command, served_view};
 
@@ -10,14 +10,14 @@ use std::alloc::{AllocError, Global};
 /// What is done with a policy file.
 #[derive(Clone, Copy)]
 pub enum Task<'w> {
-    /// To ask whether the policies always deny. The number says how many units of work each
-    /// environment may take.
-    AlwaysDenies(u64),
+    /// To ask a question of the policies, and of those of another file where it takes two sets. The
+    /// number says how many units of work each environment may take.
+    Ask(Question, Option<&'w str>, u64),
     /// To tell what they do in the world of the file of this name.
     Replay(&'w str),
 }
 
-/// A command over one policy file.
+/// A command over a policy file.
 #[derive(Clone, Copy)]
 pub struct Served<'w> {
     /// The name of the schema file.
@@ -28,41 +28,39 @@ pub struct Served<'w> {
     pub task: Task<'w>,
 }
 
-/// The command, if it is served.
-fn as_served<'w>(command: &Command<'w>) -> Option<Served<'w>>
-    ensures found { IfSome result (λ s. command_view command.now ≡ as_command (served_view s)) }
-    ensures none { IfNone result ((c : AnyServed) → command_view command.now ≢ as_command c) }
+/// A command by what it does.
+fn as_served<'w>(command: &Command<'w>) -> Served<'w>
+    ensures { command_view command.now ≡ as_command (served_view result) }
 {
     match command {
         Command::Analyse(
             Analyse {
                 schema,
                 policies,
-                against: None,
-                question: Question::AlwaysDenies,
+                against,
+                question,
                 budget,
             },
-        ) => Some(Served {
+        ) => Served {
             schema,
             policies,
-            task: Task::AlwaysDenies(*budget),
-        }),
-        Command::Analyse(_) => None,
+            task: Task::Ask(*question, *against, *budget),
+        },
         Command::Replay(
             Replay {
                 schema,
                 policies,
                 world,
             },
-        ) => Some(Served {
+        ) => Served {
             schema,
             policies,
             task: Task::Replay(*world),
-        }),
+        },
     }
 }
 
-/// The command that the words are, if it is served.
+/// The command that the words are, if they are one.
 pub fn served_by<'w>(alloc: Global, words: &'w [String]) -> Result<Option<Served<'w>>, AllocError>
     ensures found { IfOk result (λ o. IfSome o (λ s. Serves (words_view words.now) (served_view s))) }
     ensures none { IfOk result (λ o. IfNone o ((c : AnyServed) → Serves (words_view words.now) c → ⊥)) }
@@ -70,5 +68,5 @@ pub fn served_by<'w>(alloc: Global, words: &'w [String]) -> Result<Option<Served
     let Some(command) = command_of(alloc, words)? else {
         return Ok(None);
     };
-    Ok(as_served(&command))
+    Ok(Some(as_served(&command)))
 }

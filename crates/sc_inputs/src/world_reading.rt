@@ -3,35 +3,19 @@ ghost use Rattle.std.specs.Prelude.{◌≡◌, ◌≤◌, ℕ, List, None, IfOk,
 ghost use Rattle.sc_outside.specs.Counts.{Rose};
 ghost use Rattle.sc_typing.specs.Names.{name_fault};
 ghost use Rattle.sc_inputs.specs.Readings.{FailsWith, ReadsScene, RefusesScene};
-ghost use Rattle.sc_inputs.specs.Refusals.{HasPolicies, HasWorld, RefusesPolicies, RefusesWorld};
+ghost use Rattle.sc_inputs.specs.Refusals.{HasPolicies, HasWorld, RefusesWorld};
 
 use crate::checks::check_declared;
-use crate::files::{content_of, policies_in, world_in};
+use crate::files::{content_of, world_in};
 use crate::inputs::Scene;
-use crate::refusal::{FileName, Refusal};
+use crate::policy_reading::policies_of;
+use crate::refusal::{FileName, Refusal, Side};
 use sc_ast::PolicySet;
 use sc_lists::Fault;
 use sc_outside::Files;
 use sc_schema::Schema;
 use sc_world::World;
 use std::alloc::Global;
-
-/// The policies of a file.
-fn policies_of<F: Files>(
-    alloc: Global,
-    files: &mut F,
-    name: &str,
-) -> Result<PolicySet, Fault<Refusal>>
-    ensures reads { IfOk result (λ policies. HasPolicies (F.content files.old) name.now policies) }
-    ensures fails { IfErr result (FailsWith (RefusesPolicies (F.content files.old) name.now (Rose (F.faults files.old) (F.faults files.new)))) }
-    ensures keeps { (other : List ℕ) → F.content files.new other ≡ F.content files.old other }
-    ensures later { F.faults files.old ≤ F.faults files.new }
-{
-    match content_of(alloc, files, name, FileName::Policies) {
-        Ok(bytes) => policies_in(alloc, &bytes),
-        Err(fault) => Err(fault),
-    }
-}
 
 /// The world of a file.
 fn world_of<F: Files>(alloc: Global, files: &mut F, name: &str) -> Result<World, Fault<Refusal>>
@@ -59,7 +43,7 @@ fn world_for<F: Files>(
     ensures later { F.faults files.old ≤ F.faults files.new }
 {
     match world_of(alloc, files, name) {
-        Ok(world) => match check_declared(schema, policies) {
+        Ok(world) => match check_declared(schema, policies, Side::Policies) {
             Ok(()) => Ok(world),
             Err(fault) => Err(fault),
         },
@@ -81,7 +65,7 @@ fn parts_of<F: Files>(
     ensures fails { IfErr result (FailsWith (RefusesScene (F.content files.old) policies.now world.now (Rose (F.faults files.old) (F.faults files.new)) schema.now)) }
     ensures later { F.faults files.old ≤ F.faults files.new }
 {
-    match policies_of(alloc, files, policies) {
+    match policies_of(alloc, files, policies, Side::Policies) {
         Ok(policies) => match world_for(alloc, files, world, schema, &policies) {
             Ok(world) => Ok((policies, world)),
             Err(fault) => Err(fault),

@@ -1,143 +1,125 @@
 -- The context of a rebuilt world.
-use Rattle.std.proofs.Common.{◌≡◌, ◌+◌, ◌||◌, ◌&&◌, ℕ, zero, suc, List, [], ◌∷◌, map, Bool, true, false, cond, Option, Some, slice_get, refl, ap, sym, ◌∙◌, subst, ⊎_elim, inl, inr, ◌⊎◌, arith, Less}
+use Rattle.std.proofs.Common.{◌≡◌, ℕ, List, [], ◌∷◌, map, Bool, true, Option, Some, None, option_map, IsTrue, IsSomeAnd, refl, ap, sym, ◌∙◌, subst, Result, IfOk}
+use Rattle.std.proofs.lemmas.Result.{IfOk-weaker}
 use Rattle.std.specs.List.{AllByRecursion, list_any, list_all}
 use Rattle.std.specs.List.Sorted.{IsStrictlySortedBy}
 use Rattle.std.specs.Map.{keys_of}
 use Rattle.std.specs.Str.{IsUtf8, bytes_eq}
 use Rattle.std.proofs.lemmas.Slice.Eq.{bytes_eq-Decides}
-use Rattle.std.proofs.lemmas.Cmp.{tied_itself, nat_list_cmp_total}
+use Rattle.std.proofs.lemmas.List.Elements.{All-contains, All-from_recursion}
 use Rattle.sc_clauses.specs.Assignments.{Assignment}
+use Rattle.sc_names.specs.declared.uid.Uid.{Uid}
 use Rattle.sc_names.specs.Uids.{text_cmp}
 use Rattle.sc_schema.specs.declared.ty.Presence.{Presence}
-use Rattle.sc_schema.specs.declared.ty.Presence.TheVariants.{Required}
+use Rattle.sc_schema.specs.declared.ty.Ty.{Ty, out-Ty, roll-Ty, every_here-Ty, out-roll-Ty}
 use Rattle.sc_schema.specs.declared.ty.Ty.TheVariants as ty
-use Rattle.sc_schema.specs.Plain.{bool_field, bool_record}
-use Rattle.sc_values.specs.declared.value.Value.{Value, Value-F, every-Value}
+use Rattle.sc_schema.specs.declared.ty.Ty.TheVariants.{rolls-Record}
+use Rattle.sc_schema.specs.declared.ty.Ty.TheOpen as t
+use Rattle.sc_schema.specs.declared.declarations.Action.{Action}
+use Rattle.sc_schema.specs.declared.declarations.Env.{Env}
+use Rattle.sc_schema.specs.Declarations.{Declarations, action, context_of}
+use Rattle.sc_schema.specs.Lawful.{IsLawful, IsLawfulAction, IsTypeLevel, IsTypeOf}
+use Rattle.sc_schema.proofs.LookupLaws.{action_declared}
+use Rattle.sc_sorts.specs.Plain.{Field, is_required, is_bool_field, plain_fields}
+use Rattle.sc_sorts.specs.Plain as plain
+use Rattle.sc_values.specs.declared.value.Value.{Value, every-Value}
 use Rattle.sc_values.specs.declared.value.Value.TheVariants as value
-use Rattle.sc_values.specs.declared.value.Value.TheOpen as v
-use Rattle.sc_values.specs.Records.{field}
+use Rattle.sc_values.specs.Proper.{IsProperLevel, IsProperRecord}
+use Rattle.sc_values.specs.Records.{Fields, field}
 use Rattle.sc_values.proofs.EveryLaws.{every_Bool, every_Record}
-use Rattle.sc_world.specs.Conforms.{Test, conforms, passes}
-use Rattle.sc_world.proofs.ConformsLaws.{shape_of, conforms_Record, conforms_Bool}
-use Rattle.sc_solver.specs.Rebuilding.{truth_at, fields_from}
+use Rattle.sc_world.specs.Conforms.{Test, conforms, passes, shape_of}
+use Rattle.sc_world.proofs.ConformsLaws.{conforms_Record, conforms_Bool}
+use Rattle.sc_terms.specs.Booleans.{names_of, attribute_term}
+use Rattle.sc_footprint.specs.Problems.{Posed, atom_number}
+use Rattle.sc_solver.specs.Rebuilding.{truth_at, assigned}
+use Rattle.sc_solver.specs.Contexts.{IsContext}
+use Rattle.sc_solver.proofs.ListLaws.{Has, of_any, of_all, all_at, has_map, map_has, and_right}
+use Rattle.sc_solver.proofs.LitLaws.{both}
+use Rattle.sc_solver.proofs.KindLaws.{are_plain, bool_type}
+use Rattle.sc_solver.proofs.ValueLaws.{field_told}
 
-pub same_text : (a b : List ℕ) → bytes_eq a b ≡ true → a ≡ b
-same_text a b e = (bytes_eq-Decides a b).0 e
+abbrev Told : Type 0
+Told = List ℕ × Presence × Test
 
-pub text_itself : (a : List ℕ) → bytes_eq a a ≡ true
-text_itself a = (bytes_eq-Decides a a).1 refl
+-- fields whose truths are told by their names
+abbrev told : (List ℕ → Bool) → List Field → Fields
+told g fields = map (λ (f : Field). (f.0, value.Bool (g f.0))) fields
 
-pub or_cases : (a b : Bool) → a || b ≡ true → (a ≡ true) ⊎ (b ≡ true)
-or_cases true b e = inl refl
-or_cases false b e = inr e
+-- ---- it is of its type
 
-or_left : (a b : Bool) → a ≡ true → a || b ≡ true
-or_left true b e = refl
-or_left false b e = absurd cc
+module _ (g : List ℕ → Bool) (fields : List Field) (each : list_all is_bool_field fields ≡ true) where
+  passes_bool : (f : Field) → is_bool_field f ≡ true → (o : Option Value) → o ≡ Some (value.Bool (g f.0)) → passes f.1 (conforms f.2) o ≡ true
+  passes_bool f h o e =
+      let of_type = bool_type f.2 (out-Ty f.2) refl (and_right (is_required f.1) (plain.is_bool (out-Ty f.2)) h) in
+      ap (passes f.1 (conforms f.2)) e ∙ ap (λ type. conforms type (value.Bool (g f.0))) of_type ∙ conforms_Bool (g f.0)
 
-or_right : (a b : Bool) → b ≡ true → a || b ≡ true
-or_right true b e = refl
-or_right false b e = e
+  passes_told : (a : Told) → Has (shape_of fields) a → passes a.1 a.2 (field a.0 (told g fields)) ≡ true
+  passes_told a h =
+      let (f, k, e) = map_has (λ (f : Field). (f.0, f.1, conforms f.2)) fields a h in
+      subst (λ (b : Told). passes b.1 b.2 (field b.0 (told g fields)) ≡ true) e
+      (passes_bool f (all_at is_bool_field fields f each k) (field f.0 (told g fields)) (field_told g fields f.0 (has_map (λ (f : Field). f.0) fields f k)))
 
-pub and_both : (a b : Bool) → a ≡ true → b ≡ true → a && b ≡ true
-and_both true b e f = f
-and_both false b e f = absurd cc
+  declared_told : (x : List ℕ × Value) → Has (told g fields) x → list_any (λ (a : Told). bytes_eq x.0 a.0) (shape_of fields) ≡ true
+  declared_told x h =
+      let (f, k, e) = map_has (λ (f : Field). (f.0, value.Bool (g f.0))) fields x h in
+      let same : f.0 ≡ x.0 = ap (λ (y : List ℕ × Value). y.0) e in
+      of_any (λ (a : Told). bytes_eq x.0 a.0) (shape_of fields) (f.0, f.1, conforms f.2) (has_map (λ (f : Field). (f.0, f.1, conforms f.2)) fields f k) ((bytes_eq-Decides x.0 f.0).1 (sym same))
 
-keys-fields_from : (m : Assignment) (n : ℕ) (names : List (List ℕ)) → keys_of (fields_from m n names) ≡ names
-keys-fields_from m n [] = refl
-keys-fields_from m n (x ∷ names) = ap (λ ks. x ∷ ks) (keys-fields_from m (n + 1) names)
+  told_conforms : conforms (ty.Record fields) (value.Record (told g fields)) ≡ true
+  told_conforms =
+      conforms_Record fields (told g fields)
+      ∙ both _ _
+      (of_all (λ (a : Told). passes a.1 a.2 (field a.0 (told g fields))) (shape_of fields) passes_told)
+      (of_all (λ (x : List ℕ × Value). list_any (λ (a : Told). bytes_eq x.0 a.0) (shape_of fields)) (told g fields) declared_told)
 
--- whatever is true of each truth value at each level is true of the fields
-fields-every : (P : Value-F Value → Type 0) (m : Assignment) (n : ℕ) (names : List (List ℕ)) → ((b : Bool) → P (v.Bool b)) → AllByRecursion (λ (f : List ℕ × Value). every-Value P f.1) (fields_from m n names)
-fields-every P m n [] h = tt
-fields-every P m n (x ∷ names) h = (every_Bool P (truth_at m n) (h (truth_at m n)), fields-every P m (n + 1) names h)
+-- ---- it is made of values
 
--- the context at every level
-pub context-every : (P : Value-F Value → Type 0) (m : Assignment) (n : ℕ) (names : List (List ℕ)) → P (v.Record (fields_from m n names)) → ((b : Bool) → P (v.Bool b)) → every-Value P (value.Record (fields_from m n names))
-context-every P m n names r h = every_Record P (fields_from m n names) r (fields-every P m n names h)
+keys_told : (g : List ℕ → Bool) (fields : List Field) → keys_of (told g fields) ≡ names_of fields
+keys_told g [] = refl
+keys_told g (f ∷ fields) = ap (λ ks. f.0 ∷ ks) (keys_told g fields)
 
-abbrev IsBool : Option Value → Type 0
-IsBool o = (b : Bool) × (o ≡ Some (value.Bool b))
+fields_told : (g : List ℕ → Bool) (fields : List Field) → AllByRecursion (λ (f : List ℕ × Value). every-Value IsProperLevel f.1) (told g fields)
+fields_told g [] = tt
+fields_told g (f ∷ fields) = (every_Bool IsProperLevel (g f.0) tt, fields_told g fields)
 
-found_at : (b : Bool) (x : Bool) (o : Option Value) → (b ≡ true) ⊎ IsBool o → IsBool (cond b (Some (value.Bool x)) o)
-found_at true x o h = (x, refl)
-found_at false x o h = ⊎_elim (λ (e : false ≡ true). absurd cc) (λ i. i) h
+told_proper : (g : List ℕ → Bool) (fields : List Field) → IsStrictlySortedBy text_cmp (names_of fields) → AllByRecursion IsUtf8 (names_of fields) → IsProperRecord (told g fields)
+told_proper g fields ascending texts = every_Record IsProperLevel (told g fields) (rw (keys_told g fields) (ascending, texts)) (fields_told g fields)
 
--- a name's field is a truth value
-found : (m : Assignment) (n : ℕ) (y : List ℕ) (names : List (List ℕ)) → list_any (bytes_eq y) names ≡ true → IsBool (field y (fields_from m n names))
-found m n y [] e = absurd cc
-found m n y (x ∷ names) e =
-    found_at (bytes_eq y x) (truth_at m n) (field y (fields_from m (n + 1) names))
-    (⊎_elim (λ (h : bytes_eq y x ≡ true). inl h) (λ h. inr (found m (n + 1) y names h)) (or_cases (bytes_eq y x) (list_any (bytes_eq y) names) e))
+-- ---- a declared context
 
-abbrev AllAmong : List (List ℕ) → List (List ℕ) → Type 0
-AllAmong ys xs = AllByRecursion (λ y. list_any (bytes_eq y) xs ≡ true) ys
+-- names that ascend, each a text
+record AreNames (names : List (List ℕ)) : Type 0 where
+  pub ascending : IsStrictlySortedBy text_cmp names
+  pub texts : AllByRecursion IsUtf8 names
 
-among-more : (ys xs : List (List ℕ)) (x : List ℕ) → AllAmong ys xs → AllAmong ys (x ∷ xs)
-among-more [] xs x h = tt
-among-more (y ∷ ys) xs x h = (or_right _ _ h.0, among-more ys xs x h.1)
+module _ (s : Declarations) (lawful : IsLawful s) where
+  names_of_type : (fields : List Field) → IsTypeOf s (ty.Record fields) → AreNames (names_of fields)
+  names_of_type fields h =
+      let rolled : IsTypeOf s (roll-Ty (t.Record fields)) = subst (IsTypeOf s) (sym (rolls-Record fields)) h in
+      let level : IsTypeLevel s (t.Record fields) = subst (IsTypeLevel s) (out-roll-Ty (t.Record fields)) (every_here-Ty (IsTypeLevel s) (roll-Ty (t.Record fields)) rolled) in
+      record { ascending = level.0; texts = level.1 }
 
-among-self : (xs : List (List ℕ)) → AllAmong xs xs
-among-self [] = tt
-among-self (x ∷ xs) = (or_left _ _ (text_itself x), among-more xs xs x (among-self xs))
+  names_of_action : (u : Uid) (o : Option Action) (type : Ty) (fields : List Field) → action s u ≡ o → option_map (λ (a : Action). a.context) o ≡ Some type → type ≡ ty.Record fields → AreNames (names_of fields)
+  names_of_action u None type fields is e f = absurd cc
+  names_of_action u (Some a) type fields is e f =
+      let declared = (action_declared s u a is).0 in
+      let it = All-contains (IsLawfulAction s) s.actions a (All-from_recursion (IsLawfulAction s) s.actions lawful.each_action) declared in
+      let same : a.context ≡ type = cc in
+      names_of_type fields (subst (IsTypeOf s) (same ∙ f) it.context_type.proper)
 
-abbrev Attribute : Type 0
-Attribute = List ℕ × Presence × Test
+  pub assigned_fits : (p : Posed) (m : Assignment) (env : Env) (type : Ty) (fields : List Field) → context_of s env.action ≡ Some type → plain_fields type ≡ Some fields → IsContext s env (assigned p m type fields)
+  assigned_fits p m env type fields e f =
+      let g : List ℕ → Bool = λ (name : List ℕ). truth_at m (atom_number p (attribute_term type name)) in
+      let are = are_plain type fields f in
+      let names = names_of_action env.action (action s env.action) type fields refl e are.is in
+      record {
+        conform = subst (λ o. IsSomeAnd o (λ x. IsTrue (conforms x (value.Record (told g fields))))) (sym e) (subst (λ x. conforms x (value.Record (told g fields)) ≡ true) (sym are.is) (told_conforms g fields are.each));
+        proper = told_proper g fields names.ascending names.texts;
+      }
 
-passes-bool : (o : Option Value) → IsBool o → passes Required (conforms ty.Bool) o ≡ true
-passes-bool o h = rw h.1 (conforms_Bool h.0)
-
-all-pass : (m : Assignment) (n : ℕ) (ys xs : List (List ℕ)) → AllAmong ys xs → list_all (λ (a : Attribute). passes a.1 a.2 (field a.0 (fields_from m n xs))) (shape_of (map bool_field ys)) ≡ true
-all-pass m n [] xs h = refl
-all-pass m n (y ∷ ys) xs h = and_both _ _ (passes-bool _ (found m n y xs h.0)) (all-pass m n ys xs h.1)
-
-declared-among : (y : List ℕ) (xs : List (List ℕ)) → list_any (λ (a : Attribute). bytes_eq y a.0) (shape_of (map bool_field xs)) ≡ list_any (bytes_eq y) xs
-declared-among y [] = refl
-declared-among y (x ∷ xs) = ap (λ b. bytes_eq y x || b) (declared-among y xs)
-
-all-declared : (m : Assignment) (n : ℕ) (ys xs : List (List ℕ)) → AllAmong ys xs → list_all (λ (f : List ℕ × Value). list_any (λ (a : Attribute). bytes_eq f.0 a.0) (shape_of (map bool_field xs))) (fields_from m n ys) ≡ true
-all-declared m n [] xs h = refl
-all-declared m n (y ∷ ys) xs h = and_both _ _ (declared-among y xs ∙ h.0) (all-declared m (n + 1) ys xs h.1)
-
--- the context is of the record type of these names
-pub context-conforms : (m : Assignment) (n : ℕ) (names : List (List ℕ)) → conforms (bool_record names) (value.Record (fields_from m n names)) ≡ true
-context-conforms m n names =
-    conforms_Record (map bool_field names) (fields_from m n names)
-    ∙ and_both _ _ (all-pass m n names names (among-self names)) (all-declared m n names names (among-self names))
-
--- and a record
-pub context-proper : (m : Assignment) (n : ℕ) (names : List (List ℕ)) → IsStrictlySortedBy text_cmp names → AllByRecursion IsUtf8 names → IsStrictlySortedBy text_cmp (keys_of (fields_from m n names)) × AllByRecursion IsUtf8 (keys_of (fields_from m n names))
-context-proper m n names s t = rw (keys-fields_from m n names) (s, t)
-
-less-differs : (x y : List ℕ) → text_cmp x y ≡ Less → bytes_eq y x ≡ false
-less-differs x y e = at (bytes_eq y x) refl where
-  at : (b : Bool) → bytes_eq y x ≡ b → b ≡ false
-  at true h = absurd (let same : y ≡ x = same_text y x h in let tied = tied_itself nat_list_cmp_total x in cc)
-  at false h = refl
-
-get-all : (P : List ℕ → Type 0) (xs : List (List ℕ)) (i : ℕ) (x : List ℕ) → AllByRecursion P xs → slice_get xs i ≡ Some x → P x
-get-all P [] i x h e = absurd cc
-get-all P (y ∷ xs) zero x h e = let same : y ≡ x = cc in subst P same h.0
-get-all P (y ∷ xs) (suc i) x h e = get-all P xs i x h.1 e
-
-skipped : (b : Bool) (x : Value) (o p : Option Value) → b ≡ false → o ≡ p → cond b (Some x) o ≡ p
-skipped true x o p e f = absurd cc
-skipped false x o p e f = f
-
-taken : (b : Bool) (x : Value) (o : Option Value) → b ≡ true → cond b (Some x) o ≡ Some x
-taken true x o e = refl
-taken false x o e = absurd cc
-
--- the field of the name at a place has the truth of that place's atom
-pub field-at : (m : Assignment) (n : ℕ) (names : List (List ℕ)) (i : ℕ) (name : List ℕ) → IsStrictlySortedBy text_cmp names → slice_get names i ≡ Some name → field name (fields_from m n names) ≡ Some (value.Bool (truth_at m (n + i)))
-unfolding IsStrictlySortedBy
-field-at m n [] i name s e = absurd cc
-field-at m n (x ∷ names) zero name s e =
-    let same : x ≡ name = cc in
-    let number : n + 0 ≡ n = omega arith in
-    taken (bytes_eq name x) (value.Bool (truth_at m n)) (field name (fields_from m (n + 1) names)) (subst (λ y. bytes_eq name y ≡ true) (sym same) (text_itself name)) ∙ ap (λ k. Some (value.Bool (truth_at m k))) (sym number)
-field-at m n (x ∷ names) (suc i) name s e =
-    let number : n + 1 + i ≡ n + suc i = omega arith in
-    skipped (bytes_eq name x) (value.Bool (truth_at m n)) (field name (fields_from m (n + 1) names)) _
-    (less-differs x name (get-all (λ y. text_cmp x y ≡ Less) names i name s.0 e))
-    (field-at m (n + 1) names i name s.1 e ∙ ap (λ k. Some (value.Bool (truth_at m k))) number)
+pub assigned_context : {E : Type 0} (p : Posed) (m : Assignment) (s : Declarations) (env : Env) (type : Ty) (fields : List Field) (r : Result Fields E) → s ≡ p.schema → env ≡ p.env → IsLawful s
+    → Some type ≡ context_of s env.action → Some fields ≡ plain_fields type → IfOk r (λ x. x ≡ assigned p m type fields) → IfOk r (IsContext p.schema p.env)
+assigned_context p m s env type fields r of_schema of_env lawful e f h =
+    subst (λ (d : Declarations). IfOk r (IsContext d p.env)) of_schema
+    (subst (λ (x : Env). IfOk r (IsContext s x)) of_env
+    (IfOk-weaker r _ _ (λ x g. subst (IsContext s env) (sym g) (assigned_fits s lawful p m env type fields (sym e) (sym f))) h))

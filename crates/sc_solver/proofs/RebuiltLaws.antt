@@ -1,19 +1,22 @@
 -- What is promised of a rebuilt world, from what is promised of the world for its request.
-use Rattle.std.proofs.Common.{◌≡◌, List, [], Result, Ok, Err, IfOk, IsTrue, Contains, sym, subst}
+use Rattle.std.proofs.Common.{◌≡◌, List, Some, Result, Ok, Err, IfOk, ap, refl, sym, ◌∙◌, subst}
 use Rattle.std.proofs.lemmas.Result.{IfOk-weaker}
 use Rattle.sc_clauses.specs.Assignments.{Assignment}
-use Rattle.sc_footprint.specs.Problems.{Posed, is_goal}
 use Rattle.sc_names.specs.declared.uid.Uid.{Uid}
 use Rattle.sc_schema.specs.declared.declarations.Env.{Env}
-use Rattle.sc_schema.specs.Declarations.{Declarations, environments}
-use Rattle.sc_schema.specs.Lawful.{IsLawful}
+use Rattle.sc_schema.specs.Declarations.{Declarations}
 use Rattle.sc_world.specs.declared.world.Request.{Request}
 use Rattle.sc_world.specs.declared.world.World.{World}
 use Rattle.sc_world.specs.Named.{AreDefaults, StoresNamed, IsRequestAmong}
 use Rattle.sc_world.specs.WellFormed.{IsWellFormed}
+use Rattle.sc_footprint.specs.Problems.{Posed, IsPosed}
+use Rattle.sc_footprint.specs.Truths.{IsWorldOf}
+use Rattle.sc_checker.specs.Verdicts.{Rules}
 use Rattle.sc_solver.specs.Rebuilding.{IsConsistent, rebuilt_request, IsRebuilt, HasTruths}
-use Rattle.sc_solver.proofs.RequestLaws.{request_among, names_ascend}
-use Rattle.sc_solver.proofs.TruthLaws.{first-atom, rebuilt-truths}
+use Rattle.sc_solver.proofs.AtomLaws.{IsLevel}
+use Rattle.sc_solver.proofs.AssignedLaws.{AreLawful, valued, defined_hold}
+use Rattle.sc_solver.specs.Contexts.{IsContext}
+use Rattle.sc_solver.proofs.TruthLaws.{IsKnown, truths_are}
 
 -- what is promised of the world for a request
 pub record IsWorldFor {E : Type 0} (s : Declarations) (request : Request) (literals : List Uid) (r : Result World E) : Type 0 where
@@ -30,14 +33,25 @@ of_problem p m s request literals r of_schema of_request of_literals h =
     (subst (λ (q : Request). IsWorldFor p.schema q literals r) of_request
     (subst (λ (d : Declarations). IsWorldFor d request literals r) of_schema h))
 
-pub is_rebuilt : {E : Type 0} (p : Posed) (m : Assignment) (r : Result World E) → IsWorldFor p.schema (rebuilt_request p m) p.literals r → IfOk r (IsRebuilt p m)
-is_rebuilt p m (Err e) h = tt
-is_rebuilt p m (Ok w) h = record { request = h.of_request; defaults = h.value; stored = subst (λ (q : Request). StoresNamed p.schema q p.literals w.store) (sym h.of_request) h.exact }
+request_among : (p : Posed) (m : Assignment) → IsPosed p → IsContext p.schema p.env (rebuilt_request p m).context → IsRequestAmong p.schema p.env (rebuilt_request p m) p.literals
+request_among p m posed context =
+    record {
+      environment = posed.environment;
+      request = record { principal = refl; action = refl; resource = refl; context = context.conform };
+      context = context.proper;
+      declared = posed.declared;
+    }
 
-pub is_well_formed : {E : Type 0} (p : Posed) (m : Assignment) (r : Result World E) → IsLawful p.schema → IsConsistent p m → Contains (environments p.schema) p.env → p.literals ≡ [] → IsTrue (is_goal p.schema p.env p.goal)
-    → IsWorldFor p.schema (rebuilt_request p m) p.literals r → IfOk r (IsWellFormed p.schema p.env p.literals)
-is_well_formed p m r lawful c environment none posed h = h.well_formed p.env (request_among p m lawful (first-atom p m c) c environment none posed)
+module _ {E : Type 0} (p : Posed) (m : Assignment) (r : Result World E) (h : IsWorldFor p.schema (rebuilt_request p m) p.literals r) where
+  pub is_rebuilt : IfOk r (IsRebuilt p m)
+  is_rebuilt = by r h where
+    by : (r : Result World E) → IsWorldFor p.schema (rebuilt_request p m) p.literals r → IfOk r (IsRebuilt p m)
+    by (Err e) h = tt
+    by (Ok w) h = record { request = h.of_request; defaults = h.value; stored = subst (λ (q : Request). StoresNamed p.schema q p.literals w.store) (sym h.of_request) h.exact }
 
-pub has_truths : {E : Type 0} (p : Posed) (m : Assignment) (r : Result World E) → IsLawful p.schema → IsConsistent p m → IsTrue (is_goal p.schema p.env p.goal) → IsWorldFor p.schema (rebuilt_request p m) p.literals r → IfOk r (HasTruths p m)
-has_truths p m r lawful c posed h =
-    IfOk-weaker r _ _ (λ w is. rebuilt-truths p m w is c (names_ascend p m lawful (first-atom p m c) c posed)) h.of_request
+  pub is_well_formed : IsPosed p → IsContext p.schema p.env (rebuilt_request p m).context → IfOk r (IsWorldOf p)
+  is_well_formed posed context = h.well_formed p.env (request_among p m posed context)
+
+  pub has_truths : (rules : Rules) → IsLevel → AreLawful p → IsPosed p → IsKnown p → IsConsistent rules p m → IfOk r (HasTruths p m)
+  has_truths rules level lawful posed known c =
+      IfOk-weaker r _ _ (λ w is n least most. valued rules p m lawful c n least most ∙ ap Some (truths_are level p posed known m (defined_hold rules p m lawful c) w is n least most)) h.of_request

@@ -1,43 +1,38 @@
--- Schemas for tests: documents, users, and an action for them, whose context has two truth values; and people who meet,
--- each of whom has a manager.
-use Rattle.std.proofs.Common.{◌≡◌, ◌<◌, ◌∙◌, arith, ap, map, ℕ, zero, suc, slice_index, List, [], ◌∷◌, Some, None, true, IsTrue, Contains, codes, refl, sym}
+-- The schemas for tests are lawful, and their attributes are of the fragment of Booleans.
+use Rattle.std.proofs.Common.{◌≡◌, ◌<◌, ◌∙◌, arith, ap, map, ℕ, zero, suc, slice_index, List, [], ◌∷◌, Option, Some, None, Bool, true, false, not, Contains, codes, refl, sym, subst}
 use Rattle.std.specs.List.{AllByRecursion, list_all}
+use Rattle.std.specs.Ordering.{is_gt}
 use Rattle.std.specs.List.Sorted.{IsStrictlySortedBy}
 use Rattle.std.specs.Str.{IsUtf8}
 use Rattle.std.proofs.lemmas.Str.{IsUtf8-from_ascii}
-use Rattle.sc_schema.specs.declared.ty.Presence.{Presence}
-use Rattle.sc_schema.specs.declared.ty.Presence.TheVariants.{Required}
+use Rattle.sc_names.specs.declared.uid.Uid.{Uid}
+use Rattle.sc_world.specs.Named.{IsDeclared}
 use Rattle.sc_schema.specs.declared.ty.Ty.{Ty, out-Ty, out-roll-Ty}
 use Rattle.sc_schema.specs.declared.ty.Ty.TheOpen as ty
-use Rattle.sc_schema.specs.declared.ty.Ty.TheVariants.{Bool as bool_type, Entity, Record, rolls-Bool, rolls-Record}
+use Rattle.sc_schema.specs.declared.ty.Ty.TheVariants.{Bool as bool_type, rolls-Bool, rolls-Record}
 use Rattle.sc_schema.specs.declared.declarations.EntityType.{EntityType}
 use Rattle.sc_schema.specs.declared.declarations.Action.{Action}
 use Rattle.sc_schema.specs.declared.declarations.Env.{Env}
-use Rattle.sc_schema.specs.Declarations.{Declarations, environments}
+use Rattle.sc_schema.specs.Declarations.{Declarations, context_of, environments}
 use Rattle.sc_schema.specs.Lawful.{IsLawful, IsLawfulType, IsLawfulAction, IsTypeLevel}
-use Rattle.sc_schema.specs.Plain.{bool_field, bool_record, IsTypeName, IsPlainType, IsPlain, action_type, plain_action}
+use Rattle.sc_schema.specs.Plain.{bool_field, bool_record, IsTypeName, IsPlainType, IsPlain, action_type, plain_type}
 use Rattle.sc_schema.proofs.EveryTypeLaws.{every_Bool, every_Entity}
 use Rattle.sc_schema.proofs.LawfulLaws.{ascii_text, ascii_texts, no_uids_ascend, one_name_ascends, one_uid_ascends, record_lawful, no_types, one_type}
 use Rattle.sc_schema.proofs.OrderLaws.{no_element}
 use Rattle.sc_schema.proofs.PlainLaws.{IsLawful-plain}
-use Rattle.sc_footprint.specs.declared.term.Term.{out-Term, out-roll-Term}
-use Rattle.sc_footprint.specs.declared.term.Term.TheOpen as t
-use Rattle.sc_footprint.specs.declared.term.Term.TheVariants.{Context, Field, rolls-Context}
-use Rattle.sc_footprint.specs.Problems.{is_goal, is_bool_field, are_bools, are_bools_in, has_plain_context, names_in, context_names}
-use Rattle.sc_footprint.proofs.ProblemLaws.{out_Field, false_is_goal}
-
-abbrev pub bare_type : List ℕ → EntityType
-bare_type name = record { name = name; ancestors = []; shape = Record []; tags = None }
-
-abbrev pub sample : Declarations
-sample =
-    record {
-      types = bare_type (codes "Doc") ∷ bare_type (codes "User") ∷ [];
-      actions = plain_action (codes "view") (codes "User") (codes "Doc") (codes "a" ∷ codes "b" ∷ []) ∷ [];
-    }
-
-abbrev pub sample_env : Env
-sample_env = record { principal = codes "User"; action = record { type_name = action_type; id = codes "view" }; resource = codes "Doc" }
+use Rattle.sc_sorts.specs.Plain.{is_bool_field, plain_in, plain_fields}
+use Rattle.sc_sorts.specs.OfTypes.{sort_of}
+use Rattle.sc_sorts.specs.declared.sort.Sort.{Sort}
+use Rattle.sc_sorts.specs.declared.sort.Sort.TheVariants as sort
+use Rattle.sc_terms.specs.declared.node.BinaryOp.TheVariants.{And, Equal}
+use Rattle.sc_terms.specs.declared.node.Node.{Node}
+use Rattle.sc_terms.specs.declared.node.Leaf.TheVariants.{Context}
+use Rattle.sc_terms.specs.Trees.{Tree, leaf}
+use Rattle.sc_terms.specs.Tables.{tree, Keeps, StandsFor}
+use Rattle.sc_terms.specs.Folds.{truth_term, constant, is_literal, under_not, not_by, not_term, and_by, and_term, equation, other_equal, both, equal_by, equal_term, field_term}
+use Rattle.sc_terms.specs.Order.{tree_cmp, tree_eq}
+use Rattle.sc_terms.specs.Booleans.{IsBoolean, of_truth, of_attribute, of_not, of_two, attribute_term}
+use Rattle.sc_solver.specs.Samples.{documents, view_env, view_names, view_type, people, person, manager, meet, meet_env, meet_names, meet_type, IsGoal}
 
 ascii : (bs : List ℕ) → AllByRecursion (λ b. b < 128) bs → IsUtf8 bs
 ascii bs h = IsUtf8-from_ascii bs (λ i. byte bs i h) where
@@ -46,8 +41,8 @@ ascii bs h = IsUtf8-from_ascii bs (λ i. byte bs i h) where
   byte (b ∷ bs) zero h = h.0
   byte (b ∷ bs) (suc i) h = byte bs i h.1
 
-bare_is_plain : (name : List ℕ) → IsTypeName name → IsPlainType (bare_type name)
-bare_is_plain name h = record { name = h; ancestors = refl; shape = refl; tags = refl }
+plain_is_plain : (name : List ℕ) → IsTypeName name → IsPlainType (plain_type name)
+plain_is_plain name h = record { name = h; ancestors = refl; shape = refl; tags = refl }
 
 doc : IsTypeName (codes "Doc")
 doc = record { text = ascii (codes "Doc") (omega arith, (omega arith, (omega arith, tt))); identifier = refl; no_action = λ e. absurd cc }
@@ -55,11 +50,11 @@ doc = record { text = ascii (codes "Doc") (omega arith, (omega arith, (omega ari
 user : IsTypeName (codes "User")
 user = record { text = ascii (codes "User") (omega arith, (omega arith, (omega arith, (omega arith, tt)))); identifier = refl; no_action = λ e. absurd cc }
 
-sample_is_plain : IsPlain sample
+documents_are_plain : IsPlain documents
 unfolding IsStrictlySortedBy
-sample_is_plain =
+documents_are_plain =
     record {
-      types = (bare_is_plain (codes "Doc") doc, (bare_is_plain (codes "User") user, tt));
+      types = (plain_is_plain (codes "Doc") doc, (plain_is_plain (codes "User") user, tt));
       types_ascend = ((refl, tt), (tt, tt));
       id = codes "view";
       principal = codes "User";
@@ -74,50 +69,13 @@ sample_is_plain =
       attributes_ascend = ((refl, tt), (tt, tt));
     }
 
-pub sample_lawful : (types : List EntityType) (actions : List Action) → types ≡ sample.types → actions ≡ sample.actions → IsLawful (record { types = types; actions = actions })
-sample_lawful types actions all_types all_actions = rw (all_types, all_actions) (IsLawful-plain sample sample_is_plain)
+pub documents_lawful : (types : List EntityType) (actions : List Action) → types ≡ documents.types → actions ≡ documents.actions → IsLawful (record { types = types; actions = actions })
+documents_lawful types actions all_types all_actions = rw (all_types, all_actions) (IsLawful-plain documents documents_are_plain)
 
-pub sample_environment : (s : Declarations) (e : Env) → s ≡ sample → e ≡ sample_env → Contains (environments s) e
-sample_environment s e p q = rw (p, q) (0, omega arith, refl)
+pub view_environment : (s : Declarations) (e : Env) → s ≡ documents → e ≡ view_env → Contains (environments s) e
+view_environment s e p q = rw (p, q) (0, omega arith, refl)
 
-out_Context : out-Term Context ≡ t.Context
-out_Context = ap out-Term (sym rolls-Context) ∙ out-roll-Term t.Context
-
-sample_names : context_names sample sample_env ≡ codes "a" ∷ codes "b" ∷ []
-sample_names = ap names_in (ap out-Ty (sym (rolls-Record _)) ∙ out-roll-Ty (ty.Record (map bool_field (codes "a" ∷ codes "b" ∷ []))))
-
-out_bool : out-Ty bool_type ≡ ty.Bool
-out_bool = ap out-Ty (sym rolls-Bool) ∙ out-roll-Ty ty.Bool
-
-all_bools : (names : List (List ℕ)) → list_all is_bool_field (map bool_field names) ≡ true
-all_bools [] = refl
-all_bools (x ∷ names) = rw out_bool (all_bools names)
-
-record_of_bools : (names : List (List ℕ)) → are_bools (Some (bool_record names)) ≡ true
-record_of_bools names = ap are_bools_in (ap out-Ty (sym (rolls-Record (map bool_field names))) ∙ out-roll-Ty (ty.Record (map bool_field names))) ∙ all_bools names
-
-sample_context : has_plain_context sample sample_env ≡ true
-sample_context = record_of_bools (codes "a" ∷ codes "b" ∷ [])
-
-pub sample_goal : (s : Declarations) (e : Env) → s ≡ sample → e ≡ sample_env → IsTrue (is_goal s e (Field Context (codes "a")))
-sample_goal s e p q = rw (p, q, sample_context, sample_names, out_Field Context (codes "a"), out_Context) refl
-
--- ---- people, each with a manager, and an action of one on another
-
-abbrev manager : List (List ℕ × Presence × Ty)
-manager = (codes "manager", Required, Entity (codes "User")) ∷ []
-
-abbrev person : EntityType
-person = record { name = codes "User"; ancestors = []; shape = Record manager; tags = None }
-
-abbrev meet : Action
-meet = plain_action (codes "meet") (codes "User") (codes "User") (codes "a" ∷ [])
-
-abbrev people : Declarations
-people = record { types = person ∷ []; actions = meet ∷ [] }
-
-abbrev people_env : Env
-people_env = record { principal = codes "User"; action = record { type_name = action_type; id = codes "meet" }; resource = codes "User" }
+-- ---- people
 
 person_lawful : IsLawfulType people person
 person_lawful =
@@ -156,16 +114,121 @@ people_are_lawful =
 pub people_lawful : (types : List EntityType) (actions : List Action) → types ≡ people.types → actions ≡ people.actions → IsLawful (record { types = types; actions = actions })
 people_lawful types actions all_types all_actions = rw (all_types, all_actions) people_are_lawful
 
-pub people_environment : (s : Declarations) (e : Env) → s ≡ people → e ≡ people_env → Contains (environments s) e
-people_environment s e p q = rw (p, q) (0, omega arith, refl)
+pub meet_environment : (s : Declarations) (e : Env) → s ≡ people → e ≡ meet_env → Contains (environments s) e
+meet_environment s e p q = rw (p, q) (0, omega arith, refl)
 
-people_names : context_names people people_env ≡ codes "a" ∷ []
-people_names = ap names_in (ap out-Ty (sym (rolls-Record _)) ∙ out-roll-Ty (ty.Record (map bool_field (codes "a" ∷ []))))
+-- ---- goals
 
-people_context : has_plain_context people people_env ≡ true
-people_context = record_of_bools (codes "a" ∷ [])
+out_bool : out-Ty bool_type ≡ ty.Bool
+out_bool = ap out-Ty (sym rolls-Bool) ∙ out-roll-Ty ty.Bool
 
-pub people_goal : (s : Declarations) (e : Env) → s ≡ people → e ≡ people_env → IsTrue (is_goal s e (Field Context (codes "a")))
-people_goal s e p q = rw (p, q, people_context, people_names, out_Field Context (codes "a"), out_Context) refl
+all_bools : (names : List (List ℕ)) → list_all is_bool_field (map bool_field names) ≡ true
+all_bools [] = refl
+all_bools (x ∷ names) = rw out_bool (all_bools names)
 
-pub ruleset sample_laws = (sample_lawful, sample_environment, sample_goal, people_lawful, people_environment, people_goal, false_is_goal)
+plain_bools : (names : List (List ℕ)) → plain_fields (bool_record names) ≡ Some (map bool_field names)
+plain_bools names = ap plain_in (ap out-Ty (sym (rolls-Record (map bool_field names))) ∙ out-roll-Ty (ty.Record (map bool_field names))) ∙ rw (all_bools names) refl
+
+view_attribute : (name : List ℕ) → Contains view_names name → IsBoolean (Some view_type) (attribute_term view_type name)
+view_attribute name h = of_attribute view_type (map bool_field view_names) name refl (plain_bools view_names) h
+
+meet_attribute : (name : List ℕ) → Contains meet_names name → IsBoolean (Some meet_type) (attribute_term meet_type name)
+meet_attribute name h = of_attribute meet_type (map bool_field meet_names) name refl (plain_bools meet_names) h
+
+-- ---- the constructors keep to the fragment
+
+module _ (context : Option Ty) where
+  not_by_boolean : (c : Option Bool) (u : Option Tree) (a : Tree) → under_not a ≡ u → IsBoolean context a → IsBoolean context (not_by c u a)
+  not_by_boolean (Some b) u a e h = of_truth (not b)
+  not_by_boolean None (Some x) a e h = under a x e h where
+    under : (a x : Tree) → under_not a ≡ Some x → IsBoolean context a → IsBoolean context x
+    under _ x e (of_truth b) = absurd cc
+    under _ x e (of_attribute type fields name is f k) = absurd cc
+    under _ x e (of_not a h) = let same : a ≡ x = cc in subst (IsBoolean context) same h
+    under _ x e (of_two o a b h k) = absurd cc
+  not_by_boolean None None a e h = of_not a h
+
+  not_boolean : (a : Tree) → IsBoolean context a → IsBoolean context (not_term a)
+  unfolding not_term
+  not_boolean a h = not_by_boolean (constant a) (under_not a) a refl h
+
+  and_by_boolean : (c d : Option Bool) (same : Bool) (a b : Tree) → IsBoolean context a → IsBoolean context b → IsBoolean context (and_by c d same a b)
+  and_by_boolean (Some true) d same a b h k = k
+  and_by_boolean (Some false) d same a b h k = h
+  and_by_boolean None (Some true) same a b h k = h
+  and_by_boolean None (Some false) same a b h k = k
+  and_by_boolean None None true a b h k = h
+  and_by_boolean None None false a b h k = of_two And a b h k
+
+  and_boolean : (a b : Tree) → IsBoolean context a → IsBoolean context b → IsBoolean context (and_term a b)
+  unfolding and_term
+  and_boolean a b h k = and_by_boolean (constant a) (constant b) (tree_eq a b) a b h k
+
+  equation_boolean : (greater : Bool) (a b : Tree) → IsBoolean context a → IsBoolean context b → IsBoolean context (equation greater a b)
+  equation_boolean true a b h k = of_two Equal b a k h
+  equation_boolean false a b h k = of_two Equal a b h k
+
+  other_boolean : (same literals : Bool) (a b : Tree) → IsBoolean context a → IsBoolean context b → IsBoolean context (other_equal same literals a b)
+  other_boolean true literals a b h k = of_truth true
+  other_boolean false true a b h k = of_truth false
+  other_boolean false false a b h k = equation_boolean (is_gt (tree_cmp a b)) a b h k
+
+  equal_by_boolean : (c d : Option Bool) (a b : Tree) → IsBoolean context a → IsBoolean context b → IsBoolean context (equal_by c d a b)
+  equal_by_boolean (Some true) d a b h k = k
+  equal_by_boolean (Some false) d a b h k = not_boolean b k
+  equal_by_boolean None (Some true) a b h k = h
+  equal_by_boolean None (Some false) a b h k = not_boolean a h
+  equal_by_boolean None None a b h k = other_boolean (tree_eq a b) (both (is_literal a) (is_literal b)) a b h k
+
+  equal_boolean : (a b : Tree) → IsBoolean context a → IsBoolean context b → IsBoolean context (equal_term a b)
+  unfolding equal_term
+  equal_boolean a b h k = equal_by_boolean (constant a) (constant b) a b h k
+
+-- ---- goals
+
+goal_of : (type : Ty) (nodes : List Node) (n : ℕ) (t : Tree) → StandsFor nodes n t → IsBoolean (Some type) t → IsGoal type nodes n
+goal_of type nodes n t s h = record { within = s.within; boolean = subst (IsBoolean (Some type)) (sym s.is) h }
+
+-- an attribute of the context
+field_goal : (type : Ty) (ys zs : List Node) (c n : ℕ) (s : Sort) (name : List ℕ) → IsBoolean (Some type) (attribute_term type name) → s ≡ sort_of type → StandsFor ys c (leaf (Context s))
+    → StandsFor zs n (field_term name sort.Bool (tree ys c)) → IsGoal type zs n
+field_goal type ys zs c n s name h e p q =
+    record {
+      within = q.within;
+      boolean = subst (IsBoolean (Some type)) (sym (q.is ∙ ap (field_term name sort.Bool) (p.is ∙ ap (λ (x : Sort). leaf (Context x)) e))) h;
+    }
+
+pub view_field : (ys zs : List Node) (c n : ℕ) (s : Sort) (name : List ℕ) → Contains view_names name → s ≡ sort_of view_type → StandsFor ys c (leaf (Context s))
+    → StandsFor zs n (field_term name sort.Bool (tree ys c)) → IsGoal view_type zs n
+view_field ys zs c n s name h e p q = field_goal view_type ys zs c n s name (view_attribute name h) e p q
+
+pub meet_field : (ys zs : List Node) (c n : ℕ) (s : Sort) (name : List ℕ) → Contains meet_names name → s ≡ sort_of meet_type → StandsFor ys c (leaf (Context s))
+    → StandsFor zs n (field_term name sort.Bool (tree ys c)) → IsGoal meet_type zs n
+meet_field ys zs c n s name h e p q = field_goal meet_type ys zs c n s name (meet_attribute name h) e p q
+
+pub truth_goal : (type : Ty) (ys : List Node) (b : Bool) (n : ℕ) → StandsFor ys n (truth_term b) → IsGoal type ys n
+truth_goal type ys b n s = goal_of type ys n (truth_term b) s (of_truth b)
+
+pub not_goal : (type : Ty) (xs ys : List Node) (a n : ℕ) → IsGoal type xs a → StandsFor ys n (not_term (tree xs a)) → IsGoal type ys n
+not_goal type xs ys a n g s = goal_of type ys n (not_term (tree xs a)) s (not_boolean (Some type) (tree xs a) g.boolean)
+
+pub and_goal : (type : Ty) (xs ys : List Node) (a b n : ℕ) → IsGoal type xs a → IsGoal type xs b → StandsFor ys n (and_term (tree xs a) (tree xs b)) → IsGoal type ys n
+and_goal type xs ys a b n g h s = goal_of type ys n (and_term (tree xs a) (tree xs b)) s (and_boolean (Some type) (tree xs a) (tree xs b) g.boolean h.boolean)
+
+pub equal_goal : (type : Ty) (xs ys : List Node) (a b n : ℕ) → IsGoal type xs a → IsGoal type xs b → StandsFor ys n (equal_term (tree xs a) (tree xs b)) → IsGoal type ys n
+equal_goal type xs ys a b n g h s = goal_of type ys n (equal_term (tree xs a) (tree xs b)) s (equal_boolean (Some type) (tree xs a) (tree xs b) g.boolean h.boolean)
+
+-- what is a goal in a table is one in what the table grows to
+pub goal_kept : (type : Ty) (old new : List Node) (n : ℕ) → Keeps old new → IsGoal type old n → IsGoal type new n
+goal_kept type old new n kept g = record { within = omega (arith, kept.longer, g.within); boolean = subst (IsBoolean (Some type)) (sym (kept.same n g.within)) g.boolean }
+
+pub view_goal : (s : Declarations) (e : Env) → s ≡ documents → e ≡ view_env → (nodes : List Node) (n : ℕ) → IsGoal view_type nodes n → IsBoolean (context_of s e.action) (tree nodes n)
+view_goal s e p q nodes n g = rw (p, q) g.boolean
+
+pub meet_goal : (s : Declarations) (e : Env) → s ≡ people → e ≡ meet_env → (nodes : List Node) (n : ℕ) → IsGoal meet_type nodes n → IsBoolean (context_of s e.action) (tree nodes n)
+meet_goal s e p q nodes n g = rw (p, q) g.boolean
+
+pub none_declared : (s : Declarations) (us : List Uid) → us ≡ [] → AllByRecursion (IsDeclared s) us
+none_declared s us e = rw e tt
+
+pub ruleset sample_laws = (view_environment, view_goal, view_field, meet_environment, meet_goal, meet_field, truth_goal, not_goal, and_goal, equal_goal, goal_kept, none_declared)

@@ -1,132 +1,115 @@
 -- Why the solver's answers are right.
-use Rattle.std.proofs.Common.{◌≡◌, ◌+◌, ◌-◌, ◌<◌, ◌≤◌, ◌==◌, ◌&&◌, ◌||◌, ℕ, suc, List, [], ◌∷◌, map, length, Bool, true, false, cond, Option, Some, None, IsSome, IsTrue, slice_get, refl, ap, sym, ◌∙◌, subst, arith, Result, Ok, Err, IfOk}
-use Rattle.std.specs.List.{position_or_len}
+use Rattle.std.proofs.Common.{◌≡◌, ◌-◌, ◌<◌, ◌≤◌, ◌^◌, ℕ, nat_lt, List, [], map, length, Bool, true, Contains, slice_index_or, refl, sym, subst, arith, IsTrue}
+use Rattle.std.specs.List.{list_all}
 use Rattle.std.specs.Str.{bytes_eq}
-use Rattle.std.proofs.lemmas.Bool.{ne_eqb}
-use Rattle.std.proofs.lemmas.Bool.Decides.{Decides-eqb}
-use Rattle.sc_checker.specs.declared.log.Step.{Step}
-use Rattle.sc_checker.specs.declared.log.Step.TheVariants.{Learned}
-use Rattle.sc_checker.specs.Truths.{IsUnsatisfiable}
-use Rattle.sc_checker.specs.Verdicts.{IsAccepted, no_step, first_step}
-use Rattle.sc_checker.proofs.DefiningLaws.{place_below, posed_field, field_found, field_is, false_is_false, length_map}
-use Rattle.sc_clauses.specs.declared.lit.Lit.{Lit}
-use Rattle.sc_clauses.specs.Assignments.{Assignment, value_of, is_false}
-use Rattle.sc_footprint.specs.declared.term.Term.{Term, Term-F, out-Term}
-use Rattle.sc_footprint.specs.declared.term.Term.TheOpen as t
-use Rattle.sc_footprint.specs.declared.term.Term.TheVariants.{True, Principal, Resource, Eq}
-use Rattle.sc_footprint.specs.Problems.{Posed, atoms, atoms_under, goal_literal, literal_under, is_goal, is_goal_under, has_plain_context, is_one_type, of_context, context_names}
-use Rattle.sc_footprint.specs.Terms.{is_true}
+use Rattle.std.proofs.lemmas.Bool.Decides.{nat_tests}
+use Rattle.std.proofs.lemmas.List.{get_or_default}
+use Rattle.sc_clauses.specs.declared.step.Instance.{Instance}
+use Rattle.sc_clauses.specs.declared.step.Step.{Step}
+use Rattle.sc_clauses.specs.Clauses.{Clause}
+use Rattle.sc_clauses.specs.Assignments.{Assignment}
 use Rattle.sc_world.specs.declared.world.World.{World}
-use Rattle.sc_world.specs.WellFormed.{IsWellFormed}
-use Rattle.sc_solver.specs.Rebuilding.{IsConsistent, HasTruths}
-use Rattle.sc_solver.specs.Solutions.{IsField, Satisfies}
+use Rattle.sc_search.specs.Steps.{AreListed, added}
+use Rattle.sc_search.specs.declared.searching.Found.{Found}
+use Rattle.sc_search.specs.declared.searching.Found.TheVariants.{Refuted, Consistent, Spent}
+use Rattle.sc_search.specs.Findings as found
+use Rattle.sc_footprint.specs.Problems.{Posed, IsPosed, atoms, most_atoms}
+use Rattle.sc_footprint.specs.Definitions.{defining}
+use Rattle.sc_footprint.specs.Truths.{truths, IsTrueIn, IsWorldOf, Satisfies, IsUnsatisfiable}
+use Rattle.sc_checker.specs.Verdicts.{IsAccepted}
+use Rattle.sc_checker.specs.Writable.{is_writable}
+use Rattle.th_defs.specs.Instances.{number_in, is_before_last, definition_clause}
+use Rattle.sc_solver.specs.Rebuilding.{IsConsistent, IsRebuilt}
+use Rattle.sc_solver.specs.Solutions.{rules_of}
+use Rattle.sc_solver.specs.Units.{IsSpent}
+use Rattle.sc_solver.proofs.ListLaws.{has_of, contains_of, has_right, and_left, and_right}
+use Rattle.sc_solver.proofs.AtomLaws.{IsLevel}
+use Rattle.sc_solver.proofs.AssignedLaws.{AreLawful, defined_hold}
+use Rattle.sc_solver.proofs.StepLaws.{AllHold}
+use Rattle.sc_solver.proofs.TruthLaws.{IsKnown, goal_is_true}
+use Rattle.sc_solver.proofs.UnitLaws.{units_add, units_are, units_writable, units_hold, refutation_adds, refutation_writable, refutation_never}
 
--- ---- the goal `false`
+-- ---- the numbers of a search have 18 digits at most
 
-abbrev pub refutation_steps : List Step
-refutation_steps = Learned (record { clause = []; hints = 1 ∷ 2 ∷ [] }) ∷ []
+big : 10 ^ 18 ≡ 1000000000000000000
+big = refl
 
-pub refutation_accepted : (p : Posed) → out-Term p.goal ≡ t.False → IsAccepted p refutation_steps
-refutation_accepted p e = record { before = []; steps_add = first_step (rw e refl) no_step }
+module _ (p : Posed) (few : length (atoms p) ≤ most_atoms) where
+  pub few_atoms : length (atoms p) < 10 ^ 18
+  few_atoms = omega (arith, few, big)
 
-pub false_never : (p : Posed) → out-Term p.goal ≡ t.False → IsUnsatisfiable p
-false_never p e w formed h = absurd (let no : is_true p.goal w ≡ false = false_is_false p.goal w e in cc)
+-- ---- what the search is given, and what it finds
 
--- ---- a field of the context
+module _ (p : Posed) (n : ℕ) (clauses : List Clause) (count : n ≡ length (atoms p)) (are : clauses ≡ defining p) where
+  moved : (P : ℕ → List Clause → Type 0) → P n clauses → P (length (atoms p)) (defining p)
+  moved P h = subst (λ (cs : List Clause). P (length (atoms p)) cs) are (subst (λ (k : ℕ). P k clauses) count h)
 
-abbrev pub IsGoalAlone : ℕ → ℕ → Assignment → Type 0
-IsGoalAlone count goal m = (n : ℕ) → 1 ≤ n → n ≤ count → value_of m n ≡ Some ((n == 1) || (n == goal))
+  pub clauses_listed : AreLawful p → (c : Clause) → Contains clauses c → AreListed n c
+  clauses_listed lawful c h =
+      subst (λ (k : ℕ). AreListed k c) (sym count) (λ l k. (lawful c (subst (λ (cs : List Clause). Contains cs c) are h) l k).0)
 
-itself : (n : ℕ) → (n == n) ≡ true
-itself n = (Decides-eqb n n).1 refl
+  module _ (accepts : Instance → Bool) (clause_of : Instance → Clause) where
+    pub refutation_found : (budget : ℕ) (f : Found) (steps : List Step) → f ≡ Refuted steps → found.IfRefuted (found.IsRefutation n accepts clause_of clauses budget) f
+        → found.IsRefutation (length (atoms p)) accepts clause_of (defining p) budget steps
+    refutation_found budget f steps e h =
+        moved (λ (k : ℕ) (cs : List Clause). found.IsRefutation k accepts clause_of cs budget steps) (subst (λ (g : Found). found.IfRefuted (found.IsRefutation n accepts clause_of clauses budget) g) e h)
 
-or_true : (b : Bool) → b || true ≡ true
-or_true true = refl
-or_true false = refl
+    pub consistent_found : (f : Found) (m : Assignment) → f ≡ Consistent m → found.IfConsistent (found.IsConsistent n accepts clause_of clauses) f → found.IsConsistent (length (atoms p)) accepts clause_of (defining p) m
+    consistent_found f m e h =
+        moved (λ (k : ℕ) (cs : List Clause). found.IsConsistent k accepts clause_of cs m) (subst (λ (g : Found). found.IfConsistent (found.IsConsistent n accepts clause_of clauses) g) e h)
 
--- the goal's atom is true, and it is the goal's
-record IsGoalAtom (one : Bool) (names : List (List ℕ)) (y : Term-F Term) (goal : Term) (m : Assignment) : Type 0 where
-  pub atom : ℕ
-  pub valued : value_of m atom ≡ Some true
-  pub not_false : is_false m (literal_under one names y) ≡ false
-  pub is : cond (atom == 0) None (slice_get (atoms_under one names y) (atom - 1)) ≡ Some goal
+    pub spent_found : (budget : ℕ) (f : Found) (steps : List Step) → f ≡ Spent steps → found.IfSpent (found.IsSpent n accepts clause_of clauses budget) f
+        → found.IsSpent (length (atoms p)) accepts clause_of (defining p) budget steps
+    spent_found budget f steps e h =
+        moved (λ (k : ℕ) (cs : List Clause). found.IsSpent k accepts clause_of cs budget steps) (subst (λ (g : Found). found.IfSpent (found.IsSpent n accepts clause_of clauses budget) g) e h)
 
--- the atom of the goal's own literal
-goal_valued : (m : Assignment) (count n : ℕ) → 1 ≤ n → n ≤ count → IsGoalAlone count n m → value_of m n ≡ Some true
-goal_valued m count n least most values = values n least most ∙ ap Some (ap (λ b. (n == 1) || b) (itself n) ∙ or_true (n == 1))
+-- a number before the last is that of a clause
+numbered_clause : (clauses : List Clause) (n : ℕ) → is_before_last clauses n ≡ true → Contains clauses (slice_index_or clauses (n - 1) [])
+numbered_clause clauses n e =
+    let least : nat_lt 0 n ≡ true = and_left (nat_lt 0 n) (nat_lt n (length clauses)) e in
+    let most : nat_lt n (length clauses) ≡ true = and_right (nat_lt 0 n) (nat_lt n (length clauses)) e in
+    let lt : n - 1 < length clauses = grind (arith, nat_tests) in
+    (n - 1, lt, get_or_default clauses (n - 1) (slice_index_or clauses (n - 1) []) [] lt)
 
-goal_atom : (plain one : Bool) (names : List (List ℕ)) (y : Term-F Term) (goal : Term) (m : Assignment) → out-Term goal ≡ y → IsField y → is_goal_under plain names y ≡ true
-    → IsGoalAlone (length (atoms_under one names y)) (literal_under one names y).atom m → IsGoalAtom one names y goal m
-goal_atom plain true names (t.Field x name) goal m is field e values =
-    let k = position_or_len (bytes_eq name) names in
-    let parts = posed_field plain names x name e in
-    let within : k < length names = place_below name names parts.named in
-    let listed : 3 + k ≤ length (True ∷ Eq Principal Resource ∷ map of_context names) = omega (arith, length_map of_context names) in
-    let value : value_of m (3 + k) ≡ Some true = goal_valued m (length (True ∷ Eq Principal Resource ∷ map of_context names)) (3 + k) (omega arith) listed values in
-    let before : (3 + k) - 1 ≡ suc (suc k) = omega arith in
-    record {
-      atom = 3 + k;
-      valued = value;
-      not_false = rw value refl;
-      is = rw (before, ne_eqb (3 + k) 0 (λ (z : 3 + k ≡ 0). absurd (omega arith))) (field_found name names parts.named ∙ ap Some (sym (field_is goal x name is parts.of)));
-    }
-goal_atom plain false names (t.Field x name) goal m is field e values =
-    let k = position_or_len (bytes_eq name) names in
-    let parts = posed_field plain names x name e in
-    let within : k < length names = place_below name names parts.named in
-    let listed : 2 + k ≤ length (True ∷ map of_context names) = omega (arith, length_map of_context names) in
-    let value : value_of m (2 + k) ≡ Some true = goal_valued m (length (True ∷ map of_context names)) (2 + k) (omega arith) listed values in
-    let before : (2 + k) - 1 ≡ suc k = omega arith in
-    record {
-      atom = 2 + k;
-      valued = value;
-      not_false = rw value refl;
-      is = rw (before, ne_eqb (2 + k) 0 (λ (z : 2 + k ≡ 0). absurd (omega arith))) (field_found name names parts.named ∙ ap Some (sym (field_is goal x name is parts.of)));
-    }
-goal_atom plain one names t.True goal m is field e values = absurd field
-goal_atom plain one names t.False goal m is field e values = absurd field
-goal_atom plain one names t.Principal goal m is field e values = absurd field
-goal_atom plain one names t.Resource goal m is field e values = absurd field
-goal_atom plain one names t.Context goal m is field e values = absurd field
-goal_atom plain one names (t.Eq x z) goal m is field e values = absurd field
+module _ (p : Posed) (accepts : Instance → Bool) (clause_of : Instance → Clause) where
+  -- what the search found consistent may be rebuilt
+  pub consistent : (m : Assignment) → found.IsConsistent (length (atoms p)) accepts clause_of (defining p) m → IsConsistent (rules_of p) p m
+  consistent m c =
+      record {
+        total = c.total;
+        defined = c.keeps_clauses;
+        ruled = λ i e. c.keeps_clauses (definition_clause p i) (numbered_clause (defining p) (number_in i.words) (and_right (bytes_eq i.rule []) (is_before_last (defining p) (number_in i.words)) e));
+      }
 
-some_atom : (one : Bool) (names : List (List ℕ)) (y : Term-F Term) → IsField y → 1 ≤ length (atoms_under one names y)
-some_atom one names (t.Field x name) h = omega arith
-some_atom one names t.True h = absurd h
-some_atom one names t.False h = absurd h
-some_atom one names t.Principal h = absurd h
-some_atom one names t.Resource h = absurd h
-some_atom one names t.Context h = absurd h
-some_atom one names (t.Eq x z) h = absurd h
+  module _ (none : (i : Instance) → accepts i ≡ true → ⊥) (true_laws : (w : World) (c : Clause) → Satisfies p w → Contains (defining p) c → IsTrueIn p w c) where
+    all_true : (w : World) → Satisfies p w → AllHold (truths p w) (defining p)
+    all_true w s c h = true_laws w c s (contains_of (defining p) c h)
 
-module _ (p : Posed) (m : Assignment) (field : IsField (out-Term p.goal)) (posed : IsTrue (is_goal p.schema p.env p.goal)) (values : IsGoalAlone (length (atoms p)) (goal_literal p).atom m) where
-  abbrev names : List (List ℕ)
-  names = context_names p.schema p.env
+    pub refuted : (budget : ℕ) (steps : List Step) → found.IsRefutation (length (atoms p)) accepts clause_of (defining p) budget steps
+        → IsAccepted (rules_of p) p steps × (length steps ≤ budget) × IsUnsatisfiable p
+    refuted budget steps r = (
+      record { before = _; steps_add = refutation_adds (length (atoms p)) accepts clause_of none (defining p) budget steps r (rules_of p) },
+      r.within,
+      λ w s. refutation_never (length (atoms p)) accepts clause_of none (defining p) budget steps r (truths p w) (all_true w s),
+    )
 
-  abbrev one : Bool
-  one = is_one_type p.env
+    pub refuted_writable : (budget : ℕ) (steps : List Step) → found.IsRefutation (length (atoms p)) accepts clause_of (defining p) budget steps → IsTrue (list_all is_writable steps)
+    refuted_writable budget steps r = refutation_writable (length (atoms p)) accepts clause_of none (defining p) budget steps r
 
-  atom : IsGoalAtom one names (out-Term p.goal) p.goal m
-  atom = goal_atom (has_plain_context p.schema p.env) one names (out-Term p.goal) p.goal m refl field posed values
+    pub spent : (budget : ℕ) (steps : List Step) → found.IsSpent (length (atoms p)) accepts clause_of (defining p) budget steps → IsSpent (rules_of p) p budget steps
+    spent budget steps s =
+        record {
+          clauses = map (added clause_of) steps;
+          steps_add = units_add (length (atoms p)) accepts clause_of none (rules_of p) (defining p) steps s.1;
+          count = s.0;
+          are_units = units_are (length (atoms p)) accepts clause_of none (defining p) steps s.1;
+          hold = λ w c sat h. units_hold (length (atoms p)) accepts clause_of none (truths p w) (defining p) steps (all_true w sat) s.1 c (has_right (defining p) (map (added clause_of) steps) c (has_of (map (added clause_of) steps) c h));
+        }
 
-  first : value_of m 1 ≡ Some true
-  first = values 1 (omega arith) (some_atom one names (out-Term p.goal) field)
+    pub spent_writable : (budget : ℕ) (steps : List Step) → found.IsSpent (length (atoms p)) accepts clause_of (defining p) budget steps → IsTrue (list_all is_writable steps)
+    spent_writable budget steps s = units_writable (length (atoms p)) accepts clause_of none (defining p) steps s.1
 
-  pub goal_alone_consistent : IsConsistent p m
-  goal_alone_consistent = record {
-    total = λ n least most. subst (λ (o : Option Bool). IsSome o) (sym (values n least most)) refl;
-    defined = (rw first refl, (ap (λ b. b && true) atom.not_false, tt));
-  }
-
-  pub goal_alone_satisfies : (w : World) → IsWellFormed p.schema p.env p.literals w → HasTruths p m w → Satisfies p w
-  goal_alone_satisfies w formed truths =
-      let value : value_of m atom.atom ≡ Some (is_true p.goal w) = truths atom.atom p.goal atom.is in
-      let both : Some true ≡ Some (is_true p.goal w) = sym atom.valued ∙ value in
-      record { well_formed = formed; goal_true = cc }
-
-pub alone : (p : Posed) (m : Assignment) (count : ℕ) (l : Lit) → count ≡ length (atoms p) → l ≡ goal_literal p → IsGoalAlone count l.atom m → IsGoalAlone (length (atoms p)) (goal_literal p).atom m
-alone p m count l e f values = subst (λ (k : ℕ). IsGoalAlone k (goal_literal p).atom m) e (subst (λ (x : Lit). IsGoalAlone count x.atom m) f values)
-
-pub IfOk-both : {X E : Type 0} (r : Result X E) (P Q R : X → Type 0) → ((x : X) → P x → Q x → R x) → IfOk r P → IfOk r Q → IfOk r R
-IfOk-both (Ok x) P Q R f p q = f x p q
-IfOk-both (Err e) P Q R f p q = tt
+-- in the rebuilt world the goal is true
+pub violated : (p : Posed) (m : Assignment) (w : World) → IsLevel → AreLawful p → IsPosed p → IsKnown p → IsConsistent (rules_of p) p m → IsRebuilt p m w → IsWorldOf p w → Satisfies p w
+violated p m w level lawful posed known c rebuilt formed =
+    record { well_formed = formed; goal_true = goal_is_true level p posed known m (defined_hold (rules_of p) p m lawful c) w rebuilt.request }

@@ -1,180 +1,229 @@
 -- The listed atoms have their assigned truth in the rebuilt world.
-use Rattle.std.proofs.Common.{◌≡◌, ◌+◌, ◌-◌, ◌<◌, ◌≤◌, ◌==◌, ◌&&◌, ◌++◌, not, if◌then◌else◌, ℕ, zero, suc, List, [], ◌∷◌, map, length, Bool, true, false, cond, Option, Some, None, IsSome, slice_get, unwrap_or, refl, ap, sym, ◌∙◌, subst, arith}
-use Rattle.std.proofs.lemmas.Bool.Decides.{nat_tests}
+use Rattle.std.proofs.Common.{◌≡◌, ◌-◌, ◌<◌, ◌≤◌, ◌&&◌, ◌||◌, ℕ, zero, suc, not, Bool, true, false, cond, List, [], ◌∷◌, length, Option, Some, slice_get, Contains, refl, ap, sym, ◌∙◌, arith}
+use Rattle.std.proofs.Math.Dec.{eqb-suc-zero}
+use Rattle.std.specs.declared.cmp.Ordering.{Ordering}
+use Rattle.std.specs.declared.cmp.Ordering.TheVariants.{Less, Equal as Level, Greater}
 use Rattle.std.specs.Fmt.{decimal, digits}
+use Rattle.std.specs.Ordering.{is_eq}
 use Rattle.std.specs.Str.{bytes_eq}
-use Rattle.std.specs.List.Sorted.{IsStrictlySortedBy}
-use Rattle.sc_clauses.specs.Assignments.{Assignment, value_of, is_false_at}
-use Rattle.sc_footprint.specs.declared.term.Term.{Term, Term-F, out-Term, fold-Term, fold-roll-Term}
-use Rattle.sc_footprint.specs.declared.term.Term.TheVariants.{True, Principal, Resource, Eq, rolls-Principal, rolls-Resource, rolls-Eq}
-use Rattle.sc_footprint.specs.declared.term.Term.TheOpen as t
-use Rattle.sc_footprint.specs.Problems.{Posed, atoms_under, of_context, context_names, equalities, first_field, is_one_type}
-use Rattle.sc_footprint.specs.Terms.{Denotation, val, val_step, is_same_entity, is_true, truth_in}
-use Rattle.sc_footprint.proofs.TermLaws.{is_true_True, val_of_context}
-use Rattle.sc_schema.specs.Declarations.{uid_eq}
-use Rattle.sc_names.specs.Uids.{text_cmp}
-use Rattle.sc_values.specs.declared.value.Value.{out-Value}
+use Rattle.std.proofs.lemmas.Slice.Eq.{bytes_eq-Decides}
+use Rattle.sc_clauses.specs.Clauses.{bool_eq, holds}
+use Rattle.sc_clauses.specs.Assignments.{Assignment}
+use Rattle.sc_names.specs.declared.uid.Uid.{Uid}
+use Rattle.sc_schema.specs.Declarations.{context_of}
+use Rattle.sc_schema.specs.declared.declarations.Env.{Env}
+use Rattle.sc_schema.specs.declared.ty.Ty.{Ty}
+use Rattle.sc_sorts.specs.declared.sort.Sort.{Sort-F, out-Sort}
+use Rattle.sc_sorts.specs.declared.sort.Sort.TheOpen as s
+use Rattle.sc_sorts.specs.Plain.{Field, plain_fields}
+use Rattle.sc_values.specs.declared.value.Value.{Value, Value-F, out-Value}
 use Rattle.sc_values.specs.declared.value.Value.TheVariants as value
+use Rattle.sc_values.specs.declared.value.Value.TheOpen as v
+use Rattle.sc_values.specs.Order.{value_cmp}
 use Rattle.sc_values.specs.Records.{field}
-use Rattle.sc_values.proofs.OutLaws.{out_Bool, out_Entity}
+use Rattle.sc_values.proofs.OutLaws.{out_Entity}
+use Rattle.sc_values.proofs.OrderLaws.{value_cmp_level}
 use Rattle.sc_world.specs.declared.world.Request.{Request}
 use Rattle.sc_world.specs.declared.world.World.{World}
-use Rattle.sc_solver.specs.Rebuilding.{IsConsistent, truth_at, fields_from, context_under, rebuilt_request, HasTruths}
-use Rattle.sc_solver.proofs.ContextLaws.{field-at}
+use Rattle.sc_terms.specs.declared.node.BinaryOp.TheVariants.{And, Or, Equal}
+use Rattle.sc_terms.specs.declared.node.UnaryOp.TheVariants.{Not}
+use Rattle.sc_terms.specs.Trees.{Tree, one, two}
+use Rattle.sc_terms.specs.TreeSorts.{tree_sort}
+use Rattle.sc_terms.specs.Folds.{truth_term}
+use Rattle.sc_terms.specs.Booleans.{names_of, IsBoolean, of_truth, of_attribute, of_not, of_two, attribute_term, context_term}
+use Rattle.sc_terms.specs.Values.{val, seen, value_eq}
+use Rattle.sc_footprint.specs.Closure.{Closed, next, of_goal, principal_term, resource_term, follow}
+use Rattle.sc_footprint.specs.Problems.{Posed, IsPosed, goal_term, closed_terms, atoms, atom_number, is_bool_in, is_bool, is_opposite, is_atom, literal, literal_in, numbered}
+use Rattle.sc_footprint.specs.Definitions.{defining}
+use Rattle.sc_footprint.specs.Truths.{is_true, is_true_at, truths}
+use Rattle.sc_solver.specs.Rebuilding.{truth_at, nameless, one_entity, assigned, context_by, context_of_type, rebuilt_request}
+use Rattle.sc_solver.proofs.ListLaws.{Has, here, there, has_of, contains_of, of_get}
+use Rattle.sc_solver.proofs.LitLaws.{holds_negation}
+use Rattle.sc_solver.proofs.StepLaws.{AllHold}
+use Rattle.sc_solver.proofs.TableLaws.{table_says}
+use Rattle.sc_solver.proofs.AtomLaws.{IsLevel, literal_of_atom, listed, atom_closed, atom_is_plain, number_at, truth_listed, truth_first}
+use Rattle.sc_footprint.specs.Kinds.{IsOfGoal, of_boolean, of_context, of_principal, of_resource, of_entities}
+use Rattle.sc_solver.proofs.KindLaws.{are_plain, sort_truth, sort_principal, sort_resource, sort_context, one_entity_is}
+use Rattle.sc_solver.proofs.AssignedLaws.{truth_holds, and_holds, or_holds, equal_holds, goal_holds}
+use Rattle.sc_solver.proofs.ValueLaws.{seen_yes, truth_seen, not_seen_as, and_seen_as, or_seen_as, equal_seen_as, one_entity_seen, field_told, field_seen_as}
 
-valued : (o : Option Bool) → IsSome o → o ≡ Some (unwrap_or o false)
-valued None h = absurd cc
-valued (Some b) h = refl
+-- ---- parts of closed terms
 
-first-true : (o : Option Bool) → IsSome o → is_false_at o false && true ≡ false → o ≡ Some true
-first-true None h e = absurd cc
-first-true (Some true) h e = refl
-first-true (Some false) h e = absurd cc
+module _ (env : Env) (goal : Tree) where
+  part_of_not : (a : Tree) → Closed env goal (one Not a) → Closed env goal a
+  part_of_not a c = next (one Not a) a c (contains_of (follow (one Not a)) a (here _ _))
 
-named : (names : List (List ℕ)) (i : ℕ) (x : Term) → slice_get (map of_context names) i ≡ Some x → (name : List ℕ) × (slice_get names i ≡ Some name) × (x ≡ of_context name) × (i < length names)
-named [] i x e = absurd cc
-named (y ∷ names) zero x e = (y, refl, cc, omega arith)
-named (y ∷ names) (suc i) x e = let h = named names i x e in (h.0, h.1, h.2, omega (arith, h.3))
+  left_of_two : (o : _) (a b : Tree) → Closed env goal (two o a b) → Closed env goal a
+  left_of_two o a b c = next (two o a b) a c (contains_of (follow (two o a b)) a (here _ _))
 
-length-map : (names : List (List ℕ)) → length (map of_context names) ≡ length names
-length-map [] = refl
-length-map (x ∷ names) = omega (arith, length-map names)
+  right_of_two : (o : _) (a b : Tree) → Closed env goal (two o a b) → Closed env goal b
+  right_of_two o a b c = next (two o a b) b c (contains_of (follow (two o a b)) b (there _ _ _ (here _ _)))
+
+-- ---- kinds of atoms
+
+bool_of : (t : Tree) (y : Sort-F _) → out-Sort (tree_sort t) ≡ y → is_bool_in y ≡ true → is_bool t ≡ true
+bool_of t y e f = rw e f
+
+atom_of : (t : Tree) → is_bool t ≡ true → is_opposite t ≡ false → is_atom t ≡ true
+atom_of t e f = rw (e, f) refl
+
+no_atom : (t : Tree) (y : Sort-F _) → out-Sort (tree_sort t) ≡ y → is_bool_in y ≡ false → is_atom t ≡ true → ⊥
+no_atom t y e f g = absurd (let none : is_atom t ≡ false = rw (e, f) refl in cc)
 
 -- ---- principal and resource
 
-val_Principal : (w : World) → val Principal w ≡ value.Entity w.request.principal
-unfolding val
-val_Principal w = ap (λ x. val x w) (sym rolls-Principal) ∙ ap (λ f. f w) (fold-roll-Term Denotation val_step t.Principal)
+abbrev entity_held : Value-F Value → List ℕ
+entity_held (v.Entity u) = u.id
+entity_held _ = []
 
-val_Resource : (w : World) → val Resource w ≡ value.Entity w.request.resource
-unfolding val
-val_Resource w = ap (λ x. val x w) (sym rolls-Resource) ∙ ap (λ f. f w) (fold-roll-Term Denotation val_step t.Resource)
+same_id : (a b : Uid) → value.Entity a ≡ value.Entity b → a.id ≡ b.id
+same_id a b e = ap entity_held (sym (out_Entity a) ∙ ap out-Value e ∙ out_Entity b)
 
-val_Eq : (x y : Term) (w : World) → val (Eq x y) w ≡ value.Bool (is_same_entity (out-Value (val x w)) (out-Value (val y w)))
-unfolding val
-val_Eq x y w = ap (λ z. val z w) (sym (rolls-Eq x y)) ∙ ap (λ f. f w) (fold-roll-Term Denotation val_step (t.Eq x y))
+tied : (x y : Value) (o : Ordering) → value_cmp x y ≡ o → is_eq o ≡ true → x ≡ y
+tied x y Less e f = absurd cc
+tied x y Level e f = (value_cmp_level x y).0 e
+tied x y Greater e f = absurd cc
 
--- whether principal and resource are one is what their uids tell
-is_true_Eq : (w : World) → is_true (Eq Principal Resource) w ≡ uid_eq w.request.principal w.request.resource
-is_true_Eq w =
-    let of_principal : out-Value (val Principal w) ≡ out-Value (value.Entity w.request.principal) = ap out-Value (val_Principal w) in
-    let of_resource : out-Value (val Resource w) ≡ out-Value (value.Entity w.request.resource) = ap out-Value (val_Resource w) in
-    ap (λ x. truth_in (out-Value x)) (val_Eq Principal Resource w)
-    ∙ ap truth_in (out_Bool (is_same_entity (out-Value (val Principal w)) (out-Value (val Resource w))))
-    ∙ (λ i. is_same_entity ((of_principal ∙ out_Entity w.request.principal) i) ((of_resource ∙ out_Entity w.request.resource) i))
+not_tied : (x y : Value) (b : Bool) → value_eq x y ≡ b → (x ≡ y → ⊥) → b ≡ false
+not_tied x y true e h = absurd (h (tied x y (value_cmp x y) refl e))
+not_tied x y false e h = refl
 
--- the entities 0 and 0 are one, and 0 and 1 are two
-same_number : (one b : Bool) → one ≡ true → one && bytes_eq (decimal 0) (decimal (if one && not b then 1 else 0)) ≡ b
+zero_is_not_one : decimal 0 ≡ decimal 1 → ⊥
 unfolding digits
-same_number true true e = refl
-same_number true false e = refl
-same_number false b e = absurd cc
+zero_is_not_one e = absurd (let first : 48 ≡ 49 = ap (λ (bs : List ℕ). get bs) e in omega (arith, first)) where
+  get : List ℕ → ℕ
+  get [] = 0
+  get (b ∷ bs) = b
 
-one_entity : (p : Posed) (m : Assignment) (w : World) → w.request ≡ rebuilt_request p m → is_one_type p.env ≡ true → is_true (Eq Principal Resource) w ≡ truth_at m 2
-one_entity p m w is one = is_true_Eq w ∙ ap (λ (r : Request). uid_eq r.principal r.resource) is ∙ same_number (is_one_type p.env) (truth_at m 2) one
+-- they are one where the number is the same, and two where it isn't
+same_number : (n k : List ℕ) (one b : Bool) → n ≡ k → one ≡ true → value_eq (value.Entity (nameless n 0)) (value.Entity (nameless k (cond (one && not b) 1 0))) ≡ b
+same_number n k true true e f = ap is_eq ((value_cmp_level (value.Entity (nameless n 0)) (value.Entity (nameless k 0))).1 (ap (λ (x : List ℕ). value.Entity (nameless x 0)) e))
+same_number n k true false e f =
+    not_tied (value.Entity (nameless n 0)) (value.Entity (nameless k 1)) (value_eq (value.Entity (nameless n 0)) (value.Entity (nameless k 1))) refl
+    (λ g. zero_is_not_one (same_id (nameless n 0) (nameless k 1) g))
+same_number n k false b e f = absurd cc
 
--- ---- the atoms
+-- what is known of a problem: its first atom is `true`, and of which kind its closed terms are
+pub record IsKnown (p : Posed) : Type 0 where
+  pub first : numbered (atoms p) 1 ≡ Some (truth_term true)
+  pub kinds : (t : Tree) → Contains (closed_terms p) t → IsOfGoal p.env (context_of p.schema p.env.action) t
 
-truth-of : (m : Assignment) (k : ℕ) (names : List (List ℕ)) (i : ℕ) (name : List ℕ) (w : World) → w.request.context ≡ fields_from m k names → IsStrictlySortedBy text_cmp names → slice_get names i ≡ Some name → is_true (of_context name) w ≡ truth_at m (k + i)
-truth-of m k names i name w c s e =
-    ap (λ x. truth_in (out-Value x)) (val_of_context name w ∙ ap (λ o. unwrap_or o (value.Bool false)) (ap (field name) c ∙ field-at m k names i name s e))
-    ∙ ap truth_in (out_Bool (truth_at m (k + i)))
+-- ---- the rebuilt world
 
-abbrev numbered : List Term → ℕ → Option Term
-numbered xs n = cond (n == 0) None (slice_get xs (n - 1))
+module _ (level : IsLevel) (p : Posed) (posed : IsPosed p) (known : IsKnown p) (m : Assignment) (hold : AllHold (truth_at m) (defining p)) (w : World) (request : w.request ≡ rebuilt_request p m) where
+  abbrev type_of_context : Option Ty
+  type_of_context = context_of p.schema p.env.action
 
-numbered-suc : (xs : List Term) (k : ℕ) → numbered xs (suc k) ≡ slice_get xs k
-numbered-suc xs k =
-    let test : (suc k == 0) ≡ false = grind (arith, nat_tests) in
-    let place : suc k - 1 ≡ k = omega arith in
-    rw (test, place) refl
+  abbrev IsClosed : Tree → Type 0
+  IsClosed t = Closed p.env (goal_term p) t
 
-abbrev IsTotal : Assignment → List Term → Type 0
-IsTotal m xs = (n : ℕ) → 1 ≤ n → n ≤ length xs → IsSome (value_of m n)
+  -- the truth that the literal of a term is assigned
+  abbrev assigned_truth : Tree → Bool
+  assigned_truth t = holds (truth_at m) (literal_in p t)
 
-abbrev AreTruths : Assignment → World → List Term → Type 0
-AreTruths m w xs = (n : ℕ) (x : Term) → numbered xs n ≡ Some x → value_of m n ≡ Some (is_true x w)
+  abbrev Says : Tree → Type 0
+  Says t = seen (val t w) ≡ Some (assigned_truth t)
 
-module _ (m : Assignment) (names : List (List ℕ)) (w : World) (first : value_of m 1 ≡ Some true) (ascend : IsStrictlySortedBy text_cmp names) where
-  is-true : (x : Term) → True ≡ x → value_of m 1 ≡ Some (is_true x w)
-  is-true x same = first ∙ ap Some (sym (subst (λ y. is_true y w ≡ true) same (is_true_True w)))
+  atom_truth : (t : Tree) → is_opposite t ≡ false → assigned_truth t ≡ truth_at m (atom_number p t)
+  atom_truth t e = ap (holds (truth_at m)) (literal_of_atom (atom_number p) t e) ∙ positive_truth (truth_at m (atom_number p t)) where
+    positive_truth : (b : Bool) → bool_eq b true ≡ b
+    positive_truth true = refl
+    positive_truth false = refl
 
-  -- what the second atom tells where it tells whether principal and resource are one
-  is-one : (x : Term) → Eq Principal Resource ≡ x → IsSome (value_of m 2) → is_true (Eq Principal Resource) w ≡ truth_at m 2 → value_of m 2 ≡ Some (is_true x w)
-  is-one x same some truth = valued (value_of m 2) some ∙ ap Some (sym (subst (λ y. is_true y w ≡ truth_at m 2) same truth))
+  -- ---- constants
 
-  is-field : (k i n : ℕ) (x : Term) → k + i ≡ n → w.request.context ≡ fields_from m k names → IsSome (value_of m n) → slice_get (map of_context names) i ≡ Some x → value_of m n ≡ Some (is_true x w)
-  is-field k i n x number c some at =
-      let h = named names i x at in
-      valued (value_of m n) some ∙ ap Some (ap (truth_at m) (sym number) ∙ sym (truth-of m k names i h.0 w c ascend h.1) ∙ ap (λ y. is_true y w) (sym h.2))
+  first_true : truth_at m 1 ≡ true
+  first_true = ap (truth_at m) (sym (truth_first level p posed known.first)) ∙ sym (atom_truth (truth_term true) refl) ∙ truth_holds p (truth_at m) hold (truth_listed level p posed known.first)
 
-  just-true : AreTruths m w (True ∷ [])
-  just-true zero x e = absurd cc
-  just-true (suc zero) x e = is-true x cc
-  just-true (suc (suc i)) x e = absurd (let n = sym (numbered-suc (True ∷ []) (suc i)) ∙ e in cc)
+  says_truth : (b : Bool) → Says (truth_term b)
+  unfolding val literal
+  says_truth true = seen_yes true ∙ ap Some (sym (atom_truth (truth_term true) refl ∙ ap (truth_at m) (truth_first level p posed known.first) ∙ first_true))
+  says_truth false = seen_yes false ∙ ap Some (sym (ap (λ b. bool_eq b false) first_true))
 
-  true-and-one : IsTotal m (True ∷ Eq Principal Resource ∷ []) → is_true (Eq Principal Resource) w ≡ truth_at m 2 → AreTruths m w (True ∷ Eq Principal Resource ∷ [])
-  true-and-one total truth zero x e = absurd cc
-  true-and-one total truth (suc zero) x e = is-true x cc
-  true-and-one total truth (suc (suc zero)) x e =
-      is-one x (let n = sym (numbered-suc (True ∷ Eq Principal Resource ∷ []) (suc zero)) ∙ e in cc) (total 2 (omega arith) (omega arith)) truth
-  true-and-one total truth (suc (suc (suc i))) x e = absurd (let n = sym (numbered-suc (True ∷ Eq Principal Resource ∷ []) (suc (suc i))) ∙ e in cc)
+  -- ---- attributes
 
-  with-fields : w.request.context ≡ fields_from m 2 names → IsTotal m (True ∷ map of_context names) → AreTruths m w (True ∷ map of_context names)
-  with-fields c total zero x e = absurd cc
-  with-fields c total (suc zero) x e = is-true x (let n = sym (numbered-suc (True ∷ map of_context names) zero) ∙ e in cc)
-  with-fields c total (suc (suc i)) x e =
-      let at : slice_get (map of_context names) i ≡ Some x = sym (numbered-suc (True ∷ map of_context names) (suc i)) ∙ e in
-      let h = named names i x at in
-      is-field 2 i (suc (suc i)) x (omega arith) c (total (suc (suc i)) (omega arith) (omega (arith, length-map names, h.3))) at
+  context_is : (type : Ty) (fields : List Field) → type_of_context ≡ Some type → plain_fields type ≡ Some fields → w.request.context ≡ assigned p m type fields
+  context_is type fields e f = ap (λ (r : Request). r.context) request ∙ ap (context_of_type p m) e ∙ ap (context_by p m type) f
 
-  one-and-fields : w.request.context ≡ fields_from m 3 names → is_true (Eq Principal Resource) w ≡ truth_at m 2 → IsTotal m (True ∷ Eq Principal Resource ∷ map of_context names)
-      → AreTruths m w (True ∷ Eq Principal Resource ∷ map of_context names)
-  one-and-fields c truth total zero x e = absurd cc
-  one-and-fields c truth total (suc zero) x e = is-true x (let n = sym (numbered-suc (True ∷ Eq Principal Resource ∷ map of_context names) zero) ∙ e in cc)
-  one-and-fields c truth total (suc (suc zero)) x e =
-      is-one x (let n = sym (numbered-suc (True ∷ Eq Principal Resource ∷ map of_context names) (suc zero)) ∙ e in cc) (total 2 (omega arith) (omega arith)) truth
-  one-and-fields c truth total (suc (suc (suc i))) x e =
-      let at : slice_get (map of_context names) i ≡ Some x = sym (numbered-suc (True ∷ Eq Principal Resource ∷ map of_context names) (suc (suc i))) ∙ e in
-      let h = named names i x at in
-      is-field 3 i (suc (suc (suc i))) x (omega arith) c (total (suc (suc (suc i))) (omega arith) (omega (arith, length-map names, h.3))) at
+  says_attribute : (type : Ty) (fields : List Field) (name : List ℕ) → type_of_context ≡ Some type → plain_fields type ≡ Some fields → Contains (names_of fields) name → Says (attribute_term type name)
+  unfolding val
+  says_attribute type fields name e f h =
+      let told = field_told (λ (n : List ℕ). truth_at m (atom_number p (attribute_term type n))) fields name (has_of _ name h) in
+      field_seen_as name w.request.context (truth_at m (atom_number p (attribute_term type name))) (ap (field name) (context_is type fields e f) ∙ told)
+      ∙ ap Some (sym (atom_truth (attribute_term type name) refl))
 
-  others : (one : Bool) → (one ≡ true → is_true (Eq Principal Resource) w ≡ truth_at m 2) → IsTotal m (True ∷ equalities one) → AreTruths m w (True ∷ equalities one)
-  others true truth total = true-and-one total (truth refl)
-  others false truth total = just-true
+  -- ---- connectives
 
-  fields : (one : Bool) → (one ≡ true → is_true (Eq Principal Resource) w ≡ truth_at m 2) → w.request.context ≡ fields_from m (first_field one) names → IsTotal m (True ∷ (equalities one ++ map of_context names))
-      → AreTruths m w (True ∷ (equalities one ++ map of_context names))
-  fields true truth c total = one-and-fields c (truth refl) total
-  fields false truth c total = with-fields c total
+  says_not : (a : Tree) → Says a → Says (one Not a)
+  unfolding val literal
+  says_not a h = not_seen_as (val a w) (assigned_truth a) h ∙ ap Some (sym (holds_negation (truth_at m) (literal_in p a)))
 
-  by-goal : (one : Bool) (g : Term-F Term) → (one ≡ true → is_true (Eq Principal Resource) w ≡ truth_at m 2) → ((x : Term) (name : List ℕ) → g ≡ t.Field x name → w.request.context ≡ fields_from m (first_field one) names)
-      → IsTotal m (atoms_under one names g) → AreTruths m w (atoms_under one names g)
-  by-goal one (t.Field y name) truth c total = fields one truth (c y name refl) total
-  by-goal one t.True truth c total = others one truth total
-  by-goal one t.False truth c total = others one truth total
-  by-goal one t.Principal truth c total = others one truth total
-  by-goal one t.Resource truth c total = others one truth total
-  by-goal one t.Context truth c total = others one truth total
-  by-goal one (t.Eq y z) truth c total = others one truth total
+  two_atom : (o : _) (a b : Tree) → IsBoolean type_of_context (two o a b) → IsClosed (two o a b) → Has (atoms p) (two o a b)
+  two_atom o a b h c = listed level p posed (two o a b) c (atom_of (two o a b) (bool_of (two o a b) s.Bool (sort_truth type_of_context (two o a b) h) refl) refl)
 
-some-atom : (one : Bool) (names : List (List ℕ)) (g : Term-F Term) → 1 ≤ length (atoms_under one names g)
-some-atom one names t.True = omega arith
-some-atom one names t.False = omega arith
-some-atom one names t.Principal = omega arith
-some-atom one names t.Resource = omega arith
-some-atom one names t.Context = omega arith
-some-atom one names (t.Eq y z) = omega arith
-some-atom one names (t.Field y name) = omega arith
+  says_two : (o : _) (a b : Tree) → IsBoolean type_of_context a → IsBoolean type_of_context b → IsClosed (two o a b) → Says a → Says b → Says (two o a b)
+  unfolding val
+  says_two And a b h k c x y =
+      and_seen_as (val a w) (val b w) (assigned_truth a) (assigned_truth b) x y
+      ∙ ap Some (sym (table_says (truth_at m) (λ t u. t && u) (literal_in p (two And a b)) (literal_in p a) (literal_in p b) (and_holds p (truth_at m) hold a b (two_atom And a b (of_two And a b h k) c))))
+  says_two Or a b h k c x y =
+      or_seen_as (val a w) (val b w) (assigned_truth a) (assigned_truth b) x y
+      ∙ ap Some (sym (table_says (truth_at m) (λ t u. t || u) (literal_in p (two Or a b)) (literal_in p a) (literal_in p b) (or_holds p (truth_at m) hold a b (two_atom Or a b (of_two Or a b h k) c))))
+  says_two Equal a b h k c x y =
+      equal_seen_as (val a w) (val b w) (assigned_truth a) (assigned_truth b) x y
+      ∙ ap Some (sym (table_says (truth_at m) bool_eq (literal_in p (two Equal a b)) (literal_in p a) (literal_in p b)
+      (equal_holds p (truth_at m) hold a b (two_atom Equal a b (of_two Equal a b h k) c) (bool_of a s.Bool (sort_truth type_of_context a h) refl))))
 
--- the atom of `true` is true
-pub first-atom : (p : Posed) (m : Assignment) → IsConsistent p m → value_of m 1 ≡ Some true
-first-atom p m c = first-true (value_of m 1) (c.total 1 (omega arith) (some-atom (is_one_type p.env) (context_names p.schema p.env) (out-Term p.goal))) c.defined.0
+  -- a closed term of the fragment has the truth that its literal is assigned
+  says : (t : Tree) → IsBoolean type_of_context t → IsClosed t → Says t
+  says _ (of_truth b) c = says_truth b
+  says _ (of_attribute type fields name e f h) c = says_attribute type fields name e f h
+  says _ (of_not a h) c = says_not a (says a h (part_of_not p.env (goal_term p) a c))
+  says _ (of_two o a b h k) c =
+      says_two o a b h k c (says a h (left_of_two p.env (goal_term p) o a b c)) (says b k (right_of_two p.env (goal_term p) o a b c))
 
-context-of : (p : Posed) (m : Assignment) (w : World) → w.request ≡ rebuilt_request p m → (y : Term-F Term) → out-Term p.goal ≡ y → (x : Term) (name : List ℕ) → y ≡ t.Field x name
-    → w.request.context ≡ fields_from m (first_field (is_one_type p.env)) (context_names p.schema p.env)
-context-of p m w is y at x name same = ap (λ (r : Request). r.context) is ∙ ap (context_under p m) (at ∙ same)
+  -- ---- whether principal and resource are one
 
-pub rebuilt-truths : (p : Posed) (m : Assignment) (w : World) → w.request ≡ rebuilt_request p m → IsConsistent p m → IsStrictlySortedBy text_cmp (context_names p.schema p.env) → HasTruths p m w
-rebuilt-truths p m w is c s =
-    by-goal m (context_names p.schema p.env) w (first-atom p m c) s (is_one_type p.env) (out-Term p.goal) (one_entity p m w is) (context-of p m w is (out-Term p.goal) refl) c.total
+  says_one : p.env.principal ≡ p.env.resource → Says (two Equal (principal_term p.env) (resource_term p.env))
+  unfolding val
+  says_one e =
+      let same : bytes_eq p.env.principal p.env.resource ≡ true = (bytes_eq-Decides p.env.principal p.env.resource).1 e in
+      one_entity_seen w.request.principal w.request.resource
+      ∙ ap Some
+      (ap (λ (r : Request). value_eq (value.Entity r.principal) (value.Entity r.resource)) request
+      ∙ same_number p.env.principal p.env.resource (bytes_eq p.env.principal p.env.resource) (truth_at m (one_entity p)) e same
+      ∙ ap (λ (t : Tree). truth_at m (atom_number p t)) (one_entity_is p.env)
+      ∙ sym (atom_truth (two Equal (principal_term p.env) (resource_term p.env)) refl)
+      )
+
+  says_kind : (t : Tree) → IsOfGoal p.env type_of_context t → IsClosed t → is_atom t ≡ true → Says t
+  says_kind _ (of_boolean t h) c a = says t h c
+  says_kind _ of_principal c a = absurd (no_atom (principal_term p.env) (s.Entity p.env.principal []) (sort_principal p.env) refl a)
+  says_kind _ of_resource c a = absurd (no_atom (resource_term p.env) (s.Entity p.env.resource []) (sort_resource p.env) refl a)
+  says_kind _ (of_context type fields e f) c a = absurd (no_atom (context_term type) _ (sort_context type fields (are_plain type fields f).is) refl a)
+  says_kind _ (of_entities e) c a = says_one e
+
+  -- ---- all listed atoms
+
+  number_truth : (n : ℕ) (t : Tree) → numbered (atoms p) n ≡ Some t → Has (atoms p) t → atom_number p t ≡ n → truth_at m n ≡ truths p w n
+  number_truth n t at h number =
+      let (c, a) = atom_closed level p posed t h in
+      let kind = known.kinds t ((posed.are_closed.just t).1 c) in
+      ap (truth_at m) (sym number) ∙ sym (atom_truth t (atom_is_plain level p posed t a)) ∙ sym (truth_seen (val t w) (assigned_truth t) (says_kind t kind c a)) ∙ sym (ap (λ (o : Option Tree). is_true_at o w) at)
+
+  there_is : {X : Type 0} (xs : List X) (i : ℕ) → i < length xs → (x : X) × (slice_get xs i ≡ Some x)
+  there_is [] i lt = absurd (omega arith)
+  there_is (x ∷ xs) zero lt = (x, refl)
+  there_is (x ∷ xs) (suc i) lt = there_is xs i (omega arith)
+
+  pub truths_are : (n : ℕ) → 1 ≤ n → n ≤ length (atoms p) → truth_at m n ≡ truths p w n
+  truths_are zero least most = absurd (omega arith)
+  truths_are (suc i) least most =
+      let (t, e) = there_is (atoms p) i (omega arith) in
+      let place : suc i - 1 ≡ i = omega arith in
+      let at : numbered (atoms p) (suc i) ≡ Some t = rw (eqb-suc-zero i, place) e in
+      number_truth (suc i) t at (of_get (atoms p) i t e) (number_at level p posed t i e)
+
+  -- the goal is true
+  pub goal_is_true : is_true (goal_term p) w ≡ true
+  goal_is_true = truth_seen (val (goal_term p) w) (assigned_truth (goal_term p)) (says (goal_term p) posed.boolean of_goal) ∙ goal_holds p (truth_at m) hold

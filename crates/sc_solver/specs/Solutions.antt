@@ -1,28 +1,20 @@
 -- What an answer of the solver means.
-use Rattle.std.specs.Prelude.{◌≡◌, ◌≤◌, ℕ, length, true, ⊤}
-use Rattle.sc_checker.specs.Truths.{IsUnsatisfiable}
-use Rattle.sc_checker.specs.Verdicts.{IsAccepted}
-use Rattle.sc_footprint.specs.declared.term.Term.{Term, Term-F}
-use Rattle.sc_footprint.specs.declared.term.Term.TheOpen as t
+use Rattle.std.specs.Prelude.{◌≤◌, ℕ, length}
 use Rattle.sc_footprint.specs.Problems.{Posed}
-use Rattle.sc_footprint.specs.Terms.{is_true}
-use Rattle.sc_world.specs.declared.world.World.{World}
-use Rattle.sc_world.specs.WellFormed.{IsWellFormed}
+use Rattle.sc_footprint.specs.Truths.{Satisfies, IsUnsatisfiable}
+use Rattle.sc_checker.specs.Verdicts.{Rules, IsAccepted}
+use Rattle.th_defs.specs.Instances.{is_definition, definition_clause}
 use Rattle.sc_solver.specs.declared.solving.Solved.{Solved}
-use Rattle.sc_solver.specs.declared.solving.Solved.TheVariants.{Refuted, Violated}
+use Rattle.sc_solver.specs.declared.solving.Solved.TheVariants.{Refuted, Violated, Spent}
+use Rattle.sc_solver.specs.Units.{IsSpent}
 
--- a well-formed world in which the goal is true
-pub record Satisfies (p : Posed) (w : World) : Type 0 where
-  pub well_formed : IsWellFormed p.schema p.env p.literals w
-  pub goal_true : is_true p.goal w ≡ true
+-- the rules of a problem: its defining clauses but the goal's, and so far no others
+abbrev pub rules_of : Posed → Rules
+rules_of p = record { accepts = is_definition p; clause_of = definition_clause p }
 
--- the goal is a field
-abbrev pub IsField : Term-F Term → Type 0
-IsField (t.Field x name) = ⊤
-IsField _ = ⊥
-
--- an accepted log of at most so many steps, so that the goal is true in no well-formed world; or a well-formed world in
--- which it is
+-- an accepted log of at most so many steps, so that the goal is true in no well-formed world; a well-formed world in which it is; or a
+-- log of as many units as the budget
 abbrev pub IsSolution : Posed → ℕ → Solved → Type 0
-IsSolution p budget (Refuted log) = IsAccepted p log × (length log ≤ budget) × IsUnsatisfiable p
+IsSolution p budget (Refuted log) = IsAccepted (rules_of p) p log × (length log ≤ budget) × IsUnsatisfiable p
 IsSolution p budget (Violated w) = Satisfies p w
+IsSolution p budget (Spent log) = IsSpent (rules_of p) p budget log

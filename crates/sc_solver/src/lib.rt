@@ -1,12 +1,19 @@
-//! Solves a problem: a log that refutes its goal, or a well-formed world in which the goal is true.
+//! The solver: of a problem it finds a log that refutes its goal, or a well-formed world in which
+//! the goal is true, or it spends its budget.
 #![tactic(auto)]
 
+mod context;
+mod entities;
 #[cfg(test)]
 mod people_tests;
 mod rebuilding;
+mod rules;
 mod solving;
+mod source;
 #[cfg(test)]
 mod tests;
+mod truth;
 
 pub use rebuilding::rebuild;
+pub use rules::Rules;
 pub use solving::{Solved, solve};

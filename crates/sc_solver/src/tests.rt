@@ -1,20 +1,22 @@
-//! What the solver finds of a schema with one environment, whose context has the Booleans `a` and
-//! `b`.
+//! What the solver finds of a schema with one environment, whose context has the truth values `a`
+//! and `b`.
 #![tactic(auto, using(crate::proofs::SampleLaws::sample_laws))]
 
-ghost use Rattle.std.specs.Prelude.{◌≡◌, ◌∷◌, [], None, IfOk, IsTrue, Contains, codes};
-ghost use Rattle.sc_footprint.specs.declared.term.Term.TheVariants.{Context, Field};
-ghost use Rattle.sc_schema.specs.declared.ty.Ty.TheVariants.{Record};
-ghost use Rattle.sc_footprint.specs.Problems.{is_goal};
-ghost use Rattle.sc_schema.specs.Declarations.{environments};
-ghost use Rattle.sc_schema.specs.Plain.{action_type, bool_field, bool_record, plain_action};
+ghost use Rattle.std.specs.Prelude.{◌≡◌, ◌≤◌, ◌∷◌, [], Contains, IfOk, codes, length};
+ghost use Rattle.sc_footprint.specs.Problems.{atoms, most_atoms};
+ghost use Rattle.sc_schema.specs.Plain.{bool_record, plain_type};
+ghost use Rattle.sc_solver.specs.Samples.{view_names, view_type, view, documents, view_env, IsGoal};
+ghost use Rattle.sc_sorts.specs.OfTypes.{sort_of as sort_of_type};
+ghost use Rattle.sc_terms.specs.Tables.{Keeps};
 
-use crate::{Solved, solve};
+use crate::{Rules, Solved, solve};
 use sc_checker::{Verdict, check};
-use sc_footprint::{Problem, Term, close};
-use sc_lists::{Boxed, Seq, Text};
+use sc_footprint::{Problem, close};
+use sc_lists::{Seq, Text};
 use sc_names::{Lits, Name, Uid};
 use sc_schema::{Action, EntityType, Env, Presence, Schema, Ty};
+use sc_sorts::{Sort, sort_of};
+use sc_terms::Terms;
 use sc_values::Value;
 use sc_world::World;
 use std::alloc::{AllocError, Global};
@@ -44,7 +46,7 @@ pub(crate) fn names(alloc: Global, text: &str) -> Result<Seq<Name>, AllocError>
 }
 
 fn bare_type(alloc: Global, text: &str) -> Result<EntityType, AllocError>
-    ensures { IfOk result (λ t. t ≡ record { name = text.now; ancestors = []; shape = Record []; tags = None }) }
+    ensures { IfOk result (λ t. t ≡ plain_type text.now) }
 {
     Ok(EntityType {
         name: name(alloc, text)?,
@@ -54,8 +56,8 @@ fn bare_type(alloc: Global, text: &str) -> Result<EntityType, AllocError>
     })
 }
 
-fn context(alloc: Global) -> Result<Ty, AllocError>
-    ensures { IfOk result (λ t. t ≡ bool_record (codes "a" ∷ codes "b" ∷ [])) }
+fn context_type(alloc: Global) -> Result<Ty, AllocError>
+    ensures { IfOk result (λ t. t ≡ view_type) }
 {
     let mut fields = Seq::new(alloc);
     fields.push((Text::from_str(alloc, "a")?, Presence::Required, Ty::Bool))?;
@@ -64,19 +66,19 @@ fn context(alloc: Global) -> Result<Ty, AllocError>
 }
 
 fn action(alloc: Global) -> Result<Action, AllocError>
-    ensures { IfOk result (λ a. a ≡ plain_action (codes "view") (codes "User") (codes "Doc") (codes "a" ∷ codes "b" ∷ [])) }
+    ensures { IfOk result (λ a. a ≡ view) }
 {
     Ok(Action {
         uid: uid(alloc, "Action", "view")?,
         ancestors: Seq::new(alloc),
         principals: names(alloc, "User")?,
         resources: names(alloc, "Doc")?,
-        context: context(alloc)?,
+        context: context_type(alloc)?,
     })
 }
 
 fn types(alloc: Global) -> Result<Seq<EntityType>, AllocError>
-    ensures { IfOk result (λ ts. ts ≡ record { name = codes "Doc"; ancestors = []; shape = Record []; tags = None } ∷ record { name = codes "User"; ancestors = []; shape = Record []; tags = None } ∷ []) }
+    ensures { IfOk result (λ ts. ts ≡ documents.types) }
 {
     let mut types = Seq::new(alloc);
     types.push(bare_type(alloc, "Doc")?)?;
@@ -85,7 +87,7 @@ fn types(alloc: Global) -> Result<Seq<EntityType>, AllocError>
 }
 
 fn one_action(alloc: Global) -> Result<Seq<Action>, AllocError>
-    ensures { IfOk result (λ xs. xs ≡ plain_action (codes "view") (codes "User") (codes "Doc") (codes "a" ∷ codes "b" ∷ []) ∷ []) }
+    ensures { IfOk result (λ xs. xs ≡ documents.actions) }
 {
     let mut actions = Seq::new(alloc);
     actions.push(action(alloc)?)?;
@@ -93,13 +95,13 @@ fn one_action(alloc: Global) -> Result<Seq<Action>, AllocError>
 }
 
 fn schema(alloc: Global) -> Result<Schema, AllocError>
-    ensures { IfOk result (λ s. s ≡ record { types = record { name = codes "Doc"; ancestors = []; shape = Record []; tags = None } ∷ record { name = codes "User"; ancestors = []; shape = Record []; tags = None } ∷ []; actions = plain_action (codes "view") (codes "User") (codes "Doc") (codes "a" ∷ codes "b" ∷ []) ∷ [] }) }
+    ensures { IfOk result (λ s. s ≡ documents) }
 {
     Schema::new(alloc, types(alloc)?, one_action(alloc)?)
 }
 
 fn env(alloc: Global) -> Result<Env, AllocError>
-    ensures { IfOk result (λ e. e ≡ record { principal = codes "User"; action = record { type_name = action_type; id = codes "view" }; resource = codes "Doc" }) }
+    ensures { IfOk result (λ e. e ≡ view_env) }
 {
     Ok(Env {
         principal: name(alloc, "User")?,
@@ -108,94 +110,282 @@ fn env(alloc: Global) -> Result<Env, AllocError>
     })
 }
 
-pub(crate) fn field_a(alloc: Global) -> Result<Term, AllocError>
-    ensures { IfOk result (λ t. t ≡ Field Context (codes "a")) }
-{
-    Ok(Term::Field(
-        Boxed::new(alloc, Term::Context)?,
-        Text::from_str(alloc, "a")?,
-    ))
+/// A goal, by its number in a table of terms.
+#[derive(Drop)]
+pub(crate) struct Goal {
+    pub(crate) terms: Terms,
+    pub(crate) number: u64,
 }
 
-/// The verdict on the log that refutes the goal of a problem.
-fn verdict_on(alloc: Global, problem: &Problem<'_>) -> Result<Option<Verdict>, AllocError>
-    requires environment { Contains (environments problem.now.schema) problem.now.env }
-    requires literals { problem.now.literals ≡ [] }
+fn context_sort(alloc: Global) -> Result<Sort, AllocError>
+    ensures { IfOk result (λ s. s ≡ sort_of_type view_type) }
 {
-    match solve(alloc, problem, 1)? {
-        Solved::Refuted(log) => Ok(Some(check(alloc, problem, &log)?)),
-        Solved::Violated(_) => Ok(None),
+    let context = context_type(alloc)?;
+    sort_of(alloc, &context)
+}
+
+/// An attribute of the context.
+fn attribute(alloc: Global, terms: &mut Terms, name: &str) -> Result<u64, AllocError>
+    requires { Contains view_names name.now }
+    ensures goal { IfOk result (λ n. IsGoal view_type terms.new n) }
+    ensures kept { Keeps terms.old terms.new }
+{
+    let context = terms.context(context_sort(alloc)?)?;
+    terms.field(context, Text::from_str(alloc, name)?, Sort::Bool)
+}
+
+fn not(terms: &mut Terms, term: u64) -> Result<u64, AllocError>
+    requires { IsGoal view_type terms.old term }
+    ensures goal { IfOk result (λ n. IsGoal view_type terms.new n) }
+    ensures kept { Keeps terms.old terms.new }
+{
+    terms.not(term)
+}
+
+fn equal(terms: &mut Terms, left: u64, right: u64) -> Result<u64, AllocError>
+    requires left { IsGoal view_type terms.old left }
+    requires right { IsGoal view_type terms.old right }
+    ensures goal { IfOk result (λ n. IsGoal view_type terms.new n) }
+    ensures kept { Keeps terms.old terms.new }
+{
+    terms.equal(left, right)
+}
+
+fn and(terms: &mut Terms, left: u64, right: u64) -> Result<u64, AllocError>
+    requires left { IsGoal view_type terms.old left }
+    requires right { IsGoal view_type terms.old right }
+    ensures { IfOk result (λ n. IsGoal view_type terms.new n) }
+{
+    terms.and(left, right)
+}
+
+fn falsity(terms: &mut Terms) -> Result<u64, AllocError>
+    ensures { IfOk result (λ n. IsGoal view_type terms.new n) }
+{
+    terms.truth(false)
+}
+
+/// Whether two goals are one and aren't.
+fn both_ways(terms: &mut Terms, left: u64, right: u64) -> Result<u64, AllocError>
+    requires left { IsGoal view_type terms.old left }
+    requires right { IsGoal view_type terms.old right }
+    ensures { IfOk result (λ n. IsGoal view_type terms.new n) }
+{
+    let other = not(terms, right)?;
+    let same = equal(terms, left, right)?;
+    let differ = equal(terms, left, other)?;
+    and(terms, same, differ)
+}
+
+fn goal_false(alloc: Global) -> Result<Goal, AllocError>
+    ensures { IfOk result (λ g. IsGoal view_type g.terms g.number) }
+{
+    let mut terms = Terms::new(alloc)?;
+    let number = falsity(&mut terms)?;
+    Ok(Goal { terms, number })
+}
+
+fn goal_a(alloc: Global) -> Result<Goal, AllocError>
+    ensures { IfOk result (λ g. IsGoal view_type g.terms g.number) }
+{
+    let mut terms = Terms::new(alloc)?;
+    let number = attribute(alloc, &mut terms, "a")?;
+    Ok(Goal { terms, number })
+}
+
+/// Both `a` and not `a`.
+fn goal_never(alloc: Global) -> Result<Goal, AllocError>
+    ensures { IfOk result (λ g. IsGoal view_type g.terms g.number) }
+{
+    let mut terms = Terms::new(alloc)?;
+    let a = attribute(alloc, &mut terms, "a")?;
+    let other = not(&mut terms, a)?;
+    let number = and(&mut terms, a, other)?;
+    Ok(Goal { terms, number })
+}
+
+/// `a` is `b`, and is not `b`.
+fn goal_both_ways(alloc: Global) -> Result<Goal, AllocError>
+    ensures { IfOk result (λ g. IsGoal view_type g.terms g.number) }
+{
+    let mut terms = Terms::new(alloc)?;
+    let a = attribute(alloc, &mut terms, "a")?;
+    let b = attribute(alloc, &mut terms, "b")?;
+    let number = both_ways(&mut terms, a, b)?;
+    Ok(Goal { terms, number })
+}
+
+/// Whether the checker accepts the log that refutes the goal.
+fn is_refuted(alloc: Global, problem: &Problem<'_>, budget: u64) -> Result<bool, AllocError>
+    requires few { length (atoms problem.now) ≤ most_atoms }
+    requires budget { budget ≤ 1000000000 }
+{
+    match solve(alloc, problem, budget)? {
+        Solved::Refuted(log) => {
+            let rules = Rules::new();
+            let verdict = check(alloc, &rules, problem, &log)?;
+            Ok(verdict == Verdict::Refuted)
+        }
+        Solved::Violated(_) => Ok(false),
+        Solved::Spent(_) => Ok(false),
     }
 }
 
-/// The world in which the goal of a problem is true.
-fn world_of(alloc: Global, problem: &Problem<'_>) -> Result<Option<World>, AllocError>
-    requires environment { Contains (environments problem.now.schema) problem.now.env }
-    requires literals { problem.now.literals ≡ [] }
+/// Whether the budget is spent on a log of as many steps.
+fn is_spent(alloc: Global, problem: &Problem<'_>, budget: u64) -> Result<bool, AllocError>
+    requires few { length (atoms problem.now) ≤ most_atoms }
+    requires budget { budget ≤ 1000000000 }
 {
-    match solve(alloc, problem, 1)? {
+    match solve(alloc, problem, budget)? {
+        Solved::Refuted(_) => Ok(false),
+        Solved::Violated(_) => Ok(false),
+        Solved::Spent(log) => Ok(log.steps().len() as u64 == budget),
+    }
+}
+
+/// The world in which the goal is true, if one is found.
+pub(crate) fn world_of(alloc: Global, problem: &Problem<'_>) -> Result<Option<World>, AllocError>
+    requires few { length (atoms problem.now) ≤ most_atoms }
+{
+    match solve(alloc, problem, 100)? {
         Solved::Refuted(_) => Ok(None),
         Solved::Violated(world) => Ok(Some(world)),
+        Solved::Spent(_) => Ok(None),
     }
 }
 
-fn verdict_of_false(
+/// Whether the goal is refuted, where at most so many steps are logged.
+fn refutes(
     alloc: Global,
     schema: &Schema,
     env: &Env,
-) -> Result<Option<Verdict>, AllocError>
-    requires environment { Contains (environments schema.now) env.now }
+    goal: Goal,
+    budget: u64,
+) -> Result<bool, AllocError>
+    requires schema { schema.now ≡ documents }
+    requires env { env.now ≡ view_env }
+    requires goal { IsGoal view_type goal.terms goal.number }
+    requires budget { budget ≤ 1000000000 }
 {
     let literals = Lits::new(alloc);
-    let problem = close(Term::False, schema, env, &literals);
-    verdict_on(alloc, &problem)
+    match close(alloc, goal.terms, goal.number, schema, env, &literals) {
+        Ok(problem) => is_refuted(alloc, &problem, budget),
+        Err(_) => Ok(false),
+    }
 }
 
-pub(crate) fn world_of_a(
+/// Whether the budget is spent on a goal.
+fn spends(
     alloc: Global,
     schema: &Schema,
     env: &Env,
+    goal: Goal,
+    budget: u64,
+) -> Result<bool, AllocError>
+    requires schema { schema.now ≡ documents }
+    requires env { env.now ≡ view_env }
+    requires goal { IsGoal view_type goal.terms goal.number }
+    requires budget { budget ≤ 1000000000 }
+{
+    let literals = Lits::new(alloc);
+    match close(alloc, goal.terms, goal.number, schema, env, &literals) {
+        Ok(problem) => is_spent(alloc, &problem, budget),
+        Err(_) => Ok(false),
+    }
+}
+
+/// The world in which a goal is true.
+fn world_where(
+    alloc: Global,
+    schema: &Schema,
+    env: &Env,
+    goal: Goal,
 ) -> Result<Option<World>, AllocError>
-    requires environment { Contains (environments schema.now) env.now }
-    requires goal { IsTrue (is_goal schema.now env.now (Field Context (codes "a"))) }
+    requires schema { schema.now ≡ documents }
+    requires env { env.now ≡ view_env }
+    requires goal { IsGoal view_type goal.terms goal.number }
 {
     let literals = Lits::new(alloc);
-    let problem = close(field_a(alloc)?, schema, env, &literals);
-    world_of(alloc, &problem)
+    match close(alloc, goal.terms, goal.number, schema, env, &literals) {
+        Ok(problem) => world_of(alloc, &problem),
+        Err(_) => Ok(None),
+    }
 }
 
-/// The verdict on the log that refutes the goal `false`.
-fn verdict_on_false(alloc: Global) -> Result<Option<Verdict>, AllocError> {
+fn refutes_false(alloc: Global) -> Result<bool, AllocError> {
     let schema = schema(alloc)?;
     let env = env(alloc)?;
-    verdict_of_false(alloc, &schema, &env)
+    let goal = goal_false(alloc)?;
+    refutes(alloc, &schema, &env, goal, 1)
 }
 
-/// The world in which `context.a` is true.
+fn refutes_never(alloc: Global) -> Result<bool, AllocError> {
+    let schema = schema(alloc)?;
+    let env = env(alloc)?;
+    let goal = goal_never(alloc)?;
+    refutes(alloc, &schema, &env, goal, 1)
+}
+
+fn refutes_both_ways(alloc: Global) -> Result<bool, AllocError> {
+    let schema = schema(alloc)?;
+    let env = env(alloc)?;
+    let goal = goal_both_ways(alloc)?;
+    refutes(alloc, &schema, &env, goal, 8)
+}
+
+fn spends_on_both_ways(alloc: Global) -> Result<bool, AllocError> {
+    let schema = schema(alloc)?;
+    let env = env(alloc)?;
+    let goal = goal_both_ways(alloc)?;
+    spends(alloc, &schema, &env, goal, 1)
+}
+
 fn world_with_a(alloc: Global) -> Result<Option<World>, AllocError> {
     let schema = schema(alloc)?;
     let env = env(alloc)?;
-    world_of_a(alloc, &schema, &env)
+    let goal = goal_a(alloc)?;
+    world_where(alloc, &schema, &env, goal)
 }
 
 #[test]
 fn false_is_refuted(rt: HostRuntime) -> Result<(), Fail> {
-    let verdict = verdict_on_false(rt.alloc())?;
-    assert!(rt; verdict == Some(Verdict::Refuted));
+    assert!(rt; refutes_false(rt.alloc())?);
     Ok(())
 }
 
-/// Whether the context has `a` true and `b` false.
-fn has_a_alone(context: &[(Text, Value)]) -> bool {
+#[test]
+fn contradiction_is_refuted_in_one_step(rt: HostRuntime) -> Result<(), Fail> {
+    assert!(rt; refutes_never(rt.alloc())?);
+    Ok(())
+}
+
+#[test]
+fn two_cases_are_refuted_in_a_few_steps(rt: HostRuntime) -> Result<(), Fail> {
+    assert!(rt; refutes_both_ways(rt.alloc())?);
+    Ok(())
+}
+
+#[test]
+fn one_step_is_spent_on_two_cases(rt: HostRuntime) -> Result<(), Fail> {
+    assert!(rt; spends_on_both_ways(rt.alloc())?);
+    Ok(())
+}
+
+/// Whether the context has the truth values `a` and `b`, and `a` is true.
+fn has_a(context: &[(Text, Value)]) -> bool {
     match context {
-        [a, b] => is_field(a, "a", true) && is_field(b, "b", false),
+        [a, b] => is_field(a, "a") && is_true(&a.1) && is_field(b, "b"),
         _ => false,
     }
 }
 
-fn is_field(field: &(Text, Value), name: &str, truth: bool) -> bool {
-    match &field.1 {
-        Value::Bool(b) => field.0.as_str() == name && *b == truth,
+fn is_field(field: &(Text, Value), name: &str) -> bool {
+    field.0.as_str() == name
+}
+
+fn is_true(value: &Value) -> bool {
+    match value {
+        Value::Bool(b) => *b,
         _ => false,
     }
 }
@@ -209,11 +399,11 @@ fn stores_its_request(world: &World) -> bool {
 }
 
 #[test]
-fn world_of_a_field(rt: HostRuntime) -> Result<(), Fail> {
+fn world_of_an_attribute(rt: HostRuntime) -> Result<(), Fail> {
     let Some(world) = world_with_a(rt.alloc())? else {
-        panic!(rt; "the goal is refuted");
+        panic!(rt; "no world is found");
     };
-    assert!(rt; has_a_alone(world.request.context.as_slice()));
+    assert!(rt; has_a(world.request.context.as_slice()));
     assert!(rt; stores_its_request(&world));
     Ok(())
 }

@@ -1,25 +1,24 @@
-use Rattle.std.proofs.Common.{◌≡◌, subst, rules}
-use Rattle.sc_checker.specs.Truths.{IsUnsatisfiable}
-use Rattle.sc_footprint.specs.Problems.{Posed}
-use Rattle.sc_solver.specs.Solutions.{Satisfies}
-use Rattle.cedar_symcc.proofs.AnalysisLaws.{posed, refuted-holds, satisfied-violates, goal-posed}
+use Rattle.cedar_symcc.proofs.AnalysisLaws.{query-posed, query-problem, query-too-large, some-goal}
 use Rattle.cedar_symcc.proofs.analysing.analyse_env.Goals as goal
 
-pub close-problem-requires : goal.close-problem-requires
-close-problem-requires c = goal-posed c.args.schema.now c.args.env.now c.args.attribute.now c.in_ok-goal.goal c.requires.environment c.requires.served (search rules)
-
-pub returns-in-Refuted : goal.returns-in-Refuted
-returns-in-Refuted c =
+pub solved-requires-clause-problem : goal.solved-requires-clause-problem
+solved-requires-clause-problem c =
     let s = c.args.schema.now in
-    let o = c.args.attribute.now in
-    let is : c.close-problem.result ≡ posed s c.args.env.now o = cc (c.close-problem.ensures, c.new-literals.ensures, c.in_ok-goal.ensures) in
-    let solved = rw c.in-Refuted.is at c.in_ok-log.ensures in
-    refuted-holds s c.args.env.now o (subst IsUnsatisfiable is solved.2)
+    let env = c.args.env.now in
+    let q = c.args.query.now in
+    let posed = some-goal _ (query-posed c.goal_laws.ensures.posed c.goal_laws.ensures.both s env q c.requires.served c.requires.environment) in
+    query-problem s env q c.args.budget _ posed.0 c.laws.ensures c.laws-in-Ok.ensures posed.1 (c.in-Ok.ensures.ok posed.0 posed.1)
 
-pub returns : goal.returns
-returns c =
+pub solved-requires-clause-few : goal.solved-requires-clause-few
+solved-requires-clause-few c =
+    let posed = some-goal _ (query-posed c.goal_laws.ensures.posed c.goal_laws.ensures.both c.args.schema.now c.args.env.now c.args.query.now c.requires.served c.requires.environment) in
+    (c.in-Ok.ensures.ok posed.0 posed.1).within_limit
+
+pub returns-in-Err-Told : goal.returns-in-Err-Told
+returns-in-Err-Told c =
     let s = c.args.schema.now in
-    let o = c.args.attribute.now in
-    let is : c.close-problem.result ≡ posed s c.args.env.now o = cc (c.close-problem.ensures, c.new-literals.ensures, c.in_ok-goal.ensures) in
-    let solved = rw c.in-Violated.is at c.in_ok-log.ensures in
-    satisfied-violates s c.args.env.now o c.in-Violated.world (subst (λ (p : Posed). Satisfies p c.in-Violated.world) is solved)
+    let env = c.args.env.now in
+    let q = c.args.query.now in
+    let posed = some-goal _ (query-posed c.goal_laws.ensures.posed c.goal_laws.ensures.both s env q c.requires.served c.requires.environment) in
+    let refused = rw (c.in-Err-Told.is, c.in-Err-Told.field-0-is) at c.problem_of.ensures.err in
+    query-too-large s env q c.args.budget posed.0 posed.1 (refused posed.0 posed.1)

@@ -1,10 +1,10 @@
 use Rattle.std.proofs.Common.{◌≤◌}
+use Rattle.cedar_symcc.specs.Analyses.{asked_in}
 use Rattle.cedar_symcc.specs.Progress.{Progress}
-use Rattle.cedar_symcc.specs.Runs.{asked}
 use Rattle.cedar_symcc.proofs.reporting.report_all.Given as goal
 
 abbrev pub invariant-loop-env : goal.invariant-loop-env
 invariant-loop-env g l = record {
-  progress : Progress (asked l.inputs.schema l.inputs.attribute) l.envs l.env-index (g.O.Sink.written l.initial.out) (g.O.Sink.written l.out) l.found;
+  progress : Progress (asked_in l.inputs) l.envs l.env-index (g.O.Sink.written l.initial.out) (g.O.Sink.written l.out) l.tally;
   later : g.O.Sink.faults l.initial.out ≤ g.O.Sink.faults l.out;
 }

@@ -9,11 +9,11 @@ use Rattle.sc_inputs.proofs.reading.with_schema.Goals as goal
 pub returns-in-Ok-clause-reads : goal.returns-in-Ok-clause-reads
 returns-in-Ok-clause-reads g c = record {
   schema = c.in-Ok.ensures.schema;
-  policies = c.in-Ok.ensures.policies;
-  declared = c.in-Ok.ensures.declared;
-  typed = c.in-Ok.ensures.typed;
+  name = _;
+  task = cc (ap task_view c.in-Ask.is, c.in-Ok.ensures.question, c.in-Ok.ensures.budget);
+  policies_read = c.in-Ok.ensures.first;
+  others_read = c.in-Ok.ensures.second;
   served = c.in-Ok.ensures.served;
-  task = cc (ap task_view c.in-AlwaysDenies.is, c.in-Ok.ensures.budget);
 }
 
 pub returns-in-Err-clause-fails : goal.returns-in-Err-clause-fails
@@ -21,8 +21,8 @@ returns-in-Err-clause-fails g c =
     λ words serves reads.
     let content = g.F.Files.content c.args.files.now in
     let rose = Rose (g.F.Files.faults c.args.files.now) (g.F.Files.faults c.analysis_of.new.files) in
-    fails_so (RefusesAnalysis content c.args.command.now.policies.now rose c.args.schema) (IsRefusal content words rose)
-    (analysis_refused content words (served_view c.args.command.now) c.in-AlwaysDenies.budget rose c.args.schema (ap task_view c.in-AlwaysDenies.is) serves reads) c.in-Err.fault c.in-Err.ensures.fails
+    fails_so (RefusesAnalysis content c.args.command.now.policies.now _ rose c.args.schema) (IsRefusal content words rose)
+    (analysis_refused content words (served_view c.args.command.now) c.in-Ask.question _ c.in-Ask.budget rose c.args.schema (ap task_view c.in-Ask.is) serves reads) c.in-Err.fault c.in-Err.ensures.fails
 
 pub returns-in-Ok-scene_of-clause-reads : goal.returns-in-Ok-scene_of-clause-reads
 returns-in-Ok-scene_of-clause-reads g c = (c.in-Replay.world.now, ap task_view c.in-Replay.is, c.in-Ok-scene_of.ensures.reads)

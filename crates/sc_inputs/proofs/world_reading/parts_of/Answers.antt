@@ -1,6 +1,6 @@
 use Rattle.sc_outside.specs.Counts.{Rose}
 use Rattle.sc_inputs.specs.Readings.{RefusesScene, by_policies}
-use Rattle.sc_inputs.specs.Refusals.{RefusesPolicies}
+use Rattle.sc_inputs.specs.Refusals.{RefusesPolicies, policies_side}
 use Rattle.sc_inputs.proofs.ReadingLaws.{scene_later, world_later, rose_before, fails_so}
 use Rattle.sc_inputs.proofs.world_reading.parts_of.Goals as goal
 
@@ -18,5 +18,5 @@ pub returns-in-Err-clause-fails : goal.returns-in-Err-clause-fails
 returns-in-Err-clause-fails g c =
     let content = g.F.Files.content c.args.files.now in
     let rose = Rose (g.F.Files.faults c.args.files.now) (g.F.Files.faults c.policies_of.new.files) in
-    fails_so (RefusesPolicies content c.args.policies.now rose) (RefusesScene content c.args.policies.now c.args.world.now rose c.args.schema.now) (λ a h. by_policies a h)
+    fails_so (RefusesPolicies content c.args.policies.now policies_side rose) (RefusesScene content c.args.policies.now c.args.world.now rose c.args.schema.now) (λ a h. by_policies a h)
     c.in-Err.fault c.in-Err.ensures.fails

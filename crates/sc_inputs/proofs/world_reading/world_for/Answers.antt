@@ -1,16 +1,14 @@
 use Rattle.sc_outside.specs.Counts.{Rose}
-use Rattle.sc_inputs.specs.Readings.{IsUnknown, RefusesScene, by_world}
+use Rattle.sc_inputs.specs.Readings.{RefusesScene, by_world}
 use Rattle.sc_inputs.specs.Refusals.{RefusesWorld}
+use Rattle.std.proofs.Common.{Err}
 use Rattle.sc_inputs.proofs.ReadingLaws.{names_so, fails_so}
 use Rattle.sc_inputs.proofs.world_reading.world_for.Goals as goal
 
 pub returns-in-Err-check_declared-clause-fails : goal.returns-in-Err-check_declared-clause-fails
 returns-in-Err-check_declared-clause-fails g c =
     λ file has.
-    let content = g.F.Files.content c.args.files.now in
-    let rose = Rose (g.F.Files.faults c.args.files.now) (g.F.Files.faults c.world_of.new.files) in
-    fails_so (IsUnknown c.args.schema.now c.args.policies.now) (RefusesScene content file c.args.name.now rose c.args.schema.now)
-    (names_so content file c.args.name.now rose c.args.schema.now c.args.policies.now c.in-Ok.world has c.in-Ok.ensures.reads) c.in-Err-check_declared.fault c.in-Err-check_declared.ensures.fails
+    names_so (g.F.Files.content c.args.files.now) file c.args.name.now _ c.args.schema.now c.args.policies.now c.in-Ok.world has c.in-Ok.ensures.reads (Err c.in-Err-check_declared.fault) c.in-Err-check_declared.ensures
 
 pub returns-in-Err-clause-fails : goal.returns-in-Err-clause-fails
 returns-in-Err-clause-fails g c =

@@ -1,0 +1,2 @@
+pub mod DeclaredLaws
+pub mod LiteralLaws

@@ -1,0 +1,93 @@
+-- Terms that go with two: with entities alone, and the same in either order.
+use Rattle.std.proofs.Common.{◌≡◌, ℕ, Bool, true, false, cond, List, [], ◌∷◌, Option, Some, None, is_some, refl, sym, ap, subst, ◌∙◌}
+use Rattle.std.proofs.lemmas.Slice.Eq.{bytes_eq-Decides}
+use Rattle.std.specs.Cmp.{IsTotalOrder, both_ways}
+use Rattle.std.specs.Ordering.{is_eq, is_gt, ordering_reverse}
+use Rattle.std.specs.Str.{bytes_eq}
+use Rattle.std.specs.declared.cmp.Ordering.{Ordering}
+use Rattle.std.specs.declared.cmp.Ordering.TheVariants.{Less, Equal, Greater}
+use Rattle.sc_sorts.specs.declared.sort.Sort.{out-Sort, out-roll-Sort}
+use Rattle.sc_sorts.specs.declared.sort.Sort.TheVariants as sort
+use Rattle.sc_sorts.specs.declared.sort.Sort.TheVariants.{rolls-Bool}
+use Rattle.sc_sorts.specs.declared.sort.Sort.TheOpen as s
+use Rattle.sc_terms.specs.declared.node.Leaf.TheVariants as leafs
+use Rattle.sc_terms.specs.declared.node.Literal.TheVariants as literals
+use Rattle.sc_terms.specs.Trees.{Tree, leaf, one, two, choice}
+use Rattle.sc_terms.specs.TreeSorts.{tree_sort}
+use Rattle.sc_terms.specs.Order.{tree_cmp, tree_eq}
+use Rattle.sc_terms.specs.Folds.{constant, is_literal, both, equal_term, other_equal, equation}
+use Rattle.sc_footprint.specs.Closure.{entity_in, entity_type, same_name, follow_pair}
+use Rattle.sc_footprint.specs.Following.{Has, is_entity}
+
+out_bool : out-Sort sort.Bool ≡ s.Bool
+out_bool = ap out-Sort (sym rolls-Bool) ∙ out-roll-Sort s.Bool
+
+-- an entity is no truth value
+no_constant : (x : Tree) → is_entity x ≡ true → constant x ≡ None
+unfolding tree_sort
+no_constant (leaf (leafs.Literal (literals.Bool b))) h = let e : false ≡ true = ap (λ o. is_some (entity_in o)) (sym out_bool) ∙ h in cc
+no_constant (leaf (leafs.Principal r)) h = refl
+no_constant (leaf (leafs.Resource r)) h = refl
+no_constant (leaf (leafs.Context r)) h = refl
+no_constant (one o a) h = refl
+no_constant (two o a b) h = refl
+no_constant (choice c a b) h = refl
+
+turned : (m n : List ℕ) → bytes_eq m n ≡ bytes_eq n m
+turned m n =
+    both_ways (bytes_eq m n) (bytes_eq n m)
+    (λ h. (bytes_eq-Decides n m).1 (sym ((bytes_eq-Decides m n).0 h)))
+    (λ h. (bytes_eq-Decides m n).1 (sym ((bytes_eq-Decides n m).0 h)))
+
+same_turned : (o p : Option (List ℕ)) → same_name o p ≡ same_name p o
+same_turned None None = refl
+same_turned None (Some n) = refl
+same_turned (Some m) None = refl
+same_turned (Some m) (Some n) = turned m n
+
+both_turned : (a b : Bool) → both a b ≡ both b a
+both_turned true true = refl
+both_turned true false = refl
+both_turned false true = refl
+both_turned false false = refl
+
+other_turned : (o : Ordering) (l : Bool) (a b : Tree) → tree_cmp b a ≡ o → tree_cmp a b ≡ ordering_reverse o
+    → other_equal (is_eq (tree_cmp a b)) l a b ≡ other_equal (is_eq (tree_cmp b a)) l b a
+other_turned Less true a b e f = rw (e, f) refl
+other_turned Less false a b e f = let g : equation (is_gt (tree_cmp a b)) a b ≡ equation (is_gt (tree_cmp b a)) b a = rw (e, f) refl in rw (e, f) g
+other_turned Equal l a b e f = rw (e, f) refl
+other_turned Greater true a b e f = rw (e, f) refl
+other_turned Greater false a b e f = let g : equation (is_gt (tree_cmp a b)) a b ≡ equation (is_gt (tree_cmp b a)) b a = rw (e, f) refl in rw (e, f) g
+
+module _ (total : IsTotalOrder tree_cmp) where
+  equal_turned : (a b : Tree) → is_entity a ≡ true → is_entity b ≡ true → equal_term a b ≡ equal_term b a
+  unfolding equal_term tree_eq
+  equal_turned a b h k =
+      let e = no_constant a h in
+      let f = no_constant b k in
+      rw (e, f, both_turned (is_literal a) (is_literal b))
+      (other_turned (tree_cmp b a) (both (is_literal b) (is_literal a)) a b refl (total.antisymm a b))
+
+  some_names : (o p : Option (List ℕ)) → same_name o p ≡ true → (is_some o ≡ true) × (is_some p ≡ true)
+  some_names None p h = cc
+  some_names (Some m) None h = cc
+  some_names (Some m) (Some n) h = (refl, refl)
+
+  pair_turned : (x y : Tree) → follow_pair x y ≡ follow_pair y x
+  pair_turned x y = rw (same_turned (entity_type y) (entity_type x)) (by (same_name (entity_type x) (entity_type y)) refl)
+    where
+      by : (b : Bool) → same_name (entity_type x) (entity_type y) ≡ b → cond b (equal_term x y ∷ []) [] ≡ cond b (equal_term y x ∷ []) []
+      by true e = let k = some_names (entity_type x) (entity_type y) e in ap (λ (z : Tree). z ∷ []) (equal_turned x y k.0 k.1)
+      by false e = refl
+
+pub flip : IsTotalOrder tree_cmp → (x y z : Tree) → Has (follow_pair x y) z → Has (follow_pair y x) z
+flip total x y z h = subst (λ (zs : List Tree). Has zs z) (pair_turned total x y) h
+
+-- what goes with two goes with entities
+pub of_entities : (x y z : Tree) → Has (follow_pair x y) z → (is_entity x ≡ true) × (is_entity y ≡ true)
+of_entities x y z h = by (entity_type x) (entity_type y) h
+  where
+    by : (o p : Option (List ℕ)) → Has (cond (same_name o p) (equal_term x y ∷ []) []) z → (is_some o ≡ true) × (is_some p ≡ true)
+    by None p k = absurd k
+    by (Some m) None k = absurd k
+    by (Some m) (Some n) k = (refl, refl)

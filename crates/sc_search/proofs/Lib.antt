@@ -1,0 +1,9 @@
+mod LitLaws
+mod NewnessLaws
+mod CellLaws
+mod TrailLaws
+mod ReadingLaws
+mod AnalysisLaws
+mod BackjumpLaws
+mod SearchLaws
+mod TestLaws

@@ -1,0 +1,128 @@
+-- Literals, numbers and lists: cases, and what is in a list.
+use Rattle.std.proofs.Common.{◌≡◌, ◌≢◌, ◌⊎◌, inl, inr, ⊎_elim, ℕ, zero, suc, ◌<◌, ◌≤◌, List, [], ◌∷◌, Bool, true, false, not, ◌&&◌, ◌||◌, eqb, ltb, length, refl, sym, ap, ◌∙◌, subst, true≢false, arith}
+use Rattle.std.specs.List.{Contains}
+use Rattle.std.proofs.lemmas.Bool.Decides.{Decides-eqb, Decides-ltb, nat_tests}
+use Rattle.sc_clauses.specs.Clauses.{Clause, bool_eq, lit_eq, negation, is_in, contained}
+use Rattle.sc_clauses.specs.declared.lit.Lit.{Lit}
+
+not-not : (b : Bool) → not (not b) ≡ b
+not-not true = refl
+not-not false = refl
+
+pub neg-neg : (l : Lit) → negation (negation l) ≡ l
+neg-neg l = let f : Bool → Lit = λ b. record { atom = l.atom; negated = b } in ap f (not-not l.negated)
+
+pub lit-of : (n m : Bool) (a b : ℕ) → n ≡ m → a ≡ b → let x : Lit = record { atom = a; negated = n } in let y : Lit = record { atom = b; negated = m } in x ≡ y
+lit-of n m a b e f = cc
+
+same-or-not : (a b : Bool) → (a ≡ b) ⊎ (a ≢ b)
+same-or-not true true = inl refl
+same-or-not true false = inr (λ e. cc)
+same-or-not false true = inr (λ e. cc)
+same-or-not false false = inl refl
+
+nat-cases-by : (a b : ℕ) (t : Bool) → eqb a b ≡ t → (a ≡ b) ⊎ (a ≢ b)
+nat-cases-by a b true e = inl ((Decides-eqb a b).0 e)
+nat-cases-by a b false e = inr (λ s. true≢false (sym ((Decides-eqb a b).1 s) ∙ e))
+
+pub nat-cases : (a b : ℕ) → (a ≡ b) ⊎ (a ≢ b)
+nat-cases a b = nat-cases-by a b (eqb a b) refl
+
+below-or-by : (a b : ℕ) (t : Bool) → ltb a b ≡ t → (a < b) ⊎ (b ≤ a)
+below-or-by a b true e = inl ((Decides-ltb a b).0 e)
+below-or-by a b false e = inr (grind (arith, nat_tests))
+
+pub below-or : (a b : ℕ) → (a < b) ⊎ (b ≤ a)
+below-or a b = below-or-by a b (ltb a b) refl
+
+pub lit-cases : (a b : Lit) → (a ≡ b) ⊎ (a ≢ b)
+lit-cases a b =
+    ⊎_elim
+    (λ (e : a.negated ≡ b.negated). ⊎_elim (λ (f : a.atom ≡ b.atom). inl (lit-of _ _ _ _ e f)) (λ (f : a.atom ≢ b.atom). inr (λ g. f (ap (λ (x : Lit). x.atom) g))) (nat-cases a.atom b.atom))
+    (λ (e : a.negated ≢ b.negated). inr (λ g. e (ap (λ (x : Lit). x.negated) g)))
+    (same-or-not a.negated b.negated)
+
+pub bool-cases : (b : Bool) → (b ≡ true) ⊎ (b ≡ false)
+bool-cases true = inl refl
+bool-cases false = inr refl
+
+pub bool-false : (b : Bool) → (b ≡ true → ⊥) → b ≡ false
+bool-false true h = absurd (h refl)
+bool-false false h = refl
+
+pub and-left : (a b : Bool) → a && b ≡ true → a ≡ true
+and-left true b e = refl
+and-left false b e = absurd cc
+
+pub and-right : (a b : Bool) → a && b ≡ true → b ≡ true
+and-right true b e = e
+and-right false b e = absurd cc
+
+pub both : (a b : Bool) → a ≡ true → b ≡ true → a && b ≡ true
+both a b e f = rw (e, f) refl
+
+or-cases : (a b : Bool) → a || b ≡ true → (a ≡ true) ⊎ (b ≡ true)
+or-cases true b e = inl refl
+or-cases false b e = inr e
+
+pub bool_eq-same : (a b : Bool) → bool_eq a b ≡ true → a ≡ b
+bool_eq-same true b e = sym e
+bool_eq-same false true e = absurd cc
+bool_eq-same false false e = refl
+
+pub bool_eq-refl : (b : Bool) → bool_eq b b ≡ true
+bool_eq-refl true = refl
+bool_eq-refl false = refl
+
+-- ---- what is in a list
+
+pub head-has : {X : Type 0} (x : X) (xs : List X) → Contains (x ∷ xs) x
+head-has x xs = (0, omega arith, refl)
+
+pub tail-has : {X : Type 0} (x y : X) (xs : List X) → Contains xs y → Contains (x ∷ xs) y
+tail-has x y xs (k, lt, e) = (suc k, omega arith, e)
+
+pub cons-cases : {X : Type 0} (x y : X) (xs : List X) → Contains (x ∷ xs) y → (x ≡ y) ⊎ Contains xs y
+cons-cases x y xs (zero, lt, e) = inl e
+cons-cases x y xs (suc k, lt, e) = inr (k, omega arith, e)
+
+pub none-in : {X : Type 0} (x : X) → Contains [] x → ⊥
+none-in x (k, lt, e) = omega arith
+
+pub nil-of : {X : Type 0} (xs : List X) → length xs ≡ 0 → xs ≡ []
+nil-of [] e = refl
+nil-of (x ∷ xs) e = absurd (omega arith)
+
+eq-lit : (a b : Lit) → lit_eq a b ≡ true → a ≡ b
+eq-lit a b e = lit-of _ _ _ _ (bool_eq-same a.negated b.negated (and-right (eqb a.atom b.atom) _ e)) ((Decides-eqb a.atom b.atom).0 (and-left _ _ e))
+
+-- a literal that the test finds in a list is there
+found : (xs : List Lit) (m : Lit) → is_in xs m ≡ true → Contains xs m
+found [] m e = absurd cc
+found (x ∷ xs) m e =
+    ⊎_elim
+    (λ (t : lit_eq m x ≡ true). subst (λ (w : Lit). Contains (x ∷ xs) w) (sym (eq-lit m x t)) (head-has x xs))
+    (λ (t : is_in xs m ≡ true). tail-has x m xs (found xs m t))
+    (or-cases (lit_eq m x) (is_in xs m) e)
+
+-- each literal of one clause is in the other
+pub contained-has : (c d : Clause) → contained c d ≡ true → (m : Lit) → Contains c m → Contains d m
+contained-has [] d e m has = absurd (none-in m has)
+contained-has (x ∷ c) d e m has =
+    ⊎_elim
+    (λ (s : x ≡ m). subst (λ (w : Lit). Contains d w) s (found d x (and-left (is_in d x) (contained c d) e)))
+    (λ (old : Contains c m). contained-has c d (and-right (is_in d x) (contained c d) e) m old)
+    (cons-cases x m c has)
+
+pub has-or-not : (c : Clause) (l : Lit) → Contains c l ⊎ ((m : Lit) → Contains c m → m ≢ l)
+has-or-not [] l = inr (λ m has e. none-in m has)
+has-or-not (x ∷ c) l =
+    ⊎_elim
+    (λ (s : x ≡ l). inl (subst (λ (w : Lit). Contains (x ∷ c) w) s (head-has x c)))
+    (λ (ne : x ≢ l).
+    ⊎_elim
+    (λ (old : Contains c l). inl (tail-has x l c old))
+    (λ (none : (m : Lit) → Contains c m → m ≢ l).
+    inr (λ m has. ⊎_elim (λ (s : x ≡ m). λ (e : m ≡ l). ne (s ∙ e)) (λ (old : Contains c m). none m old) (cons-cases x m c has)))
+    (has-or-not c l))
+    (lit-cases x l)

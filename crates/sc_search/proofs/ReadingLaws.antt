@@ -1,0 +1,112 @@
+-- What reading a literal, a clause and all clauses tells.
+use Rattle.std.proofs.Common.{◌≡◌, ◌≢◌, inl, inr, ⊎_elim, ℕ, ◌+◌, ◌<◌, ◌≤◌, List, [], ◌∷◌, ◌++◌, Bool, true, false, not, length, get_or, refl, sym, ap, ◌∙◌, subst, arith, take, Option, Some, None}
+use Rattle.std.specs.List.{Contains}
+use Rattle.std.proofs.lemmas.List.{get_or_default, get_or-take, length-take-le, take_more}
+use Rattle.std.proofs.lemmas.List.Elements.{Contains-append_left, Contains-push, Contains-push_cases}
+use Rattle.sc_clauses.specs.Clauses.{negation, Clause, bool_eq}
+use Rattle.sc_clauses.specs.declared.lit.Lit.{Lit}
+use Rattle.sc_search.proofs.CellLaws.{at-before}
+use Rattle.sc_search.specs.declared.propagation.Scan.{Scan}
+use Rattle.sc_search.specs.declared.propagation.Scan.TheVariants.{Quiet, Unit, Falsified}
+use Rattle.sc_search.specs.Readings.{AreQuietFrom, HasScanned, HasScan, HasTruth, truth_of, signed, IsSoFar, IsUnitAt}
+use Rattle.sc_search.specs.Steps.{At}
+use Rattle.sc_search.specs.Trails.{set_before, cell_of, true_before, set_at, HasPlace, IsQuiet, AreQuiet, IsReason, Agree}
+use Rattle.sc_search.specs.declared.cell.Cell.{Cell}
+use Rattle.sc_search.specs.declared.cell.Cell.TheVariants.{Free, Decided, Implied}
+use Rattle.sc_search.proofs.LitLaws.{below-or}
+
+pub at-end : (cells : List Cell) (trail : List Lit) → Agree cells trail → (l : Lit) (i : ℕ) → HasPlace cells l i → true_before cells (length trail) l ≡ true
+at-end cells trail h l i at = at-before cells l i (length trail) at (h.on_trail l i at).0
+
+sign-same : (n s : Bool) → bool_eq n s ≡ true → n ≡ s
+sign-same true s e = sym e
+sign-same false true e = absurd cc
+sign-same false false e = refl
+
+sign-differs : (n s : Bool) → bool_eq n s ≡ false → n ≡ not s
+sign-differs true s e = rw e refl
+sign-differs false true e = refl
+sign-differs false false e = absurd cc
+
+signed-holds : (cells : List Cell) (trail : List Lit) (l : Lit) → Agree cells trail → (n : Bool) (q : ℕ) → ((s : Bool) → n ≡ s → set_at (cell_of cells l) s q) → (b : Bool) → bool_eq n l.negated ≡ b
+    → HasTruth cells (length trail) l (signed b)
+signed-holds cells trail l h n q at true e = at-end cells trail h l q (at l.negated (sign-same _ _ e))
+signed-holds cells trail l h n q at false e = at-end cells trail h (negation l) q (at (not l.negated) (sign-differs _ _ e))
+
+truth-by : (cells : List Cell) (trail : List Lit) (l : Lit) → Agree cells trail → (c : Cell) → cell_of cells l ≡ c → HasTruth cells (length trail) l (truth_of c l.negated)
+truth-by cells trail l h Free e = e
+truth-by cells trail l h (Decided n q) e = signed-holds cells trail l h n q (λ s f. subst (λ (c : Cell). set_at c s q) (sym e) (f, refl)) (bool_eq n l.negated) refl
+truth-by cells trail l h (Implied n q r) e = signed-holds cells trail l h n q (λ s f. subst (λ (c : Cell). set_at c s q) (sym e) (f, refl)) (bool_eq n l.negated) refl
+
+pub truth-holds : (cells : List Cell) (trail : List Lit) (l : Lit) → Agree cells trail → HasTruth cells (length trail) l (truth_of (cell_of cells l) l.negated)
+truth-holds cells trail l h = truth-by cells trail l h (cell_of cells l) refl
+
+free-by : (c : Cell) (p : ℕ) (s : Bool) → c ≡ Free → set_before c p s ≡ false
+free-by c p s e = ap (λ (x : Cell). set_before x p s) e
+
+pub free-before : (cells : List Cell) (p : ℕ) (l : Lit) → cell_of cells l ≡ Free → true_before cells p (negation l) ≡ false
+free-before cells p l e = free-by (cell_of cells l) p (not l.negated) e
+
+sofar-push : (cells : List Cell) (p : ℕ) (c : List Lit) (o : Option Lit) (l : Lit) → IsSoFar cells p c o → true_before cells p (negation l) ≡ true → IsSoFar cells p (c ++ l ∷ []) o
+sofar-push cells p c None l h f = λ m has. ⊎_elim (λ (old : Contains c m). h m old) (λ (e : l ≡ m). subst (λ (w : Lit). true_before cells p (negation w) ≡ true) e f) (Contains-push_cases c l m has)
+sofar-push cells p c (Some u) l h f = (
+  Contains-append_left c (l ∷ []) u h.0,
+  h.1,
+  λ m has ne. ⊎_elim (λ (old : Contains c m). h.2 m old ne) (λ (e : l ≡ m). subst (λ (w : Lit). true_before cells p (negation w) ≡ true) e f) (Contains-push_cases c l m has),
+)
+
+from-take : {X : Type 0} (i : ℕ) (c : List X) (u : X) → i ≤ length c → Contains (take i c) u → Contains c u
+from-take i c u le (k, lt, is) = let len : length (take i c) ≡ i = length-take-le i c le in let h : k < i = omega arith in (k, omega arith, sym (get_or-take i c k u h) ∙ is)
+
+module _ (cells : List Cell) (p : ℕ) (c : List Lit) (i : ℕ) (l : Lit) (in_range : i < length c) (is : l ≡ get_or c i l) where
+  step : take (i + 1) c ≡ take i c ++ l ∷ []
+  step = take_more c i l in_range ∙ ap (λ (w : Lit). take i c ++ w ∷ []) (sym is)
+
+  pub sofar-false : (o : Option Lit) → IsSoFar cells p (take i c) o → true_before cells p (negation l) ≡ true → IsSoFar cells p (take (i + 1) c) o
+  sofar-false o h f = subst (λ (d : List Lit). IsSoFar cells p d o) (sym step) (sofar-push cells p (take i c) o l h f)
+
+  pub sofar-first : IsSoFar cells p (take i c) None → cell_of cells l ≡ Free → IsSoFar cells p (take (i + 1) c) (Some l)
+  sofar-first h free =
+      subst (λ (d : List Lit). IsSoFar cells p d (Some l)) (sym step)
+      (Contains-push (take i c) l, free, λ m has ne. ⊎_elim (λ (old : Contains (take i c) m). h m old) (λ (e : l ≡ m). absurd (ne (sym e))) (Contains-push_cases (take i c) l m has))
+
+  pub sofar-again : (u : Lit) → u ≡ l → IsSoFar cells p (take i c) (Some u) → IsSoFar cells p (take (i + 1) c) (Some u)
+  sofar-again u same h =
+      subst (λ (d : List Lit). IsSoFar cells p d (Some u)) (sym step) (
+        Contains-append_left (take i c) (l ∷ []) u h.0,
+        h.1,
+        λ m has ne. ⊎_elim (λ (old : Contains (take i c) m). h.2 m old ne) (λ (e : l ≡ m). absurd (ne (sym (same ∙ e)))) (Contains-push_cases (take i c) l m has),
+      )
+
+  here : Contains c l
+  here = (i, in_range, sym is)
+
+  pub sofar-two : (u : Lit) → u ≢ l → IsSoFar cells p (take i c) (Some u) → cell_of cells l ≡ Free → IsQuiet (true_before cells p) c
+  sofar-two u ne h free =
+      inr (u, l, from-take i c u (omega arith) h.0, here, ne, free-before cells p u h.1, free-before cells p l free)
+
+  pub sofar-true : true_before cells p l ≡ true → IsQuiet (true_before cells p) c
+  sofar-true t = inl (l, here, t)
+
+-- clauses that are quiet from a place on, and those before it
+pub quiet-all : (T : Lit → Bool) (cs : List Clause) (from : ℕ) → AreQuietFrom T cs from (length cs) → AreQuietFrom T cs 0 from → AreQuiet T cs
+quiet-all T cs from late early c (k, lt, is) =
+    subst (λ (d : Clause). IsQuiet T d) is
+    (⊎_elim (λ (h : k < from). early k c (omega arith) h) (λ (h : from ≤ k). late k c h lt) (below-or k from))
+
+pub quiet-more : (T : Lit → Bool) (cs : List Clause) (first i : ℕ) (c : Clause) → i < length cs → c ≡ get_or cs i c → AreQuietFrom T cs first i → IsQuiet T c → AreQuietFrom T cs first (i + 1)
+quiet-more T cs first i c lt is old now k d le kl =
+    ⊎_elim
+    (λ (h : k < i). old k d le h)
+    (λ (h : i ≤ k).
+    let e : i ≡ k = omega arith in
+    subst (λ (j : ℕ). IsQuiet T (get_or cs j d)) e (subst (λ (x : Clause). IsQuiet T x) (is ∙ get_or_default cs i c d lt) now))
+    (below-or k i)
+
+pub scan-all : (cs : List Clause) (cells : List Cell) (p from : ℕ) (r : Scan) → AreQuietFrom (true_before cells p) cs from (length cs) → HasScanned cs cells p 0 from r → HasScan cs cells p r
+scan-all cs cells p from Quiet late early = quiet-all (true_before cells p) cs from late early
+scan-all cs cells p from (Unit i l) late early = early
+scan-all cs cells p from (Falsified i) late early = early
+
+pub reason-of : (cs : List Clause) (cells : List Cell) (p i : ℕ) (c : Clause) (l : Lit) → At cs i c → IsUnitAt cells p c l → IsReason cs cells l p i
+reason-of cs cells p i c l at u = record { clause = c; at = at; has = u.0; others = u.2 }

@@ -1,0 +1,32 @@
+use Rattle.std.proofs.Common.{List, length, subst, sym}
+use Rattle.sc_clauses.specs.Clauses.{Clause}
+use Rattle.sc_clauses.specs.declared.lit.Lit.{Lit}
+use Rattle.sc_search.proofs.BackjumpLaws.{in-cells-more}
+use Rattle.sc_search.proofs.TrailLaws.{trail-learn}
+use Rattle.sc_search.proofs.solver.Solver.install.Goals as goal
+use Rattle.sc_search.specs.Readings.{HasRoom}
+use Rattle.sc_search.specs.Trails.{AllInCells, AreInCells, HoldsTrail, IsTrail}
+
+pub make_room-requires-clause-in_cells : goal.make_room-requires-clause-in_cells
+make_room-requires-clause-in_cells c = subst (λ (ls : List Lit). AllInCells (length c.args.self.now.trail.cells.items) ls) (sym c.as_slice.ensures) c.requires.in_cells
+
+pub make_room-requires-clause-trail : goal.make_room-requires-clause-trail
+make_room-requires-clause-trail c =
+    let t = c.args.self.now.trail in
+    subst (λ (ds : List Clause). HoldsTrail (length t.cells.items) ds t) (sym c.deref.ensures.value) c.requires.ready.trail
+
+pub returns-clause-ready : goal.returns-clause-ready
+returns-clause-ready c =
+    let n = length c.args.self.now.trail.cells.items in
+    let t = c.make_room.new.self in
+    let cs = c.args.self.now.clauses.items in
+    let C = c.args.clause in
+    let sound : IsTrail n cs t.cells.items t.lits.items t.levels.items (length t.lits.items) =
+    subst (λ (ds : List Clause). IsTrail n ds t.cells.items t.lits.items t.levels.items (length t.lits.items)) c.deref.ensures.value c.make_room.ensures.trail in
+    let room : HasRoom t.cells.items t.levels.items C = subst (λ (ls : List Lit). HasRoom t.cells.items t.levels.items ls) c.as_slice.ensures c.make_room.ensures.room in
+    record {
+      in_cells = subst (λ (ds : List Clause). AreInCells n ds) (sym c.in_ok-push.ensures.items) (in-cells-more n cs C c.requires.ready.in_cells c.requires.in_cells);
+      trail =
+          subst (λ (ds : List Clause). IsTrail n ds t.cells.items t.lits.items t.levels.items (length t.lits.items)) (sym c.in_ok-push.ensures.items)
+          (trail-learn n cs t.cells.items t.lits.items t.levels.items (length t.lits.items) C sound room);
+    }

@@ -1,0 +1,6 @@
+use Rattle.std.proofs.Common.{◌≡◌, map, take}
+use Rattle.sc_search.specs.Turns.{cell_value}
+use Rattle.sc_search.proofs.solver.values_of.Given as goal
+
+abbrev pub invariant-loop-cell : goal.invariant-loop-cell
+invariant-loop-cell l = l.values ≡ map cell_value (take l.cell-index l.cells)

@@ -1,0 +1,60 @@
+use Rattle.std.proofs.Common.{◌≡◌, ◌<◌, ◌+◌, ℕ, List, ◌∷◌, [], ◌++◌, length, subst, sym, ap, ◌∙◌, Vec, Global, arith}
+use Rattle.sc_clauses.specs.declared.lit.Lit.{Lit}
+use Rattle.sc_search.proofs.AnalysisLaws.{same-at, reason-may-be-met, refutes-resolve, refutes-skip, read-met, trail-in-cells}
+use Rattle.sc_search.proofs.trail.Trail.resolve.Goals as goal
+use Rattle.sc_search.specs.Analyses.{AreMet, IsMet, MayBeMet, RefutesMet}
+use Rattle.sc_search.specs.Steps.{At}
+use Rattle.sc_search.specs.Trails.{AllInCells, IsReason}
+
+pub returns-then-not-index-clause-refutes : goal.returns-then-not-index-clause-refutes
+returns-then-not-index-clause-refutes c =
+    let cells = c.args.self.now.cells.items in
+    let trail = c.args.self.now.lits.items in
+    let l : Lit = c.index-lit.result.now in
+    let met = c.args.analysis.now.met.items in
+    let at : At trail c.args.i l = (c.requires.within, sym c.index-lit.ensures) in
+    let lt : l.atom < length cells = trail-in-cells cells trail c.requires.trail.agree c.args.i l at in
+    let k : length met ≡ length cells = c.requires.collected.sized in
+    refutes-skip c.args.clauses.now cells trail (length trail) c.args.i met c.args.analysis.now.hints.items l c.requires.trail.agree at
+    (read-met met l _ (omega arith) c.index.ensures ∙ c.if-not-index.true) c.requires.refutes
+
+pub meet_all-requires-clause-in_cells : goal.meet_all-requires-clause-in_cells
+meet_all-requires-clause-in_cells c =
+    let why = c.reason-reason.ensures c.index-lit.result.now in
+    subst (λ (d : List Lit). AllInCells (length c.args.self.now.cells.items) d) (sym c.as_slice.ensures)
+    (c.requires.in_cells c.index-clauses-reason.result (c.reason-reason.result, why.at.0, sym c.index-clauses-reason.is))
+
+pub meet_all-requires-clause-may_be_met : goal.meet_all-requires-clause-may_be_met
+meet_all-requires-clause-may_be_met c =
+    let cells = c.args.self.now.cells.items in
+    let trail = c.args.self.now.lits.items in
+    let l : Lit = c.index-lit.result.now in
+    let met = c.args.analysis.now.met.items in
+    let at : At trail c.args.i l = (c.requires.within, sym c.index-lit.ensures) in
+    let lt : l.atom < length cells = trail-in-cells cells trail c.requires.trail.agree c.args.i l at in
+    let k : length met ≡ length cells = c.requires.collected.sized in
+    let is_met : IsMet met l = read-met met l _ (omega arith) c.index.ensures ∙ c.if-not-index.false in
+    let why : IsReason c.args.clauses.now cells l c.args.i c.reason-reason.result = subst (λ (w : Lit). IsReason c.args.clauses.now cells w c.args.i c.reason-reason.result) at.1 (c.reason-reason.ensures l) in
+    let clause : why.clause ≡ c.index-clauses-reason.result = same-at c.args.clauses.now c.reason-reason.result _ _ why.at c.index-clauses-reason.is in
+    subst (λ (d : List Lit). MayBeMet cells (length trail) met d) (clause ∙ sym c.as_slice.ensures)
+    (reason-may-be-met _ c.args.clauses.now cells trail _ c.requires.trail c.args.i l at c.reason-reason.result met is_met why)
+
+pub returns-clause-refutes : goal.returns-clause-refutes
+returns-clause-refutes c =
+    let cells = c.args.self.now.cells.items in
+    let trail = c.args.self.now.lits.items in
+    let l : Lit = c.index-lit.result.now in
+    let met = c.args.analysis.now.met.items in
+    let at : At trail c.args.i l = (c.requires.within, sym c.index-lit.ensures) in
+    let why : IsReason c.args.clauses.now cells l c.args.i c.reason-reason.result = subst (λ (w : Lit). IsReason c.args.clauses.now cells w c.args.i c.reason-reason.result) at.1 (c.reason-reason.ensures l) in
+    let clause : why.clause ≡ c.index-clauses-reason.result = same-at c.args.clauses.now c.reason-reason.result _ _ why.at c.index-clauses-reason.is in
+    let done = c.in_ok-meet_all.ensures in
+    let after = c.meet_all.new.analysis.met.items in
+    let all : AreMet after why.clause = subst (λ (d : List Lit). AreMet after d) (c.as_slice.ensures ∙ sym clause) done.met in
+    let old = c.args.analysis.now.hints.items in
+    let n : ℕ = c.reason-reason.result + 1 in
+    let pushed : c.push.new.self.items ≡ c.meet_all.new.analysis.hints.items ++ c.number_of.result ∷ [] = c.in_ok-push.ensures.items in
+    let numbered : c.meet_all.new.analysis.hints.items ++ c.number_of.result ∷ [] ≡ c.meet_all.new.analysis.hints.items ++ n ∷ [] = ap (λ (h : ℕ). c.meet_all.new.analysis.hints.items ++ h ∷ []) c.number_of.ensures in
+    let kept : c.meet_all.new.analysis.hints.items ++ n ∷ [] ≡ old ++ n ∷ [] = ap (λ (hs : Vec ℕ Global). hs.items ++ n ∷ []) done.hints in
+    subst (λ (hs : List ℕ). RefutesMet c.args.clauses.now cells (length trail) c.args.i after hs) (sym (pushed ∙ numbered ∙ kept))
+    (refutes-resolve c.args.clauses.now cells trail (length trail) c.args.i c.reason-reason.result met after c.args.analysis.now.hints.items l c.requires.trail.agree at c.requires.within why done.more all c.requires.refutes)

@@ -1,0 +1,60 @@
+-- What a search finds.
+use Rattle.std.specs.Prelude.{◌≡◌, ◌≢◌, ◌≤◌, ◌++◌, ⊤, ℕ, List, [], ◌∷◌, Bool, true, false, IsSome, length}
+use Rattle.std.specs.List.{Contains}
+use Rattle.sc_clauses.specs.declared.step.Instance.{Instance}
+use Rattle.sc_clauses.specs.declared.step.Step.{Step}
+use Rattle.sc_clauses.specs.Assignments.{Assignment, value_of, falsifies}
+use Rattle.sc_clauses.specs.Clauses.{Clause, contained}
+use Rattle.sc_search.specs.declared.searching.Found.{Found}
+use Rattle.sc_search.specs.declared.searching.Found.TheVariants.{Refuted, Consistent, Spent}
+use Rattle.sc_search.specs.Propagation.{IsNew}
+use Rattle.sc_search.specs.Steps.{added, after, IsLawful}
+
+-- A unit: a lawful step, whose clause isn't empty, has not all literals of a clause before it, and is new to propagation.
+pub record IsUnit (atoms : ℕ) (accepts : Instance → Bool) (clause_of : Instance → Clause) (clauses : List Clause) (s : Step) : Type 0 where
+  pub is_lawful : IsLawful atoms accepts clause_of clauses s
+  pub some : added clause_of s ≢ []
+  pub uncovered : (c : Clause) → Contains clauses c → contained c (added clause_of s) ≡ false
+  pub is_new : IsNew clauses (added clause_of s)
+
+-- each step is a unit after the clauses given and those of the steps before it
+pub data AreUnits (atoms : ℕ) (accepts : Instance → Bool) (clause_of : Instance → Clause) : List Clause → List Step → Type 0 where
+  no_step : (clauses : List Clause) → AreUnits atoms accepts clause_of clauses []
+  first_step : (clauses : List Clause) (s : Step) (steps : List Step) → IsUnit atoms accepts clause_of clauses s
+      → AreUnits atoms accepts clause_of (clauses ++ added clause_of s ∷ []) steps → AreUnits atoms accepts clause_of clauses (s ∷ steps)
+
+-- units, and at last a lawful step whose clause is empty; as many steps as the budget at most
+pub record IsRefutation (atoms : ℕ) (accepts : Instance → Bool) (clause_of : Instance → Clause) (clauses : List Clause) (budget : ℕ) (steps : List Step) : Type 0 where
+  pub units : List Step
+  pub last : Step
+  pub are_units : AreUnits atoms accepts clause_of clauses units
+  pub is_lawful : IsLawful atoms accepts clause_of (after clause_of clauses units) last
+  pub is_empty : added clause_of last ≡ []
+  pub are_all : steps ≡ units ++ last ∷ []
+  pub within : length steps ≤ budget
+
+-- as many units as the budget
+abbrev pub IsSpent : ℕ → (Instance → Bool) → (Instance → Clause) → List Clause → ℕ → List Step → Type 0
+IsSpent atoms accepts clause_of clauses budget steps = (length steps ≡ budget) × AreUnits atoms accepts clause_of clauses steps
+
+-- each atom has a value, and neither a clause given nor that of an accepted instance is falsified
+pub record IsConsistent (atoms : ℕ) (accepts : Instance → Bool) (clause_of : Instance → Clause) (clauses : List Clause) (m : Assignment) : Type 0 where
+  pub count : length m ≡ atoms
+  pub total : (n : ℕ) → 1 ≤ n → n ≤ atoms → IsSome (value_of m n)
+  pub keeps_clauses : (c : Clause) → Contains clauses c → falsifies m c ≡ false
+  pub keeps_instances : (i : Instance) → accepts i ≡ true → falsifies m (clause_of i) ≡ false
+
+abbrev pub IfRefuted : (List Step → Type 0) → Found → Type 0
+IfRefuted P (Refuted steps) = P steps
+IfRefuted P (Consistent m) = ⊤
+IfRefuted P (Spent steps) = ⊤
+
+abbrev pub IfConsistent : (Assignment → Type 0) → Found → Type 0
+IfConsistent P (Refuted steps) = ⊤
+IfConsistent P (Consistent m) = P m
+IfConsistent P (Spent steps) = ⊤
+
+abbrev pub IfSpent : (List Step → Type 0) → Found → Type 0
+IfSpent P (Refuted steps) = ⊤
+IfSpent P (Consistent m) = ⊤
+IfSpent P (Spent steps) = P steps

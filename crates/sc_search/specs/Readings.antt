@@ -1,0 +1,81 @@
+-- What is read from the trail: of a literal, of a clause, of all clauses.
+use Rattle.std.specs.Prelude.{◌≡◌, ◌≢◌, ◌<◌, ◌≤◌, ⊤, ℕ, List, Bool, true, false, length, Option, Some, None}
+use Rattle.std.specs.List.{All, Contains, slice_index_or}
+use Rattle.sc_clauses.specs.declared.lit.Lit.{Lit}
+use Rattle.sc_clauses.specs.Clauses.{Clause, bool_eq, negation}
+use Rattle.sc_search.specs.declared.cell.Cell.{Cell}
+use Rattle.sc_search.specs.declared.cell.Cell.TheVariants.{Free, Decided, Implied}
+use Rattle.sc_search.specs.declared.cell.Truth.{Truth}
+use Rattle.sc_search.specs.declared.cell.Truth.TheVariants as truth
+use Rattle.sc_search.specs.declared.propagation.Status.{Status}
+use Rattle.sc_search.specs.declared.propagation.Status.TheVariants as status
+use Rattle.sc_search.specs.declared.propagation.Scan.{Scan}
+use Rattle.sc_search.specs.declared.propagation.Scan.TheVariants as scan
+use Rattle.sc_search.specs.Steps.{At}
+use Rattle.sc_search.specs.Trails.{true_before, cell_of, IsQuiet, AreQuiet, IsReason, InCells}
+
+abbrev pub signed : Bool → Truth
+signed true = truth.True
+signed false = truth.False
+
+abbrev pub truth_of : Cell → Bool → Truth
+truth_of Free sign = truth.Open
+truth_of (Decided n q) sign = signed (bool_eq n sign)
+truth_of (Implied n q r) sign = signed (bool_eq n sign)
+
+abbrev pub HasTruth : List Cell → ℕ → Lit → Truth → Type 0
+HasTruth cells p l truth.True = true_before cells p l ≡ true
+HasTruth cells p l truth.False = true_before cells p (negation l) ≡ true
+HasTruth cells p l truth.Open = cell_of cells l ≡ Free
+
+abbrev pub AreFalse : List Cell → ℕ → Clause → Type 0
+AreFalse cells p c = (m : Lit) → Contains c m → true_before cells p (negation m) ≡ true
+
+-- one literal is open, the others are false
+abbrev pub IsUnitAt : List Cell → ℕ → Clause → Lit → Type 0
+IsUnitAt cells p c l = (Contains c l) × (cell_of cells l ≡ Free) × ((m : Lit) → Contains c m → m ≢ l → true_before cells p (negation m) ≡ true)
+
+abbrev pub HasStatus : List Cell → ℕ → Clause → Status → Type 0
+HasStatus cells p c status.Quiet = IsQuiet (true_before cells p) c
+HasStatus cells p c (status.Unit l) = IsUnitAt cells p c l
+HasStatus cells p c status.Falsified = AreFalse cells p c
+
+-- of the literals so far one at most is open, the others are false
+abbrev pub IsSoFar : List Cell → ℕ → Clause → Option Lit → Type 0
+IsSoFar cells p c None = AreFalse cells p c
+IsSoFar cells p c (Some l) = IsUnitAt cells p c l
+
+abbrev pub IsFalsified : List Clause → List Cell → ℕ → ℕ → Type 0
+IsFalsified clauses cells p i = (c : Clause) × At clauses i c × AreFalse cells p c
+
+-- the clauses at the places from first to end are quiet
+abbrev pub AreQuietFrom : (Lit → Bool) → List Clause → ℕ → ℕ → Type 0
+AreQuietFrom T clauses first end = (k : ℕ) (d : Clause) → first ≤ k → k < end → IsQuiet T (slice_index_or clauses k d)
+
+-- a clause that gives a literal, or that is falsified
+abbrev pub HasFound : List Clause → List Cell → ℕ → Scan → Type 0
+HasFound clauses cells p scan.Quiet = ⊤
+HasFound clauses cells p (scan.Unit i l) = IsReason clauses cells l p i × (cell_of cells l ≡ Free) × InCells (length cells) l
+HasFound clauses cells p (scan.Falsified i) = IsFalsified clauses cells p i
+
+abbrev pub HasScanned : List Clause → List Cell → ℕ → ℕ → ℕ → Scan → Type 0
+HasScanned clauses cells p first end scan.Quiet = AreQuietFrom (true_before cells p) clauses first end
+HasScanned clauses cells p first end (scan.Unit i l) = HasFound clauses cells p (scan.Unit i l)
+HasScanned clauses cells p first end (scan.Falsified i) = HasFound clauses cells p (scan.Falsified i)
+
+abbrev pub HasScan : List Clause → List Cell → ℕ → Scan → Type 0
+HasScan clauses cells p scan.Quiet = AreQuiet (true_before cells p) clauses
+HasScan clauses cells p (scan.Unit i l) = HasFound clauses cells p (scan.Unit i l)
+HasScan clauses cells p (scan.Falsified i) = HasFound clauses cells p (scan.Falsified i)
+
+abbrev pub HasPropagated : List Clause → List Cell → ℕ → Option ℕ → Type 0
+HasPropagated clauses cells p None = AreQuiet (true_before cells p) clauses
+HasPropagated clauses cells p (Some i) = IsFalsified clauses cells p i
+
+-- the literals are false by the places before p
+abbrev pub AreBefore : List Cell → ℕ → Clause → Type 0
+AreBefore cells p c = All (λ m. true_before cells p (negation m) ≡ true) c
+
+-- the clause is quiet where each level begins
+abbrev pub HasRoom : List Cell → List ℕ → Clause → Type 0
+HasRoom cells levels c = (k : ℕ) → k < length levels → IsQuiet (true_before cells (slice_index_or levels k 0)) c

@@ -1,0 +1,61 @@
+-- Which steps are lawful, and which are units.
+use Rattle.std.specs.Prelude.{◌≡◌, ◌≢◌, ◌-◌, ◌^◌, ◌<◌, ◌≤◌, ◌++◌, ℕ, List, [], ◌∷◌, Bool, true, length, map}
+use Rattle.std.specs.List.{Contains, slice_index_or}
+use Rattle.sc_clauses.specs.declared.lit.Lit.{Lit}
+use Rattle.sc_clauses.specs.declared.step.Instance as instance
+use Rattle.sc_clauses.specs.declared.step.Learned as learned
+use Rattle.sc_clauses.specs.declared.step.Step.{Step}
+use Rattle.sc_clauses.specs.declared.step.Step.TheVariants.{Instance, Learned}
+use Rattle.sc_clauses.specs.Clauses.{Clause, negation}
+
+-- x stands at place k
+abbrev pub At : {X : Type 0} → List X → ℕ → X → Type 0
+At xs k x = (k < length xs) × (slice_index_or xs k x ≡ x)
+
+-- the clause of a number, counted from 1
+abbrev pub IsNumbered : List Clause → ℕ → Clause → Type 0
+IsNumbered clauses n c = (0 < n) × At clauses (n - 1) c
+
+-- the literal is of one of the first atoms
+abbrev pub IsListed : ℕ → Lit → Type 0
+IsListed atoms l = (0 < l.atom) × (l.atom ≤ atoms)
+
+abbrev pub AreListed : ℕ → Clause → Type 0
+AreListed atoms c = (l : Lit) → Contains c l → IsListed atoms l
+
+-- literals of listed atoms, none of them with its negation
+abbrev pub IsClause : ℕ → Clause → Type 0
+IsClause atoms c = (l : Lit) → Contains c l → IsListed atoms l × ¬ Contains c (negation l)
+
+-- Where some literals are known to be true, each hint in turn is the number of a clause that has all literals false but
+-- one, which is known from then on; the last has all literals false.
+pub data Refutes (clauses : List Clause) : List Lit → List ℕ → Type 0 where
+  conflict : (known : List Lit) (h : ℕ) (c : Clause) → IsNumbered clauses h c → ((m : Lit) → Contains c m → Contains known (negation m)) → Refutes clauses known (h ∷ [])
+  one_left : (known : List Lit) (h : ℕ) (hints : List ℕ) (c : Clause) (l : Lit) → IsNumbered clauses h c → Contains c l → ¬ Contains known (negation l)
+      → ((m : Lit) → Contains c m → m ≢ l → Contains known (negation m)) → Refutes clauses (l ∷ known) hints → Refutes clauses known (h ∷ hints)
+
+-- a number other than 0, of at most 18 digits
+abbrev pub IsNumber : ℕ → Type 0
+IsNumber n = (0 < n) × (n < 10 ^ 18)
+
+-- the hints refute the negations of the clause's literals
+pub record IsShown (atoms : ℕ) (clauses : List Clause) (s : learned.Learned) : Type 0 where
+  pub is_clause : IsClause atoms s.clause
+  pub refutes : Refutes clauses (map negation s.clause) s.hints
+  pub some : 0 < length s.hints
+  pub lit_numbers : (l : Lit) → Contains s.clause l → IsNumber l.atom
+  pub hint_numbers : (h : ℕ) → Contains s.hints h → IsNumber h
+
+-- the clause that a step adds to those before it
+abbrev pub added : (instance.Instance → Clause) → Step → Clause
+added clause_of (Instance i) = clause_of i
+added clause_of (Learned s) = s.clause
+
+-- the clauses given, and those that the steps add
+abbrev pub after : (instance.Instance → Clause) → List Clause → List Step → List Clause
+after clause_of clauses steps = clauses ++ map (added clause_of) steps
+
+-- an accepted instance whose literals are of listed atoms, or a clause that hints show
+abbrev pub IsLawful : ℕ → (instance.Instance → Bool) → (instance.Instance → Clause) → List Clause → Step → Type 0
+IsLawful atoms accepts clause_of clauses (Instance i) = (accepts i ≡ true) × IsClause atoms (clause_of i)
+IsLawful atoms accepts clause_of clauses (Learned s) = IsShown atoms clauses s

@@ -1,0 +1,92 @@
+-- What a turn of the search does.
+use Rattle.std.specs.Prelude.{◌≡◌, ◌≢◌, ◌+◌, ◌≤◌, ◌++◌, ℕ, List, [], ◌∷◌, Bool, not, length, Option, Some, None}
+use Rattle.sc_clauses.specs.declared.step.Instance as instance
+use Rattle.sc_clauses.specs.declared.step.Learned as learned
+use Rattle.sc_clauses.specs.declared.step.Step.{Step}
+use Rattle.sc_clauses.specs.declared.step.Step.TheVariants.{Learned}
+use Rattle.sc_clauses.specs.Clauses.{Clause}
+use Rattle.sc_search.specs.declared.cell.Cell.{Cell}
+use Rattle.sc_search.specs.declared.cell.Cell.TheVariants.{Free, Decided, Implied}
+use Rattle.sc_search.specs.declared.solver.Solver.{Solver}
+use Rattle.sc_search.specs.declared.solver.Turn.{Turn}
+use Rattle.sc_search.specs.declared.solver.Turn.TheVariants as turn
+use Rattle.sc_search.specs.Propagation.{IsNew}
+use Rattle.sc_search.specs.Steps.{IsShown, IsLawful, after, added}
+use Rattle.sc_search.specs.Findings.{IsUnit, AreUnits, IsConsistent}
+use Rattle.sc_search.specs.Trails.{true_before, AreQuiet, HoldsTrail, AreInCells, AreAllSet}
+use Rattle.sc_search.specs.Readings.{IsFalsified}
+
+-- the solver's clauses and trail fit; it has n cells, the first of no atom
+pub record IsReady (n : ℕ) (s : Solver) : Type 0 where
+  pub in_cells : AreInCells n s.clauses.items
+  pub trail : HoldsTrail n s.clauses.items s.trail
+
+-- the clauses and steps are as they were
+pub record IsKept (clauses : List Clause) (steps : List Step) (s : Solver) : Type 0 where
+  pub clauses_kept : s.clauses.items ≡ clauses
+  pub steps_kept : s.steps.items ≡ steps
+
+-- each atom has a value, and no clause gives a literal or is falsified
+pub record IsTotal (s : Solver) : Type 0 where
+  pub quiet : AreQuiet (true_before s.trail.cells.items (length s.trail.lits.items)) s.clauses.items
+  pub full : AreAllSet s.trail.cells.items
+
+-- a falsified clause, or values of all atoms
+abbrev pub IsAtRest : Solver → Option ℕ → Type 0
+IsAtRest s None = IsTotal s
+IsAtRest s (Some i) = IsFalsified s.clauses.items s.trail.cells.items (length s.trail.lits.items) i
+
+-- one learned clause more, with its step
+pub record HasLearned (n : ℕ) (clauses : List Clause) (steps : List Step) (s : Solver) : Type 0 where
+  pub ready : IsReady n s
+  pub step : learned.Learned
+  pub clauses_more : s.clauses.items ≡ clauses ++ step.clause ∷ []
+  pub steps_more : s.steps.items ≡ steps ++ Learned step ∷ []
+  pub is_shown : (atoms : ℕ) → n ≡ atoms + 1 → IsShown atoms clauses step
+  pub is_new : IsNew clauses step.clause
+
+-- the empty clause, with its step
+pub record HasRefuted (clauses : List Clause) (steps : List Step) (s : Solver) : Type 0 where
+  pub step : learned.Learned
+  pub is_empty : step.clause ≡ []
+  pub steps_more : s.steps.items ≡ steps ++ Learned step ∷ []
+  pub is_shown : (atoms : ℕ) → IsShown atoms clauses step
+
+abbrev pub HasSettled : ℕ → List Clause → List Step → ℕ → Solver → Turn → Type 0
+HasSettled n clauses steps budget s turn.Added = HasLearned n clauses steps s × (length steps ≢ budget)
+HasSettled n clauses steps budget s turn.Refuted = HasRefuted clauses steps s × (length steps ≢ budget)
+HasSettled n clauses steps budget s (turn.Consistent m) = ⊥
+HasSettled n clauses steps budget s turn.Spent = (s.steps.items ≡ steps) × (length steps ≡ budget)
+
+-- one unit more
+pub record HasAdded (atoms : ℕ) (accepts : instance.Instance → Bool) (clause_of : instance.Instance → Clause) (clauses : List Clause) (steps : List Step) (s : Solver) : Type 0 where
+  pub step : Step
+  pub is_unit : IsUnit atoms accepts clause_of clauses step
+  pub clauses_more : s.clauses.items ≡ clauses ++ added clause_of step ∷ []
+  pub steps_more : s.steps.items ≡ steps ++ step ∷ []
+  pub ready : IsReady (atoms + 1) s
+
+-- one lawful step more, whose clause is empty
+pub record HasEnded (atoms : ℕ) (accepts : instance.Instance → Bool) (clause_of : instance.Instance → Clause) (clauses : List Clause) (steps : List Step) (s : Solver) : Type 0 where
+  pub step : Step
+  pub is_lawful : IsLawful atoms accepts clause_of clauses step
+  pub is_empty : added clause_of step ≡ []
+  pub steps_more : s.steps.items ≡ steps ++ step ∷ []
+
+abbrev pub IsTurn : ℕ → (instance.Instance → Bool) → (instance.Instance → Clause) → List Clause → List Step → ℕ → Solver → Turn → Type 0
+IsTurn atoms accepts clause_of clauses steps budget s turn.Added = HasAdded atoms accepts clause_of clauses steps s × (length steps ≢ budget)
+IsTurn atoms accepts clause_of clauses steps budget s turn.Refuted = HasEnded atoms accepts clause_of clauses steps s × (length steps ≢ budget)
+IsTurn atoms accepts clause_of clauses steps budget s (turn.Consistent m) = IsConsistent atoms accepts clause_of clauses m
+IsTurn atoms accepts clause_of clauses steps budget s turn.Spent = (s.steps.items ≡ steps) × (length steps ≡ budget)
+
+-- the search so far: units after the clauses given, as many as the budget at most
+pub record IsSearching (atoms : ℕ) (accepts : instance.Instance → Bool) (clause_of : instance.Instance → Clause) (clauses : List Clause) (budget : ℕ) (s : Solver) : Type 0 where
+  pub ready : IsReady (atoms + 1) s
+  pub clauses_are : s.clauses.items ≡ after clause_of clauses s.steps.items
+  pub are_units : AreUnits atoms accepts clause_of clauses s.steps.items
+  pub within : length s.steps.items ≤ budget
+
+abbrev pub cell_value : Cell → Option Bool
+cell_value Free = None
+cell_value (Decided n q) = Some (not n)
+cell_value (Implied n q r) = Some (not n)

@@ -1,0 +1,107 @@
+//! The search.
+ghost use Rattle.std.specs.Prelude.{◌≡◌, ◌≢◌, ◌+◌, ◌-◌, ◌^◌, ◌<◌, ◌≤◌, ℕ, true, drop, length, map, IfOk};
+ghost use Rattle.std.specs.List.{Contains};
+ghost use Rattle.sc_clauses.specs.Assignments.{falsifies};
+ghost use Rattle.sc_clauses.specs.Clauses.{Clause};
+ghost use Rattle.sc_search.specs.Findings.{IsRefutation, IsConsistent, IsSpent, IfRefuted, IfConsistent, IfSpent};
+ghost use Rattle.sc_search.specs.Steps.{AreListed};
+ghost use Rattle.sc_search.specs.Turns.{IsReady, IsTotal, IsTurn, cell_value};
+
+use crate::solver::{Solver, Turn};
+use crate::source::Source;
+use sc_clauses::{Assignment, Clause, Instance, Step};
+use sc_lists::Seq;
+use std::alloc::{AllocError, Global};
+
+/// What a search finds.
+#[derive(Drop)]
+pub enum Found {
+    /// Steps of which the last has the empty clause.
+    Refuted(Seq<Step>),
+    /// An assignment of all atoms that falsifies nothing.
+    Consistent(Assignment),
+    /// As many units as the budget.
+    Spent(Seq<Step>),
+}
+
+/// Looks for an assignment of the atoms from 1 to `atoms` that falsifies none of these clauses and none of the source's,
+/// or for a refutation of them, and logs `budget` steps at most. Want of memory is its one fault.
+pub fn search<S: Source>(
+    alloc: Global,
+    source: &S,
+    atoms: u64,
+    clauses: Seq<Clause>,
+    budget: u64,
+) -> Result<Found, AllocError>
+    requires listed { (c : Clause) → Contains clauses c → AreListed atoms c }
+    // Each number of a literal or of a clause has 18 digits at most.
+    requires few_atoms { atoms < 10 ^ 18 }
+    requires few_clauses { length clauses + budget < 10 ^ 18 }
+    // The steps refute the clauses, and each but the last is a unit.
+    ensures refuted { IfOk result (λ f. IfRefuted (IsRefutation atoms (S.accepts source.now) (S.clause_of source.now) clauses budget) f) }
+    // The assignment is total, and falsifies neither a clause given nor one of the source.
+    ensures consistent { IfOk result (λ f. IfConsistent (IsConsistent atoms (S.accepts source.now) (S.clause_of source.now) clauses) f) }
+    // The steps are as many units as the budget.
+    ensures spent { IfOk result (λ f. IfSpent (IsSpent atoms (S.accepts source.now) (S.clause_of source.now) clauses budget) f) }
+{
+    let mut solver = Solver::new(alloc, atoms, clauses)?;
+    'turns: loop {
+        match solver.turn(alloc, source, budget)? {
+            Turn::Added => {}
+            Turn::Refuted => return Ok(Found::Refuted(solver.into_steps())),
+            Turn::Consistent(m) => return Ok(Found::Consistent(m)),
+            Turn::Spent => return Ok(Found::Spent(solver.into_steps())),
+        }
+    }
+}
+
+impl Solver {
+    /// Goes on to the next step, or to the end.
+    fn turn<S: Source>(
+        &mut self,
+        alloc: Global,
+        source: &S,
+        budget: u64,
+    ) -> Result<Turn, AllocError>
+        requires ready { IsReady (length self.old.trail.cells.items) self.old }
+        requires some { 0 < length self.old.trail.cells.items }
+        requires few_cells { length self.old.trail.cells.items ≤ 10 ^ 18 }
+        requires few_clauses { length self.old.steps.items ≢ budget → length self.old.clauses.items < 10 ^ 18 }
+        ensures { IfOk result (λ t. IsTurn (length self.old.trail.cells.items - 1) (S.accepts source.now) (S.clause_of source.now) self.old.clauses.items self.old.steps.items budget self.new t) }
+    {
+        if let Some(conflict) = self.rest()? {
+            return self.settle(alloc, conflict, budget);
+        }
+        let m = self.assignment(alloc)?;
+        match source.violated(&m)? {
+            None => Ok(Turn::Consistent(m)),
+            Some(instance) => self.tell(source, instance, budget),
+        }
+    }
+
+    /// Logs an instance whose clause the assignment falsifies, if the budget isn't spent.
+    fn tell<S: Source>(
+        &mut self,
+        source: &S,
+        instance: Instance,
+        budget: u64,
+    ) -> Result<Turn, AllocError>
+        requires ready { IsReady (length self.old.trail.cells.items) self.old }
+        requires some { 0 < length self.old.trail.cells.items }
+        requires total { IsTotal self.old }
+        requires accepted { S.accepts source.now instance ≡ true }
+        requires falsified { falsifies (map cell_value (drop 1 self.old.trail.cells.items)) (S.clause_of source.now instance) ≡ true }
+        ensures { IfOk result (λ t. IsTurn (length self.old.trail.cells.items - 1) (S.accepts source.now) (S.clause_of source.now) self.old.clauses.items self.old.steps.items budget self.new t) }
+    {
+        if self.is_spent(budget) {
+            return Ok(Turn::Spent);
+        }
+        let clause = source.clause(&instance)?;
+        let is_empty = clause.is_empty();
+        self.install(clause, Step::Instance(instance))?;
+        if is_empty {
+            return Ok(Turn::Refuted);
+        }
+        Ok(Turn::Added)
+    }
+}

@@ -1,0 +1,216 @@
+//! The state of a search, and the steps that it logs.
+ghost use Rattle.std.specs.Prelude.{◌≡◌, ◌≢◌, ◌↔◌, ◌+◌, ◌-◌, ◌^◌, ◌<◌, ◌≤◌, ◌++◌, [], ◌∷◌, ℕ, length, map, drop, slice_index_or, IfOk, IsTrue};
+ghost use Rattle.sc_search.specs.Readings.{IsFalsified};
+ghost use Rattle.sc_search.specs.Steps.{AreListed};
+ghost use Rattle.sc_search.specs.Trails.{AllInCells, HoldsTrail};
+ghost use Rattle.sc_search.specs.Turns.{IsReady, IsKept, IsAtRest, HasLearned, HasRefuted, HasSettled, cell_value};
+
+use crate::activity::Activity;
+use crate::analysis::Resolvent;
+use crate::cell::{Cell, value_of};
+use crate::trail::Trail;
+use sc_clauses::{Assignment, Clause, Learned, Lit, Step, negation};
+use sc_lists::Seq;
+use std::alloc::{AllocError, Global};
+
+/// What a turn of the search ends with.
+#[derive(Drop)]
+pub(crate) enum Turn {
+    /// A step was logged.
+    Added,
+    /// A step was logged, and its clause is empty.
+    Refuted,
+    /// Nothing is falsified.
+    Consistent(Assignment),
+    /// A step is due, and the budget is spent.
+    Spent,
+}
+
+/// The clauses given and those of the steps, the steps, and the assignment.
+#[derive(Drop)]
+pub(crate) struct Solver {
+    pub clauses: Vec<Clause>,
+    pub steps: Vec<Step>,
+    pub trail: Trail,
+    pub activity: Activity,
+}
+
+/// A copy of a clause.
+fn copy_of(alloc: Global, lits: &[Lit]) -> Result<Clause, AllocError>
+    ensures { IfOk result (λ c. c ≡ lits.now) }
+{
+    Ok(Seq::from_vec(Vec::from_slice(alloc, lits)?))
+}
+
+/// The values that cells tell.
+fn values_of(alloc: Global, cells: &[Cell]) -> Result<Seq<Option<bool>>, AllocError>
+    ensures { IfOk result (λ values. values ≡ map cell_value cells.now) }
+{
+    let mut values = Seq::new(alloc);
+    for cell in cells {
+        values.push(value_of(*cell))?;
+    }
+    Ok(values)
+}
+
+/// The values that the cells after the first tell.
+fn later_values(alloc: Global, cells: &[Cell]) -> Result<Seq<Option<bool>>, AllocError>
+    ensures { IfOk result (λ values. values ≡ map cell_value (drop 1 cells.now)) }
+{
+    match cells.split_first() {
+        None => Ok(Seq::new(alloc)),
+        Some((_, later)) => values_of(alloc, later),
+    }
+}
+
+impl Solver {
+    /// The search over these clauses, before its first turn.
+    pub fn new(alloc: Global, atoms: u64, clauses: Seq<Clause>) -> Result<Solver, AllocError>
+        requires { atoms < 10 ^ 18 }
+        ensures count { IfOk result (λ s. length s.trail.cells.items ≡ atoms + 1) }
+        ensures trail { IfOk result (λ s. HoldsTrail (atoms + 1) clauses s.trail) }
+        ensures clauses { IfOk result (λ s. s.clauses.items ≡ clauses) }
+        ensures steps { IfOk result (λ s. s.steps.items ≡ []) }
+    {
+        let cells = atoms as usize + 1;
+        let trail = Trail::new(alloc, cells)?;
+        let activity = Activity::new(alloc, cells)?;
+        Ok(Solver {
+            clauses: clauses.into_vec(),
+            steps: Vec::new(alloc),
+            trail,
+            activity,
+        })
+    }
+
+    /// The steps.
+    pub fn into_steps(self) -> Seq<Step>
+        ensures { result ≡ self.steps.items }
+    {
+        let Solver { steps, .. } = self;
+        Seq::from_vec(steps)
+    }
+
+    /// The values of all atoms.
+    pub fn assignment(&self, alloc: Global) -> Result<Assignment, AllocError>
+        ensures { IfOk result (λ m. m ≡ map cell_value (drop 1 self.now.trail.cells.items)) }
+    {
+        let values = later_values(alloc, &self.trail.cells)?;
+        Ok(Assignment::from_values(values))
+    }
+
+    /// Propagates and decides until a clause is falsified (its place) or each atom has a value.
+    pub fn rest(&mut self) -> Result<Option<usize>, AllocError>
+        requires { IsReady (length self.old.trail.cells.items) self.old }
+        ensures ready { IfOk result (λ _. IsReady (length self.old.trail.cells.items) self.new) }
+        ensures kept { IfOk result (λ _. IsKept self.old.clauses.items self.old.steps.items self.new) }
+        ensures rest { IfOk result (λ r. IsAtRest self.new r) }
+    {
+        'moves: loop {
+            if let Some(conflict) = self.trail.propagate(&self.clauses)? {
+                return Ok(Some(conflict));
+            }
+            let Some(atom) = self.trail.choose(&self.activity) else {
+                return Ok(None);
+            };
+            self.trail.decide(Lit {
+                atom: atom as u64,
+                negated: true,
+            })?;
+        }
+    }
+
+    /// Whether as many steps were logged.
+    pub fn is_spent(&self, budget: u64) -> bool
+        ensures { IsTrue result ↔ length self.now.steps.items ≡ budget }
+    {
+        self.steps.len() as u64 == budget
+    }
+
+    /// Logs the clause that a falsified one shows, goes back, and makes true what it gives.
+    fn learn(&mut self, alloc: Global, conflict: usize) -> Result<(), AllocError>
+        requires ready { IsReady (length self.old.trail.cells.items) self.old }
+        requires falsified { IsFalsified self.old.clauses.items self.old.trail.cells.items (length self.old.trail.lits.items) conflict }
+        requires some { 0 < length self.old.trail.levels.items }
+        requires few_cells { length self.old.trail.cells.items ≤ 10 ^ 18 }
+        requires few_clauses { length self.old.clauses.items < 10 ^ 18 }
+        ensures { IfOk result (λ _. HasLearned (length self.old.trail.cells.items) self.old.clauses.items self.old.steps.items self.new) }
+    {
+        let first = self.trail.level_start();
+        let Resolvent {
+            lower,
+            uip,
+            hints,
+            met,
+        } = self.trail.analyse(alloc, &self.clauses, conflict, first)?;
+        self.activity.raise(&met);
+        let level = self.trail.backjump_level(&lower);
+        let given = negation(uip);
+        let mut lits = lower;
+        lits.push(given)?;
+        let clause = copy_of(alloc, &lits)?;
+        self.trail.backtrack(&self.clauses, level);
+        let reason = self.clauses.len();
+        self.clauses.push(clause)?;
+        self.steps.push(Step::Learned(Learned {
+            clause: Seq::from_vec(lits),
+            hints: Seq::from_vec(hints),
+        }))?;
+        self.trail.imply(given, reason)?;
+        Ok(())
+    }
+
+    /// Logs the empty clause, which a falsified one shows.
+    fn refute(&mut self, alloc: Global, conflict: usize) -> Result<(), AllocError>
+        requires ready { IsReady (length self.old.trail.cells.items) self.old }
+        requires falsified { IsFalsified self.old.clauses.items self.old.trail.cells.items (length self.old.trail.lits.items) conflict }
+        requires undecided { self.old.trail.levels.items ≡ [] }
+        requires few_clauses { length self.old.clauses.items < 10 ^ 18 }
+        ensures { IfOk result (λ _. HasRefuted self.old.clauses.items self.old.steps.items self.new) }
+    {
+        let hints = self.trail.refute(alloc, &self.clauses, conflict)?;
+        self.steps.push(Step::Learned(Learned {
+            clause: Seq::new(alloc),
+            hints: Seq::from_vec(hints),
+        }))?;
+        Ok(())
+    }
+
+    /// Logs what a falsified clause shows, if the budget isn't spent.
+    pub fn settle(
+        &mut self,
+        alloc: Global,
+        conflict: usize,
+        budget: u64,
+    ) -> Result<Turn, AllocError>
+        requires ready { IsReady (length self.old.trail.cells.items) self.old }
+        requires falsified { IsFalsified self.old.clauses.items self.old.trail.cells.items (length self.old.trail.lits.items) conflict }
+        requires few_cells { length self.old.trail.cells.items ≤ 10 ^ 18 }
+        requires few_clauses { length self.old.steps.items ≢ budget → length self.old.clauses.items < 10 ^ 18 }
+        ensures { IfOk result (λ t. HasSettled (length self.old.trail.cells.items) self.old.clauses.items self.old.steps.items budget self.new t) }
+    {
+        if self.is_spent(budget) {
+            return Ok(Turn::Spent);
+        }
+        if self.trail.levels.is_empty() {
+            self.refute(alloc, conflict)?;
+            return Ok(Turn::Refuted);
+        }
+        self.learn(alloc, conflict)?;
+        Ok(Turn::Added)
+    }
+
+    /// Logs a step with its clause, and goes back as far as the clause needs.
+    pub fn install(&mut self, clause: Clause, step: Step) -> Result<(), AllocError>
+        requires ready { IsReady (length self.old.trail.cells.items) self.old }
+        requires in_cells { AllInCells (length self.old.trail.cells.items) clause }
+        ensures ready { IfOk result (λ _. IsReady (length self.old.trail.cells.items) self.new) }
+        ensures clauses { IfOk result (λ _. self.new.clauses.items ≡ self.old.clauses.items ++ clause ∷ []) }
+        ensures steps { IfOk result (λ _. self.new.steps.items ≡ self.old.steps.items ++ step ∷ []) }
+    {
+        self.trail.make_room(&self.clauses, clause.as_slice());
+        self.clauses.push(clause)?;
+        self.steps.push(step)?;
+        Ok(())
+    }
+}

@@ -1,0 +1,70 @@
+-- What the defining clauses say of an assignment that falsifies none of them.
+use Rattle.std.proofs.Common.{◌≡◌, ◌≤◌, ◌||◌, ◌&&◌, ℕ, not, Bool, true, false, [], ◌∷◌, flat_map, length, Option, Some, None, IsSome, unwrap_or, Contains, refl, subst, arith}
+use Rattle.sc_clauses.specs.Clauses.{Clause, bool_eq, holds}
+use Rattle.sc_clauses.specs.Assignments.{Assignment, value_of, is_false_at, is_false}
+use Rattle.sc_terms.specs.declared.node.BinaryOp.TheVariants.{And, Or, Equal}
+use Rattle.sc_terms.specs.Trees.{Tree, two}
+use Rattle.sc_terms.specs.Folds.{truth_term}
+use Rattle.sc_footprint.specs.Problems.{Posed, atoms, is_bool, literal_in, goal_literal}
+use Rattle.sc_footprint.specs.Definitions.{definition, table, defining}
+use Rattle.sc_footprint.specs.Theories.{IsClauseOf}
+use Rattle.sc_checker.specs.Verdicts.{Rules}
+use Rattle.sc_solver.specs.Rebuilding.{IsConsistent, truth_at}
+use Rattle.sc_solver.proofs.ListLaws.{Has, here, contains_of, not_all, has_left, has_right, has_flat_map}
+use Rattle.sc_solver.proofs.LitLaws.{holds_by}
+use Rattle.sc_solver.proofs.StepLaws.{AllHold}
+
+-- the laws of defining clauses at a problem: their literals are of listed atoms
+abbrev pub AreLawful : Posed → Type 0
+AreLawful p = (c : Clause) → Contains (defining p) c → IsClauseOf p c
+
+some_value : (o : Option Bool) → IsSome o → o ≡ Some (unwrap_or o false)
+some_value None h = absurd cc
+some_value (Some b) h = refl
+
+is_true_by : (t n : Bool) → bool_eq t n ≡ false → bool_eq t (not n) ≡ true
+is_true_by true true e = absurd cc
+is_true_by true false e = refl
+is_true_by false true e = refl
+is_true_by false false e = absurd cc
+
+true_at : (o : Option Bool) (t n : Bool) → o ≡ Some t → is_false_at o n ≡ false → bool_eq t (not n) ≡ true
+true_at None t n e f = absurd cc
+true_at (Some u) t n e f = let same : u ≡ t = cc in is_true_by t n (subst (λ (b : Bool). bool_eq b n ≡ false) same f)
+
+or_false : (b : Bool) → (b || false) ≡ true → b ≡ true
+or_false true e = refl
+or_false false e = absurd cc
+
+module _ (rules : Rules) (p : Posed) (m : Assignment) (lawful : AreLawful p) (c : IsConsistent rules p m) where
+  pub valued : (n : ℕ) → 1 ≤ n → n ≤ length (atoms p) → value_of m n ≡ Some (truth_at m n)
+  valued n least most = some_value (value_of m n) (c.total n least most)
+
+  -- each defining clause holds where each atom has its assigned truth
+  pub defined_hold : AllHold (truth_at m) (defining p)
+  defined_hold d h =
+      let (l, k, e) = not_all (is_false m) d (c.defined d (contains_of (defining p) d h)) in
+      let (of, alone) = lawful d (contains_of (defining p) d h) l (contains_of d l k) in
+      holds_by (truth_at m) d l k (true_at (value_of m l.atom) (truth_at m l.atom) l.negated (valued l.atom (omega (arith, of.0)) of.1) e)
+
+module _ (p : Posed) (v : ℕ → Bool) (hold : AllHold v (defining p)) where
+  -- what defines an atom holds
+  definition_holds : (t : Tree) → Has (atoms p) t → AllHold v (definition (literal_in p) t)
+  definition_holds t h c k = hold c (has_left (flat_map (definition (literal_in p)) (atoms p)) ((goal_literal p ∷ []) ∷ []) c (has_flat_map (definition (literal_in p)) (atoms p) t c h k))
+
+  pub truth_holds : Has (atoms p) (truth_term true) → holds v (literal_in p (truth_term true)) ≡ true
+  truth_holds h = or_false (holds v (literal_in p (truth_term true))) (definition_holds (truth_term true) h (literal_in p (truth_term true) ∷ []) (here _ _))
+
+  pub and_holds : (a b : Tree) → Has (atoms p) (two And a b) → AllHold v (table (λ t u. t && u) (literal_in p (two And a b)) (literal_in p a) (literal_in p b))
+  and_holds a b h = definition_holds (two And a b) h
+
+  pub or_holds : (a b : Tree) → Has (atoms p) (two Or a b) → AllHold v (table (λ t u. t || u) (literal_in p (two Or a b)) (literal_in p a) (literal_in p b))
+  or_holds a b h = definition_holds (two Or a b) h
+
+  pub equal_holds : (a b : Tree) → Has (atoms p) (two Equal a b) → is_bool a ≡ true → AllHold v (table bool_eq (literal_in p (two Equal a b)) (literal_in p a) (literal_in p b))
+  equal_holds a b h e =
+      let all : definition (literal_in p) (two Equal a b) ≡ table bool_eq (literal_in p (two Equal a b)) (literal_in p a) (literal_in p b) = rw e refl in
+      subst (AllHold v) all (definition_holds (two Equal a b) h)
+
+  pub goal_holds : holds v (goal_literal p) ≡ true
+  goal_holds = or_false (holds v (goal_literal p)) (hold (goal_literal p ∷ []) (has_right (flat_map (definition (literal_in p)) (atoms p)) ((goal_literal p ∷ []) ∷ []) (goal_literal p ∷ []) (here _ _)))

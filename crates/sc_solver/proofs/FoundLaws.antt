@@ -1,0 +1,81 @@
+-- Closed terms have numbers in the table, so what has none there is no atom.
+use Rattle.std.proofs.Common.{◌≡◌, ◌≢◌, ◌<◌, ℕ, false, List, [], length, Option, Some, None, ap, sym, ◌∙◌, subst}
+use Rattle.sc_clauses.specs.Assignments.{Assignment}
+use Rattle.sc_clauses.specs.declared.lit.Lit.{Lit}
+use Rattle.sc_schema.specs.declared.ty.Ty.{Ty}
+use Rattle.sc_schema.specs.declared.declarations.Env.{Env}
+use Rattle.sc_sorts.specs.declared.sort.Sort.{Sort}
+use Rattle.sc_sorts.specs.declared.sort.Sort.TheVariants as sort
+use Rattle.sc_sorts.specs.OfTypes.{sort_of}
+use Rattle.sc_terms.specs.declared.node.Node.{Node}
+use Rattle.sc_terms.specs.declared.node.BinaryOp.TheVariants.{Equal}
+use Rattle.sc_terms.specs.declared.node.Leaf.TheVariants.{Principal, Resource, Context}
+use Rattle.sc_terms.specs.declared.node.UnaryOp.TheVariants.{Field}
+use Rattle.sc_terms.specs.Trees.{Tree, leaf, one, two}
+use Rattle.sc_terms.specs.Tables.{tree, StandsFor}
+use Rattle.sc_terms.specs.Finding.{IsFound}
+use Rattle.sc_terms.specs.Booleans.{context_term, attribute_term}
+use Rattle.sc_footprint.specs.Closure.{Closed, next, of_principal, of_resource, principal_term, resource_term, follow}
+use Rattle.sc_footprint.specs.Problems.{Posed, IsPosed, goal_term, closed_terms, atoms, atom_number, is_opposite, literal_in}
+use Rattle.sc_solver.specs.Rebuilding.{truth_at, one_entity}
+use Rattle.sc_solver.proofs.ListLaws.{Has, here, has_of, contains_of, map_has, each_at}
+use Rattle.sc_solver.proofs.AtomLaws.{IsLevel, atom_closed, number_of_none, literal_of_atom, found_none}
+use Rattle.sc_solver.proofs.KindLaws.{one_entity_is}
+
+-- a closed term has a number
+pub closed_found : (p : Posed) → IsPosed p → (t : Tree) → Closed p.env (goal_term p) t → IsFound p.nodes t None → ⊥
+closed_found p posed t c h =
+    let (n, k, e) = map_has (tree p.nodes) p.closed t (has_of (closed_terms p) t ((posed.are_closed.just t).1 c)) in
+    h n (each_at (λ i. i < length p.nodes) p.closed n posed.within k) e
+
+pub principal_found : (p : Posed) → IsPosed p → (nodes : List Node) (env : Env) (s : Sort) → nodes ≡ p.nodes → env ≡ p.env → s ≡ sort.Entity env.principal [] → IsFound nodes (leaf (Principal s)) None → ⊥
+principal_found p posed nodes env s e f g h =
+    let same : s ≡ sort.Entity p.env.principal [] = g ∙ ap (λ (x : Env). sort.Entity x.principal []) f in
+    closed_found p posed (principal_term p.env) of_principal (subst (λ (xs : List Node). IsFound xs (principal_term p.env) None) e (subst (λ (r : Sort). IsFound nodes (leaf (Principal r)) None) same h))
+
+pub resource_found : (p : Posed) → IsPosed p → (nodes : List Node) (env : Env) (s : Sort) → nodes ≡ p.nodes → env ≡ p.env → s ≡ sort.Entity env.resource [] → IsFound nodes (leaf (Resource s)) None → ⊥
+resource_found p posed nodes env s e f g h =
+    let same : s ≡ sort.Entity p.env.resource [] = g ∙ ap (λ (x : Env). sort.Entity x.resource []) f in
+    closed_found p posed (resource_term p.env) of_resource (subst (λ (xs : List Node). IsFound xs (resource_term p.env) None) e (subst (λ (r : Sort). IsFound nodes (leaf (Resource r)) None) same h))
+
+-- where the context has no number, none of its attributes is an atom
+no_attribute : (p : Posed) → IsLevel → IsPosed p → (type : Ty) (name : List ℕ) → IsFound p.nodes (context_term type) None → atom_number p (attribute_term type name) ≡ 0
+no_attribute p level posed type name h = number_of_none level (atoms p) (attribute_term type name) each where
+  each : (x : Tree) → Has (atoms p) x → x ≢ attribute_term type name
+  each x k e =
+      let closed = subst (λ y. Closed p.env (goal_term p) y) e (atom_closed level p posed x k).0 in
+      closed_found p posed (context_term type) (next (attribute_term type name) (context_term type) closed (contains_of (follow (attribute_term type name)) (context_term type) (here _ _))) h
+
+module _ (p : Posed) (level : IsLevel) (posed : IsPosed p) (m : Assignment) where
+  pub truth_of_none : (o : Option ℕ) (t : Tree) → o ≡ None → IsFound p.nodes t o → false ≡ truth_at m (atom_number p t)
+  truth_of_none o t is h = sym (ap (truth_at m) (found_none level p posed t (subst (λ (x : Option ℕ). IsFound p.nodes t x) is h)))
+
+  pub truth_of_literal : (n : ℕ) (o : Option ℕ) (l : Lit) (t : Tree) → o ≡ Some n → IsFound p.nodes t o → l ≡ literal_in p (tree p.nodes n) → is_opposite t ≡ false → truth_at m l.atom ≡ truth_at m (atom_number p t)
+  truth_of_literal n o l t is h e plain =
+      let stands : StandsFor p.nodes n t = subst (λ (x : Option ℕ). IsFound p.nodes t x) is h in
+      ap (truth_at m) (ap (λ (x : Lit). x.atom) (e ∙ ap (literal_in p) stands.is ∙ literal_of_atom (atom_number p) t plain))
+
+  pub attribute_none : (o : Option ℕ) (type : Ty) (name : List ℕ) → o ≡ None → IsFound p.nodes (context_term type) o → false ≡ truth_at m (atom_number p (attribute_term type name))
+  attribute_none o type name is h = sym (ap (truth_at m) (no_attribute p level posed type name (subst (λ (x : Option ℕ). IsFound p.nodes (context_term type) x) is h)))
+
+-- the term of a context's node, and that of an attribute's
+pub context_found : (p : Posed) (nodes : List Node) (type : Ty) (s : Sort) (o : Option ℕ) → nodes ≡ p.nodes → s ≡ sort_of type → IsFound nodes (leaf (Context s)) o → IsFound p.nodes (context_term type) o
+context_found p nodes type s o e f h = subst (λ (xs : List Node). IsFound xs (context_term type) o) e (subst (λ (r : Sort). IsFound nodes (leaf (Context r)) o) f h)
+
+pub attribute_found : (p : Posed) (nodes : List Node) (type : Ty) (given name : List ℕ) (n : ℕ) (o : Option ℕ) → nodes ≡ p.nodes → given ≡ name → StandsFor p.nodes n (context_term type)
+    → IsFound nodes (one (Field given sort.Bool) (tree nodes n)) o → IsFound p.nodes (attribute_term type name) o
+attribute_found p nodes type given name n o e f h k =
+    subst (λ (t : Tree). IsFound p.nodes (one (Field name sort.Bool) t) o) h.is
+    (subst (λ (x : List ℕ). IsFound p.nodes (one (Field x sort.Bool) (tree p.nodes n)) o) f
+    (subst (λ (xs : List Node). IsFound xs (one (Field given sort.Bool) (tree xs n)) o) e k))
+
+-- the equation of principal and resource
+pub equation_found : (p : Posed) (nodes : List Node) (a b : ℕ) (o : Option ℕ) → nodes ≡ p.nodes → StandsFor p.nodes a (principal_term p.env) → StandsFor p.nodes b (resource_term p.env)
+    → IsFound nodes (two Equal (tree nodes a) (tree nodes b)) o → IsFound p.nodes (two Equal (principal_term p.env) (resource_term p.env)) o
+equation_found p nodes a b o e h k f =
+    subst (λ (t : Tree). IsFound p.nodes (two Equal t (resource_term p.env)) o) h.is
+    (subst (λ (t : Tree). IsFound p.nodes (two Equal (tree p.nodes a) t) o) k.is
+    (subst (λ (xs : List Node). IsFound xs (two Equal (tree xs a) (tree xs b)) o) e f))
+
+pub equation_number : (p : Posed) → atom_number p (two Equal (principal_term p.env) (resource_term p.env)) ≡ one_entity p
+equation_number p = ap (atom_number p) (sym (one_entity_is p.env))

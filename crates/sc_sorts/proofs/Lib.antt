@@ -1,0 +1,4 @@
+pub mod OutLaws
+pub mod OrderLaws
+pub mod OfTypesLaws
+pub mod DefaultLaws

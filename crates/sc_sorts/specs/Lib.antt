@@ -1,0 +1,4 @@
+pub mod OfTypes
+pub mod Defaults
+pub mod Order
+pub mod Plain

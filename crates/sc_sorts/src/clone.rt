@@ -1,0 +1,56 @@
+//! Copies of sorts.
+ghost use Rattle.std.specs.Prelude.{◌≡◌, IfOk};
+
+use crate::sort::Sort;
+use sc_lists::{Boxed, Seq, Text};
+use sc_names::Uid;
+use std::alloc::{AllocError, Global};
+
+/// A copy, which equals the sort.
+#[cycle(clone)]
+pub fn try_clone(alloc: Global, sort: &Sort) -> Result<Sort, AllocError>
+    ensures { IfOk result (λ copy. copy ≡ sort.now) }
+{
+    match sort {
+        Sort::Bool => Ok(Sort::Bool),
+        Sort::Long => Ok(Sort::Long),
+        Sort::String => Ok(Sort::String),
+        Sort::Decimal => Ok(Sort::Decimal),
+        Sort::Ip => Ok(Sort::Ip),
+        Sort::Entity(name, choices) => Ok(Sort::Entity(
+            name.try_clone(alloc)?,
+            clone_uids(alloc, choices)?,
+        )),
+        Sort::Set(member) => Ok(Sort::Set(clone_boxed(alloc, member)?)),
+        Sort::Record(fields) => Ok(Sort::Record(clone_fields(alloc, fields)?)),
+        Sort::Option(held) => Ok(Sort::Option(clone_boxed(alloc, held)?)),
+    }
+}
+
+#[cycle(clone)]
+fn clone_boxed(alloc: Global, sort: &Boxed<Sort>) -> Result<Boxed<Sort>, AllocError>
+    ensures { IfOk result (λ copy. copy ≡ sort.now) }
+{
+    Boxed::new(alloc, try_clone(alloc, sort.get())?)
+}
+
+#[cycle(clone)]
+fn clone_fields(alloc: Global, fields: &Seq<(Text, Sort)>) -> Result<Seq<(Text, Sort)>, AllocError>
+    ensures { IfOk result (λ copy. copy ≡ fields.now) }
+{
+    let mut copy = Seq::new(alloc);
+    for field in fields.as_slice() {
+        copy.push((field.0.try_clone(alloc)?, try_clone(alloc, &field.1)?))?;
+    }
+    Ok(copy)
+}
+
+fn clone_uids(alloc: Global, uids: &Seq<Uid>) -> Result<Seq<Uid>, AllocError>
+    ensures { IfOk result (λ copy. copy ≡ uids.now) }
+{
+    let mut copy = Seq::new(alloc);
+    for uid in uids.as_slice() {
+        copy.push(uid.try_clone(alloc)?)?;
+    }
+    Ok(copy)
+}

@@ -1,0 +1,29 @@
+//! The sorts of terms.
+use sc_lists::{Boxed, Seq, Text};
+use sc_names::{Name, Uid};
+
+/// What the values of a term are. Sorts are ordered by their kinds, in this order, and then by
+/// what they are made of.
+#[derive(Debug, PartialEq, Eq, PartialOrd, Ord, Drop)]
+pub enum Sort {
+    /// Truth values.
+    Bool,
+    /// Whole numbers of 64 bits.
+    Long,
+    /// Texts.
+    String,
+    /// Decimal numbers.
+    Decimal,
+    /// Addresses of the internet protocol.
+    Ip,
+    /// Entities of the named type. Of a type of actions the declared ones are listed, ascending,
+    /// since it has no others; of another type none are.
+    Entity(Name, Seq<Uid>),
+    /// Sets with members of a sort.
+    Set(Boxed<Sort>),
+    /// Records with these fields, ascending by name, each name once. A field of an option sort may
+    /// be absent.
+    Record(Seq<(Text, Sort)>),
+    /// Options: a value of the sort, or none.
+    Option(Boxed<Sort>),
+}

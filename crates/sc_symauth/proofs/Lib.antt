@@ -1,0 +1,5 @@
+pub mod NumbersLaws
+pub mod CompilingLaws
+pub mod JoinedKeeps
+pub mod ValuesLaws
+pub mod StandingsLaws

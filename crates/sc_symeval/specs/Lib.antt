@@ -1,0 +1,4 @@
+pub mod Codes
+pub mod Compiling
+pub mod Parts
+pub mod Agreement

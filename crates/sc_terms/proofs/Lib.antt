@@ -1,0 +1,12 @@
+pub mod SameLaws
+pub mod TableLaws
+pub mod FindingLaws
+pub mod OrderLaws
+pub mod NumberLaws
+pub mod Compares
+pub mod FoldValues
+pub mod EqualValues
+pub mod JoinedLaws
+pub mod FirstLaws
+pub mod TreeSortLaws
+pub mod DefaultTypeLaws

@@ -1,0 +1,29 @@
+-- The definitions of atoms that are gone through by their numbers.
+use Rattle.std.proofs.Common.{◌≡◌, ◌+◌, ◌-◌, ◌<◌, ◌==◌, ℕ, suc, List, [], ◌∷◌, ◌++◌, drop, drop-cons, get_or, length, false, Some, None, slice_get, refl, sym, ap, ◌∙◌, add-one, append_assoc, arith}
+use Rattle.std.specs.List.{flat_map}
+use Rattle.std.proofs.lemmas.Bool.{ne_eqb}
+use Rattle.std.proofs.lemmas.Option.{slice_get_within, slice_get-get_or, get_or_from_slice_get}
+use Rattle.sc_clauses.specs.Clauses.{Clause}
+use Rattle.sc_terms.specs.Folds.{truth_term}
+use Rattle.sc_terms.specs.Trees.{Tree}
+use Rattle.sc_footprint.specs.Problems.{numbered}
+
+-- the element of a number, counted from 1
+numbered_next : (ts : List Tree) (n : ℕ) → numbered ts (n + 1) ≡ slice_get ts n
+numbered_next ts n =
+    let positive : ((n + 1) == 0) ≡ false = ne_eqb (n + 1) 0 (λ (z : n + 1 ≡ 0). absurd (omega arith)) in
+    let before : (n + 1) - 1 ≡ n = omega arith in
+    rw (positive, before) refl
+
+pub none_there : (ts : List Tree) (n : ℕ) → n < length ts → None ≡ numbered ts (n + 1) → ⊥
+none_there ts n h e = let none : None ≡ Some (get_or ts n (truth_term false)) = e ∙ numbered_next ts n ∙ slice_get-get_or ts n (truth_term false) h in absurd cc
+
+rest_at : (ts : List Tree) (n : ℕ) (t : Tree) → slice_get ts n ≡ Some t → drop n ts ≡ t ∷ drop (n + 1) ts
+rest_at ts n t e =
+    rw add-one (drop-cons ts n (truth_term false) (slice_get_within ts n t e) ∙ ap (λ (x : Tree). x ∷ drop (suc n) ts) (get_or_from_slice_get ts n t (truth_term false) e))
+
+-- one more is defined
+pub one_more : (f : Tree → List Clause) (ts : List Tree) (n : ℕ) (t : Tree) (before all : List Clause) → Some t ≡ numbered ts (n + 1) → before ++ flat_map f (drop n ts) ≡ all → (before ++ f t) ++ flat_map f (drop (n + 1) ts) ≡ all
+one_more f ts n t before all at e =
+    let rest : drop n ts ≡ t ∷ drop (n + 1) ts = rest_at ts n t (sym (numbered_next ts n) ∙ sym at) in
+    append_assoc before (f t) (flat_map f (drop (n + 1) ts)) ∙ ap (λ (us : List Tree). before ++ flat_map f us) (sym rest) ∙ e

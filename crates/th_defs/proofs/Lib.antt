@@ -1,0 +1,3 @@
+pub mod TableLaws
+pub mod DefiningLaws
+pub mod SampleLaws

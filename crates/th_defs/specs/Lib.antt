@@ -1,0 +1,6 @@
+pub mod Instances
+pub mod Connectives
+pub mod ClauseLaws
+pub mod DefinitionLaws
+pub mod Laws
+pub mod Samples

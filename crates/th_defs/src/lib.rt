@@ -1,0 +1,13 @@
+//! The defining clauses of a problem, and the theory whose instances they are.
+#![tactic(auto)]
+
+mod definitions;
+mod defs;
+mod laws;
+mod table;
+#[cfg(test)]
+mod tests;
+
+pub use definitions::defining;
+pub use defs::Defs;
+pub use laws::defining_laws;

@@ -1,0 +1,110 @@
+//! Truth tables, as clauses.
+ghost use Rattle.std.specs.Prelude.{◌≡◌, ◌++◌, IfOk, OnOk};
+ghost use Rattle.sc_clauses.specs.Clauses.{lit_eq, is_in as contains};
+ghost use Rattle.sc_footprint.specs.Definitions.{is_tautology as tautology, differs as difference, has_value as agreement, row as row_of, table};
+ghost use Rattle.th_defs.specs.Connectives.{truth_of, kept};
+
+use sc_clauses::{Clause, Lit, negation};
+use sc_lists::Seq;
+use sc_terms::BinaryOp;
+use std::alloc::{AllocError, Global};
+
+/// A connective of two truth values: its literal, and those of its parts.
+#[derive(Clone, Copy)]
+pub(crate) struct Connective {
+    pub(crate) op: BinaryOp,
+    pub(crate) whole: Lit,
+    pub(crate) left: Lit,
+    pub(crate) right: Lit,
+}
+
+/// What a connective makes of two truth values.
+fn truth(op: BinaryOp, u: bool, v: bool) -> bool
+    ensures { result ≡ truth_of op u v }
+{
+    match op {
+        BinaryOp::And => u && v,
+        BinaryOp::Or => u || v,
+        BinaryOp::Equal => u == v,
+    }
+}
+
+/// The literal that an input differs from a value.
+fn differs(lit: Lit, value: bool) -> Lit
+    ensures { result ≡ difference lit value }
+{
+    if value { negation(lit) } else { lit }
+}
+
+/// The literal that a term has a value.
+fn has_value(lit: Lit, value: bool) -> Lit
+    ensures { result ≡ agreement lit value }
+{
+    if value { lit } else { negation(lit) }
+}
+
+fn is_same(a: Lit, b: Lit) -> bool
+    ensures { result ≡ lit_eq a b }
+{
+    a.atom == b.atom && a.negated == b.negated
+}
+
+fn is_in(lit: Lit, lits: &[Lit]) -> bool
+    ensures { result ≡ contains lits.now lit }
+{
+    lits.iter().any(|other| is_same(lit, *other))
+}
+
+/// Whether some atom stands in a clause with its negation.
+fn is_tautology(clause: &Clause) -> bool
+    ensures { result ≡ tautology clause.now }
+{
+    let lits = clause.as_slice();
+    lits.iter().any(|lit| is_in(negation(*lit), lits))
+}
+
+/// The row of two values: an input differs from the row, or the whole has the row's value.
+fn row(alloc: Global, connective: &Connective, u: bool, v: bool) -> Result<Clause, AllocError>
+    ensures { IfOk result (λ c. c ≡ row_of (truth_of connective.now.op) connective.now.whole connective.now.left connective.now.right u v) }
+{
+    let value = truth(connective.op, u, v);
+    let mut clause = Seq::new(alloc);
+    clause.push(differs(connective.left, u))?;
+    clause.push(differs(connective.right, v))?;
+    clause.push(has_value(connective.whole, value))?;
+    Ok(clause)
+}
+
+/// Adds the row of two values, unless it holds an atom with its negation.
+fn push_row(
+    alloc: Global,
+    connective: &Connective,
+    u: bool,
+    v: bool,
+    clauses: &mut Vec<Clause>,
+) -> Result<(), AllocError>
+    ensures { OnOk result (clauses.new.items ≡ clauses.old.items ++ kept (row_of (truth_of connective.now.op) connective.now.whole connective.now.left connective.now.right u v)) }
+{
+    let clause = row(alloc, connective, u, v)?;
+    if is_tautology(&clause) {
+        return Ok(());
+    }
+    clauses.push(clause)?;
+    Ok(())
+}
+
+/// Adds the rows of a connective's truth table, counted in binary with the first input highest.
+#[tactic(auto, using(crate::proofs::TableLaws::table_is))]
+pub(crate) fn push_table(
+    alloc: Global,
+    connective: &Connective,
+    clauses: &mut Vec<Clause>,
+) -> Result<(), AllocError>
+    ensures { OnOk result (clauses.new.items ≡ clauses.old.items ++ table (truth_of connective.now.op) connective.now.whole connective.now.left connective.now.right) }
+{
+    push_row(alloc, connective, false, false, clauses)?;
+    push_row(alloc, connective, false, true, clauses)?;
+    push_row(alloc, connective, true, false, clauses)?;
+    push_row(alloc, connective, true, true, clauses)?;
+    Ok(())
+}
