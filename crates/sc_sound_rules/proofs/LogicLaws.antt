@@ -24,7 +24,7 @@ use Rattle.sc_typing_rules.specs.Rules.{Operand, branches, choice, or_type, or_g
 use Rattle.sc_typed.proofs.OutcomeLaws.{through, in_either, checked, found}
 use Rattle.sc_typed.proofs.TypeOfLaws.{type_of_If, type_of_Or, type_of_And}
 use Rattle.sc_sound_values.specs.Sound.{IsOf, OrOverflows, AllHold, IsSound, SoundAs, Sounds}
-use Rattle.sc_sound_values.proofs.ValueLaws.{Fits, true_fits, false_fits, bool_fits, fits-true, fits-false, boolean, of_Bool}
+use Rattle.sc_sound_values.proofs.ValueLaws.{by_test, Fits, true_fits, false_fits, bool_fits, fits-true, fits-false, boolean, of_Bool}
 use Rattle.sc_sound_values.proofs.JoinLaws.{IsWithin, Joins, join-within}
 use Rattle.sc_sound_values.proofs.HoldingLaws.{is_true as is_true_value, no_error, both-hold, common-first, common-second}
 
@@ -37,10 +37,6 @@ true_is_boolean _ h = absurd cc
 false_is_boolean : (y : Ty-F Ty) → is_false_in y ≡ true → is_boolean_in y ≡ true
 false_is_boolean t.False h = refl
 false_is_boolean _ h = absurd cc
-
-pub by_test : (P : Ty → Type 0) (b : Bool) (x y : Ty) → (b ≡ true → P x) → (b ≡ false → P y) → P (if b then x else y)
-by_test P true x y h k = h refl
-by_test P false x y h k = k refl
 
 pub given_by_test : (P : Capabilities → Type 0) (b : Bool) (x y : Capabilities) → (b ≡ true → P x) → (b ≡ false → P y) → P (if b then x else y)
 given_by_test P true x y h k = h refl

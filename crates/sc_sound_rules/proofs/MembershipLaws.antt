@@ -45,7 +45,8 @@ use Rattle.sc_typing_rules.specs.Rules.{Operand, membership_by, membership}
 use Rattle.sc_typed.proofs.OutcomeLaws.{through, found}
 use Rattle.sc_sound_values.specs.Sound.{IsOf, OrOverflows, AllHold, SoundAs, Sounds}
 use Rattle.sc_sound_values.proofs.ValueLaws.{Fits, bool_fits, false_fits, truth_fits, entity_of, as_entity-is, set_of, follows}
-use Rattle.sc_sound_rules.proofs.EqualLaws.{same_uid-decides, same_uid-eq, literal-eval, same_value, same_entity}
+use Rattle.sc_sound_values.proofs.LiteralLaws.{same_uid-decides, same_uid-eq}
+use Rattle.sc_sound_rules.proofs.EqualLaws.{literal-eval, same_value, same_entity}
 use Rattle.sc_sound_values.proofs.ObjectLaws.{of_stored, data_of}
 use Rattle.sc_sound_values.proofs.ListLaws.{each_weaker, contained, each_contained, any_contained, one_passes}
 

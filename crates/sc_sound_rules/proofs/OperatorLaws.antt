@@ -48,11 +48,12 @@ use Rattle.sc_typing_rules.specs.Operators.{are_entities, compared, equal_by, gi
 use Rattle.sc_typing_rules.specs.Operators as ops
 use Rattle.sc_typed.proofs.OutcomeLaws.{through, in_either, checked, found}
 use Rattle.sc_sound_values.specs.Sound.{IsOf, OrOverflows, AllHold}
-use Rattle.sc_sound_values.proofs.ValueLaws.{Fits, true_fits, false_fits, bool_fits, truth_fits, fits-true, fits-false, boolean, of_Bool, of_Long, of_Decimal, of_Ip, long, decimal, address, set_asked, IsEntityOf, entity_of, as_entity-is, string_of}
-use Rattle.sc_sound_rules.proofs.EqualLaws.{literals-same, literal-eval, same_value, entities-differ}
+use Rattle.sc_sound_values.proofs.ValueLaws.{by_test, Fits, true_fits, false_fits, bool_fits, truth_fits, fits-true, fits-false, boolean, of_Bool, of_Long, of_Decimal, of_Ip, long, decimal, address, set_asked, IsEntityOf, entity_of, as_entity-is, string_of}
+use Rattle.sc_sound_values.proofs.LiteralLaws.{literals-same}
+use Rattle.sc_sound_rules.proofs.EqualLaws.{literal-eval, same_value, entities-differ}
 use Rattle.sc_sound_values.proofs.ObjectLaws.{of_stored, data_of, of_field}
 use Rattle.sc_sound_values.proofs.HoldingLaws.{is_true as is_true_value, known_holds, tag-holds, holds-tag}
-use Rattle.sc_sound_rules.proofs.LogicLaws.{by_test, given_by_test}
+use Rattle.sc_sound_rules.proofs.LogicLaws.{given_by_test}
 use Rattle.sc_sound_rules.proofs.MembershipLaws.{within_sound, InType}
 
 module _ (w : World) where

@@ -1,5 +1,5 @@
 -- Values by their types.
-use Rattle.std.proofs.Common.{◌≡◌, ◌&&◌, ℕ, ℤ, List, [], ◌∷◌, Bool, true, false, IsTrue, Some, Result, Ok, Err, refl, sym, ap, subst, ◌∙◌}
+use Rattle.std.proofs.Common.{◌≡◌, ◌&&◌, ℕ, ℤ, List, [], ◌∷◌, Bool, true, false, if◌then◌else◌, IsTrue, Some, Result, Ok, Err, refl, sym, ap, subst, ◌∙◌}
 use Rattle.std.specs.List.{AllByRecursion, list_all}
 use Rattle.std.proofs.lemmas.Slice.Eq.{bytes_eq-Decides}
 use Rattle.sc_ip.specs.declared.ip.Ip.{Ip}
@@ -22,6 +22,12 @@ use Rattle.sc_eval.specs.declared.error.EvalError.{EvalError}
 use Rattle.sc_eval.specs.Outcomes.{◌>>=◌, long_in, text_in, entity_in, set_in, decimal_in, address_in, as_long, as_text, as_entity, as_set, as_decimal, as_address}
 use Rattle.sc_typed.specs.Types.{is_true, is_true_in, is_false, is_false_in, is_boolean, is_boolean_in, is_long, is_long_in, is_string, is_string_in, is_decimal, is_decimal_in, is_ip, is_ip_in, entity_name, entity_name_in, member, member_in, truth}
 use Rattle.sc_sound_values.specs.Sound.{IsOf, OrOverflows}
+
+-- ---- types by a test
+
+pub by_test : (P : Ty → Type 0) (b : Bool) (x y : Ty) → (b ≡ true → P x) → (b ≡ false → P y) → P (if b then x else y)
+by_test P true x y h k = h refl
+by_test P false x y h k = k refl
 
 -- ---- what conforms to a type, by the type's kind
 

@@ -12,8 +12,7 @@ use Rattle.sc_typed.specs.Types.{is_true, is_false}
 use Rattle.sc_typed.specs.Outcomes.{ty}
 use Rattle.sc_typing_rules.specs.Operators.{negated}
 use Rattle.sc_typing_rules.specs.Rules.{or_type, and_type}
-use Rattle.sc_sound_values.proofs.ValueLaws.{Fits, true_fits, false_fits, bool_fits, fits-true, fits-false}
-use Rattle.sc_sound_rules.proofs.LogicLaws.{by_test}
+use Rattle.sc_sound_values.proofs.ValueLaws.{by_test, Fits, true_fits, false_fits, bool_fits, fits-true, fits-false}
 use Rattle.sc_terms.specs.declared.node.UnaryOp.TheVariants.{Not}
 use Rattle.sc_terms.specs.declared.node.BinaryOp.TheVariants.{And, Or}
 use Rattle.sc_terms.specs.Trees.{Tree, one, two}

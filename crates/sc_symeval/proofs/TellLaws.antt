@@ -47,7 +47,7 @@ use Rattle.sc_typing_rules.specs.Rules.{or_type, and_type, literal_type, variabl
 use Rattle.sc_sound_values.specs.Sound.{IsOf}
 use Rattle.sc_sound_values.proofs.ValueLaws.{truth_fits, both_true, boolean}
 use Rattle.sc_sound_values.proofs.ObjectLaws.{has_declared, value_declared}
-use Rattle.sc_sound_rules.proofs.EqualLaws.{literals-same}
+use Rattle.sc_sound_values.proofs.LiteralLaws.{literals-same}
 use Rattle.sc_terms.specs.declared.node.UnaryOp.TheVariants as unary
 use Rattle.sc_terms.specs.declared.node.BinaryOp.TheVariants as two_op
 use Rattle.sc_terms.specs.Trees.{Tree, one, two}
