@@ -3,7 +3,7 @@
 /// What a byte or a character that stands for itself, or an escape, stands for in a string.
 #[derive(Clone, Copy, Debug, PartialEq, Eq)]
 pub enum Piece {
-    /// This character, which isn't a `*`.
+    /// This character. It is a `*` only where the string has that by its code, as in `\x2A`.
     Char(char),
     /// `*`, which in a pattern stands for any characters or none.
     Star,

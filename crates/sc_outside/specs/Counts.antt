@@ -1,5 +1,5 @@
 -- Counts of faults: a failure is never answered without one.
-use Rattle.std.specs.Prelude.{ℕ, ◌+◌, ◌-◌, ◌^◌, ◌≤◌, min}
+use Rattle.std.specs.Prelude.{◌≡◌, ℕ, ◌+◌, ◌-◌, ◌^◌, ◌≤◌, min}
 
 -- where a count stands still
 abbrev pub last_count : ℕ
@@ -17,3 +17,8 @@ Rose before now = next_count before ≤ now
 pub record Counts (before now : ℕ) (failed : Type 0) : Type 0 where
   pub later : before ≤ now
   pub rose : failed → Rose before now
+
+-- what a call does to a count of failed calls: one more where the call failed, else none
+pub record CountsFailure (before now : ℕ) (failed : Type 0) : Type 0 where
+  pub raised : failed → now ≡ next_count before
+  pub kept : ¬ failed → now ≡ before

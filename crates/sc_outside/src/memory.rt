@@ -1,6 +1,6 @@
 //! Files and a sink in memory, of which the calls of given numbers fail.
 ghost use Rattle.std.specs.Prelude.{◌≡◌, ◌≢◌, ◌≤◌, ◌↔◌, ◌⊎◌, ℕ, List, [], length, Some, None, Err, Contains, IfOk, IfSome};
-ghost use Rattle.sc_outside.specs.Counts.{Counts, next_count};
+ghost use Rattle.sc_outside.specs.Counts.{Counts, CountsFailure, next_count};
 ghost use Rattle.sc_outside.specs.Memory.{content_in, kept_of, KeepsOf};
 ghost use Rattle.sc_outside.specs.Reads.{Reads};
 ghost use Rattle.sc_outside.specs.Writes.{Writes};
@@ -52,6 +52,7 @@ impl Files for MemFiles {
 
         // It fails exactly where it is told to, or the name isn't there.
         ensures fails { (result ≡ Err FileFault.Failed) ↔ ((Contains self.old.failing.items self.old.calls) ⊎ (content_in self.old.files name.now ≡ None)) }
+        ensures counts_failure { CountsFailure self.old.faults.count self.new.faults.count (result ≡ Err FileFault.Failed) }
         ensures failing { self.new.failing ≡ self.old.failing }
         ensures calls { self.new.calls ≡ next_count self.old.calls }
     {
@@ -129,6 +130,7 @@ impl Sink for MemSink {
 
         // It fails exactly where it is told to.
         ensures kept { KeepsOf (kept_of self.old.failing.items self.old.calls) self.old.written.items self.new.written.items piece.now result }
+        ensures counts_failure { CountsFailure self.old.faults.count self.new.faults.count (result ≡ Err SinkFault.Failed) }
         ensures failing { self.new.failing ≡ self.old.failing }
         ensures calls { self.new.calls ≡ next_count self.old.calls }
     {

@@ -1,6 +1,8 @@
 //! The files and the standard output of the system. Nothing is told of their bytes.
 ghost use Rattle.std.specs.Prelude.{◌≡◌, ◌≢◌, ◌≤◌, ◌+◌, ◌↔◌, length, max, vec_capacity, Err, None, IfOk, OnErr};
 ghost use Rattle.std.specs.IoError.{error_kind};
+ghost use Rattle.sc_outside.specs.Counts.{Counts, CountsFailure};
+ghost use Rattle.sc_outside.specs.Writes.{Writes};
 
 use crate::count::FaultCount;
 use crate::faults::{FileFault, SinkFault};
@@ -39,7 +41,11 @@ impl<R: rt::Files> Files for RealFiles<'_, R> {
 
     ghost bounded = { λ s. s.faults.within };
 
-    fn read(&mut self, alloc: Global, name: &str, limit: u64) -> Result<Vec<u8>, FileFault> {
+    fn read(&mut self, alloc: Global, name: &str, limit: u64) -> Result<Vec<u8>, FileFault>
+        ensures within { IfOk result (λ bytes. length bytes.items ≤ limit) }
+        ensures counts { Counts self.old.faults.count self.new.faults.count (result ≡ Err FileFault.Failed) }
+        ensures counts_failure { CountsFailure self.old.faults.count self.new.faults.count (result ≡ Err FileFault.Failed) }
+    {
         let read = bytes_of(self.rt, alloc, name, limit);
         if matches!(&read, Err(FileFault::Failed)) {
             self.faults.raise();
@@ -132,7 +138,11 @@ impl<R: Print> Sink for RealSink<'_, R> {
 
     /// Writes until all is written, again where a write was interrupted. A write that takes nothing
     /// is a failure.
-    fn write(&mut self, piece: &[u8]) -> Result<(), SinkFault> {
+    fn write(&mut self, piece: &[u8]) -> Result<(), SinkFault>
+        ensures text { Writes None None piece.now result }
+        ensures counts { Counts self.old.faults.count self.new.faults.count (result ≡ Err SinkFault.Failed) }
+        ensures counts_failure { CountsFailure self.old.faults.count self.new.faults.count (result ≡ Err SinkFault.Failed) }
+    {
         if self.rt.write_all(piece).is_err() {
             self.faults.raise();
             return Err(SinkFault::Failed);
