@@ -11,6 +11,7 @@ pub mod LeadsLaws
 pub mod MeaningLaws
 pub mod MembersLaws
 pub mod NamesLaws
+pub mod OnceLaws
 pub mod OrderedLaws
 pub mod OutlineLaws
 pub mod OutlinedLaws

@@ -3,7 +3,8 @@ use Rattle.std.proofs.Common.{◌≡◌, ℕ, List, [], ◌∷◌, map, Bool, tr
 use Rattle.std.proofs.Math.Path.{fun_ext}
 use Rattle.std.specs.BTreeMap.{is_at}
 use Rattle.std.specs.Borrow.{Bor}
-use Rattle.std.specs.List.{All, AllByRecursion}
+use Rattle.std.specs.List.{All, AllByRecursion, IsDistinct}
+use Rattle.std.specs.Str.{bytes_eq}
 use Rattle.std.specs.Map.{keys_of, lookup}
 use Rattle.std.specs.Option.{is_some}
 use Rattle.std.proofs.lemmas.List.Elements.{All-contains}
@@ -51,7 +52,7 @@ module _ (s : ResolvedSchema) (entries : Entries) (same : (name : List ℕ) → 
   pub same_bodies : body_in entries ≡ body_of s
   same_bodies = fun_ext same
 
-  pub order_is : (names order : Names) → names ≡ keys_of entries → All (Contains order) names × LeadsBack (references (body_in entries)) order → IsOrder s order
+  pub order_is : (names order : Names) → names ≡ keys_of entries → All (Contains order) names × LeadsBack (references (body_in entries)) order × IsDistinct bytes_eq order → IsOrder s order
   order_is names order keys h = record {
     all = each_named order (common_types s) (λ q has. let p = named_has_body (common_types s) q has in
         All-contains (Contains order) names q h.0 (all_keyed entries names keys q (some_is (body_in entries q) p.0 (same q ∙ p.1))));

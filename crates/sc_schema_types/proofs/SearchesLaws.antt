@@ -1,7 +1,8 @@
 -- What a search for an order keeps at each of its moves.
-use Rattle.std.proofs.Common.{◌≡◌, ◌⊎◌, ◌<◌, ◌≤◌, ◌+◌, ℕ, List, [], ◌∷◌, ◌++◌, length, take, get_or, Bool, true, false, cond, Option, Some, None, Contains, slice_get, refl, sym, ap, ◌∙◌, inl, inr, subst, arith}
+use Rattle.std.proofs.Common.{◌≡◌, ◌≢◌, ◌⊎◌, ◌<◌, ◌≤◌, ◌+◌, ℕ, List, [], ◌∷◌, ◌++◌, length, take, get_or, Bool, true, false, cond, Option, Some, None, Contains, slice_get, refl, sym, ap, ◌∙◌, inl, inr, subst, arith}
 use Rattle.std.specs.BTreeMap.{is_at}
-use Rattle.std.specs.List.{All}
+use Rattle.std.specs.List.{All, IsDistinct}
+use Rattle.std.specs.Str.{bytes_eq}
 use Rattle.std.proofs.lemmas.Bool.{cases_lt}
 use Rattle.std.proofs.lemmas.List.Elements.{Contains-append_left, Contains-push, Contains-push_cases}
 use Rattle.std.proofs.lemmas.Option.{slice_get_within, slice_get-get_or, get_or_from_slice_get}
@@ -14,8 +15,9 @@ use Rattle.sc_schema_types.specs.declared.search.Step.{Step}
 use Rattle.sc_schema_types.specs.declared.search.Search.{Search}
 use Rattle.sc_schema_types.specs.References.{Names, Bodies, Graph, Reaches, at_once, references}
 use Rattle.sc_schema_types.specs.Orders.{LeadsBack}
-use Rattle.sc_schema_types.specs.Searches.{Marks, mark_in, marked_in, names_on, IsPath, IsStep, AreMarks, IsSearch, IsRested, opened, IsKnown, GoesOn}
+use Rattle.sc_schema_types.specs.Searches.{Marks, mark_in, marked_in, names_on, IsPath, IsStep, AreMarks, IsOnce, IsSearch, IsRested, opened, IsKnown, GoesOn}
 use Rattle.sc_schema_types.proofs.MembersLaws.{all_push, all_front, all_weaker}
+use Rattle.sc_schema_types.proofs.OnceLaws.{once_opened, once_left, once_first, no_mark}
 use Rattle.sc_schema_types.proofs.ReachesLaws.{then_one, path_push, path_pop, path_one, path_reach}
 use Rattle.sc_schema_types.proofs.TextsLaws.{at_same, same_at}
 
@@ -88,13 +90,14 @@ module _ (bodies : Bodies) where
   step_opened order name = record { named = refl; behind = λ k d below within. absurd (omega (arith, below)) }
 
   -- a common type is put on the path
-  pub enters : (order : Names) (path : List Step) (old new : Marks) (name : List ℕ) → IsSearch bodies order path old → IsPath (references bodies) (names_on path ++ name ∷ [])
+  pub enters : (order : Names) (path : List Step) (old new : Marks) (name : List ℕ) → IsSearch bodies order path old → IsPath (references bodies) (names_on path ++ name ∷ []) → mark_in old name ≡ None
       → ((q : List ℕ) → mark_in new q ≡ marked_in old name Open q) → IsSearch bodies order (path ++ opened bodies name ∷ []) new
-  enters order path old new name h link put = record {
+  enters order path old new name h link none put = record {
     leads_back = h.leads_back;
     linked = subst (IsPath (references bodies)) (sym (names_push path (opened bodies name))) link;
     steps = all_push (IsStep bodies order) path (opened bodies name) h.steps (step_opened order name);
     marked = subst (λ (names : Names). AreMarks order names new) (sym (names_push path (opened bodies name))) (marks_opened order (names_on path) old new name h.marked put);
+    once = subst (λ (names : Names). IsOnce order names new) (sym (names_push path (opened bodies name))) (once_opened order (names_on path) old new name h.once none put);
   }
 
   -- more of what the end of the path names is known to have its place
@@ -107,6 +110,7 @@ module _ (bodies : Bodies) where
         linked = subst (IsPath (references bodies)) names h.linked;
         steps = all_push (IsStep bodies order) path new (all_front (IsStep bodies order) path old h.steps).0 is;
         marked = subst (λ (ns : Names). AreMarks order ns marks) names h.marked;
+        once = subst (λ (ns : Names). IsOnce order ns marks) names h.once;
       }
 
   -- the end of the path, where all that it names have their places, gets its own
@@ -117,6 +121,7 @@ module _ (bodies : Bodies) where
     linked = path_pop (references bodies) (names_on path) step.name (subst (IsPath (references bodies)) (names_push path step) h.linked);
     steps = all_weaker (IsStep bodies order) (IsStep bodies (order ++ step.name ∷ [])) path (step_later order step.name) (all_front (IsStep bodies order) path step h.steps).0;
     marked = marks_left order (names_on path) old new step.name (subst (λ (ns : Names). AreMarks order ns old) (names_push path step) h.marked) put;
+    once = once_left order (names_on path) old new step.name (subst (λ (ns : Names). IsOnce order ns old) (names_push path step) h.once) put;
   }
 
   -- a common type on the path that its end names reaches itself
@@ -206,6 +211,11 @@ past names i none = elim (cases_lt i (length names)) [
 pub skips_seen : (marks : Marks) (seen next : Names) (from at : ℕ) → seen ≡ next → ((k : ℕ) (d : List ℕ) → from ≤ k → k < at → mark_in marks (get_or seen k d) ≡ Some Placed) → Skips marks next from at
 skips_seen marks seen next from at same over = subst (λ (ns : Names). Skips marks ns from at) same (record { over = over })
 
+-- the name at the place that is found isn't placed
+pub stops_at : (marks : Marks) (seen next : Names) (at : ℕ) (q : List ℕ) → seen ≡ next → ((name : List ℕ) → slice_get seen at ≡ Some name → mark_in marks name ≢ Some Placed)
+    → slice_get next at ≡ Some q → mark_in marks q ≡ Some Placed → ⊥
+stops_at marks seen next at q same stops found = stops q (ap (λ (ns : Names). slice_get ns at) same ∙ found)
+
 -- the end of the path gets its place
 pub goes_back : (bodies : Bodies) (old new : Search) (step : Step) (at : ℕ) → IsSearch bodies old.order.items (old.path.items ++ step ∷ []) old.marks.entries → Skips old.marks.entries step.next step.placed at → slice_get step.next at ≡ None
     → new.order.items ≡ old.order.items ++ step.name ∷ [] → new.path.items ≡ old.path.items → ((q : List ℕ) → mark_in new.marks.entries q ≡ marked_in old.marks.entries step.name Placed q) → GoesOn bodies old step new
@@ -221,9 +231,9 @@ goes_back bodies old new step at h skips none order path marks =
 
 -- the next name comes behind the end of the path
 pub goes_down : (bodies : Bodies) (old new : Search) (step further : Step) (q : List ℕ) (at : ℕ) → IsSearch bodies old.order.items (old.path.items ++ step ∷ []) old.marks.entries → Skips old.marks.entries step.next step.placed at
-    → slice_get step.next at ≡ Some q → further.name ≡ step.name → further.next ≡ step.next → further.placed ≡ at
+    → slice_get step.next at ≡ Some q → mark_in old.marks.entries q ≡ None → further.name ≡ step.name → further.next ≡ step.next → further.placed ≡ at
     → new.order.items ≡ old.order.items → new.path.items ≡ (old.path.items ++ further ∷ []) ++ opened bodies q ∷ [] → ((r : List ℕ) → mark_in new.marks.entries r ≡ marked_in old.marks.entries q Open r) → GoesOn bodies old step new
-goes_down bodies old new step further q at h skips found name next place order path marks =
+goes_down bodies old new step further q at h skips found none name next place order path marks =
     let moved_step : IsStep bodies old.order.items further = moved bodies old.order.items old.path.items old.marks.entries step h at skips further name next place in
     let before : IsSearch bodies old.order.items (old.path.items ++ further ∷ []) old.marks.entries = advances bodies old.order.items old.path.items old.marks.entries step further h name moved_step in
     let leads : Contains (references bodies further.name) q = subst (λ (n : List ℕ). Contains (references bodies n) q) (sym name) (named_next bodies old.order.items old.path.items old.marks.entries step h at skips q (slice_get_within step.next at q found) (sym (get_or_from_slice_get step.next at q q found))) in
@@ -231,7 +241,7 @@ goes_down bodies old new step further q at h skips found name next place order p
     subst (λ (ns : Names). IsPath (references bodies) (ns ++ q ∷ [])) (sym (names_push old.path.items further))
     (path_push (references bodies) (names_on old.path.items) further.name q (subst (IsPath (references bodies)) (names_push old.path.items further) before.linked) leads) in
     let after : IsSearch bodies old.order.items ((old.path.items ++ further ∷ []) ++ opened bodies q ∷ []) new.marks.entries =
-    enters bodies old.order.items (old.path.items ++ further ∷ []) old.marks.entries new.marks.entries q before link marks in
+    enters bodies old.order.items (old.path.items ++ further ∷ []) old.marks.entries new.marks.entries q before link none marks in
     record {
       sound = subst (λ (p : List Step). IsSearch bodies new.order.items p new.marks.entries) (sym path) (subst (λ (ns : Names). IsSearch bodies ns ((old.path.items ++ further ∷ []) ++ opened bodies q ∷ []) new.marks.entries) (sym order) after);
       further = omega (arith, ap (λ (ns : Names). length ns) order, ap (λ (p : List Step). length p) path, length_push (old.path.items ++ further ∷ []) (opened bodies q), length_push old.path.items further);
@@ -239,17 +249,21 @@ goes_down bodies old new step further q at h skips found name next place order p
           (subst (λ (ns : Names). IsKnown ns ((old.path.items ++ further ∷ []) ++ opened bodies q ∷ []) r) (sym order) (known_entered old.order.items old.path.items step further (opened bodies q) r name known));
     }
 
+-- where nothing is on the path, a name that isn't placed has no mark
+pub rests_unmarked : (bodies : Bodies) (search : Search) (q : List ℕ) → IsRested bodies search → (mark_in search.marks.entries q ≡ Some Placed → ⊥) → mark_in search.marks.entries q ≡ None
+rests_unmarked bodies search q h placed = no_mark search.marks.entries q placed (λ is_open. no_element q (h.sound.marked.open_ones q is_open))
+
 -- a common type and all that it reaches get their places: nothing that has its place loses it
 pub record IsPlacing (bodies : Bodies) (first : Names) (start : List ℕ) (search : Search) : Type 0 where
   pub sound : IsSearch bodies search.order.items search.path.items search.marks.entries
   pub keeps : (q : List ℕ) → Contains first q → IsKnown search.order.items search.path.items q
   pub begun : IsKnown search.order.items search.path.items start
 
-pub placing_first : (bodies : Bodies) (old new : Search) (start : List ℕ) → IsRested bodies old → new.order.items ≡ old.order.items → new.path.items ≡ old.path.items ++ opened bodies start ∷ []
+pub placing_first : (bodies : Bodies) (old new : Search) (start : List ℕ) → IsRested bodies old → mark_in old.marks.entries start ≡ None → new.order.items ≡ old.order.items → new.path.items ≡ old.path.items ++ opened bodies start ∷ []
     → ((q : List ℕ) → mark_in new.marks.entries q ≡ marked_in old.marks.entries start Open q) → IsPlacing bodies old.order.items start new
-placing_first bodies old new start h order path marks =
+placing_first bodies old new start h none order path marks =
     let path_is : new.path.items ≡ opened bodies start ∷ [] = path ∙ ap (λ (p : List Step). p ++ opened bodies start ∷ []) h.no_path in
-    let after : IsSearch bodies old.order.items (opened bodies start ∷ []) new.marks.entries = enters bodies old.order.items [] old.marks.entries new.marks.entries start h.sound (path_one (references bodies) start) marks in
+    let after : IsSearch bodies old.order.items (opened bodies start ∷ []) new.marks.entries = enters bodies old.order.items [] old.marks.entries new.marks.entries start h.sound (path_one (references bodies) start) none marks in
     record {
       sound = subst (λ (p : List Step). IsSearch bodies new.order.items p new.marks.entries) (sym path_is) (subst (λ (ns : Names). IsSearch bodies ns (opened bodies start ∷ []) new.marks.entries) (sym order) after);
       keeps = λ q has. inl (subst (λ (ns : Names). Contains ns q) (sym order) has);
@@ -301,7 +315,7 @@ no_marks marks none = record {
 pub placed_first : (bodies : Bodies) (search : Search) (names : Names) → search.order.items ≡ [] → search.path.items ≡ [] → search.marks.entries ≡ [] → ArePlaced bodies search names 0
 unfolding IsPath
 placed_first bodies search names order path marks =
-    let sound : IsSearch bodies [] [] search.marks.entries = record { leads_back = nothing_leads (references bodies); linked = tt; steps = tt; marked = no_marks search.marks.entries marks } in
+    let sound : IsSearch bodies [] [] search.marks.entries = record { leads_back = nothing_leads (references bodies); linked = tt; steps = tt; marked = no_marks search.marks.entries marks; once = once_first search.marks.entries } in
     record {
       rested = record { no_path = path; sound = subst (λ (ns : Names). IsSearch bodies ns [] search.marks.entries) (sym order) sound };
       all = λ k d below. absurd (omega (arith, below));
@@ -320,8 +334,9 @@ placed_next bodies old new names at name h within is more = record {
   ];
 }
 
-pub placed_last : (bodies : Bodies) (search : Search) (names order : Names) (at : ℕ) → ArePlaced bodies search names at → length names ≤ at → order ≡ search.order.items → All (Contains order) names × LeadsBack (references bodies) order
+pub placed_last : (bodies : Bodies) (search : Search) (names order : Names) (at : ℕ) → ArePlaced bodies search names at → length names ≤ at → order ≡ search.order.items → All (Contains order) names × LeadsBack (references bodies) order × IsDistinct bytes_eq order
 placed_last bodies search names order at h beyond is = (
   λ k d within. subst (λ (ns : Names). Contains ns (get_or names k d)) (sym is) (h.all k d (omega (arith, within, beyond))),
   subst (LeadsBack (references bodies)) (sym is) h.rested.sound.leads_back,
+  subst (IsDistinct bytes_eq) (sym is) h.rested.sound.once.order_once,
 )

@@ -30,7 +30,7 @@ at_same a b h = sym (same_bytes b a (sym (is_at-bytes a b) ∙ h))
 pub same_at : (a b : List ℕ) → a ≡ b → is_at (text_cmp a) b ≡ true
 same_at a b h = is_at-bytes a b ∙ bytes_same b a (sym h)
 
-not_first : (y : List ℕ) (names : List (List ℕ)) (x : List ℕ) → bytes_eq y x ≡ false → (Contains names x → ⊥) → (y ≡ x) ⊎ Contains names x → ⊥
+pub not_first : (y : List ℕ) (names : List (List ℕ)) (x : List ℕ) → bytes_eq y x ≡ false → (Contains names x → ⊥) → (y ≡ x) ⊎ Contains names x → ⊥
 not_first y names x other none (inl is) = absurd (let no : true ≡ false = sym (bytes_same y x is) ∙ other in cc)
 not_first y names x other none (inr has) = none has
 

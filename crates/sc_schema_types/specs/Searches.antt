@@ -1,8 +1,9 @@
 -- How a search for an order goes on. Clauses inside of the crate speak of it.
 use Rattle.std.specs.Prelude.{◌≡◌, ℕ, ◌+◌, ◌*◌, ◌<◌, List, [], ◌∷◌, ◌++◌, length, map, Option, Some, Contains, slice_index_or, ◌⊎◌, if◌then◌else◌, ⊤}
-use Rattle.std.specs.List.{AllByRecursion}
+use Rattle.std.specs.List.{AllByRecursion, IsDistinct}
 use Rattle.std.specs.BTreeMap.{is_at}
 use Rattle.std.specs.Map.{lookup}
+use Rattle.std.specs.Str.{bytes_eq}
 use Rattle.sc_names.specs.Uids.{text_cmp}
 use Rattle.sc_schema_types.specs.declared.search.Mark.{Mark}
 use Rattle.sc_schema_types.specs.declared.search.Mark.TheVariants.{Open, Placed}
@@ -42,12 +43,20 @@ pub record AreMarks (order : Names) (path : Names) (marks : Marks) : Type 0 wher
   pub placed : (q : List ℕ) → mark_in marks q ≡ Some Placed → Contains order q
   pub open_ones : (q : List ℕ) → mark_in marks q ≡ Some Open → Contains path q
 
+-- each name in the order and on the path is marked so, and stands there once
+pub record IsOnce (order path : Names) (marks : Marks) : Type 0 where
+  pub in_order : (q : List ℕ) → Contains order q → mark_in marks q ≡ Some Placed
+  pub on_path : (q : List ℕ) → Contains path q → mark_in marks q ≡ Some Open
+  pub order_once : IsDistinct bytes_eq order
+  pub path_once : IsDistinct bytes_eq path
+
 -- what holds of an order so far, a path and the marks
 pub record IsSearch (bodies : Bodies) (order : Names) (path : List Step) (marks : Marks) : Type 0 where
   pub leads_back : LeadsBack (references bodies) order
   pub linked : IsPath (references bodies) (names_on path)
   pub steps : AllByRecursion (IsStep bodies order) path
   pub marked : AreMarks order (names_on path) marks
+  pub once : IsOnce order (names_on path) marks
 
 -- the search stands still: nothing is on the path
 pub record IsRested (bodies : Bodies) (search : Search) : Type 0 where

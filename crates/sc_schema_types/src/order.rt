@@ -1,5 +1,7 @@
 //! The common types of a schema in order.
 ghost use Rattle.std.specs.Prelude.{IfOk, IfErr};
+ghost use Rattle.std.specs.List.{IsDistinct};
+ghost use Rattle.std.specs.Str.{bytes_eq};
 ghost use Rattle.sc_schema_types.specs.Orders.{IsOrder, RefusesOrder};
 
 use crate::bodies::{bodies_of, names_of};
@@ -11,7 +13,7 @@ use sc_schema_resolved::ResolvedSchema;
 use sc_schema_syntax::SchemaFault;
 use std::alloc::Global;
 
-/// The names of a schema's common types, each after those that its body names.
+/// The names of a schema's common types, each once, after those that its body names.
 ///
 /// # Errors
 ///
@@ -19,6 +21,7 @@ use std::alloc::Global;
 /// its name. `NoMemory` comes for want of memory.
 pub fn order_types(alloc: Global, schema: &ResolvedSchema) -> Result<Seq<Name>, Fault<SchemaFault>>
     ensures ok { IfOk result (λ order. IsOrder schema.now order) }
+    ensures once { IfOk result (λ order. IsDistinct bytes_eq order) }
     ensures err { IfErr result (λ fault. RefusesOrder schema.now fault) }
 {
     let bodies = bodies_of(alloc, schema)?;

@@ -1,6 +1,8 @@
 //! Puts common types in order, each after those that its body names: a search in depth, whose path
 //! is kept as a list, since one common type may name another as often as a file is long.
-ghost use Rattle.std.specs.Prelude.{◌≡◌, ◌≢◌, ◌+◌, ◌*◌, ◌<◌, ◌≤◌, ◌∷◌, ◌++◌, [], ℕ, List, Some, length, map, Contains, All, slice_index_or, IfOk, OnOk, MatchOption, MatchResult, IsTrue, ◌↔◌};
+ghost use Rattle.std.specs.Prelude.{◌≡◌, ◌≢◌, ◌+◌, ◌*◌, ◌<◌, ◌≤◌, ◌∷◌, ◌++◌, [], ℕ, List, Some, length, map, Contains, All, slice_get, slice_index_or, IfOk, OnOk, MatchOption, MatchResult, IsTrue, ◌↔◌};
+ghost use Rattle.std.specs.List.{IsDistinct};
+ghost use Rattle.std.specs.Str.{bytes_eq};
 ghost use Rattle.sc_schema_types.specs.References.{Reaches, references};
 ghost use Rattle.sc_schema_types.specs.Orders.{LeadsBack};
 ghost use Rattle.sc_schema_types.specs.Tables.{body_in};
@@ -44,14 +46,15 @@ pub(crate) struct Search {
     pub marks: BTreeMap<Name, Mark>,
 }
 
-/// The names of common types, each after those that its body names, or a name that reaches itself.
+/// The names of common types, each once, after those that its body names, or a name that reaches
+/// itself.
 pub(crate) fn order_of(
     alloc: Global,
     bodies: &BTreeMap<Name, &ResolvedType>,
     names: &[Name],
 ) -> Result<Result<Seq<Name>, Name>, AllocError>
     ensures { IfOk result (λ found. MatchResult found
-        (λ order. All (Contains order) names.now × LeadsBack (references (body_in bodies.now.entries)) order)
+        (λ order. All (Contains order) names.now × LeadsBack (references (body_in bodies.now.entries)) order × IsDistinct bytes_eq order)
         (λ name. Reaches (references (body_in bodies.now.entries)) name name)) }
 {
     let mut search = Search {
@@ -163,9 +166,11 @@ fn is_marked(marks: &BTreeMap<Name, Mark>, name: &Name, mark: Mark) -> bool
     }
 }
 
-/// A place from which on a name may stand that isn't placed: all from the one given up to it are.
+/// The next place of a name that isn't placed, or that of the end: all from the place given up to it
+/// are placed.
 fn skip_placed(marks: &BTreeMap<Name, Mark>, names: &[Name], from: usize) -> usize
-    ensures { (k : ℕ) (d : List ℕ) → from ≤ k → k < result → mark_in marks.now.entries (slice_index_or names.now k d) ≡ Some Mark.Placed }
+    ensures over { (k : ℕ) (d : List ℕ) → from ≤ k → k < result → mark_in marks.now.entries (slice_index_or names.now k d) ≡ Some Mark.Placed }
+    ensures stops { (name : List ℕ) → slice_get names.now result ≡ Some name → mark_in marks.now.entries name ≢ Some Mark.Placed }
 {
     let mut at = from;
     while let Some(name) = names.get(at) {

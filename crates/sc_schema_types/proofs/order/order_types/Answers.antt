@@ -11,6 +11,7 @@ returns-in-Ok c = record {
   ok = order_is c.args.schema.now c.in_ok-bodies.bodies.entries c.in_ok-bodies.ensures c.as_slice.result.now c.in-Ok.order (c.as_slice.ensures ∙ c.in_ok-names.ensures.value)
       (MatchResult-at_ok _ _ c.in-Ok.order c.in-Ok.is c.in_ok-order.ensures);
   err = tt;
+  once = (MatchResult-at_ok _ _ c.in-Ok.order c.in-Ok.is c.in_ok-order.ensures).2;
 }
 
 pub returns-clause-err : goal.returns-clause-err

@@ -1,13 +1,14 @@
-use Rattle.std.proofs.Common.{◌-◌, ℕ, take, refl, ap, ◌∙◌}
+use Rattle.std.proofs.Common.{◌-◌, ℕ, take, refl, sym, ap, ◌∙◌, true≢false}
 use Rattle.std.proofs.lemmas.Option.{MatchOption-at_none}
 use Rattle.sc_schema_types.specs.declared.search.Search.{Search}
 use Rattle.sc_schema_types.specs.Tables.{body_in}
-use Rattle.sc_schema_types.proofs.SearchesLaws.{placing_first, placing_next, placing_last}
+use Rattle.sc_schema_types.proofs.SearchesLaws.{rests_unmarked, placing_first, placing_next, placing_last}
 use Rattle.sc_schema_types.proofs.search.place.Goals as goal
 
 pub loop-step-init : goal.loop-step-init
 loop-step-init c =
-    placing_first (body_in c.args.bodies.now.entries) c.args.search.now c.enter.new.self c.args.start.now c.requires c.in_ok-enter.ensures.order c.in_ok-enter.ensures.path c.in_ok-enter.ensures.marks
+    placing_first (body_in c.args.bodies.now.entries) c.args.search.now c.enter.new.self c.args.start.now c.requires
+    (rests_unmarked (body_in c.args.bodies.now.entries) c.args.search.now c.args.start.now c.requires (λ e. true≢false (sym (c.is_marked.ensures.1 e) ∙ c.if-is_marked.false))) c.in_ok-enter.ensures.order c.in_ok-enter.ensures.path c.in_ok-enter.ensures.marks
 
 pub loop-step-preserved : goal.loop-step-preserved
 loop-step-preserved c =
