@@ -4,7 +4,7 @@ mod ActionLaws
 mod AncestorLaws
 mod NamedLaws
 mod PartLaws
-mod TestLaws
+pub mod TestLaws
 mod UidsLaws
 mod DefaultLaws
 mod TypeLaws
@@ -15,4 +15,3 @@ mod DeclaredLaws
 mod NamesLaws
 mod ReachedLaws
 mod DefaultWorldLaws
-mod DefaultSampleLaws

@@ -37,7 +37,7 @@ pub fn conforms(x: &Value, ty: &Ty) -> bool
 }
 
 /// Whether a record is of a type.
-pub(crate) fn record_conforms(fields: &Rec, ty: &Ty) -> bool
+pub fn record_conforms(fields: &Rec, ty: &Ty) -> bool
     ensures { result ≡ of_type.conforms ty.now (Record fields.now) }
 {
     match ty {

@@ -3,12 +3,9 @@ ghost use Rattle.std.specs.Prelude.{◌↔◌, All, IsTrue};
 ghost use Rattle.sc_world.specs.Stores.{IsMap};
 ghost use Rattle.sc_world.specs.Tests.{Holds, IsWellFormedEntry};
 
-use crate::actions::is_action;
-use crate::ancestors::is_ordered;
-use crate::attributes::is_typed;
 use crate::closed::entry_names_stored;
 use crate::entity::EntityData;
-use crate::proper::is_proper_entry;
+use crate::sound::is_sound_entry;
 use crate::store::Store;
 use sc_names::Uid;
 use sc_schema::Schema;
@@ -34,12 +31,7 @@ fn holds_well_formed(s: &Schema, store: &Store, uid: &Uid, entity: &EntityData) 
 fn is_well_formed_entry(s: &Schema, store: &Store, uid: &Uid, entity: &EntityData) -> bool
     ensures { IsTrue result ↔ IsWellFormedEntry s.now store.now (uid.now, entity.now) }
 {
-    if !is_proper_entry(uid, entity) {
-        return false;
-    }
-    let typed = is_typed(s, uid, entity);
-    let ordered = is_ordered(store, uid, entity);
-    let action = is_action(s, uid, entity);
+    let sound = is_sound_entry(s, store, uid, entity);
     let named = entry_names_stored(store, uid, entity);
-    typed && ordered && action && named
+    sound && named
 }

@@ -7,8 +7,6 @@ mod attributes;
 mod closed;
 mod conformance;
 mod default_entity;
-#[cfg(test)]
-mod default_tests;
 mod default_value;
 mod default_worlds;
 mod entity;
@@ -17,16 +15,17 @@ mod filling;
 mod named;
 mod proper;
 mod request;
+mod sound;
 mod store;
-#[cfg(test)]
-mod tests;
 mod uids;
 mod well_formedness;
 mod world;
 
-pub use conformance::conforms;
+pub use conformance::{conforms, record_conforms};
 pub use default_worlds::{default_context, default_world, world_for};
 pub use entity::EntityData;
+pub use proper::is_proper_request;
+pub use sound::is_sound_entry;
 pub use store::Store;
 pub use well_formedness::well_formed;
 pub use world::{Request, World};

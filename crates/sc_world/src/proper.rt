@@ -14,7 +14,7 @@ use sc_names::Uid;
 use sc_values::{is_proper_record, is_uid_text};
 
 /// Whether a request is made of values.
-pub(crate) fn is_proper_request(r: &Request) -> bool
+pub fn is_proper_request(r: &Request) -> bool
     ensures { IsTrue result ↔ IsProperRequest r.now }
 {
     let principal = is_uid_text(&r.principal);

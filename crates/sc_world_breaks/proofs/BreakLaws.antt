@@ -16,11 +16,12 @@ use Rattle.sc_values.specs.declared.value.Value.TheVariants.{Record}
 use Rattle.sc_world.specs.declared.entity.EntityData.{EntityData}
 use Rattle.sc_world.specs.declared.world.World.{World}
 use Rattle.sc_world.specs.Named.{uids_in, request_uids}
+use Rattle.sc_world.specs.Sound.{IsSoundEntry}
 use Rattle.sc_world.specs.Stores.{Entities, IsMap, stored}
 use Rattle.sc_world.specs.WellFormed.{Entry, IsProperEntry, HasAttributes, HasTags, HasAncestorTypes, IsTransitive, IsAcyclic, IsAction, IsStored, EntryNamesStored, IsWellFormed}
 use Rattle.sc_world_breaks.specs.declared.breaks.Break.{Break}
 use Rattle.sc_world_breaks.specs.declared.breaks.Break.TheVariants as break
-use Rattle.sc_world_breaks.specs.Breaks.{IsSoundRequest, IsSoundEntry, IsBroken, uids_in_entry, wanted, IsMissing, IsLeast, IsFirstBreak, in_request, in_entity, missing, nowhere}
+use Rattle.sc_world_breaks.specs.Breaks.{IsSoundRequest, IsBroken, uids_in_entry, wanted, IsMissing, IsLeast, IsFirstBreak, in_request, in_entity, missing, nowhere}
 use Rattle.sc_world_breaks.proofs.UidsLaws.{all-join, all-left, all-right, names_agree}
 
 -- ---- one at most

@@ -12,11 +12,12 @@ use Rattle.sc_names.specs.Uids.{uid_cmp}
 use Rattle.sc_schema.specs.Declarations.{Declarations}
 use Rattle.sc_values.proofs.AscendingLaws.{of_first, split}
 use Rattle.sc_world.specs.declared.world.World.{World}
+use Rattle.sc_world.specs.Sound.{IsSoundEntry}
 use Rattle.sc_world.specs.Stores.{Entities, IsMap}
 use Rattle.sc_world.specs.WellFormed.{Entry}
 use Rattle.sc_world_breaks.specs.declared.breaks.Break.{Break}
 use Rattle.sc_world_breaks.specs.declared.breaks.Break.TheVariants as break
-use Rattle.sc_world_breaks.specs.Breaks.{IsSoundRequest, IsSoundEntry, IsBroken, wanted, IsMissing, IsLeast, IsFirstBreak, in_entity, missing, nowhere}
+use Rattle.sc_world_breaks.specs.Breaks.{IsSoundRequest, IsBroken, wanted, IsMissing, IsLeast, IsFirstBreak, in_entity, missing, nowhere}
 use Rattle.sc_world_breaks.specs.Tests.{least_missing}
 use Rattle.sc_world_breaks.proofs.LeastLaws.{IsLeastOf, itself, less_below, least_missing_is, none_missing}
 

@@ -1,8 +1,5 @@
-mod ActionLaws
-mod AncestorLaws
 mod BreakLaws
 mod FirstLaws
 mod LeastLaws
 mod SoundLaws
-mod TestLaws
 mod UidsLaws

@@ -13,8 +13,9 @@ use Rattle.sc_world.specs.declared.entity.EntityData.{EntityData}
 use Rattle.sc_world.specs.declared.world.Request.{Request}
 use Rattle.sc_world.specs.declared.world.World.{World}
 use Rattle.sc_world.specs.Named.{uids_in, request_uids}
+use Rattle.sc_world.specs.Sound.{IsSoundEntry}
 use Rattle.sc_world.specs.Stores.{Entities, stored}
-use Rattle.sc_world.specs.WellFormed.{Entry, IsProperEntry, IsRequestOf, HasAttributes, HasTags, HasAncestorTypes, IsTransitive, IsAcyclic, IsAction, IsStored}
+use Rattle.sc_world.specs.WellFormed.{Entry, IsRequestOf, IsStored}
 use Rattle.sc_world_breaks.specs.declared.breaks.Break.{Break}
 use Rattle.sc_world_breaks.specs.declared.breaks.Break.TheVariants as break
 
@@ -31,16 +32,6 @@ pub record IsSoundRequest (s : Declarations) (r : Request) : Type 0 where
   pub fits : IsRequestOf s env r
 
 -- ---- the stored entities
-
--- what is stored of an entity is as its type, its ancestors and its kind have it, whatever it names
-pub record IsSoundEntry (s : Declarations) (es : Entities) (x : Entry) : Type 0 where
-  pub proper : IsProperEntry x
-  pub attributes : HasAttributes s x
-  pub tags : HasTags s x
-  pub ancestor_types : HasAncestorTypes s x
-  pub transitive : IsTransitive es x
-  pub acyclic : IsAcyclic x
-  pub action : IsAction s x
 
 -- an entity that isn't sound is stored
 abbrev pub IsBroken : Declarations → Entities → Uid → Type 0

@@ -5,17 +5,18 @@ ghost use Rattle.sc_names.specs.declared.uid.Uid.{Uid as AnyUid};
 ghost use Rattle.sc_schema.specs.declared.declarations.Env.{Env};
 ghost use Rattle.sc_schema.specs.Declarations.{Declarations, environments};
 ghost use Rattle.sc_world.specs.declared.world.World.{World as AnyWorld};
+ghost use Rattle.sc_world.specs.Sound.{IsSoundEntry};
 ghost use Rattle.sc_world.specs.Stores.{IsMap};
 ghost use Rattle.sc_world.specs.WellFormed.{IsWellFormed};
 ghost use Rattle.sc_world_breaks.specs.declared.breaks.Break.{Break as AnyBreak};
-ghost use Rattle.sc_world_breaks.specs.Breaks.{IsSoundEntry, IsBroken, wanted, IsLeast, IsFirstBreak};
+ghost use Rattle.sc_world_breaks.specs.Breaks.{IsBroken, wanted, IsLeast, IsFirstBreak};
 ghost use Rattle.sc_world_breaks.specs.Tests.{least_missing};
 
 use crate::missing::least_wanted;
-use crate::sound::{is_sound_entry, is_sound_request};
+use crate::sound::is_sound_request;
 use sc_names::{Lits, Uid};
 use sc_schema::Schema;
-use sc_world::{Store, World};
+use sc_world::{Store, World, is_sound_entry};
 use std::alloc::{AllocError, Global};
 
 /// What keeps a world from being well-formed.

@@ -2,16 +2,9 @@
 //! entity that isn't stored and has to be.
 #![tactic(auto)]
 
-mod actions;
-mod ancestors;
-mod attributes;
 mod breaks;
 mod missing;
-mod proper;
-mod record;
 mod sound;
-#[cfg(test)]
-mod tests;
 mod uids;
 
 pub use breaks::{Break, break_laws, first_break};

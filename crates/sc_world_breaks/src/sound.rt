@@ -1,23 +1,18 @@
-//! Whether a request and stored entities are as a well-formed world has them, whatever they name.
+//! Whether a request is as a well-formed world has it, whatever it names.
 ghost use Rattle.std.specs.Prelude.{◌↔◌, Contains, IsTrue, IsSomeAnd};
 ghost use Rattle.sc_schema.specs.declared.declarations.Env.{Env as AnyEnv};
 ghost use Rattle.sc_schema.specs.Declarations.{context_of, environments};
 ghost use Rattle.sc_values.specs.declared.value.Value.TheVariants.{Record};
 ghost use Rattle.sc_world.specs.Conforms.{conforms};
 ghost use Rattle.sc_world.specs.Tests.{Holds};
-ghost use Rattle.sc_world_breaks.specs.Breaks.{IsSoundRequest, IsSoundEntry};
+ghost use Rattle.sc_world_breaks.specs.Breaks.{IsSoundRequest};
 ghost use Rattle.sc_world_breaks.specs.Tests.{IsEnvironmentOf, HasSoundParts};
 
-use crate::actions::is_action;
-use crate::ancestors::is_ordered;
-use crate::attributes::is_typed;
-use crate::proper::{is_proper_entry, is_proper_request};
-use crate::record::record_conforms;
 use crate::uids::{is_named, is_same};
 use sc_names::Uid;
 use sc_schema::{Env, Schema, context_of, environments};
 use sc_values::Rec;
-use sc_world::{EntityData, Request, Store};
+use sc_world::{Request, is_proper_request, record_conforms};
 
 /// Whether a request is made of values, and is one of an environment of the schema.
 pub(crate) fn is_sound_request(s: &Schema, r: &Request) -> bool
@@ -68,17 +63,4 @@ fn is_context_of(s: &Schema, action: &Uid, context: &Rec) -> bool
         Some(ty) => record_conforms(context, ty),
         None => false,
     }
-}
-
-/// Whether what is stored of an entity is as its type, its ancestors and its kind have it.
-pub(crate) fn is_sound_entry(s: &Schema, store: &Store, uid: &Uid, entity: &EntityData) -> bool
-    ensures { IsTrue result ↔ IsSoundEntry s.now store.now (uid.now, entity.now) }
-{
-    if !is_proper_entry(uid, entity) {
-        return false;
-    }
-    let typed = is_typed(s, uid, entity);
-    let ordered = is_ordered(store, uid, entity);
-    let action = is_action(s, uid, entity);
-    typed && ordered && action
 }

@@ -2,7 +2,6 @@ pub mod AsciiLaws
 pub mod EntityFaultsLaws
 pub mod FaultsLaws
 pub mod InOrderLaws
-pub mod MadeLaws
 pub mod MembersLaws
 pub mod PlainLaws
 pub mod ProperLaws

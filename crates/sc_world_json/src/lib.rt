@@ -17,10 +17,6 @@ mod names;
 mod plain;
 mod pointer;
 mod reading;
-#[cfg(test)]
-mod reading_tests;
-#[cfg(test)]
-mod tests;
 mod uids;
 mod value_building;
 mod values;

@@ -1,6 +1,6 @@
-//! Worlds that are read, and the first faults of those that aren't.
-use crate::{plain_keys, read_world, reading_laws, world_text};
+//! Worlds that are written and read, and the first faults of those that aren't read.
 use sc_lists::Fault;
+use sc_world_json::{WorldFault, plain_keys, read_world, world_text, world_value};
 use std::alloc::{AllocError, Global};
 use std::test::Fail;
 
@@ -22,7 +22,7 @@ fn told_with(alloc: Global, part: &str, other: &str) -> Result<String, AllocErro
     told_of(alloc, text.as_str())
 }
 
-fn has_plain_keys(alloc: Global, context: &str) -> Result<bool, Fault<crate::WorldFault>> {
+fn has_plain_keys(alloc: Global, context: &str) -> Result<bool, Fault<WorldFault>> {
     let text = SAMPLE.replace(alloc, r#""context":{}"#, context)?;
     let world = read_world(alloc, text.as_bytes())?;
     Ok(plain_keys(&world))
@@ -31,7 +31,6 @@ fn has_plain_keys(alloc: Global, context: &str) -> Result<bool, Fault<crate::Wor
 #[test]
 fn bytes_without_a_tree(rt: HostRuntime) -> Result<(), Fail> {
     let alloc = rt.alloc();
-    reading_laws();
     for text in ["{", "", "{} {}", r#"{"entities":1e400}"#, r#"["\ud800"]"#] {
         assert_eq!(rt; told_of(alloc, text)?.as_str(), "not JSON", "{text}");
     }
@@ -181,12 +180,25 @@ fn faults_of_entities(rt: HostRuntime) -> Result<(), Fail> {
     Ok(())
 }
 
+/// What the JSON value of a world that is read says, as text.
+fn value_text(alloc: Global, text: &str) -> Result<String, Fault<WorldFault>> {
+    let world = read_world(alloc, text.as_bytes())?;
+    Ok(world_value(alloc, &world)?.to_string(alloc)?)
+}
+
+/// Worlds as they are written: one with a truth value alone, and one with each kind of value.
+const WRITTEN: [&str; 2] = [
+    r#"{"entities":[{"attrs":{},"parents":[],"tags":{},"uid":{"id":"view","type":"Action"}},{"attrs":{},"parents":[],"tags":{},"uid":{"id":"0","type":"Doc"}},{"attrs":{},"parents":[],"tags":{},"uid":{"id":"0","type":"User"}}],"request":{"action":{"id":"view","type":"Action"},"context":{"mfa":true},"principal":{"id":"0","type":"User"},"resource":{"id":"0","type":"Doc"}}}"#,
+    r#"{"entities":[{"attrs":{"addr":{"__extn":{"arg":"10.0.0.1/8","fn":"ip"}},"name":"\"é\n"},"parents":[{"id":"g","type":"Group"}],"tags":{"boss":{"__entity":{"id":"1","type":"User"}},"numbers":[-5]},"uid":{"id":"0","type":"User"}}],"request":{"action":{"id":"view","type":"Shop::Action"},"context":{"price":{"__extn":{"arg":"-1.2345","fn":"decimal"}},"rest":{"mfa":false}},"principal":{"id":"0","type":"User"},"resource":{"id":"","type":"Doc"}}}"#,
+];
+
 #[test]
-fn a_world_that_was_written(rt: HostRuntime) -> Result<(), Fail> {
+fn worlds_that_were_written(rt: HostRuntime) -> Result<(), Fail> {
     let alloc = rt.alloc();
-    let text =
-        r#"{"entities":[{"attrs":{},"parents":[],"tags":{},"uid":{"id":"view","type":"Action"}},{"attrs":{},"parents":[],"tags":{},"uid":{"id":"0","type":"Doc"}},{"attrs":{},"parents":[],"tags":{},"uid":{"id":"0","type":"User"}}],"request":{"action":{"id":"view","type":"Action"},"context":{"mfa":true},"principal":{"id":"0","type":"User"},"resource":{"id":"0","type":"Doc"}}}"#;
-    assert_eq!(rt; told_of(alloc, text)?.as_str(), text);
+    for text in WRITTEN {
+        assert_eq!(rt; told_of(alloc, text)?.as_str(), text);
+        assert_eq!(rt; value_text(alloc, text)?.as_str(), text);
+    }
     Ok(())
 }
 

@@ -1,0 +1,13 @@
+//! Tests of the calls on worlds: what is stored, which values are of a type, which worlds are
+//! well-formed, what keeps a world from being so, and the text of a world. Worlds and their schema
+//! are read from their texts.
+#![tactic(auto)]
+
+#[cfg(test)]
+mod samples;
+#[cfg(test)]
+mod world;
+#[cfg(test)]
+mod world_breaks;
+#[cfg(test)]
+mod world_json;
