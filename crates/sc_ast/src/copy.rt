@@ -1,7 +1,9 @@
 //! Copies of expressions. The copying goes as deep as the expression does.
 ghost use Rattle.std.specs.Prelude.{◌≡◌, IfOk};
 
-use crate::expr::Expr;
+use crate::expr::{Expr, TypeName};
+use crate::operator::BinaryOperator;
+use crate::place::Place;
 use sc_lists::{Boxed, Seq, Text};
 use std::alloc::{AllocError, Global};
 
@@ -11,56 +13,30 @@ pub fn try_clone(alloc: Global, expr: &Expr) -> Result<Expr, AllocError>
     ensures { IfOk result (λ copy. copy ≡ expr.now) }
 {
     match expr {
-        Expr::If(place, c, a, b) => Ok(Expr::If(
-            *place,
-            clone_boxed(alloc, c)?,
-            clone_boxed(alloc, a)?,
-            clone_boxed(alloc, b)?,
-        )),
-        Expr::Or(place, a, b) => Ok(Expr::Or(
-            *place,
-            clone_boxed(alloc, a)?,
-            clone_boxed(alloc, b)?,
-        )),
-        Expr::And(place, a, b) => Ok(Expr::And(
-            *place,
-            clone_boxed(alloc, a)?,
-            clone_boxed(alloc, b)?,
-        )),
-        Expr::Binary(place, operator, a, b) => Ok(Expr::Binary(
-            *place,
-            *operator,
-            clone_boxed(alloc, a)?,
-            clone_boxed(alloc, b)?,
-        )),
+        Expr::If(place, c, a, b) => clone_choice(alloc, *place, c, a, b),
+        Expr::Or(place, a, b) => Ok(Expr::Or(*place, boxed(alloc, a)?, boxed(alloc, b)?)),
+        Expr::And(place, a, b) => Ok(Expr::And(*place, boxed(alloc, a)?, boxed(alloc, b)?)),
+        Expr::Binary(place, operator, a, b) => clone_binary(alloc, *place, *operator, a, b),
         Expr::Has(place, a, names) => Ok(Expr::Has(
             *place,
-            clone_boxed(alloc, a)?,
+            boxed(alloc, a)?,
             clone_names(alloc, names)?,
         )),
         Expr::Like(place, a, pattern) => Ok(Expr::Like(
             *place,
-            clone_boxed(alloc, a)?,
+            boxed(alloc, a)?,
             pattern.try_clone(alloc)?,
         )),
         Expr::Is(place, a, type_name) => Ok(Expr::Is(
             *place,
-            clone_boxed(alloc, a)?,
+            boxed(alloc, a)?,
             type_name.try_clone(alloc)?,
         )),
-        Expr::IsIn(place, a, type_name, in_place, b) => Ok(Expr::IsIn(
-            *place,
-            clone_boxed(alloc, a)?,
-            type_name.try_clone(alloc)?,
-            *in_place,
-            clone_boxed(alloc, b)?,
-        )),
-        Expr::Unary(place, operator, a) => {
-            Ok(Expr::Unary(*place, *operator, clone_boxed(alloc, a)?))
-        }
+        Expr::IsIn(place, a, t, in_place, b) => clone_is_in(alloc, *place, a, t, *in_place, b),
+        Expr::Unary(place, operator, a) => Ok(Expr::Unary(*place, *operator, boxed(alloc, a)?)),
         Expr::Access(place, a, name) => Ok(Expr::Access(
             *place,
-            clone_boxed(alloc, a)?,
+            boxed(alloc, a)?,
             name.try_clone(alloc)?,
         )),
         Expr::Literal(place, literal) => Ok(Expr::Literal(*place, literal.try_clone(alloc)?)),
@@ -70,11 +46,61 @@ pub fn try_clone(alloc: Global, expr: &Expr) -> Result<Expr, AllocError>
     }
 }
 
+/// A copy of an expression that is part of another one.
 #[cycle(copy)]
-fn clone_boxed(alloc: Global, expr: &Boxed<Expr>) -> Result<Boxed<Expr>, AllocError>
+fn boxed(alloc: Global, expr: &Boxed<Expr>) -> Result<Boxed<Expr>, AllocError>
     ensures { IfOk result (λ copy. copy ≡ expr.now) }
 {
     Boxed::new(alloc, try_clone(alloc, expr.get())?)
+}
+
+/// A copy of `if c then a else b`.
+#[cycle(copy)]
+fn clone_choice(
+    alloc: Global,
+    place: Place,
+    c: &Boxed<Expr>,
+    a: &Boxed<Expr>,
+    b: &Boxed<Expr>,
+) -> Result<Expr, AllocError>
+    ensures { IfOk result (λ copy. copy ≡ Expr.If place c.now a.now b.now) }
+{
+    Ok(Expr::If(place, boxed(alloc, c)?, boxed(alloc, a)?, boxed(alloc, b)?))
+}
+
+/// A copy of an operator with two operands.
+#[cycle(copy)]
+fn clone_binary(
+    alloc: Global,
+    place: Place,
+    operator: BinaryOperator,
+    a: &Boxed<Expr>,
+    b: &Boxed<Expr>,
+) -> Result<Expr, AllocError>
+    ensures { IfOk result (λ copy. copy ≡ Expr.Binary place operator a.now b.now) }
+{
+    Ok(Expr::Binary(place, operator, boxed(alloc, a)?, boxed(alloc, b)?))
+}
+
+/// A copy of `a is T in b`.
+#[cycle(copy)]
+fn clone_is_in(
+    alloc: Global,
+    place: Place,
+    a: &Boxed<Expr>,
+    type_name: &TypeName,
+    in_place: Place,
+    b: &Boxed<Expr>,
+) -> Result<Expr, AllocError>
+    ensures { IfOk result (λ copy. copy ≡ Expr.IsIn place a.now type_name.now in_place b.now) }
+{
+    Ok(Expr::IsIn(
+        place,
+        boxed(alloc, a)?,
+        type_name.try_clone(alloc)?,
+        in_place,
+        boxed(alloc, b)?,
+    ))
 }
 
 #[cycle(copy)]

@@ -122,6 +122,13 @@ fn entity(alloc: Global, l: &EntityLiteral) -> Result<Expr, AllocError>
     Ok(Expr::Literal(l.place, Literal::Entity(l.uid.try_clone(alloc)?)))
 }
 
+/// An entity as an expression that is part of another one.
+fn boxed_entity(alloc: Global, l: &EntityLiteral) -> Result<Boxed<Expr>, AllocError>
+    ensures { IfOk result (λ e. e ≡ entity l.now) }
+{
+    Boxed::new(alloc, entity(alloc, l)?)
+}
+
 /// `x == E` or `x in E`.
 fn compared(
     alloc: Global,
@@ -132,8 +139,8 @@ fn compared(
 ) -> Result<Expr, AllocError>
     ensures { IfOk result (λ e. e ≡ Expr.Binary place operator (Expr.Variable x.place x.variable) (entity l.now)) }
 {
-    let other = entity(alloc, l)?;
-    Ok(Expr::Binary(place, operator, boxed(alloc, x)?, Boxed::new(alloc, other)?))
+    let other = boxed_entity(alloc, l)?;
+    Ok(Expr::Binary(place, operator, boxed(alloc, x)?, other))
 }
 
 /// `x is T`.
@@ -154,14 +161,9 @@ fn typed_in(
 ) -> Result<Expr, AllocError>
     ensures { IfOk result (λ e. e ≡ Expr.IsIn place (Expr.Variable x.place x.variable) t.now in_place (entity l.now)) }
 {
-    let other = entity(alloc, l)?;
-    Ok(Expr::IsIn(
-        place,
-        boxed(alloc, x)?,
-        t.try_clone(alloc)?,
-        in_place,
-        Boxed::new(alloc, other)?,
-    ))
+    let left = boxed(alloc, x)?;
+    let right = boxed_entity(alloc, l)?;
+    Ok(Expr::IsIn(place, left, t.try_clone(alloc)?, in_place, right))
 }
 
 /// `x in [E, F]`, or `false` for `x in []`.
@@ -178,12 +180,8 @@ fn among(
         return Ok(Expr::Literal(place, Literal::Bool(false)));
     }
     let others = Expr::Set(bracket, entities(alloc, ls.as_slice())?);
-    Ok(Expr::Binary(
-        place,
-        BinaryOperator::In,
-        boxed(alloc, x)?,
-        Boxed::new(alloc, others)?,
-    ))
+    let others = Boxed::new(alloc, others)?;
+    Ok(Expr::Binary(place, BinaryOperator::In, boxed(alloc, x)?, others))
 }
 
 /// Entities as expressions.

@@ -9,8 +9,6 @@ mod operator;
 mod place;
 mod policy;
 mod scope;
-#[cfg(test)]
-mod tests;
 mod written;
 
 pub use copy::try_clone;

@@ -8,8 +8,6 @@ mod laws;
 mod response;
 mod standing;
 mod tally;
-#[cfg(test)]
-mod tests;
 
 pub use authorisation::authorise;
 pub use decision::Decision;

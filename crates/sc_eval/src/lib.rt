@@ -13,8 +13,6 @@ mod logic;
 mod operators;
 mod records;
 mod sets;
-#[cfg(test)]
-mod tests;
 mod texts;
 
 pub use error::EvalError;

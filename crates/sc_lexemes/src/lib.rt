@@ -14,8 +14,6 @@ mod operator;
 mod peek;
 mod stop;
 mod tables;
-#[cfg(test)]
-mod tests;
 
 pub use cursor::Cursor;
 pub use keys::no_keys;

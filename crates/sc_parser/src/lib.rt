@@ -12,8 +12,6 @@ mod policy;
 mod prefix;
 mod primary;
 mod reading;
-#[cfg(test)]
-mod reading_tests;
 mod scopes;
 mod tree;
 

@@ -1,5 +1,27 @@
-use Rattle.std.proofs.Common.{◌≡◌, take}
+use Rattle.std.proofs.Common.{◌≡◌, ◌+◌, ◌*◌, max, take}
+use Rattle.sc_ast.specs.declared.expr.Expr.{size-Expr}
 use Rattle.sc_ast.proofs.copy.+copy.Given as goal
+
+abbrev pub decreases-try_clone : goal.decreases-try_clone
+decreases-try_clone l = 3 * size-Expr l.expr.now
+
+abbrev pub decreases-boxed : goal.decreases-boxed
+decreases-boxed l = 3 * size-Expr l.expr.now + 1
+
+abbrev pub decreases-clone_choice : goal.decreases-clone_choice
+decreases-clone_choice l = 3 * max (size-Expr l.c.now) (max (size-Expr l.a.now) (size-Expr l.b.now)) + 2
+
+abbrev pub decreases-clone_binary : goal.decreases-clone_binary
+decreases-clone_binary l = 3 * max (size-Expr l.a.now) (size-Expr l.b.now) + 2
+
+abbrev pub decreases-clone_is_in : goal.decreases-clone_is_in
+decreases-clone_is_in l = 3 * max (size-Expr l.a.now) (size-Expr l.b.now) + 2
+
+abbrev pub decreases-clone_all : goal.decreases-clone_all
+decreases-clone_all l = 3 * goal.size-clone_all l + 1
+
+abbrev pub decreases-clone_fields : goal.decreases-clone_fields
+decreases-clone_fields l = 3 * goal.size-clone_fields l + 1
 
 abbrev pub invariant-clone_all-loop-expr : goal.invariant-clone_all-loop-expr
 invariant-clone_all-loop-expr l = l.copies ≡ take l.expr-index l.exprs
