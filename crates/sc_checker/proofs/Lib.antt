@@ -1,6 +1,7 @@
 pub mod KnownLaws
 pub mod RefutationLaws
 pub mod VerdictLaws
+pub mod RejectionLaws
 pub mod Soundness
 pub mod AcceptedLaws
 pub mod TextLaws

@@ -1,5 +1,5 @@
 -- Which logs are accepted, and the verdict on a log.
-use Rattle.std.specs.Prelude.{◌≡◌, ◌&&◌, ◌+◌, ℕ, List, [], ◌∷◌, ◌++◌, Bool, false, Result, Ok, Err, length, if◌then◌else◌}
+use Rattle.std.specs.Prelude.{◌≡◌, ◌≢◌, ◌&&◌, ◌+◌, ℕ, List, [], ◌∷◌, ◌++◌, Bool, false, Result, Ok, Err, length, if◌then◌else◌}
 use Rattle.sc_clauses.specs.Clauses.{Clause}
 use Rattle.sc_footprint.specs.Problems.{Posed, atoms}
 use Rattle.sc_footprint.specs.Definitions.{defining}
@@ -60,3 +60,11 @@ verdict_from rules count clauses number is_empty (s ∷ ss) =
 -- isn't empty.
 abbrev pub verdict : Rules → Posed → List Step → Verdict
 verdict rules p steps = verdict_from rules (length (atoms p)) (defining p) 0 false steps
+
+-- The least step at fault: each step before it adds a clause, and it adds none, for this reason. Or each step adds one, and
+-- the last isn't empty: then the fault is that of the last step, or of 0 where there is no step.
+pub data IsRejected (rules : Rules) (p : Posed) (steps : List Step) (number : ℕ) (reason : Reason) : Type 0 where
+  adds_none : (before later : List Step) (s : Step) (clauses : List Clause) → steps ≡ before ++ s ∷ later → Adds rules (length (atoms p)) (defining p) before clauses
+      → added rules (length (atoms p)) (defining p ++ clauses) s ≡ Err reason → number ≡ length before + 1 → IsRejected rules p steps number reason
+  not_empty : (clauses : List Clause) → Adds rules (length (atoms p)) (defining p) steps clauses → ((before : List Clause) → clauses ≢ before ++ [] ∷ [])
+      → number ≡ length steps → reason ≡ NotEmpty → IsRejected rules p steps number reason

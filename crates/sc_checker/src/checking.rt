@@ -1,8 +1,8 @@
 //! The checker.
-ghost use Rattle.std.specs.Prelude.{◌≡◌, ◌↔◌, ◌&&◌, ◌<◌, ◌≤◌, true, false, length, IfOk, IsTrue, Ok, Err};
+ghost use Rattle.std.specs.Prelude.{◌≡◌, ◌↔◌, ◌&&◌, ◌<◌, ◌≤◌, ℕ, true, false, length, IfOk, IsTrue, Ok, Err};
 ghost use Rattle.sc_lists.specs.Told.{Gives};
 ghost use Rattle.sc_checker.specs.Refutations.{are_listed, is_clause, refutes, negated};
-ghost use Rattle.sc_checker.specs.Verdicts.{IsAccepted, rules_at, verdict, verdict_from, added, of_instance, of_learned};
+ghost use Rattle.sc_checker.specs.Verdicts.{IsAccepted, IsRejected, rules_at, verdict, verdict_from, added, of_instance, of_learned};
 ghost use Rattle.sc_footprint.specs.Problems.{atoms};
 ghost use Rattle.sc_footprint.specs.Truths.{IsUnsatisfiable};
 
@@ -178,6 +178,8 @@ pub fn check<T: Theory>(
     ensures exact { IfOk result (λ v. v ≡ verdict (rules_at T.has_instance T.clause_of rules.now problem.now) problem.now log.now) }
     // The logs that refute the goal are those that are accepted.
     ensures accepted { IfOk result (λ v. (v ≡ Verdict.Refuted) ↔ IsAccepted (rules_at T.has_instance T.clause_of rules.now problem.now) problem.now log.now) }
+    // A log is rejected at its least step at fault, for what that step lacks.
+    ensures rejected { IfOk result (λ v. (number : ℕ) (reason : Reason) → (v ≡ Verdict.Rejected number reason) ↔ IsRejected (rules_at T.has_instance T.clause_of rules.now problem.now) problem.now log.now number reason) }
     // Where the log refutes the goal, it is true in no well-formed world.
     ensures sound { IfOk result (λ v. v ≡ Verdict.Refuted → IsUnsatisfiable problem.now) }
 {

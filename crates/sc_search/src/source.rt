@@ -1,9 +1,8 @@
 //! Where clauses come from besides those of a list.
-ghost use Rattle.std.specs.Prelude.{◌≡◌, ℕ, Bool, true, false, None, IfOk, IfSome};
+ghost use Rattle.std.specs.Prelude.{◌≡◌, Bool, true, false, None, IfOk, IfSome};
 ghost use Rattle.sc_clauses.specs.Assignments.{falsifies};
 ghost use Rattle.sc_clauses.specs.Clauses.{Clause};
 ghost use Rattle.sc_clauses.specs.declared.step.Instance.{Instance};
-ghost use Rattle.sc_search.specs.Steps.{IsClause};
 
 use sc_clauses::{Assignment, Clause, Instance};
 use std::alloc::AllocError;
@@ -11,9 +10,6 @@ use std::alloc::AllocError;
 /// A source of clauses that are true besides those given, each with the instance that tells it. There may be far too
 /// many of them to list, so a search asks for one that an assignment falsifies.
 pub trait Source {
-    /// How many atoms its clauses are of.
-    ghost atoms: { Self → ℕ };
-
     /// Which instances it has.
     ghost accepts: { Self → Instance → Bool };
 
@@ -29,7 +25,4 @@ pub trait Source {
     /// The clause of an instance that it has. Want of memory is its one fault.
     fn clause(&self, instance: &Instance) -> Result<Clause, AllocError>
         ensures { IfOk result (λ c. accepts self.now instance.now ≡ true → c ≡ clause_of self.now instance.now) };
-
-    /// Each clause has literals of its atoms, none of them with its negation.
-    ghost lawful: { (s : Self) (i : Instance) → accepts s i ≡ true → IsClause (atoms s) (clause_of s i) };
 }

@@ -5,7 +5,7 @@ ghost use Rattle.std.specs.Prelude.{◌≡◌, ◌∷◌, ◌+◌, ◌^◌, ◌<
 ghost use Rattle.std.specs.List.{All};
 ghost use Rattle.sc_clauses.specs.Clauses.{Clause};
 ghost use Rattle.sc_clauses.specs.declared.lit.Lit.{Lit};
-ghost use Rattle.sc_search.specs.Samples.{first_is_false, first_lawful};
+ghost use Rattle.sc_search.specs.Samples.{first_is_false};
 ghost use Rattle.sc_search.specs.Steps.{IsListed};
 
 use crate::{Found, Source, search};
@@ -21,8 +21,6 @@ struct Nothing {
 }
 
 impl Source for Nothing {
-    ghost atoms = { λ _. 0 };
-
     ghost accepts = { λ _ _. false };
 
     ghost clause_of = { λ _ _. [] };
@@ -34,8 +32,6 @@ impl Source for Nothing {
     fn clause(&self, _instance: &Instance) -> Result<Clause, AllocError> {
         Ok(Seq::new(self.alloc))
     }
-
-    ghost lawful = { λ s i e. absurd cc };
 }
 
 fn no_source(alloc: Global) -> Nothing {
@@ -49,8 +45,6 @@ struct FirstIsFalse {
 }
 
 impl Source for FirstIsFalse {
-    ghost atoms = { λ _. 1 };
-
     ghost accepts = { λ _ _. true };
 
     ghost clause_of = { λ _ _. first_is_false };
@@ -74,8 +68,6 @@ impl Source for FirstIsFalse {
         })?;
         Ok(lits)
     }
-
-    ghost lawful = { λ s i e. first_lawful };
 }
 
 fn is_listed(lit: Lit, atoms: u64) -> bool

@@ -1,6 +1,5 @@
 pub mod Rebuilding
 pub mod Contexts
-pub mod NoRules
 pub mod Units
 pub mod Solutions
 pub mod Samples

@@ -37,7 +37,7 @@ pub fn solve(alloc: Global, problem: &Problem<'_>, budget: u64) -> Result<Solved
     problem_laws();
     defining_laws();
     let clauses = Seq::from_vec(defining(alloc, problem)?);
-    let others = OtherRules { alloc, problem };
+    let others = OtherRules { alloc };
     match search(alloc, &others, problem.atom_count(), clauses, budget)? {
         Found::Refuted(steps) => Ok(Solved::Refuted(Log::new(steps))),
         Found::Consistent(m) => Ok(Solved::Violated(rebuild(alloc, problem, &m)?)),

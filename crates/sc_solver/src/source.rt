@@ -1,9 +1,7 @@
 //! The rules of a problem besides the clauses that define it, for the search.
-ghost use Rattle.std.specs.Prelude.{[], false, length};
-ghost use Rattle.sc_footprint.specs.Problems.{atoms};
+ghost use Rattle.std.specs.Prelude.{[], false};
 
 use sc_clauses::{Assignment, Clause, Instance};
-use sc_footprint::Problem;
 use sc_lists::Seq;
 use sc_search::Source;
 use std::alloc::{AllocError, Global};
@@ -11,18 +9,12 @@ use std::alloc::{AllocError, Global};
 /// The rules of a problem besides its defining clauses. There are none so far, so no assignment
 /// falsifies one.
 #[derive(Drop)]
-pub(crate) struct OtherRules<'a, 'p> {
+pub(crate) struct OtherRules {
     /// Where the memory of its answers comes from.
     pub(crate) alloc: Global,
-    /// The problem.
-    pub(crate) problem: &'a Problem<'p>,
 }
 
-impl<'a, 'p> Source for OtherRules<'a, 'p> {
-    ghost use Rattle.sc_solver.specs.NoRules.{none_lawful};
-
-    ghost atoms = { λ s. length (atoms s.problem.now) };
-
+impl Source for OtherRules {
     ghost accepts = { λ s i. false };
 
     ghost clause_of = { λ s i. [] };
@@ -34,6 +26,4 @@ impl<'a, 'p> Source for OtherRules<'a, 'p> {
     fn clause(&self, _instance: &Instance) -> Result<Clause, AllocError> {
         Ok(Seq::new(self.alloc))
     }
-
-    ghost lawful = { λ s. none_lawful (length (atoms s.problem.now)) };
 }

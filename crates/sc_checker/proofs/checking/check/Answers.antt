@@ -1,6 +1,7 @@
 use Rattle.std.proofs.Common.{◌≡◌}
 use Rattle.sc_checker.specs.Verdicts.{Rules, rules_at, verdict}
 use Rattle.sc_checker.proofs.VerdictLaws.{accepted_at}
+use Rattle.sc_checker.proofs.RejectionLaws.{rejected_at}
 use Rattle.sc_checker.proofs.AcceptedLaws.{defining_listed, refuted_unsatisfiable}
 use Rattle.sc_checker.proofs.checking.check.Goals as goal
 
@@ -15,6 +16,13 @@ returns-clause-accepted g c =
     let rules : Rules = rules_at g.T.Theory.has_instance g.T.Theory.clause_of c.args.rules.now p in
     let is : c.in_ok-verdict.verdict ≡ verdict rules p c.args.log.now = rw (c.in_ok-clauses.ensures, c.steps.ensures.value) at c.in_ok-verdict.ensures in
     accepted_at rules p c.args.log.now c.in_ok-verdict.verdict is
+
+pub returns-clause-rejected : goal.returns-clause-rejected
+returns-clause-rejected g c =
+    let p = c.args.problem.now in
+    let rules : Rules = rules_at g.T.Theory.has_instance g.T.Theory.clause_of c.args.rules.now p in
+    let is : c.in_ok-verdict.verdict ≡ verdict rules p c.args.log.now = rw (c.in_ok-clauses.ensures, c.steps.ensures.value) at c.in_ok-verdict.ensures in
+    rejected_at rules p c.args.log.now c.in_ok-verdict.verdict is
 
 pub returns-clause-sound : goal.returns-clause-sound
 returns-clause-sound g c =
