@@ -83,8 +83,7 @@ pub record AllHold (r : Run) : Type 0 where
   pub told : Reports r
   pub always : (env : Env) → Contains (environments told.schema) env → AlwaysHas (asked_by told) env
 
--- a line prints a world: it is a well-formed world of the line's environment that lacks the property; and each line that
--- says so of an environment that it holds is right
+-- a line prints a world, which is a well-formed one of the line's environment and lacks the property
 pub record SomeFails (r : Run) : Type 0 where
   pub told : Reports r
   pub env : Env

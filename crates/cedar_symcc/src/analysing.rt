@@ -4,7 +4,7 @@ ghost use Rattle.sc_schema.specs.Declarations.{environments};
 ghost use Rattle.sc_footprint.specs.Problems.{IsProblemOf, IsRefused, atoms, most_atoms};
 ghost use Rattle.sc_inputs.specs.Refusals.{AreServed};
 ghost use Rattle.sc_terms.specs.Trees.{Tree};
-ghost use Rattle.cedar_symcc.specs.Analyses.{asked_of, IsAnswer, IsGoalOf, most_units};
+ghost use Rattle.cedar_symcc.specs.Analyses.{asked_of, IsAnswer, IsFound, IsGoalOf, most_units};
 ghost use Rattle.cedar_symcc.specs.Reports.{IsProblem};
 
 use sc_checker::Log;
@@ -64,7 +64,8 @@ pub fn analyse_env(
     requires environment { Contains (environments schema.now) env.now }
     requires served { AreServed schema.now query.now.first query.now.against }
     requires units { budget ≤ most_units }
-    ensures { IfOk result (IsAnswer (asked_of schema.now query.now budget) env.now) }
+    ensures answer { IfOk result (IsAnswer (asked_of schema.now query.now budget) env.now) }
+    ensures found { IfOk result (IsFound (asked_of schema.now query.now budget) env.now) }
 {
     goal_laws();
     query.laws();
@@ -90,7 +91,8 @@ fn solved(
     requires problem { IsProblem (asked_of schema.now query.now budget) env.now problem.now }
     requires few { length (atoms problem.now) ≤ most_atoms }
     requires units { budget ≤ most_units }
-    ensures { IfOk result (IsAnswer (asked_of schema.now query.now budget) env.now) }
+    ensures answer { IfOk result (IsAnswer (asked_of schema.now query.now budget) env.now) }
+    ensures found { IfOk result (IsFound (asked_of schema.now query.now budget) env.now) }
 {
     schema.laws();
     goal_laws();

@@ -2,13 +2,13 @@
 #![tactic(auto)]
 
 mod analysing;
-#[cfg(test)]
-mod budget_tests;
-#[cfg(test)]
-mod construct_tests;
 mod line;
 #[cfg(test)]
+mod outside_tests;
+#[cfg(test)]
 mod question_tests;
+#[cfg(test)]
+mod refusal_tests;
 #[cfg(test)]
 mod replay_tests;
 mod replaying;
@@ -18,8 +18,6 @@ mod status;
 mod tally;
 #[cfg(test)]
 mod tests;
-#[cfg(test)]
-mod typing_tests;
 
 use sc_outside::{RealFiles, RealSink};
 use std::alloc::AllocError;

@@ -14,8 +14,8 @@ solved-requires-clause-few c =
     let posed = some-goal _ (query-posed c.goal_laws.ensures.posed c.goal_laws.ensures.both c.args.schema.now c.args.env.now c.args.query.now c.requires.served c.requires.environment) in
     (c.in-Ok.ensures.ok posed.0 posed.1).within_limit
 
-pub returns-in-Err-Told : goal.returns-in-Err-Told
-returns-in-Err-Told c =
+pub returns-in-Err-Told-clause-answer : goal.returns-in-Err-Told-clause-answer
+returns-in-Err-Told-clause-answer c =
     let s = c.args.schema.now in
     let env = c.args.env.now in
     let q = c.args.query.now in

@@ -1,0 +1,215 @@
+use crate::tests::{DENIES, HOLDS, MANY_KINDS, SCHEMA, answered, answers, filled};
+use std::alloc::{AllocError, Global};
+use std::test::Fail;
+
+/// Schema files that spell nothing, and their lines.
+const SCHEMAS: [(&str, &str); 9] = [
+    ("{", "error 12 NotJson"),
+    ("[]", "error 12 BadShape at "),
+    (
+        r#"{"":{"entityTypes":{"U":{"shape":{"type":"Record","attributes":{},"additionalAttributes":true}}}}}"#,
+        "error 12 BadShape at //entityTypes/U/shape/additionalAttributes",
+    ),
+    (
+        r#"{"":{"entityTypes":{"a/~\"\n\u0001":{}}}}"#,
+        r#"error 12 BadName at //entityTypes/a~1~0\"\n\u{1}"#,
+    ),
+    (
+        r#"{"":{"entityTypes":{"User":{"memberOfTypes":["Team"]}}}}"#,
+        "error 12 UnknownType at //entityTypes/User/memberOfTypes/0",
+    ),
+    (
+        r#"{"":{"actions":{"a":{"memberOf":[{"id":"b"}]}}}}"#,
+        "error 12 UnknownAction at //actions/a/memberOf/0",
+    ),
+    (
+        r#"{"":{"commonTypes":{"A":{"type":"A"}}}}"#,
+        "error 12 TypeCycle at A",
+    ),
+    (
+        r#"{"":{"actions":{"a":{"memberOf":[{"id":"b"}]},"b":{"memberOf":[{"id":"a"}]}}}}"#,
+        "error 12 ActionCycle at Action::\"a\"",
+    ),
+    (
+        r#"{"":{"entityTypes":{"U":{"shape":{"type":"Long"}}}}}"#,
+        "error 12 NotRecord at //entityTypes/U/shape",
+    ),
+];
+
+#[test]
+fn schemas_are_refused(rt: HostRuntime) -> Result<(), Fail> {
+    for (schema, line) in SCHEMAS {
+        assert!(rt;
+            answers(rt.alloc(), DENIES, schema, "x", (12, line))?,
+            "{schema}"
+        );
+    }
+    Ok(())
+}
+
+/// A schema of one action over this many types of principals and of resources.
+fn squared(alloc: Global, count: u32) -> Result<String, AllocError> {
+    let mut types = String::from_str(alloc, "\"T\":{}")?;
+    let mut names = String::from_str(alloc, "\"T\"")?;
+    for i in 1..count {
+        types.push_str(format!(in alloc; ",\"T{i}\":{{}}")?.as_str())?;
+        names.push_str(format!(in alloc; ",\"T{i}\"")?.as_str())?;
+    }
+    format!(in alloc;
+        "{{\"\":{{\"entityTypes\":{{{types}}},\"actions\":{{\"a\":{{\"appliesTo\":{{\"principalTypes\":[{names}],\"resourceTypes\":[{names}]}}}}}}}}}}"
+    )
+}
+
+#[test]
+fn schemas_have_at_most_ten_thousand_environments(rt: HostRuntime) -> Result<(), Fail> {
+    let alloc = rt.alloc();
+    let schema = squared(alloc, 101)?;
+    let told = (12, "error 12 TooManyEnvironments");
+    assert!(rt; answers(alloc, DENIES, &schema, "", told)?);
+    Ok(())
+}
+
+/// Policy files that are refused, with their statuses and lines.
+const POLICIES: [(&str, u8, &str); 9] = [
+    ("x", 11, "error 11 policies Unexpected at 0"),
+    (
+        "permit(principal, action, resource) when { context.mfa",
+        11,
+        "error 11 policies UnexpectedEnd",
+    ),
+    (
+        "permit(principal, action, resource) when { context.mfa < 1 < 2 };",
+        11,
+        "error 11 policies Unexpected at 59",
+    ),
+    (
+        "forbid(principal == ?principal, action, resource);",
+        11,
+        "error 11 policies Template at 20",
+    ),
+    (
+        "permit(principal, action == Action::\"edit\", resource);",
+        13,
+        "error 13 policies policy0 UnknownAction at 28",
+    ),
+    (
+        "permit(principal, action, resource) when { false && principal == Robot::\"r\" };",
+        13,
+        "error 13 policies policy0 UnknownEntityType at 65",
+    ),
+    (
+        "permit(principal == User::\"a\", action, resource);",
+        15,
+        "error 15 policies policy0 variable at 7",
+    ),
+    (
+        "permit(principal, action in [], resource);",
+        15,
+        "error 15 policies policy0 variable at 18",
+    ),
+    (
+        "permit(principal, action, resource);\nforbid(principal is User, action, resource);",
+        15,
+        "error 15 policies policy1 variable at 44",
+    ),
+];
+
+#[test]
+fn policies_are_refused(rt: HostRuntime) -> Result<(), Fail> {
+    for (policies, code, line) in POLICIES {
+        assert!(rt;
+            answers(rt.alloc(), DENIES, SCHEMA, policies, (code, line))?,
+            "{policies}"
+        );
+    }
+    Ok(())
+}
+
+/// Conditions of policies without a type, and the rules that these break in the one environment.
+const ILL_TYPED: [(&str, &str, &str); 5] = [
+    (SCHEMA, "context.x", "NoAttribute at 50"),
+    (SCHEMA, "if context.mfa then 1 else \"a\"", "NoJoin at 43"),
+    (SCHEMA, "context.mfa && 1", "NotBoolean at 58"),
+    (MANY_KINDS, "context.n", "NotBoolean at 50"),
+    (MANY_KINDS, "principal.nick == \"x\"", "MaybeAbsent at 52"),
+];
+
+/// Conditions of policies that have types, and their first constructs that aren't supported.
+const UNSUPPORTED: [(&str, &str, &str); 13] = [
+    (SCHEMA, "context.mfa == true", "equality at 55"),
+    (SCHEMA, "context.mfa != true", "equality at 55"),
+    (SCHEMA, "1 + 2 < 3", "number at 43"),
+    (SCHEMA, "\"a\" like \"a*\"", "string at 43"),
+    (SCHEMA, "if context.mfa then true else false", "if at 43"),
+    (SCHEMA, "principal == User::\"a\"", "variable at 43"),
+    (SCHEMA, "User::\"a\" == User::\"a\"", "entity at 43"),
+    (SCHEMA, "context has mfa", "variable at 43"),
+    (SCHEMA, "[1].contains(2)", "set at 43"),
+    (SCHEMA, "{a: 1}.a == 1", "record at 43"),
+    (MANY_KINDS, "context.n < 1", "type at 43"),
+    (MANY_KINDS, "context.name like \"a*\"", "type at 43"),
+    (
+        MANY_KINDS,
+        "principal has nick && principal.nick == \"x\"",
+        "variable at 43",
+    ),
+];
+
+/// Whether a policy under this condition is refused with this status and this line.
+fn refuses(
+    alloc: Global,
+    (schema, condition, fault): (&str, &str, &str),
+    code: u8,
+    front: &str,
+) -> Result<bool, AllocError> {
+    let policy = format!(in alloc; "permit(principal, action, resource) when {{ {condition} }};")?;
+    let line = format!(in alloc; "{front} {fault}")?;
+    answers(alloc, DENIES, schema, &policy, (code, &line))
+}
+
+#[test]
+fn conditions_without_a_type_are_refused(rt: HostRuntime) -> Result<(), Fail> {
+    let front = "error 13 policies policy0 env User Action::\"view\" Doc";
+    for row in ILL_TYPED {
+        assert!(rt; refuses(rt.alloc(), row, 13, front)?, "{}", row.1);
+    }
+    Ok(())
+}
+
+#[test]
+fn conditions_that_are_not_supported_are_refused(rt: HostRuntime) -> Result<(), Fail> {
+    for row in UNSUPPORTED {
+        assert!(rt;
+            refuses(rt.alloc(), row, 15, "error 15 policies policy0")?,
+            "{}",
+            row.1
+        );
+    }
+    Ok(())
+}
+
+/// Numbers of pairs of parentheses, with the status and the line for a condition within so many.
+const NESTED: [(usize, u8, &str); 2] = [
+    (99, 0, HOLDS),
+    (100, 11, "error 11 policies TooDeep at 143"),
+];
+
+/// Whether a policy under what is true, in so many pairs of parentheses, ends so.
+fn nested_ends(alloc: Global, count: usize, told: (u8, &str)) -> Result<bool, AllocError> {
+    let front = b"permit(principal, action, resource) when { ".as_slice();
+    let mut policy = filled(alloc, front, front.len() + count, b'(')?;
+    policy.extend_from_slice(b"true")?;
+    policy.resize(front.len() + 4 + 2 * count, b')')?;
+    policy.extend_from_slice(b" };")?;
+    let words = "analyse --schema s --policies p --query always-allows --budget 10000";
+    let held = [("s", SCHEMA.as_bytes()), ("p", policy.as_slice())];
+    answered(alloc, words, &held, told)
+}
+
+#[test]
+fn conditions_in_parentheses(rt: HostRuntime) -> Result<(), Fail> {
+    for (count, code, line) in NESTED {
+        assert!(rt; nested_ends(rt.alloc(), count, (code, line))?, "{count}");
+    }
+    Ok(())
+}
