@@ -8,7 +8,6 @@ mod MemberLaws
 mod OneLaws
 mod PickedLaws
 mod PlaceLaws
-mod SampleLaws
 mod SchemaLaws
 mod SortingLaws
 mod TypeLaws

@@ -1,4 +1,3 @@
 pub mod Above
 pub mod Graphs
-pub mod Samples
 pub mod Schemas

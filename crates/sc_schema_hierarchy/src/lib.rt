@@ -7,16 +7,12 @@ mod above;
 mod actions;
 mod building;
 mod counting;
-#[cfg(test)]
-mod counting_tests;
 mod cycle;
 mod declared;
 mod graph;
 mod key;
 mod law;
 mod sorting;
-#[cfg(test)]
-mod tests;
 mod types;
 
 pub use building::declarations_of;

@@ -13,8 +13,6 @@ mod lookup;
 mod members;
 mod resolved_types;
 mod resolving;
-#[cfg(test)]
-mod tests;
 mod translating;
 mod unknown_types;
 

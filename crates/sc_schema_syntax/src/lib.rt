@@ -16,8 +16,6 @@ mod member_form;
 mod pointer;
 mod position;
 mod reading;
-#[cfg(test)]
-mod tests;
 mod type_word;
 mod types;
 mod written_action;

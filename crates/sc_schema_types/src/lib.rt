@@ -13,8 +13,6 @@ mod names;
 mod order;
 mod outline;
 mod search;
-#[cfg(test)]
-mod tests;
 mod wanted;
 
 pub use expanding::expand;

@@ -1,6 +1,6 @@
 use Rattle.sc_schema_hierarchy.specs.Schemas.{declarations_view}
-use Rattle.sc_schema_hierarchy.proofs.SampleLaws.{sample_expanded, sample_acyclic}
-use Rattle.sc_schema_hierarchy.proofs.tests.schema.Goals as goal
+use Rattle.sc_schema_tests.proofs.SampleLaws.{sample_expanded, sample_acyclic}
+use Rattle.sc_schema_tests.proofs.hierarchy.schema.Goals as goal
 
 pub declarations_of-requires : goal.declarations_of-requires
 declarations_of-requires c = record { expanded = sample_expanded _ c.in_ok-expanded.ensures; acyclic = sample_acyclic _ c.in_ok-expanded.ensures }

@@ -1,13 +1,13 @@
 //! A schema of four entity types and three actions, and actions that stand above themselves.
 ghost use Rattle.std.specs.Prelude.{◌≡◌, [], ◌∷◌, IfOk, codes, if◌then◌else◌};
-ghost use Rattle.sc_schema_hierarchy.specs.Samples as sample;
+ghost use Rattle.sc_schema_tests.specs.Samples as sample;
 
-use crate::{Declared, declarations_of, least_cycle, schema_laws};
 use sc_lists::{Seq, Text};
 use sc_names::{Name, Uid};
 use sc_schema::{
     Schema, Ty, action_ancestors, actions, ancestor_types, entity_types, environments,
 };
+use sc_schema_hierarchy::{Declared, declarations_of, least_cycle, schema_laws};
 use sc_schema_resolved::{
     ExpandedAction, ExpandedEntityType, ExpandedSchema, ResolvedAction, ResolvedNamespace,
     ResolvedSchema,

@@ -1,8 +1,8 @@
-use crate::{
+use sc_lists::Fault;
+use sc_schema_syntax::{
     ExtensionKind, WrittenAttributes, WrittenNamespace, WrittenPresence, WrittenSchema,
     WrittenType, read_syntax, syntax_laws,
 };
-use sc_lists::Fault;
 use std::alloc::{AllocError, Global};
 use std::test::Fail;
 

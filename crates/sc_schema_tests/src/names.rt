@@ -1,5 +1,5 @@
-use crate::{resolution_laws, resolve};
 use sc_names::uid_text;
+use sc_schema_names::{resolution_laws, resolve};
 use sc_schema_resolved::{ResolvedNamespace, ResolvedSchema, ResolvedType};
 use sc_schema_syntax::{WrittenSchema, read_syntax};
 use std::alloc::{AllocError, Global};

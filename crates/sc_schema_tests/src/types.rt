@@ -1,4 +1,3 @@
-use crate::{expand, order_types, type_laws};
 use sc_lists::{Boxed, Fault, Seq, Text};
 use sc_names::{Name, Uid};
 use sc_schema::{Presence, Ty};
@@ -7,6 +6,7 @@ use sc_schema_resolved::{
     ResolvedSchema, ResolvedType,
 };
 use sc_schema_syntax::SchemaFault;
+use sc_schema_types::{expand, order_types, type_laws};
 use std::alloc::{AllocError, Global};
 use std::test::Fail;
 
@@ -25,16 +25,6 @@ fn sets(alloc: Global, number: u32, inside: ResolvedType) -> Result<ResolvedType
         outside = ResolvedType::Set(Boxed::new(alloc, outside)?);
     }
     Ok(outside)
-}
-
-/// A record of this many truth values.
-fn truths(alloc: Global, number: u32) -> Result<ResolvedType, AllocError> {
-    let mut attributes = Seq::new(alloc);
-    for each in 0..number {
-        let key = Text::from_string(format!(in alloc; "a{each}")?);
-        attributes.push((key, Presence::Required, ResolvedType::Boolean))?;
-    }
-    Ok(ResolvedType::Record(attributes))
 }
 
 /// A record of two of the same type.
@@ -120,13 +110,6 @@ fn naming(alloc: Global, pairs: &[(&str, &str)]) -> Result<ResolvedSchema, Alloc
     types_alone(alloc, common_types)
 }
 
-/// A schema that declares one common type `A`.
-fn single(alloc: Global, body: ResolvedType) -> Result<ResolvedSchema, AllocError> {
-    let mut common_types = Seq::new(alloc);
-    common_types.push(declared(alloc, "A", body)?)?;
-    types_alone(alloc, common_types)
-}
-
 fn read(alloc: Global, schema: &ResolvedSchema) -> Result<ExpandedSchema, Fault<SchemaFault>> {
     match order_types(alloc, schema) {
         Ok(order) => expand(alloc, schema, order.as_slice()),
@@ -183,26 +166,6 @@ fn has_order(alloc: Global, schema: &ResolvedSchema, text: &str) -> Result<bool,
 fn types_in_order(rt: HostRuntime) -> Result<(), Fail> {
     let alloc = rt.alloc();
     assert!(rt; has_order(alloc, &line(alloc)?, "C B A ")?);
-    Ok(())
-}
-
-#[test]
-fn deep_types(rt: HostRuntime) -> Result<(), Fail> {
-    let alloc = rt.alloc();
-    let deep = single(alloc, sets(alloc, 31, ResolvedType::Boolean)?)?;
-    assert!(rt; tells(alloc, &deep, "")?);
-    let deeper = single(alloc, sets(alloc, 32, ResolvedType::Boolean)?)?;
-    assert!(rt; tells(alloc, &deeper, "type too large at //commonTypes/A")?);
-    Ok(())
-}
-
-#[test]
-fn wide_types(rt: HostRuntime) -> Result<(), Fail> {
-    let alloc = rt.alloc();
-    let wide = single(alloc, truths(alloc, 4095)?)?;
-    assert!(rt; tells(alloc, &wide, "")?);
-    let wider = single(alloc, truths(alloc, 4096)?)?;
-    assert!(rt; tells(alloc, &wider, "type too large at //commonTypes/A")?);
     Ok(())
 }
 

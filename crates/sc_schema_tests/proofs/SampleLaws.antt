@@ -2,6 +2,7 @@
 use Rattle.std.proofs.Common.{◌≡◌, ◌<◌, ℕ, List, [], ◌∷◌, Bool, true, false, if◌then◌else◌, codes, refl, sym, subst, arith, Contains}
 use Rattle.std.specs.List.{AllByRecursion, IsDistinct}
 use Rattle.std.specs.Str.{IsUtf8, bytes_eq}
+use Rattle.std.proofs.lemmas.List.Elements.{All-contains, All-from_recursion}
 use Rattle.sc_names.specs.declared.uid.Uid.{Uid}
 use Rattle.sc_schema.specs.declared.ty.Ty.TheVariants.{Record}
 use Rattle.sc_schema.proofs.EveryTypeLaws.{every_Record}
@@ -11,9 +12,8 @@ use Rattle.sc_schema_resolved.specs.Resolved.{IsResolved, IsResolvedAction, AreD
 use Rattle.sc_schema_resolved.specs.declared.expanded.ExpandedSchema.{ExpandedSchema}
 use Rattle.sc_schema_resolved.specs.declared.schema.ResolvedSchema.{ResolvedSchema}
 use Rattle.sc_schema_hierarchy.specs.Above.{Links, IsAbove, parent, further, NoCycle}
-use Rattle.sc_schema_hierarchy.specs.Samples.{action_uid, other_uid, bare_type, bare_action, plain_action, expanded, rings}
+use Rattle.sc_schema_tests.specs.Samples.{action_uid, other_uid, bare_type, bare_action, plain_action, expanded, rings}
 use Rattle.sc_schema_hierarchy.specs.Schemas.{action_links}
-use Rattle.sc_schema_hierarchy.proofs.LinksLaws.{each_of}
 
 no_fields : (names : List (List ℕ)) → IsRecordTypeOver names (Record [])
 no_fields names = record { fields = []; record_type = refl; proper = every_Record (IsLevelOver names) [] (no_names_ascend, tt) tt }
@@ -79,6 +79,9 @@ pub sample_expanded : (x : ExpandedSchema) → x ≡ expanded → IsExpanded x
 sample_expanded x is = subst IsExpanded (sym is) expanded_is
 
 -- ---- a number that rises from each key to those above it leaves no circle
+
+each_of : {X : Type 0} (P : X → Type 0) (xs : List X) (x : X) → AllByRecursion P xs → Contains xs x → P x
+each_of P xs x all has = All-contains P xs x (All-from_recursion P xs all) has
 
 rises : {K : Type 0} (rank : K → ℕ) (links : Links K) → AllByRecursion (λ (l : K × List K). AllByRecursion (λ b. rank l.0 < rank b) l.1) links → {a b : K} → IsAbove links a b → rank a < rank b
 rises {K} rank links all (parent a b p) =

@@ -1,0 +1,11 @@
+//! Tests of the crates that read a schema file step by step, each by its public calls alone.
+#![tactic(auto)]
+
+#[cfg(test)]
+mod hierarchy;
+#[cfg(test)]
+mod names;
+#[cfg(test)]
+mod syntax;
+#[cfg(test)]
+mod types;
