@@ -10,8 +10,6 @@ mod operators;
 mod scopes;
 mod spine;
 mod telling;
-#[cfg(test)]
-mod tests;
 mod unsupported;
 mod walking;
 

@@ -3,21 +3,21 @@ ghost use Rattle.std.specs.Prelude.{◌≡◌, []};
 
 use crate::capability::Capability;
 use crate::typed_expr::TypedExpr;
-use sc_lists::Seq;
+use sc_lists::{Boxed, Seq};
 use std::alloc::Global;
 
 /// An expression with its types.
 #[derive(Drop)]
 pub struct Typed {
-    /// The expression.
-    pub expr: TypedExpr,
+    /// The expression, in a box, as it stands in a larger one.
+    pub expr: Boxed<TypedExpr>,
     /// What holds wherever the expression is true.
     pub given: Seq<Capability>,
 }
 
 impl Typed {
     /// An expression that gives nothing.
-    pub fn plain(alloc: Global, expr: TypedExpr) -> Typed
+    pub fn plain(alloc: Global, expr: Boxed<TypedExpr>) -> Typed
         ensures { result ≡ record { expr = expr; given = [] } }
     {
         Typed {
@@ -27,7 +27,7 @@ impl Typed {
     }
 
     /// The expression alone.
-    pub fn into_expr(self) -> TypedExpr
+    pub fn into_expr(self) -> Boxed<TypedExpr>
         ensures { result ≡ self.expr }
     {
         let Typed { expr, given: _ } = self;

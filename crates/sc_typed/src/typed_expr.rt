@@ -9,7 +9,7 @@ use sc_pattern::Pattern;
 use sc_schema::Ty;
 
 /// A name after `has`.
-#[derive(Debug, PartialEq, Eq, Drop)]
+#[derive(Debug, Drop)]
 pub struct HasStep {
     /// The name.
     pub name: Text,
@@ -21,7 +21,7 @@ pub struct HasStep {
 
 /// An expression with its type, as the expression that it was made of but for the types. `action` is
 /// a literal.
-#[derive(Debug, PartialEq, Eq, Drop)]
+#[derive(Debug, Drop)]
 pub enum TypedExpr {
     /// `if c then a else b`. Where c is true or false, the other branch is skipped.
     If(Place, Ty, Boxed<TypedExpr>, Boxed<TypedExpr>, Boxed<TypedExpr>),

@@ -10,8 +10,6 @@ mod laws;
 mod name_fault;
 mod names;
 mod policy;
-#[cfg(test)]
-mod tests;
 mod typing;
 
 pub use checking::check_types;

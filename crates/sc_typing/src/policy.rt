@@ -5,7 +5,7 @@ ghost use Rattle.sc_typing.specs.Policies.{asked, typed_policy};
 ghost use Rattle.sc_typing.specs.Settings.{condition_in};
 
 use crate::acting::acting;
-use crate::typing::type_boxed;
+use crate::typing::type_expr;
 use sc_ast::{Expr, Policy, condition};
 use sc_lists::Fault;
 use sc_schema::{Env, Schema};
@@ -47,7 +47,7 @@ fn asked(alloc: Global, env: &Env, policy: &Policy) -> Result<Expr, AllocError>
 fn type_condition(setting: &Setting<'_>, expr: &Expr) -> Result<TypedExpr, Fault<TypeFault>>
     ensures { Gives result (condition_in setting.now expr.now) }
 {
-    let typed = type_boxed(setting, expr)?;
-    boolean(&typed.get().expr)?;
-    Ok(typed.into_inner().into_expr())
+    let typed = type_expr(setting, expr)?;
+    boolean(typed.expr.get())?;
+    Ok(typed.into_expr().into_inner())
 }

@@ -56,29 +56,17 @@ pub(crate) fn type_expr(setting: &Setting<'_>, expr: &Expr) -> Result<Typed, Fau
     }
 }
 
-/// The same in a box, so that little has to be dropped where it is held while others are typed.
-#[cycle(typing)]
-pub(crate) fn type_boxed(
-    setting: &Setting<'_>,
-    expr: &Expr,
-) -> Result<Boxed<Typed>, Fault<TypeFault>>
-    ensures { Gives result (typed_in setting.now expr.now) }
-{
-    let x = type_expr(setting, expr)?;
-    Ok(Boxed::new(setting.alloc, x)?)
-}
-
 /// The types of an expression where further capabilities are known.
 #[cycle(typing)]
 fn type_under(
     setting: &Setting<'_>,
     given: &[Capability],
     expr: &Expr,
-) -> Result<Boxed<Typed>, Fault<TypeFault>>
+) -> Result<Typed, Fault<TypeFault>>
     ensures { Gives result (typing setting.now.schema.now setting.now.env.now expr.now (setting.now.known.now ++ given.now)) }
 {
     if given.is_empty() {
-        return type_boxed(setting, expr);
+        return type_expr(setting, expr);
     }
     let all = copies(setting.alloc, setting.known, given)?;
     let more = Setting {
@@ -87,7 +75,7 @@ fn type_under(
         env: setting.env,
         known: all.as_slice(),
     };
-    type_boxed(&more, expr)
+    type_expr(&more, expr)
 }
 
 #[cycle(typing)]
@@ -100,11 +88,11 @@ fn choose(
 ) -> Result<Typed, Fault<TypeFault>>
     ensures { Gives result (choice place (seen setting.now c.now) (seen setting.now a.now) (seen setting.now b.now) setting.now.known.now) }
 {
-    let x = type_boxed(setting, c)?;
-    if is_true(&x.get().expr) {
+    let x = type_expr(setting, c)?;
+    if is_true(x.expr.get()) {
         return choose_first(setting, place, x, a, b);
     }
-    if is_false(&x.get().expr) {
+    if is_false(x.expr.get()) {
         return choose_second(setting, place, x, a, b);
     }
     choose_open(setting, place, x, a, b)
@@ -115,14 +103,14 @@ fn choose(
 fn choose_first(
     setting: &Setting<'_>,
     place: Place,
-    x: Boxed<Typed>,
+    x: Typed,
     a: &Expr,
     b: &Expr,
 ) -> Result<Typed, Fault<TypeFault>>
     ensures { Gives result (choice_first place x (seen setting.now a.now) b.now setting.now.known.now) }
 {
-    let y = type_under(setting, x.get().given.as_slice(), a)?;
-    Ok(first_branch(setting.alloc, place, x.into_inner(), y.into_inner(), b)?)
+    let y = type_under(setting, x.given.as_slice(), a)?;
+    Ok(first_branch(setting.alloc, place, x, y, b)?)
 }
 
 /// `if c then a else b` where c is false.
@@ -130,14 +118,14 @@ fn choose_first(
 fn choose_second(
     setting: &Setting<'_>,
     place: Place,
-    x: Boxed<Typed>,
+    x: Typed,
     a: &Expr,
     b: &Expr,
 ) -> Result<Typed, Fault<TypeFault>>
     ensures { Gives result (choice_second place x a.now (seen setting.now b.now) setting.now.known.now) }
 {
     let z = type_expr(setting, b)?;
-    Ok(second_branch(setting.alloc, place, x.into_inner(), a, z)?)
+    Ok(second_branch(setting.alloc, place, x, a, z)?)
 }
 
 /// `if c then a else b` where c may be true or false.
@@ -145,13 +133,13 @@ fn choose_second(
 fn choose_open(
     setting: &Setting<'_>,
     place: Place,
-    x: Boxed<Typed>,
+    x: Typed,
     a: &Expr,
     b: &Expr,
 ) -> Result<Typed, Fault<TypeFault>>
     ensures { Gives result (choice_open place x (seen setting.now a.now) (seen setting.now b.now) setting.now.known.now) }
 {
-    let y = type_under(setting, x.get().given.as_slice(), a)?;
+    let y = type_under(setting, x.given.as_slice(), a)?;
     choose_rest(setting, place, x, y, b)
 }
 
@@ -160,14 +148,14 @@ fn choose_open(
 fn choose_rest(
     setting: &Setting<'_>,
     place: Place,
-    x: Boxed<Typed>,
-    y: Boxed<Typed>,
+    x: Typed,
+    y: Typed,
     b: &Expr,
 ) -> Result<Typed, Fault<TypeFault>>
     ensures { Gives result (choice_rest place x y (seen setting.now b.now) setting.now.known.now) }
 {
     let z = type_expr(setting, b)?;
-    branches(setting.alloc, place, x.into_inner(), y.into_inner(), z)
+    branches(setting.alloc, place, x, y, z)
 }
 
 #[cycle(typing)]
@@ -179,12 +167,12 @@ fn or_else(
 ) -> Result<Typed, Fault<TypeFault>>
     ensures { Gives result (either place (seen setting.now a.now) (seen setting.now b.now) setting.now.known.now) }
 {
-    let x = type_boxed(setting, a)?;
-    if is_true(&x.get().expr) {
-        return Ok(or_true(setting.alloc, place, x.into_inner(), b)?);
+    let x = type_expr(setting, a)?;
+    if is_true(x.expr.get()) {
+        return Ok(or_true(setting.alloc, place, x, b)?);
     }
     let y = type_expr(setting, b)?;
-    disjunction(setting.alloc, place, x.into_inner(), y)
+    disjunction(setting.alloc, place, x, y)
 }
 
 #[cycle(typing)]
@@ -196,12 +184,12 @@ fn and_also(
 ) -> Result<Typed, Fault<TypeFault>>
     ensures { Gives result (both place (seen setting.now a.now) (seen setting.now b.now) setting.now.known.now) }
 {
-    let x = type_boxed(setting, a)?;
-    if is_false(&x.get().expr) {
-        return Ok(and_false(setting.alloc, place, x.into_inner(), b)?);
+    let x = type_expr(setting, a)?;
+    if is_false(x.expr.get()) {
+        return Ok(and_false(setting.alloc, place, x, b)?);
     }
-    let y = type_under(setting, x.get().given.as_slice(), b)?;
-    conjunction(setting.alloc, place, x.into_inner(), y.into_inner())
+    let y = type_under(setting, x.given.as_slice(), b)?;
+    conjunction(setting.alloc, place, x, y)
 }
 
 #[cycle(typing)]
@@ -230,10 +218,9 @@ fn type_operands(
 ) -> Result<Typed, Fault<TypeFault>>
     ensures { Gives result (computed setting.now.schema.now place operator (seen setting.now a.now) (seen setting.now b.now) setting.now.known.now) }
 {
-    let x = type_boxed(setting, a)?;
+    let x = type_expr(setting, a)?;
     let y = type_expr(setting, b)?;
-    let x = x.into_inner().into_expr();
-    operate(setting, place, operator, a, b, x, y.into_expr())
+    operate(setting, place, operator, a, b, x.into_expr(), y.into_expr())
 }
 
 #[cycle(typing)]
@@ -245,9 +232,9 @@ fn type_in(
 ) -> Result<Typed, Fault<TypeFault>>
     ensures { Gives result (contained setting.now.schema.now place (seen setting.now a.now) (seen setting.now b.now) setting.now.known.now) }
 {
-    let x = type_boxed(setting, a)?;
-    let right = type_right(setting, a, b, &x.get().expr)?;
-    Ok(contain(setting.alloc, place, x.into_inner().into_expr(), right)?)
+    let x = type_expr(setting, a)?;
+    let right = type_right(setting, a, b, x.expr.get())?;
+    Ok(contain(setting.alloc, place, x.into_expr(), right)?)
 }
 
 /// The right side of `a in b`, of a with its types, and the type of the whole.
@@ -257,7 +244,7 @@ fn type_right(
     a: &Expr,
     b: &Expr,
     x: &TypedExpr,
-) -> Result<(Ty, TypedExpr), Fault<TypeFault>>
+) -> Result<(Ty, Boxed<TypedExpr>), Fault<TypeFault>>
     ensures { Gives result (membership setting.now.schema.now a.now (seen setting.now b.now) setting.now.known.now x.now) }
 {
     if let Some(is_in) = decided(setting.schema, a, b) {
@@ -318,12 +305,11 @@ fn type_is_in(
 ) -> Result<Typed, Fault<TypeFault>>
     ensures { Gives result (tested_in setting.now.schema.now place type_name.now in_place (seen setting.now a.now) (seen setting.now b.now) setting.now.known.now) }
 {
-    let x = type_boxed(setting, a)?;
-    if is_of(&x.get().expr, type_name)? {
+    let x = type_expr(setting, a)?;
+    if is_of(x.expr.get(), type_name)? {
         return type_among(setting, place, type_name, in_place, a, x, b);
     }
-    let x = x.into_inner().into_expr();
-    Ok(is_not(setting.alloc, place, type_name, in_place, x, b)?)
+    Ok(is_not(setting.alloc, place, type_name, in_place, x.into_expr(), b)?)
 }
 
 /// `a is T in b` where a is of the type T.
@@ -334,14 +320,20 @@ fn type_among(
     type_name: &TypeName,
     in_place: Place,
     a: &Expr,
-    x: Boxed<Typed>,
+    x: Typed,
     b: &Expr,
 ) -> Result<Typed, Fault<TypeFault>>
     ensures { Gives result (tested_among setting.now.schema.now place type_name.now in_place a.now x.expr (seen setting.now b.now) setting.now.known.now) }
 {
-    let right = type_right(setting, a, b, &x.get().expr)?;
-    let x = x.into_inner().into_expr();
-    Ok(is_in(setting.alloc, place, type_name, in_place, x, right)?)
+    let right = type_right(setting, a, b, x.expr.get())?;
+    Ok(is_in(
+        setting.alloc,
+        place,
+        type_name,
+        in_place,
+        x.into_expr(),
+        right,
+    )?)
 }
 
 #[cycle(typing)]
@@ -390,7 +382,8 @@ fn type_all(setting: &Setting<'_>, members: &[Expr]) -> Result<Seq<TypedExpr>, F
 {
     let mut typed = Seq::new(setting.alloc);
     for member in members {
-        typed.push(type_expr(setting, member)?.into_expr())?;
+        let x = type_expr(setting, member)?;
+        typed.push(x.into_expr().into_inner())?;
     }
     Ok(typed)
 }
@@ -420,7 +413,7 @@ fn type_fields(
     for field in fields {
         let name = field.0.try_clone(setting.alloc)?;
         let x = type_expr(setting, &field.1)?;
-        typed.push((name, x.into_expr()))?;
+        typed.push((name, x.into_expr().into_inner()))?;
     }
     Ok(typed)
 }

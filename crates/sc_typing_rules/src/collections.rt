@@ -25,7 +25,8 @@ pub fn set_of(
 {
     let member = member_type(alloc, place, members.as_slice())?;
     let ty = Ty::Set(Boxed::new(alloc, member)?);
-    Ok(Typed::plain(alloc, TypedExpr::Set(place, ty, members)))
+    let expr = Boxed::new(alloc, TypedExpr::Set(place, ty, members))?;
+    Ok(Typed::plain(alloc, expr))
 }
 
 /// The type that those of all members join to.
@@ -67,7 +68,8 @@ pub fn record_of(
     ensures { IfOk result (λ x. x ≡ made (TypedExpr.Record place (record_type fields) fields) []) }
 {
     let ty = record_type(alloc, fields.as_slice())?;
-    Ok(Typed::plain(alloc, TypedExpr::Record(place, ty, fields)))
+    let expr = Boxed::new(alloc, TypedExpr::Record(place, ty, fields))?;
+    Ok(Typed::plain(alloc, expr))
 }
 
 /// The type of a record: the types of its fields in the order of names, all required.

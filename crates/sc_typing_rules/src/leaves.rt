@@ -38,7 +38,8 @@ fn literal_typed(alloc: Global, place: Place, literal: &Literal) -> Result<Typed
 pub fn literal(alloc: Global, place: Place, literal: &Literal) -> Result<Typed, AllocError>
     ensures { IfOk result (λ x. x ≡ made (literal_typed place literal.now) []) }
 {
-    Ok(Typed::plain(alloc, literal_typed(alloc, place, literal)?))
+    let expr = Boxed::new(alloc, literal_typed(alloc, place, literal)?)?;
+    Ok(Typed::plain(alloc, expr))
 }
 
 /// The type of a variable in an environment.
@@ -73,7 +74,8 @@ pub fn variable(
     ensures { IfOk result (λ x. x ≡ made (TypedExpr.Variable place (variable_type setting.now.schema.now setting.now.env.now variable) variable) []) }
 {
     let ty = variable_type(setting, variable)?;
-    Ok(Typed::plain(setting.alloc, TypedExpr::Variable(place, ty, variable)))
+    let expr = Boxed::new(setting.alloc, TypedExpr::Variable(place, ty, variable))?;
+    Ok(Typed::plain(setting.alloc, expr))
 }
 
 /// A literal with its type; anything else is skipped.
@@ -88,7 +90,13 @@ fn leaf(alloc: Global, expr: &Expr) -> Result<TypedExpr, AllocError>
 
 /// A literal or a set of literals with their types. The types of the members don't join; the set has
 /// that of the first one.
-pub fn leaves(alloc: Global, expr: &Expr) -> Result<TypedExpr, AllocError>
+pub fn leaves(alloc: Global, expr: &Expr) -> Result<Boxed<TypedExpr>, AllocError>
+    ensures { IfOk result (λ x. x ≡ leaves expr.now) }
+{
+    Boxed::new(alloc, leaves_typed(alloc, expr)?)
+}
+
+fn leaves_typed(alloc: Global, expr: &Expr) -> Result<TypedExpr, AllocError>
     ensures { IfOk result (λ x. x ≡ leaves expr.now) }
 {
     match expr {

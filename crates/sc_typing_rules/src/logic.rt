@@ -1,7 +1,7 @@
 //! `if`, `||` and `&&`, of operands with their types.
 ghost use Rattle.std.specs.Prelude.{◌≡◌, ◌++◌, [], IfOk, if◌then◌else◌};
 ghost use Rattle.sc_lists.specs.Told.{Gives};
-ghost use Rattle.sc_typed.specs.Outcomes.{ty, made, joined};
+ghost use Rattle.sc_typed.specs.Outcomes.{ty, made, or_fails, joined};
 ghost use Rattle.sc_typed.specs.Types.{is_false};
 ghost use Rattle.sc_typing_rules.specs.Rules.{first_branch, second_branch, branches, or_type, or_given, disjunction, and_type, and_given, conjunction};
 
@@ -25,13 +25,18 @@ pub fn skipped(alloc: Global, expr: &Expr) -> Result<Boxed<TypedExpr>, AllocErro
 pub fn joined_type(alloc: Global, place: Place, a: &Ty, b: &Ty) -> Result<Ty, Fault<TypeFault>>
     ensures { Gives result (joined place a.now b.now) }
 {
-    match join(alloc, a, b)? {
-        Some(ty) => Ok(ty),
-        None => Err(Fault::Told(TypeFault {
-            rule: TypeRule::NoJoin,
-            at: place,
-        })),
-    }
+    let both = join(alloc, a, b)?;
+    Ok(or_no_join(place, both)?)
+}
+
+/// The type, or a fault at a place that there is none.
+fn or_no_join(place: Place, both: Option<Ty>) -> Result<Ty, TypeFault>
+    ensures { result ≡ or_fails TypeRule.NoJoin place both }
+{
+    both.ok_or(TypeFault {
+        rule: TypeRule::NoJoin,
+        at: place,
+    })
 }
 
 /// `if c then a else b` where c is always true.
@@ -44,11 +49,10 @@ pub fn first_branch(
 ) -> Result<Typed, AllocError>
     ensures { IfOk result (λ x. x ≡ first_branch place c a b.now) }
 {
-    let ty = copy_of_ty(alloc, &a.expr)?;
+    let ty = copy_of_ty(alloc, a.expr.get())?;
+    let other = skipped(alloc, b)?;
     let given = joined(c.given, a.given)?;
-    let condition = Boxed::new(alloc, c.expr)?;
-    let taken = Boxed::new(alloc, a.expr)?;
-    let expr = TypedExpr::If(place, ty, condition, taken, skipped(alloc, b)?);
+    let expr = Boxed::new(alloc, TypedExpr::If(place, ty, c.expr, a.expr, other))?;
     Ok(Typed { expr, given })
 }
 
@@ -62,14 +66,12 @@ pub fn second_branch(
 ) -> Result<Typed, AllocError>
     ensures { IfOk result (λ x. x ≡ second_branch place c a.now b) }
 {
-    let ty = copy_of_ty(alloc, &b.expr)?;
-    let condition = Boxed::new(alloc, c.into_expr())?;
-    let taken = Boxed::new(alloc, b.expr)?;
-    let expr = TypedExpr::If(place, ty, condition, skipped(alloc, a)?, taken);
-    Ok(Typed {
-        expr,
-        given: b.given,
-    })
+    let Typed { expr: taken, given } = b;
+    let ty = copy_of_ty(alloc, taken.get())?;
+    let other = skipped(alloc, a)?;
+    let expr = TypedExpr::If(place, ty, c.into_expr(), other, taken);
+    let expr = Boxed::new(alloc, expr)?;
+    Ok(Typed { expr, given })
 }
 
 /// `if c then a else b` where c may be true or false.
@@ -82,13 +84,11 @@ pub fn branches(
 ) -> Result<Typed, Fault<TypeFault>>
     ensures { Gives result (branches place c a b) }
 {
-    boolean(&c.expr)?;
-    let ty = branches_type(alloc, place, &a.expr, &b.expr)?;
+    boolean(c.expr.get())?;
+    let ty = branches_type(alloc, place, a.expr.get(), b.expr.get())?;
     let given = common(alloc, joined(c.given, a.given)?, b.given.as_slice())?;
-    let condition = Boxed::new(alloc, c.expr)?;
-    let first = Boxed::new(alloc, a.expr)?;
-    let second = Boxed::new(alloc, b.expr)?;
-    let expr = TypedExpr::If(place, ty, condition, first, second);
+    let expr = TypedExpr::If(place, ty, c.expr, a.expr, b.expr);
+    let expr = Boxed::new(alloc, expr)?;
     Ok(Typed { expr, given })
 }
 
@@ -115,9 +115,9 @@ pub fn disjunction(
 ) -> Result<Typed, Fault<TypeFault>>
     ensures { Gives result (disjunction place a b) }
 {
-    boolean(&a.expr)?;
-    boolean(&b.expr)?;
-    let ty = or_type(alloc, &a.expr, &b.expr)?;
+    boolean(a.expr.get())?;
+    boolean(b.expr.get())?;
+    let ty = or_type(alloc, a.expr.get(), b.expr.get())?;
     let Typed {
         expr: a,
         given: first,
@@ -126,8 +126,8 @@ pub fn disjunction(
         expr: b,
         given: second,
     } = b;
-    let given = or_given(alloc, &a, &b, first, second)?;
-    let expr = TypedExpr::Or(place, ty, Boxed::new(alloc, a)?, Boxed::new(alloc, b)?);
+    let given = or_given(alloc, a.get(), b.get(), first, second)?;
+    let expr = Boxed::new(alloc, TypedExpr::Or(place, ty, a, b))?;
     Ok(Typed { expr, given })
 }
 
@@ -174,9 +174,9 @@ pub fn conjunction(
 ) -> Result<Typed, Fault<TypeFault>>
     ensures { Gives result (conjunction place a b) }
 {
-    boolean(&a.expr)?;
-    boolean(&b.expr)?;
-    let ty = and_type(alloc, &a.expr, &b.expr)?;
+    boolean(a.expr.get())?;
+    boolean(b.expr.get())?;
+    let ty = and_type(alloc, a.expr.get(), b.expr.get())?;
     let Typed {
         expr: a,
         given: first,
@@ -185,8 +185,8 @@ pub fn conjunction(
         expr: b,
         given: second,
     } = b;
-    let given = and_given(alloc, &b, first, second)?;
-    let expr = TypedExpr::And(place, ty, Boxed::new(alloc, a)?, Boxed::new(alloc, b)?);
+    let given = and_given(alloc, b.get(), first, second)?;
+    let expr = Boxed::new(alloc, TypedExpr::And(place, ty, a, b))?;
     Ok(Typed { expr, given })
 }
 
@@ -221,16 +221,16 @@ fn and_given(
 pub fn or_true(alloc: Global, place: Place, a: Typed, b: &Expr) -> Result<Typed, AllocError>
     ensures { IfOk result (λ x. x ≡ made (TypedExpr.Or place Ty.True a.expr (TypedExpr.Skipped b.now)) []) }
 {
-    let first = Boxed::new(alloc, a.into_expr())?;
-    let expr = TypedExpr::Or(place, Ty::True, first, skipped(alloc, b)?);
-    Ok(Typed::plain(alloc, expr))
+    let other = skipped(alloc, b)?;
+    let expr = TypedExpr::Or(place, Ty::True, a.into_expr(), other);
+    Ok(Typed::plain(alloc, Boxed::new(alloc, expr)?))
 }
 
 /// `a && b` where a is always false.
 pub fn and_false(alloc: Global, place: Place, a: Typed, b: &Expr) -> Result<Typed, AllocError>
     ensures { IfOk result (λ x. x ≡ made (TypedExpr.And place Ty.False a.expr (TypedExpr.Skipped b.now)) []) }
 {
-    let first = Boxed::new(alloc, a.into_expr())?;
-    let expr = TypedExpr::And(place, Ty::False, first, skipped(alloc, b)?);
-    Ok(Typed::plain(alloc, expr))
+    let other = skipped(alloc, b)?;
+    let expr = TypedExpr::And(place, Ty::False, a.into_expr(), other);
+    Ok(Typed::plain(alloc, Boxed::new(alloc, expr)?))
 }

@@ -88,15 +88,14 @@ pub fn access(
     place: Place,
     name: &Text,
     a: &Expr,
-    x: TypedExpr,
+    x: Boxed<TypedExpr>,
 ) -> Result<Typed, Fault<TypeFault>>
     ensures { Gives result (access setting.now.schema.now setting.now.known.now place name.now a.now x) }
 {
-    let alloc = setting.alloc;
-    let x = Boxed::new(alloc, x)?;
     let ty = read_type(setting, place, name, a, x.get())?;
-    let expr = TypedExpr::Access(place, ty, x, name.try_clone(alloc)?);
-    Ok(Typed::plain(alloc, expr))
+    let name = name.try_clone(setting.alloc)?;
+    let expr = Boxed::new(setting.alloc, TypedExpr::Access(place, ty, x, name))?;
+    Ok(Typed::plain(setting.alloc, expr))
 }
 
 /// `a has b.c.d`.
@@ -105,18 +104,22 @@ pub fn has(
     place: Place,
     names: &[Text],
     a: &Expr,
-    x: TypedExpr,
+    x: Boxed<TypedExpr>,
 ) -> Result<Typed, Fault<TypeFault>>
     ensures { Gives result (path_of setting.now.schema.now setting.now.known.now place names.now a.now x) }
 {
-    let object = Boxed::new(setting.alloc, x)?;
-    let path = path_of(setting, place, names, a, object.get())?;
-    Ok(with_path(place, object, path))
+    let path = path_of(setting, place, names, a, x.get())?;
+    Ok(with_path(setting.alloc, place, x, path)?)
 }
 
 /// `a has b.c.d`, of a and of what is found along the names.
-fn with_path(place: Place, object: Boxed<TypedExpr>, path: Path) -> Typed
-    ensures { result ≡ made (TypedExpr.Has place path.found object path.steps path.skipped) path.given }
+fn with_path(
+    alloc: Global,
+    place: Place,
+    object: Boxed<TypedExpr>,
+    path: Path,
+) -> Result<Typed, AllocError>
+    ensures { IfOk result (λ t. t ≡ made (TypedExpr.Has place path.found object path.steps path.skipped) path.given) }
 {
     let Path {
         steps,
@@ -125,7 +128,8 @@ fn with_path(place: Place, object: Boxed<TypedExpr>, path: Path) -> Typed
         skipped,
     } = path;
     let expr = TypedExpr::Has(place, found, object, steps, skipped);
-    Typed { expr, given }
+    let expr = Boxed::new(alloc, expr)?;
+    Ok(Typed { expr, given })
 }
 
 fn path_of(

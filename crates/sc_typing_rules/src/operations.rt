@@ -24,17 +24,15 @@ pub fn operate(
     operator: BinaryOperator,
     a: &Expr,
     b: &Expr,
-    x: TypedExpr,
-    y: TypedExpr,
+    x: Boxed<TypedExpr>,
+    y: Boxed<TypedExpr>,
 ) -> Result<Typed, Fault<TypeFault>>
     ensures { Gives result (operation setting.now.schema.now setting.now.known.now place operator a.now b.now x y) }
 {
-    let alloc = setting.alloc;
-    let first = Boxed::new(alloc, x)?;
-    let second = Boxed::new(alloc, y)?;
-    let ty = binary(setting, place, operator, a, b, first.get(), second.get())?;
-    let given = given_by(alloc, operator, a, b, &ty)?;
-    let expr = TypedExpr::Binary(place, ty, operator, first, second);
+    let ty = binary(setting, place, operator, a, b, x.get(), y.get())?;
+    let given = given_by(setting.alloc, operator, a, b, &ty)?;
+    let expr = TypedExpr::Binary(place, ty, operator, x, y);
+    let expr = Boxed::new(setting.alloc, expr)?;
     Ok(Typed { expr, given })
 }
 
@@ -42,27 +40,25 @@ pub fn operate(
 pub fn contain(
     alloc: Global,
     place: Place,
-    x: TypedExpr,
-    right: (Ty, TypedExpr),
+    x: Boxed<TypedExpr>,
+    right: (Ty, Boxed<TypedExpr>),
 ) -> Result<Typed, AllocError>
     ensures { IfOk result (λ t. t ≡ made (TypedExpr.Binary place right.0 In x right.1) []) }
 {
     let (ty, y) = right;
-    let first = Boxed::new(alloc, x)?;
-    let second = Boxed::new(alloc, y)?;
-    let expr = TypedExpr::Binary(place, ty, BinaryOperator::In, first, second);
-    Ok(Typed::plain(alloc, expr))
+    let expr = TypedExpr::Binary(place, ty, BinaryOperator::In, x, y);
+    Ok(Typed::plain(alloc, Boxed::new(alloc, expr)?))
 }
 
 /// The type of `in`, and its right side.
 pub fn with_right(
     schema: &Schema,
     x: &TypedExpr,
-    y: TypedExpr,
-) -> Result<(Ty, TypedExpr), TypeFault>
+    y: Boxed<TypedExpr>,
+) -> Result<(Ty, Boxed<TypedExpr>), TypeFault>
     ensures { result ≡ with_right schema.now x.now y }
 {
-    let ty = within(schema, x, &y)?;
+    let ty = within(schema, x, y.get())?;
     Ok((ty, y))
 }
 
@@ -71,14 +67,14 @@ pub fn like(
     alloc: Global,
     place: Place,
     pattern: &Pattern,
-    x: TypedExpr,
+    x: Boxed<TypedExpr>,
 ) -> Result<Typed, Fault<TypeFault>>
     ensures { Gives result (match place pattern.now x) }
 {
-    let x = Boxed::new(alloc, x)?;
     string(x.get())?;
-    let expr = TypedExpr::Like(place, Ty::Bool, x, pattern.try_clone(alloc)?);
-    Ok(Typed::plain(alloc, expr))
+    let pattern = pattern.try_clone(alloc)?;
+    let expr = TypedExpr::Like(place, Ty::Bool, x, pattern);
+    Ok(Typed::plain(alloc, Boxed::new(alloc, expr)?))
 }
 
 /// Whether an entity is of a type.
@@ -94,14 +90,14 @@ pub fn is(
     alloc: Global,
     place: Place,
     type_name: &TypeName,
-    x: TypedExpr,
+    x: Boxed<TypedExpr>,
 ) -> Result<Typed, Fault<TypeFault>>
     ensures { Gives result (test place type_name.now x) }
 {
-    let x = Boxed::new(alloc, x)?;
     let ty = truth(is_of(x.get(), type_name)?);
-    let expr = TypedExpr::Is(place, ty, x, type_name.try_clone(alloc)?);
-    Ok(Typed::plain(alloc, expr))
+    let name = type_name.try_clone(alloc)?;
+    let expr = TypedExpr::Is(place, ty, x, name);
+    Ok(Typed::plain(alloc, Boxed::new(alloc, expr)?))
 }
 
 /// `a is T in b` where a isn't of the type T.
@@ -110,16 +106,15 @@ pub fn is_not(
     place: Place,
     type_name: &TypeName,
     in_place: Place,
-    x: TypedExpr,
+    x: Boxed<TypedExpr>,
     b: &Expr,
 ) -> Result<Typed, AllocError>
     ensures { IfOk result (λ t. t ≡ made (TypedExpr.IsIn place Ty.False x type_name.now in_place (TypedExpr.Skipped b.now)) []) }
 {
-    let first = Boxed::new(alloc, x)?;
-    let second = skipped(alloc, b)?;
+    let other = skipped(alloc, b)?;
     let name = type_name.try_clone(alloc)?;
-    let expr = TypedExpr::IsIn(place, Ty::False, first, name, in_place, second);
-    Ok(Typed::plain(alloc, expr))
+    let expr = TypedExpr::IsIn(place, Ty::False, x, name, in_place, other);
+    Ok(Typed::plain(alloc, Boxed::new(alloc, expr)?))
 }
 
 /// `a is T in b` where a is of the type T, of a and of what is found of b.
@@ -128,17 +123,15 @@ pub fn is_in(
     place: Place,
     type_name: &TypeName,
     in_place: Place,
-    x: TypedExpr,
-    right: (Ty, TypedExpr),
+    x: Boxed<TypedExpr>,
+    right: (Ty, Boxed<TypedExpr>),
 ) -> Result<Typed, AllocError>
     ensures { IfOk result (λ t. t ≡ made (TypedExpr.IsIn place right.0 x type_name.now in_place right.1) []) }
 {
     let (ty, y) = right;
-    let first = Boxed::new(alloc, x)?;
-    let second = Boxed::new(alloc, y)?;
     let name = type_name.try_clone(alloc)?;
-    let expr = TypedExpr::IsIn(place, ty, first, name, in_place, second);
-    Ok(Typed::plain(alloc, expr))
+    let expr = TypedExpr::IsIn(place, ty, x, name, in_place, y);
+    Ok(Typed::plain(alloc, Boxed::new(alloc, expr)?))
 }
 
 /// An operator with one operand.
@@ -147,12 +140,11 @@ pub fn apply(
     place: Place,
     operator: UnaryOperator,
     a: &Expr,
-    x: TypedExpr,
+    x: Boxed<TypedExpr>,
 ) -> Result<Typed, Fault<TypeFault>>
     ensures { Gives result (application place operator a.now x) }
 {
-    let x = Boxed::new(alloc, x)?;
     let ty = unary(place, operator, a, x.get())?;
     let expr = TypedExpr::Unary(place, ty, operator, x);
-    Ok(Typed::plain(alloc, expr))
+    Ok(Typed::plain(alloc, Boxed::new(alloc, expr)?))
 }

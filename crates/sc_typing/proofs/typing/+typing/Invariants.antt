@@ -8,9 +8,6 @@ use Rattle.sc_typing.proofs.typing.+typing.Given as goal
 abbrev pub decreases-type_expr : goal.decreases-type_expr
 decreases-type_expr l = 5 * size-Expr l.expr.now
 
-abbrev pub decreases-type_boxed : goal.decreases-type_boxed
-decreases-type_boxed l = 5 * size-Expr l.expr.now + 1
-
 abbrev pub decreases-type_under : goal.decreases-type_under
 decreases-type_under l = 5 * size-Expr l.expr.now + 2
 
