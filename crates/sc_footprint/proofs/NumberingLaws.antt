@@ -91,7 +91,7 @@ module _ (total : IsTotalOrder tree_cmp) where
   unfolding IsStrictlySortedBy
   first_is [] h k = absurd k
   first_is (x ∷ xs) h (inl e) = ap Some e
-  first_is (x ∷ xs) h (inr k) = absurd (least x (after total x xs h.0 (truth_term true) k))
+  first_is (x ∷ xs) h (inr k) = absurd (least x (after tree_cmp x xs h.0 (truth_term true) k))
 
 -- ---- atoms
 

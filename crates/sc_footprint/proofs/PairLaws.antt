@@ -6,10 +6,7 @@ use Rattle.std.specs.Ordering.{is_eq, is_gt, ordering_reverse}
 use Rattle.std.specs.Str.{bytes_eq}
 use Rattle.std.specs.declared.cmp.Ordering.{Ordering}
 use Rattle.std.specs.declared.cmp.Ordering.TheVariants.{Less, Equal, Greater}
-use Rattle.sc_sorts.specs.declared.sort.Sort.{out-Sort, out-roll-Sort}
-use Rattle.sc_sorts.specs.declared.sort.Sort.TheVariants as sort
-use Rattle.sc_sorts.specs.declared.sort.Sort.TheVariants.{rolls-Bool}
-use Rattle.sc_sorts.specs.declared.sort.Sort.TheOpen as s
+use Rattle.sc_sorts.proofs.OutLaws.{out_Bool}
 use Rattle.sc_terms.specs.declared.node.Leaf.TheVariants as leafs
 use Rattle.sc_terms.specs.declared.node.Literal.TheVariants as literals
 use Rattle.sc_terms.specs.Trees.{Tree, leaf, one, two, choice}
@@ -19,13 +16,10 @@ use Rattle.sc_terms.specs.Folds.{constant, is_literal, both, equal_term, other_e
 use Rattle.sc_footprint.specs.Closure.{entity_in, entity_type, same_name, follow_pair}
 use Rattle.sc_footprint.specs.Following.{Has, is_entity}
 
-out_bool : out-Sort sort.Bool ≡ s.Bool
-out_bool = ap out-Sort (sym rolls-Bool) ∙ out-roll-Sort s.Bool
-
 -- an entity is no truth value
 no_constant : (x : Tree) → is_entity x ≡ true → constant x ≡ None
 unfolding tree_sort
-no_constant (leaf (leafs.Literal (literals.Bool b))) h = let e : false ≡ true = ap (λ o. is_some (entity_in o)) (sym out_bool) ∙ h in cc
+no_constant (leaf (leafs.Literal (literals.Bool b))) h = let e : false ≡ true = ap (λ o. is_some (entity_in o)) (sym out_Bool) ∙ h in cc
 no_constant (leaf (leafs.Principal r)) h = refl
 no_constant (leaf (leafs.Resource r)) h = refl
 no_constant (leaf (leafs.Context r)) h = refl

@@ -1,25 +1,32 @@
--- What closing gives is a problem of the goal, and it is over the limit only where each problem of it would be.
-use Rattle.std.proofs.Common.{◌≡◌, ℕ, ◌<◌, ◌≤◌, Bool, true, false, cond, List, [], ◌∷◌, filter, length, Contains, IsPermutation, refl, sym, ap, ◌∙◌, subst, arith}
+-- What closing gives is a problem of the goal, or that its closed terms have too many atoms.
+use Rattle.std.proofs.Common.{◌≡◌, ◌↔◌, ℕ, ◌<◌, ◌≤◌, Bool, true, false, cond, List, [], ◌∷◌, filter, length, Contains, IsPermutation, refl, sym, ap, ◌∙◌, subst, arith}
 use Rattle.std.proofs.lemmas.List.{length-map}
 use Rattle.std.proofs.lemmas.List.Sorted.{Contains-permutation, IsPermutation-sym}
 use Rattle.std.specs.Cmp.{IsTotalOrder}
+use Rattle.std.specs.declared.cmp.Ordering.TheVariants.{Equal}
 use Rattle.std.specs.List.{AllByRecursion}
 use Rattle.std.specs.List.Sorted.{IsStrictlySortedBy}
 use Rattle.sc_names.specs.declared.uid.Uid.{Uid}
 use Rattle.sc_schema.specs.declared.declarations.Env.{Env}
 use Rattle.sc_schema.specs.Declarations.{Declarations, context_of, environments}
+use Rattle.sc_values.proofs.AscendingLaws.{one_list}
 use Rattle.sc_world.specs.Named.{IsDeclared}
 use Rattle.sc_terms.specs.declared.node.Node.{Node}
 use Rattle.sc_terms.specs.Trees.{Tree}
 use Rattle.sc_terms.specs.Tables.{tree, Keeps}
 use Rattle.sc_terms.specs.Order.{tree_cmp}
 use Rattle.sc_terms.specs.Booleans.{IsBoolean}
-use Rattle.sc_footprint.specs.Problems.{AreClosed, IsProblemOf, atoms_among, most_atoms, is_atom}
+use Rattle.sc_footprint.specs.Problems.{AreClosed, IsOverLimit, IsProblemOf, atoms_among, most_atoms, is_atom}
 use Rattle.sc_footprint.specs.Indices.{IsKept}
 use Rattle.sc_footprint.specs.Following.{Has, stood, StandsForClosed}
 use Rattle.sc_footprint.specs.Sorting.{atoms_of}
 use Rattle.sc_footprint.proofs.MemberLaws.{Has-map, map-Has, Has-from_Contains, Contains-from_Has}
-use Rattle.sc_footprint.proofs.OrderingLaws.{within_moved, one_list}
+use Rattle.sc_footprint.proofs.OrderingLaws.{within_moved}
+
+-- the closed terms of a goal are one list
+pub same_closed : IsTotalOrder tree_cmp → ((a b : Tree) → tree_cmp a b ≡ Equal ↔ a ≡ b) → (env : Env) (goal : Tree) (ts us : List Tree) → AreClosed env goal ts → AreClosed env goal us → ts ≡ us
+same_closed total level env goal ts us c d =
+    one_list total (λ a b h. (level a b).0 h) ts us c.ordered d.ordered (λ x. (λ h. (d.just x).1 ((c.just x).0 h), λ h. (c.just x).1 ((d.just x).0 h)))
 
 -- the atoms of numbers are those of their terms
 listed : (xs : List Node) (ns : List ℕ) → stood xs (atoms_of xs ns) ≡ atoms_among (stood xs ns)
@@ -63,13 +70,8 @@ module _ (env : Env) (old xs : List Node) (n : ℕ) (ms ns ls : List ℕ) (met :
   count_is = sym (length-map ls (tree xs)) ∙ ap length atoms_are
 
   -- over the limit
-  pub refused : IsTotalOrder tree_cmp → most_atoms < length ls → (ts : List Tree) → AreClosed env (tree old n) ts → most_atoms < length (atoms_among ts)
-  refused total h ts c =
-      let one : ts ≡ stood xs ns = one_list total ts (stood xs ns) c.ordered ordered
-      (λ x p. Has-from_Contains (stood xs ns) x ((in_order.just x).1 ((c.just x).0 (Contains-from_Has ts x p))))
-      (λ x p. Has-from_Contains ts x ((c.just x).1 ((in_order.just x).0 (Contains-from_Has (stood xs ns) x p)))) in
-      let count : length (atoms_among ts) ≡ length ls = ap (λ (l : List Tree). length (atoms_among l)) one ∙ sym count_is in
-      omega (arith, h, count)
+  pub refused : most_atoms < length ls → IsOverLimit env (tree old n)
+  refused h = record { terms = stood xs ns; closed = in_order; more = omega (arith, h, count_is) }
 
   module _ (schema : Declarations) (literals : List Uid) (environment : Contains (environments schema) env) (declared : AllByRecursion (IsDeclared schema) literals) (below : n < length old)
       (boolean : IsBoolean (context_of schema env.action) (tree old n)) (kept : Keeps old xs) where

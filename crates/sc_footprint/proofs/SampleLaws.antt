@@ -1,5 +1,5 @@
 -- A goal for tests.
-use Rattle.std.proofs.Common.{◌≡◌, ℕ, List, [], ◌∷◌, inl, slice_get, Option, Some, false, not, refl, sym, ap, ◌∙◌, subst}
+use Rattle.std.proofs.Common.{◌≡◌, ℕ, List, [], ◌∷◌, inl, slice_get, Option, Some, false, refl, sym, ap, ◌∙◌, subst}
 use Rattle.sc_schema.specs.declared.ty.Ty.{Ty}
 use Rattle.sc_sorts.specs.declared.sort.Sort.{Sort}
 use Rattle.sc_sorts.specs.declared.sort.Sort.TheVariants.{Bool}
@@ -7,10 +7,11 @@ use Rattle.sc_sorts.specs.OfTypes.{sort_of}
 use Rattle.sc_sorts.specs.Plain.{Field, plain_fields}
 use Rattle.sc_terms.specs.declared.node.Leaf.TheVariants.{Context}
 use Rattle.sc_terms.specs.declared.node.Node.{Node}
-use Rattle.sc_terms.specs.Trees.{Tree, leaf, two}
+use Rattle.sc_terms.specs.Trees.{leaf}
 use Rattle.sc_terms.specs.Tables.{tree, StandsFor}
 use Rattle.sc_terms.specs.Folds.{field_term, not_term, truth_term}
-use Rattle.sc_terms.specs.Booleans.{IsBoolean, of_truth, of_attribute, of_not, of_two, attribute_term, names_of}
+use Rattle.sc_terms.specs.Booleans.{IsBoolean, of_truth, of_attribute, attribute_term, names_of}
+use Rattle.sc_terms.proofs.BooleansLaws.{not_boolean}
 use Rattle.std.proofs.lemmas.Option.{same_Some}
 use Rattle.sc_footprint.specs.Following.{Has}
 use Rattle.sc_footprint.proofs.MemberLaws.{Contains-from_Has, Has-map}
@@ -29,15 +30,8 @@ attribute_boolean ys zs type fields f sort name n m plain among is_sort context 
     (of_attribute type fields f.0 refl (sym plain) (Contains-from_Has (names_of fields) f.0 (Has-map (λ (g : Field). g.0) fields f (first_there fields f among))))
 
 -- a negation, folded
-pub not_boolean : (context : Option Ty) (t : Tree) → IsBoolean context t → IsBoolean context (not_term t)
-unfolding not_term
-not_boolean context t (of_truth b) = of_truth (not b)
-not_boolean context t (of_attribute type fields name e f g) = of_not (attribute_term type name) (of_attribute type fields name e f g)
-not_boolean context t (of_not a h) = h
-not_boolean context t (of_two o a b h k) = of_not (two o a b) (of_two o a b h k)
-
 pub negated_boolean : (ys zs : List Node) (context : Option Ty) (n m : ℕ) → IsBoolean context (tree ys n) → StandsFor zs m (not_term (tree ys n)) → IsBoolean context (tree zs m)
-negated_boolean ys zs context n m h s = subst (IsBoolean context) (sym s.is) (not_boolean context (tree ys n) h)
+negated_boolean ys zs context n m h s = subst (IsBoolean context) (sym s.is) (not_boolean context h)
 
 pub false_boolean : (xs : List Node) (context : Option Ty) (n : ℕ) → StandsFor xs n (truth_term false) → IsBoolean context (tree xs n)
 false_boolean xs context n s = subst (IsBoolean context) (sym s.is) (of_truth false)

@@ -148,9 +148,11 @@ pub record IsProblemOf (schema : Declarations) (env : Env) (literals : List Uid)
   pub goal_is : goal_term p ≡ goal
   pub within_limit : length (atoms p) ≤ most_atoms
 
--- the goal lists more atoms
-abbrev pub IsOverLimit : Env → Tree → Type 0
-IsOverLimit env goal = (ts : List Tree) → AreClosed env goal ts → most_atoms < length (atoms_among ts)
+-- the goal's closed terms have more atoms
+pub record IsOverLimit (env : Env) (goal : Tree) : Type 0 where
+  pub terms : List Tree
+  pub closed : AreClosed env goal terms
+  pub more : most_atoms < length (atoms_among terms)
 
 -- why a goal has no problem: it is over the limit, or memory ran out
 abbrev pub IsRefused : {E : Type 0} → Env → Tree → Fault E → Type 0

@@ -7,7 +7,6 @@ ghost use Rattle.sc_terms.specs.Folds.{field_term};
 ghost use Rattle.sc_footprint.specs.Closure.{parts as parts_of, all_fields as fields_of, follow as follow_of, entity_type as type_of, same_name};
 ghost use Rattle.sc_footprint.specs.Following.{stood, noted, pairs_with, is_entity as entity};
 
-use crate::kind::sort_of;
 use sc_lists::Text;
 use sc_names::Name;
 use sc_sorts::{Sort, try_clone};
@@ -78,7 +77,7 @@ fn entity_type(terms: &Terms, n: u64) -> Option<&Name>
     requires { n < length terms.now }
     ensures { option_copied result ≡ type_of (tree terms.now n) }
 {
-    match sort_of(terms, n) {
+    match terms.held_sort(n) {
         Some(Sort::Entity(name, _)) => Some(name),
         _ => None,
     }

@@ -1,10 +1,10 @@
 //! Problems.
 ghost use Rattle.std.specs.Prelude.{◌≡◌, ◌<◌, length, option_map, IfSome};
 ghost use Rattle.sc_terms.specs.Tables.{tree};
-ghost use Rattle.sc_footprint.specs.Problems.{IsPosed, atoms, numbered, number_of, literal_in, literal_at, goal_literal, atom_number};
+ghost use Rattle.sc_footprint.specs.Problems.{IsPosed, is_bool as truth_value, atoms, numbered, number_of, literal_in, literal_at, goal_literal, atom_number};
 ghost use Rattle.sc_footprint.specs.Indices.{own_literal};
 
-use crate::kind::{is_bool, under_not};
+use crate::kind::is_bool;
 use crate::numbers::{number_at, place_in};
 use indexmap::IndexSet;
 use sc_clauses::{Lit, negation};
@@ -96,6 +96,14 @@ impl<'a> Problem<'a> {
         }
     }
 
+    /// Whether a term of the table is a truth value.
+    pub fn is_bool(&self, term: u64) -> bool
+        requires { term < length self.now.nodes }
+        ensures { result ≡ truth_value (tree self.now.nodes term) }
+    {
+        is_bool(&self.terms, term)
+    }
+
     /// How many atoms are listed; they are numbered from 1.
     pub fn atom_count(&self) -> u64
         ensures { result ≡ length (atoms self.now) }
@@ -122,7 +130,7 @@ impl<'a> Problem<'a> {
     {
         let mut at = term;
         let mut negated = false;
-        while let Some(part) = under_not(&self.terms, at) {
+        while let Some(part) = self.terms.under_not(at) {
             at = part;
             negated = !negated;
         }

@@ -1,5 +1,5 @@
 -- Goals are of the fragment of Booleans.
-use Rattle.std.proofs.Common.{◌≡◌, Bool, true, false, not, List, [], ◌∷◌, length, map, filter, All, Option, Some, None, sym, subst}
+use Rattle.std.proofs.Common.{◌≡◌, Bool, not, List, [], ◌∷◌, map, filter, Option, Some, sym, subst}
 use Rattle.std.specs.List.{AllByRecursion}
 use Rattle.std.proofs.lemmas.List.Elements.{All-from_recursion, All-filter, All-map}
 use Rattle.sc_ast.specs.declared.policy.Policy.{Policy}
@@ -9,79 +9,19 @@ use Rattle.sc_schema.specs.Declarations.{Declarations, context_of}
 use Rattle.sc_auth.specs.Decisions.{permits}
 use Rattle.sc_question.specs.declared.question.Question.{Question}
 use Rattle.sc_question.specs.declared.question.Question.TheVariants.{NeverErrors, AlwaysAllows, AlwaysDenies, Implies, Equivalent, Disjoint}
-use Rattle.sc_terms.specs.declared.node.BinaryOp.TheVariants as binary
-use Rattle.sc_terms.specs.Trees.{Tree, two}
-use Rattle.sc_terms.specs.Order.{tree_cmp, tree_eq}
-use Rattle.std.specs.Ordering.{is_gt}
-use Rattle.sc_terms.specs.Folds.{constant, is_literal, both, truth_term, not_term, and_by, and_term, or_by, or_term, equation, other_equal, equal_by, equal_term}
-use Rattle.sc_terms.specs.Joined.{joined}
-use Rattle.sc_terms.specs.Booleans.{IsBoolean, of_truth, of_attribute, of_not, of_two, attribute_term}
+use Rattle.sc_terms.specs.Trees.{Tree}
+use Rattle.sc_terms.specs.Folds.{not_term}
+use Rattle.sc_terms.specs.Booleans.{IsBoolean}
+use Rattle.sc_terms.proofs.BooleansLaws.{not_boolean, and_boolean, equal_boolean, any_boolean}
 use Rattle.sc_symeval.specs.Codes.{Code}
 use Rattle.sc_symeval.specs.Compiling.{policy_code}
 use Rattle.sc_symauth.specs.Standings.{Compiled, satisfied, error, any_satisfied, allow, any_error}
-use Rattle.sc_symauth.proofs.JoinedKeeps.{joined_keeps}
 use Rattle.sc_goal.specs.Goals.{goal_of, compiled, all_compiled, goal_term}
 use Rattle.sc_goal.proofs.RightLaws.{parts_of, no_parts, compiled_of, goal_parts}
 
 module _ (context : Option Ty) where
   abbrev Is : Tree → Type 0
   Is = IsBoolean context
-
-  -- ---- folds
-
-  not_boolean : {t : Tree} → Is t → Is (not_term t)
-  unfolding not_term
-  not_boolean (of_truth b) = of_truth (not b)
-  not_boolean (of_attribute type fields name at plain has) = of_not (attribute_term type name) (of_attribute type fields name at plain has)
-  not_boolean (of_not a h) = h
-  not_boolean (of_two o a b h k) = of_not (two o a b) (of_two o a b h k)
-
-  and_rows : (c d : Option Bool) (same : Bool) (a b : Tree) → Is a → Is b → Is (and_by c d same a b)
-  and_rows (Some true) d same a b h k = k
-  and_rows (Some false) d same a b h k = h
-  and_rows None (Some true) same a b h k = h
-  and_rows None (Some false) same a b h k = k
-  and_rows None None true a b h k = h
-  and_rows None None false a b h k = of_two binary.And a b h k
-
-  and_boolean : (a b : Tree) → Is a → Is b → Is (and_term a b)
-  unfolding and_term
-  and_boolean a b h k = and_rows (constant a) (constant b) (tree_eq a b) a b h k
-
-  or_rows : (c d : Option Bool) (same : Bool) (a b : Tree) → Is a → Is b → Is (or_by c d same a b)
-  or_rows (Some true) d same a b h k = h
-  or_rows (Some false) d same a b h k = k
-  or_rows None (Some true) same a b h k = k
-  or_rows None (Some false) same a b h k = h
-  or_rows None None true a b h k = h
-  or_rows None None false a b h k = of_two binary.Or a b h k
-
-  or_boolean : (a b : Tree) → Is a → Is b → Is (or_term a b)
-  unfolding or_term
-  or_boolean a b h k = or_rows (constant a) (constant b) (tree_eq a b) a b h k
-
-  equation_boolean : (greater : Bool) (a b : Tree) → Is a → Is b → Is (equation greater a b)
-  equation_boolean true a b h k = of_two binary.Equal b a k h
-  equation_boolean false a b h k = of_two binary.Equal a b h k
-
-  other_rows : (same literals : Bool) (a b : Tree) → Is a → Is b → Is (other_equal same literals a b)
-  other_rows true literals a b h k = of_truth true
-  other_rows false true a b h k = of_truth false
-  other_rows false false a b h k = equation_boolean (is_gt (tree_cmp a b)) a b h k
-
-  equal_rows : (c d : Option Bool) (a b : Tree) → Is a → Is b → Is (equal_by c d a b)
-  equal_rows (Some true) d a b h k = k
-  equal_rows (Some false) d a b h k = not_boolean k
-  equal_rows None (Some true) a b h k = h
-  equal_rows None (Some false) a b h k = not_boolean h
-  equal_rows None None a b h k = other_rows (tree_eq a b) (both (is_literal a) (is_literal b)) a b h k
-
-  equal_boolean : (a b : Tree) → Is a → Is b → Is (equal_term a b)
-  unfolding equal_term
-  equal_boolean a b h k = equal_rows (constant a) (constant b) a b h k
-
-  any_boolean : (ts : List Tree) → All Is ts → Is (joined or_term (truth_term false) (length ts) ts)
-  any_boolean ts h = joined_keeps Is or_term (truth_term false) (of_truth false) or_boolean (length ts) ts h
 
   -- ---- policies
 
@@ -94,29 +34,29 @@ module _ (context : Option Ty) where
 
   any_satisfied_boolean : (test : Compiled → Bool) (cs : List Compiled) → AllByRecursion AreBoolean cs → Is (any_satisfied test cs)
   any_satisfied_boolean test cs h =
-      any_boolean (map (λ (c : Compiled). satisfied c.code) (filter test cs))
+      any_boolean context (map (λ (c : Compiled). satisfied c.code) (filter test cs))
       (All-map Is (λ (c : Compiled). satisfied c.code) (filter test cs)
       (All-filter test (λ (c : Compiled). Is (satisfied c.code)) cs
-      (All-from_recursion (λ (c : Compiled). Is (satisfied c.code)) cs (each (λ (c : Compiled). satisfied c.code) cs (λ c k. and_boolean c.code.ok c.code.val k.0 k.1) h))))
+      (All-from_recursion (λ (c : Compiled). Is (satisfied c.code)) cs (each (λ (c : Compiled). satisfied c.code) cs (λ c k. and_boolean context c.code.ok c.code.val k.0 k.1) h))))
 
   allow_boolean : (cs : List Compiled) → AllByRecursion AreBoolean cs → Is (allow cs)
   allow_boolean cs h =
-      and_boolean (any_satisfied (λ (c : Compiled). permits c.effect) cs) (not_term (any_satisfied (λ (c : Compiled). not (permits c.effect)) cs))
-      (any_satisfied_boolean (λ (c : Compiled). permits c.effect) cs h) (not_boolean (any_satisfied_boolean (λ (c : Compiled). not (permits c.effect)) cs h))
+      and_boolean context (any_satisfied (λ (c : Compiled). permits c.effect) cs) (not_term (any_satisfied (λ (c : Compiled). not (permits c.effect)) cs))
+      (any_satisfied_boolean (λ (c : Compiled). permits c.effect) cs h) (not_boolean context (any_satisfied_boolean (λ (c : Compiled). not (permits c.effect)) cs h))
 
   any_error_boolean : (cs : List Compiled) → AllByRecursion AreBoolean cs → Is (any_error cs)
   any_error_boolean cs h =
-      any_boolean (map (λ (c : Compiled). error c.code) cs)
+      any_boolean context (map (λ (c : Compiled). error c.code) cs)
       (All-map Is (λ (c : Compiled). error c.code) cs
-      (All-from_recursion (λ (c : Compiled). Is (error c.code)) cs (each (λ (c : Compiled). error c.code) cs (λ c k. not_boolean k.0) h)))
+      (All-from_recursion (λ (c : Compiled). Is (error c.code)) cs (each (λ (c : Compiled). error c.code) cs (λ c k. not_boolean context k.0) h)))
 
   goal_of_boolean : (q : Question) (x y : List Compiled) → AllByRecursion AreBoolean x → AllByRecursion AreBoolean y → Is (goal_of q x y)
   goal_of_boolean NeverErrors x y h k = any_error_boolean x h
-  goal_of_boolean AlwaysAllows x y h k = not_boolean (allow_boolean x h)
+  goal_of_boolean AlwaysAllows x y h k = not_boolean context (allow_boolean x h)
   goal_of_boolean AlwaysDenies x y h k = allow_boolean x h
-  goal_of_boolean Implies x y h k = and_boolean (allow x) (not_term (allow y)) (allow_boolean x h) (not_boolean (allow_boolean y k))
-  goal_of_boolean Equivalent x y h k = not_boolean (equal_boolean (allow x) (allow y) (allow_boolean x h) (allow_boolean y k))
-  goal_of_boolean Disjoint x y h k = and_boolean (allow x) (allow y) (allow_boolean x h) (allow_boolean y k)
+  goal_of_boolean Implies x y h k = and_boolean context (allow x) (not_term (allow y)) (allow_boolean x h) (not_boolean context (allow_boolean y k))
+  goal_of_boolean Equivalent x y h k = not_boolean context (equal_boolean context (allow x) (allow y) (allow_boolean x h) (allow_boolean y k))
+  goal_of_boolean Disjoint x y h k = and_boolean context (allow x) (allow y) (allow_boolean x h) (allow_boolean y k)
 
 -- ---- compiled policies
 

@@ -9,7 +9,7 @@ use Rattle.sc_terms.specs.Trees.{Tree, one, two}
 use Rattle.sc_terms.specs.Folds.{truth_term, not_term, and_term, or_term, equal_term}
 use Rattle.sc_terms.specs.Joined.{any_of}
 use Rattle.sc_terms.specs.Values.{Val, val, yes, seen, bool_seen, truth, not_value, not_seen, and_value, and_seen, or_value, or_seen, equal_value, equal_seen}
-use Rattle.sc_symauth.proofs.JoinedKeeps.{joined_keeps}
+use Rattle.sc_terms.proofs.JoinedKeeps.{joined_keeps}
 
 -- whether two truth values are one
 abbrev pub same : Bool → Bool → Bool

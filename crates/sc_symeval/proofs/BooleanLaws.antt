@@ -1,5 +1,5 @@
 -- What an expression is compiled to is of the fragment of Booleans.
-use Rattle.std.proofs.Common.{◌≡◌, ℕ, List, [], Bool, true, false, not, cond, Option, Some, None, unwrap_or, option_map, IfSome, refl, ap, sym, subst, ◌∙◌}
+use Rattle.std.proofs.Common.{◌≡◌, ℕ, List, [], Bool, true, false, cond, Option, Some, None, unwrap_or, option_map, IfSome, refl, ap, sym, subst, ◌∙◌}
 use Rattle.std.specs.Option.{option_and_then}
 use Rattle.sc_ast.specs.declared.expr.Expr.{Expr}
 use Rattle.sc_ast.specs.declared.literal.Literal.{Literal}
@@ -18,12 +18,9 @@ use Rattle.sc_typed.specs.Types.{is_true, is_false, attribute}
 use Rattle.sc_typed.specs.Outcomes.{ty}
 use Rattle.sc_typed.specs.Capabilities.{Capabilities}
 use Rattle.sc_typing_rules.specs.Rules.{literal_type, variable_type}
-use Rattle.sc_terms.specs.declared.node.BinaryOp.TheVariants as binary
-use Rattle.sc_terms.specs.Trees.{Tree, two}
-use Rattle.sc_terms.specs.Order.{tree_eq}
-use Rattle.sc_terms.specs.Folds.{constant, not_term, and_by, and_term, or_by, or_term}
-use Rattle.sc_terms.specs.Booleans.{attribute_term, IsBoolean, of_truth, of_attribute, of_two}
-use Rattle.sc_terms.specs.Booleans as boolean
+use Rattle.sc_terms.specs.Trees.{Tree}
+use Rattle.sc_terms.specs.Booleans.{attribute_term, IsBoolean, of_truth, of_attribute}
+use Rattle.sc_terms.proofs.BooleansLaws.{not_boolean, and_boolean, or_boolean}
 use Rattle.sc_symeval.specs.Codes.{Code, always, constant as constant_code, not_code, and_code, or_code, of_two as code_of_two, of_both, of_either, of_unary, of_binary, of_equation, are_literals, code_of}
 use Rattle.sc_symeval.specs.Codes as codes
 use Rattle.sc_symeval.specs.Parts.{seen}
@@ -35,42 +32,6 @@ use Rattle.sc_symeval.proofs.LeafLaws.{leaf_of, context_leaf}
 use Rattle.sc_symeval.proofs.RuleLaws.{Ruled, of_or_skipped, of_or, of_and_skipped, of_and, of_equal, of_not, of_access, of_literal, of_action, of_variable, of_other}
 
 module _ (context : Option Ty) where
-  abbrev Is : Tree → Type 0
-  Is = IsBoolean context
-
-  -- ---- folds
-
-  not_boolean : {t : Tree} → Is t → Is (not_term t)
-  unfolding not_term
-  not_boolean (of_truth b) = of_truth (not b)
-  not_boolean (of_attribute type fields name at plain has) = boolean.of_not (attribute_term type name) (of_attribute type fields name at plain has)
-  not_boolean (boolean.of_not a h) = h
-  not_boolean (of_two o a b h k) = boolean.of_not (two o a b) (of_two o a b h k)
-
-  and_rows : (c d : Option Bool) (same : Bool) (a b : Tree) → Is a → Is b → Is (and_by c d same a b)
-  and_rows (Some true) d same a b h k = k
-  and_rows (Some false) d same a b h k = h
-  and_rows None (Some true) same a b h k = h
-  and_rows None (Some false) same a b h k = k
-  and_rows None None true a b h k = h
-  and_rows None None false a b h k = of_two binary.And a b h k
-
-  and_boolean : (a b : Tree) → Is a → Is b → Is (and_term a b)
-  unfolding and_term
-  and_boolean a b h k = and_rows (constant a) (constant b) (tree_eq a b) a b h k
-
-  or_rows : (c d : Option Bool) (same : Bool) (a b : Tree) → Is a → Is b → Is (or_by c d same a b)
-  or_rows (Some true) d same a b h k = h
-  or_rows (Some false) d same a b h k = k
-  or_rows None (Some true) same a b h k = k
-  or_rows None (Some false) same a b h k = h
-  or_rows None None true a b h k = h
-  or_rows None None false a b h k = of_two binary.Or a b h k
-
-  or_boolean : (a b : Tree) → Is a → Is b → Is (or_term a b)
-  unfolding or_term
-  or_boolean a b h k = or_rows (constant a) (constant b) (tree_eq a b) a b h k
-
   -- ---- constructs
 
   abbrev pub AreBoolean : Code → Type 0
@@ -79,7 +40,7 @@ module _ (context : Option Ty) where
   abbrev Are : Option Code → Type 0
   Are o = IfSome o AreBoolean
 
-  always_boolean : (t : Tree) → Is t → AreBoolean (always t)
+  always_boolean : (t : Tree) → IsBoolean context t → AreBoolean (always t)
   always_boolean t h = (of_truth true, h)
 
   two_boolean : (f : Code → Code → Code) → ((a b : Code) → AreBoolean a → AreBoolean b → AreBoolean (f a b)) → (a b : Option Code) → Are a → Are b → Are (code_of_two f a b)
@@ -88,10 +49,10 @@ module _ (context : Option Ty) where
   two_boolean f step None b h k = tt
 
   and_code_boolean : (a b : Code) → AreBoolean a → AreBoolean b → AreBoolean (and_code a b)
-  and_code_boolean a b h k = (and_boolean _ _ h.0 (or_boolean _ _ (not_boolean h.1) k.0), and_boolean _ _ h.1 k.1)
+  and_code_boolean a b h k = (and_boolean context _ _ h.0 (or_boolean context _ _ (not_boolean context h.1) k.0), and_boolean context _ _ h.1 k.1)
 
   or_code_boolean : (a b : Code) → AreBoolean a → AreBoolean b → AreBoolean (or_code a b)
-  or_code_boolean a b h k = (and_boolean _ _ h.0 (or_boolean _ _ h.1 k.0), or_boolean _ _ h.1 k.1)
+  or_code_boolean a b h k = (and_boolean context _ _ h.0 (or_boolean context _ _ h.1 k.0), or_boolean context _ _ h.1 k.1)
 
   by_test : (P : Option Code → Type 0) (b : Bool) (x y : Option Code) → P x → P y → P (cond b x y)
   by_test P true x y h k = h
@@ -104,7 +65,7 @@ module _ (context : Option Ty) where
   either_boolean x y h k = by_test Are (is_true (ty x)) (code_of x) (code_of_two or_code (code_of x) (code_of y)) h (two_boolean or_code or_code_boolean (code_of x) (code_of y) h k)
 
   negated_boolean : (o : Option Code) → Are o → Are (option_map not_code o)
-  negated_boolean (Some c) h = (h.0, not_boolean h.1)
+  negated_boolean (Some c) h = (h.0, not_boolean context h.1)
   negated_boolean None h = tt
 
   equation_boolean : (type : Ty) (x y : TypedExpr) → Are (of_equation type (seen x) (seen y))

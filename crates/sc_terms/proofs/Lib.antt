@@ -7,6 +7,8 @@ pub mod Compares
 pub mod FoldValues
 pub mod EqualValues
 pub mod JoinedLaws
+pub mod JoinedKeeps
+pub mod BooleansLaws
 pub mod FirstLaws
 pub mod TreeSortLaws
 pub mod DefaultTypeLaws

@@ -23,8 +23,8 @@ impl Terms {
         }
     }
 
-    /// What a negation negates.
-    fn under_not(&self, n: u64) -> Option<u64>
+    /// What a negation negates. None exactly of another term.
+    pub fn under_not(&self, n: u64) -> Option<u64>
         requires { n < length self.now }
         ensures within { IfSome result (λ m. m < n) }
         ensures inside { option_map (tree self.now) result ≡ inside_not (tree self.now n) }

@@ -1,6 +1,6 @@
 -- Rows that come one by one make a truth table.
 use Rattle.std.specs.Prelude.{Result, Ok, Err, OnOk}
-use Rattle.std.proofs.Common.{◌≡◌, List, [], ◌∷◌, ◌++◌, filter, Bool, true, false, not, cond, refl, ap, sym, ◌∙◌, append_assoc}
+use Rattle.std.proofs.Common.{◌≡◌, ◌+◌, zero, length, arith, length-append, List, [], ◌∷◌, ◌++◌, filter, Bool, true, false, not, cond, refl, ap, sym, ◌∙◌, append_assoc}
 use Rattle.std.proofs.lemmas.List.{append-nil}
 use Rattle.sc_clauses.specs.declared.lit.Lit.{Lit}
 use Rattle.sc_clauses.specs.Clauses.{Clause}
@@ -40,3 +40,25 @@ pub defined : {E : Type 0} (r : Result (Unit {0}) E) (lit : Tree → Lit) (o p :
     → OnOk r (new ≡ old ++ table (truth_of p) x l m) → OnOk r (new ≡ old ++ definition lit t)
 defined (Ok u) lit o p t a b x l m old new at is same of_x of_l of_m e = rw (e, same, of_x, of_l, of_m, at) (ap (λ (cs : List Clause). old ++ cs) (sym (connective lit o a b is)))
 defined (Err e) lit o p t a b x l m old new at is same of_x of_l of_m h = tt
+
+-- ---- how many clauses there are
+
+-- the rows of a truth table, counted one by one
+pub rows_counted : (t : Bool → Bool → Bool) (x a b : Lit)
+    → length (kept (row t x a b false false)) + length (kept (row t x a b false true)) + length (kept (row t x a b true false)) + length (kept (row t x a b true true)) ≡ length (table t x a b)
+rows_counted t x a b =
+    let p = kept (row t x a b false false) in
+    let q = kept (row t x a b false true) in
+    let r = kept (row t x a b true false) in
+    let s = kept (row t x a b true true) in
+    omega (arith, length-append ((p ++ q) ++ r) s, length-append (p ++ q) r, length-append p q, ap length (table_is [] t x a b))
+
+-- what is no connective is defined by nothing
+pub none_counted : (lit : Tree → Lit) (o : BinaryOp) (t a b : Tree) → t ≡ two o a b → is_connective o a ≡ false → zero ≡ length (definition lit t)
+none_counted lit And t a b at is = absurd cc
+none_counted lit Or t a b at is = absurd cc
+none_counted lit Equal t a b at is = rw (at, is) refl
+
+-- a connective is defined by its table
+pub counted : (lit : Tree → Lit) (o p : BinaryOp) (t a b : Tree) (x l m : Lit) → t ≡ two o a b → is_connective o a ≡ true → p ≡ o → x ≡ lit t → l ≡ lit a → m ≡ lit b → length (table (truth_of p) x l m) ≡ length (definition lit t)
+counted lit o p t a b x l m at is same of_x of_l of_m = rw (same, of_x, of_l, of_m, at) (ap length (sym (connective lit o a b is)))

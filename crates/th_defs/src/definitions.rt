@@ -2,7 +2,7 @@
 ghost use Rattle.std.specs.Prelude.{◌≡◌, ◌<◌, ◌++◌, [], ◌∷◌, length, IfOk, OnOk};
 ghost use Rattle.sc_terms.specs.Trees.{two};
 ghost use Rattle.sc_terms.specs.Tables.{tree};
-ghost use Rattle.sc_footprint.specs.Problems.{is_bool as truth_value, literal_in};
+ghost use Rattle.sc_footprint.specs.Problems.{literal_in};
 ghost use Rattle.sc_footprint.specs.Definitions.{definition, defining as definitions_of};
 ghost use Rattle.th_defs.specs.Connectives.{is_connective as connective};
 
@@ -10,8 +10,7 @@ use crate::table::{Connective, push_table};
 use sc_clauses::{Clause, Lit};
 use sc_footprint::Problem;
 use sc_lists::Seq;
-use sc_sorts::Sort;
-use sc_terms::{BinaryOp, Leaf, Literal, Node, Terms};
+use sc_terms::{BinaryOp, Leaf, Literal, Node};
 use std::alloc::{AllocError, Global};
 
 /// The clause of one literal.
@@ -23,30 +22,19 @@ fn unit(alloc: Global, lit: Lit) -> Result<Clause, AllocError>
     Ok(clause)
 }
 
-/// Whether a term is a truth value.
-fn is_bool(alloc: Global, terms: &Terms, n: u64) -> Result<bool, AllocError>
-    requires { n < length terms.now }
-    ensures { IfOk result (λ b. b ≡ truth_value (tree terms.now n)) }
-{
-    match terms.sort(alloc, n)? {
-        Sort::Bool => Ok(true),
-        _ => Ok(false),
-    }
-}
-
 /// Whether an operator on two terms, given the first of them, is a connective.
-fn is_connective(alloc: Global, terms: &Terms, op: BinaryOp, left: u64) -> Result<bool, AllocError>
-    requires { left < length terms.now }
-    ensures { IfOk result (λ b. b ≡ connective op (tree terms.now left)) }
+pub(crate) fn is_connective(problem: &Problem<'_>, op: BinaryOp, left: u64) -> bool
+    requires { left < length problem.now.nodes }
+    ensures { result ≡ connective op (tree problem.now.nodes left) }
 {
     match op {
-        BinaryOp::Equal => is_bool(alloc, terms, left),
-        _ => Ok(true),
+        BinaryOp::Equal => problem.is_bool(left),
+        _ => true,
     }
 }
 
 /// The connective of a term and its two parts.
-fn connective_of(
+pub(crate) fn connective_of(
     problem: &Problem<'_>,
     op: BinaryOp,
     term: u64,
@@ -85,7 +73,7 @@ fn push_two(
     requires two { tree problem.now.nodes term ≡ two op (tree problem.now.nodes left) (tree problem.now.nodes right) }
     ensures { OnOk result (clauses.new.items ≡ clauses.old.items ++ definition (literal_in problem.now) (tree problem.now.nodes term)) }
 {
-    if !is_connective(alloc, problem.terms(), op, left)? {
+    if !is_connective(problem, op, left) {
         return Ok(());
     }
     let connective = connective_of(problem, op, term, left, right);

@@ -1,10 +1,11 @@
 //! Defining clauses as the instances of a theory.
-ghost use Rattle.std.specs.Prelude.{◌≡◌, ◌-◌, ℕ, [], true, false, None, IfOk, IfSome};
+ghost use Rattle.std.specs.Prelude.{◌≡◌, ◌-◌, ℕ, [], true, false, None, IfOk, IfSome, IsOk};
 ghost use Rattle.std.specs.List.{slice_index_or};
 ghost use Rattle.std.specs.Str.{bytes_eq};
 ghost use Rattle.sc_clauses.specs.Assignments.{falsifies as falsified};
 ghost use Rattle.th_defs.specs.Instances.{number_in as number_of, is_before_last, is_definition, definition_clause};
 
+use crate::counting::is_number;
 use crate::definitions::defining;
 use sc_clauses::{Assignment, Clause, Instance, Word, falsifies};
 use sc_footprint::{Problem, Theory};
@@ -70,13 +71,17 @@ impl Theory for Defs {
         alloc: Global,
         problem: &Problem<'_>,
         instance: &Instance,
-    ) -> Result<bool, AllocError> {
+    ) -> Result<bool, AllocError>
+        ensures decides { IfOk result (λ b. b ≡ is_definition problem.now instance.now) }
+        // It takes no memory.
+        ensures always { IsOk result }
+    {
+        let _ = alloc;
         if !is_empty(&instance.rule) {
             return Ok(false);
         }
         let number = number_in(instance.words.as_slice());
-        let clauses = defining(alloc, problem)?;
-        Ok(0 < number && number < clauses.len() as u64)
+        Ok(is_number(problem, number))
     }
 
     fn violated(

@@ -1,6 +1,7 @@
 //! The defining clauses of a problem, and the theory whose instances they are.
 #![tactic(auto)]
 
+mod counting;
 mod definitions;
 mod defs;
 mod laws;

@@ -1,5 +1,5 @@
 //! Truth tables, as clauses.
-ghost use Rattle.std.specs.Prelude.{◌≡◌, ◌++◌, IfOk, OnOk};
+ghost use Rattle.std.specs.Prelude.{◌≡◌, ◌≤◌, ◌++◌, length, IfOk, OnOk};
 ghost use Rattle.sc_clauses.specs.Clauses.{lit_eq, is_in as contains};
 ghost use Rattle.sc_footprint.specs.Definitions.{is_tautology as tautology, differs as difference, has_value as agreement, row as row_of, table};
 ghost use Rattle.th_defs.specs.Connectives.{truth_of, kept};
@@ -56,10 +56,9 @@ fn is_in(lit: Lit, lits: &[Lit]) -> bool
 }
 
 /// Whether some atom stands in a clause with its negation.
-fn is_tautology(clause: &Clause) -> bool
-    ensures { result ≡ tautology clause.now }
+fn is_tautology(lits: &[Lit]) -> bool
+    ensures { result ≡ tautology lits.now }
 {
-    let lits = clause.as_slice();
     lits.iter().any(|lit| is_in(negation(*lit), lits))
 }
 
@@ -86,7 +85,7 @@ fn push_row(
     ensures { OnOk result (clauses.new.items ≡ clauses.old.items ++ kept (row_of (truth_of connective.now.op) connective.now.whole connective.now.left connective.now.right u v)) }
 {
     let clause = row(alloc, connective, u, v)?;
-    if is_tautology(&clause) {
+    if is_tautology(clause.as_slice()) {
         return Ok(());
     }
     clauses.push(clause)?;
@@ -107,4 +106,29 @@ pub(crate) fn push_table(
     push_row(alloc, connective, true, false, clauses)?;
     push_row(alloc, connective, true, true, clauses)?;
     Ok(())
+}
+
+/// How many clauses the row of two values is: none where it holds an atom with its negation.
+fn row_count(connective: &Connective, u: bool, v: bool) -> u64
+    ensures count { result ≡ length (kept (row_of (truth_of connective.now.op) connective.now.whole connective.now.left connective.now.right u v)) }
+    ensures one { result ≤ 1 }
+{
+    let row = [
+        differs(connective.left, u),
+        differs(connective.right, v),
+        has_value(connective.whole, truth(connective.op, u, v)),
+    ];
+    if is_tautology(&row) { 0 } else { 1 }
+}
+
+/// How many clauses a connective's truth table has.
+#[tactic(auto, using(crate::proofs::TableLaws::rows_counted))]
+pub(crate) fn table_count(connective: &Connective) -> u64
+    ensures { result ≡ length (table (truth_of connective.now.op) connective.now.whole connective.now.left connective.now.right) }
+{
+    let neither = row_count(connective, false, false);
+    let second = row_count(connective, false, true);
+    let first = row_count(connective, true, false);
+    let both = row_count(connective, true, true);
+    neither + second + first + both
 }

@@ -6,7 +6,7 @@ use Rattle.sc_footprint.proofs.closing.close.Goals as goal
 pub returns-then-len-gt-MOST_ATOMS-clause-err : goal.returns-then-len-gt-MOST_ATOMS-clause-err
 returns-then-len-gt-MOST_ATOMS-clause-err c =
     let many : most_atoms < length c.in_ok-atoms.atoms.keys = omega (arith, c.if-len-gt-MOST_ATOMS.true, c.len.ensures.len) in
-    refused _ _ _ _ _ _ _ c.in_ok-closed.ensures.closed c.in_ok-sort_by_term.ensures.same c.in_ok-sort_by_term.ensures.ordered c.in_ok-atoms.ensures c.order_laws.ensures.total many
+    refused _ _ _ _ _ _ _ c.in_ok-closed.ensures.closed c.in_ok-sort_by_term.ensures.same c.in_ok-sort_by_term.ensures.ordered c.in_ok-atoms.ensures many
 
 pub invariant_of-result : goal.invariant_of-result
 invariant_of-result c =

@@ -3,6 +3,7 @@ use Rattle.sc_footprint.specs.Closure.{of_goal}
 use Rattle.sc_footprint.specs.Problems.{is_bool_in, goal_term}
 use Rattle.sc_footprint.proofs.GoalLaws.{boolean_sort}
 use Rattle.sc_footprint.proofs.TruthLaws.{first_atom, atom_back, kind_is, bool_parts, value_is, listed, true_literal}
+use Rattle.sc_footprint.proofs.PosingLaws.{same_closed}
 use Rattle.sc_footprint.proofs.law.problem_laws.Goals as goal
 
 pub returns : goal.returns
@@ -10,6 +11,7 @@ returns c =
     let total = c.order_laws.ensures.total in
     let level = c.order_laws.ensures.level in
     record {
+      one = λ env goal ts us c d. same_closed total level env goal ts us c d;
       first = λ p posed. first_atom total level p posed;
       back = λ p t posed h k. atom_back total level p posed t h k;
       kinds = λ p t posed h. kind_is total level p posed t h;
