@@ -1,12 +1,11 @@
 //! A schema of three entity types and two actions, of which one is in the other; a well-formed world
 //! of it; and what parts of the world may be replaced by, with what that breaks.
-use sc_lists::{Fault, Text};
+use sc_lists::Text;
 use sc_names::{Lits, Name, Uid, lits_of};
 use sc_schema::Schema;
 use sc_schema_json::read_schema;
-use sc_schema_syntax::SchemaFault;
 use sc_world::World;
-use sc_world_json::{WorldFault, read_world};
+use sc_world_json::read_world;
 use std::alloc::{AllocError, Global};
 
 const SCHEMA: &str =
@@ -183,22 +182,26 @@ pub(crate) const CHANGES: [(&str, &str, &str); 38] = [
     (DOC_AND_BUY, "", "missing Doc d"),
 ];
 
-pub(crate) fn schema(alloc: Global) -> Result<Schema, Fault<SchemaFault>> {
-    read_schema(alloc, SCHEMA.as_bytes())
+/// The schema. That its text isn't read counts as want of memory.
+pub(crate) fn schema(alloc: Global) -> Result<Schema, AllocError> {
+    match read_schema(alloc, SCHEMA.as_bytes()) {
+        Ok(schema) => Ok(schema),
+        Err(_) => Err(AllocError),
+    }
 }
 
-/// The world with another text in the place of a part of its text.
-pub(crate) fn world_with(
-    alloc: Global,
-    part: &str,
-    other: &str,
-) -> Result<World, Fault<WorldFault>> {
+/// The world with another text in the place of a part of its text. That it isn't read counts as want
+/// of memory.
+pub(crate) fn world_with(alloc: Global, part: &str, other: &str) -> Result<World, AllocError> {
     let text = WORLD.replace(alloc, part, other)?;
-    read_world(alloc, text.as_bytes())
+    match read_world(alloc, text.as_bytes()) {
+        Ok(world) => Ok(world),
+        Err(_) => Err(AllocError),
+    }
 }
 
-/// The world that lacks its document, or that doesn't.
-pub(crate) fn world(alloc: Global, has_document: bool) -> Result<World, Fault<WorldFault>> {
+/// The world, or the world that lacks its document.
+pub(crate) fn world(alloc: Global, has_document: bool) -> Result<World, AllocError> {
     world_with(alloc, DOC, if has_document { DOC } else { "" })
 }
 

@@ -1,6 +1,6 @@
 //! Stores, values of types, well-formed worlds, and worlds in which everything is as it is by
 //! default.
-use crate::samples::{CHANGES, literal, schema, uid, world, world_with};
+use crate::samples::{CHANGES, literal, schema, uid, world_with};
 use sc_lists::{Boxed, Seq, Text};
 use sc_names::Lits;
 use sc_schema::{Env, Schema, Ty, environments};
@@ -47,43 +47,49 @@ fn three_entities(alloc: Global) -> Result<Store, AllocError> {
     Ok(store)
 }
 
-/// The level of an entity, if it is stored.
-fn level_of(
-    alloc: Global,
-    store: &Store,
-    type_name: &str,
-    id: &str,
-) -> Result<Option<i64>, AllocError> {
+/// The level of an entity, which is 0 where it isn't stored.
+fn level_of(alloc: Global, store: &Store, type_name: &str, id: &str) -> Result<i64, AllocError> {
     let uid = uid(alloc, type_name, id)?;
     match store.get(&uid) {
         Some(entity) => Ok(first_number(&entity.attrs)),
-        None => Ok(None),
+        None => Ok(0),
     }
 }
 
-fn first_number(fields: &Rec) -> Option<i64> {
+fn first_number(fields: &Rec) -> i64 {
     match fields.get(0) {
-        Some((_, Value::Long(number))) => Some(*number),
-        _ => None,
+        Some((_, Value::Long(number))) => *number,
+        _ => 0,
     }
+}
+
+/// Uids, and the level of the entity that is stored there.
+const LEVELS: [(&str, &str, i64); 4] = [
+    ("User", "ann", 5),
+    ("User", "bob", 2),
+    ("Group", "ann", 3),
+    ("User", "", 0),
+];
+
+fn has_levels(alloc: Global, store: &Store) -> Result<bool, AllocError> {
+    for (type_name, id, level) in LEVELS {
+        if level_of(alloc, store, type_name, id)? != level {
+            return Ok(false);
+        }
+    }
+    Ok(true)
+}
+
+fn stores_three(alloc: Global) -> Result<bool, AllocError> {
+    let store = three_entities(alloc)?;
+    let levels = has_levels(alloc, &store)?;
+    Ok(levels && store.entities().len() == 3)
 }
 
 #[test]
 fn stores_entities(rt: HostRuntime) -> Result<(), Fail> {
-    let alloc = rt.alloc();
-    let store = three_entities(alloc)?;
-    assert_eq!(rt; store.entities().len(), 3);
-    for (type_name, id, level) in [
-        ("User", "ann", Some(5)),
-        ("User", "bob", Some(2)),
-        ("Group", "ann", Some(3)),
-        ("User", "", None),
-    ] {
-        assert!(rt;
-            level_of(alloc, &store, type_name, id)? == level,
-            "{type_name} {id}"
-        );
-    }
+    let holds = stores_three(rt.alloc())?;
+    assert!(rt; holds);
     Ok(())
 }
 
@@ -131,44 +137,69 @@ fn is_well_formed(schema: &Schema, world: &World, literals: &Lits) -> bool {
     }
 }
 
+/// Whether the world is well-formed with another text in the place of a part, and these literals.
+fn is_whole(
+    alloc: Global,
+    schema: &Schema,
+    (part, other): (&str, &str),
+    literals: &Lits,
+) -> Result<bool, AllocError> {
+    let world = world_with(alloc, part, other)?;
+    Ok(is_well_formed(schema, &world, literals))
+}
+
+/// What stands in the place of a part in the first change with which the world is well-formed and
+/// something is told of it, or isn't and nothing is told.
+fn first_wrong_change(
+    alloc: Global,
+    schema: &Schema,
+    none: &Lits,
+) -> Result<&'static str, AllocError> {
+    for (part, other, told) in CHANGES {
+        if is_whole(alloc, schema, (part, other), none)? != (told == "nothing") {
+            return Ok(other);
+        }
+    }
+    Ok("")
+}
+
+fn wrong_change(alloc: Global) -> Result<&'static str, AllocError> {
+    first_wrong_change(alloc, &schema(alloc)?, &Lits::new(alloc))
+}
+
 #[test]
 fn well_formed_worlds(rt: HostRuntime) -> Result<(), Fail> {
-    let alloc = rt.alloc();
-    let schema = schema(alloc)?;
-    let none = Lits::new(alloc);
-    for (part, other, told) in CHANGES {
-        let world = world_with(alloc, part, other)?;
-        let is_whole = is_well_formed(&schema, &world, &none);
-        assert!(rt; is_whole == (told == "nothing"), "{other}: {told}");
-    }
+    let wrong = wrong_change(rt.alloc())?;
+    assert_eq!(rt; wrong, "");
     Ok(())
+}
+
+/// Whether the world is well-formed for requests of a user where a team asks.
+fn fits_team(alloc: Global) -> Result<bool, AllocError> {
+    let user = r#""principal":{"id":"u","type":"User"}"#;
+    let team = r#""principal":{"id":"t","type":"Team"}"#;
+    is_whole(alloc, &schema(alloc)?, (user, team), &Lits::new(alloc))
 }
 
 #[test]
 fn request_of_another_environment(rt: HostRuntime) -> Result<(), Fail> {
-    let alloc = rt.alloc();
-    let schema = schema(alloc)?;
-    let of_team = world_with(
-        alloc,
-        r#""principal":{"id":"u","type":"User"}"#,
-        r#""principal":{"id":"t","type":"Team"}"#,
-    )?;
-    assert!(rt; !is_well_formed(&schema, &of_team, &Lits::new(alloc)));
+    let fits = fits_team(rt.alloc())?;
+    assert!(rt; !fits);
     Ok(())
+}
+
+/// Whether the world is well-formed where a policy writes a team.
+fn fits_with_team(alloc: Global, id: &str) -> Result<bool, AllocError> {
+    let literals = literal(alloc, "Team", id)?;
+    is_whole(alloc, &schema(alloc)?, ("entities", "entities"), &literals)
 }
 
 #[test]
 fn literals_are_stored(rt: HostRuntime) -> Result<(), Fail> {
-    let alloc = rt.alloc();
-    let schema = schema(alloc)?;
-    let world = world(alloc, true)?;
-    for (id, is_stored) in [("t", true), ("x", false)] {
-        let literals = literal(alloc, "Team", id)?;
-        assert!(rt;
-            is_well_formed(&schema, &world, &literals) == is_stored,
-            "{id}"
-        );
-    }
+    let stored = fits_with_team(rt.alloc(), "t")?;
+    assert!(rt; stored);
+    let missing = fits_with_team(rt.alloc(), "x")?;
+    assert!(rt; !missing);
     Ok(())
 }
 
@@ -203,16 +234,30 @@ fn default_text(alloc: Global, schema: &Schema, literals: &Lits) -> Result<Strin
     }
 }
 
+fn plain_default(alloc: Global) -> Result<String, AllocError> {
+    default_text(alloc, &schema(alloc)?, &Lits::new(alloc))
+}
+
+fn default_with_team(alloc: Global) -> Result<String, AllocError> {
+    let team = literal(alloc, "Team", "t")?;
+    default_text(alloc, &schema(alloc)?, &team)
+}
+
 #[test]
 fn default_worlds(rt: HostRuntime) -> Result<(), Fail> {
-    let alloc = rt.alloc();
-    let schema = schema(alloc)?;
+    let text = plain_default(rt.alloc())?;
     assert_eq!(rt;
-        default_text(alloc, &schema, &Lits::new(alloc))?.as_str(),
+        text.as_str(),
         r#"{"entities":[{"attrs":{},"parents":[],"tags":{},"uid":{"id":"view","type":"Action"}},{"attrs":{},"parents":[],"tags":{},"uid":{"id":"","type":"Doc"}},{"attrs":{},"parents":[{"id":"view","type":"Action"}],"tags":{},"uid":{"id":"buy","type":"Shop::Action"}},{"attrs":{"level":0},"parents":[],"tags":{},"uid":{"id":"","type":"User"}}],"request":{"action":{"id":"view","type":"Action"},"context":{"mfa":false},"principal":{"id":"","type":"User"},"resource":{"id":"","type":"Doc"}}}"#
     );
+    Ok(())
+}
+
+#[test]
+fn default_worlds_with_literals(rt: HostRuntime) -> Result<(), Fail> {
+    let text = default_with_team(rt.alloc())?;
     assert_eq!(rt;
-        default_text(alloc, &schema, &literal(alloc, "Team", "t")?)?.as_str(),
+        text.as_str(),
         r#"{"entities":[{"attrs":{},"parents":[],"tags":{},"uid":{"id":"view","type":"Action"}},{"attrs":{},"parents":[],"tags":{},"uid":{"id":"","type":"Doc"}},{"attrs":{},"parents":[{"id":"view","type":"Action"}],"tags":{},"uid":{"id":"buy","type":"Shop::Action"}},{"attrs":{},"parents":[],"tags":{},"uid":{"id":"t","type":"Team"}},{"attrs":{"level":0},"parents":[],"tags":{},"uid":{"id":"","type":"User"}}],"request":{"action":{"id":"view","type":"Action"},"context":{"mfa":false},"principal":{"id":"","type":"User"},"resource":{"id":"","type":"Doc"}}}"#
     );
     Ok(())
@@ -238,12 +283,15 @@ fn text_for_request(alloc: Global, schema: &Schema, literals: &Lits) -> Result<S
     }
 }
 
+fn text_for_user(alloc: Global) -> Result<String, AllocError> {
+    text_for_request(alloc, &schema(alloc)?, &Lits::new(alloc))
+}
+
 #[test]
 fn world_for_a_request(rt: HostRuntime) -> Result<(), Fail> {
-    let alloc = rt.alloc();
-    let schema = schema(alloc)?;
+    let text = text_for_user(rt.alloc())?;
     assert_eq!(rt;
-        text_for_request(alloc, &schema, &Lits::new(alloc))?.as_str(),
+        text.as_str(),
         r#"{"entities":[{"attrs":{},"parents":[],"tags":{},"uid":{"id":"view","type":"Action"}},{"attrs":{},"parents":[],"tags":{},"uid":{"id":"d","type":"Doc"}},{"attrs":{},"parents":[{"id":"view","type":"Action"}],"tags":{},"uid":{"id":"buy","type":"Shop::Action"}},{"attrs":{"level":0},"parents":[],"tags":{},"uid":{"id":"u","type":"User"}}],"request":{"action":{"id":"view","type":"Action"},"context":{"mfa":false},"principal":{"id":"u","type":"User"},"resource":{"id":"d","type":"Doc"}}}"#
     );
     Ok(())

@@ -13,18 +13,12 @@ fn uid_text(alloc: Global, before: &str, uid: &Uid) -> Result<String, AllocError
     format!(in alloc; "{before} {type_name} {id}")
 }
 
-/// What is told of a world.
-fn told_of(
-    alloc: Global,
-    schema: &Schema,
-    world: &World,
-    literals: &Lits,
-) -> Result<String, AllocError> {
-    match first_break(alloc, schema, world, literals)? {
+fn break_text(alloc: Global, found: &Option<Break>) -> Result<String, AllocError> {
+    match found {
         None => String::from_str(alloc, "nothing"),
         Some(Break::Request) => String::from_str(alloc, "request"),
-        Some(Break::Entity(uid)) => uid_text(alloc, "entity", &uid),
-        Some(Break::Missing(uid)) => uid_text(alloc, "missing", &uid),
+        Some(Break::Entity(uid)) => uid_text(alloc, "entity", uid),
+        Some(Break::Missing(uid)) => uid_text(alloc, "missing", uid),
     }
 }
 
@@ -35,21 +29,38 @@ fn is_told(
     literals: &Lits,
     told: &str,
 ) -> Result<bool, AllocError> {
-    Ok(told_of(alloc, schema, world, literals)?.as_str() == told)
+    let found = first_break(alloc, schema, world, literals)?;
+    let text = break_text(alloc, &found)?;
+    Ok(text.as_str() == told)
+}
+
+fn is_told_of_change(
+    alloc: Global,
+    schema: &Schema,
+    (part, other, told): (&str, &str, &str),
+) -> Result<bool, AllocError> {
+    let world = world_with(alloc, part, other)?;
+    is_told(alloc, schema, &world, &Lits::new(alloc), told)
+}
+
+/// What stands in the place of a part in the first change of which something else is told.
+fn first_wrong_change(alloc: Global, schema: &Schema) -> Result<&'static str, AllocError> {
+    for change in CHANGES {
+        if !is_told_of_change(alloc, schema, change)? {
+            return Ok(change.1);
+        }
+    }
+    Ok("")
+}
+
+fn wrong_change(alloc: Global) -> Result<&'static str, AllocError> {
+    first_wrong_change(alloc, &schema(alloc)?)
 }
 
 #[test]
 fn what_is_told_of_changes(rt: HostRuntime) -> Result<(), Fail> {
-    let alloc = rt.alloc();
-    let schema = schema(alloc)?;
-    let none = Lits::new(alloc);
-    for (part, other, told) in CHANGES {
-        let world = world_with(alloc, part, other)?;
-        assert!(rt;
-            is_told(alloc, &schema, &world, &none, told)?,
-            "{other}: {told}"
-        );
-    }
+    let wrong = wrong_change(rt.alloc())?;
+    assert_eq!(rt; wrong, "");
     Ok(())
 }
 
@@ -61,17 +72,33 @@ const WRITTEN: [(&str, &str, bool, &str); 4] = [
     ("Action", "edit", false, "missing Action edit"),
 ];
 
+fn is_told_of_literal(
+    alloc: Global,
+    schema: &Schema,
+    (type_name, id, has_document, told): (&str, &str, bool, &str),
+) -> Result<bool, AllocError> {
+    let world = world(alloc, has_document)?;
+    let literals = literal(alloc, type_name, id)?;
+    is_told(alloc, schema, &world, &literals, told)
+}
+
+/// What should be told in the first row of which something else is told.
+fn first_wrong_literal(alloc: Global, schema: &Schema) -> Result<&'static str, AllocError> {
+    for written in WRITTEN {
+        if !is_told_of_literal(alloc, schema, written)? {
+            return Ok(written.3);
+        }
+    }
+    Ok("")
+}
+
+fn wrong_literal(alloc: Global) -> Result<&'static str, AllocError> {
+    first_wrong_literal(alloc, &schema(alloc)?)
+}
+
 #[test]
 fn what_is_told_of_literals(rt: HostRuntime) -> Result<(), Fail> {
-    let alloc = rt.alloc();
-    let schema = schema(alloc)?;
-    for (type_name, id, has_document, told) in WRITTEN {
-        let world = world(alloc, has_document)?;
-        let literals = literal(alloc, type_name, id)?;
-        assert!(rt;
-            is_told(alloc, &schema, &world, &literals, told)?,
-            "{id}: {told}"
-        );
-    }
+    let wrong = wrong_literal(rt.alloc())?;
+    assert_eq!(rt; wrong, "");
     Ok(())
 }

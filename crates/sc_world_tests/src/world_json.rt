@@ -1,6 +1,7 @@
 //! Worlds that are written and read, and the first faults of those that aren't read.
 use sc_lists::Fault;
 use sc_world_json::{WorldFault, plain_keys, read_world, world_text, world_value};
+use serde_json::Value as Json;
 use std::alloc::{AllocError, Global};
 use std::test::Fail;
 
@@ -22,25 +23,52 @@ fn told_with(alloc: Global, part: &str, other: &str) -> Result<String, AllocErro
     told_of(alloc, text.as_str())
 }
 
-fn has_plain_keys(alloc: Global, context: &str) -> Result<bool, Fault<WorldFault>> {
+fn is_told(alloc: Global, text: &str, told: &str) -> Result<bool, AllocError> {
+    Ok(told_of(alloc, text)?.as_str() == told)
+}
+
+/// Whether this path is told of the sample with another text in the place of a part.
+fn has_fault(
+    alloc: Global,
+    (part, other): (&str, &str),
+    (around, path): (&str, &str),
+) -> Result<bool, AllocError> {
+    let told = told_with(alloc, part, other)?;
+    let fault = format!(in alloc; "bad world at {around}{path}")?;
+    Ok(told.as_str() == fault.as_str())
+}
+
+/// Whether the sample with one text in the place of a part is read and written with another.
+fn is_read_as(alloc: Global, part: &str, other: &str, written: &str) -> Result<bool, AllocError> {
+    let text = SAMPLE.replace(alloc, part, written)?;
+    Ok(told_with(alloc, part, other)?.as_str() == text.as_str())
+}
+
+fn has_plain_keys(alloc: Global, context: &str) -> Result<bool, AllocError> {
     let text = SAMPLE.replace(alloc, r#""context":{}"#, context)?;
-    let world = read_world(alloc, text.as_bytes())?;
-    Ok(plain_keys(&world))
+    match read_world(alloc, text.as_bytes()) {
+        Ok(world) => Ok(plain_keys(&world)),
+        Err(_) => Err(AllocError),
+    }
+}
+
+/// Whether bytes are told to be no JSON.
+fn is_not_json(alloc: Global, bytes: &[u8]) -> Result<bool, AllocError> {
+    match read_world(alloc, bytes) {
+        Err(Fault::Told(WorldFault::NotJson)) => Ok(true),
+        Err(Fault::NoMemory) => Err(AllocError),
+        _ => Ok(false),
+    }
 }
 
 #[test]
 fn bytes_without_a_tree(rt: HostRuntime) -> Result<(), Fail> {
     let alloc = rt.alloc();
     for text in ["{", "", "{} {}", r#"{"entities":1e400}"#, r#"["\ud800"]"#] {
-        assert_eq!(rt; told_of(alloc, text)?.as_str(), "not JSON", "{text}");
+        assert!(rt; is_told(alloc, text, "not JSON")?, "{text}");
     }
-    match read_world(alloc, b"[\"\xff\"]".as_slice()) {
-        Err(Fault::Told(fault)) => assert_eq!(rt;
-            format!(in alloc; "{fault}")?.as_str(),
-            "not JSON"
-        ),
-        _ => return Err(Fail::from("read")),
-    }
+    let ill_formed = is_not_json(alloc, b"[\"\xff\"]".as_slice())?;
+    assert!(rt; ill_formed);
     Ok(())
 }
 
@@ -60,7 +88,7 @@ const WHOLE: [(&str, &str); 8] = [
 fn faults_of_the_whole(rt: HostRuntime) -> Result<(), Fail> {
     let alloc = rt.alloc();
     for (text, fault) in WHOLE {
-        assert_eq!(rt; told_of(alloc, text)?.as_str(), fault, "{text}");
+        assert!(rt; is_told(alloc, text, fault)?, "{text}: {fault}");
     }
     Ok(())
 }
@@ -109,16 +137,19 @@ const CONTEXTS: [(&str, &str); 22] = [
     (r#"{"a":{"__extn":"ip"}}"#, "/a/__extn"),
 ];
 
+fn has_context_fault(alloc: Global, context: &str, path: &str) -> Result<bool, AllocError> {
+    let other = format!(in alloc; "\"context\":{context}")?;
+    let change = (r#""context":{}"#, other.as_str());
+    has_fault(alloc, change, ("/request/context", path))
+}
+
 #[test]
 fn faults_of_contexts(rt: HostRuntime) -> Result<(), Fail> {
     let alloc = rt.alloc();
     for (context, path) in CONTEXTS {
-        let other = format!(in alloc; "\"context\":{context}")?;
-        let fault = format!(in alloc; "bad world at /request/context{path}")?;
-        assert_eq!(rt;
-            told_with(alloc, r#""context":{}"#, other.as_str())?.as_str(),
-            fault.as_str(),
-            "{context}"
+        assert!(rt;
+            has_context_fault(alloc, context, path)?,
+            "{context}: {path}"
         );
     }
     Ok(())
@@ -165,25 +196,34 @@ const ENTITIES: [(&str, &str); 10] = [
     ),
 ];
 
+fn has_entity_fault(alloc: Global, entities: &str, path: &str) -> Result<bool, AllocError> {
+    let other = format!(in alloc; "\"entities\":[{entities}]")?;
+    let change = (r#""entities":[]"#, other.as_str());
+    has_fault(alloc, change, ("/entities", path))
+}
+
 #[test]
 fn faults_of_entities(rt: HostRuntime) -> Result<(), Fail> {
     let alloc = rt.alloc();
     for (entities, path) in ENTITIES {
-        let other = format!(in alloc; "\"entities\":[{entities}]")?;
-        let fault = format!(in alloc; "bad world at /entities{path}")?;
-        assert_eq!(rt;
-            told_with(alloc, r#""entities":[]"#, other.as_str())?.as_str(),
-            fault.as_str(),
-            "{entities}"
+        assert!(rt;
+            has_entity_fault(alloc, entities, path)?,
+            "{entities}: {path}"
         );
     }
     Ok(())
 }
 
-/// What the JSON value of a world that is read says, as text.
-fn value_text(alloc: Global, text: &str) -> Result<String, Fault<WorldFault>> {
-    let world = read_world(alloc, text.as_bytes())?;
-    Ok(world_value(alloc, &world)?.to_string(alloc)?)
+/// Whether the text of a world's JSON value is the one that it is read from.
+fn is_value_text(alloc: Global, text: &str) -> Result<bool, AllocError> {
+    match read_world(alloc, text.as_bytes()) {
+        Ok(world) => has_value_text(alloc, &world_value(alloc, &world)?, text),
+        Err(_) => Ok(false),
+    }
+}
+
+fn has_value_text(alloc: Global, value: &Json, text: &str) -> Result<bool, AllocError> {
+    Ok(value.to_string(alloc)?.as_str() == text)
 }
 
 /// Worlds as they are written: one with a truth value alone, and one with each kind of value.
@@ -196,8 +236,8 @@ const WRITTEN: [&str; 2] = [
 fn worlds_that_were_written(rt: HostRuntime) -> Result<(), Fail> {
     let alloc = rt.alloc();
     for text in WRITTEN {
-        assert_eq!(rt; told_of(alloc, text)?.as_str(), text);
-        assert_eq!(rt; value_text(alloc, text)?.as_str(), text);
+        assert!(rt; is_told(alloc, text, text)?, "{text}");
+        assert!(rt; is_value_text(alloc, text)?, "{text}");
     }
     Ok(())
 }
@@ -228,18 +268,17 @@ const READ: [(&str, &str); 7] = [
     (r#"{"a":null,"a":false}"#, r#"{"a":false}"#),
 ];
 
+fn is_context_read_as(alloc: Global, context: &str, written: &str) -> Result<bool, AllocError> {
+    let other = format!(in alloc; "\"context\":{context}")?;
+    let now = format!(in alloc; "\"context\":{written}")?;
+    is_read_as(alloc, r#""context":{}"#, other.as_str(), now.as_str())
+}
+
 #[test]
 fn contexts_that_are_read(rt: HostRuntime) -> Result<(), Fail> {
     let alloc = rt.alloc();
     for (context, written) in READ {
-        let other = format!(in alloc; "\"context\":{context}")?;
-        let now = format!(in alloc; "\"context\":{written}")?;
-        let text = SAMPLE.replace(alloc, r#""context":{}"#, now.as_str())?;
-        assert_eq!(rt;
-            told_with(alloc, r#""context":{}"#, other.as_str())?.as_str(),
-            text.as_str(),
-            "{context}"
-        );
+        assert!(rt; is_context_read_as(alloc, context, written)?, "{context}");
     }
     Ok(())
 }
@@ -251,11 +290,8 @@ fn entities_and_parents_in_any_order(rt: HostRuntime) -> Result<(), Fail> {
         r#""entities":[{"uid":{"id":"1","type":"User"},"tags":{"t":[]},"parents":[{"id":"b","type":"Group"},{"id":"a","type":"Group"},{"type":"Group","id":"b"}],"attrs":{}},{"attrs":{},"parents":[],"tags":{},"uid":{"id":"0","type":"User"}}]"#;
     let written =
         r#""entities":[{"attrs":{},"parents":[],"tags":{},"uid":{"id":"0","type":"User"}},{"attrs":{},"parents":[{"id":"a","type":"Group"},{"id":"b","type":"Group"}],"tags":{"t":[]},"uid":{"id":"1","type":"User"}}]"#;
-    let text = SAMPLE.replace(alloc, r#""entities":[]"#, written)?;
-    assert_eq!(rt;
-        told_with(alloc, r#""entities":[]"#, given)?.as_str(),
-        text.as_str()
-    );
+    let same = is_read_as(alloc, r#""entities":[]"#, given, written)?;
+    assert!(rt; same);
     Ok(())
 }
 
