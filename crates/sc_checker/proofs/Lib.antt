@@ -8,4 +8,3 @@ pub mod TextLaws
 pub mod WordLaws
 pub mod LineLaws
 pub mod ReadingLaws
-pub mod SampleLaws

@@ -4,4 +4,3 @@ pub mod Known
 pub mod Verdicts
 pub mod Texts
 pub mod Readings
-pub mod Samples

@@ -8,8 +8,6 @@ mod lines;
 mod log;
 mod reading;
 mod refuting;
-#[cfg(test)]
-mod tests;
 mod words;
 mod writing;
 

@@ -6,7 +6,6 @@ pub mod TableLaws
 pub mod AtomLaws
 pub mod KindLaws
 pub mod FoundLaws
-pub mod SampleLaws
 pub mod AssignedLaws
 pub mod ValueLaws
 pub mod TruthLaws

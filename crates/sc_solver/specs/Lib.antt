@@ -2,4 +2,3 @@ pub mod Rebuilding
 pub mod Contexts
 pub mod Units
 pub mod Solutions
-pub mod Samples

@@ -4,14 +4,10 @@
 
 mod context;
 mod entities;
-#[cfg(test)]
-mod people_tests;
 mod rebuilding;
 mod rules;
 mod solving;
 mod source;
-#[cfg(test)]
-mod tests;
 mod truth;
 
 pub use rebuilding::rebuild;

@@ -1,133 +1,20 @@
 //! Verdicts on logs for the goal `false`, and what is read and written.
-#![tactic(auto, using(crate::proofs::SampleLaws::samples))]
 
-ghost use Rattle.std.specs.Prelude.{◌≡◌, [], ◌∷◌, IfOk, Contains, codes};
-ghost use Rattle.sc_schema.specs.Declarations.{environments};
-ghost use Rattle.sc_schema.specs.Plain.{plain_action, plain_type};
-ghost use Rattle.sc_checker.specs.Samples as sample;
-
-use crate::{
-    Learned, Log, Reason, Step, Verdict, are_writable, check, is_writable, read_log, write_log,
+use crate::problems::verdict_on_false;
+use sc_checker::{
+    Learned, Log, Reason, Step, Verdict, are_writable, is_writable, read_log, write_log,
 };
-use sc_footprint::{OverLimit, close};
-use sc_lists::{Fault, Seq, Text};
-use sc_names::{Lits, Name, Uid};
-use sc_schema::{Action, EntityType, Env, Schema, Ty};
-use sc_terms::Terms;
-use std::alloc::{AllocError, Global};
+use sc_lists::{Fault, Seq};
+use std::alloc::Global;
 use std::test::Fail;
-use th_defs::Defs;
-
-fn name(alloc: Global, text: &str) -> Result<Name, AllocError>
-    ensures { IfOk result (λ n. n ≡ text.now) }
-{
-    Ok(Name::from_text(Text::from_str(alloc, text)?))
-}
-
-fn names(alloc: Global, text: &str) -> Result<Seq<Name>, AllocError>
-    ensures { IfOk result (λ ns. ns ≡ text.now ∷ []) }
-{
-    let mut names = Seq::new(alloc);
-    names.push(name(alloc, text)?)?;
-    Ok(names)
-}
-
-fn view(alloc: Global) -> Result<Uid, AllocError>
-    ensures { IfOk result (λ u. u ≡ sample.sample_env.action) }
-{
-    Ok(Uid {
-        type_name: name(alloc, "Action")?,
-        id: Text::from_str(alloc, "view")?,
-    })
-}
-
-fn entity_type(alloc: Global, text: &str) -> Result<EntityType, AllocError>
-    ensures { IfOk result (λ t. t ≡ plain_type text.now) }
-{
-    Ok(EntityType {
-        name: name(alloc, text)?,
-        ancestors: Seq::new(alloc),
-        shape: Ty::Record(Seq::new(alloc)),
-        tags: None,
-    })
-}
-
-fn types(alloc: Global) -> Result<Seq<EntityType>, AllocError>
-    ensures { IfOk result (λ ts. ts ≡ sample.sample.types) }
-{
-    let mut types = Seq::new(alloc);
-    types.push(entity_type(alloc, "Doc")?)?;
-    types.push(entity_type(alloc, "User")?)?;
-    Ok(types)
-}
-
-fn action(alloc: Global) -> Result<Action, AllocError>
-    ensures { IfOk result (λ a. a ≡ plain_action (codes "view") (codes "User") (codes "Doc") []) }
-{
-    Ok(Action {
-        uid: view(alloc)?,
-        ancestors: Seq::new(alloc),
-        principals: names(alloc, "User")?,
-        resources: names(alloc, "Doc")?,
-        context: Ty::Record(Seq::new(alloc)),
-    })
-}
-
-fn actions(alloc: Global) -> Result<Seq<Action>, AllocError>
-    ensures { IfOk result (λ xs. xs ≡ sample.sample.actions) }
-{
-    let mut actions = Seq::new(alloc);
-    actions.push(action(alloc)?)?;
-    Ok(actions)
-}
-
-fn schema(alloc: Global) -> Result<Schema, AllocError>
-    ensures { IfOk result (λ s. s ≡ sample.sample) }
-{
-    Schema::new(alloc, types(alloc)?, actions(alloc)?)
-}
-
-fn env(alloc: Global) -> Result<Env, AllocError>
-    ensures { IfOk result (λ e. e ≡ sample.sample_env) }
-{
-    Ok(Env {
-        principal: name(alloc, "User")?,
-        action: view(alloc)?,
-        resource: name(alloc, "Doc")?,
-    })
-}
-
-/// The verdict on a log, where the goal is `false`: clause 1 is the atom `true`, clause 2 its
-/// negation.
-fn verdict_of(
-    alloc: Global,
-    schema: &Schema,
-    env: &Env,
-    log: &Log,
-) -> Result<Verdict, Fault<OverLimit>>
-    requires { Contains (environments schema.now) env.now }
-{
-    let literals = Lits::new(alloc);
-    let mut terms = Terms::new(alloc)?;
-    let goal = terms.truth(false)?;
-    let problem = close(alloc, terms, goal, schema, env, &literals)?;
-    let verdict = check(alloc, &Defs, &problem, log)?;
-    Ok(verdict)
-}
-
-fn verdict_of_log(alloc: Global, log: &Log) -> Result<Verdict, Fault<OverLimit>> {
-    let schema = schema(alloc)?;
-    let env = env(alloc)?;
-    verdict_of(alloc, &schema, &env, log)
-}
 
 /// The verdict on a log's text.
 fn verdict_on(alloc: Global, text: &str) -> Option<Verdict> {
     let Ok(log) = read_log(alloc, text.as_bytes()) else {
         return None;
     };
-    match verdict_of_log(alloc, &log) {
-        Ok(verdict) => Some(verdict),
+    match verdict_on_false(alloc, &log) {
+        Ok(verdict) => verdict,
         Err(_) => None,
     }
 }

@@ -1,10 +1,8 @@
 -- The schemas for tests are lawful, and their attributes are of the fragment of Booleans.
-use Rattle.std.proofs.Common.{◌≡◌, ◌<◌, ◌∙◌, arith, ap, map, ℕ, zero, suc, slice_index, List, [], ◌∷◌, Option, Some, None, Bool, true, false, not, Contains, codes, refl, sym, subst}
+use Rattle.std.proofs.Common.{◌≡◌, ◌∙◌, arith, ap, map, ℕ, List, [], ◌∷◌, Option, Some, None, Bool, true, false, not, Contains, codes, refl, sym, subst}
 use Rattle.std.specs.List.{AllByRecursion, list_all}
 use Rattle.std.specs.Ordering.{is_gt}
 use Rattle.std.specs.List.Sorted.{IsStrictlySortedBy}
-use Rattle.std.specs.Str.{IsUtf8}
-use Rattle.std.proofs.lemmas.Str.{IsUtf8-from_ascii}
 use Rattle.sc_names.specs.declared.uid.Uid.{Uid}
 use Rattle.sc_world.specs.Named.{IsDeclared}
 use Rattle.sc_schema.specs.declared.ty.Ty.{Ty, out-Ty, out-roll-Ty}
@@ -32,23 +30,16 @@ use Rattle.sc_terms.specs.Tables.{tree, Keeps, StandsFor}
 use Rattle.sc_terms.specs.Folds.{truth_term, constant, is_literal, under_not, not_by, not_term, and_by, and_term, equation, other_equal, both, equal_by, equal_term, field_term}
 use Rattle.sc_terms.specs.Order.{tree_cmp, tree_eq}
 use Rattle.sc_terms.specs.Booleans.{IsBoolean, of_truth, of_attribute, of_not, of_two, attribute_term}
-use Rattle.sc_solver.specs.Samples.{documents, view_env, view_names, view_type, people, person, manager, meet, meet_env, meet_names, meet_type, IsGoal}
-
-ascii : (bs : List ℕ) → AllByRecursion (λ b. b < 128) bs → IsUtf8 bs
-ascii bs h = IsUtf8-from_ascii bs (λ i. byte bs i h) where
-  byte : (bs : List ℕ) (i : ℕ) → AllByRecursion (λ b. b < 128) bs → slice_index bs i < 128
-  byte [] i h = omega arith
-  byte (b ∷ bs) zero h = h.0
-  byte (b ∷ bs) (suc i) h = byte bs i h.1
+use Rattle.sc_solver_tests.specs.Samples.{documents, view_env, view_names, view_type, people, person, manager, meet, meet_env, meet_type, IsGoal}
 
 plain_is_plain : (name : List ℕ) → IsTypeName name → IsPlainType (plain_type name)
 plain_is_plain name h = record { name = h; ancestors = refl; shape = refl; tags = refl }
 
 doc : IsTypeName (codes "Doc")
-doc = record { text = ascii (codes "Doc") (omega arith, (omega arith, (omega arith, tt))); identifier = refl; no_action = λ e. absurd cc }
+doc = record { text = ascii_text (codes "Doc") refl; identifier = refl; no_action = λ e. absurd cc }
 
 user : IsTypeName (codes "User")
-user = record { text = ascii (codes "User") (omega arith, (omega arith, (omega arith, (omega arith, tt)))); identifier = refl; no_action = λ e. absurd cc }
+user = record { text = ascii_text (codes "User") refl; identifier = refl; no_action = λ e. absurd cc }
 
 documents_are_plain : IsPlain documents
 unfolding IsStrictlySortedBy
@@ -61,11 +52,11 @@ documents_are_plain =
       resource = codes "Doc";
       attributes = codes "a" ∷ codes "b" ∷ [];
       actions = refl;
-      id_text = ascii (codes "view") (omega arith, (omega arith, (omega arith, (omega arith, tt))));
+      id_text = ascii_text (codes "view") refl;
       principal_declared = refl;
       resource_declared = refl;
       differ = λ e. absurd cc;
-      attribute_texts = (ascii (codes "a") (omega arith, tt), (ascii (codes "b") (omega arith, tt), tt));
+      attribute_texts = (ascii_text (codes "a") refl, (ascii_text (codes "b") refl, tt));
       attributes_ascend = ((refl, tt), (tt, tt));
     }
 
@@ -131,9 +122,6 @@ plain_bools names = ap plain_in (ap out-Ty (sym (rolls-Record (map bool_field na
 
 view_attribute : (name : List ℕ) → Contains view_names name → IsBoolean (Some view_type) (attribute_term view_type name)
 view_attribute name h = of_attribute view_type (map bool_field view_names) name refl (plain_bools view_names) h
-
-meet_attribute : (name : List ℕ) → Contains meet_names name → IsBoolean (Some meet_type) (attribute_term meet_type name)
-meet_attribute name h = of_attribute meet_type (map bool_field meet_names) name refl (plain_bools meet_names) h
 
 -- ---- the constructors keep to the fragment
 
@@ -202,10 +190,6 @@ pub view_field : (ys zs : List Node) (c n : ℕ) (s : Sort) (name : List ℕ) �
     → StandsFor zs n (field_term name sort.Bool (tree ys c)) → IsGoal view_type zs n
 view_field ys zs c n s name h e p q = field_goal view_type ys zs c n s name (view_attribute name h) e p q
 
-pub meet_field : (ys zs : List Node) (c n : ℕ) (s : Sort) (name : List ℕ) → Contains meet_names name → s ≡ sort_of meet_type → StandsFor ys c (leaf (Context s))
-    → StandsFor zs n (field_term name sort.Bool (tree ys c)) → IsGoal meet_type zs n
-meet_field ys zs c n s name h e p q = field_goal meet_type ys zs c n s name (meet_attribute name h) e p q
-
 pub truth_goal : (type : Ty) (ys : List Node) (b : Bool) (n : ℕ) → StandsFor ys n (truth_term b) → IsGoal type ys n
 truth_goal type ys b n s = goal_of type ys n (truth_term b) s (of_truth b)
 
@@ -230,5 +214,3 @@ meet_goal s e p q nodes n g = rw (p, q) g.boolean
 
 pub none_declared : (s : Declarations) (us : List Uid) → us ≡ [] → AllByRecursion (IsDeclared s) us
 none_declared s us e = rw e tt
-
-pub ruleset sample_laws = (view_environment, view_goal, view_field, meet_environment, meet_goal, meet_field, truth_goal, not_goal, and_goal, equal_goal, goal_kept, none_declared)
