@@ -129,10 +129,10 @@ fn ends_within(
     let words = format!(in alloc;
         "analyse --schema s --policies p --query always-denies --budget {budget}"
     )?;
-    let held = [("s", TWO.as_bytes()), ("p", CONTRADICTION.as_bytes())];
-    let mut files = MemFiles::new(files_of(alloc, &held)?, Vec::new(alloc));
     let verdict = told.1;
     let line = format!(in alloc; "env User Action::\"view\" Doc: {verdict}")?;
+    let held = [("s", TWO.as_bytes()), ("p", CONTRADICTION.as_bytes())];
+    let mut files = MemFiles::new(files_of(alloc, &held)?, Vec::new(alloc));
     ends(alloc, &words, &mut files, (told.0, &line), logs)
 }
 

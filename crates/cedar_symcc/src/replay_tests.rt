@@ -1,4 +1,4 @@
-use crate::tests::{OF_USER, PERMIT, REPLAYS, SCHEMA, answered};
+use crate::tests::{OF_AGE, OF_USER, PERMIT, REPLAYS, SCHEMA, answered};
 use std::alloc::{AllocError, Global};
 use std::test::Fail;
 
@@ -15,8 +15,6 @@ const QUOTED: &str =
 
 const FORBIDDEN: &str =
     "permit(principal, action, resource); forbid(principal, action, resource) unless { !context.mfa };";
-
-const OF_AGE: &str = "permit(principal, action, resource) when { context.age };";
 
 const OF_A_TEAM: &str = "permit(principal == Team::\"a\", action, resource);";
 
@@ -88,7 +86,8 @@ fn replays(
 }
 
 #[test]
-fn worlds_are_replayed(rt: HostRuntime) -> Result<(), Fail> {
+fn worlds_that_are_printed_are_replayed(rt: HostRuntime) -> Result<(), Fail> {
+    assert!(rt; OF_USER.ends_with(WORLD));
     for (policies, world, code, lines) in REPORTS {
         assert!(rt;
             replays(rt.alloc(), policies, world, (code, lines))?,
@@ -107,9 +106,4 @@ fn replays_are_refused(rt: HostRuntime) -> Result<(), Fail> {
         );
     }
     Ok(())
-}
-
-#[test]
-fn what_is_printed_is_replayed(rt: HostRuntime) {
-    assert!(rt; OF_USER.ends_with(WORLD));
 }

@@ -46,7 +46,7 @@ const EDIT: &str = "permit(principal, action == Action::\"edit\", resource) when
 const SKIPPED: &str =
     "permit(principal, action, resource) when { context.mfa && (true || 1 + \"a\" < 2) };";
 
-const OF_AGE: &str = "permit(principal, action, resource) when { context.age };";
+pub const OF_AGE: &str = "permit(principal, action, resource) when { context.age };";
 
 pub const HOLDS: &str = "env User Action::\"view\" Doc: holds";
 
@@ -79,6 +79,17 @@ pub fn words_of(alloc: Global, line: &str) -> Result<Vec<String>, AllocError> {
     Ok(words)
 }
 
+fn put_file(
+    alloc: Global,
+    files: &mut BTreeMap<String, Vec<u8>>,
+    name: &str,
+    bytes: &[u8],
+) -> Result<(), AllocError> {
+    let name = String::from_str(alloc, name)?;
+    files.insert(name, Vec::from_slice(alloc, bytes)?)?;
+    Ok(())
+}
+
 /// Files of these names and bytes.
 pub fn files_of(
     alloc: Global,
@@ -86,10 +97,7 @@ pub fn files_of(
 ) -> Result<BTreeMap<String, Vec<u8>>, AllocError> {
     let mut files = BTreeMap::new(alloc);
     for (name, bytes) in held {
-        files.insert(
-            String::from_str(alloc, name)?,
-            Vec::from_slice(alloc, bytes)?,
-        )?;
+        put_file(alloc, &mut files, name, bytes)?;
     }
     Ok(files)
 }
@@ -102,11 +110,11 @@ pub fn ends(
     told: (u8, &str),
     logs: usize,
 ) -> Result<bool, AllocError> {
+    let lines = told.1;
+    let text = format!(in alloc; "{lines}\n")?;
     let words = words_of(alloc, words)?;
     let mut out = MemSink::new(alloc, Vec::new(alloc));
     let status = run(alloc, &words, files, &mut out);
-    let lines = told.1;
-    let text = format!(in alloc; "{lines}\n")?;
     Ok(status.code == told.0 && status.spent.len() == logs && out.text() == text.as_bytes())
 }
 
