@@ -7,7 +7,7 @@ ghost use Rattle.sc_checker.specs.Known.{marked};
 ghost use Rattle.sc_checker.specs.Refutations.{residual, open_lits, residual_at, clause_at, is_listed, is_clause, are_listed, negated, refutes};
 
 use crate::known::Known;
-use sc_clauses::{Clause, Lit, negation};
+use sc_clauses::{Clause, Lit, is_same, negation};
 
 /// What is left of a clause where its false literals are left out.
 #[derive(Clone, Copy)]
@@ -18,12 +18,6 @@ pub(crate) enum Residual {
     Unit(Lit),
     /// Several literals.
     Open,
-}
-
-fn is_same(a: Lit, b: Lit) -> bool
-    ensures { result ≡ lit_eq a b }
-{
-    a.atom == b.atom && a.negated == b.negated
 }
 
 /// What is left of a clause where these literals are true.

@@ -9,6 +9,6 @@ mod step;
 mod tests;
 
 pub use assignment::{Assignment, falsifies};
-pub use clause::{Clause, contained};
-pub use lit::{Atom, Lit, negation};
+pub use clause::{Clause, contained, is_in};
+pub use lit::{Atom, Lit, is_same, negation};
 pub use step::{Instance, Learned, Step, Word};

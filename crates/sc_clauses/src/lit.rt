@@ -25,7 +25,7 @@ pub fn negation(lit: Lit) -> Lit
 }
 
 /// Whether two literals are the same.
-pub(crate) fn is_same(a: Lit, b: Lit) -> bool
+pub fn is_same(a: Lit, b: Lit) -> bool
     ensures { result ≡ lit_eq a b }
 {
     a.atom == b.atom && a.negated == b.negated

@@ -14,24 +14,47 @@ fn clause(alloc: Global, lits: &[(u64, bool)]) -> Result<Seq<Lit>, AllocError> {
     Ok(clause)
 }
 
-#[test]
-fn falsified_where_each_literal_is_false(rt: HostRuntime) -> Result<(), Fail> {
-    let alloc = rt.alloc();
+/// The assignment in which atom 1 is true, atom 2 has no value, and atom 3 is false.
+fn assignment(alloc: Global) -> Result<Assignment, AllocError> {
     let mut values = Seq::new(alloc);
     values.push(Some(true))?;
     values.push(None)?;
     values.push(Some(false))?;
-    let m = Assignment::from_values(values);
-    let false_lits = clause(alloc, &[(1, true), (3, false)])?;
-    let open = clause(alloc, &[(1, true), (2, false)])?;
-    let unlisted = clause(alloc, &[(1, true), (4, true)])?;
-    let empty = clause(alloc, &[])?;
-    assert!(rt; falsifies(&m, &false_lits));
-    assert!(rt; !falsifies(&m, &open));
-    assert!(rt; !falsifies(&m, &unlisted));
-    assert!(rt; falsifies(&m, &empty));
-    assert!(rt; contained(&empty, &open));
-    assert!(rt; !contained(&open, &false_lits));
+    Ok(Assignment::from_values(values))
+}
+
+fn is_falsified(alloc: Global, lits: &[(u64, bool)]) -> Result<bool, AllocError> {
+    let m = assignment(alloc)?;
+    let c = clause(alloc, lits)?;
+    Ok(falsifies(&m, &c))
+}
+
+fn is_contained(alloc: Global, c: &[(u64, bool)], d: &[(u64, bool)]) -> Result<bool, AllocError> {
+    let c = clause(alloc, c)?;
+    let d = clause(alloc, d)?;
+    Ok(contained(&c, &d))
+}
+
+#[test]
+fn falsified_where_each_literal_is_false(rt: HostRuntime) -> Result<(), Fail> {
+    assert!(rt; is_falsified(rt.alloc(), &[(1, true), (3, false)])?);
+    assert!(rt; !is_falsified(rt.alloc(), &[(1, true), (2, false)])?);
+    assert!(rt; !is_falsified(rt.alloc(), &[(1, true), (4, true)])?);
+    assert!(rt; is_falsified(rt.alloc(), &[])?);
+    Ok(())
+}
+
+#[test]
+fn contained_where_each_literal_is_in_the_other(rt: HostRuntime) -> Result<(), Fail> {
+    assert!(rt; is_contained(rt.alloc(), &[], &[(1, true)])?);
+    assert!(rt;
+        is_contained(
+            rt.alloc(),
+            &[(2, false), (2, false)],
+            &[(1, true), (2, false)]
+        )?
+    );
+    assert!(rt; !is_contained(rt.alloc(), &[(2, true)], &[(1, true), (2, false)])?);
     Ok(())
 }
 

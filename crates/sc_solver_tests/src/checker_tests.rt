@@ -5,7 +5,7 @@ use sc_checker::{
     Learned, Log, Reason, Step, Verdict, are_writable, is_writable, read_log, write_log,
 };
 use sc_lists::{Fault, Seq};
-use std::alloc::Global;
+use std::alloc::{AllocError, Global};
 use std::test::Fail;
 
 /// The verdict on a log's text.
@@ -83,43 +83,60 @@ fn lines_that_are_malformed(rt: HostRuntime) -> Result<(), Fail> {
     Ok(())
 }
 
+/// What is written of what a text is read as, and how many steps that has.
+fn written_again(alloc: Global, text: &str) -> Result<Option<(usize, String)>, AllocError> {
+    match read_log(alloc, text.as_bytes()) {
+        Ok(log) => Ok(Some((log.steps().len(), write_log(alloc, &log)?))),
+        Err(_) => Ok(None),
+    }
+}
+
 #[test]
 fn what_is_read_is_written_the_same(rt: HostRuntime) -> Result<(), Fail> {
-    let alloc = rt.alloc();
     let text =
         "log 1\nl 3 -12 3 0 1 999999999999999999 0\nl 0 1 0\nt EQ2 0 15\nt ST2 +--+ 7\nt SE1\n";
-    let Ok(log) = read_log(alloc, text.as_bytes()) else {
-        assert!(rt; false);
-        return Ok(());
+    let Some((count, written)) = written_again(rt.alloc(), text)? else {
+        panic!(rt; "the text is no log");
     };
-    assert_eq!(rt; log.steps().len(), 5);
-    let written = write_log(alloc, &log)?;
-    assert_eq!(rt; written.as_str(), text);
+    assert!(rt; count == 5 && written.as_str() == text);
     Ok(())
+}
+
+/// A step that learns the empty clause.
+fn learned(alloc: Global, hints: &[u64]) -> Result<Step, AllocError> {
+    Ok(Step::Learned(Learned {
+        clause: Seq::new(alloc),
+        hints: Seq::from_vec(Vec::from_slice(alloc, hints)?),
+    }))
+}
+
+fn has_text(alloc: Global, hints: &[u64]) -> Result<bool, AllocError> {
+    let step = learned(alloc, hints)?;
+    Ok(is_writable(&step))
+}
+
+/// The text of a log of this one step, where it has one.
+fn text_of(alloc: Global, hints: &[u64]) -> Result<Option<String>, AllocError> {
+    let mut steps = Seq::new(alloc);
+    steps.push(learned(alloc, hints)?)?;
+    if !are_writable(&steps) {
+        return Ok(None);
+    }
+    let text = write_log(alloc, &Log::new(steps))?;
+    Ok(Some(text))
+}
+
+fn has_this_text(alloc: Global, hints: &[u64], text: &str) -> Result<bool, AllocError> {
+    match text_of(alloc, hints)? {
+        Some(written) => Ok(written.as_str() == text),
+        None => Ok(false),
+    }
 }
 
 #[test]
 fn steps_that_have_a_text(rt: HostRuntime) -> Result<(), Fail> {
-    let alloc = rt.alloc();
-    let mut hints = Seq::new(alloc);
-    let unfounded = Step::Learned(Learned {
-        clause: Seq::new(alloc),
-        hints: Seq::new(alloc),
-    });
-    hints.push(7)?;
-    let founded = Step::Learned(Learned {
-        clause: Seq::new(alloc),
-        hints,
-    });
-    assert!(rt; !is_writable(&unfounded));
-    assert!(rt; is_writable(&founded));
-    let mut steps = Seq::new(alloc);
-    steps.push(founded)?;
-    if are_writable(&steps) {
-        let text = write_log(alloc, &Log::new(steps))?;
-        assert_eq!(rt; text.as_str(), "log 1\nl 0 7 0\n");
-    } else {
-        assert!(rt; false);
-    }
+    assert!(rt; !has_text(rt.alloc(), &[])?);
+    assert!(rt; has_text(rt.alloc(), &[7])?);
+    assert!(rt; has_this_text(rt.alloc(), &[7], "log 1\nl 0 7 0\n")?);
     Ok(())
 }
