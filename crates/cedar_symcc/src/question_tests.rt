@@ -65,10 +65,10 @@ const REFUSALS: [(&str, &str, &str, u8, &str); 5] = [
 ];
 
 /// Whether a question of these sets ends with this status and this line.
-fn asks(
+fn asks<'t>(
     alloc: Global,
     question: &str,
-    sets: (&str, &str),
+    sets: (&'t str, &'t str),
     told: (u8, &str),
 ) -> Result<bool, AllocError> {
     let words = format!(in alloc;

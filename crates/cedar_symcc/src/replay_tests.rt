@@ -71,10 +71,10 @@ const REFUSALS: [(&str, &str, u8, &str); 8] = [
 ];
 
 /// Whether the replay of a world ends with this status and these lines.
-fn replays(
+fn replays<'t>(
     alloc: Global,
-    policies: &str,
-    world: &str,
+    policies: &'t str,
+    world: &'t str,
     told: (u8, &str),
 ) -> Result<bool, AllocError> {
     let held = [
