@@ -222,9 +222,12 @@ fn number_of_policies(rt: HostRuntime) -> Result<(), Fail> {
 // ---- trees
 
 /// Whether the sample with this body is read as this expression.
-fn is_read_as(alloc: Global, body: &str, tree: &Expr) -> bool {
+fn is_read_as(alloc: Global, body: &str, tree: Result<Expr, AllocError>) -> bool {
+    let Ok(tree) = tree else {
+        return false;
+    };
     match expression(alloc, body) {
-        Some(expr) => expr == *tree,
+        Some(expr) => expr == tree,
         None => false,
     }
 }
@@ -273,12 +276,11 @@ fn difference(alloc: Global) -> Result<Expr, AllocError> {
 }
 
 #[test]
-fn operators(rt: HostRuntime) -> Result<(), Fail> {
+fn operators(rt: HostRuntime) {
     let alloc = rt.alloc();
-    assert!(rt; is_read_as(alloc, "true || true && true", &truths(alloc)?));
-    assert!(rt; is_read_as(alloc, "true != true", &unequal(alloc)?));
-    assert!(rt; is_read_as(alloc, "-9223372036854775808 - -1", &difference(alloc)?));
-    Ok(())
+    assert!(rt; is_read_as(alloc, "true || true && true", truths(alloc)));
+    assert!(rt; is_read_as(alloc, "true != true", unequal(alloc)));
+    assert!(rt; is_read_as(alloc, "-9223372036854775808 - -1", difference(alloc)));
 }
 
 /// `principal has a`.
@@ -316,13 +318,12 @@ fn access(alloc: Global) -> Result<Expr, AllocError> {
 }
 
 #[test]
-fn words(rt: HostRuntime) -> Result<(), Fail> {
+fn words(rt: HostRuntime) {
     let alloc = rt.alloc();
-    assert!(rt; is_read_as(alloc, "principal has a", &has(alloc)?));
-    assert!(rt; is_read_as(alloc, "principal like \"\\**\"", &like(alloc)?));
-    assert!(rt; is_read_as(alloc, "principal is A::T in principal", &is_in(alloc)?));
-    assert!(rt; is_read_as(alloc, "principal.a", &access(alloc)?));
-    Ok(())
+    assert!(rt; is_read_as(alloc, "principal has a", has(alloc)));
+    assert!(rt; is_read_as(alloc, "principal like \"\\**\"", like(alloc)));
+    assert!(rt; is_read_as(alloc, "principal is A::T in principal", is_in(alloc)));
+    assert!(rt; is_read_as(alloc, "principal.a", access(alloc)));
 }
 
 // ---- policies
@@ -340,22 +341,27 @@ fn is_unless_at(policy: &Policy, place: Place) -> bool {
     policy.conditions.len() == 1 && clause.kind == ConditionKind::Unless && clause.place == place
 }
 
-/// Whether the policy asks for this type of its principal, for no action, and nothing else.
-fn asks(policy: &Policy, principal: &Constraint, action: &ActionConstraint) -> bool {
-    policy.principal.constraint == *principal
-        && policy.action.constraint == *action
-        && policy.resource.constraint == Constraint::Any
+/// Whether the policy asks for a principal of `A::T` and for no action.
+fn asks(alloc: Global, policy: &Policy) -> Result<bool, AllocError> {
+    let named = Constraint::Is(at(20), type_name(alloc, 23)?);
+    let none = ActionConstraint::InAny(at(36), at(39), Seq::new(alloc));
+    Ok(policy.principal.constraint == named && policy.action.constraint == none)
+}
+
+/// Whether the last policy of a file is the one that is told below.
+fn has_parts(alloc: Global, file: &str) -> Result<bool, AllocError> {
+    let Some(policy) = last_policy(alloc, file) else {
+        return Ok(false);
+    };
+    let stands = is_forbid_at(&policy, at(3), at(10)) && is_unless_at(&policy, at(53));
+    let asks = asks(alloc, &policy)?;
+    Ok(stands && asks && policy.resource.constraint == Constraint::Any)
 }
 
 #[test]
 fn parts_of_a_policy(rt: HostRuntime) -> Result<(), Fail> {
-    let alloc = rt.alloc();
     let file = "@a forbid(principal is A::T, action in [], resource) unless { true };";
-    let policy = last_policy(alloc, file).ok_or("a policy")?;
-    assert!(rt; is_forbid_at(&policy, at(3), at(10)));
-    assert!(rt; is_unless_at(&policy, at(53)));
-    let named = Constraint::Is(at(20), type_name(alloc, 23)?);
-    let none = ActionConstraint::InAny(at(36), at(39), Seq::new(alloc));
-    assert!(rt; asks(&policy, &named, &none));
+    let read = has_parts(rt.alloc(), file)?;
+    assert!(rt; read);
     Ok(())
 }

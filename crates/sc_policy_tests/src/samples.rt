@@ -1,5 +1,5 @@
 //! Policies by their text, and the world in which they are tried.
-use sc_ast::{Expr, Place, Policy};
+use sc_ast::{Expr, Place, Policy, try_clone};
 use sc_lists::{Seq, Text};
 use sc_names::{Name, Uid};
 use sc_parser::read_policies;
@@ -27,18 +27,17 @@ pub(crate) fn last_policy(alloc: Global, file: &str) -> Option<Policy> {
     }
 }
 
-/// The body of the last clause of a policy, if it has one.
-fn last_body(policy: Policy) -> Option<Expr> {
-    let clause = policy.conditions.into_vec().pop()?;
-    Some(clause.body)
+/// A copy of the body of a policy's first clause, if it has one.
+fn first_body(alloc: Global, policy: &Policy) -> Option<Expr> {
+    let clause = policy.conditions.get(0)?;
+    try_clone(alloc, &clause.body).ok()
 }
 
 /// The expression that a text spells, its places counted from the begin of the sample.
 pub(crate) fn expression(alloc: Global, body: &str) -> Option<Expr> {
-    match sample(alloc, body) {
-        Ok(file) => last_body(last_policy(alloc, file.as_str())?),
-        Err(_) => None,
-    }
+    let file = sample(alloc, body).ok()?;
+    let policy = last_policy(alloc, file.as_str())?;
+    first_body(alloc, &policy)
 }
 
 pub(crate) fn uid(alloc: Global, type_name: &str, id: &str) -> Result<Uid, AllocError> {
