@@ -1,11 +1,10 @@
 //! Expressions without places.
 ghost use Rattle.std.specs.Prelude.{◌≡◌, ℕ, List, map, IfOk};
 ghost use Rattle.sc_ast.specs.declared.expr.Expr.{Expr as AnyExpr};
-ghost use Rattle.sc_typed.specs.Capabilities.{nowhere, bare, bare_name};
+ghost use Rattle.sc_typed.specs.Capabilities.{bare, bare_name};
 
-use sc_ast::{BinaryOperator, Expr, Place, TypeName};
+use sc_ast::{Expr, Place, TypeName};
 use sc_lists::{Boxed, Seq, Text};
-use sc_pattern::Pattern;
 use std::alloc::{AllocError, Global};
 
 /// The place in every expression without places.
@@ -18,114 +17,58 @@ pub fn bare(alloc: Global, expr: &Expr) -> Result<Expr, AllocError>
     ensures { IfOk result (λ copy. copy ≡ bare expr.now) }
 {
     match expr {
-        Expr::If(_, c, a, b) => Ok(bare_if(alloc, c, a, b)?),
-        Expr::Or(_, a, b) => Ok(bare_or(alloc, a, b)?),
-        Expr::And(_, a, b) => Ok(bare_and(alloc, a, b)?),
-        Expr::Binary(_, operator, a, b) => Ok(bare_binary(alloc, *operator, a, b)?),
-        Expr::Has(_, a, names) => Ok(bare_has(alloc, a, names.as_slice())?),
-        Expr::Like(_, a, pattern) => Ok(bare_like(alloc, a, pattern)?),
-        Expr::Is(_, a, type_name) => Ok(bare_is(alloc, a, type_name)?),
-        Expr::IsIn(_, a, type_name, _, b) => Ok(bare_is_in(alloc, a, type_name, b)?),
+        Expr::If(_, c, a, b) => Ok(Expr::If(
+            NOWHERE,
+            bare_boxed(alloc, c)?,
+            bare_boxed(alloc, a)?,
+            bare_boxed(alloc, b)?,
+        )),
+        Expr::Or(_, a, b) => Ok(Expr::Or(NOWHERE, bare_boxed(alloc, a)?, bare_boxed(alloc, b)?)),
+        Expr::And(_, a, b) => Ok(Expr::And(NOWHERE, bare_boxed(alloc, a)?, bare_boxed(alloc, b)?)),
+        Expr::Binary(_, operator, a, b) => Ok(Expr::Binary(
+            NOWHERE,
+            *operator,
+            bare_boxed(alloc, a)?,
+            bare_boxed(alloc, b)?,
+        )),
+        Expr::Has(_, a, names) => Ok(Expr::Has(
+            NOWHERE,
+            bare_boxed(alloc, a)?,
+            copy_of_names(alloc, names.as_slice())?,
+        )),
+        Expr::Like(_, a, pattern) => Ok(Expr::Like(
+            NOWHERE,
+            bare_boxed(alloc, a)?,
+            pattern.try_clone(alloc)?,
+        )),
+        Expr::Is(_, a, type_name) => Ok(Expr::Is(
+            NOWHERE,
+            bare_boxed(alloc, a)?,
+            bare_name(alloc, type_name)?,
+        )),
+        Expr::IsIn(_, a, type_name, _, b) => Ok(Expr::IsIn(
+            NOWHERE,
+            bare_boxed(alloc, a)?,
+            bare_name(alloc, type_name)?,
+            NOWHERE,
+            bare_boxed(alloc, b)?,
+        )),
         Expr::Unary(_, operator, a) => {
             Ok(Expr::Unary(NOWHERE, *operator, bare_boxed(alloc, a)?))
         }
-        Expr::Access(_, a, name) => Ok(bare_access(alloc, a, name)?),
+        Expr::Access(_, a, name) => Ok(Expr::Access(
+            NOWHERE,
+            bare_boxed(alloc, a)?,
+            name.try_clone(alloc)?,
+        )),
         Expr::Literal(_, literal) => Ok(Expr::Literal(NOWHERE, literal.try_clone(alloc)?)),
         Expr::Variable(_, variable) => Ok(Expr::Variable(NOWHERE, *variable)),
         Expr::Set(_, members) => Ok(Expr::Set(NOWHERE, bare_all(alloc, members.as_slice())?)),
-        Expr::Record(_, fields) => {
-            Ok(Expr::Record(NOWHERE, bare_fields(alloc, fields.as_slice())?))
-        }
+        Expr::Record(_, fields) => Ok(Expr::Record(
+            NOWHERE,
+            bare_fields(alloc, fields.as_slice())?,
+        )),
     }
-}
-
-#[cycle(bare)]
-fn bare_if(
-    alloc: Global,
-    c: &Boxed<Expr>,
-    a: &Boxed<Expr>,
-    b: &Boxed<Expr>,
-) -> Result<Expr, AllocError>
-    ensures { IfOk result (λ copy. copy ≡ Expr.If nowhere (bare c.now) (bare a.now) (bare b.now)) }
-{
-    let c = bare_boxed(alloc, c)?;
-    let a = bare_boxed(alloc, a)?;
-    Ok(Expr::If(NOWHERE, c, a, bare_boxed(alloc, b)?))
-}
-
-#[cycle(bare)]
-fn bare_or(alloc: Global, a: &Boxed<Expr>, b: &Boxed<Expr>) -> Result<Expr, AllocError>
-    ensures { IfOk result (λ copy. copy ≡ Expr.Or nowhere (bare a.now) (bare b.now)) }
-{
-    let a = bare_boxed(alloc, a)?;
-    Ok(Expr::Or(NOWHERE, a, bare_boxed(alloc, b)?))
-}
-
-#[cycle(bare)]
-fn bare_and(alloc: Global, a: &Boxed<Expr>, b: &Boxed<Expr>) -> Result<Expr, AllocError>
-    ensures { IfOk result (λ copy. copy ≡ Expr.And nowhere (bare a.now) (bare b.now)) }
-{
-    let a = bare_boxed(alloc, a)?;
-    Ok(Expr::And(NOWHERE, a, bare_boxed(alloc, b)?))
-}
-
-#[cycle(bare)]
-fn bare_binary(
-    alloc: Global,
-    operator: BinaryOperator,
-    a: &Boxed<Expr>,
-    b: &Boxed<Expr>,
-) -> Result<Expr, AllocError>
-    ensures { IfOk result (λ copy. copy ≡ Expr.Binary nowhere operator (bare a.now) (bare b.now)) }
-{
-    let a = bare_boxed(alloc, a)?;
-    Ok(Expr::Binary(NOWHERE, operator, a, bare_boxed(alloc, b)?))
-}
-
-#[cycle(bare)]
-fn bare_has(alloc: Global, a: &Boxed<Expr>, names: &[Text]) -> Result<Expr, AllocError>
-    ensures { IfOk result (λ copy. copy ≡ Expr.Has nowhere (bare a.now) names.now) }
-{
-    let names = copy_of_names(alloc, names)?;
-    Ok(Expr::Has(NOWHERE, bare_boxed(alloc, a)?, names))
-}
-
-#[cycle(bare)]
-fn bare_like(alloc: Global, a: &Boxed<Expr>, pattern: &Pattern) -> Result<Expr, AllocError>
-    ensures { IfOk result (λ copy. copy ≡ Expr.Like nowhere (bare a.now) pattern.now) }
-{
-    let pattern = pattern.try_clone(alloc)?;
-    Ok(Expr::Like(NOWHERE, bare_boxed(alloc, a)?, pattern))
-}
-
-#[cycle(bare)]
-fn bare_is(alloc: Global, a: &Boxed<Expr>, type_name: &TypeName) -> Result<Expr, AllocError>
-    ensures { IfOk result (λ copy. copy ≡ Expr.Is nowhere (bare a.now) (bare_name type_name.now)) }
-{
-    let type_name = bare_name(alloc, type_name)?;
-    Ok(Expr::Is(NOWHERE, bare_boxed(alloc, a)?, type_name))
-}
-
-#[cycle(bare)]
-fn bare_is_in(
-    alloc: Global,
-    a: &Boxed<Expr>,
-    type_name: &TypeName,
-    b: &Boxed<Expr>,
-) -> Result<Expr, AllocError>
-    ensures { IfOk result (λ copy. copy ≡ Expr.IsIn nowhere (bare a.now) (bare_name type_name.now) nowhere (bare b.now)) }
-{
-    let type_name = bare_name(alloc, type_name)?;
-    let a = bare_boxed(alloc, a)?;
-    Ok(Expr::IsIn(NOWHERE, a, type_name, NOWHERE, bare_boxed(alloc, b)?))
-}
-
-#[cycle(bare)]
-fn bare_access(alloc: Global, a: &Boxed<Expr>, name: &Text) -> Result<Expr, AllocError>
-    ensures { IfOk result (λ copy. copy ≡ Expr.Access nowhere (bare a.now) name.now) }
-{
-    let name = name.try_clone(alloc)?;
-    Ok(Expr::Access(NOWHERE, bare_boxed(alloc, a)?, name))
 }
 
 #[cycle(bare)]
