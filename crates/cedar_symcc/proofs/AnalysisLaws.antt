@@ -1,5 +1,5 @@
 -- A query has a goal in each environment, and what the solver answers of its problem is a verdict.
-use Rattle.std.proofs.Common.{◌≡◌, ◌↔◌, ◌≤◌, ◌⊎◌, ◌++◌, ℕ, suc, List, [], ◌∷◌, Bool, true, false, not, Option, Some, None, IfSome, IsSome, Contains, unwrap_or, refl, sym, ap, ◌∙◌, subst, arith, ⊎_elim}
+use Rattle.std.proofs.Common.{◌≡◌, ◌↔◌, ◌≤◌, ◌⊎◌, ◌++◌, ℕ, suc, List, [], ◌∷◌, Bool, true, false, not, Option, Some, None, IfSome, IsSome, Contains, length, unwrap_or, refl, sym, ap, ◌∙◌, subst, arith, ⊎_elim}
 use Rattle.std.specs.Bool.{⊤}
 use Rattle.std.specs.List.{AllByRecursion}
 use Rattle.std.specs.Option.{option_or}
@@ -8,7 +8,7 @@ use Rattle.sc_ast.specs.declared.policy.Policy.{Policy}
 use Rattle.sc_ast.specs.Literals.{literals}
 use Rattle.sc_constructs.specs.First.{unsupported, first_from}
 use Rattle.sc_clauses.specs.declared.step.Step.{Step}
-use Rattle.sc_footprint.specs.Problems.{Posed, IsPosed, IsProblemOf, IsOverLimit}
+use Rattle.sc_footprint.specs.Problems.{Posed, IsPosed, IsProblemOf, IsOverLimit, atoms, most_atoms}
 use Rattle.sc_footprint.specs.Problems as problem
 use Rattle.sc_footprint.specs.Truths.{Satisfies, IsUnsatisfiable, is_true}
 use Rattle.sc_goal.specs.Goals.{all_compiled, goal_term}
@@ -40,7 +40,7 @@ use Rattle.cedar_symcc.specs.Runs.{asked}
 use Rattle.cedar_symcc.specs.View.{IsPrintable}
 use Rattle.cedar_symcc.specs.declared.analysing.EnvAnswer.{EnvAnswer}
 use Rattle.cedar_symcc.specs.declared.analysing.EnvAnswer.TheVariants.{Holds, Violated, Spent, OverLimit}
-use Rattle.cedar_symcc.specs.Reports.{Asked, written_uids, has_property, IsWorldOf, AlwaysHas, Violates, IsProblem, IsUndecided, IsTooLarge}
+use Rattle.cedar_symcc.specs.Reports.{Asked, written_uids, has_property, IsWorldOf, AlwaysHas, Violates, IsProblem, IsUndecided, HasRoom, IsTooLarge}
 
 -- ---- the laws of other crates on which these rest
 
@@ -182,8 +182,12 @@ satisfied-violates right fewer q env p w lawful is found =
     let world = to-question fewer q env p w is found.well_formed in
     record { well_formed = world; lacks = not-so (has_property q w) (sym found.goal_true ∙ goal-truth right q env p w lawful is world) }
 
-pub spent-undecided : (q : Asked) (env : Env) (p : Posed) (log : List Step) → IsProblem q env p → IsSpent (rules_of p) p q.budget log → (q.budget ≡ q.budget) × IsUndecided q env q.budget log
-spent-undecided q env p log is spent = (refl, record { posed = p; is_problem = is; spent = spent })
+pub has-room : (q : Asked) (env : Env) (p : Posed) → IsProblem q env p → length (atoms p) ≤ most_atoms → HasRoom q env
+has-room q env p is few = record { posed = p; is_problem = is; few = few }
+
+pub spent-undecided : (q : Asked) (env : Env) (p : Posed) (log : List Step) → IsProblem q env p → length (atoms p) ≤ most_atoms → IsSpent (rules_of p) p q.budget log
+    → (q.budget ≡ q.budget) × IsUndecided q env q.budget log × HasRoom q env
+spent-undecided q env p log is few spent = (refl, record { posed = p; is_problem = is; spent = spent }, has-room q env p is few)
 
 -- ---- what a command asks
 
@@ -218,6 +222,6 @@ query-answered i q env a is answer = subst (λ x. IsAnswer x env a) (asked-same 
 -- a world that is answered can be printed
 pub answer-printable : (q : Asked) (env : Env) (a : EnvAnswer) → IsAnswer q env a → IsPrintable a
 answer-printable q env (Holds log) answer = tt
-answer-printable q env (Violated w) answer = answer.well_formed.proper
+answer-printable q env (Violated w) answer = answer.0.well_formed.proper
 answer-printable q env (Spent log) answer = tt
 answer-printable q env OverLimit answer = tt

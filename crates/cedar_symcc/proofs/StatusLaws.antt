@@ -92,7 +92,7 @@ or_false_right true b e = absurd cc
 or_false_right false b e = e
 
 line-holds : (q : Asked) (env : Env) (v : Verdict) → is_counterexample v ≡ false → is_open v ≡ false → IsLine q (record { env = env; verdict = v }) → AlwaysHas q env
-line-holds q env holds e o t = t
+line-holds q env holds e o t = t.0
 line-holds q env (counterexample w) e o t = absurd cc
 line-holds q env (unknown units log) e o t = absurd cc
 line-holds q env over_limit e o t = absurd cc
@@ -116,7 +116,7 @@ line-fails q l lines over_limit s e t = absurd cc
 line-fails q l lines (counterexample w) s e t =
     let with_verdict : Verdict → Line = λ v. record { env = l.env; verdict = v } in
     let same : l ≡ record { env = l.env; verdict = counterexample w } = ap with_verdict s in
-    record { env = l.env; world = w; printed = (0, omega arith, same); violates = subst (IsLine q) same t }
+    record { env = l.env; world = w; printed = (0, omega arith, same); violates = (subst (IsLine q) same t).0 }
 
 printed-later : (q : Asked) (l : Line) (lines : List Line) → Printed q lines → Printed q (l ∷ lines)
 printed-later q l lines p = record { env = p.env; world = p.world; printed = (suc p.printed.0, omega (arith, p.printed.1), p.printed.2); violates = p.violates }

@@ -2,7 +2,7 @@
 use Rattle.std.specs.Prelude.{◌≡◌, ◌≤◌, ℕ, List, Some, is_some, length, ⊤}
 use Rattle.sc_checker.specs.Verdicts.{IsAccepted}
 use Rattle.sc_clauses.specs.declared.step.Step.{Step}
-use Rattle.sc_footprint.specs.Problems.{Posed, atoms, most_atoms}
+use Rattle.sc_footprint.specs.Problems.{Posed}
 use Rattle.sc_goal.specs.Goals.{goal_term}
 use Rattle.sc_goal.specs.Queries.{Asked as Query, second}
 use Rattle.sc_question.specs.Questions.{takes_two}
@@ -30,25 +30,18 @@ IsGoalOf s env q t = goal_term s env q.question q.first (second q) ≡ Some t
 abbrev pub IsAnswer : Asked → Env → EnvAnswer → Type 0
 IsAnswer q env a = IsVerdict q env (verdict_view q.budget a)
 
--- the environment's problem lists no more atoms than may be
-pub record HasRoom (q : Asked) (env : Env) : Type 0 where
-  pub posed : Posed
-  pub is_problem : IsProblem q env posed
-  pub few : length (atoms posed) ≤ most_atoms
-
--- and an accepted log of at most as many steps as the budget refutes it
+-- an accepted log of at most as many steps as the budget refutes the environment's problem
 pub record IsRefuted (q : Asked) (env : Env) (log : List Step) : Type 0 where
   pub posed : Posed
   pub is_problem : IsProblem q env posed
-  pub few : length (atoms posed) ≤ most_atoms
   pub accepted : IsAccepted (rules_of posed) posed log
   pub within : length log ≤ q.budget
 
--- what is found is found of a problem that isn't too large, and a log shows that the property holds
+-- a log shows that the property holds
 abbrev pub IsFound : Asked → Env → EnvAnswer → Type 0
 IsFound q env (Holds log) = IsRefuted q env log
-IsFound q env (Violated w) = HasRoom q env
-IsFound q env (Spent log) = HasRoom q env
+IsFound q env (Violated w) = ⊤
+IsFound q env (Spent log) = ⊤
 IsFound q env OverLimit = ⊤
 
 -- what is asked by the inputs of a command

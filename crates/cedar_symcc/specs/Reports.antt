@@ -1,5 +1,5 @@
 -- Reports: a line for each environment, and what each line claims.
-use Rattle.std.specs.Prelude.{◌≡◌, ◌↔◌, ℕ, List, [], ◌∷◌, ◌++◌, map, flat_map, Bool, true, false, Some, codes}
+use Rattle.std.specs.Prelude.{◌≡◌, ◌↔◌, ◌≤◌, ℕ, List, [], ◌∷◌, ◌++◌, map, flat_map, length, Bool, true, false, Some, codes}
 use Rattle.std.specs.Fmt.{decimal}
 use Rattle.std.specs.List.{AllByRecursion, Contains, list_any}
 use Rattle.sc_names.specs.declared.uid.Uid.{Uid}
@@ -9,7 +9,7 @@ use Rattle.sc_question.specs.declared.question.Question.{Question}
 use Rattle.sc_clauses.specs.declared.step.Step.{Step}
 use Rattle.sc_goal.specs.Properties.{has}
 use Rattle.sc_goal.specs.Goals.{goal_term}
-use Rattle.sc_footprint.specs.Problems.{Posed, IsPosed, IsOverLimit}
+use Rattle.sc_footprint.specs.Problems.{Posed, IsPosed, IsOverLimit, atoms, most_atoms}
 use Rattle.sc_footprint.specs.Problems as problem
 use Rattle.sc_solver.specs.Solutions.{rules_of}
 use Rattle.sc_solver.specs.Units.{IsSpent}
@@ -66,6 +66,12 @@ pub record IsUndecided (q : Asked) (env : Env) (units : ℕ) (log : List Step) :
   pub is_problem : IsProblem q env posed
   pub spent : IsSpent (rules_of posed) posed units log
 
+-- the environment's problem lists no more atoms than may be
+pub record HasRoom (q : Asked) (env : Env) : Type 0 where
+  pub posed : Posed
+  pub is_problem : IsProblem q env posed
+  pub few : length (atoms posed) ≤ most_atoms
+
 -- the environment's problem lists more atoms than may be
 pub record IsTooLarge (q : Asked) (env : Env) : Type 0 where
   pub goal : Tree
@@ -78,11 +84,11 @@ pub data Verdict : Type 0 where
   unknown : ℕ → List Step → Verdict
   over_limit : Verdict
 
--- what is claimed of an environment
+-- what is claimed of an environment: where its problem is too large that alone, and else what was found
 abbrev pub IsVerdict : Asked → Env → Verdict → Type 0
-IsVerdict q env holds = AlwaysHas q env
-IsVerdict q env (counterexample w) = Violates q env w
-IsVerdict q env (unknown units log) = (units ≡ q.budget) × IsUndecided q env units log
+IsVerdict q env holds = AlwaysHas q env × HasRoom q env
+IsVerdict q env (counterexample w) = Violates q env w × HasRoom q env
+IsVerdict q env (unknown units log) = (units ≡ q.budget) × IsUndecided q env units log × HasRoom q env
 IsVerdict q env over_limit = IsTooLarge q env
 
 pub record Line : Type 0 where
