@@ -10,8 +10,9 @@ ghost use Rattle.sc_solver_tests.specs.Samples.{view_names, view_type, meet_type
 use crate::documents::{context_type, documents, view_env};
 use crate::people::{meet_env, people};
 use sc_checker::{Log, Verdict, check};
-use sc_footprint::{Problem, close};
-use sc_lists::Text;
+use sc_clauses::{Assignment, Instance, Word};
+use sc_footprint::{Problem, Theory, close};
+use sc_lists::{Seq, Text};
 use sc_names::Lits;
 use sc_schema::{Env, Schema};
 use sc_solver::{Rules, Solved, solve};
@@ -247,4 +248,63 @@ pub(crate) fn verdict_on_false(alloc: Global, log: &Log) -> Result<Option<Verdic
     let env = view_env(alloc)?;
     let goal = constant(alloc, false)?;
     verdict_in(alloc, &schema, &env, goal, log)
+}
+
+/// The defining clause of number 1, as an instance.
+fn first_instance(alloc: Global) -> Result<Instance, AllocError> {
+    let rule = Text::from_str(alloc, "")?;
+    let mut words = Seq::new(alloc);
+    words.push(Word::Number(1))?;
+    Ok(Instance { rule, words })
+}
+
+/// Whether that is an instance of the rules, and its clause has one literal.
+fn have_first_clause(
+    alloc: Global,
+    problem: &Problem<'_>,
+    instance: &Instance,
+) -> Result<bool, AllocError> {
+    let rules = Rules::new();
+    if rules.accepts(alloc, problem, instance)? {
+        let clause = rules.clause(alloc, problem, instance)?;
+        return Ok(clause.len() == 1);
+    }
+    Ok(false)
+}
+
+/// Whether an assignment without values falsifies no instance of the rules.
+fn falsify_nothing(alloc: Global, problem: &Problem<'_>) -> Result<bool, AllocError> {
+    let rules = Rules::new();
+    let m = Assignment::from_values(Seq::new(alloc));
+    let found = rules.violated(alloc, problem, &m)?;
+    Ok(found.is_none())
+}
+
+fn rules_on(alloc: Global, problem: &Problem<'_>) -> Result<bool, AllocError> {
+    let instance = first_instance(alloc)?;
+    let have = have_first_clause(alloc, problem, &instance)?;
+    let nothing = falsify_nothing(alloc, problem)?;
+    Ok(have && nothing)
+}
+
+#[tactic(auto, using(crate::proofs::SampleLaws::none_declared))]
+fn rules_in(alloc: Global, schema: &Schema, env: &Env, goal: Goal) -> Result<bool, AllocError>
+    requires environment { Contains (environments schema.now) env.now }
+    requires within { goal.number < length goal.terms }
+    requires boolean { IsBoolean (context_of schema.now env.now.action) (tree goal.terms goal.number) }
+{
+    let literals = Lits::new(alloc);
+    match close(alloc, goal.terms, goal.number, schema, env, &literals) {
+        Ok(problem) => rules_on(alloc, &problem),
+        Err(_) => Ok(false),
+    }
+}
+
+/// Whether all rules have the first defining clause where the goal is `false`, and nothing is falsified without values.
+#[tactic(auto, using(crate::proofs::SampleLaws::view_environment, crate::proofs::SampleLaws::view_goal))]
+pub(crate) fn rules_on_false(alloc: Global) -> Result<bool, AllocError> {
+    let schema = documents(alloc)?;
+    let env = view_env(alloc)?;
+    let goal = constant(alloc, false)?;
+    rules_in(alloc, &schema, &env, goal)
 }

@@ -2,7 +2,7 @@
 
 use crate::names::uid;
 use crate::problems::{
-    Answer, constant, goal_a, goal_both_ways, goal_never, of_documents, of_people,
+    Answer, constant, goal_a, goal_both_ways, goal_never, of_documents, of_people, rules_on_false,
 };
 use sc_checker::Verdict;
 use sc_lists::Text;
@@ -179,5 +179,11 @@ fn finds_world_with_managers(alloc: Global) -> Result<bool, AllocError> {
 #[test]
 fn principal_and_resource_are_numbered_and_have_managers(rt: HostRuntime) -> Result<(), Fail> {
     assert!(rt; finds_world_with_managers(rt.alloc())?);
+    Ok(())
+}
+
+#[test]
+fn rules_have_the_clauses_that_define_a_problem(rt: HostRuntime) -> Result<(), Fail> {
+    assert!(rt; rules_on_false(rt.alloc())?);
     Ok(())
 }
