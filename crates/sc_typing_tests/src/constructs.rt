@@ -9,12 +9,12 @@ use std::test::Fail;
 
 /// `context.mfa`.
 fn admitted(alloc: Global) -> Result<Policy, AllocError> {
-    policy(alloc, mfa(alloc, 43)?)
+    policy(alloc, mfa(alloc, 43, 50)?)
 }
 
 /// `context.mfa == true`.
 fn equality(alloc: Global) -> Result<Policy, AllocError> {
-    let left = mfa(alloc, 43)?;
+    let left = mfa(alloc, 43, 50)?;
     policy(
         alloc,
         binary(alloc, 55, BinaryOperator::Equal, left, truth(58, true))?,
@@ -23,7 +23,7 @@ fn equality(alloc: Global) -> Result<Policy, AllocError> {
 
 /// `false && context.mfa == true`.
 fn skipped(alloc: Global) -> Result<Policy, AllocError> {
-    let left = mfa(alloc, 52)?;
+    let left = mfa(alloc, 52, 59)?;
     let equal = binary(alloc, 64, BinaryOperator::Equal, left, truth(67, true))?;
     policy(alloc, and(alloc, 49, truth(43, false), equal)?)
 }

@@ -70,10 +70,10 @@ pub(crate) fn and(alloc: Global, offset: u64, a: Expr, b: Expr) -> Result<Expr, 
     Ok(Expr::And(at(offset), a, Boxed::new(alloc, b)?))
 }
 
-/// `context.mfa`, with the place of `context`.
-pub(crate) fn mfa(alloc: Global, offset: u64) -> Result<Expr, AllocError> {
+/// `context.mfa`, with the places of `context` and of the dot.
+pub(crate) fn mfa(alloc: Global, offset: u64, dot: u64) -> Result<Expr, AllocError> {
     let context = variable(offset, Variable::Context);
-    access(alloc, offset + 7, context, "mfa")
+    access(alloc, dot, context, "mfa")
 }
 
 /// `Shop::Action::"buy" in [Action::"view", Team::"t"]`.

@@ -65,7 +65,7 @@ fn is_named(name: &Name, text: &str) -> bool {
 
 /// `if context.mfa then 1 else "a"`.
 fn one_or_a(alloc: Global) -> Result<Expr, AllocError> {
-    let condition = Boxed::new(alloc, mfa(alloc, 46)?)?;
+    let condition = Boxed::new(alloc, mfa(alloc, 46, 53)?)?;
     let first = Boxed::new(alloc, long(63, 1))?;
     let second = Boxed::new(alloc, text(alloc, 70, "a")?)?;
     Ok(Expr::If(at(43), condition, first, second))
@@ -85,17 +85,16 @@ fn action_in_actions(rt: HostRuntime) -> Result<(), Fail> {
     Ok(())
 }
 
-/// `1 + "a" < 2`.
-fn sum_with_text(alloc: Global, offset: u64) -> Result<Expr, AllocError> {
-    let a = text(alloc, offset + 4, "a")?;
-    let sum = binary(alloc, offset + 2, BinaryOperator::Add, long(offset, 1), a)?;
-    let two = long(offset + 10, 2);
-    binary(alloc, offset + 8, BinaryOperator::Less, sum, two)
+/// `1 + "a" < 2`, at 49.
+fn sum_with_text(alloc: Global) -> Result<Expr, AllocError> {
+    let a = text(alloc, 53, "a")?;
+    let sum = binary(alloc, 51, BinaryOperator::Add, long(49, 1), a)?;
+    binary(alloc, 57, BinaryOperator::Less, sum, long(59, 2))
 }
 
 /// `1 && (1 + "a" < 2)`.
 fn one_and_sum(alloc: Global) -> Result<Expr, AllocError> {
-    and(alloc, 45, long(43, 1), sum_with_text(alloc, 49)?)
+    and(alloc, 45, long(43, 1), sum_with_text(alloc)?)
 }
 
 #[test]
@@ -105,23 +104,23 @@ fn operands_before_kinds(rt: HostRuntime) -> Result<(), Fail> {
     Ok(())
 }
 
-/// `principal has nick`.
-fn has_nick(alloc: Global, offset: u64) -> Result<Expr, AllocError> {
-    let principal = variable(offset, Variable::Principal);
-    has(alloc, offset + 10, principal, "nick")
+/// `principal has nick`, at 43.
+fn has_nick(alloc: Global) -> Result<Expr, AllocError> {
+    let principal = variable(43, Variable::Principal);
+    has(alloc, 53, principal, "nick")
 }
 
-/// `principal.nick == "x"`.
-fn nick_is_x(alloc: Global, offset: u64) -> Result<Expr, AllocError> {
-    let principal = variable(offset, Variable::Principal);
-    let nick = access(alloc, offset + 9, principal, "nick")?;
-    let x = text(alloc, offset + 18, "x")?;
-    binary(alloc, offset + 15, BinaryOperator::Equal, nick, x)
+/// `principal.nick == "x"`, at 65.
+fn nick_is_x(alloc: Global) -> Result<Expr, AllocError> {
+    let principal = variable(65, Variable::Principal);
+    let nick = access(alloc, 74, principal, "nick")?;
+    let x = text(alloc, 83, "x")?;
+    binary(alloc, 80, BinaryOperator::Equal, nick, x)
 }
 
 /// `principal has nick && principal.nick == "x"`.
 fn has_and_is_x(alloc: Global) -> Result<Expr, AllocError> {
-    and(alloc, 62, has_nick(alloc, 43)?, nick_is_x(alloc, 65)?)
+    and(alloc, 62, has_nick(alloc)?, nick_is_x(alloc)?)
 }
 
 #[test]

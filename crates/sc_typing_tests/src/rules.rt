@@ -1,6 +1,6 @@
 //! Rules of typing, of operands with their types.
-use crate::expressions::{at, long, variable};
-use sc_ast::{Literal, Variable};
+use crate::expressions::{at, long};
+use sc_ast::Literal;
 use sc_lists::{Fault, Seq, Text};
 use sc_schema::Ty;
 use sc_typed::kinds::{is_false, is_long, is_record, is_true, member};
@@ -8,7 +8,7 @@ use sc_typed::operands::copy_of_ty;
 use sc_typed::{TypeFault, Typed};
 use sc_typing_rules::collections::{record_of, set_of};
 use sc_typing_rules::leaves::literal;
-use sc_typing_rules::logic::{conjunction, disjunction, first_branch, or_true};
+use sc_typing_rules::logic::{conjunction, disjunction, or_true};
 use std::alloc::{AllocError, Global};
 use std::test::Fail;
 
@@ -22,20 +22,6 @@ fn truth(alloc: Global, value: bool) -> Result<Typed, AllocError> {
 
 fn type_of(alloc: Global, typed: &Typed) -> Result<Ty, AllocError> {
     copy_of_ty(alloc, typed.expr.get())
-}
-
-/// The type of `if true then 1 else principal`.
-fn type_of_first(alloc: Global) -> Result<Ty, AllocError> {
-    let other = variable(0, Variable::Principal);
-    let typed = first_branch(alloc, at(0), truth(alloc, true)?, one(alloc)?, &other)?;
-    type_of(alloc, &typed)
-}
-
-#[test]
-fn first_branch_alone(rt: HostRuntime) -> Result<(), Fail> {
-    let ty = type_of_first(rt.alloc())?;
-    assert!(rt; is_long(&ty));
-    Ok(())
 }
 
 /// The type of `false || true`.
