@@ -4,17 +4,12 @@ use Rattle.std.proofs.Math.Path.{fun_ext}
 use Rattle.std.specs.List.{list_all}
 use Rattle.std.proofs.lemmas.List.{take_more, take-append-drop}
 use Rattle.std.proofs.lemmas.List.Folds.{list_all-append}
-use Rattle.std.proofs.lemmas.Bool.{eq-eqb, eqb-true, and_parts, and_from, and_left, and_right, not-true, true≢false}
+use Rattle.std.proofs.lemmas.Bool.{and_parts, and_from, and_left, and_right, not-true, true≢false}
 use Rattle.sc_clauses.specs.declared.lit.Lit.{Lit}
 use Rattle.sc_clauses.specs.Clauses.{Clause, bool_eq, lit_eq, negation, is_in}
+use Rattle.sc_clauses.proofs.LitLaws.{lit_eq-true, lit_eq-itself, negation_twice}
 use Rattle.sc_checker.specs.declared.refuting.Residual.TheVariants.{Unit, Open}
 use Rattle.sc_checker.specs.Refutations.{LitSet, negated, with_lit, open_lits, residual, residual_at, clause_at, is_listed, is_clause, are_listed}
-
-pub negation_negation : (l : Lit) → negation (negation l) ≡ l
-negation_negation l = same l.negated l.atom where
-  same : (b : Bool) (n : ℕ) → negation (negation (record { atom = n; negated = b })) ≡ record { atom = n; negated = b }
-  same true n = refl
-  same false n = refl
 
 -- ---- what is left of a clause
 
@@ -100,19 +95,6 @@ or_right : (a b : Bool) → b ≡ true → a || b ≡ true
 or_right true b e = refl
 or_right false b e = e
 
-bool_eq-true : (a b : Bool) → bool_eq a b ≡ true → a ≡ b
-bool_eq-true true true e = refl
-bool_eq-true true false e = absurd (true≢false (sym e))
-bool_eq-true false true e = absurd (true≢false (sym e))
-bool_eq-true false false e = refl
-
-pub lit_eq-true : (a b : Lit) → lit_eq a b ≡ true → a ≡ b
-lit_eq-true a b e =
-    let parts = and_parts (a.atom == b.atom) (bool_eq a.negated b.negated) e in
-    let atom : a.atom ≡ b.atom = eqb-true a.atom b.atom parts.0 in
-    let negated : a.negated ≡ b.negated = bool_eq-true a.negated b.negated parts.1 in
-    λ i. record { atom = atom i; negated = negated i }
-
 -- ---- literals of listed atoms, none with its negation
 
 or_left : (a b : Bool) → a ≡ true → a || b ≡ true
@@ -139,7 +121,7 @@ not_in : (a : Clause) (l m : Lit) → is_in a (negation l) ≡ false → is_in a
 not_in a l m e h = by (lit_eq (negation m) l) refl where
   by : (b : Bool) → lit_eq (negation m) l ≡ b → b ≡ false
   by true is =
-      let same : m ≡ negation l = sym (negation_negation m) ∙ ap negation (lit_eq-true (negation m) l is) in
+      let same : m ≡ negation l = sym (negation_twice m) ∙ ap negation (lit_eq-true (negation m) l is) in
       absurd (true≢false (sym (subst (λ (x : Lit). is_in a x ≡ true) same h) ∙ e))
   by false is = refl
 
@@ -149,19 +131,13 @@ fit_more n a l m e h fit =
     ap (λ b. is_listed n m && not b) (is_in-append a (l ∷ []) (negation m) ∙ ap (λ b. is_in a (negation m) || (b || false)) (not_in a l m e h) ∙ or_false (is_in a (negation m)))
     ∙ fit
 
-eq_self : (l : Lit) → lit_eq l l ≡ true
-eq_self l = and_from _ _ (eq-eqb l.atom l.atom refl) (by l.negated) where
-  by : (b : Bool) → bool_eq b b ≡ true
-  by true = refl
-  by false = refl
-
 -- each literal of b, a part of a, still fits
 fits_more : (n : ℕ) (a b : Clause) (l : Lit) → ((m : Lit) → is_in b m ≡ true → is_in a m ≡ true) → is_in a (negation l) ≡ false
     → list_all (λ m. is_listed n m && not (is_in a (negation m))) b ≡ true → list_all (λ m. is_listed n m && not (is_in (a ++ l ∷ []) (negation m))) b ≡ true
 fits_more n a [] l part e fit = refl
 fits_more n a (m ∷ b) l part e fit =
     let parts = and_parts (is_listed n m && not (is_in a (negation m))) (list_all (λ m. is_listed n m && not (is_in a (negation m))) b) fit in
-    and_from _ _ (fit_more n a l m e (part m (or_left _ _ (eq_self m))) parts.0)
+    and_from _ _ (fit_more n a l m e (part m (or_left _ _ (lit_eq-itself m))) parts.0)
     (fits_more n a b l (λ k h. part k (or_right (lit_eq k m) (is_in b k) h)) e parts.1)
 
 negation_differs : (l : Lit) → lit_eq (negation l) l ≡ false

@@ -13,7 +13,7 @@ use Rattle.sc_clauses.specs.declared.step.Step.TheVariants.{Instance, Learned}
 use Rattle.sc_checker.specs.declared.checking.Reason.TheVariants.{NoInstance, NotRefuted}
 use Rattle.sc_checker.specs.Refutations.{LitSet, negated, with_lit, open_lits, residual, residual_at, clause_at, is_nil, goes_on, refutes, is_clause}
 use Rattle.sc_checker.specs.Verdicts.{Rules, added, Adds, no_step, first_step}
-use Rattle.sc_checker.proofs.RefutationLaws.{lit_eq-true}
+use Rattle.sc_clauses.proofs.LitLaws.{lit_eq-true, holds_negation}
 
 abbrev pub AllHold : (ℕ → Bool) → List Clause → Type 0
 AllHold v cs = AllByRecursion (λ c. clause_holds v c ≡ true) cs
@@ -22,20 +22,11 @@ AllHold v cs = AllByRecursion (λ c. clause_holds v c ≡ true) cs
 abbrev AllTrue : (ℕ → Bool) → LitSet → Type 0
 AllTrue v known = (l : Lit) → known l ≡ true → holds v l ≡ true
 
-not-not : (a b : Bool) → bool_eq a (not (not b)) ≡ not (bool_eq a (not b))
-not-not true true = refl
-not-not true false = refl
-not-not false true = refl
-not-not false false = refl
-
-holds-negation : (v : ℕ → Bool) (l : Lit) → holds v (negation l) ≡ not (holds v l)
-holds-negation v l = not-not (v l.atom) l.negated
-
 -- ---- what is left of a true clause
 
 open_at : (v : ℕ → Bool) (known : LitSet) (l : Lit) (ls : Clause) (is_false truth : Bool) → AllTrue v known → known (negation l) ≡ is_false → holds v l ≡ truth → truth || clause_holds v ls ≡ true
     → (clause_holds v ls ≡ true → clause_holds v (open_lits known ls) ≡ true) → clause_holds v (cond (not is_false) (l ∷ open_lits known ls) (open_lits known ls)) ≡ true
-open_at v known l ls true true t k h e later = absurd (true≢false (sym (t (negation l) k) ∙ holds-negation v l ∙ ap not h))
+open_at v known l ls true true t k h e later = absurd (true≢false (sym (t (negation l) k) ∙ holds_negation v l ∙ ap not h))
 open_at v known l ls true false t k h e later = later e
 open_at v known l ls false true t k h e later = ap (λ b. b || clause_holds v (open_lits known ls)) h
 open_at v known l ls false false t k h e later = ap (λ b. b || clause_holds v (open_lits known ls)) h ∙ later e
@@ -88,7 +79,7 @@ or_right-false true b e = absurd (true≢false e)
 or_right-false false b e = e
 
 false-negation : (v : ℕ → Bool) (l m : Lit) → lit_eq (negation l) m ≡ true → holds v m ≡ false → holds v l ≡ true
-false-negation v l m s e = not-false (holds v l) (sym (holds-negation v l) ∙ ap (holds v) (lit_eq-true (negation l) m s) ∙ e)
+false-negation v l m s e = not-false (holds v l) (sym (holds_negation v l) ∙ ap (holds v) (lit_eq-true (negation l) m s) ∙ e)
 
 goes_on-sound : (v : ℕ → Bool) (r : Residual) (is_last : Bool) (rest : Lit → Bool) → Sound v r → goes_on r is_last rest ≡ true → ((l : Lit) → holds v l ≡ true → rest l ≡ true → ⊥) → ⊥
 goes_on-sound v Conflict is_last rest s e f = s

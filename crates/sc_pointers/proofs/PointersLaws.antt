@@ -19,7 +19,8 @@ escaped_key-high (b ∷ bs) h =
     let high : 128 ≤ b = h 0 (omega arith) in
     rw (escaped-plain b (omega arith) (omega arith), escaped_key-high bs (λ k within. h (suc k) (omega arith))) refl
 
-high_byte : (c k : ℕ) → 128 ≤ c → k < length (encode_utf8 c) → 128 ≤ get_or (encode_utf8 c) k 0
+-- each byte of a character that is no single byte is high
+pub high_byte : (c k : ℕ) → 128 ≤ c → k < length (encode_utf8 c) → 128 ≤ get_or (encode_utf8 c) k 0
 high_byte c k high within = elim (cases_lt (get_or (encode_utf8 c) k 0) 128) [
   | inl less ↦ absurd (let same : c ≡ get_or (encode_utf8 c) k 0 = inside_one c [] (encode_utf8 c) k (sym (append-nil (encode_utf8 c))) within less in omega arith)
   | inr above ↦ above

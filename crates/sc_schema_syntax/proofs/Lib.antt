@@ -2,7 +2,6 @@ pub mod DepthLaws
 pub mod EveryWrittenLaws
 mod Examples
 pub mod FaultsLaws
-pub mod PointersLaws
 mod StringsLaws
 pub mod SyntaxLaws
 mod TokensLaws

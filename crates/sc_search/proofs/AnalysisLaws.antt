@@ -15,7 +15,8 @@ use Rattle.sc_search.specs.Steps.{At, IsNumbered, IsNumber, Refutes, conflict, o
 use Rattle.sc_search.specs.Trails.{true_before, set_before, cell_of, HasPlace, set_at, IsReason, Agree, IsTrail, AreQuiet}
 use Rattle.sc_search.specs.declared.cell.Cell.{Cell}
 use Rattle.sc_search.specs.declared.cell.Cell.TheVariants.{Free, Decided, Implied}
-use Rattle.sc_search.proofs.LitLaws.{neg-neg, lit-of, nat-cases, lit-cases, below-or, bool-false, and-left, bool_eq-same, head-has, tail-has, cons-cases, none-in}
+use Rattle.sc_clauses.proofs.LitLaws.{negation_twice, bool_eq-true}
+use Rattle.sc_search.proofs.LitLaws.{lit-of, nat-cases, lit-cases, below-or, bool-false, and-left, head-has, tail-has, cons-cases, none-in}
 
 -- a literal that is true before place i + 1 is the one at i, or is true before i
 before-cases : (cells : List Cell) (trail : List Lit) → Agree cells trail → (i : ℕ) (l m : Lit) → At trail i l → true_before cells (i + 1) m ≡ true → (l ≡ m) ⊎ (true_before cells i m ≡ true)
@@ -92,8 +93,8 @@ refutes-resolve cs cells trail p i r met after hints l agree at lt why grow is_m
 
 one-sign : (c : Cell) (p q : ℕ) (s t : Bool) → set_before c p s ≡ true → set_before c q t ≡ true → s ≡ t
 one-sign Free p q s t e f = absurd cc
-one-sign (Decided n k) p q s t e f = sym (bool_eq-same n s (and-left _ _ e)) ∙ bool_eq-same n t (and-left _ _ f)
-one-sign (Implied n k r) p q s t e f = sym (bool_eq-same n s (and-left _ _ e)) ∙ bool_eq-same n t (and-left _ _ f)
+one-sign (Decided n k) p q s t e f = sym (bool_eq-true n s (and-left _ _ e)) ∙ bool_eq-true n t (and-left _ _ f)
+one-sign (Implied n k r) p q s t e f = sym (bool_eq-true n s (and-left _ _ e)) ∙ bool_eq-true n t (and-left _ _ f)
 
 pub same-lit : (cells : List Cell) (p q : ℕ) (a b : Lit) → true_before cells p a ≡ true → true_before cells q b ≡ true → a.atom ≡ b.atom → a ≡ b
 same-lit cells p q a b ba bb e =
@@ -119,7 +120,7 @@ module _ (n : ℕ) (cells : List Cell) (p first : ℕ) (met : List Bool) (lower 
         ⊎_elim
         (λ (e : w.atom ≡ m.atom).
         let s : w ≡ negation m = same-lit cells first first w (negation m) bw b e in
-        subst (λ (x : Lit). Contains (lower ++ m ∷ []) x) (sym (ap negation s ∙ neg-neg m)) (Contains-push lower m))
+        subst (λ (x : Lit). Contains (lower ++ m ∷ []) x) (sym (ap negation s ∙ negation_twice m)) (Contains-push lower m))
         (λ (ne : w.atom ≢ m.atom). Contains-append_left lower (m ∷ []) (negation w) (h.covers w bw (met-set met m w ne mw)))
         (nat-cases w.atom m.atom);
     are_lower = λ w has. ⊎_elim (λ (old : Contains lower w). h.are_lower w old) (λ (e : m ≡ w). subst (λ (x : Lit). true_before cells first (negation x) ≡ true) e b) (Contains-push_cases lower m w has);
@@ -201,7 +202,7 @@ get_or_map_at c k x lt = get_or-map negation c k x
 
 twice : (c : List Lit) → map negation (map negation c) ≡ c
 twice [] = refl
-twice (x ∷ xs) = cc (neg-neg x, twice xs)
+twice (x ∷ xs) = cc (negation_twice x, twice xs)
 
 -- what isn't true later wasn't true earlier
 pub not-lower : (cells : List Cell) (first p : ℕ) (m : Lit) → true_before cells p m ≡ false → first ≤ p → true_before cells first m ≡ false
@@ -230,11 +231,11 @@ module _ (cs : List Clause) (cells : List Cell) (trail : List Lit) (agree : Agre
       let C = lower ++ negation uip ∷ [] in
       let in_range : i < length trail = at.0 in
       let low = λ (m : Lit) (b : true_before cells first m ≡ true) (is_met : IsMet met m).
-      subst (λ (w : Lit). Contains (map negation C) w) (neg-neg m) (has-neg C (negation m) (Contains-append_left lower (negation uip ∷ []) (negation m) (collected.covers m b is_met))) in
+      subst (λ (w : Lit). Contains (map negation C) w) (negation_twice m) (has-neg C (negation m) (Contains-append_left lower (negation uip ∷ []) (negation m) (collected.covers m b is_met))) in
       h (map negation C)
       (λ m b is_met.
       ⊎_elim
-      (λ (e : uip ≡ m). subst (λ (w : Lit). Contains (map negation C) w) (neg-neg uip ∙ e) (has-neg C (negation uip) (Contains-push lower (negation uip))))
+      (λ (e : uip ≡ m). subst (λ (w : Lit). Contains (map negation C) w) (negation_twice uip ∙ e) (has-neg C (negation uip) (Contains-push lower (negation uip))))
       (λ (b' : true_before cells i m ≡ true).
       let w = before-at cells m i b' in
       ⊎_elim
@@ -247,8 +248,8 @@ module _ (cs : List Clause) (cells : List Cell) (trail : List Lit) (agree : Agre
       (λ m has.
       ⊎_elim
       (λ (old : Contains lower (negation m)).
-      before-more cells first (length trail) m (omega arith) (subst (λ (w : Lit). true_before cells first w ≡ true) (neg-neg m) (collected.are_lower (negation m) old)))
-      (λ (e : negation uip ≡ negation m). subst (λ (w : Lit). true_before cells (length trail) w ≡ true) (sym (neg-neg uip) ∙ ap negation e ∙ neg-neg m) uip-true)
+      before-more cells first (length trail) m (omega arith) (subst (λ (w : Lit). true_before cells first w ≡ true) (negation_twice m) (collected.are_lower (negation m) old)))
+      (λ (e : negation uip ≡ negation m). subst (λ (w : Lit). true_before cells (length trail) w ≡ true) (sym (negation_twice uip) ∙ ap negation e ∙ negation_twice m) uip-true)
       (Contains-push_cases lower (negation uip) (negation m) (from-neg C m has)))
 
   pub learned-new : AreQuiet (true_before cells first) cs → IsNew cs (lower ++ negation uip ∷ [])

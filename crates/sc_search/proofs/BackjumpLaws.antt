@@ -18,7 +18,8 @@ use Rattle.sc_search.specs.Steps.{IsClause, IsShown, Refutes}
 use Rattle.sc_search.specs.Trails.{InCells, AreInCells, AllInCells, true_before, cell_of, HasPlace, set_at, IsReason, Agree, IsTrail, IsQuiet, AreInCells, AllInCells}
 use Rattle.sc_search.specs.declared.cell.Cell.{Cell}
 use Rattle.sc_search.specs.declared.cell.Cell.TheVariants.{Free, Decided, Implied}
-use Rattle.sc_search.proofs.LitLaws.{neg-neg, below-or, bool-cases, head-has, tail-has, none-in}
+use Rattle.sc_clauses.proofs.LitLaws.{negation_twice}
+use Rattle.sc_search.proofs.LitLaws.{below-or, bool-cases, head-has, tail-has, none-in}
 
 -- all were false before a place, or one wasn't
 pub find-open : (cells : List Cell) (p : ℕ) (c : List Lit) → AreBefore cells p c ⊎ ((m : Lit) × (Contains c m) × (true_before cells p (negation m) ≡ false))
@@ -96,7 +97,7 @@ module _ (n : ℕ) (cs : List Clause) (cells : List Cell) (trail : List Lit) (le
   learned-false m has =
       ⊎_elim
       (λ (old : Contains lower m). before-more cells first (length trail) (negation m) first-in (learned.are_lower m old))
-      (λ (e : negation uip ≡ m). subst (λ (w : Lit). true_before cells (length trail) w ≡ true) (sym (neg-neg uip) ∙ ap negation e) learned.uip_true)
+      (λ (e : negation uip ≡ m). subst (λ (w : Lit). true_before cells (length trail) w ≡ true) (sym (negation_twice uip) ∙ ap negation e) learned.uip_true)
       (Contains-push_cases lower (negation uip) m has)
 
   pub learned-in-cells : AllInCells (length cells) (lower ++ negation uip ∷ [])
@@ -160,9 +161,9 @@ module _ (n : ℕ) (cs : List Clause) (cells : List Cell) (trail : List Lit) (le
         (λ (every : AreBefore cells (get_or levels (j - 1) 0) lower). absurd (least (omega arith) every))
         (λ (w : (m : Lit) × (Contains lower m) × (true_before cells (get_or levels (j - 1) 0) (negation m) ≡ false)).
         let m : Lit = w.0 in
-        let apart : m ≢ negation uip = λ e. true≢false (sym (learned.are_lower m w.1) ∙ subst (λ (x : Lit). true_before cells first x ≡ false) (sym (neg-neg uip) ∙ ap negation (sym e)) learned.uip_here) in
+        let apart : m ≢ negation uip = λ e. true≢false (sym (learned.are_lower m w.1) ∙ subst (λ (x : Lit). true_before cells first x ≡ false) (sym (negation_twice uip) ∙ ap negation (sym e)) learned.uip_here) in
         let fm : true_before cells1 q (negation m) ≡ false = back q (negation m) qj ∙ not-lower cells q (get_or levels (j - 1) 0) (negation m) w.2 ql in
-        let fu : true_before cells1 q (negation (negation uip)) ≡ false = back q (negation (negation uip)) qj ∙ subst (λ (x : Lit). true_before cells q x ≡ false) (sym (neg-neg uip)) (early-uip q qf) in
+        let fu : true_before cells1 q (negation (negation uip)) ≡ false = back q (negation (negation uip)) qj ∙ subst (λ (x : Lit). true_before cells q x ≡ false) (sym (negation_twice uip)) (early-uip q qf) in
         subst (λ (r : ℕ). IsQuiet (true_before cells1 r) C) (sym same)
         (subst (λ (c : List Lit). IsQuiet (true_before cells1 q) c) (sym is)
         (inr (m, negation uip, Contains-append_left lower (negation uip ∷ []) m w.1, Contains-push lower (negation uip), apart, fm, fu))))

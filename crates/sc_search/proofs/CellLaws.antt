@@ -8,7 +8,8 @@ use Rattle.sc_clauses.specs.declared.lit.Lit.{Lit}
 use Rattle.sc_search.specs.Trails.{set_before, cell_of, true_before, set_at, HasPlace, IsSingle}
 use Rattle.sc_search.specs.declared.cell.Cell.{Cell}
 use Rattle.sc_search.specs.declared.cell.Cell.TheVariants.{Free, Decided, Implied}
-use Rattle.sc_search.proofs.LitLaws.{nat-cases, bool-false, and-left, and-right, both, bool_eq-same, bool_eq-refl}
+use Rattle.sc_clauses.proofs.LitLaws.{bool_eq-true, bool_eq-itself}
+use Rattle.sc_search.proofs.LitLaws.{nat-cases, bool-false, and-left, and-right, both}
 
 -- a cell with one sign hasn't the other
 sign-other : (n s : Bool) (q p : ℕ) → bool_eq n s && ltb q p ≡ true → bool_eq n (not s) && ltb q p ≡ false
@@ -39,16 +40,16 @@ before-more cells p p' l h e = cell-more (cell_of cells l) p p' l.negated h e
 -- a literal whose place is before p is true before p
 cell-at-before : (c : Cell) (s : Bool) (i p : ℕ) → set_at c s i → i < p → set_before c p s ≡ true
 cell-at-before Free s i p a h = absurd a
-cell-at-before (Decided n q) s i p (e, f) h = both _ _ (subst (λ (x : Bool). bool_eq n x ≡ true) e (bool_eq-refl n)) ((Decides-ltb q p).1 (omega arith))
-cell-at-before (Implied n q r) s i p (e, f) h = both _ _ (subst (λ (x : Bool). bool_eq n x ≡ true) e (bool_eq-refl n)) ((Decides-ltb q p).1 (omega arith))
+cell-at-before (Decided n q) s i p (e, f) h = both _ _ (subst (λ (x : Bool). bool_eq n x ≡ true) e (bool_eq-itself n)) ((Decides-ltb q p).1 (omega arith))
+cell-at-before (Implied n q r) s i p (e, f) h = both _ _ (subst (λ (x : Bool). bool_eq n x ≡ true) e (bool_eq-itself n)) ((Decides-ltb q p).1 (omega arith))
 
 pub at-before : (cells : List Cell) (l : Lit) (i p : ℕ) → HasPlace cells l i → i < p → true_before cells p l ≡ true
 at-before cells l i p a h = cell-at-before (cell_of cells l) l.negated i p a h
 
 cell-before-at : (c : Cell) (s : Bool) (p : ℕ) → set_before c p s ≡ true → (i : ℕ) × (i < p) × set_at c s i
 cell-before-at Free s p e = absurd cc
-cell-before-at (Decided n q) s p e = (q, (Decides-ltb q p).0 (and-right (bool_eq n s) _ e), (bool_eq-same n s (and-left _ _ e), refl))
-cell-before-at (Implied n q r) s p e = (q, (Decides-ltb q p).0 (and-right (bool_eq n s) _ e), (bool_eq-same n s (and-left _ _ e), refl))
+cell-before-at (Decided n q) s p e = (q, (Decides-ltb q p).0 (and-right (bool_eq n s) _ e), (bool_eq-true n s (and-left _ _ e), refl))
+cell-before-at (Implied n q r) s p e = (q, (Decides-ltb q p).0 (and-right (bool_eq n s) _ e), (bool_eq-true n s (and-left _ _ e), refl))
 
 pub before-at : (cells : List Cell) (l : Lit) (p : ℕ) → true_before cells p l ≡ true → (i : ℕ) × (i < p) × HasPlace cells l i
 before-at cells l p e = cell-before-at (cell_of cells l) l.negated p e

@@ -2,15 +2,9 @@
 use Rattle.std.proofs.Common.{◌≡◌, ◌≢◌, ◌⊎◌, inl, inr, ⊎_elim, ℕ, zero, suc, ◌<◌, ◌≤◌, List, [], ◌∷◌, Bool, true, false, not, ◌&&◌, ◌||◌, eqb, ltb, length, refl, sym, ap, ◌∙◌, subst, true≢false, arith}
 use Rattle.std.specs.List.{Contains}
 use Rattle.std.proofs.lemmas.Bool.Decides.{Decides-eqb, Decides-ltb, nat_tests}
-use Rattle.sc_clauses.specs.Clauses.{Clause, bool_eq, lit_eq, negation, is_in, contained}
+use Rattle.sc_clauses.specs.Clauses.{Clause, lit_eq, is_in, contained}
 use Rattle.sc_clauses.specs.declared.lit.Lit.{Lit}
-
-not-not : (b : Bool) → not (not b) ≡ b
-not-not true = refl
-not-not false = refl
-
-pub neg-neg : (l : Lit) → negation (negation l) ≡ l
-neg-neg l = let f : Bool → Lit = λ b. record { atom = l.atom; negated = b } in ap f (not-not l.negated)
+use Rattle.sc_clauses.proofs.LitLaws.{lit_eq-true}
 
 pub lit-of : (n m : Bool) (a b : ℕ) → n ≡ m → a ≡ b → let x : Lit = record { atom = a; negated = n } in let y : Lit = record { atom = b; negated = m } in x ≡ y
 lit-of n m a b e f = cc
@@ -65,15 +59,6 @@ or-cases : (a b : Bool) → a || b ≡ true → (a ≡ true) ⊎ (b ≡ true)
 or-cases true b e = inl refl
 or-cases false b e = inr e
 
-pub bool_eq-same : (a b : Bool) → bool_eq a b ≡ true → a ≡ b
-bool_eq-same true b e = sym e
-bool_eq-same false true e = absurd cc
-bool_eq-same false false e = refl
-
-pub bool_eq-refl : (b : Bool) → bool_eq b b ≡ true
-bool_eq-refl true = refl
-bool_eq-refl false = refl
-
 -- ---- what is in a list
 
 pub head-has : {X : Type 0} (x : X) (xs : List X) → Contains (x ∷ xs) x
@@ -93,15 +78,12 @@ pub nil-of : {X : Type 0} (xs : List X) → length xs ≡ 0 → xs ≡ []
 nil-of [] e = refl
 nil-of (x ∷ xs) e = absurd (omega arith)
 
-eq-lit : (a b : Lit) → lit_eq a b ≡ true → a ≡ b
-eq-lit a b e = lit-of _ _ _ _ (bool_eq-same a.negated b.negated (and-right (eqb a.atom b.atom) _ e)) ((Decides-eqb a.atom b.atom).0 (and-left _ _ e))
-
 -- a literal that the test finds in a list is there
 found : (xs : List Lit) (m : Lit) → is_in xs m ≡ true → Contains xs m
 found [] m e = absurd cc
 found (x ∷ xs) m e =
     ⊎_elim
-    (λ (t : lit_eq m x ≡ true). subst (λ (w : Lit). Contains (x ∷ xs) w) (sym (eq-lit m x t)) (head-has x xs))
+    (λ (t : lit_eq m x ≡ true). subst (λ (w : Lit). Contains (x ∷ xs) w) (sym (lit_eq-true m x t)) (head-has x xs))
     (λ (t : is_in xs m ≡ true). tail-has x m xs (found xs m t))
     (or-cases (lit_eq m x) (is_in xs m) e)
 

@@ -23,7 +23,8 @@ use Rattle.sc_search.specs.declared.solver.Turn.{Turn}
 use Rattle.sc_search.specs.declared.solver.Turn.TheVariants as turn
 use Rattle.sc_search.proofs.BackjumpLaws.{in-cells-of-false, clause-of-false}
 use Rattle.sc_search.proofs.CellLaws.{consistent}
-use Rattle.sc_search.proofs.LitLaws.{bool-false, bool_eq-same, cons-cases, none-in, nil-of, neg-neg, and-left, and-right}
+use Rattle.sc_clauses.proofs.LitLaws.{bool_eq-true, negation_twice}
+use Rattle.sc_search.proofs.LitLaws.{bool-false, cons-cases, none-in, nil-of, and-left, and-right}
 use Rattle.sc_search.proofs.NewnessLaws.{new-by, ok-conflict, uncovered}
 use Rattle.sc_search.proofs.ReadingLaws.{at-end}
 
@@ -62,8 +63,8 @@ flip false s e = ap not e
 
 false-at : (c : Cell) (negated : Bool) → is_false_at (cell_value c) negated ≡ true → (i : ℕ) × set_at c (not negated) i
 false-at Free negated e = absurd (true≢false (sym e))
-false-at (Decided n q) negated e = (q, (flip n negated (bool_eq-same _ _ e), refl))
-false-at (Implied n q r) negated e = (q, (flip n negated (bool_eq-same _ _ e), refl))
+false-at (Decided n q) negated e = (q, (flip n negated (bool_eq-true _ _ e), refl))
+false-at (Implied n q r) negated e = (q, (flip n negated (bool_eq-true _ _ e), refl))
 
 is-false-by : (cells : List Cell) (a : ℕ) (negated : Bool) → is_false_at (value_of (map cell_value (drop 1 cells)) a) negated ≡ true → is_false_at (cell_value (get_or cells a Free)) negated ≡ true
 is-false-by cells zero negated e = absurd (true≢false (sym e))
@@ -127,7 +128,7 @@ module _ (accepts : instance.Instance → Bool) (clause_of : instance.Instance �
       let has : Contains (l ∷ C) l = (0, omega arith, refl) in (
         l,
         new-by T (consistent cells p) s.clauses.items total.quiet (l ∷ C) l (λ m h ne. all m h) has
-            (subst (λ (w : Lit). T w ≡ false) (neg-neg l) (consistent cells p (negation l) (all l has))),
+            (subst (λ (w : Lit). T w ≡ false) (negation_twice l) (consistent cells p (negation l) (all l has))),
       )
 
   module _ (atoms : ℕ) (s : Solver) (ready : IsReady (atoms + 1) s) (total : IsTotal s) (i : instance.Instance) (accepted : accepts i ≡ true)

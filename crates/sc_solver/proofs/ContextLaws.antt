@@ -34,7 +34,7 @@ use Rattle.sc_footprint.specs.Problems.{Posed, atom_number}
 use Rattle.sc_solver.specs.Rebuilding.{truth_at, assigned}
 use Rattle.sc_solver.specs.Contexts.{IsContext}
 use Rattle.sc_solver.proofs.ListLaws.{Has, of_any, of_all, all_at, has_map, map_has, and_right}
-use Rattle.sc_solver.proofs.LitLaws.{both}
+use Rattle.std.proofs.lemmas.Bool.{and_from}
 use Rattle.sc_solver.proofs.KindLaws.{are_plain, bool_type}
 use Rattle.sc_solver.proofs.ValueLaws.{field_told}
 
@@ -68,7 +68,7 @@ module _ (g : List ℕ → Bool) (fields : List Field) (each : list_all is_bool_
   told_conforms : conforms (ty.Record fields) (value.Record (told g fields)) ≡ true
   told_conforms =
       conforms_Record fields (told g fields)
-      ∙ both _ _
+      ∙ and_from _ _
       (of_all (λ (a : Told). passes a.1 a.2 (field a.0 (told g fields))) (shape_of fields) passes_told)
       (of_all (λ (x : List ℕ × Value). list_any (λ (a : Told). bytes_eq x.0 a.0) (shape_of fields)) (told g fields) declared_told)
 

@@ -15,7 +15,9 @@ use Rattle.sc_checker.specs.Refutations.{LitSet, negated, with_lit, open_lits, r
 use Rattle.sc_checker.specs.Verdicts.{Rules, added}
 use Rattle.sc_checker.specs.Writable.{is_lit, is_hint, are_hints, is_writable}
 use Rattle.sc_solver.proofs.ListLaws.{Has, here, there, has_of, contains_of, of_all, has_filter, filter_has, map_has}
-use Rattle.sc_solver.proofs.LitLaws.{both, same_lit, lit_itself, is_in_of, of_is_in, clash, negated_holds, some_holds, all_false}
+use Rattle.std.proofs.lemmas.Bool.{and_from}
+use Rattle.sc_clauses.proofs.LitLaws.{lit_eq-true, lit_eq-itself}
+use Rattle.sc_solver.proofs.LitLaws.{is_in_of, of_is_in, clash, negated_holds, some_holds, all_false}
 
 -- ---- clauses
 
@@ -30,7 +32,7 @@ pub is_clause_of : (count : ℕ) (c : Clause) → IsClause count c → is_clause
 is_clause_of count c h =
     of_all (λ l. is_listed count l && not (is_in c (negation l))) c
     (λ l k. let (of, alone) = h l (contains_of c l k) in
-    both (is_listed count l) (not (is_in c (negation l))) (listed count l of.0 of.1) (absent c (negation l) (is_in c (negation l)) refl alone))
+    and_from (is_listed count l) (not (is_in c (negation l))) (listed count l of.0 of.1) (absent c (negation l) (is_in c (negation l)) refl alone))
 
 -- ---- hints
 
@@ -55,7 +57,7 @@ unit_of : (ls : List Lit) (l : Lit) → Has ls l → ((m : Lit) → Has ls m →
 unit_of [] l h all = elim h [ ]
 unit_of (x ∷ xs) l h all =
     let first : x ≡ l = all x (here x xs) in
-    let same : list_all (lit_eq x) xs ≡ true = of_all (lit_eq x) xs (λ m k. subst (λ y. lit_eq x y ≡ true) (first ∙ sym (all m (there x m xs k))) (lit_itself x)) in
+    let same : list_all (lit_eq x) xs ≡ true = of_all (lit_eq x) xs (λ m k. subst (λ y. lit_eq x y ≡ true) (first ∙ sym (all m (there x m xs k))) (lit_eq-itself x)) in
     rw same (ap (λ (y : Lit). residual (y ∷ [])) first)
 
 module _ (set : LitSet) (known : List Lit) (says : Says set known) where
@@ -68,9 +70,9 @@ module _ (set : LitSet) (known : List Lit) (says : Says set known) where
 
   -- the literal that is left
   is_left : (c : Clause) (l : Lit) → ((m : Lit) → Contains c m → m ≢ l → Contains known (negation m)) → (m : Lit) → Has c m → not (set (negation m)) ≡ true → (b : Bool) → lit_eq m l ≡ b → m ≡ l
-  is_left c l others m h free true e = same_lit m l e
+  is_left c l others m h free true e = lit_eq-true m l e
   is_left c l others m h free false e =
-      let differ : m ≢ l = λ s. absurd (let same : lit_eq m l ≡ true = subst (λ x. lit_eq m x ≡ true) s (lit_itself m) in cc) in
+      let differ : m ≢ l = λ s. absurd (let same : lit_eq m l ≡ true = subst (λ x. lit_eq m x ≡ true) s (lit_eq-itself m) in cc) in
       let said : set (negation m) ≡ true = is_known (negation m) (others m (contains_of c m h) differ) in
       absurd cc
 
@@ -120,9 +122,9 @@ module _ (v : ℕ → Bool) (clauses : List Clause) (hold : AllHold v clauses) w
 
   one_true : (known : List Lit) (c : Clause) (l m : Lit) → ((x : Lit) → Has known x → holds v x ≡ true) → ((x : Lit) → Contains c x → x ≢ l → Contains known (negation x))
       → Has c m → holds v m ≡ true → (b : Bool) → lit_eq m l ≡ b → holds v l ≡ true
-  one_true known c l m all others h e true f = subst (λ x. holds v x ≡ true) (same_lit m l f) e
+  one_true known c l m all others h e true f = subst (λ x. holds v x ≡ true) (lit_eq-true m l f) e
   one_true known c l m all others h e false f =
-      let differ : m ≢ l = λ s. absurd (let same : lit_eq m l ≡ true = subst (λ x. lit_eq m x ≡ true) s (lit_itself m) in cc) in
+      let differ : m ≢ l = λ s. absurd (let same : lit_eq m l ≡ true = subst (λ x. lit_eq m x ≡ true) s (lit_eq-itself m) in cc) in
       absurd (clash v m e (all (negation m) (has_of known (negation m) (others m (contains_of c m h) differ))))
 
   never : (known : List Lit) (hints : List ℕ) → ((l : Lit) → Has known l → holds v l ≡ true) → Refutes clauses known hints → ⊥
@@ -157,8 +159,8 @@ some_hints n h = grind (arith, nat_tests)
 
 pub learned_writable : (atoms : ℕ) (clauses : List Clause) (s : learned.Learned) → IsShown atoms clauses s → is_writable (Learned s) ≡ true
 learned_writable atoms clauses s h =
-    both (list_all is_lit s.clause) (are_hints s.hints) (of_all is_lit s.clause (λ l k. is_lit_of l (h.lit_numbers l (contains_of s.clause l k))))
-    (both (not (length s.hints == 0)) (list_all is_hint s.hints) (some_hints (length s.hints) h.some) (of_all is_hint s.hints (λ n k. is_hint_of n (h.hint_numbers n (contains_of s.hints n k)))))
+    and_from (list_all is_lit s.clause) (are_hints s.hints) (of_all is_lit s.clause (λ l k. is_lit_of l (h.lit_numbers l (contains_of s.clause l k))))
+    (and_from (not (length s.hints == 0)) (list_all is_hint s.hints) (some_hints (length s.hints) h.some) (of_all is_hint s.hints (λ n k. is_hint_of n (h.hint_numbers n (contains_of s.hints n k)))))
 
 -- ---- steps of a search without instances
 

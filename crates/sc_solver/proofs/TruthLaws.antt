@@ -38,7 +38,7 @@ use Rattle.sc_footprint.specs.Definitions.{defining}
 use Rattle.sc_footprint.specs.Truths.{is_true, is_true_at, truths}
 use Rattle.sc_solver.specs.Rebuilding.{truth_at, nameless, one_entity, assigned, context_by, context_of_type, rebuilt_request}
 use Rattle.sc_solver.proofs.ListLaws.{Has, here, there, has_of, contains_of, of_get}
-use Rattle.sc_solver.proofs.LitLaws.{holds_negation}
+use Rattle.sc_clauses.proofs.LitLaws.{holds_negation}
 use Rattle.sc_solver.proofs.StepLaws.{AllHold}
 use Rattle.sc_solver.proofs.TableLaws.{table_says}
 use Rattle.sc_solver.proofs.AtomLaws.{IsLevel, literal_of_atom, listed, atom_closed, atom_is_plain, number_at, truth_listed, truth_first}

@@ -12,7 +12,7 @@ use Rattle.sc_checker.specs.Verdicts.{Rules, Adds, no_step, first_step}
 use Rattle.sc_checker.specs.Writable.{is_writable}
 use Rattle.sc_solver.specs.Units.{AreUnits, no_unit, first_unit}
 use Rattle.sc_solver.proofs.ListLaws.{Has, has_either, has_only}
-use Rattle.sc_solver.proofs.LitLaws.{both}
+use Rattle.std.proofs.lemmas.Bool.{and_from}
 use Rattle.sc_solver.proofs.StepLaws.{AllHold, step_adds, step_writable, step_holds}
 
 -- one clause more is one clause before the others
@@ -59,12 +59,12 @@ module _ (atoms : ℕ) (accepts : instance.Instance → Bool) (clause_of : insta
   pub units_writable : (before : List Clause) (steps : List Step) → Units before steps → list_all is_writable steps ≡ true
   units_writable _ _ (found.no_step before) = refl
   units_writable _ _ (found.first_step before s steps u rest) =
-      both (is_writable s) (list_all is_writable steps) (step_writable atoms accepts clause_of none before s u.is_lawful) (units_writable (before ++ search.added clause_of s ∷ []) steps rest)
+      and_from (is_writable s) (list_all is_writable steps) (step_writable atoms accepts clause_of none before s u.is_lawful) (units_writable (before ++ search.added clause_of s ∷ []) steps rest)
 
   pub units_and_last_writable : (before : List Clause) (steps : List Step) (last : Step) → Units before steps → (clauses : List Clause) → IsLawful atoms accepts clause_of clauses last → list_all is_writable (steps ++ last ∷ []) ≡ true
-  units_and_last_writable _ _ last (found.no_step before) clauses h = both (is_writable last) true (step_writable atoms accepts clause_of none clauses last h) refl
+  units_and_last_writable _ _ last (found.no_step before) clauses h = and_from (is_writable last) true (step_writable atoms accepts clause_of none clauses last h) refl
   units_and_last_writable _ _ last (found.first_step before s steps u rest) clauses h =
-      both (is_writable s) (list_all is_writable (steps ++ last ∷ [])) (step_writable atoms accepts clause_of none before s u.is_lawful)
+      and_from (is_writable s) (list_all is_writable (steps ++ last ∷ [])) (step_writable atoms accepts clause_of none before s u.is_lawful)
       (units_and_last_writable (before ++ search.added clause_of s ∷ []) steps last rest clauses h)
 
   -- ---- where the clauses before them hold, those of the steps do

@@ -1,9 +1,9 @@
 //! Expressions without places.
 ghost use Rattle.std.specs.Prelude.{◌≡◌, ℕ, List, map, IfOk};
 ghost use Rattle.sc_ast.specs.declared.expr.Expr.{Expr as AnyExpr};
-ghost use Rattle.sc_typed.specs.Capabilities.{bare, bare_name};
+ghost use Rattle.sc_typed.specs.Capabilities.{nowhere, bare, bare_name};
 
-use sc_ast::{Expr, Place, TypeName};
+use sc_ast::{BinaryOperator, Expr, Place, TypeName};
 use sc_lists::{Boxed, Seq, Text};
 use std::alloc::{AllocError, Global};
 
@@ -17,20 +17,10 @@ pub fn bare(alloc: Global, expr: &Expr) -> Result<Expr, AllocError>
     ensures { IfOk result (λ copy. copy ≡ bare expr.now) }
 {
     match expr {
-        Expr::If(_, c, a, b) => Ok(Expr::If(
-            NOWHERE,
-            bare_boxed(alloc, c)?,
-            bare_boxed(alloc, a)?,
-            bare_boxed(alloc, b)?,
-        )),
+        Expr::If(_, c, a, b) => bare_choice(alloc, c, a, b),
         Expr::Or(_, a, b) => Ok(Expr::Or(NOWHERE, bare_boxed(alloc, a)?, bare_boxed(alloc, b)?)),
         Expr::And(_, a, b) => Ok(Expr::And(NOWHERE, bare_boxed(alloc, a)?, bare_boxed(alloc, b)?)),
-        Expr::Binary(_, operator, a, b) => Ok(Expr::Binary(
-            NOWHERE,
-            *operator,
-            bare_boxed(alloc, a)?,
-            bare_boxed(alloc, b)?,
-        )),
+        Expr::Binary(_, operator, a, b) => bare_binary(alloc, *operator, a, b),
         Expr::Has(_, a, names) => Ok(Expr::Has(
             NOWHERE,
             bare_boxed(alloc, a)?,
@@ -46,13 +36,7 @@ pub fn bare(alloc: Global, expr: &Expr) -> Result<Expr, AllocError>
             bare_boxed(alloc, a)?,
             bare_name(alloc, type_name)?,
         )),
-        Expr::IsIn(_, a, type_name, _, b) => Ok(Expr::IsIn(
-            NOWHERE,
-            bare_boxed(alloc, a)?,
-            bare_name(alloc, type_name)?,
-            NOWHERE,
-            bare_boxed(alloc, b)?,
-        )),
+        Expr::IsIn(_, a, type_name, _, b) => bare_is_in(alloc, a, type_name, b),
         Expr::Unary(_, operator, a) => {
             Ok(Expr::Unary(NOWHERE, *operator, bare_boxed(alloc, a)?))
         }
@@ -71,11 +55,67 @@ pub fn bare(alloc: Global, expr: &Expr) -> Result<Expr, AllocError>
     }
 }
 
+/// A part of an expression without places.
 #[cycle(bare)]
 fn bare_boxed(alloc: Global, expr: &Boxed<Expr>) -> Result<Boxed<Expr>, AllocError>
     ensures { IfOk result (λ copy. copy ≡ bare expr.now) }
 {
     Boxed::new(alloc, bare(alloc, expr.get())?)
+}
+
+/// `if c then a else b` without places.
+#[cycle(bare)]
+fn bare_choice(
+    alloc: Global,
+    c: &Boxed<Expr>,
+    a: &Boxed<Expr>,
+    b: &Boxed<Expr>,
+) -> Result<Expr, AllocError>
+    ensures { IfOk result (λ copy. copy ≡ Expr.If nowhere (bare c.now) (bare a.now) (bare b.now)) }
+{
+    Ok(Expr::If(
+        NOWHERE,
+        bare_boxed(alloc, c)?,
+        bare_boxed(alloc, a)?,
+        bare_boxed(alloc, b)?,
+    ))
+}
+
+/// An operator with two operands without places.
+#[cycle(bare)]
+fn bare_binary(
+    alloc: Global,
+    operator: BinaryOperator,
+    a: &Boxed<Expr>,
+    b: &Boxed<Expr>,
+) -> Result<Expr, AllocError>
+    ensures { IfOk result (λ copy. copy ≡ Expr.Binary nowhere operator (bare a.now) (bare b.now)) }
+{
+    Ok(Expr::Binary(
+        NOWHERE,
+        operator,
+        bare_boxed(alloc, a)?,
+        bare_boxed(alloc, b)?,
+    ))
+}
+
+/// `a is T in b` without places.
+#[cycle(bare)]
+fn bare_is_in(
+    alloc: Global,
+    a: &Boxed<Expr>,
+    type_name: &TypeName,
+    b: &Boxed<Expr>,
+) -> Result<Expr, AllocError>
+    ensures { IfOk result (λ copy. copy ≡ Expr.IsIn nowhere (bare a.now) (bare_name type_name.now) nowhere (bare b.now)) }
+{
+    Ok(Expr::IsIn(
+        NOWHERE,
+        bare_boxed(alloc, a)?,
+        bare_name(alloc, type_name)?,
+        NOWHERE,
+        bare_boxed(alloc, b)?,
+    ))
 }
 
 #[cycle(bare)]

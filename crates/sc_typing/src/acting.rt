@@ -3,7 +3,7 @@ ghost use Rattle.std.specs.Prelude.{◌≡◌, ℕ, List, map, IfOk};
 ghost use Rattle.sc_ast.specs.declared.expr.Expr.{Expr as AnyExpr};
 ghost use Rattle.sc_typing.specs.Policies.{acting, acting_variable};
 
-use sc_ast::{Expr, Literal, Place, Variable};
+use sc_ast::{BinaryOperator, Expr, Literal, Place, TypeName, Variable};
 use sc_lists::{Boxed, Seq, Text};
 use sc_names::Uid;
 use sc_typed::bare::copy_of_names;
@@ -17,28 +17,10 @@ pub(crate) fn acting(alloc: Global, action: &Uid, expr: &Expr) -> Result<Expr, A
     ensures { IfOk result (λ copy. copy ≡ acting action.now expr.now) }
 {
     match expr {
-        Expr::If(place, c, a, b) => Ok(Expr::If(
-            *place,
-            acting_boxed(alloc, action, c)?,
-            acting_boxed(alloc, action, a)?,
-            acting_boxed(alloc, action, b)?,
-        )),
-        Expr::Or(place, a, b) => Ok(Expr::Or(
-            *place,
-            acting_boxed(alloc, action, a)?,
-            acting_boxed(alloc, action, b)?,
-        )),
-        Expr::And(place, a, b) => Ok(Expr::And(
-            *place,
-            acting_boxed(alloc, action, a)?,
-            acting_boxed(alloc, action, b)?,
-        )),
-        Expr::Binary(place, operator, a, b) => Ok(Expr::Binary(
-            *place,
-            *operator,
-            acting_boxed(alloc, action, a)?,
-            acting_boxed(alloc, action, b)?,
-        )),
+        Expr::If(place, c, a, b) => acting_choice(alloc, action, *place, c, a, b),
+        Expr::Or(place, a, b) => acting_or(alloc, action, *place, a, b),
+        Expr::And(place, a, b) => acting_and(alloc, action, *place, a, b),
+        Expr::Binary(place, o, a, b) => acting_binary(alloc, action, *place, *o, a, b),
         Expr::Has(place, a, names) => Ok(Expr::Has(
             *place,
             acting_boxed(alloc, action, a)?,
@@ -54,13 +36,7 @@ pub(crate) fn acting(alloc: Global, action: &Uid, expr: &Expr) -> Result<Expr, A
             acting_boxed(alloc, action, a)?,
             type_name.try_clone(alloc)?,
         )),
-        Expr::IsIn(place, a, type_name, in_place, b) => Ok(Expr::IsIn(
-            *place,
-            acting_boxed(alloc, action, a)?,
-            type_name.try_clone(alloc)?,
-            *in_place,
-            acting_boxed(alloc, action, b)?,
-        )),
+        Expr::IsIn(place, a, t, at, b) => acting_is_in(alloc, action, *place, a, t, *at, b),
         Expr::Unary(place, operator, a) => {
             Ok(Expr::Unary(*place, *operator, acting_boxed(alloc, action, a)?))
         }
@@ -71,17 +47,14 @@ pub(crate) fn acting(alloc: Global, action: &Uid, expr: &Expr) -> Result<Expr, A
         )),
         Expr::Literal(place, literal) => Ok(Expr::Literal(*place, literal.try_clone(alloc)?)),
         Expr::Variable(place, variable) => Ok(acting_variable(alloc, action, *place, *variable)?),
-        Expr::Set(place, members) => Ok(Expr::Set(
-            *place,
-            acting_all(alloc, action, members.as_slice())?,
-        )),
-        Expr::Record(place, fields) => Ok(Expr::Record(
-            *place,
-            acting_fields(alloc, action, fields.as_slice())?,
-        )),
+        Expr::Set(place, members) => Ok(Expr::Set(*place, acting_all(alloc, action, members)?)),
+        Expr::Record(place, fields) => {
+            Ok(Expr::Record(*place, acting_fields(alloc, action, fields)?))
+        }
     }
 }
 
+/// A part of an expression with the action's uid.
 #[cycle(acting)]
 fn acting_boxed(alloc: Global, action: &Uid, expr: &Boxed<Expr>) -> Result<Boxed<Expr>, AllocError>
     ensures { IfOk result (λ copy. copy ≡ acting action.now expr.now) }
@@ -89,12 +62,110 @@ fn acting_boxed(alloc: Global, action: &Uid, expr: &Boxed<Expr>) -> Result<Boxed
     Boxed::new(alloc, acting(alloc, action, expr.get())?)
 }
 
+/// `if c then a else b` with the action's uid.
 #[cycle(acting)]
-fn acting_all(alloc: Global, action: &Uid, exprs: &[Expr]) -> Result<Seq<Expr>, AllocError>
+fn acting_choice(
+    alloc: Global,
+    action: &Uid,
+    place: Place,
+    c: &Boxed<Expr>,
+    a: &Boxed<Expr>,
+    b: &Boxed<Expr>,
+) -> Result<Expr, AllocError>
+    ensures { IfOk result (λ copy. copy ≡ Expr.If place (acting action.now c.now) (acting action.now a.now) (acting action.now b.now)) }
+{
+    Ok(Expr::If(
+        place,
+        acting_boxed(alloc, action, c)?,
+        acting_boxed(alloc, action, a)?,
+        acting_boxed(alloc, action, b)?,
+    ))
+}
+
+/// `a || b` with the action's uid.
+#[cycle(acting)]
+fn acting_or(
+    alloc: Global,
+    action: &Uid,
+    place: Place,
+    a: &Boxed<Expr>,
+    b: &Boxed<Expr>,
+) -> Result<Expr, AllocError>
+    ensures { IfOk result (λ copy. copy ≡ Expr.Or place (acting action.now a.now) (acting action.now b.now)) }
+{
+    Ok(Expr::Or(
+        place,
+        acting_boxed(alloc, action, a)?,
+        acting_boxed(alloc, action, b)?,
+    ))
+}
+
+/// `a && b` with the action's uid.
+#[cycle(acting)]
+fn acting_and(
+    alloc: Global,
+    action: &Uid,
+    place: Place,
+    a: &Boxed<Expr>,
+    b: &Boxed<Expr>,
+) -> Result<Expr, AllocError>
+    ensures { IfOk result (λ copy. copy ≡ Expr.And place (acting action.now a.now) (acting action.now b.now)) }
+{
+    Ok(Expr::And(
+        place,
+        acting_boxed(alloc, action, a)?,
+        acting_boxed(alloc, action, b)?,
+    ))
+}
+
+/// An operator with two operands, with the action's uid.
+#[cycle(acting)]
+fn acting_binary(
+    alloc: Global,
+    action: &Uid,
+    place: Place,
+    operator: BinaryOperator,
+    a: &Boxed<Expr>,
+    b: &Boxed<Expr>,
+) -> Result<Expr, AllocError>
+    ensures { IfOk result (λ copy. copy ≡ Expr.Binary place operator (acting action.now a.now) (acting action.now b.now)) }
+{
+    Ok(Expr::Binary(
+        place,
+        operator,
+        acting_boxed(alloc, action, a)?,
+        acting_boxed(alloc, action, b)?,
+    ))
+}
+
+/// `a is T in b` with the action's uid.
+#[cycle(acting)]
+fn acting_is_in(
+    alloc: Global,
+    action: &Uid,
+    place: Place,
+    a: &Boxed<Expr>,
+    type_name: &TypeName,
+    in_place: Place,
+    b: &Boxed<Expr>,
+) -> Result<Expr, AllocError>
+    ensures { IfOk result (λ copy. copy ≡ Expr.IsIn place (acting action.now a.now) type_name.now in_place (acting action.now b.now)) }
+{
+    Ok(Expr::IsIn(
+        place,
+        acting_boxed(alloc, action, a)?,
+        type_name.try_clone(alloc)?,
+        in_place,
+        acting_boxed(alloc, action, b)?,
+    ))
+}
+
+#[cycle(acting)]
+fn acting_all(alloc: Global, action: &Uid, exprs: &Seq<Expr>) -> Result<Seq<Expr>, AllocError>
     ensures { IfOk result (λ copies. copies ≡ map (acting action.now) exprs.now) }
 {
     let mut copies = Seq::new(alloc);
-    for expr in exprs {
+    for expr in exprs.as_slice() {
         copies.push(acting(alloc, action, expr)?)?;
     }
     Ok(copies)
@@ -104,12 +175,12 @@ fn acting_all(alloc: Global, action: &Uid, exprs: &[Expr]) -> Result<Seq<Expr>, 
 fn acting_fields(
     alloc: Global,
     action: &Uid,
-    fields: &[(Text, Expr)],
+    fields: &Seq<(Text, Expr)>,
 ) -> Result<Seq<(Text, Expr)>, AllocError>
     ensures { IfOk result (λ copies. copies ≡ map (λ (f : List ℕ × AnyExpr). (f.0, acting action.now f.1)) fields.now) }
 {
     let mut copies = Seq::new(alloc);
-    for field in fields {
+    for field in fields.as_slice() {
         copies.push((field.0.try_clone(alloc)?, acting(alloc, action, &field.1)?))?;
     }
     Ok(copies)

@@ -1,10 +1,9 @@
 //! Truth tables, as clauses.
 ghost use Rattle.std.specs.Prelude.{◌≡◌, ◌≤◌, ◌++◌, length, IfOk, OnOk};
-ghost use Rattle.sc_clauses.specs.Clauses.{lit_eq, is_in as contains};
 ghost use Rattle.sc_footprint.specs.Definitions.{is_tautology as tautology, differs as difference, has_value as agreement, row as row_of, table};
 ghost use Rattle.th_defs.specs.Connectives.{truth_of, kept};
 
-use sc_clauses::{Clause, Lit, negation};
+use sc_clauses::{Clause, Lit, is_in, negation};
 use sc_lists::Seq;
 use sc_terms::BinaryOp;
 use std::alloc::{AllocError, Global};
@@ -41,18 +40,6 @@ fn has_value(lit: Lit, value: bool) -> Lit
     ensures { result ≡ agreement lit value }
 {
     if value { lit } else { negation(lit) }
-}
-
-fn is_same(a: Lit, b: Lit) -> bool
-    ensures { result ≡ lit_eq a b }
-{
-    a.atom == b.atom && a.negated == b.negated
-}
-
-fn is_in(lit: Lit, lits: &[Lit]) -> bool
-    ensures { result ≡ contains lits.now lit }
-{
-    lits.iter().any(|other| is_same(lit, *other))
 }
 
 /// Whether some atom stands in a clause with its negation.

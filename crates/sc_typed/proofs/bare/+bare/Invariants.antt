@@ -1,7 +1,28 @@
-use Rattle.std.proofs.Common.{◌≡◌, ℕ, List, map, take}
-use Rattle.sc_ast.specs.declared.expr.Expr.{Expr}
+use Rattle.std.proofs.Common.{◌≡◌, ◌+◌, ◌*◌, ℕ, List, map, max, take}
+use Rattle.sc_ast.specs.declared.expr.Expr.{Expr, size-Expr}
 use Rattle.sc_typed.specs.Capabilities.{bare}
 use Rattle.sc_typed.proofs.bare.+bare.Given as goal
+
+abbrev pub decreases-bare : goal.decreases-bare
+decreases-bare l = 3 * size-Expr l.expr.now
+
+abbrev pub decreases-bare_boxed : goal.decreases-bare_boxed
+decreases-bare_boxed l = 3 * size-Expr l.expr.now + 1
+
+abbrev pub decreases-bare_choice : goal.decreases-bare_choice
+decreases-bare_choice l = 3 * max (size-Expr l.c.now) (max (size-Expr l.a.now) (size-Expr l.b.now)) + 2
+
+abbrev pub decreases-bare_binary : goal.decreases-bare_binary
+decreases-bare_binary l = 3 * max (size-Expr l.a.now) (size-Expr l.b.now) + 2
+
+abbrev pub decreases-bare_is_in : goal.decreases-bare_is_in
+decreases-bare_is_in l = 3 * max (size-Expr l.a.now) (size-Expr l.b.now) + 2
+
+abbrev pub decreases-bare_all : goal.decreases-bare_all
+decreases-bare_all l = 3 * goal.size-bare_all l + 1
+
+abbrev pub decreases-bare_fields : goal.decreases-bare_fields
+decreases-bare_fields l = 3 * goal.size-bare_fields l + 1
 
 abbrev pub invariant-bare_all-loop-expr : goal.invariant-bare_all-loop-expr
 invariant-bare_all-loop-expr l = l.copies ≡ map bare (take l.expr-index l.exprs)

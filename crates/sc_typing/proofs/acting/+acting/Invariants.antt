@@ -1,7 +1,34 @@
-use Rattle.std.proofs.Common.{◌≡◌, ℕ, List, map, take}
-use Rattle.sc_ast.specs.declared.expr.Expr.{Expr}
+use Rattle.std.proofs.Common.{◌≡◌, ◌+◌, ◌*◌, ℕ, List, map, max, take}
+use Rattle.sc_ast.specs.declared.expr.Expr.{Expr, size-Expr}
 use Rattle.sc_typing.specs.Policies.{acting}
 use Rattle.sc_typing.proofs.acting.+acting.Given as goal
+
+abbrev pub decreases-acting : goal.decreases-acting
+decreases-acting l = 3 * size-Expr l.expr.now
+
+abbrev pub decreases-acting_boxed : goal.decreases-acting_boxed
+decreases-acting_boxed l = 3 * size-Expr l.expr.now + 1
+
+abbrev pub decreases-acting_choice : goal.decreases-acting_choice
+decreases-acting_choice l = 3 * max (size-Expr l.c.now) (max (size-Expr l.a.now) (size-Expr l.b.now)) + 2
+
+abbrev pub decreases-acting_binary : goal.decreases-acting_binary
+decreases-acting_binary l = 3 * max (size-Expr l.a.now) (size-Expr l.b.now) + 2
+
+abbrev pub decreases-acting_is_in : goal.decreases-acting_is_in
+decreases-acting_is_in l = 3 * max (size-Expr l.a.now) (size-Expr l.b.now) + 2
+
+abbrev pub decreases-acting_all : goal.decreases-acting_all
+decreases-acting_all l = 3 * goal.size-acting_all l + 1
+
+abbrev pub decreases-acting_fields : goal.decreases-acting_fields
+decreases-acting_fields l = 3 * goal.size-acting_fields l + 1
+
+abbrev pub decreases-acting_or : goal.decreases-acting_or
+decreases-acting_or l = 3 * max (size-Expr l.a.now) (size-Expr l.b.now) + 2
+
+abbrev pub decreases-acting_and : goal.decreases-acting_and
+decreases-acting_and l = 3 * max (size-Expr l.a.now) (size-Expr l.b.now) + 2
 
 abbrev pub invariant-acting_all-loop-expr : goal.invariant-acting_all-loop-expr
 invariant-acting_all-loop-expr l = l.copies ≡ map (acting l.action) (take l.expr-index l.exprs)
