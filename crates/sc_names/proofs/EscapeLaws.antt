@@ -252,7 +252,7 @@ last_of-colons : (t : List ℕ) → last_of 0 (colons t) ≡ 58
 unfolding colons
 last_of-colons t = rw (← append_assoc t (58 ∷ []) (58 ∷ [])) (last_of-append 0 58 (t ++ 58 ∷ []))
 
-uid_text-is : (u : Uid) → uid_text u ≡ (colons u.type_name ++ 34 ∷ escaped_text u.id) ++ 34 ∷ []
+uid_text-is : (u : Uid) → uid_text u ≡ (colons (escaped_text u.type_name) ++ 34 ∷ escaped_text u.id) ++ 34 ∷ []
 unfolding uid_text colons
 uid_text-is u = simp append_assoc
 
@@ -262,10 +262,10 @@ colons-same s t is = append_cancel_right s t (58 ∷ 58 ∷ []) is
 
 pub uid_text_same : (a b : Uid) → uid_text a ≡ uid_text b → a ≡ b
 uid_text_same a b is =
-    let bytes : (colons a.type_name ++ 34 ∷ escaped_text a.id) ++ 34 ∷ [] ≡ (colons b.type_name ++ 34 ∷ escaped_text b.id) ++ 34 ∷ [] = sym (uid_text-is a) ∙ is ∙ uid_text-is b in
-    let parts = opens 0 0 (colons a.type_name) (colons b.type_name) (escaped_text a.id) (escaped_text b.id)
-    (λ r. guarded-escaped_text r a.id) (λ r. guarded-escaped_text r b.id) (last_of-colons a.type_name) (last_of-colons b.type_name)
-    (append_cancel_right (colons a.type_name ++ 34 ∷ escaped_text a.id) (colons b.type_name ++ 34 ∷ escaped_text b.id) (34 ∷ []) bytes) in
-    let one_type : a.type_name ≡ b.type_name = colons-same a.type_name b.type_name parts.0 in
+    let bytes : (colons (escaped_text a.type_name) ++ 34 ∷ escaped_text a.id) ++ 34 ∷ [] ≡ (colons (escaped_text b.type_name) ++ 34 ∷ escaped_text b.id) ++ 34 ∷ [] = sym (uid_text-is a) ∙ is ∙ uid_text-is b in
+    let parts = opens 0 0 (colons (escaped_text a.type_name)) (colons (escaped_text b.type_name)) (escaped_text a.id) (escaped_text b.id)
+    (λ r. guarded-escaped_text r a.id) (λ r. guarded-escaped_text r b.id) (last_of-colons (escaped_text a.type_name)) (last_of-colons (escaped_text b.type_name))
+    (append_cancel_right (colons (escaped_text a.type_name) ++ 34 ∷ escaped_text a.id) (colons (escaped_text b.type_name) ++ 34 ∷ escaped_text b.id) (34 ∷ []) bytes) in
+    let one_type : a.type_name ≡ b.type_name = escaped_text_same a.type_name b.type_name (colons-same (escaped_text a.type_name) (escaped_text b.type_name) parts.0) in
     let one_id : a.id ≡ b.id = escaped_text_same a.id b.id parts.1 in
     λ i. record { type_name = one_type i; id = one_id i }

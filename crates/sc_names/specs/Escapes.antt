@@ -1,4 +1,4 @@
--- The text of a uid, in which each character of its id that isn't printed as it stands is escaped.
+-- The text of a uid, in which each character that isn't printed as it stands is escaped. A path has no such character.
 use Rattle.std.specs.Prelude.{ℕ, ◌/◌, ◌%◌, List, [], ◌∷◌, ◌++◌, ◌==◌, ◌||◌, nat_lt, if◌then◌else◌, codes}
 use Rattle.std.specs.List.{flat_map}
 use Rattle.std.specs.Char.{digit_char}
@@ -25,4 +25,4 @@ escaped_text = flat_map escaped
 
 -- `Type::"id"`
 unfoldable pub uid_text : Uid → List ℕ
-uid_text uid = uid.type_name ++ codes "::\"" ++ escaped_text uid.id ++ codes "\""
+uid_text uid = escaped_text uid.type_name ++ codes "::\"" ++ escaped_text uid.id ++ codes "\""

@@ -72,13 +72,13 @@ pub fn put_escaped(out: &mut String, text: &str) -> Result<(), AllocError>
 pub fn put_uid(out: &mut String, uid: &Uid) -> Result<(), AllocError>
     ensures { OnOk result (string_bytes out.new ≡ string_bytes out.old ++ uid_text uid.now) }
 {
-    out.push_str(uid.type_name.as_str())?;
+    put_escaped(out, uid.type_name.as_str())?;
     out.push_str("::\"")?;
     put_escaped(out, uid.id.as_str())?;
     out.push_str("\"")
 }
 
-/// The text of a uid: its type's name, `::`, and its id, escaped and in double quotes.
+/// The text of a uid: its type's name, `::`, and its id in double quotes, both escaped.
 pub fn uid_text(alloc: Global, uid: &Uid) -> Result<String, AllocError>
     ensures { IfOk result (λ text. string_bytes text ≡ uid_text uid.now) }
 {
