@@ -11,15 +11,18 @@ use Rattle.sc_clauses.specs.declared.step.Learned as step
 use Rattle.sc_search.proofs.AnalysisLaws.{not-lower, trail-in-cells, some-hint, hint-number}
 use Rattle.sc_search.proofs.CellLaws.{consistent, before-more, before-at}
 use Rattle.sc_search.proofs.ReadingLaws.{at-end}
-use Rattle.sc_search.proofs.TrailLaws.{trail-learn, trail-imply}
+use Rattle.sc_search.proofs.TrailLaws.{before-kept, implied-holds, trail-learn, trail-imply}
+use Rattle.sc_search.proofs.VisitLaws.{last-true, seen-push}
 use Rattle.sc_search.specs.Analyses.{IsHighest, IsResolvent}
 use Rattle.sc_search.specs.Readings.{AreBefore, HasRoom}
 use Rattle.sc_search.specs.Steps.{IsClause, IsShown, Refutes}
-use Rattle.sc_search.specs.Trails.{InCells, AreInCells, AllInCells, true_before, cell_of, HasPlace, set_at, IsReason, Agree, IsTrail, IsQuiet, AreInCells, AllInCells}
+use Rattle.sc_search.specs.Trails.{InCells, AreInCells, AllInCells, true_before, cell_of, HasPlace, set_at, IsReason, Agree, IsTrail, IsQuiet, AreQuiet}
+use Rattle.sc_search.specs.Visits.{AreSeen, IsSeenBy}
+use Rattle.sc_search.specs.declared.trail.Trail.{Trail}
 use Rattle.sc_search.specs.declared.cell.Cell.{Cell}
 use Rattle.sc_search.specs.declared.cell.Cell.TheVariants.{Free, Decided, Implied}
 use Rattle.sc_clauses.proofs.LitLaws.{negation_twice}
-use Rattle.sc_search.proofs.LitLaws.{below-or, bool-cases, head-has, tail-has, none-in}
+use Rattle.sc_search.proofs.LitLaws.{below-or, bool-cases, sign-cases, head-has, tail-has, none-in}
 
 -- all were false before a place, or one wasn't
 pub find-open : (cells : List Cell) (p : ℕ) (c : List Lit) → AreBefore cells p c ⊎ ((m : Lit) × (Contains c m) × (true_before cells p (negation m) ≡ false))
@@ -33,12 +36,6 @@ find-open cells p (m ∷ c) =
     (find-open cells p c))
     (λ (f : true_before cells p (negation m) ≡ false). inr (m, head-has m c, f))
     (bool-cases (true_before cells p (negation m)))
-
-sign-cases : (n s : Bool) → (n ≡ s) ⊎ (n ≡ not s)
-sign-cases true true = inl refl
-sign-cases true false = inr refl
-sign-cases false true = inr refl
-sign-cases false false = inl refl
 
 pub free-or-at : (c : Cell) (s : Bool) → (c ≡ Free) ⊎ ((i : ℕ) × (set_at c s i ⊎ set_at c (not s) i))
 free-or-at Free s = inl refl
@@ -200,6 +197,46 @@ module _ (n : ℕ) (cs : List Clause) (cells : List Cell) (trail : List Lit) (le
         h ∙ ap (λ (w : Lit). set cells1 w.atom (Implied w.negated (length trail1) reason)) e ∙ ap (λ (r : ℕ). set cells1 uip.atom (Implied (not uip.negated) (length trail1) r)) f in
         let trail-is : trail' ≡ trail1 ++ negation uip ∷ [] = i ∙ ap (λ (w : Lit). trail1 ++ w ∷ []) e in
         rw (g, cells-is, trail-is, k) trail-jump
+
+    jump-quiet : AreQuiet (true_before cells1 (length trail1)) cs
+    jump-quiet =
+        subst (λ (q : ℕ). AreQuiet (true_before cells1 q) cs) (sym place) (subst (λ (T : Lit → Bool). AreQuiet T cs) (sym (kept (get_or levels j 0) (omega arith))) (sound.quiet j jump))
+
+    jump-kept : true_before (set cells1 uip.atom (Implied (not uip.negated) (length trail1) (length cs))) (length trail1) ≡ true_before cells1 (length trail1)
+    jump-kept =
+        let size = sound1.sized in
+        let within : uip.atom < n = uip-in-cells.1 in
+        before-kept cells1 trail1 (negation uip) (Implied (not uip.negated) (length trail1) (length cs)) jump-free uip-in-cells.0 (omega arith) (implied-holds (negation uip) (length trail1) (length cs)) (length trail1) (omega arith)
+
+    jump-seen : (c : Clause) → Contains (cs ++ C ∷ []) c → IsSeenBy (set cells1 uip.atom (Implied (not uip.negated) (length trail1) (length cs))) (trail1 ++ negation uip ∷ []) (length trail1) c
+    jump-seen c has =
+        let cells' = set cells1 uip.atom (Implied (not uip.negated) (length trail1) (length cs)) in
+        ⊎_elim
+        (λ (old : Contains cs c). seen-push cells1 cells' trail1 (negation uip) trail-jump.agree jump-kept (length trail1) c (omega arith) (inl (jump-quiet c old)))
+        (λ (e : C ≡ c).
+        inl (inl (
+          negation uip,
+          subst (λ (d : Clause). Contains d (negation uip)) (sym is ∙ e) (Contains-push lower (negation uip)),
+          last-true cells1 cells' trail1 (negation uip) trail-jump.agree jump-kept,
+        )))
+        (Contains-push_cases cs C c has)
+
+    -- all clauses are quiet but those that hold the negation of what the learned one gives
+    pub jump-seen-to : (forced : Lit) (reason p : ℕ) (cs' : List Clause) (t : Trail) → forced ≡ negation uip → reason ≡ length cs → p ≡ length trail1 → cs' ≡ cs ++ C ∷ []
+        → t.cells.items ≡ set cells1 forced.atom (Implied forced.negated (length trail1) reason) → t.lits.items ≡ trail1 ++ forced ∷ [] → AreSeen cs' t p
+    jump-seen-to forced reason p cs' t e f at g h i =
+        let cells-is : t.cells.items ≡ set cells1 uip.atom (Implied (not uip.negated) (length trail1) (length cs)) =
+        h ∙ ap (λ (w : Lit). set cells1 w.atom (Implied w.negated (length trail1) reason)) e ∙ ap (λ (r : ℕ). set cells1 uip.atom (Implied (not uip.negated) (length trail1) r)) f in
+        let trail-is : t.lits.items ≡ trail1 ++ negation uip ∷ [] = i ∙ ap (λ (w : Lit). trail1 ++ w ∷ []) e in
+        let size : length t.lits.items ≡ length trail1 + 1 = ap length trail-is ∙ length-append trail1 (negation uip ∷ []) in
+        record {
+          bounded = omega arith;
+          each = λ c has.
+              subst (λ (q : ℕ). IsSeenBy t.cells.items t.lits.items q c) (sym at)
+              (subst (λ (xs : List Cell). IsSeenBy xs t.lits.items (length trail1) c) (sym cells-is)
+              (subst (λ (ls : List Lit). IsSeenBy (set cells1 uip.atom (Implied (not uip.negated) (length trail1) (length cs))) ls (length trail1) c) (sym trail-is)
+              (jump-seen c (subst (λ (ds : List Clause). Contains ds c) g has))));
+        }
 
 -- what is so of each element, by place
 pub all-of : {X : Type 0} (P : X → Type 0) (xs : List X) → ((x : X) → Contains xs x → P x) → All P xs

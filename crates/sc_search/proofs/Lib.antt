@@ -2,8 +2,9 @@ mod LitLaws
 mod NewnessLaws
 mod CellLaws
 mod TrailLaws
+mod OccurrenceLaws
 mod ReadingLaws
+mod VisitLaws
 mod AnalysisLaws
 mod BackjumpLaws
 mod SearchLaws
-mod TestLaws

@@ -40,6 +40,12 @@ pub bool-cases : (b : Bool) → (b ≡ true) ⊎ (b ≡ false)
 bool-cases true = inl refl
 bool-cases false = inr refl
 
+pub sign-cases : (n s : Bool) → (n ≡ s) ⊎ (n ≡ not s)
+sign-cases true true = inl refl
+sign-cases true false = inr refl
+sign-cases false true = inr refl
+sign-cases false false = inl refl
+
 pub bool-false : (b : Bool) → (b ≡ true → ⊥) → b ≡ false
 bool-false true h = absurd (h refl)
 bool-false false h = refl

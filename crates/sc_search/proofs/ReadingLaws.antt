@@ -1,19 +1,16 @@
 -- What reading a literal, a clause and all clauses tells.
 use Rattle.std.proofs.Common.{◌≡◌, ◌≢◌, inl, inr, ⊎_elim, ℕ, ◌+◌, ◌<◌, ◌≤◌, List, [], ◌∷◌, ◌++◌, Bool, true, false, not, length, get_or, refl, sym, ap, ◌∙◌, subst, arith, take, Option, Some, None}
 use Rattle.std.specs.List.{Contains}
-use Rattle.std.proofs.lemmas.List.{get_or_default, get_or-take, length-take-le, take_more}
+use Rattle.std.proofs.lemmas.List.{get_or-take, length-take-le, take_more}
 use Rattle.std.proofs.lemmas.List.Elements.{Contains-append_left, Contains-push, Contains-push_cases}
 use Rattle.sc_clauses.specs.Clauses.{negation, Clause, bool_eq}
 use Rattle.sc_clauses.specs.declared.lit.Lit.{Lit}
 use Rattle.sc_search.proofs.CellLaws.{at-before}
-use Rattle.sc_search.specs.declared.propagation.Scan.{Scan}
-use Rattle.sc_search.specs.declared.propagation.Scan.TheVariants.{Quiet, Unit, Falsified}
-use Rattle.sc_search.specs.Readings.{AreQuietFrom, HasScanned, HasScan, HasTruth, truth_of, signed, IsSoFar, IsUnitAt}
+use Rattle.sc_search.specs.Readings.{HasTruth, truth_of, signed, IsSoFar, IsUnitAt}
 use Rattle.sc_search.specs.Steps.{At}
-use Rattle.sc_search.specs.Trails.{set_before, cell_of, true_before, set_at, HasPlace, IsQuiet, AreQuiet, IsReason, Agree}
+use Rattle.sc_search.specs.Trails.{set_before, cell_of, true_before, set_at, HasPlace, IsQuiet, IsReason, Agree}
 use Rattle.sc_search.specs.declared.cell.Cell.{Cell}
 use Rattle.sc_search.specs.declared.cell.Cell.TheVariants.{Free, Decided, Implied}
-use Rattle.sc_search.proofs.LitLaws.{below-or}
 
 pub at-end : (cells : List Cell) (trail : List Lit) → Agree cells trail → (l : Lit) (i : ℕ) → HasPlace cells l i → true_before cells (length trail) l ≡ true
 at-end cells trail h l i at = at-before cells l i (length trail) at (h.on_trail l i at).0
@@ -87,26 +84,6 @@ module _ (cells : List Cell) (p : ℕ) (c : List Lit) (i : ℕ) (l : Lit) (in_ra
 
   pub sofar-true : true_before cells p l ≡ true → IsQuiet (true_before cells p) c
   sofar-true t = inl (l, here, t)
-
--- clauses that are quiet from a place on, and those before it
-pub quiet-all : (T : Lit → Bool) (cs : List Clause) (from : ℕ) → AreQuietFrom T cs from (length cs) → AreQuietFrom T cs 0 from → AreQuiet T cs
-quiet-all T cs from late early c (k, lt, is) =
-    subst (λ (d : Clause). IsQuiet T d) is
-    (⊎_elim (λ (h : k < from). early k c (omega arith) h) (λ (h : from ≤ k). late k c h lt) (below-or k from))
-
-pub quiet-more : (T : Lit → Bool) (cs : List Clause) (first i : ℕ) (c : Clause) → i < length cs → c ≡ get_or cs i c → AreQuietFrom T cs first i → IsQuiet T c → AreQuietFrom T cs first (i + 1)
-quiet-more T cs first i c lt is old now k d le kl =
-    ⊎_elim
-    (λ (h : k < i). old k d le h)
-    (λ (h : i ≤ k).
-    let e : i ≡ k = omega arith in
-    subst (λ (j : ℕ). IsQuiet T (get_or cs j d)) e (subst (λ (x : Clause). IsQuiet T x) (is ∙ get_or_default cs i c d lt) now))
-    (below-or k i)
-
-pub scan-all : (cs : List Clause) (cells : List Cell) (p from : ℕ) (r : Scan) → AreQuietFrom (true_before cells p) cs from (length cs) → HasScanned cs cells p 0 from r → HasScan cs cells p r
-scan-all cs cells p from Quiet late early = quiet-all (true_before cells p) cs from late early
-scan-all cs cells p from (Unit i l) late early = early
-scan-all cs cells p from (Falsified i) late early = early
 
 pub reason-of : (cs : List Clause) (cells : List Cell) (p i : ℕ) (c : Clause) (l : Lit) → At cs i c → IsUnitAt cells p c l → IsReason cs cells l p i
 reason-of cs cells p i c l at u = record { clause = c; at = at; has = u.0; others = u.2 }

@@ -12,10 +12,12 @@ use Rattle.sc_clauses.specs.declared.step.Instance as instance
 use Rattle.sc_clauses.specs.declared.step.Step.{Step}
 use Rattle.sc_clauses.specs.declared.step.Step.TheVariants.{Instance, Learned}
 use Rattle.sc_search.specs.Findings.{IsUnit, AreUnits, no_step, first_step, IsRefutation, IsSpent, IsConsistent}
+use Rattle.sc_search.specs.Occurrences.{ListsAll}
 use Rattle.sc_search.specs.Propagation.{IsNew}
 use Rattle.sc_search.specs.Steps.{AreListed, IsLawful, added, after}
 use Rattle.sc_search.specs.Trails.{true_before, cell_of, set_at, Agree, AreQuiet, AreAllSet, AreInCells, AllInCells, HoldsTrail}
 use Rattle.sc_search.specs.Turns.{IsReady, IsTotal, HasLearned, HasRefuted, HasAdded, HasEnded, HasSettled, IsTurn, IsSearching, cell_value}
+use Rattle.sc_search.specs.Visits.{AreSeenBut}
 use Rattle.sc_search.specs.declared.cell.Cell.{Cell}
 use Rattle.sc_search.specs.declared.cell.Cell.TheVariants.{Free, Decided, Implied}
 use Rattle.sc_search.specs.declared.solver.Solver.{Solver}
@@ -234,13 +236,18 @@ pub settled-result : {E : Type 0} (accepts : instance.Instance → Bool) (clause
 settled-result accepts clause_of n atoms cs cs' ss ss' budget s (Ok t) e same_cs same_ss h = settled-turn accepts clause_of n atoms cs cs' ss ss' budget s t e same_cs same_ss h
 settled-result accepts clause_of n atoms cs cs' ss ss' budget s (Err x) e same_cs same_ss h = h
 
+pub listed-in-cells : (atoms : ℕ) (given : List Clause) → ((c : Clause) → Contains given c → AreListed atoms c) → AreInCells (atoms + 1) given
+listed-in-cells atoms given listed c has l lit = let h = listed c has l lit in let le : l.atom ≤ atoms = h.1 in (h.0, omega arith)
+
 -- the search before its first turn
 pub searching-begins : (accepts : instance.Instance → Bool) (clause_of : instance.Instance → Clause) (atoms : ℕ) (given : List Clause) (budget : ℕ) (s : Solver) → ((c : Clause) → Contains given c → AreListed atoms c)
-    → HoldsTrail (atoms + 1) given s.trail → s.clauses.items ≡ given → s.steps.items ≡ [] → IsSearching atoms accepts clause_of given budget s
-searching-begins accepts clause_of atoms given budget s listed holds clauses steps = record {
+    → ListsAll (atoms + 1) given s.occurrences → HoldsTrail (atoms + 1) given s.trail → AreSeenBut given s.trail s.pending → s.clauses.items ≡ given → s.steps.items ≡ [] → IsSearching atoms accepts clause_of given budget s
+searching-begins accepts clause_of atoms given budget s listed lists holds seen clauses steps = record {
   ready = record {
-    in_cells = subst (λ (cs : List Clause). AreInCells (atoms + 1) cs) (sym clauses) (λ c has l lit. let h = listed c has l lit in let le : l.atom ≤ atoms = h.1 in (h.0, omega arith));
+    in_cells = subst (λ (cs : List Clause). AreInCells (atoms + 1) cs) (sym clauses) (listed-in-cells atoms given listed);
+    listed = subst (λ (cs : List Clause). ListsAll (atoms + 1) cs s.occurrences) (sym clauses) lists;
     trail = subst (λ (cs : List Clause). HoldsTrail (atoms + 1) cs s.trail) (sym clauses) holds;
+    seen = subst (λ (cs : List Clause). AreSeenBut cs s.trail s.pending) (sym clauses) seen;
   };
   clauses_are = clauses ∙ sym (append-nil given) ∙ ap (λ (ss : List Step). after clause_of given ss) (sym steps);
   are_units = subst (λ (ss : List Step). AreUnits atoms accepts clause_of given ss) (sym steps) (no_step given);

@@ -104,10 +104,10 @@ decided-at c s i e = subst (λ (x : Cell). set_at x s i) (sym e) (refl, refl)
 implied-at : (c : Cell) (s : Bool) (i q : ℕ) → c ≡ Implied s i q → set_at c s i
 implied-at c s i q e = subst (λ (x : Cell). set_at x s i) (sym e) (refl, refl)
 
-implied-holds : (l : Lit) (p r : ℕ) → HoldsFrom (Implied l.negated p r) l p
+pub implied-holds : (l : Lit) (p r : ℕ) → HoldsFrom (Implied l.negated p r) l p
 implied-holds l p r = ((λ s i a. (sym a.0, sym a.1)), (refl, refl))
 
-decided-holds : (l : Lit) (p : ℕ) → HoldsFrom (Decided l.negated p) l p
+pub decided-holds : (l : Lit) (p : ℕ) → HoldsFrom (Decided l.negated p) l p
 decided-holds l p = ((λ s i a. (sym a.0, sym a.1)), (refl, refl))
 
 module _ (n : ℕ) (cs : List Clause) (cells : List Cell) (trail : List Lit) (levels : List ℕ) (l : Lit)

@@ -3,6 +3,7 @@ pub mod Steps
 pub mod Findings
 pub mod Trails
 pub mod Readings
+pub mod Visits
+pub mod Occurrences
 pub mod Analyses
 pub mod Turns
-pub mod Samples

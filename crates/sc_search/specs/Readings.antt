@@ -1,5 +1,5 @@
 -- What is read from the trail: of a literal, of a clause, of all clauses.
-use Rattle.std.specs.Prelude.{◌≡◌, ◌≢◌, ◌<◌, ◌≤◌, ⊤, ℕ, List, Bool, true, false, length, Option, Some, None}
+use Rattle.std.specs.Prelude.{◌≡◌, ◌≢◌, ◌<◌, ℕ, List, Bool, true, false, length, Option, Some, None}
 use Rattle.std.specs.List.{All, Contains, slice_index_or}
 use Rattle.sc_clauses.specs.declared.lit.Lit.{Lit}
 use Rattle.sc_clauses.specs.Clauses.{Clause, bool_eq, negation}
@@ -9,10 +9,8 @@ use Rattle.sc_search.specs.declared.cell.Truth.{Truth}
 use Rattle.sc_search.specs.declared.cell.Truth.TheVariants as truth
 use Rattle.sc_search.specs.declared.propagation.Status.{Status}
 use Rattle.sc_search.specs.declared.propagation.Status.TheVariants as status
-use Rattle.sc_search.specs.declared.propagation.Scan.{Scan}
-use Rattle.sc_search.specs.declared.propagation.Scan.TheVariants as scan
 use Rattle.sc_search.specs.Steps.{At}
-use Rattle.sc_search.specs.Trails.{true_before, cell_of, IsQuiet, AreQuiet, IsReason, InCells}
+use Rattle.sc_search.specs.Trails.{true_before, cell_of, IsQuiet}
 
 abbrev pub signed : Bool → Truth
 signed true = truth.True
@@ -47,30 +45,6 @@ IsSoFar cells p c (Some l) = IsUnitAt cells p c l
 
 abbrev pub IsFalsified : List Clause → List Cell → ℕ → ℕ → Type 0
 IsFalsified clauses cells p i = (c : Clause) × At clauses i c × AreFalse cells p c
-
--- the clauses at the places from first to end are quiet
-abbrev pub AreQuietFrom : (Lit → Bool) → List Clause → ℕ → ℕ → Type 0
-AreQuietFrom T clauses first end = (k : ℕ) (d : Clause) → first ≤ k → k < end → IsQuiet T (slice_index_or clauses k d)
-
--- a clause that gives a literal, or that is falsified
-abbrev pub HasFound : List Clause → List Cell → ℕ → Scan → Type 0
-HasFound clauses cells p scan.Quiet = ⊤
-HasFound clauses cells p (scan.Unit i l) = IsReason clauses cells l p i × (cell_of cells l ≡ Free) × InCells (length cells) l
-HasFound clauses cells p (scan.Falsified i) = IsFalsified clauses cells p i
-
-abbrev pub HasScanned : List Clause → List Cell → ℕ → ℕ → ℕ → Scan → Type 0
-HasScanned clauses cells p first end scan.Quiet = AreQuietFrom (true_before cells p) clauses first end
-HasScanned clauses cells p first end (scan.Unit i l) = HasFound clauses cells p (scan.Unit i l)
-HasScanned clauses cells p first end (scan.Falsified i) = HasFound clauses cells p (scan.Falsified i)
-
-abbrev pub HasScan : List Clause → List Cell → ℕ → Scan → Type 0
-HasScan clauses cells p scan.Quiet = AreQuiet (true_before cells p) clauses
-HasScan clauses cells p (scan.Unit i l) = HasFound clauses cells p (scan.Unit i l)
-HasScan clauses cells p (scan.Falsified i) = HasFound clauses cells p (scan.Falsified i)
-
-abbrev pub HasPropagated : List Clause → List Cell → ℕ → Option ℕ → Type 0
-HasPropagated clauses cells p None = AreQuiet (true_before cells p) clauses
-HasPropagated clauses cells p (Some i) = IsFalsified clauses cells p i
 
 -- the literals are false by the places before p
 abbrev pub AreBefore : List Cell → ℕ → Clause → Type 0

@@ -14,12 +14,16 @@ use Rattle.sc_search.specs.Propagation.{IsNew}
 use Rattle.sc_search.specs.Steps.{IsShown, IsLawful, after, added}
 use Rattle.sc_search.specs.Findings.{IsUnit, AreUnits, IsConsistent}
 use Rattle.sc_search.specs.Trails.{true_before, AreQuiet, HoldsTrail, AreInCells, AreAllSet}
+use Rattle.sc_search.specs.Occurrences.{ListsAll}
 use Rattle.sc_search.specs.Readings.{IsFalsified}
+use Rattle.sc_search.specs.Visits.{AreSeenBut}
 
--- the solver's clauses and trail fit; it has n cells, the first of no atom
+-- the solver's clauses, their occurrences and the trail fit; it has n cells, the first of no atom
 pub record IsReady (n : ℕ) (s : Solver) : Type 0 where
   pub in_cells : AreInCells n s.clauses.items
+  pub listed : ListsAll n s.clauses.items s.occurrences
   pub trail : HoldsTrail n s.clauses.items s.trail
+  pub seen : AreSeenBut s.clauses.items s.trail s.pending
 
 -- the clauses and steps are as they were
 pub record IsKept (clauses : List Clause) (steps : List Step) (s : Solver) : Type 0 where

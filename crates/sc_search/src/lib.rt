@@ -9,12 +9,11 @@ mod activity;
 mod analysis;
 mod backjumping;
 mod cell;
+mod occurrences;
 mod propagation;
 mod searching;
 mod solver;
 mod source;
-#[cfg(test)]
-mod tests;
 mod trail;
 
 pub use searching::{Found, search};

@@ -1,11 +1,15 @@
-//! Unit propagation, by going through the clauses.
-ghost use Rattle.std.specs.Prelude.{◌≡◌, ◌≤◌, ◌+◌, ◌-◌, length, IfOk, ℕ};
-ghost use Rattle.sc_search.specs.Readings.{HasStatus, HasScanned, HasScan, HasPropagated};
-ghost use Rattle.sc_search.specs.Trails.{Agree, HoldsTrail, AllInCells, AreInCells, free_count};
+//! Unit propagation, by the clauses that hold what became false.
+ghost use Rattle.std.specs.Prelude.{◌≡◌, ◌<◌, ◌≤◌, ℕ, length, IfOk};
+ghost use Rattle.std.specs.List.{Contains};
+ghost use Rattle.sc_search.specs.Occurrences.{ListsAll};
+ghost use Rattle.sc_search.specs.Readings.{HasStatus};
+ghost use Rattle.sc_search.specs.Trails.{Agree, HoldsTrail, AllInCells, AreInCells};
+ghost use Rattle.sc_search.specs.Visits.{GoesOn, HasVisited, HasVisitedEach, HasVisitedListed, AreSeen, AreSeenBut, HasPropagated};
 
 use crate::cell::Truth;
+use crate::occurrences::Occurrences;
 use crate::trail::{Trail, is_same};
-use sc_clauses::{Clause, Lit};
+use sc_clauses::{Clause, Lit, negation};
 use std::alloc::AllocError;
 
 /// What a clause says under the assignment.
@@ -19,15 +23,13 @@ pub(crate) enum Status {
     Falsified,
 }
 
-/// What a list of clauses says under the assignment.
+/// Which clauses are still to be visited. The others are quiet.
 #[derive(Clone, Copy)]
-pub(crate) enum Scan {
-    /// Nothing.
-    Quiet,
-    /// The clause at `reason` gives a literal.
-    Unit { reason: usize, lit: Lit },
-    /// The clause at a place is falsified.
-    Falsified { clause: usize },
+pub(crate) enum Pending {
+    /// Each of them may be.
+    Each,
+    /// Those with a literal that became false at this place of the trail or after it.
+    From(usize),
 }
 
 impl Trail {
@@ -57,65 +59,106 @@ impl Trail {
         }
     }
 
-    /// What the clauses at the places from `first` to `end` say.
-    fn scan_between(&self, clauses: &[Clause], first: usize, end: usize) -> Scan
-        requires agree { Agree self.now.cells.items self.now.lits.items }
-        requires in_cells { AreInCells (length self.now.cells.items) clauses.now }
-        requires end { end ≤ length clauses.now }
-        ensures { HasScanned clauses.now self.now.cells.items (length self.now.lits.items) first end result }
+    /// Makes true what the clause at a place gives. Whether it's falsified.
+    fn visit(&mut self, clauses: &[Clause], place: usize) -> Result<bool, AllocError>
+        requires in_cells { AreInCells (length self.old.cells.items) clauses.now }
+        requires trail { HoldsTrail (length self.old.cells.items) clauses.now self.old }
+        requires within { place < length clauses.now }
+        ensures goes_on { IfOk result (λ _. GoesOn (length self.old.cells.items) clauses.now self.old self.new) }
+        ensures visited { IfOk result (λ falsified. HasVisited clauses.now self.new place falsified) }
     {
-        for i in first..end {
-            match self.status(clauses[i].as_slice()) {
-                Status::Quiet => {}
-                Status::Unit(lit) => return Scan::Unit { reason: i, lit },
-                Status::Falsified => return Scan::Falsified { clause: i },
+        match self.status(clauses[place].as_slice()) {
+            Status::Quiet => Ok(false),
+            Status::Unit(lit) => {
+                self.imply(lit, place)?;
+                Ok(false)
+            }
+            Status::Falsified => Ok(true),
+        }
+    }
+
+    /// Visits each clause, until one is falsified (its place).
+    fn visit_each(&mut self, clauses: &[Clause]) -> Result<Option<usize>, AllocError>
+        requires in_cells { AreInCells (length self.old.cells.items) clauses.now }
+        requires trail { HoldsTrail (length self.old.cells.items) clauses.now self.old }
+        ensures goes_on { IfOk result (λ _. GoesOn (length self.old.cells.items) clauses.now self.old self.new) }
+        ensures visited { IfOk result (λ r. HasVisitedEach clauses.now self.new (length self.old.lits.items) r) }
+    {
+        for place in 0..clauses.len() {
+            if self.visit(clauses, place)? {
+                return Ok(Some(place));
             }
         }
-        Scan::Quiet
+        Ok(None)
     }
 
-    /// What the clauses from a place on say.
-    fn scan_after(&self, clauses: &[Clause], first: usize) -> Scan
-        requires agree { Agree self.now.cells.items self.now.lits.items }
-        requires in_cells { AreInCells (length self.now.cells.items) clauses.now }
-        ensures { HasScanned clauses.now self.now.cells.items (length self.now.lits.items) first (length clauses.now) result }
+    /// Visits the clauses at these places, until one is falsified (its place).
+    fn visit_listed(
+        &mut self,
+        clauses: &[Clause],
+        places: &[usize],
+    ) -> Result<Option<usize>, AllocError>
+        requires in_cells { AreInCells (length self.old.cells.items) clauses.now }
+        requires trail { HoldsTrail (length self.old.cells.items) clauses.now self.old }
+        requires within { (i : ℕ) → Contains places.now i → i < length clauses.now }
+        ensures goes_on { IfOk result (λ _. GoesOn (length self.old.cells.items) clauses.now self.old self.new) }
+        ensures visited { IfOk result (λ r. HasVisitedListed clauses.now places.now self.new (length self.old.lits.items) r) }
     {
-        self.scan_between(clauses, first, clauses.len())
-    }
-
-    /// What the clauses say, looked at from a place on and then from the first: where clauses that follow from one
-    /// another stand in this order, one round is enough.
-    fn scan(&self, clauses: &[Clause], from: usize) -> Scan
-        requires agree { Agree self.now.cells.items self.now.lits.items }
-        requires in_cells { AreInCells (length self.now.cells.items) clauses.now }
-        requires from { from ≤ length clauses.now }
-        ensures { HasScan clauses.now self.now.cells.items (length self.now.lits.items) result }
-    {
-        match self.scan_after(clauses, from) {
-            Scan::Quiet => self.scan_between(clauses, 0, from),
-            Scan::Unit { reason, lit } => Scan::Unit { reason, lit },
-            Scan::Falsified { clause } => Scan::Falsified { clause },
+        for place in places {
+            if self.visit(clauses, *place)? {
+                return Ok(Some(*place));
+            }
         }
+        Ok(None)
+    }
+
+    /// Visits the clauses with a literal that is false from a place of the trail or a later one on.
+    fn follow(
+        &mut self,
+        clauses: &[Clause],
+        occurrences: &Occurrences,
+        first: usize,
+    ) -> Result<Option<usize>, AllocError>
+        requires in_cells { AreInCells (length self.old.cells.items) clauses.now }
+        requires trail { HoldsTrail (length self.old.cells.items) clauses.now self.old }
+        requires listed { ListsAll (length self.old.cells.items) clauses.now occurrences.now }
+        requires seen { AreSeen clauses.now self.old first }
+        ensures goes_on { IfOk result (λ _. GoesOn (length self.old.cells.items) clauses.now self.old self.new) }
+        ensures done { IfOk result (λ r. HasPropagated clauses.now self.new.cells.items (length self.new.lits.items) r) }
+    {
+        let mut place = first;
+        'literals: while place < self.lits.len() {
+            let lit = negation(self.lits[place]);
+            if let Some(conflict) = self.visit_listed(clauses, occurrences.places_of(lit))? {
+                return Ok(Some(conflict));
+            }
+            place += 1;
+        }
+        Ok(None)
     }
 
     /// Makes true what the clauses give, until one of them is falsified (its place) or all are quiet.
-    pub fn propagate(&mut self, clauses: &[Clause]) -> Result<Option<usize>, AllocError>
+    pub fn propagate(
+        &mut self,
+        clauses: &[Clause],
+        occurrences: &Occurrences,
+        pending: Pending,
+    ) -> Result<Option<usize>, AllocError>
         requires in_cells { AreInCells (length self.old.cells.items) clauses.now }
         requires trail { HoldsTrail (length self.old.cells.items) clauses.now self.old }
-        ensures trail { IfOk result (λ _. HoldsTrail (length self.old.cells.items) clauses.now self.new) }
-        ensures levels { IfOk result (λ _. self.new.levels ≡ self.old.levels) }
-        ensures fewer { IfOk result (λ _. free_count self.new.cells.items ≤ free_count self.old.cells.items) }
+        requires listed { ListsAll (length self.old.cells.items) clauses.now occurrences.now }
+        requires pending { AreSeenBut clauses.now self.old pending }
+        ensures goes_on { IfOk result (λ _. GoesOn (length self.old.cells.items) clauses.now self.old self.new) }
         ensures done { IfOk result (λ r. HasPropagated clauses.now self.new.cells.items (length self.new.lits.items) r) }
     {
-        let mut from = 0;
-        'units: loop {
-            match self.scan(clauses, from) {
-                Scan::Quiet => return Ok(None),
-                Scan::Unit { reason, lit } => {
-                    self.imply(lit, reason)?;
-                    from = reason;
+        match pending {
+            Pending::From(place) => self.follow(clauses, occurrences, place),
+            Pending::Each => {
+                let place = self.lits.len();
+                if let Some(conflict) = self.visit_each(clauses)? {
+                    return Ok(Some(conflict));
                 }
-                Scan::Falsified { clause } => return Ok(Some(clause)),
+                self.follow(clauses, occurrences, place)
             }
         }
     }

@@ -1,13 +1,16 @@
 //! The state of a search, and the steps that it logs.
 ghost use Rattle.std.specs.Prelude.{◌≡◌, ◌≢◌, ◌↔◌, ◌+◌, ◌-◌, ◌^◌, ◌<◌, ◌≤◌, ◌++◌, [], ◌∷◌, ℕ, length, map, drop, slice_index_or, IfOk, IsTrue};
+ghost use Rattle.sc_search.specs.Occurrences.{ListsAll};
 ghost use Rattle.sc_search.specs.Readings.{IsFalsified};
-ghost use Rattle.sc_search.specs.Steps.{AreListed};
-ghost use Rattle.sc_search.specs.Trails.{AllInCells, HoldsTrail};
+ghost use Rattle.sc_search.specs.Trails.{AllInCells, AreInCells, HoldsTrail};
+ghost use Rattle.sc_search.specs.Visits.{AreSeenBut};
 ghost use Rattle.sc_search.specs.Turns.{IsReady, IsKept, IsAtRest, HasLearned, HasRefuted, HasSettled, cell_value};
 
 use crate::activity::Activity;
 use crate::analysis::Resolvent;
 use crate::cell::{Cell, value_of};
+use crate::occurrences::Occurrences;
+use crate::propagation::Pending;
 use crate::trail::Trail;
 use sc_clauses::{Assignment, Clause, Learned, Lit, Step, negation};
 use sc_lists::Seq;
@@ -31,7 +34,9 @@ pub(crate) enum Turn {
 pub(crate) struct Solver {
     pub clauses: Vec<Clause>,
     pub steps: Vec<Step>,
+    pub occurrences: Occurrences,
     pub trail: Trail,
+    pub pending: Pending,
     pub activity: Activity,
 }
 
@@ -66,19 +71,25 @@ fn later_values(alloc: Global, cells: &[Cell]) -> Result<Seq<Option<bool>>, Allo
 impl Solver {
     /// The search over these clauses, before its first turn.
     pub fn new(alloc: Global, atoms: u64, clauses: Seq<Clause>) -> Result<Solver, AllocError>
-        requires { atoms < 10 ^ 18 }
+        requires few_atoms { atoms < 10 ^ 18 }
+        requires in_cells { AreInCells (atoms + 1) clauses }
         ensures count { IfOk result (λ s. length s.trail.cells.items ≡ atoms + 1) }
+        ensures listed { IfOk result (λ s. ListsAll (atoms + 1) clauses s.occurrences) }
         ensures trail { IfOk result (λ s. HoldsTrail (atoms + 1) clauses s.trail) }
+        ensures seen { IfOk result (λ s. AreSeenBut clauses s.trail s.pending) }
         ensures clauses { IfOk result (λ s. s.clauses.items ≡ clauses) }
         ensures steps { IfOk result (λ s. s.steps.items ≡ []) }
     {
         let cells = atoms as usize + 1;
+        let occurrences = Occurrences::of(alloc, cells, clauses.as_slice())?;
         let trail = Trail::new(alloc, cells)?;
         let activity = Activity::new(alloc, cells)?;
         Ok(Solver {
             clauses: clauses.into_vec(),
             steps: Vec::new(alloc),
+            occurrences,
             trail,
+            pending: Pending::Each,
             activity,
         })
     }
@@ -107,9 +118,14 @@ impl Solver {
         ensures rest { IfOk result (λ r. IsAtRest self.new r) }
     {
         'moves: loop {
-            if let Some(conflict) = self.trail.propagate(&self.clauses)? {
+            let conflict = self
+                .trail
+                .propagate(&self.clauses, &self.occurrences, self.pending)?;
+            if let Some(conflict) = conflict {
                 return Ok(Some(conflict));
             }
+            let place = self.trail.lits.len();
+            self.pending = Pending::From(place);
             let Some(atom) = self.trail.choose(&self.activity) else {
                 return Ok(None);
             };
@@ -151,11 +167,14 @@ impl Solver {
         let clause = copy_of(alloc, &lits)?;
         self.trail.backtrack(&self.clauses, level);
         let reason = self.clauses.len();
+        self.occurrences.add(reason, clause.as_slice())?;
         self.clauses.push(clause)?;
         self.steps.push(Step::Learned(Learned {
             clause: Seq::from_vec(lits),
             hints: Seq::from_vec(hints),
         }))?;
+        let place = self.trail.lits.len();
+        self.pending = Pending::From(place);
         self.trail.imply(given, reason)?;
         Ok(())
     }
@@ -209,6 +228,9 @@ impl Solver {
         ensures steps { IfOk result (λ _. self.new.steps.items ≡ self.old.steps.items ++ step ∷ []) }
     {
         self.trail.make_room(&self.clauses, clause.as_slice());
+        self.pending = Pending::Each;
+        let place = self.clauses.len();
+        self.occurrences.add(place, clause.as_slice())?;
         self.clauses.push(clause)?;
         self.steps.push(step)?;
         Ok(())

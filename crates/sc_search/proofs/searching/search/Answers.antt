@@ -1,18 +1,21 @@
 use Rattle.std.proofs.Common.{◌≡◌, ◌≢◌, ◌+◌, ◌-◌, ℕ, List, length, subst, sym, ap, ◌∙◌, arith}
 use Rattle.sc_clauses.specs.declared.step.Step.{Step}
-use Rattle.sc_search.proofs.SearchLaws.{consistent-given, count-after, count-more, refutation, searching-begins, searching-more, spent}
+use Rattle.sc_search.proofs.SearchLaws.{consistent-given, count-after, count-more, listed-in-cells, refutation, searching-begins, searching-more, spent}
 use Rattle.sc_search.proofs.searching.search.Goals as goal
 use Rattle.sc_search.specs.Findings.{IsConsistent, IsRefutation, IsSpent}
 use Rattle.sc_search.specs.Turns.{HasAdded, HasEnded, IsReady, IsTurn}
 use Rattle.sc_search.specs.declared.solver.Turn.{Turn}
 use Rattle.sc_search.specs.declared.solver.Turn.TheVariants as turn
 
+pub new-requires-clause-in_cells : goal.new-requires-clause-in_cells
+new-requires-clause-in_cells g c = listed-in-cells c.args.atoms c.args.clauses c.requires.listed
+
 pub turns-init : goal.turns-init
 turns-init g c =
     let A = g.S.Source.accepts c.args.source.now in
     let K = g.S.Source.clause_of c.args.source.now in
     let made = c.in_ok-solver.ensures in
-    searching-begins A K c.args.atoms c.args.clauses c.args.budget c.in_ok-solver.solver c.requires.listed made.trail made.clauses made.steps
+    searching-begins A K c.args.atoms c.args.clauses c.args.budget c.in_ok-solver.solver c.requires.listed made.listed made.trail made.seen made.clauses made.steps
 
 pub turn-requires-clause-ready : goal.turn-requires-clause-ready
 turn-requires-clause-ready g c =

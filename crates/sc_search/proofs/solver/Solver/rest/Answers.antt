@@ -1,11 +1,14 @@
-use Rattle.std.proofs.Common.{◌≡◌, ◌+◌, ◌<◌, ◌≤◌, ℕ, List, length, subst, sym, ap, Option, refl, arith, true}
+use Rattle.std.proofs.Common.{◌≡◌, ◌+◌, ◌<◌, ◌≤◌, ℕ, List, length, subst, sym, ap, Option, refl, arith, rules, true}
 use Rattle.std.proofs.Math.ListN.{set}
 use Rattle.sc_clauses.specs.Clauses.{Clause}
 use Rattle.sc_clauses.specs.declared.lit.Lit.{Lit}
 use Rattle.sc_search.proofs.TrailLaws.{trail-decide-to, free-set}
 use Rattle.sc_search.proofs.solver.Solver.rest.Goals as goal
-use Rattle.sc_search.specs.Readings.{HasPropagated, IsFalsified}
-use Rattle.sc_search.specs.Trails.{AreInCells, AreQuiet, HoldsTrail, IsTrail, cell_of, free_count, true_before}
+use Rattle.sc_search.proofs.VisitLaws.{decided-seen, goes-among, quiet-seen, seen-but-on}
+use Rattle.sc_search.specs.Occurrences.{ListsAll}
+use Rattle.sc_search.specs.Readings.{IsFalsified}
+use Rattle.sc_search.specs.Trails.{AreInCells, AreQuiet, HoldsTrail, InCells, cell_of, free_count, true_before}
+use Rattle.sc_search.specs.Visits.{AreSeenBut, GoesOn, HasPropagated}
 use Rattle.sc_search.specs.declared.cell.Cell.TheVariants.{Free, Decided}
 
 pub propagate-requires-clause-in_cells : goal.propagate-requires-clause-in_cells
@@ -21,14 +24,28 @@ propagate-requires-clause-trail c =
     let k : length t.cells.items ≡ n = c.moves.invariant.ready.trail.sized in
     subst (λ (m : ℕ). HoldsTrail m c.deref.result.now t) (sym k) (subst (λ (ds : List Clause). HoldsTrail n ds t) (sym c.deref.ensures.value) c.moves.invariant.ready.trail)
 
+pub propagate-requires-clause-listed : goal.propagate-requires-clause-listed
+propagate-requires-clause-listed c =
+    let n = length c.args.self.now.trail.cells.items in
+    let s = c.moves.self in
+    let k : length s.trail.cells.items ≡ n = c.moves.invariant.ready.trail.sized in
+    subst (λ (m : ℕ). ListsAll m c.deref.result.now s.occurrences) (sym k) (subst (λ (ds : List Clause). ListsAll n ds s.occurrences) (sym c.deref.ensures.value) c.moves.invariant.ready.listed)
+
+pub propagate-requires-clause-pending : goal.propagate-requires-clause-pending
+propagate-requires-clause-pending c = let s = c.moves.self in subst (λ (ds : List Clause). AreSeenBut ds s.trail s.pending) (sym c.deref.ensures.value) c.moves.invariant.ready.seen
+
 pub returns-in-Some-clause-ready : goal.returns-in-Some-clause-ready
 returns-in-Some-clause-ready c =
     let n = length c.args.self.now.trail.cells.items in
     let was = c.moves.self in
-    let k : length was.trail.cells.items ≡ n = c.moves.invariant.ready.trail.sized in
+    let ready = c.moves.invariant.ready in
+    let goes : GoesOn n was.clauses.items was.trail c.propagate.new.self =
+    goes-among n _ was.clauses.items c.deref.result.now was.trail c.propagate.new.self ready.trail.sized c.deref.ensures.value c.in_ok-conflict.ensures.goes_on in
     record {
-      in_cells = c.moves.invariant.ready.in_cells;
-      trail = subst (λ (ds : List Clause). HoldsTrail n ds c.propagate.new.self) c.deref.ensures.value (subst (λ (m : ℕ). HoldsTrail m c.deref.result.now c.propagate.new.self) k c.in_ok-conflict.ensures.trail);
+      in_cells = ready.in_cells;
+      listed = ready.listed;
+      trail = goes.trail;
+      seen = seen-but-on n was.clauses.items was.trail c.propagate.new.self was.pending goes ready.seen;
     }
 
 pub returns-in-Some-clause-rest : goal.returns-in-Some-clause-rest
@@ -41,10 +58,18 @@ pub returns-in_default-choose-clause-ready : goal.returns-in_default-choose-clau
 returns-in_default-choose-clause-ready c =
     let n = length c.args.self.now.trail.cells.items in
     let was = c.moves.self in
-    let k : length was.trail.cells.items ≡ n = c.moves.invariant.ready.trail.sized in
+    let u = c.propagate.new.self in
+    let ready = c.moves.invariant.ready in
+    let goes : GoesOn n was.clauses.items was.trail u = goes-among n _ was.clauses.items c.deref.result.now was.trail u ready.trail.sized c.deref.ensures.value c.in_ok-conflict.ensures.goes_on in
+    let quiet : AreQuiet (true_before u.cells.items (length u.lits.items)) was.clauses.items =
+    subst (λ (ds : List Clause). AreQuiet (true_before u.cells.items (length u.lits.items)) ds) c.deref.ensures.value
+    (subst (λ (r : Option ℕ). HasPropagated c.deref.result.now u.cells.items (length u.lits.items) r) c.in_default.is c.in_ok-conflict.ensures.done) in
+    let end : c.len-place.result ≡ length u.lits.items = search rules in
     record {
-      in_cells = c.moves.invariant.ready.in_cells;
-      trail = subst (λ (ds : List Clause). HoldsTrail n ds c.propagate.new.self) c.deref.ensures.value (subst (λ (m : ℕ). HoldsTrail m c.deref.result.now c.propagate.new.self) k c.in_ok-conflict.ensures.trail);
+      in_cells = ready.in_cells;
+      listed = ready.listed;
+      trail = goes.trail;
+      seen = quiet-seen was.clauses.items u c.len-place.result end quiet;
     }
 
 pub returns-in_default-choose-clause-rest : goal.returns-in_default-choose-clause-rest
@@ -58,6 +83,7 @@ returns-in_default-choose-clause-rest c =
 
 pub moves-smaller : goal.moves-smaller
 moves-smaller c =
+    let was = c.moves.self.trail in
     let u = c.propagate.new.self in
     let l : Lit = record { atom = c.in-Some-choose.atom; negated = true } in
     let choice = c.in-Some-choose.ensures in
@@ -65,34 +91,40 @@ moves-smaller c =
     let free : cell_of u.cells.items l ≡ Free = choice.2 in
     let e : free_count (set u.cells.items l.atom (Decided l.negated (length u.lits.items))) + 1 ≡ free_count u.cells.items = free-set u.cells.items l.atom _ free within refl in
     let f : free_count c.decide.new.self.cells.items ≡ free_count (set u.cells.items l.atom (Decided l.negated (length u.lits.items))) = ap free_count c.in_ok-decide.ensures.cells in
-    let g : free_count u.cells.items ≤ free_count c.moves.self.trail.cells.items = c.in_ok-conflict.ensures.fewer in
-    let h : free_count c.decide.new.self.cells.items < free_count c.moves.self.trail.cells.items = omega arith in
+    let goes = c.in_ok-conflict.ensures.goes_on in
+    let counted : free_count u.cells.items + length u.lits.items ≡ free_count was.cells.items + length was.lits.items = goes.counted in
+    let longer : length was.lits.items ≤ length u.lits.items = goes.longer in
+    let h : free_count c.decide.new.self.cells.items < free_count was.cells.items = omega arith in
     h
 
 pub moves-preserved : goal.moves-preserved
 moves-preserved c =
     let n = length c.args.self.now.trail.cells.items in
     let was = c.moves.self in
+    let cs = was.clauses.items in
     let u = c.propagate.new.self in
-    let done = c.in_ok-conflict.ensures in
-    let k : length was.trail.cells.items ≡ n = c.moves.invariant.ready.trail.sized in
-    let sound : IsTrail n was.clauses.items u.cells.items u.lits.items u.levels.items (length u.lits.items) =
-    subst (λ (ds : List Clause). IsTrail n ds u.cells.items u.lits.items u.levels.items (length u.lits.items)) c.deref.ensures.value
-    (subst (λ (m : ℕ). IsTrail m c.deref.result.now u.cells.items u.lits.items u.levels.items (length u.lits.items)) k done.trail) in
-    let quiet : AreQuiet (true_before u.cells.items (length u.lits.items)) was.clauses.items =
-    subst (λ (ds : List Clause). AreQuiet (true_before u.cells.items (length u.lits.items)) ds) c.deref.ensures.value
-    (subst (λ (r : Option ℕ). HasPropagated c.deref.result.now u.cells.items (length u.lits.items) r) c.in_default.is done.done) in
-    let l : Lit = record { atom = c.in-Some-choose.atom; negated = true } in
     let v = c.decide.new.self in
+    let ready = c.moves.invariant.ready in
+    let goes : GoesOn n cs was.trail u = goes-among n _ cs c.deref.result.now was.trail u ready.trail.sized c.deref.ensures.value c.in_ok-conflict.ensures.goes_on in
+    let sound : HoldsTrail n cs u = goes.trail in
+    let quiet : AreQuiet (true_before u.cells.items (length u.lits.items)) cs =
+    subst (λ (ds : List Clause). AreQuiet (true_before u.cells.items (length u.lits.items)) ds) c.deref.ensures.value
+    (subst (λ (r : Option ℕ). HasPropagated c.deref.result.now u.cells.items (length u.lits.items) r) c.in_default.is c.in_ok-conflict.ensures.done) in
+    let l : Lit = record { atom = c.in-Some-choose.atom; negated = true } in
     let choice = c.in-Some-choose.ensures in
     let within : l.atom < length u.cells.items = choice.1 in
     let free : cell_of u.cells.items l ≡ Free = choice.2 in
     let size : length u.cells.items ≡ n = sound.sized in
+    let in_range : InCells n l = (choice.0, omega arith) in
     let made = c.in_ok-decide.ensures in
+    let decided : HoldsTrail n cs v = trail-decide-to n cs u.cells.items u.lits.items u.levels.items l sound free in_range quiet v.cells.items v.lits.items v.levels.items made.cells made.lits made.levels in
+    let end : c.len-place.result ≡ length u.lits.items = search rules in
     record {
       ready = record {
-        in_cells = c.moves.invariant.ready.in_cells;
-        trail = trail-decide-to n was.clauses.items u.cells.items u.lits.items u.levels.items l sound free (choice.0, omega arith) quiet v.cells.items v.lits.items v.levels.items made.cells made.lits made.levels;
+        in_cells = ready.in_cells;
+        listed = ready.listed;
+        trail = decided;
+        seen = decided-seen n cs u v l c.len-place.result end sound free in_range quiet decided made.cells made.lits;
       };
       kept = record { clauses_kept = c.moves.invariant.kept.clauses_kept; steps_kept = c.moves.invariant.kept.steps_kept };
     }
