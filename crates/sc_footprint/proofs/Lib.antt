@@ -10,4 +10,3 @@ pub mod GoalLaws
 pub mod NumberingLaws
 pub mod WorldLaws
 pub mod TruthLaws
-mod SampleLaws

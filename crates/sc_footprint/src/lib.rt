@@ -12,8 +12,6 @@ mod listing;
 mod numbers;
 mod problem;
 mod sorting;
-#[cfg(test)]
-mod tests;
 mod theory;
 
 pub use closing::close;

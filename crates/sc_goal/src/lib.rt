@@ -7,8 +7,6 @@ mod compiling;
 mod laws;
 mod posing;
 mod queries;
-#[cfg(test)]
-mod tests;
 
 pub use asking::query;
 pub use laws::{goal_laws, property_laws};

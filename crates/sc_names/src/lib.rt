@@ -8,8 +8,6 @@ mod lits;
 mod name;
 mod order;
 mod path;
-#[cfg(test)]
-mod tests;
 mod uid;
 
 pub use escape::{put_escaped, put_uid, uid_text, uid_text_laws};

@@ -1,150 +1,198 @@
 //! What expressions give in the world of one request.
-use crate::samples::{expression, world};
-use sc_ast::Expr;
+use self::Given::{Error, Truth};
+use crate::samples::{first_body, policies_with, world};
+use sc_ast::{Expr, PolicySet};
 use sc_eval::{EvalError, evaluate};
 use sc_lists::Fault;
 use sc_values::Value;
+use sc_world::World;
 use std::alloc::Global;
 
-/// The value of an expression in that world.
-fn value_of(alloc: Global, expr: &Expr) -> Result<Value, Fault<EvalError>> {
-    let world = world(alloc)?;
-    evaluate(alloc, expr, &world)
+/// A truth value, or the reason why there is no value.
+#[derive(Clone, Copy, PartialEq, Eq)]
+enum Given {
+    Truth(bool),
+    Error(EvalError),
 }
 
-/// Whether the expression that a text spells has this truth value in that world.
-fn gives(alloc: Global, body: &str, truth: bool) -> bool {
-    let Some(expr) = expression(alloc, body) else {
-        return false;
-    };
-    match value_of(alloc, &expr) {
-        Ok(Value::Bool(found)) => found == truth,
+fn is_value(value: &Value, given: Given) -> bool {
+    match value {
+        Value::Bool(truth) => given == Truth(*truth),
         _ => false,
     }
 }
 
-/// Whether the expression that a text spells has no value in that world, for this reason.
-fn errs(alloc: Global, body: &str, error: EvalError) -> bool {
-    let Some(expr) = expression(alloc, body) else {
-        return false;
-    };
-    match value_of(alloc, &expr) {
-        Err(Fault::Told(found)) => found == error,
-        _ => false,
+fn gives_in(alloc: Global, expr: &Expr, world: &World, given: Given) -> bool {
+    match evaluate(alloc, expr, world) {
+        Ok(value) => is_value(&value, given),
+        Err(Fault::Told(error)) => given == Error(error),
+        Err(Fault::NoMemory) => false,
     }
 }
+
+fn gives_in_world(alloc: Global, expr: &Expr, given: Given) -> bool {
+    match world(alloc) {
+        Some(world) => gives_in(alloc, expr, &world, given),
+        None => false,
+    }
+}
+
+fn has_body_that_gives(alloc: Global, policies: &PolicySet, given: Given) -> bool {
+    match first_body(policies) {
+        Some(expr) => gives_in_world(alloc, expr, given),
+        None => false,
+    }
+}
+
+/// Whether the expression that a text spells gives this in that world.
+fn gives(alloc: Global, body: &str, given: Given) -> bool {
+    match policies_with(alloc, body) {
+        Some(policies) => has_body_that_gives(alloc, &policies, given),
+        None => false,
+    }
+}
+
+/// Of truth values and numbers.
+const TRUTHS_AND_NUMBERS: &[(&str, Given)] = &[
+    ("true || 1", Truth(true)),
+    ("false && 1", Truth(false)),
+    ("true || true && false", Truth(true)),
+    (
+        "if true then true else 9223372036854775807 + 1 < 0",
+        Truth(true),
+    ),
+    ("(if false then 1 else 2) == 2", Truth(true)),
+    ("1 != 1", Truth(false)),
+    ("1 == \"1\"", Truth(false)),
+    ("1 < 1", Truth(false)),
+    ("1 <= 1", Truth(true)),
+    ("2 > 1", Truth(true)),
+    ("1 >= 2", Truth(false)),
+    ("1 - 2 - 3 == -4", Truth(true)),
+    ("2 + 3 * 4 == 14", Truth(true)),
+    (
+        "-9223372036854775807 - 1 == -9223372036854775808",
+        Truth(true),
+    ),
+];
 
 #[test]
 fn truth_values_and_numbers(rt: HostRuntime) {
-    for (body, truth) in [
-        ("true || 1", true),
-        ("false && 1", false),
-        ("true || true && false", true),
-        ("if true then true else 9223372036854775807 + 1 < 0", true),
-        ("(if false then 1 else 2) == 2", true),
-        ("1 != 1", false),
-        ("1 == \"1\"", false),
-        ("1 < 1", false),
-        ("1 <= 1", true),
-        ("2 > 1", true),
-        ("1 >= 2", false),
-        ("1 - 2 - 3 == -4", true),
-        ("2 + 3 * 4 == 14", true),
-        ("-9223372036854775807 - 1 == -9223372036854775808", true),
-    ] {
-        assert!(rt; gives(rt.alloc(), body, truth), "{body}");
+    for &(body, given) in TRUTHS_AND_NUMBERS {
+        assert!(rt; gives(rt.alloc(), body, given), "{body}");
     }
 }
+
+/// Of sets, records, attributes and tags.
+const SETS_AND_RECORDS: &[(&str, Given)] = &[
+    ("[1, 2] == [2, 1, 1]", Truth(true)),
+    ("[1, 2].contains(2)", Truth(true)),
+    ("[1, 2].containsAll([3, 1])", Truth(false)),
+    ("[1, 2].containsAny([3, 1])", Truth(true)),
+    ("[].isEmpty()", Truth(true)),
+    ("{b: 2, a: 1}.a == 1", Truth(true)),
+    ("{b: 2, a: 1} == {a: 1, b: 2}", Truth(true)),
+    ("context.mfa", Truth(true)),
+    ("context has mfa", Truth(true)),
+    ("principal has name.a", Truth(false)),
+    ("principal.age == 7", Truth(true)),
+    ("principal has age", Truth(true)),
+    ("resource has age", Truth(false)),
+    ("principal.hasTag(\"k\")", Truth(true)),
+    ("principal.hasTag(\"l\")", Truth(false)),
+    ("resource.hasTag(\"k\")", Truth(false)),
+    ("principal.getTag(\"k\")", Truth(true)),
+];
 
 #[test]
 fn sets_records_and_attributes(rt: HostRuntime) {
-    for (body, truth) in [
-        ("[1, 2] == [2, 1, 1]", true),
-        ("[1, 2].contains(2)", true),
-        ("[1, 2].containsAll([3, 1])", false),
-        ("[1, 2].containsAny([3, 1])", true),
-        ("[].isEmpty()", true),
-        ("{b: 2, a: 1}.a == 1", true),
-        ("{b: 2, a: 1} == {a: 1, b: 2}", true),
-        ("context.mfa", true),
-        ("context has mfa", true),
-        ("principal has name.a", false),
-        ("principal.age == 7", true),
-        ("principal has age", true),
-        ("resource has age", false),
-        ("principal.hasTag(\"k\")", true),
-        ("principal.hasTag(\"l\")", false),
-        ("resource.hasTag(\"k\")", false),
-        ("principal.getTag(\"k\")", true),
-    ] {
-        assert!(rt; gives(rt.alloc(), body, truth), "{body}");
+    for &(body, given) in SETS_AND_RECORDS {
+        assert!(rt; gives(rt.alloc(), body, given), "{body}");
     }
 }
+
+/// Of the hierarchy and the types of entities.
+const ENTITIES: &[(&str, Given)] = &[
+    ("principal in [action, Team::\"t\"]", Truth(true)),
+    ("principal in principal", Truth(true)),
+    ("Team::\"t\" in principal", Truth(false)),
+    ("resource in Team::\"t\"", Truth(false)),
+    ("principal in []", Truth(false)),
+    ("principal is User", Truth(true)),
+    ("principal is Team", Truth(false)),
+    ("principal is User in Team::\"t\"", Truth(true)),
+    ("principal is Team in 1", Truth(false)),
+];
 
 #[test]
 fn hierarchy_and_types(rt: HostRuntime) {
-    for (body, truth) in [
-        ("principal in [action, Team::\"t\"]", true),
-        ("principal in principal", true),
-        ("Team::\"t\" in principal", false),
-        ("resource in Team::\"t\"", false),
-        ("principal in []", false),
-        ("principal is User", true),
-        ("principal is Team", false),
-        ("principal is User in Team::\"t\"", true),
-        ("principal is Team in 1", false),
-    ] {
-        assert!(rt; gives(rt.alloc(), body, truth), "{body}");
+    for &(body, given) in ENTITIES {
+        assert!(rt; gives(rt.alloc(), body, given), "{body}");
     }
 }
+
+/// Of texts, decimal numbers and addresses.
+const TEXTS: &[(&str, Given)] = &[
+    ("\"abc\" like \"a*\"", Truth(true)),
+    ("\"bac\" like \"a*\"", Truth(false)),
+    ("\"a*\" like \"a\\*\"", Truth(true)),
+    ("decimal(\"1.5\").lessThan(decimal(\"1.50\"))", Truth(false)),
+    (
+        "decimal(\"1.5\").greaterThanOrEqual(decimal(\"1.50\"))",
+        Truth(true),
+    ),
+    (
+        "ip(\"192.168.0.1/24\") == ip(\"192.168.0.8/24\")",
+        Truth(false),
+    ),
+    ("ip(\"10.0.0.0/8\").isInRange(ip(\"::/0\"))", Truth(false)),
+    (
+        "ip(\"10.1.0.0/16\").isInRange(ip(\"10.0.0.0/8\"))",
+        Truth(true),
+    ),
+    ("ip(\"ff02::1\").isMulticast()", Truth(true)),
+    ("ip(\"::1\").isLoopback()", Truth(true)),
+    ("ip(\"::1\").isIpv4()", Truth(false)),
+];
 
 #[test]
 fn texts_decimals_and_addresses(rt: HostRuntime) {
-    for (body, truth) in [
-        ("\"abc\" like \"a*\"", true),
-        ("\"bac\" like \"a*\"", false),
-        ("\"a*\" like \"a\\*\"", true),
-        ("decimal(\"1.5\").lessThan(decimal(\"1.50\"))", false),
-        (
-            "decimal(\"1.5\").greaterThanOrEqual(decimal(\"1.50\"))",
-            true,
-        ),
-        ("ip(\"192.168.0.1/24\") == ip(\"192.168.0.8/24\")", false),
-        ("ip(\"10.0.0.0/8\").isInRange(ip(\"::/0\"))", false),
-        ("ip(\"10.1.0.0/16\").isInRange(ip(\"10.0.0.0/8\"))", true),
-        ("ip(\"ff02::1\").isMulticast()", true),
-        ("ip(\"::1\").isLoopback()", true),
-        ("ip(\"::1\").isIpv4()", false),
-    ] {
-        assert!(rt; gives(rt.alloc(), body, truth), "{body}");
+    for &(body, given) in TEXTS {
+        assert!(rt; gives(rt.alloc(), body, given), "{body}");
     }
 }
 
+/// Of what has no value.
+const ERRORS: &[(&str, Given)] = &[
+    ("9223372036854775807 + 1", Error(EvalError::Overflow)),
+    (
+        "\"a\" + (9223372036854775807 + 1)",
+        Error(EvalError::Overflow),
+    ),
+    ("-(-9223372036854775808)", Error(EvalError::Overflow)),
+    ("4294967296 * 2147483648", Error(EvalError::Overflow)),
+    ("1 || true", Error(EvalError::TypeError)),
+    ("false || 1", Error(EvalError::TypeError)),
+    ("true && 1", Error(EvalError::TypeError)),
+    ("if 1 then 2 else 3", Error(EvalError::TypeError)),
+    ("!1", Error(EvalError::TypeError)),
+    ("1 < \"a\"", Error(EvalError::TypeError)),
+    ("principal in [principal, 1]", Error(EvalError::TypeError)),
+    ("1 is User", Error(EvalError::TypeError)),
+    ("1 has a", Error(EvalError::TypeError)),
+    ("context has mfa.a", Error(EvalError::TypeError)),
+    ("principal.name", Error(EvalError::AttrMissing)),
+    ("context.name", Error(EvalError::AttrMissing)),
+    ("resource.age", Error(EvalError::EntityMissing)),
+    ("principal.getTag(\"l\")", Error(EvalError::TagMissing)),
+    ("resource.getTag(\"k\")", Error(EvalError::EntityMissing)),
+    ("ip(\"x\")", Error(EvalError::BadText)),
+    ("decimal(\"1\")", Error(EvalError::BadText)),
+];
+
 #[test]
 fn errors(rt: HostRuntime) {
-    for (body, error) in [
-        ("9223372036854775807 + 1", EvalError::Overflow),
-        ("\"a\" + (9223372036854775807 + 1)", EvalError::Overflow),
-        ("-(-9223372036854775808)", EvalError::Overflow),
-        ("4294967296 * 2147483648", EvalError::Overflow),
-        ("1 || true", EvalError::TypeError),
-        ("false || 1", EvalError::TypeError),
-        ("true && 1", EvalError::TypeError),
-        ("if 1 then 2 else 3", EvalError::TypeError),
-        ("!1", EvalError::TypeError),
-        ("1 < \"a\"", EvalError::TypeError),
-        ("principal in [principal, 1]", EvalError::TypeError),
-        ("1 is User", EvalError::TypeError),
-        ("1 has a", EvalError::TypeError),
-        ("context has mfa.a", EvalError::TypeError),
-        ("principal.name", EvalError::AttrMissing),
-        ("context.name", EvalError::AttrMissing),
-        ("resource.age", EvalError::EntityMissing),
-        ("principal.getTag(\"l\")", EvalError::TagMissing),
-        ("resource.getTag(\"k\")", EvalError::EntityMissing),
-        ("ip(\"x\")", EvalError::BadText),
-        ("decimal(\"1\")", EvalError::BadText),
-    ] {
-        assert!(rt; errs(rt.alloc(), body, error), "{body}");
+    for &(body, given) in ERRORS {
+        assert!(rt; gives(rt.alloc(), body, given), "{body}");
     }
 }

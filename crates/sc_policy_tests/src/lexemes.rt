@@ -1,5 +1,5 @@
 //! The tokens of a file with what they say, and what is read of them.
-use crate::samples::at;
+use crate::samples::{at, is_uid};
 use sc_lexemes::{
     Cursor, Level, Lexeme, Operator, Shape, Stop, entity, lexemes_of, names, operator_at, path,
     sign_at, string_at, word_at,
@@ -31,37 +31,51 @@ fn is_number(token: Option<&Lexeme>, digits: &str) -> bool {
     }
 }
 
+fn is_string(ts: &[Lexeme]) -> bool {
+    let parts = [Part::Char('a'), Part::Char('*'), Part::Star];
+    string_at(ts, 1) == Some((at(5), "a**", parts.as_slice()))
+}
+
+fn is_relation(ts: &[Lexeme]) -> bool {
+    let relation = operator_at(ts, 3, Level::Relation);
+    sign_at(ts, 3, Kind::LessOrEqual) == Some(at(15))
+        && relation == Some((at(15), Operator::LessOrEqual))
+        && operator_at(ts, 3, Level::Add) == None
+}
+
+/// `like "a\**" 07 <=`.
+fn are_said(ts: &[Lexeme]) -> bool {
+    word_at(ts, 0, "like") == Some(at(0))
+        && is_string(ts)
+        && is_number(ts.get(2), "07")
+        && is_relation(ts)
+        && ts.len() == 4
+}
+
 #[test]
 fn tokens_say(rt: HostRuntime) {
     let list = of_file(rt.alloc(), "like \"a\\**\" 07 <=");
-    let ts = list.as_slice();
-    let parts = [Part::Char('a'), Part::Char('*'), Part::Star];
-    assert!(rt; word_at(ts, 0, "like") == Some(at(0)));
-    assert!(rt; string_at(ts, 1) == Some((at(5), "a**", parts.as_slice())));
-    assert!(rt; is_number(ts.get(2), "07"));
-    assert!(rt; sign_at(ts, 3, Kind::LessOrEqual) == Some(at(15)));
-    let relation = operator_at(ts, 3, Level::Relation);
-    assert!(rt; relation == Some((at(15), Operator::LessOrEqual)));
-    assert!(rt; operator_at(ts, 3, Level::Add) == None);
-    assert!(rt; ts.len() == 4);
+    assert!(rt; are_said(list.as_slice()));
 }
 
 /// Whether a file begins with this uid, and the token of this number comes behind it.
-fn has_entity(alloc: Global, file: &str, type_name: &str, id: &str, end: usize) -> bool {
+fn has_entity(alloc: Global, file: &str, (type_name, id): (&str, &str), end: usize) -> bool {
     let list = of_file(alloc, file);
     let mut cursor = Cursor::outside(0);
-    let Ok(found) = entity(alloc, list.as_slice(), &mut cursor) else {
-        return false;
-    };
-    found.uid.type_name.as_str() == type_name && found.uid.id.as_str() == id && cursor.at == end
+    match entity(alloc, list.as_slice(), &mut cursor) {
+        Ok(found) => is_uid(&found.uid, type_name, id) && cursor.at == end,
+        Err(_) => false,
+    }
 }
 
 /// How many names a file begins with, and how much room is left behind them.
-fn count_of_names(alloc: Global, file: &str) -> Result<(usize, usize), Stop> {
+fn count_of_names(alloc: Global, file: &str) -> Option<(usize, usize)> {
     let list = of_file(alloc, file);
     let mut cursor = Cursor::outside(0);
-    let found = names(alloc, list.as_slice(), &mut cursor)?;
-    Ok((found.len(), cursor.room))
+    match names(alloc, list.as_slice(), &mut cursor) {
+        Ok(found) => Some((found.len(), cursor.room)),
+        Err(_) => None,
+    }
 }
 
 /// Why a file begins with no path, and at which token.
@@ -77,8 +91,8 @@ fn path_stop(alloc: Global, file: &str) -> Option<(Stop, usize)> {
 #[test]
 fn names_and_uids(rt: HostRuntime) {
     let alloc = rt.alloc();
-    assert!(rt; has_entity(alloc, "A::B::\"c\" a", "A::B", "c", 5));
-    assert!(rt; count_of_names(alloc, "a.b.c A") == Ok((3, 999)));
-    assert!(rt; count_of_names(alloc, "\"a b\".c") == Ok((1, 1001)));
+    assert!(rt; has_entity(alloc, "A::B::\"c\" a", ("A::B", "c"), 5));
+    assert!(rt; count_of_names(alloc, "a.b.c A") == Some((3, 999)));
+    assert!(rt; count_of_names(alloc, "\"a b\".c") == Some((1, 1001)));
     assert!(rt; path_stop(alloc, "A::in") == Some((Stop::Unexpected, 2)));
 }

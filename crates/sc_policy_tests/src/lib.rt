@@ -14,3 +14,5 @@ mod lexemes;
 mod parser;
 #[cfg(test)]
 mod samples;
+#[cfg(test)]
+mod trees;

@@ -1,160 +1,175 @@
 //! Policy files: what is read of them, and their first faults.
-use crate::samples::{at, expression, last_policy, sample};
-use sc_ast::{
-    ActionConstraint, BinaryOperator, ConditionKind, Constraint, Effect, Expr, Literal, Place,
-    Policy, TypeName, UnaryOperator, Variable,
-};
-use sc_lists::{Boxed, Fault, Seq, Text};
-use sc_names::Name;
+use self::Told::{Count, Fails};
+use crate::samples::{at, policies, sample};
+use crate::trees::is_type;
+use sc_ast::{ActionConstraint, ConditionKind, Constraint, Effect, Place, Policy, PolicySet};
+use sc_lists::Fault;
 use sc_parser::PolicyFault::{
     BadCall, BadEscape, BadToken, BadUtf8, DuplicateKey, IntRange, Template, TooDeep,
     TooManyPolicies, Unexpected, UnexpectedEnd,
 };
 use sc_parser::{PolicyFault, read_policies, reading_laws};
-use sc_pattern::{Part, pattern_of};
 use std::alloc::{AllocError, Global};
-use std::test::Fail;
 
-// ---- how many policies there are
+// ---- files
 
-/// Whether a file has so many policies.
-fn has_policies(alloc: Global, bytes: &[u8], count: usize) -> bool {
+/// What is told of a file: how many policies it has, or its first fault.
+#[derive(Clone, Copy, PartialEq, Eq)]
+enum Told {
+    Count(usize),
+    Fails(PolicyFault),
+}
+
+/// Whether this is told of a file.
+fn is_told(alloc: Global, bytes: &[u8], told: Told) -> bool {
     match read_policies(alloc, bytes) {
-        Ok(policies) => policies.len() == count,
-        Err(_) => false,
+        Ok(policies) => told == Count(policies.len()),
+        Err(Fault::Told(fault)) => told == Fails(fault),
+        Err(Fault::NoMemory) => false,
     }
 }
 
-/// Whether this is the first fault of a file.
-fn has_fault(alloc: Global, bytes: &[u8], fault: PolicyFault) -> bool {
-    match read_policies(alloc, bytes) {
-        Err(Fault::Told(found)) => found == fault,
-        _ => false,
-    }
-}
+/// Files, and how many policies they have.
+const FILES: &[(&str, Told)] = &[
+    ("", Count(0)),
+    ("// nothing\n", Count(0)),
+    ("permit(principal, action, resource);", Count(1)),
+    (
+        "@id(\"a\") @b @b forbid(principal, action, resource,);\npermit(principal, action, resource);",
+        Count(2),
+    ),
+    (
+        "permit(principal == A::\"a\", action == A::\"b\", resource in A::B::\"c\");",
+        Count(1),
+    ),
+    (
+        "permit(principal is A in A::\"a\", action in [A::\"b\", A::\"c\",], resource is A);",
+        Count(1),
+    ),
+    (
+        "permit(principal, action in [], resource) when { true } unless { false };",
+        Count(1),
+    ),
+];
 
 #[test]
 fn files_are_read(rt: HostRuntime) {
     reading_laws();
-    for (file, count) in [
-        ("", 0),
-        ("// nothing\n", 0),
-        ("permit(principal, action, resource);", 1),
-        (
-            "@id(\"a\") @b @b forbid(principal, action, resource,);\npermit(principal, action, resource);",
-            2,
-        ),
-        (
-            "permit(principal == A::\"a\", action == A::\"b\", resource in A::B::\"c\");",
-            1,
-        ),
-        (
-            "permit(principal is A in A::\"a\", action in [A::\"b\", A::\"c\",], resource is A);",
-            1,
-        ),
-        (
-            "permit(principal, action in [], resource) when { true } unless { false };",
-            1,
-        ),
-    ] {
-        assert!(rt; has_policies(rt.alloc(), file.as_bytes(), count), "{file}");
+    for &(file, told) in FILES {
+        assert!(rt; is_told(rt.alloc(), file.as_bytes(), told), "{file}");
     }
 }
 
+/// Files, and their first faults.
+const BAD_FILES: &[(&str, Told)] = &[
+    ("; # \"\\q\"", Fails(BadToken(Place { offset: 2 }))),
+    ("; \"", Fails(BadToken(Place { offset: 2 }))),
+    ("; \"a\\q\" #", Fails(BadEscape(Place { offset: 4 }))),
+    (";", Fails(Unexpected(Place { offset: 0 }))),
+    ("@id", Fails(UnexpectedEnd)),
+    (
+        "permit(principal, action, resource) when { context.mfa",
+        Fails(UnexpectedEnd),
+    ),
+    (
+        "permit(principal, action, resource,,);",
+        Fails(Unexpected(Place { offset: 35 })),
+    ),
+    (
+        "permit(principal, action, resource) permit",
+        Fails(Unexpected(Place { offset: 36 })),
+    ),
+    (
+        "forbid(principal == ?principal, action, resource);",
+        Fails(Template(Place { offset: 20 })),
+    ),
+    (
+        "forbid(principal is A in ?principal, action, resource);",
+        Fails(Template(Place { offset: 25 })),
+    ),
+    (
+        "forbid(principal, action == ?action, resource);",
+        Fails(Unexpected(Place { offset: 28 })),
+    ),
+];
+
 #[test]
 fn files_are_refused(rt: HostRuntime) {
-    for (file, fault) in [
-        ("; # \"\\q\"", BadToken(at(2))),
-        ("; \"", BadToken(at(2))),
-        ("; \"a\\q\" #", BadEscape(at(4))),
-        (";", Unexpected(at(0))),
-        ("@id", UnexpectedEnd),
-        (
-            "permit(principal, action, resource) when { context.mfa",
-            UnexpectedEnd,
-        ),
-        ("permit(principal, action, resource,,);", Unexpected(at(35))),
-        (
-            "permit(principal, action, resource) permit",
-            Unexpected(at(36)),
-        ),
-        (
-            "forbid(principal == ?principal, action, resource);",
-            Template(at(20)),
-        ),
-        (
-            "forbid(principal is A in ?principal, action, resource);",
-            Template(at(25)),
-        ),
-        (
-            "forbid(principal, action == ?action, resource);",
-            Unexpected(at(28)),
-        ),
-    ] {
-        assert!(rt; has_fault(rt.alloc(), file.as_bytes(), fault), "{file}");
+    for &(file, told) in BAD_FILES {
+        assert!(rt; is_told(rt.alloc(), file.as_bytes(), told), "{file}");
     }
 }
 
 #[test]
 fn ill_formed_bytes(rt: HostRuntime) {
-    assert!(rt; has_fault(rt.alloc(), b"permit\xff #", BadUtf8(at(6))));
+    assert!(rt; is_told(rt.alloc(), b"permit\xff #", Fails(BadUtf8(at(6)))));
 }
 
 // ---- bodies of clauses
 
-/// Whether the sample with this body is read.
-fn is_body(alloc: Global, body: &str) -> bool {
+/// Whether this is told of the sample with this body.
+fn is_told_of_body(alloc: Global, body: &str, told: Told) -> bool {
     match sample(alloc, body) {
-        Ok(file) => has_policies(alloc, file.as_bytes(), 1),
+        Ok(file) => is_told(alloc, file.as_bytes(), told),
         Err(_) => false,
     }
 }
 
-/// Whether this is the first fault of the sample with this body.
-fn is_no_body(alloc: Global, body: &str, fault: PolicyFault) -> bool {
-    match sample(alloc, body) {
-        Ok(file) => has_fault(alloc, file.as_bytes(), fault),
-        Err(_) => false,
-    }
-}
+/// Bodies that are read.
+const BODIES: &[&str] = &[
+    "-9223372036854775808 < 0",
+    "9223372036854775807 < - // the least\n 9223372036854775808",
+    "00000000000000000000001 == ----1",
+    "[1, 2,] == []",
+    "{a: 1, \"b c\": 2,} == {}",
+    "ip(\"a\",).isInRange(decimal(\"b\")) == !!!!context.c",
+    "principal::\"a\" in [action, A::resource::\"b\"]",
+    "if (a::\"a\").isEmpty() then context[\"b\"] else if true then 1 else 2",
+];
 
 #[test]
 fn bodies_are_read(rt: HostRuntime) {
-    for body in [
-        "-9223372036854775808 < 0",
-        "9223372036854775807 < - // the least\n 9223372036854775808",
-        "00000000000000000000001 == ----1",
-        "[1, 2,] == []",
-        "{a: 1, \"b c\": 2,} == {}",
-        "ip(\"a\",).isInRange(decimal(\"b\")) == !!!!context.c",
-        "principal::\"a\" in [action, A::resource::\"b\"]",
-        "if (a::\"a\").isEmpty() then context[\"b\"] else if true then 1 else 2",
-    ] {
-        assert!(rt; is_body(rt.alloc(), body), "{body}");
+    for &body in BODIES {
+        assert!(rt; is_told_of_body(rt.alloc(), body, Count(1)), "{body}");
     }
 }
 
+/// Bodies, and the first faults of the sample with them.
+const BAD_BODIES: &[(&str, Told)] = &[
+    ("[1, 2", Fails(Unexpected(Place { offset: 49 }))),
+    ("[,]", Fails(Unexpected(Place { offset: 44 }))),
+    ("context.n < 1 < 2", Fails(Unexpected(Place { offset: 57 }))),
+    ("!!!!!true", Fails(Unexpected(Place { offset: 47 }))),
+    ("!-1", Fails(Unexpected(Place { offset: 44 }))),
+    ("principal(1)", Fails(Unexpected(Place { offset: 52 }))),
+    ("context has", Fails(Unexpected(Place { offset: 55 }))),
+    ("{a: 1, a: 2}", Fails(DuplicateKey(Place { offset: 50 }))),
+    (
+        "{a: 1, b: 2, \"\\u{61}\": 3}",
+        Fails(DuplicateKey(Place { offset: 56 })),
+    ),
+    (
+        "9223372036854775808 < 0",
+        Fails(IntRange(Place { offset: 43 })),
+    ),
+    (
+        "1 - 9223372036854775808",
+        Fails(IntRange(Place { offset: 47 })),
+    ),
+    (
+        "-09223372036854775808",
+        Fails(IntRange(Place { offset: 44 })),
+    ),
+    ("\"\\q\" == \"a\"", Fails(BadEscape(Place { offset: 44 }))),
+    ("5.foo()", Fails(BadCall(Place { offset: 49 }))),
+    ("5.isEmpty(1)", Fails(BadCall(Place { offset: 54 }))),
+    ("ip(\"a\", \"b\")", Fails(BadCall(Place { offset: 54 }))),
+];
+
 #[test]
 fn bodies_are_refused(rt: HostRuntime) {
-    for (body, fault) in [
-        ("[1, 2", Unexpected(at(49))),
-        ("[,]", Unexpected(at(44))),
-        ("context.n < 1 < 2", Unexpected(at(57))),
-        ("!!!!!true", Unexpected(at(47))),
-        ("!-1", Unexpected(at(44))),
-        ("principal(1)", Unexpected(at(52))),
-        ("context has", Unexpected(at(55))),
-        ("{a: 1, a: 2}", DuplicateKey(at(50))),
-        ("{a: 1, b: 2, \"\\u{61}\": 3}", DuplicateKey(at(56))),
-        ("9223372036854775808 < 0", IntRange(at(43))),
-        ("1 - 9223372036854775808", IntRange(at(47))),
-        ("-09223372036854775808", IntRange(at(44))),
-        ("\"\\q\" == \"a\"", BadEscape(at(44))),
-        ("5.foo()", BadCall(at(49))),
-        ("5.isEmpty(1)", BadCall(at(54))),
-        ("ip(\"a\", \"b\")", BadCall(at(54))),
-    ] {
-        assert!(rt; is_no_body(rt.alloc(), body, fault), "{body}");
+    for &(body, told) in BAD_BODIES {
+        assert!(rt; is_told_of_body(rt.alloc(), body, told), "{body}");
     }
 }
 
@@ -162,168 +177,87 @@ fn bodies_are_refused(rt: HostRuntime) {
 
 /// `true` in so many pairs of parentheses.
 fn in_parentheses(alloc: Global, pairs: usize) -> Result<String, AllocError> {
-    let open = "(".repeat(alloc, pairs)?;
-    let close = ")".repeat(alloc, pairs)?;
-    format!(in alloc; "{open}true{close}")
+    let mut body = "(".repeat(alloc, pairs)?;
+    body.push_str("true")?;
+    body.push_str(")".repeat(alloc, pairs)?.as_str())?;
+    Ok(body)
 }
 
-/// `true` with so many times `||` and `true` behind it.
+/// `true` with so many times `true` and `||` before it.
 fn chain(alloc: Global, operators: usize) -> Result<String, AllocError> {
-    let rest = "||true".repeat(alloc, operators)?;
-    format!(in alloc; "true{rest}")
-}
-
-#[test]
-fn bodies_within_the_limits(rt: HostRuntime) -> Result<(), Fail> {
-    let alloc = rt.alloc();
-    let body = in_parentheses(alloc, 99)?;
-    assert!(rt; is_body(alloc, body.as_str()));
-    let body = chain(alloc, 999)?;
-    assert!(rt; is_body(alloc, body.as_str()));
-    Ok(())
-}
-
-#[test]
-fn bodies_past_the_limits(rt: HostRuntime) -> Result<(), Fail> {
-    let alloc = rt.alloc();
-    let body = in_parentheses(alloc, 100)?;
-    assert!(rt; is_no_body(alloc, body.as_str(), TooDeep(at(143))));
-    let body = chain(alloc, 1000)?;
-    assert!(rt; is_no_body(alloc, body.as_str(), TooDeep(at(6043))));
-    Ok(())
+    let mut body = "true||".repeat(alloc, operators)?;
+    body.push_str("true")?;
+    Ok(body)
 }
 
 /// A policy with so many clauses.
-fn clauses(alloc: Global, count: usize) -> Result<String, AllocError> {
+fn with_clauses(alloc: Global, count: usize) -> Result<String, AllocError> {
     let clauses = "when{true}".repeat(alloc, count)?;
-    format!(in alloc; "permit(principal,action,resource){clauses};")
+    "permit(principal,action,resource)CLAUSES;".replace(alloc, "CLAUSES", clauses.as_str())
 }
 
-#[test]
-fn number_of_clauses(rt: HostRuntime) -> Result<(), Fail> {
-    let alloc = rt.alloc();
-    let most = clauses(alloc, 1000)?;
-    assert!(rt; has_policies(alloc, most.as_bytes(), 1));
-    let more = clauses(alloc, 1001)?;
-    assert!(rt; has_fault(alloc, more.as_bytes(), TooDeep(at(10038))));
-    Ok(())
+fn with_policies(alloc: Global, count: usize) -> Result<String, AllocError> {
+    "permit(principal,action,resource);".repeat(alloc, count)
 }
 
-#[test]
-fn number_of_policies(rt: HostRuntime) -> Result<(), Fail> {
-    let alloc = rt.alloc();
-    let most = "permit(principal,action,resource);".repeat(alloc, 10_000)?;
-    assert!(rt; has_policies(alloc, most.as_bytes(), 10_000));
-    let more = "permit(principal,action,resource);".repeat(alloc, 10_001)?;
-    assert!(rt; has_fault(alloc, more.as_bytes(), TooManyPolicies));
-    Ok(())
-}
-
-// ---- trees
-
-/// Whether the sample with this body is read as this expression.
-fn is_read_as(alloc: Global, body: &str, tree: Result<Expr, AllocError>) -> bool {
-    let Ok(tree) = tree else {
-        return false;
-    };
-    match expression(alloc, body) {
-        Some(expr) => expr == tree,
-        None => false,
+/// Whether this is told of a file, if it is made.
+fn is_told_of_file(alloc: Global, file: Result<String, AllocError>, told: Told) -> bool {
+    match file {
+        Ok(file) => is_told(alloc, file.as_bytes(), told),
+        Err(_) => false,
     }
 }
 
-fn truth(alloc: Global, offset: u64) -> Result<Boxed<Expr>, AllocError> {
-    Boxed::new(alloc, Expr::Literal(at(offset), Literal::Bool(true)))
-}
-
-fn long(alloc: Global, offset: u64, number: i64) -> Result<Boxed<Expr>, AllocError> {
-    Boxed::new(alloc, Expr::Literal(at(offset), Literal::Long(number)))
-}
-
-fn principal(alloc: Global, offset: u64) -> Result<Boxed<Expr>, AllocError> {
-    Boxed::new(alloc, Expr::Variable(at(offset), Variable::Principal))
-}
-
-/// `true && true`, behind `true || `.
-fn both(alloc: Global) -> Result<Boxed<Expr>, AllocError> {
-    let first = truth(alloc, 51)?;
-    Boxed::new(alloc, Expr::And(at(56), first, truth(alloc, 59)?))
-}
-
-/// `true || true && true`.
-fn truths(alloc: Global) -> Result<Expr, AllocError> {
-    let first = truth(alloc, 43)?;
-    Ok(Expr::Or(at(48), first, both(alloc)?))
-}
-
-/// `true != true`.
-fn unequal(alloc: Global) -> Result<Expr, AllocError> {
-    let first = truth(alloc, 43)?;
-    let equal = Expr::Binary(at(48), BinaryOperator::Equal, first, truth(alloc, 51)?);
-    Ok(Expr::Unary(at(48), UnaryOperator::Not, Boxed::new(alloc, equal)?))
-}
-
-/// `-1`, behind `-9223372036854775808 - `.
-fn negated(alloc: Global) -> Result<Boxed<Expr>, AllocError> {
-    let one = long(alloc, 67, 1)?;
-    Boxed::new(alloc, Expr::Unary(at(66), UnaryOperator::Negate, one))
-}
-
-/// `-9223372036854775808 - -1`.
-fn difference(alloc: Global) -> Result<Expr, AllocError> {
-    let least = long(alloc, 43, -9223372036854775808)?;
-    Ok(Expr::Binary(at(64), BinaryOperator::Subtract, least, negated(alloc)?))
+/// Whether this is told of the sample with this body, if it is made.
+fn is_told_of_long(alloc: Global, body: Result<String, AllocError>, told: Told) -> bool {
+    match body {
+        Ok(body) => is_told_of_body(alloc, body.as_str(), told),
+        Err(_) => false,
+    }
 }
 
 #[test]
-fn operators(rt: HostRuntime) {
+fn depth_of_parentheses(rt: HostRuntime) {
     let alloc = rt.alloc();
-    assert!(rt; is_read_as(alloc, "true || true && true", truths(alloc)));
-    assert!(rt; is_read_as(alloc, "true != true", unequal(alloc)));
-    assert!(rt; is_read_as(alloc, "-9223372036854775808 - -1", difference(alloc)));
-}
-
-/// `principal has a`.
-fn has(alloc: Global) -> Result<Expr, AllocError> {
-    let mut names = Seq::new(alloc);
-    names.push(Text::from_str(alloc, "a")?)?;
-    Ok(Expr::Has(at(53), principal(alloc, 43)?, names))
-}
-
-/// `principal like "\**"`.
-fn like(alloc: Global) -> Result<Expr, AllocError> {
-    let pattern = pattern_of(alloc, &[Part::Char('*'), Part::Star])?;
-    Ok(Expr::Like(at(53), principal(alloc, 43)?, pattern))
-}
-
-/// `A::T`, at a place.
-fn type_name(alloc: Global, offset: u64) -> Result<TypeName, AllocError> {
-    Ok(TypeName {
-        place: at(offset),
-        name: Name::from_text(Text::from_str(alloc, "A::T")?),
-    })
-}
-
-/// `principal is A::T in principal`.
-fn is_in(alloc: Global) -> Result<Expr, AllocError> {
-    let left = principal(alloc, 43)?;
-    let right = principal(alloc, 64)?;
-    Ok(Expr::IsIn(at(53), left, type_name(alloc, 56)?, at(61), right))
-}
-
-/// `principal.a`.
-fn access(alloc: Global) -> Result<Expr, AllocError> {
-    let left = principal(alloc, 43)?;
-    Ok(Expr::Access(at(52), left, Text::from_str(alloc, "a")?))
+    for (pairs, told) in [(99, Count(1)), (100, Fails(TooDeep(at(143))))] {
+        assert!(rt;
+            is_told_of_long(alloc, in_parentheses(alloc, pairs), told),
+            "{pairs}"
+        );
+    }
 }
 
 #[test]
-fn words(rt: HostRuntime) {
+fn length_of_chains(rt: HostRuntime) {
     let alloc = rt.alloc();
-    assert!(rt; is_read_as(alloc, "principal has a", has(alloc)));
-    assert!(rt; is_read_as(alloc, "principal like \"\\**\"", like(alloc)));
-    assert!(rt; is_read_as(alloc, "principal is A::T in principal", is_in(alloc)));
-    assert!(rt; is_read_as(alloc, "principal.a", access(alloc)));
+    for (operators, told) in [(999, Count(1)), (1000, Fails(TooDeep(at(6043))))] {
+        assert!(rt;
+            is_told_of_long(alloc, chain(alloc, operators), told),
+            "{operators}"
+        );
+    }
+}
+
+#[test]
+fn number_of_clauses(rt: HostRuntime) {
+    let alloc = rt.alloc();
+    for (count, told) in [(1000, Count(1)), (1001, Fails(TooDeep(at(10038))))] {
+        assert!(rt;
+            is_told_of_file(alloc, with_clauses(alloc, count), told),
+            "{count}"
+        );
+    }
+}
+
+#[test]
+fn number_of_policies(rt: HostRuntime) {
+    let alloc = rt.alloc();
+    for (count, told) in [(10_000, Count(10_000)), (10_001, Fails(TooManyPolicies))] {
+        assert!(rt;
+            is_told_of_file(alloc, with_policies(alloc, count), told),
+            "{count}"
+        );
+    }
 }
 
 // ---- policies
@@ -341,27 +275,50 @@ fn is_unless_at(policy: &Policy, place: Place) -> bool {
     policy.conditions.len() == 1 && clause.kind == ConditionKind::Unless && clause.place == place
 }
 
-/// Whether the policy asks for a principal of `A::T` and for no action.
-fn asks(alloc: Global, policy: &Policy) -> Result<bool, AllocError> {
-    let named = Constraint::Is(at(20), type_name(alloc, 23)?);
-    let none = ActionConstraint::InAny(at(36), at(39), Seq::new(alloc));
-    Ok(policy.principal.constraint == named && policy.action.constraint == none)
+fn is_for_type(constraint: &Constraint) -> bool {
+    match constraint {
+        Constraint::Is(place, name) => *place == at(20) && is_type(name, 23),
+        _ => false,
+    }
 }
 
-/// Whether the last policy of a file is the one that is told below.
-fn has_parts(alloc: Global, file: &str) -> Result<bool, AllocError> {
-    let Some(policy) = last_policy(alloc, file) else {
-        return Ok(false);
-    };
-    let stands = is_forbid_at(&policy, at(3), at(10)) && is_unless_at(&policy, at(53));
-    let asks = asks(alloc, &policy)?;
-    Ok(stands && asks && policy.resource.constraint == Constraint::Any)
+fn is_for_no_action(constraint: &ActionConstraint) -> bool {
+    match constraint {
+        ActionConstraint::InAny(place, bracket, actions) => {
+            *place == at(36) && *bracket == at(39) && actions.is_empty()
+        }
+        _ => false,
+    }
+}
+
+/// Whether the policy asks for a principal of `A::T`, for no action, and for any resource.
+fn asks(policy: &Policy) -> bool {
+    is_for_type(&policy.principal.constraint)
+        && is_for_no_action(&policy.action.constraint)
+        && matches!(policy.resource.constraint, Constraint::Any)
+}
+
+/// Whether the policy is the one that is told below.
+fn has_parts(policy: &Policy) -> bool {
+    is_forbid_at(policy, at(3), at(10)) && is_unless_at(policy, at(53)) && asks(policy)
+}
+
+fn has_policy_with_parts(policies: &PolicySet) -> bool {
+    match policies.get(0) {
+        Some(policy) => has_parts(policy),
+        None => false,
+    }
+}
+
+fn is_read_in_parts(alloc: Global, file: &str) -> bool {
+    match policies(alloc, file) {
+        Some(policies) => has_policy_with_parts(&policies),
+        None => false,
+    }
 }
 
 #[test]
-fn parts_of_a_policy(rt: HostRuntime) -> Result<(), Fail> {
+fn parts_of_a_policy(rt: HostRuntime) {
     let file = "@a forbid(principal is A::T, action in [], resource) unless { true };";
-    let read = has_parts(rt.alloc(), file)?;
-    assert!(rt; read);
-    Ok(())
+    assert!(rt; is_read_in_parts(rt.alloc(), file));
 }

@@ -1,2 +1,1 @@
 mod BreakLaws
-mod SampleLaws

@@ -6,7 +6,5 @@ mod answers;
 mod breaks;
 mod decisions;
 mod report;
-#[cfg(test)]
-mod tests;
 
 pub use report::{Report, report_of};

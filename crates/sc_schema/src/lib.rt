@@ -6,8 +6,6 @@ mod index;
 mod law;
 mod place;
 mod schema;
-#[cfg(test)]
-mod tests;
 mod ty;
 
 pub use declarations::{Action, EntityType, Env};

@@ -1,6 +1,11 @@
-//! Tests of the crates that read a schema file step by step, each by its public calls alone.
+//! Tests of the crates that read a schema file step by step, and of what is read from a schema,
+//! each by its public calls alone.
 #![tactic(auto)]
 
+#[cfg(test)]
+mod declarations;
+#[cfg(test)]
+mod declared;
 #[cfg(test)]
 mod hierarchy;
 #[cfg(test)]

@@ -1,23 +1,25 @@
-use sc_names::uid_text;
+//! Names in schema files: what each stands for, and the first that is unknown.
+use sc_names::{Name, Uid, put_uid};
 use sc_schema_names::{resolution_laws, resolve};
-use sc_schema_resolved::{ResolvedNamespace, ResolvedSchema, ResolvedType};
+use sc_schema_resolved::{
+    ResolvedAction, ResolvedEntityType, ResolvedNamespace, ResolvedSchema, ResolvedType,
+};
 use sc_schema_syntax::{WrittenSchema, read_syntax};
 use std::alloc::{AllocError, Global};
 use std::test::Fail;
-
-/// What a file says.
-fn written_of(alloc: Global, text: &str) -> Result<WrittenSchema, Fail> {
-    match read_syntax(alloc, text.as_bytes()) {
-        Ok(written) => Ok(written),
-        Err(_) => Err(Fail::from("not written")),
-    }
-}
 
 /// What a file's fault says, and `resolved` of one whose names are known.
 fn told_of(alloc: Global, written: &WrittenSchema) -> Result<String, AllocError> {
     match resolve(alloc, written) {
         Ok(_) => String::from_str(alloc, "resolved"),
         Err(fault) => format!(in alloc; "{fault}"),
+    }
+}
+
+fn is_told(alloc: Global, text: &str, told: &str) -> Result<bool, AllocError> {
+    match read_syntax(alloc, text.as_bytes()) {
+        Ok(written) => Ok(told_of(alloc, &written)?.as_str() == told),
+        Err(_) => Ok(false),
     }
 }
 
@@ -155,30 +157,17 @@ const FAULTS: [(&str, &str); 32] = [
 
 #[test]
 fn faults_with_their_paths(rt: HostRuntime) -> Result<(), Fail> {
-    let alloc = rt.alloc();
     resolution_laws();
     for (text, told) in FAULTS {
-        let written = written_of(alloc, text)?;
-        assert_eq!(rt; told_of(alloc, &written)?.as_str(), told, "{text}");
+        assert!(rt; is_told(rt.alloc(), text, told)?, "{text}");
     }
     Ok(())
 }
 
-/// What a file declares.
-fn schema_of(alloc: Global, text: &str) -> Result<ResolvedSchema, Fail> {
-    let written = written_of(alloc, text)?;
-    match resolve(alloc, &written) {
-        Ok(schema) => Ok(schema),
-        Err(_) => Err(Fail::from("refused")),
-    }
-}
-
-/// The last namespace of a schema.
-fn last_of(schema: &ResolvedSchema) -> Result<&ResolvedNamespace, Fail> {
-    match schema.namespaces.as_slice().last() {
-        Some(namespace) => Ok(namespace),
-        None => Err(Fail::from("no namespace")),
-    }
+/// What a file declares, if its names are known.
+fn schema_of(alloc: Global, text: &str) -> Option<ResolvedSchema> {
+    let written = read_syntax(alloc, text.as_bytes()).ok()?;
+    resolve(alloc, &written).ok()
 }
 
 /// A word for a type, and the name in it.
@@ -196,15 +185,30 @@ fn word_of(alloc: Global, body: &ResolvedType) -> Result<String, AllocError> {
     }
 }
 
-/// The word for the type that `Z` stands for in the last namespace.
-fn word_in(alloc: Global, schema: &ResolvedSchema) -> Result<String, Fail> {
-    let namespace = last_of(schema)?;
+/// The type that `Z` stands for in the last namespace, if it stands for one.
+fn body_in(schema: &ResolvedSchema) -> Option<&ResolvedType> {
+    let namespace = schema.namespaces.as_slice().last()?;
     for common_type in namespace.common_types.as_slice() {
         if common_type.key.as_str() == "Z" {
-            return Ok(word_of(alloc, &common_type.body)?);
+            return Some(&common_type.body);
         }
     }
-    Err(Fail::from("no type"))
+    None
+}
+
+/// Whether `Z` stands for a type with this word in the last namespace.
+fn has_word(alloc: Global, schema: &ResolvedSchema, word: &str) -> Result<bool, AllocError> {
+    match body_in(schema) {
+        Some(body) => Ok(word_of(alloc, body)?.as_str() == word),
+        None => Ok(false),
+    }
+}
+
+fn stands_for(alloc: Global, text: &str, word: &str) -> Result<bool, AllocError> {
+    match schema_of(alloc, text) {
+        Some(schema) => has_word(alloc, &schema, word),
+        None => Ok(false),
+    }
 }
 
 /// Files with what `Z` stands for in their last namespace.
@@ -305,10 +309,8 @@ const TYPES: [(&str, &str); 22] = [
 
 #[test]
 fn what_names_stand_for(rt: HostRuntime) -> Result<(), Fail> {
-    let alloc = rt.alloc();
-    for (text, told) in TYPES {
-        let schema = schema_of(alloc, text)?;
-        assert_eq!(rt; word_in(alloc, &schema)?.as_str(), told, "{text}");
+    for (text, word) in TYPES {
+        assert!(rt; stands_for(rt.alloc(), text, word)?, "{text}");
     }
     Ok(())
 }
@@ -337,83 +339,84 @@ const GROUPS: &str = r#"{
     }
 }"#;
 
-/// The parents of the last action of a namespace, each with a space behind it.
-fn parents_told(alloc: Global, namespace: &ResolvedNamespace) -> Result<String, AllocError> {
-    let mut told = String::new(alloc);
-    let Some(action) = namespace.actions.as_slice().last() else {
-        return Ok(told);
-    };
-    for parent in action.parents.as_slice() {
-        told.push_str(uid_text(alloc, parent)?.as_str())?;
-        told.push(' ')?;
+/// What each namespace of that file declares.
+const TOLD: [&str; 3] = [
+    r#": Action::"all"; "#,
+    r#"Kept: Kept::Action::"read" in Action::"all"; "#,
+    r#"Shop: Shop::Action::"all"; Shop::Action::"view" in Shop::Action::"all" in Shop::Action::"all" in Kept::Action::"read" for Shop::User for Shop::Team on Shop::User; Team Shop::Team; User Shop::User in Shop::Team; "#,
+];
+
+/// Writes each uid behind a word.
+fn put_uids(told: &mut String, word: &str, uids: &[Uid]) -> Result<(), AllocError> {
+    for uid in uids {
+        told.push_str(word)?;
+        put_uid(told, uid)?;
+    }
+    Ok(())
+}
+
+/// Writes each name behind a word.
+fn put_names(told: &mut String, word: &str, names: &[Name]) -> Result<(), AllocError> {
+    for name in names {
+        told.push_str(word)?;
+        told.push_str(name.as_str())?;
+    }
+    Ok(())
+}
+
+fn put_action(told: &mut String, action: &ResolvedAction) -> Result<(), AllocError> {
+    put_uid(told, &action.uid)?;
+    put_uids(told, " in ", action.parents.as_slice())?;
+    put_names(told, " for ", action.principals.as_slice())?;
+    put_names(told, " on ", action.resources.as_slice())?;
+    told.push_str("; ")
+}
+
+fn put_entity_type(told: &mut String, declared: &ResolvedEntityType) -> Result<(), AllocError> {
+    told.push_str(declared.key.as_str())?;
+    told.push_str(" ")?;
+    told.push_str(declared.name.as_str())?;
+    put_names(told, " in ", declared.parents.as_slice())?;
+    told.push_str("; ")
+}
+
+/// What a namespace declares: its actions, then its entity types.
+fn text_of(alloc: Global, namespace: &ResolvedNamespace) -> Result<String, AllocError> {
+    let mut told = String::from_str(alloc, namespace.name.as_str())?;
+    told.push_str(": ")?;
+    for action in namespace.actions.as_slice() {
+        put_action(&mut told, action)?;
+    }
+    for declared in namespace.entity_types.as_slice() {
+        put_entity_type(&mut told, declared)?;
     }
     Ok(told)
 }
 
-#[test]
-fn parents_of_actions(rt: HostRuntime) -> Result<(), Fail> {
-    let alloc = rt.alloc();
-    let schema = schema_of(alloc, GROUPS)?;
-    let told = parents_told(alloc, last_of(&schema)?)?;
-    assert_eq!(rt;
-        told.as_str(),
-        r#"Shop::Action::"all" Shop::Action::"all" Kept::Action::"read" "#
-    );
-    Ok(())
+/// Whether the namespace at a place of a schema declares this.
+fn declares(
+    alloc: Global,
+    schema: &ResolvedSchema,
+    place: usize,
+    told: &str,
+) -> Result<bool, AllocError> {
+    match schema.namespaces.get(place) {
+        Some(namespace) => Ok(text_of(alloc, namespace)?.as_str() == told),
+        None => Ok(false),
+    }
 }
 
-#[test]
-fn a_parent_in_the_empty_namespace(rt: HostRuntime) -> Result<(), Fail> {
-    let alloc = rt.alloc();
-    let schema = schema_of(alloc, GROUPS)?;
-    let Some(namespace) = schema.namespaces.get(1) else {
-        return Err(Fail::from("no namespace"));
-    };
-    let told = parents_told(alloc, namespace)?;
-    assert_eq!(rt; told.as_str(), r#"Action::"all" "#);
-    Ok(())
+fn groups_declare(alloc: Global, place: usize, told: &str) -> Result<bool, AllocError> {
+    match schema_of(alloc, GROUPS) {
+        Some(schema) => declares(alloc, &schema, place, told),
+        None => Ok(false),
+    }
 }
 
 #[test]
 fn names_in_full(rt: HostRuntime) -> Result<(), Fail> {
-    let alloc = rt.alloc();
-    let schema = schema_of(alloc, GROUPS)?;
-    let namespace = last_of(&schema)?;
-    assert_eq!(rt; namespace.name.as_str(), "Shop");
-    let Some(user) = namespace.entity_types.get(1) else {
-        return Err(Fail::from("no type"));
-    };
-    assert_eq!(rt; user.key.as_str(), "User");
-    assert_eq!(rt; user.name.as_str(), "Shop::User");
-    Ok(())
-}
-
-#[test]
-fn parents_of_entity_types(rt: HostRuntime) -> Result<(), Fail> {
-    let alloc = rt.alloc();
-    let schema = schema_of(alloc, GROUPS)?;
-    let Some(user) = last_of(&schema)?.entity_types.get(1) else {
-        return Err(Fail::from("no type"));
-    };
-    let Some(team) = user.parents.get(0) else {
-        return Err(Fail::from("no parent"));
-    };
-    assert_eq!(rt; team.as_str(), "Shop::Team");
-    Ok(())
-}
-
-#[test]
-fn actions_in_full(rt: HostRuntime) -> Result<(), Fail> {
-    let alloc = rt.alloc();
-    let schema = schema_of(alloc, GROUPS)?;
-    let Some(view) = last_of(&schema)?.actions.get(1) else {
-        return Err(Fail::from("no action"));
-    };
-    assert_eq!(rt;
-        uid_text(alloc, &view.uid)?.as_str(),
-        r#"Shop::Action::"view""#
-    );
-    assert_eq!(rt; view.principals.len(), 2);
-    assert_eq!(rt; view.resources.len(), 1);
+    for (place, told) in TOLD.iter().enumerate() {
+        assert!(rt; groups_declare(rt.alloc(), place, told)?, "{told}");
+    }
     Ok(())
 }

@@ -1,17 +1,22 @@
-use sc_lists::Fault;
+//! What schema files say before any name in them is looked up, and the first faults of their form.
+use sc_lists::Text;
 use sc_schema_syntax::{
-    ExtensionKind, WrittenAttributes, WrittenNamespace, WrittenPresence, WrittenSchema,
-    WrittenType, read_syntax, syntax_laws,
+    ExtensionKind, WrittenAction, WrittenAttributes, WrittenEntityType, WrittenNamespace,
+    WrittenPresence, WrittenSchema, WrittenType, read_syntax, syntax_laws,
 };
 use std::alloc::{AllocError, Global};
 use std::test::Fail;
 
 /// What a file's fault says, and `read` of one that is read.
-fn told_of(alloc: Global, text: &str) -> Result<String, AllocError> {
-    match read_syntax(alloc, text.as_bytes()) {
+fn told_of(alloc: Global, bytes: &[u8]) -> Result<String, AllocError> {
+    match read_syntax(alloc, bytes) {
         Ok(_) => String::from_str(alloc, "read"),
         Err(fault) => format!(in alloc; "{fault}"),
     }
+}
+
+fn is_told(alloc: Global, bytes: &[u8], told: &str) -> Result<bool, AllocError> {
+    Ok(told_of(alloc, bytes)?.as_str() == told)
 }
 
 #[test]
@@ -25,15 +30,10 @@ fn files_without_a_tree(rt: HostRuntime) -> Result<(), Fail> {
         r#"{"":{"annotations":1e400}}"#,
         r#"{"a":"\ud800"}"#,
     ] {
-        assert_eq!(rt; told_of(alloc, text)?.as_str(), "not JSON", "{text}");
+        assert!(rt; is_told(alloc, text.as_bytes(), "not JSON")?, "{text}");
     }
-    match read_syntax(alloc, b"{\"\xff\":{}}".as_slice()) {
-        Err(Fault::Told(fault)) => assert_eq!(rt;
-            format!(in alloc; "{fault}")?.as_str(),
-            "not JSON"
-        ),
-        _ => return Err(Fail::from("read")),
-    }
+    let ill_formed = is_told(alloc, b"{\"\xff\":{}}".as_slice(), "not JSON")?;
+    assert!(rt; ill_formed);
     Ok(())
 }
 
@@ -222,7 +222,7 @@ const FAULTS: [(&str, &str); 54] = [
 fn faults_with_their_paths(rt: HostRuntime) -> Result<(), Fail> {
     let alloc = rt.alloc();
     for (text, told) in FAULTS {
-        assert_eq!(rt; told_of(alloc, text)?.as_str(), told, "{text}");
+        assert!(rt; is_told(alloc, text.as_bytes(), told)?, "{text}");
     }
     Ok(())
 }
@@ -239,7 +239,7 @@ fn annotations_are_skipped(rt: HostRuntime) -> Result<(), Fail> {
         r#"{"":{"commonTypes":{"T":{"type":"U","annotations":1}}}}"#,
         r#"{"":[],"":{}}"#,
     ] {
-        assert_eq!(rt; told_of(alloc, text)?.as_str(), "read", "{text}");
+        assert!(rt; is_told(alloc, text.as_bytes(), "read")?, "{text}");
     }
     Ok(())
 }
@@ -286,123 +286,153 @@ const WHOLE: &str = r#"{
     "": {}
 }"#;
 
-/// The schema that the text spells.
-fn schema_of(alloc: Global, text: &str) -> Result<WrittenSchema, Fail> {
-    match read_syntax(alloc, text.as_bytes()) {
-        Ok(schema) => Ok(schema),
-        Err(_) => Err(Fail::from("refused")),
-    }
-}
+/// What that schema has: actions first, then common types, then entity types.
+const TOLD: &str = r#"namespace 
+namespace Shop
+action read
+action view in read in Action::all for User on User on Team with { }
+type Address = { checked: Boolean; from: ipaddr; more: set of common Shop::Address; number?: Long; other: any __cedar::Long; owner: entity User; price: decimal; street: String; }
+entity Team
+entity User in Team in Shop::Club = common Address tags String
+"#;
 
-#[test]
-fn namespaces(rt: HostRuntime) -> Result<(), Fail> {
-    let schema = schema_of(rt.alloc(), WHOLE)?;
-    let namespaces = schema.namespaces.as_slice();
-    assert_eq!(rt; namespaces.len(), 2);
-    assert_eq!(rt; namespaces[0].name.as_str(), "");
-    assert!(rt; namespaces[0].actions.is_empty());
-    assert!(rt; namespaces[0].common_types.is_empty());
-    assert!(rt; namespaces[0].entity_types.is_empty());
-    assert_eq!(rt; namespaces[1].name.as_str(), "Shop");
-    assert_eq!(rt; namespaces[1].actions.len(), 2);
-    assert_eq!(rt; namespaces[1].common_types.len(), 1);
-    assert_eq!(rt; namespaces[1].entity_types.len(), 2);
-    Ok(())
-}
-
-/// The one namespace of a schema that declares something.
-fn declared(schema: &WrittenSchema) -> Result<&WrittenNamespace, Fail> {
-    match schema.namespaces.get(1) {
-        Some(namespace) => Ok(namespace),
-        None => Err(Fail::from("no namespace")),
-    }
-}
-
-#[test]
-fn entity_types(rt: HostRuntime) -> Result<(), Fail> {
-    let schema = schema_of(rt.alloc(), WHOLE)?;
-    let namespace = declared(&schema)?;
-    let Some(user) = namespace.entity_types.get(1) else {
-        return Err(Fail::from("no type"));
-    };
-    assert_eq!(rt; user.name.as_str(), "User");
-    let parents = user.parents.as_slice();
-    assert_eq!(rt; parents.len(), 2);
-    assert_eq!(rt; parents[0].as_str(), "Team");
-    assert_eq!(rt; parents[1].as_str(), "Shop::Club");
-    assert!(rt;
-        matches!(&user.shape, Some(WrittenType::Common(name)) if name.as_str() == "Address")
-    );
-    assert!(rt; matches!(&user.tags, Some(WrittenType::String)));
-    Ok(())
-}
-
-#[test]
-fn actions(rt: HostRuntime) -> Result<(), Fail> {
-    let schema = schema_of(rt.alloc(), WHOLE)?;
-    let namespace = declared(&schema)?;
-    let Some(view) = namespace.actions.get(1) else {
-        return Err(Fail::from("no action"));
-    };
-    assert_eq!(rt; view.id.as_str(), "view");
-    assert_eq!(rt; view.principals.len(), 1);
-    assert_eq!(rt; view.resources.len(), 2);
-    assert!(rt; matches!(&view.context, Some(WrittenType::Record(fields)) if fields.is_empty()));
-    let parents = view.parents.as_slice();
-    assert_eq!(rt; parents.len(), 2);
-    assert_eq!(rt; parents[0].id.as_str(), "read");
-    assert!(rt; parents[0].type_name.is_none());
-    assert_eq!(rt; parents[1].id.as_str(), "all");
-    assert!(rt; matches!(&parents[1].type_name, Some(name) if name.as_str() == "Action"));
-    Ok(())
-}
-
-/// A word for a type, and how it stands in a record.
-fn word_of(written: &WrittenType) -> &str {
+/// Writes a type.
+#[cycle(telling)]
+fn put_type(told: &mut String, written: &WrittenType) -> Result<(), AllocError> {
     match written {
-        WrittenType::Boolean => "Boolean",
-        WrittenType::Long => "Long",
-        WrittenType::String => "String",
-        WrittenType::Set(_) => "Set",
-        WrittenType::Record(_) => "Record",
-        WrittenType::Entity(name) => name.as_str(),
-        WrittenType::Extension(ExtensionKind::Ipaddr) => "ipaddr",
-        WrittenType::Extension(ExtensionKind::Decimal) => "decimal",
-        WrittenType::EntityOrCommon(name) => name.as_str(),
-        WrittenType::Common(name) => name.as_str(),
+        WrittenType::Boolean => told.push_str("Boolean"),
+        WrittenType::Long => told.push_str("Long"),
+        WrittenType::String => told.push_str("String"),
+        WrittenType::Set(member) => {
+            told.push_str("set of ")?;
+            put_type(told, member.get())
+        }
+        WrittenType::Record(fields) => put_fields(told, fields),
+        WrittenType::Entity(name) => put_word(told, "entity ", name),
+        WrittenType::Extension(ExtensionKind::Ipaddr) => told.push_str("ipaddr"),
+        WrittenType::Extension(ExtensionKind::Decimal) => told.push_str("decimal"),
+        WrittenType::EntityOrCommon(name) => put_word(told, "any ", name),
+        WrittenType::Common(name) => put_word(told, "common ", name),
     }
 }
 
-/// The attributes of a record type, each with its name, `:` or, if it may be absent, `?`, and its
-/// type's word.
-fn attributes_told(alloc: Global, fields: &WrittenAttributes) -> Result<String, AllocError> {
-    let mut told = String::new(alloc);
+/// Writes the attributes of a record, with a `?` behind the name of one that may be absent.
+#[cycle(telling)]
+fn put_fields(told: &mut String, fields: &WrittenAttributes) -> Result<(), AllocError> {
+    told.push_str("{ ")?;
     for field in fields.as_slice() {
-        told.push_str(field.0.as_str())?;
-        match field.1 {
-            WrittenPresence::Required => told.push(':')?,
-            WrittenPresence::Optional => told.push('?')?,
+        put_word(told, "", &field.0)?;
+        told.push_str(mark_of(field.1))?;
+        put_type(told, &field.2)?;
+        told.push_str("; ")?;
+    }
+    told.push_str("}")
+}
+
+fn mark_of(presence: WrittenPresence) -> &'static str {
+    match presence {
+        WrittenPresence::Required => ": ",
+        WrittenPresence::Optional => "?: ",
+    }
+}
+
+/// Writes a text behind a word.
+fn put_word(told: &mut String, word: &str, text: &Text) -> Result<(), AllocError> {
+    told.push_str(word)?;
+    told.push_str(text.as_str())
+}
+
+/// Writes each text behind a word.
+fn put_words(told: &mut String, word: &str, texts: &[Text]) -> Result<(), AllocError> {
+    for text in texts {
+        put_word(told, word, text)?;
+    }
+    Ok(())
+}
+
+/// Writes a type behind a word, if there is one.
+fn put_part(told: &mut String, word: &str, part: &Option<WrittenType>) -> Result<(), AllocError> {
+    match part {
+        Some(written) => {
+            told.push_str(word)?;
+            put_type(told, written)
         }
-        told.push_str(word_of(&field.2))?;
-        told.push(' ')?;
+        None => Ok(()),
+    }
+}
+
+/// Writes the actions that an action is in, each with its type, if the file says one.
+fn put_parents(told: &mut String, action: &WrittenAction) -> Result<(), AllocError> {
+    for parent in action.parents.as_slice() {
+        told.push_str(" in ")?;
+        if let Some(name) = &parent.type_name {
+            put_word(told, "", name)?;
+            told.push_str("::")?;
+        }
+        put_word(told, "", &parent.id)?;
+    }
+    Ok(())
+}
+
+fn put_action(told: &mut String, action: &WrittenAction) -> Result<(), AllocError> {
+    put_word(told, "action ", &action.id)?;
+    put_parents(told, action)?;
+    put_words(told, " for ", action.principals.as_slice())?;
+    put_words(told, " on ", action.resources.as_slice())?;
+    put_part(told, " with ", &action.context)?;
+    told.push_str("\n")
+}
+
+fn put_entity_type(told: &mut String, declared: &WrittenEntityType) -> Result<(), AllocError> {
+    put_word(told, "entity ", &declared.name)?;
+    put_words(told, " in ", declared.parents.as_slice())?;
+    put_part(told, " = ", &declared.shape)?;
+    put_part(told, " tags ", &declared.tags)?;
+    told.push_str("\n")
+}
+
+fn put_common_types(told: &mut String, namespace: &WrittenNamespace) -> Result<(), AllocError> {
+    for common_type in namespace.common_types.as_slice() {
+        put_word(told, "type ", &common_type.name)?;
+        told.push_str(" = ")?;
+        put_type(told, &common_type.body)?;
+        told.push_str("\n")?;
+    }
+    Ok(())
+}
+
+fn put_namespace(told: &mut String, namespace: &WrittenNamespace) -> Result<(), AllocError> {
+    put_word(told, "namespace ", &namespace.name)?;
+    told.push_str("\n")?;
+    for action in namespace.actions.as_slice() {
+        put_action(told, action)?;
+    }
+    put_common_types(told, namespace)?;
+    for declared in namespace.entity_types.as_slice() {
+        put_entity_type(told, declared)?;
+    }
+    Ok(())
+}
+
+/// What a schema has.
+fn lines_of(alloc: Global, schema: &WrittenSchema) -> Result<String, AllocError> {
+    let mut told = String::new(alloc);
+    for namespace in schema.namespaces.as_slice() {
+        put_namespace(&mut told, namespace)?;
     }
     Ok(told)
 }
 
+/// Whether the schema that a file spells has this.
+fn spells(alloc: Global, text: &str, told: &str) -> Result<bool, AllocError> {
+    match read_syntax(alloc, text.as_bytes()) {
+        Ok(schema) => Ok(lines_of(alloc, &schema)?.as_str() == told),
+        Err(_) => Ok(false),
+    }
+}
+
 #[test]
-fn attributes(rt: HostRuntime) -> Result<(), Fail> {
-    let schema = schema_of(rt.alloc(), WHOLE)?;
-    let namespace = declared(&schema)?;
-    let Some(address) = namespace.common_types.get(0) else {
-        return Err(Fail::from("no common type"));
-    };
-    let WrittenType::Record(fields) = &address.body else {
-        return Err(Fail::from("no record"));
-    };
-    let told = attributes_told(rt.alloc(), fields)?;
-    assert_eq!(rt;
-        told.as_str(),
-        "checked:Boolean from:ipaddr more:Set number?Long other:__cedar::Long owner:User price:decimal street:String "
-    );
+fn each_kind_of_declaration(rt: HostRuntime) -> Result<(), Fail> {
+    assert!(rt; spells(rt.alloc(), WHOLE, TOLD)?);
     Ok(())
 }

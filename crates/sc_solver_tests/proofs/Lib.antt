@@ -1,1 +1,1 @@
-pub mod SampleLaws
+pub mod GoalLaws

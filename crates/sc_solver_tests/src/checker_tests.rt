@@ -1,21 +1,30 @@
-//! Verdicts on logs for the goal `false`, and what is read and written.
+//! Verdicts on logs for the goal `false`, where clause 1 is the atom `true` and clause 2 its
+//! negation; and what is read and written of logs.
 
-use crate::problems::verdict_on_false;
+use crate::problems::{Question, is_so};
+use crate::schemas::USER_DOC;
 use sc_checker::{
-    Learned, Log, Reason, Step, Verdict, are_writable, is_writable, read_log, write_log,
+    Learned, Log, Reason, Step, Verdict, are_writable, check, is_writable, read_log, write_log,
 };
+use sc_footprint::Problem;
 use sc_lists::{Fault, Seq};
 use std::alloc::{AllocError, Global};
 use std::test::Fail;
+use th_defs::Defs;
 
-/// The verdict on a log's text.
-fn verdict_on(alloc: Global, text: &str) -> Option<Verdict> {
-    let Ok(log) = read_log(alloc, text.as_bytes()) else {
-        return None;
-    };
-    match verdict_on_false(alloc, &log) {
-        Ok(verdict) => verdict,
-        Err(_) => None,
+/// Whether a log's text has this verdict.
+#[derive(Drop)]
+struct HasVerdict<'r> {
+    text: &'r str,
+    verdict: Verdict,
+}
+
+impl Question for HasVerdict<'_> {
+    fn ask(&self, alloc: Global, problem: &Problem<'_>) -> Result<bool, AllocError> {
+        match read_log(alloc, self.text.as_bytes()) {
+            Ok(log) => Ok(check(alloc, &Defs, problem, &log)? == self.verdict),
+            Err(_) => Ok(false),
+        }
     }
 }
 
@@ -44,10 +53,18 @@ fn verdicts(rt: HostRuntime) -> Result<(), Fail> {
         ("log 1\n", rejected(0, Reason::NotEmpty)),
         ("", rejected(0, Reason::NotEmpty)),
     ] {
-        let found = verdict_on(alloc, text);
-        assert!(rt; found == Some(verdict), "{text}");
+        let so = is_so(alloc, USER_DOC, "f", &HasVerdict { text, verdict });
+        assert!(rt; so, "{text}");
     }
     Ok(())
+}
+
+/// The step at fault of a text that isn't one of a log.
+fn fault_of(alloc: Global, text: &str) -> Option<u64> {
+    match read_log(alloc, text.as_bytes()) {
+        Err(Fault::Told(fault)) => Some(fault.step),
+        _ => None,
+    }
 }
 
 #[test]
@@ -74,11 +91,7 @@ fn lines_that_are_malformed(rt: HostRuntime) -> Result<(), Fail> {
         ("log 1\n\n", 1),
         ("log 1\nt EQ1\r\n", 1),
     ] {
-        match read_log(alloc, text.as_bytes()) {
-            Err(Fault::Told(fault)) => assert_eq!(rt; fault.step, step, "{text}"),
-            Err(Fault::NoMemory) => assert!(rt; false, "out of memory at {text}"),
-            Ok(_) => assert!(rt; false, "{text}"),
-        }
+        assert!(rt; fault_of(alloc, text) == Some(step), "{text}");
     }
     Ok(())
 }

@@ -1,80 +1,78 @@
-//! What the solver finds of goals about documents and about people.
+//! What the solver finds of goals, and the rules that it takes.
 
-use crate::names::uid;
-use crate::problems::{
-    Answer, constant, goal_a, goal_both_ways, goal_never, of_documents, of_people, rules_on_false,
-};
-use sc_checker::Verdict;
-use sc_lists::Text;
+use crate::problems::{Question, is_so};
+use crate::schemas::{USER_DOC, USER_USER};
+use sc_checker::{Log, Verdict, check};
+use sc_clauses::{Assignment, Instance, Word};
+use sc_footprint::{Problem, Theory};
+use sc_lists::{Seq, Text};
 use sc_names::Uid;
+use sc_solver::{Rules, Solved, solve};
 use sc_values::Value;
 use sc_world::{EntityData, World};
 use std::alloc::{AllocError, Global};
 use std::test::Fail;
 
-/// Whether the checker accepts a log that refutes the goal.
-fn is_refuted(answer: &Option<Answer>) -> bool {
-    match answer {
-        Some(Answer::Refuted(verdict)) => *verdict == Verdict::Refuted,
-        _ => false,
-    }
+/// What is to be found.
+#[derive(Clone, Copy)]
+enum Wanted {
+    /// A log that refutes the goal.
+    Refuted,
+    /// A log of so many steps.
+    Spent(usize),
+    /// A world that stores its request, in whose context `a` is true.
+    WithA,
+    /// A world of two users with managers.
+    WithManagers,
+}
+
+/// What the solver finds, where it may log so many units.
+#[derive(Drop)]
+struct Finds {
+    budget: u64,
+    wanted: Wanted,
+}
+
+/// Whether the checker accepts a log.
+fn is_accepted(alloc: Global, problem: &Problem<'_>, log: &Log) -> Result<bool, AllocError> {
+    let rules = Rules::new();
+    Ok(check(alloc, &rules, problem, log)? == Verdict::Refuted)
 }
 
 /// Whether a log of so many steps was written.
-fn is_spent(answer: &Option<Answer>, steps: usize) -> bool {
-    match answer {
-        Some(Answer::Spent(count)) => *count == steps,
+fn is_spent(log: &Log, wanted: Wanted) -> bool {
+    match wanted {
+        Wanted::Spent(steps) => log.steps().len() == steps,
         _ => false,
     }
 }
 
-fn refutes_false(alloc: Global) -> Result<bool, AllocError> {
-    let goal = constant(alloc, false)?;
-    let answer = of_documents(alloc, goal, 1)?;
-    Ok(is_refuted(&answer))
+fn is_world(world: &World, wanted: Wanted) -> bool {
+    match wanted {
+        Wanted::WithA => { has_a(world.request.context.as_slice()) && stores_its_request(world) }
+        Wanted::WithManagers => are_numbered(world) && principal_has_manager(world),
+        _ => false,
+    }
 }
 
-fn refutes_never(alloc: Global) -> Result<bool, AllocError> {
-    let goal = goal_never(alloc)?;
-    let answer = of_documents(alloc, goal, 1)?;
-    Ok(is_refuted(&answer))
+impl Question for Finds {
+    fn ask(&self, alloc: Global, problem: &Problem<'_>) -> Result<bool, AllocError> {
+        if self.budget > 1000 {
+            return Ok(false);
+        }
+        match solve(alloc, problem, self.budget)? {
+            Solved::Refuted(log) => {
+                let refuted = matches!(self.wanted, Wanted::Refuted);
+                let accepted = is_accepted(alloc, problem, &log)?;
+                Ok(refuted && accepted)
+            }
+            Solved::Violated(world) => Ok(is_world(&world, self.wanted)),
+            Solved::Spent(log) => Ok(is_spent(&log, self.wanted)),
+        }
+    }
 }
 
-fn refutes_both_ways(alloc: Global) -> Result<bool, AllocError> {
-    let goal = goal_both_ways(alloc)?;
-    let answer = of_documents(alloc, goal, 8)?;
-    Ok(is_refuted(&answer))
-}
-
-fn spends_on_both_ways(alloc: Global) -> Result<bool, AllocError> {
-    let goal = goal_both_ways(alloc)?;
-    let answer = of_documents(alloc, goal, 1)?;
-    Ok(is_spent(&answer, 1))
-}
-
-#[test]
-fn false_is_refuted(rt: HostRuntime) -> Result<(), Fail> {
-    assert!(rt; refutes_false(rt.alloc())?);
-    Ok(())
-}
-
-#[test]
-fn contradiction_is_refuted_in_one_step(rt: HostRuntime) -> Result<(), Fail> {
-    assert!(rt; refutes_never(rt.alloc())?);
-    Ok(())
-}
-
-#[test]
-fn two_cases_are_refuted_in_a_few_steps(rt: HostRuntime) -> Result<(), Fail> {
-    assert!(rt; refutes_both_ways(rt.alloc())?);
-    Ok(())
-}
-
-#[test]
-fn one_step_is_spent_on_two_cases(rt: HostRuntime) -> Result<(), Fail> {
-    assert!(rt; spends_on_both_ways(rt.alloc())?);
-    Ok(())
-}
+// ---- worlds
 
 fn is_field(field: &(Text, Value), name: &str) -> bool {
     field.0.as_str() == name
@@ -103,28 +101,6 @@ fn stores_its_request(world: &World) -> bool {
         && store.get(&request.resource).is_some()
 }
 
-/// Whether a world was found that stores its request, in which `a` is true.
-fn is_world_with_a(answer: &Option<Answer>) -> bool {
-    match answer {
-        Some(Answer::Violated(world)) => {
-            has_a(world.request.context.as_slice()) && stores_its_request(world)
-        }
-        _ => false,
-    }
-}
-
-fn finds_world_with_a(alloc: Global) -> Result<bool, AllocError> {
-    let goal = goal_a(alloc)?;
-    let answer = of_documents(alloc, goal, 100)?;
-    Ok(is_world_with_a(&answer))
-}
-
-#[test]
-fn world_of_an_attribute(rt: HostRuntime) -> Result<(), Fail> {
-    assert!(rt; finds_world_with_a(rt.alloc())?);
-    Ok(())
-}
-
 fn is_user(uid: &Uid, id: &str) -> bool {
     uid.type_name.as_str() == "User" && uid.id.as_str() == id
 }
@@ -135,55 +111,98 @@ fn are_numbered(world: &World) -> bool {
     is_user(&world.request.principal, "0") && (is_user(resource, "0") || is_user(resource, "1"))
 }
 
-fn is_nameless(value: &Value) -> bool {
-    match value {
-        Value::Entity(uid) => is_user(uid, ""),
-        _ => false,
-    }
-}
-
-/// Whether an entity's manager is the user with no id.
-fn has_nameless_manager(data: &EntityData) -> bool {
+/// The manager of a user, who has a level besides.
+fn manager_of(data: &EntityData) -> Option<&Uid> {
     match data.attrs.as_slice() {
-        [manager] => manager.0.as_str() == "manager" && is_nameless(&manager.1),
-        _ => false,
+        [level, manager] if is_field(level, "level") && is_field(manager, "manager") => {
+            entity_of(&manager.1)
+        }
+        _ => None,
     }
 }
 
+fn entity_of(value: &Value) -> Option<&Uid> {
+    match value {
+        Value::Entity(uid) => Some(uid),
+        _ => None,
+    }
+}
+
+/// Whether the principal's manager is the user with no id, who is stored too.
 fn principal_has_manager(world: &World) -> bool {
-    match world.store.get(&world.request.principal) {
-        Some(data) => has_nameless_manager(data),
+    let Some(data) = world.store.get(&world.request.principal) else {
+        return false;
+    };
+    match manager_of(data) {
+        Some(manager) => is_user(manager, "") && world.store.get(manager).is_some(),
         None => false,
     }
 }
 
-/// Whether a world was found whose principal and resource are numbered users with a manager, who is stored too.
-fn is_world_with_managers(answer: &Option<Answer>, manager: &Uid) -> bool {
-    match answer {
-        Some(Answer::Violated(world)) => {
-            are_numbered(world)
-                && principal_has_manager(world)
-                && world.store.get(manager).is_some()
-        }
-        _ => false,
-    }
-}
-
-fn finds_world_with_managers(alloc: Global) -> Result<bool, AllocError> {
-    let manager = uid(alloc, "User", "")?;
-    let goal = constant(alloc, true)?;
-    let answer = of_people(alloc, goal, 100)?;
-    Ok(is_world_with_managers(&answer, &manager))
-}
+/// Places of environments, goals, budgets, and what is to be found.
+const GOALS: [(usize, &str, u64, Wanted); 6] = [
+    (USER_DOC, "f", 1, Wanted::Refuted),
+    // a contradiction is refuted in one step
+    (USER_DOC, "aa!&", 1, Wanted::Refuted),
+    // `a` is `b` and isn't: two cases take a few steps
+    (USER_DOC, "ab=ab!=&", 8, Wanted::Refuted),
+    (USER_DOC, "ab=ab!=&", 1, Wanted::Spent(1)),
+    (USER_DOC, "a", 100, Wanted::WithA),
+    (USER_USER, "t", 100, Wanted::WithManagers),
+];
 
 #[test]
-fn principal_and_resource_are_numbered_and_have_managers(rt: HostRuntime) -> Result<(), Fail> {
-    assert!(rt; finds_world_with_managers(rt.alloc())?);
+fn goals(rt: HostRuntime) -> Result<(), Fail> {
+    for (place, goal, budget, wanted) in GOALS {
+        let so = is_so(rt.alloc(), place, goal, &Finds { budget, wanted });
+        assert!(rt; so, "{goal} with {budget}");
+    }
     Ok(())
+}
+
+// ---- rules
+
+/// Whether the first defining clause is an instance of all rules and has one literal, and values of
+/// no atom falsify none.
+#[derive(Drop)]
+struct HaveDefinitions;
+
+/// The defining clause of number 1, as an instance.
+fn first_instance(alloc: Global) -> Result<Instance, AllocError> {
+    let rule = Text::from_str(alloc, "")?;
+    let mut words = Seq::new(alloc);
+    words.push(Word::Number(1))?;
+    Ok(Instance { rule, words })
+}
+
+fn have_first_clause(alloc: Global, problem: &Problem<'_>) -> Result<bool, AllocError> {
+    let rules = Rules::new();
+    let instance = first_instance(alloc)?;
+    if rules.accepts(alloc, problem, &instance)? {
+        let clause = rules.clause(alloc, problem, &instance)?;
+        return Ok(clause.len() == 1);
+    }
+    Ok(false)
+}
+
+fn falsify_nothing(alloc: Global, problem: &Problem<'_>) -> Result<bool, AllocError> {
+    let rules = Rules::new();
+    let m = Assignment::from_values(Seq::new(alloc));
+    let found = rules.violated(alloc, problem, &m)?;
+    Ok(found.is_none())
+}
+
+impl Question for HaveDefinitions {
+    fn ask(&self, alloc: Global, problem: &Problem<'_>) -> Result<bool, AllocError> {
+        let first = have_first_clause(alloc, problem)?;
+        let nothing = falsify_nothing(alloc, problem)?;
+        Ok(first && nothing)
+    }
 }
 
 #[test]
 fn rules_have_the_clauses_that_define_a_problem(rt: HostRuntime) -> Result<(), Fail> {
-    assert!(rt; rules_on_false(rt.alloc())?);
+    let so = is_so(rt.alloc(), USER_DOC, "f", &HaveDefinitions);
+    assert!(rt; so);
     Ok(())
 }

@@ -8,8 +8,6 @@ mod law;
 mod of_type;
 mod plain;
 mod sort;
-#[cfg(test)]
-mod tests;
 
 pub use clone::try_clone;
 pub use default::default_of;

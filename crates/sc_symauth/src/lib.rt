@@ -6,8 +6,6 @@ mod deciding;
 mod joining;
 mod laws;
 mod standing;
-#[cfg(test)]
-mod tests;
 mod typed;
 
 pub use compiled::CompiledPolicy;

@@ -10,4 +10,3 @@ pub mod TellLaws
 pub mod PolicyLaws
 pub mod CompiledLaws
 pub mod ScopeLaws
-pub mod SampleLaws

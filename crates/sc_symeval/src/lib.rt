@@ -4,8 +4,6 @@
 mod compiling;
 mod laws;
 mod opt;
-#[cfg(test)]
-mod tests;
 
 pub use compiling::compile;
 pub use laws::compile_laws;

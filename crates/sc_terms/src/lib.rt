@@ -13,8 +13,6 @@ mod leaves;
 mod node;
 mod sort;
 mod terms;
-#[cfg(test)]
-mod tests;
 
 pub use law::{default_laws, order_laws, truth_laws, value_laws};
 pub use node::{BinaryOp, Leaf, Literal, Node, UnaryOp};

@@ -1,62 +1,33 @@
 //! The construct of policies that no fragment admits, or none.
-use crate::expressions::{action, and, at, binary, mfa, policy, truth};
-use sc_ast::{ActionConstraint, BinaryOperator, Policy, PolicySet};
+use crate::samples::{at, policies, schema};
 use sc_constructs::{Construct, Found, Unsupported, first_unsupported};
-use sc_lists::Seq;
-use sc_samples::sample_schema;
 use std::alloc::{AllocError, Global};
 use std::test::Fail;
 
-/// `context.mfa`.
-fn admitted(alloc: Global) -> Result<Policy, AllocError> {
-    policy(alloc, mfa(alloc, 43, 50)?)
-}
+/// A policy that fragments admit, and one of which nothing is evaluated that they don't.
+const ADMITTED: &str =
+    "permit(principal, action == Action::\"view\", resource) when { context.mfa };
+permit(principal, action, resource) when { false && context.mfa == true };";
 
-/// `context.mfa == true`.
-fn equality(alloc: Global) -> Result<Policy, AllocError> {
-    let left = mfa(alloc, 43, 50)?;
-    policy(
-        alloc,
-        binary(alloc, 55, BinaryOperator::Equal, left, truth(58, true))?,
-    )
-}
+/// A policy whose scope has an action, and one whose action is among none.
+const AMONG_NONE: &str =
+    "permit(principal, action == Action::\"view\", resource) when { context.mfa };
+permit(principal, action in [], resource) when { context.mfa };";
 
-/// `false && context.mfa == true`.
-fn skipped(alloc: Global) -> Result<Policy, AllocError> {
-    let left = mfa(alloc, 52, 59)?;
-    let equal = binary(alloc, 64, BinaryOperator::Equal, left, truth(67, true))?;
-    policy(alloc, and(alloc, 49, truth(43, false), equal)?)
-}
+/// A policy whose action is among some, and one with an equality.
+const AMONG_SOME: &str =
+    "permit(principal, action in [Action::\"view\"], resource) when { context.mfa };
+permit(principal, action, resource) when { context.mfa == true };";
 
-/// `permit(principal, action == Action::"view", resource) when { context.mfa };`.
-fn view_alone(alloc: Global) -> Result<Policy, AllocError> {
-    let mut policy = admitted(alloc)?;
-    policy.action.constraint = ActionConstraint::Equal(at(25), action(alloc, 28, "view")?);
-    Ok(policy)
-}
+/// A policy with an equality, and one whose action is among none.
+const EQUALITY: &str = "permit(principal, action, resource) when { context.mfa == true };
+permit(principal, action in [], resource) when { context.mfa };";
 
-/// The same with `in [Action::"view"]`.
-fn view_among(alloc: Global) -> Result<Policy, AllocError> {
-    let mut views = Seq::new(alloc);
-    views.push(action(alloc, 29, "view")?)?;
-    let mut policy = admitted(alloc)?;
-    policy.action.constraint = ActionConstraint::InAny(at(25), at(28), views);
-    Ok(policy)
-}
-
-/// The same with `in []`.
-fn among_none(alloc: Global) -> Result<Policy, AllocError> {
-    let mut policy = admitted(alloc)?;
-    policy.action.constraint = ActionConstraint::InAny(at(25), at(28), Seq::new(alloc));
-    Ok(policy)
-}
-
-/// What is told of two policies.
-fn told(alloc: Global, a: Policy, b: Policy) -> Result<Option<Unsupported>, AllocError> {
-    let mut policies: PolicySet = Seq::new(alloc);
-    policies.push(a)?;
-    policies.push(b)?;
-    first_unsupported(alloc, &sample_schema(alloc)?, &policies)
+/// What is told of the policies of a file.
+fn told(alloc: Global, file: &str) -> Result<Option<Unsupported>, AllocError> {
+    let schema = schema(alloc)?;
+    let policies = policies(alloc, file)?;
+    first_unsupported(alloc, &schema, &policies)
 }
 
 fn expected(policy: usize, offset: u64, construct: Construct) -> Option<Unsupported> {
@@ -68,33 +39,21 @@ fn expected(policy: usize, offset: u64, construct: Construct) -> Option<Unsuppor
 }
 
 #[test]
-fn equality_of_the_first_policy(rt: HostRuntime) -> Result<(), Fail> {
-    let alloc = rt.alloc();
-    let told = told(alloc, equality(alloc)?, among_none(alloc)?)?;
-    assert!(rt; told == expected(0, 55, Construct::Equality));
-    Ok(())
-}
-
-#[test]
-fn action_among_none_of_the_second_policy(rt: HostRuntime) -> Result<(), Fail> {
-    let alloc = rt.alloc();
-    let told = told(alloc, view_alone(alloc)?, among_none(alloc)?)?;
-    assert!(rt; told == expected(1, 18, Construct::Variable));
-    Ok(())
-}
-
-#[test]
-fn action_among_some(rt: HostRuntime) -> Result<(), Fail> {
-    let alloc = rt.alloc();
-    let told = told(alloc, view_among(alloc)?, equality(alloc)?)?;
-    assert!(rt; told == expected(0, 18, Construct::Variable));
+fn constructs_that_are_told(rt: HostRuntime) -> Result<(), Fail> {
+    for (file, policy, offset, construct) in [
+        (EQUALITY, 0, 55, Construct::Equality),
+        (AMONG_NONE, 1, 94, Construct::Variable),
+        (AMONG_SOME, 0, 18, Construct::Variable),
+    ] {
+        let found = told(rt.alloc(), file)?;
+        assert!(rt; found == expected(policy, offset, construct), "{file}");
+    }
     Ok(())
 }
 
 #[test]
 fn what_is_skipped_has_none(rt: HostRuntime) -> Result<(), Fail> {
-    let alloc = rt.alloc();
-    let told = told(alloc, admitted(alloc)?, skipped(alloc)?)?;
-    assert!(rt; told.is_none());
+    let found = told(rt.alloc(), ADMITTED)?;
+    assert!(rt; found.is_none());
     Ok(())
 }

@@ -1,150 +1,226 @@
-//! Types that join, and what is known of objects.
-use crate::expressions::{at, one_text, variable};
-use sc_ast::Variable;
-use sc_lists::{Seq, Text};
-use sc_schema::{Presence, Ty};
-use sc_typed::bare::copy_of_names;
-use sc_typed::capability::{attribute_of, common, copies, is_known, joined, tag_of};
-use sc_typed::types::{copy_of_type, join};
-use sc_typed::{Capability, TypeFault, TypeRule};
+//! The types of bodies where a user views a document, and the first rules that they break.
+use crate::samples::{at, sample, schema};
+use sc_ast::{Policy, PolicySet};
+use sc_lists::Fault;
+use sc_schema::{Env, Schema, environments};
+use sc_typed::kinds::{is_false, is_true};
+use sc_typing::{TypeFault, TypeRule, TypedExpr, type_of, type_policy};
 use std::alloc::{AllocError, Global};
 use std::test::Fail;
 
-/// The type of records with the field `n` alone.
-fn record_of(alloc: Global, presence: Presence, ty: Ty) -> Result<Ty, AllocError> {
-    let mut fields = Seq::new(alloc);
-    fields.push((Text::from_str(alloc, "n")?, presence, ty))?;
-    Ok(Ty::Record(fields))
+/// What typing answers of a body.
+#[derive(Clone, Copy, PartialEq, Eq)]
+enum Answer {
+    /// It is always this.
+    Always(bool),
+    /// It may be true or false.
+    Either,
+    /// It breaks a rule, at the place of this byte.
+    Breaks(TypeRule, u64),
 }
 
-/// Whether it is the type of records with the required field `n`, which may be true or false.
-fn is_record_of_either(alloc: Global, ty: &Ty) -> Result<bool, AllocError> {
-    let wanted = record_of(alloc, Presence::Required, Ty::Bool)?;
-    Ok(*ty == wanted)
-}
+use Answer::{Always, Breaks, Either};
 
-fn copied_type(alloc: Global) -> Result<Ty, AllocError> {
-    let written = record_of(alloc, Presence::Required, Ty::Bool)?;
-    copy_of_type(alloc, &written)
-}
-
-#[test]
-fn copy_of_a_type(rt: HostRuntime) -> Result<(), Fail> {
-    let copy = copied_type(rt.alloc())?;
-    let same = is_record_of_either(rt.alloc(), &copy)?;
-    assert!(rt; same);
-    Ok(())
-}
-
-/// What a record of `true` and one of `false` join to, of which the second has its field perhaps.
-fn join_of_truths(alloc: Global, presence: Presence) -> Result<Option<Ty>, AllocError> {
-    let first = record_of(alloc, Presence::Required, Ty::True)?;
-    let second = record_of(alloc, presence, Ty::False)?;
-    join(alloc, &first, &second)
-}
-
-fn joins_to_either(alloc: Global) -> Result<bool, AllocError> {
-    match join_of_truths(alloc, Presence::Required)? {
-        Some(ty) => is_record_of_either(alloc, &ty),
-        None => Ok(false),
+/// What a condition with its types may be.
+fn truth_of(condition: &TypedExpr) -> Answer {
+    match type_of(condition) {
+        Some(ty) if is_true(ty) => Always(true),
+        Some(ty) if is_false(ty) => Always(false),
+        _ => Either,
     }
 }
 
+/// What the condition of a policy may be in an environment.
+fn truth_in(
+    alloc: Global,
+    schema: &Schema,
+    env: &Env,
+    policy: &Policy,
+) -> Result<Answer, Fault<TypeFault>> {
+    let condition = type_policy(alloc, schema, env, policy)?;
+    Ok(truth_of(&condition))
+}
+
+/// What typing answers of a policy in an environment.
+fn answer_of(
+    alloc: Global,
+    schema: &Schema,
+    env: &Env,
+    policy: &Policy,
+) -> Result<Answer, AllocError> {
+    match truth_in(alloc, schema, env, policy) {
+        Ok(answer) => Ok(answer),
+        Err(Fault::Told(fault)) => Ok(Breaks(fault.rule, fault.at.offset)),
+        Err(Fault::NoMemory) => Err(AllocError),
+    }
+}
+
+/// What typing answers of the first of some policies where a user views a document.
+fn first_answer(
+    alloc: Global,
+    schema: &Schema,
+    policies: &PolicySet,
+) -> Result<Answer, AllocError> {
+    let Some(env) = environments(schema).get(2) else {
+        return Err(AllocError);
+    };
+    match policies.get(0) {
+        Some(policy) => answer_of(alloc, schema, env, policy),
+        None => Err(AllocError),
+    }
+}
+
+/// What typing answers of a policy with this body.
+fn typed(alloc: Global, body: &str) -> Result<Answer, AllocError> {
+    let schema = schema(alloc)?;
+    let policies = sample(alloc, body)?;
+    first_answer(alloc, &schema, &policies)
+}
+
+/// Truth values.
+const LOGIC: [(&str, Answer); 10] = [
+    ("context.mfa", Either),
+    ("1", Breaks(TypeRule::NotBoolean, 43)),
+    ("false || true", Always(true)),
+    ("true && false", Always(false)),
+    ("true || 2", Always(true)),
+    ("false && 2", Always(false)),
+    ("!false", Always(true)),
+    ("if true then context.mfa else 1", Either),
+    (
+        "if context.mfa then 1 else \"a\"",
+        Breaks(TypeRule::NoJoin, 43),
+    ),
+    // operands are typed before their kinds are asked for
+    ("1 && (1 + \"a\" < 2)", Breaks(TypeRule::NotLong, 53)),
+];
+
+/// Sets and records, of which those join that have the same required attributes.
+const JOINED: [(&str, Answer); 9] = [
+    ("[1].contains(2)", Either),
+    ("[1].contains(\"a\")", Breaks(TypeRule::NoJoin, 46)),
+    ("[].contains(1)", Breaks(TypeRule::EmptySet, 43)),
+    ("{n: 1}.n < 2", Either),
+    ("{n: 1}.m < 2", Breaks(TypeRule::NoAttribute, 49)),
+    (
+        "(if context.mfa then {n: true} else {n: true}).n",
+        Always(true),
+    ),
+    ("(if context.mfa then {n: true} else {n: false}).n", Either),
+    (
+        "(if context.mfa then principal.box else principal.box) has n",
+        Either,
+    ),
+    (
+        "(if context.mfa then principal.box else {n: false}) has n",
+        Breaks(TypeRule::NoJoin, 44),
+    ),
+];
+
+/// Entities, and actions, of which the schema decides what they are in.
+const ENTITIES: [(&str, Answer); 8] = [
+    (
+        "Shop::Action::\"buy\" in [Action::\"view\", Team::\"t\"]",
+        Always(true),
+    ),
+    ("action in Shop::Action::\"buy\"", Always(false)),
+    ("principal in Team::\"t\"", Either),
+    ("principal in resource", Always(false)),
+    ("principal is User", Always(true)),
+    ("principal is Team in 1", Always(false)),
+    ("1 in principal", Breaks(TypeRule::NotEntity, 43)),
+    ("principal in 1", Breaks(TypeRule::NotEntityOrSet, 56)),
+];
+
+/// What is known of attributes and tags where they are read: what both sides of `&&` say, and what each
+/// side of `||` does.
+const KNOWN: [(&str, Answer); 11] = [
+    ("principal.level.n", Breaks(TypeRule::NotObject, 52)),
+    ("principal.nick == \"x\"", Breaks(TypeRule::MaybeAbsent, 52)),
+    ("principal has nick && principal.nick == \"x\"", Either),
+    ("resource.hasTag(\"k\")", Always(false)),
+    (
+        "resource.getTag(\"k\") == \"x\"",
+        Breaks(TypeRule::NoTags, 51),
+    ),
+    (
+        "principal.getTag(\"k\") == \"x\"",
+        Breaks(TypeRule::TagMaybeAbsent, 52),
+    ),
+    (
+        "principal.hasTag(\"k\") && principal.getTag(\"k\") == \"x\"",
+        Either,
+    ),
+    (
+        "principal has nick && principal.hasTag(\"k\") && principal.nick == principal.getTag(\"k\")",
+        Either,
+    ),
+    (
+        "(principal has nick && principal.hasTag(\"k\") || principal.hasTag(\"k\")) && principal.getTag(\"k\") == \"x\"",
+        Either,
+    ),
+    (
+        "(principal has nick && principal.hasTag(\"k\") || principal.hasTag(\"k\")) && principal.nick == \"x\"",
+        Breaks(TypeRule::MaybeAbsent, 126),
+    ),
+    (
+        "principal.hasTag(if principal has nick then \"a\" else \"b\") && principal.getTag(if principal has nick then \"a\" else \"b\") == \"x\"",
+        Either,
+    ),
+];
+
+/// Operands of other kinds.
+const OPERANDS: [(&str, Answer); 5] = [
+    ("1 like \"a\"", Breaks(TypeRule::NotString, 43)),
+    ("1.contains(2)", Breaks(TypeRule::NotSet, 43)),
+    (
+        "decimal(\"x\") == decimal(\"1.0\")",
+        Breaks(TypeRule::BadLiteral, 43),
+    ),
+    (
+        "decimal(\"1.0\").lessThan(1)",
+        Breaks(TypeRule::NotDecimal, 67),
+    ),
+    ("ip(\"::1\").isInRange(1)", Breaks(TypeRule::NotIp, 63)),
+];
+
 #[test]
-fn records_join_by_their_fields(rt: HostRuntime) -> Result<(), Fail> {
-    let same = joins_to_either(rt.alloc())?;
-    assert!(rt; same);
+fn truth_values(rt: HostRuntime) -> Result<(), Fail> {
+    for (body, expected) in LOGIC {
+        assert!(rt; typed(rt.alloc(), body)? == expected, "{body}");
+    }
     Ok(())
 }
 
 #[test]
-fn records_that_require_other_fields(rt: HostRuntime) -> Result<(), Fail> {
-    let joined = join_of_truths(rt.alloc(), Presence::Optional)?;
-    assert!(rt; joined.is_none());
+fn sets_and_records(rt: HostRuntime) -> Result<(), Fail> {
+    for (body, expected) in JOINED {
+        assert!(rt; typed(rt.alloc(), body)? == expected, "{body}");
+    }
     Ok(())
 }
 
 #[test]
-fn copy_of_a_name(rt: HostRuntime) -> Result<(), Fail> {
-    let alloc = rt.alloc();
-    let names = one_text(alloc, "n")?;
-    let copy = copy_of_names(alloc, names.as_slice())?;
-    assert!(rt; copy == names);
-    Ok(())
-}
-
-/// That `context`, which is written at a place, has the attribute `n`.
-fn attribute(alloc: Global, place: u64) -> Result<Capability, AllocError> {
-    let n = Text::from_str(alloc, "n")?;
-    attribute_of(alloc, &variable(place, Variable::Context), &n)
-}
-
-/// That `principal`, which is written at a place, has the tag of the key that `context` is.
-fn tag(alloc: Global, place: u64) -> Result<Capability, AllocError> {
-    let key = variable(place, Variable::Context);
-    tag_of(alloc, &variable(place, Variable::Principal), &key)
-}
-
-fn only(alloc: Global, capability: Capability) -> Result<Seq<Capability>, AllocError> {
-    let mut all = Seq::new(alloc);
-    all.push(capability)?;
-    Ok(all)
-}
-
-fn both_joined(alloc: Global) -> Result<Seq<Capability>, AllocError> {
-    let first = only(alloc, attribute(alloc, 3)?)?;
-    let second = only(alloc, tag(alloc, 4)?)?;
-    joined(first, second)
-}
-
-fn both_copied(alloc: Global) -> Result<Seq<Capability>, AllocError> {
-    let first = only(alloc, attribute(alloc, 3)?)?;
-    let second = only(alloc, tag(alloc, 4)?)?;
-    copies(alloc, first.as_slice(), second.as_slice())
-}
-
-fn common_to_both(alloc: Global) -> Result<Seq<Capability>, AllocError> {
-    let first = both_joined(alloc)?;
-    let second = only(alloc, tag(alloc, 4)?)?;
-    common(alloc, first, second.as_slice())
-}
-
-/// Whether the attribute is known, where it is written at another place.
-fn knows_attribute(alloc: Global, known: &[Capability]) -> Result<bool, AllocError> {
-    Ok(is_known(known, &attribute(alloc, 9)?))
-}
-
-/// Whether the tag is known, where it is written at another place.
-fn knows_tag(alloc: Global, known: &[Capability]) -> Result<bool, AllocError> {
-    Ok(is_known(known, &tag(alloc, 9)?))
-}
-
-/// Whether capabilities are the attribute and the tag.
-fn are_both(alloc: Global, known: Seq<Capability>) -> Result<bool, AllocError> {
-    let attribute = knows_attribute(alloc, known.as_slice())?;
-    let tag = knows_tag(alloc, known.as_slice())?;
-    Ok(known.len() == 2 && attribute && tag)
-}
-
-#[test]
-fn capabilities_that_are_joined(rt: HostRuntime) -> Result<(), Fail> {
-    let both = are_both(rt.alloc(), both_joined(rt.alloc())?)?;
-    assert!(rt; both);
+fn entities_and_actions(rt: HostRuntime) -> Result<(), Fail> {
+    for (body, expected) in ENTITIES {
+        assert!(rt; typed(rt.alloc(), body)? == expected, "{body}");
+    }
     Ok(())
 }
 
 #[test]
-fn capabilities_that_are_copied(rt: HostRuntime) -> Result<(), Fail> {
-    let both = are_both(rt.alloc(), both_copied(rt.alloc())?)?;
-    assert!(rt; both);
+fn what_is_known(rt: HostRuntime) -> Result<(), Fail> {
+    for (body, expected) in KNOWN {
+        assert!(rt; typed(rt.alloc(), body)? == expected, "{body}");
+    }
     Ok(())
 }
 
 #[test]
-fn capability_in_common(rt: HostRuntime) -> Result<(), Fail> {
-    let kept = common_to_both(rt.alloc())?;
-    let tag = knows_tag(rt.alloc(), kept.as_slice())?;
-    assert!(rt; kept.len() == 1 && tag);
+fn operands(rt: HostRuntime) -> Result<(), Fail> {
+    for (body, expected) in OPERANDS {
+        assert!(rt; typed(rt.alloc(), body)? == expected, "{body}");
+    }
     Ok(())
 }
 

@@ -7,8 +7,6 @@ mod order;
 mod proper;
 mod records;
 mod sets;
-#[cfg(test)]
-mod tests;
 mod value;
 
 pub use clone::{clone_rec, clone_set, try_clone};

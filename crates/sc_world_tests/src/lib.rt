@@ -4,10 +4,12 @@
 #![tactic(auto)]
 
 #[cfg(test)]
+mod default_worlds;
+#[cfg(test)]
 mod samples;
 #[cfg(test)]
-mod world;
+mod stores;
 #[cfg(test)]
-mod world_breaks;
+mod well_formed_worlds;
 #[cfg(test)]
 mod world_json;

@@ -3,4 +3,3 @@ pub mod Connectives
 pub mod ClauseLaws
 pub mod DefinitionLaws
 pub mod Laws
-pub mod Samples

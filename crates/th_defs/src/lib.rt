@@ -6,8 +6,6 @@ mod definitions;
 mod defs;
 mod laws;
 mod table;
-#[cfg(test)]
-mod tests;
 
 pub use definitions::defining;
 pub use defs::Defs;

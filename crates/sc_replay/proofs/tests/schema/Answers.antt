@@ -1,5 +1,0 @@
-use Rattle.sc_replay.proofs.SampleLaws.{sample_lawful}
-use Rattle.sc_replay.proofs.tests.schema.Goals as goal
-
-pub new-requires : goal.new-requires
-new-requires c = sample_lawful _ _ c.in_ok-types.ensures c.in_ok-one_action.ensures

@@ -1,0 +1,289 @@
+//! What is read from schemas of the entity types and the actions that they declare.
+use sc_lists::Text;
+use sc_names::{Name, Uid, put_uid};
+use sc_schema::{
+    Schema, Ty, action_ancestors, actions, ancestor_types, attrs_of, context_of, entity_types,
+    environments, is_action_type, lookup_laws, order_laws, plain_laws, tags_of,
+};
+use sc_schema_json::read_schema;
+use std::alloc::{AllocError, Global};
+use std::test::Fail;
+
+/// A schema of three entity types and two actions, of which one is in the other.
+const SAMPLE: &str = r#"{
+    "": {
+        "entityTypes": {
+            "Doc": {},
+            "Team": {"memberOfTypes": ["Team"]},
+            "User": {
+                "memberOfTypes": ["Team"],
+                "shape": {"type": "Record", "attributes": {"level": {"type": "Long"}, "nick": {"type": "String", "required": false}}},
+                "tags": {"type": "String"}
+            }
+        },
+        "actions": {"view": {"appliesTo": {
+            "principalTypes": ["Team", "User"],
+            "resourceTypes": ["Doc", "Team"],
+            "context": {"type": "Record", "attributes": {"mfa": {"type": "Boolean"}}}
+        }}}
+    },
+    "Shop": {"actions": {"buy": {"memberOf": [{"id": "view", "type": "Action"}]}}}
+}"#;
+
+/// A schema in which types and actions stand above others through others.
+const CHAINS: &str = r#"{"": {
+    "entityTypes": {
+        "D": {"memberOfTypes": ["D"]},
+        "B": {"memberOfTypes": ["C"]},
+        "A": {"memberOfTypes": ["B"]},
+        "C": {}
+    },
+    "actions": {
+        "x": {"memberOf": [{"id": "g"}], "appliesTo": {"principalTypes": ["B", "A", "B"], "resourceTypes": ["C"]}},
+        "h": {},
+        "g": {"memberOf": [{"id": "h"}]}
+    }
+}}"#;
+
+/// The schema that a text spells, if it spells one.
+fn schema(alloc: Global, text: &str) -> Option<Schema> {
+    read_schema(alloc, text.as_bytes()).ok()
+}
+
+fn name(alloc: Global, text: &str) -> Result<Name, AllocError> {
+    Ok(Name::from_text(Text::from_str(alloc, text)?))
+}
+
+fn uid(alloc: Global, type_name: &str, id: &str) -> Result<Uid, AllocError> {
+    Ok(Uid {
+        type_name: name(alloc, type_name)?,
+        id: Text::from_str(alloc, id)?,
+    })
+}
+
+/// Writes names, each with a space behind it.
+fn put_names(told: &mut String, names: &[Name]) -> Result<(), AllocError> {
+    for name in names {
+        told.push_str(name.as_str())?;
+        told.push_str(" ")?;
+    }
+    Ok(())
+}
+
+/// Writes uids, each with a space behind it.
+fn put_uids(told: &mut String, uids: &[Uid]) -> Result<(), AllocError> {
+    for uid in uids {
+        put_uid(told, uid)?;
+        told.push_str(" ")?;
+    }
+    Ok(())
+}
+
+/// Names, each with a space behind it, and `none` where there are none.
+fn names_text(alloc: Global, names: Option<&[Name]>) -> Result<String, AllocError> {
+    let mut told = String::new(alloc);
+    match names {
+        Some(names) => put_names(&mut told, names)?,
+        None => told.push_str("none")?,
+    }
+    Ok(told)
+}
+
+/// Uids, each with a space behind it, and `none` where there are none.
+fn uids_text(alloc: Global, uids: Option<&[Uid]>) -> Result<String, AllocError> {
+    let mut told = String::new(alloc);
+    match uids {
+        Some(uids) => put_uids(&mut told, uids)?,
+        None => told.push_str("none")?,
+    }
+    Ok(told)
+}
+
+/// The environments of a schema.
+fn environments_text(alloc: Global, schema: &Schema) -> Result<String, AllocError> {
+    let mut told = String::new(alloc);
+    for env in environments(schema) {
+        told.push_str(env.principal.as_str())?;
+        told.push_str(" ")?;
+        put_uid(&mut told, &env.action)?;
+        told.push_str(" ")?;
+        told.push_str(env.resource.as_str())?;
+        told.push_str("; ")?;
+    }
+    Ok(told)
+}
+
+/// Whether a schema has these environments.
+fn has_environments(alloc: Global, text: &str, told: &str) -> Result<bool, AllocError> {
+    match schema(alloc, text) {
+        Some(schema) => Ok(environments_text(alloc, &schema)?.as_str() == told),
+        None => Ok(false),
+    }
+}
+
+#[test]
+fn environments_in_order(rt: HostRuntime) -> Result<(), Fail> {
+    for (text, told) in [
+        (
+            SAMPLE,
+            r#"Team Action::"view" Doc; Team Action::"view" Team; User Action::"view" Doc; User Action::"view" Team; "#,
+        ),
+        // a type that is named twice counts once
+        (CHAINS, r#"A Action::"x" C; B Action::"x" C; "#),
+    ] {
+        assert!(rt; has_environments(rt.alloc(), text, told)?, "{told}");
+    }
+    Ok(())
+}
+
+/// Whether a schema declares these entity types.
+fn has_types(alloc: Global, text: &str, names: &str) -> Result<bool, AllocError> {
+    match schema(alloc, text) {
+        Some(schema) => Ok(names_text(alloc, Some(entity_types(&schema)))?.as_str() == names),
+        None => Ok(false),
+    }
+}
+
+/// Whether a schema declares these actions.
+fn has_actions(alloc: Global, text: &str, uids: &str) -> Result<bool, AllocError> {
+    match schema(alloc, text) {
+        Some(schema) => Ok(uids_text(alloc, Some(actions(&schema)))?.as_str() == uids),
+        None => Ok(false),
+    }
+}
+
+#[test]
+fn declarations_stand_in_order(rt: HostRuntime) -> Result<(), Fail> {
+    let alloc = rt.alloc();
+    assert!(rt; has_types(alloc, SAMPLE, "Doc Team User ")?);
+    assert!(rt; has_actions(alloc, SAMPLE, r#"Action::"view" Shop::Action::"buy" "#)?);
+    assert!(rt; has_types(alloc, CHAINS, "A B C D ")?);
+    assert!(rt; has_actions(alloc, CHAINS, r#"Action::"g" Action::"h" Action::"x" "#)?);
+    Ok(())
+}
+
+/// How many entity types and actions a schema declares.
+fn counts(alloc: Global, text: &str) -> Option<(usize, usize)> {
+    let schema = schema(alloc, text)?;
+    schema.laws();
+    Some((schema.types().len(), schema.declared_actions().len()))
+}
+
+#[test]
+fn all_are_declared(rt: HostRuntime) {
+    lookup_laws();
+    order_laws();
+    plain_laws();
+    assert!(rt; counts(rt.alloc(), SAMPLE) == Some((3, 2)));
+    assert!(rt; counts(rt.alloc(), CHAINS) == Some((4, 3)));
+}
+
+/// Whether just these types stand above a type.
+fn is_under(alloc: Global, text: &str, of: &str, above: &str) -> Result<bool, AllocError> {
+    let name = name(alloc, of)?;
+    match schema(alloc, text) {
+        Some(schema) => {
+            let names = ancestor_types(&schema, &name);
+            Ok(names_text(alloc, names)?.as_str() == above)
+        }
+        None => Ok(false),
+    }
+}
+
+#[test]
+fn types_above_types(rt: HostRuntime) -> Result<(), Fail> {
+    for (text, of, above) in [
+        (SAMPLE, "Doc", ""),
+        (SAMPLE, "Team", "Team "),
+        (SAMPLE, "User", "Team "),
+        (SAMPLE, "Action", ""),
+        (SAMPLE, "Shop::Action", "Action "),
+        (SAMPLE, "Page", "none"),
+        (CHAINS, "A", "B C "),
+        (CHAINS, "B", "C "),
+        (CHAINS, "C", ""),
+        (CHAINS, "D", "D "),
+    ] {
+        assert!(rt; is_under(rt.alloc(), text, of, above)?, "{of}");
+    }
+    Ok(())
+}
+
+fn field_count(ty: Option<&Ty>) -> Option<usize> {
+    match ty {
+        Some(Ty::Record(fields)) => Some(fields.len()),
+        _ => None,
+    }
+}
+
+/// How many attributes entities of a type of the sample have, whether they have tags, and whether
+/// they are actions.
+fn declared_of(alloc: Global, of: &str) -> Option<(Option<usize>, bool, bool)> {
+    let name = name(alloc, of).ok()?;
+    let schema = schema(alloc, SAMPLE)?;
+    let count = field_count(attrs_of(&schema, &name));
+    let has_tags = tags_of(&schema, &name).is_some();
+    Some((count, has_tags, is_action_type(&schema, &name)))
+}
+
+#[test]
+fn attributes_and_tags(rt: HostRuntime) {
+    for (of, declared) in [
+        ("User", (Some(2), true, false)),
+        ("Doc", (Some(0), false, false)),
+        ("Shop::Action", (Some(0), false, true)),
+        ("Page", (None, false, false)),
+    ] {
+        assert!(rt; declared_of(rt.alloc(), of) == Some(declared), "{of}");
+    }
+}
+
+/// Whether an action is in just these, and its context has so many attributes.
+fn is_in(
+    alloc: Global,
+    text: &str,
+    action: &Uid,
+    (above, count): (&str, Option<usize>),
+) -> Result<bool, AllocError> {
+    match schema(alloc, text) {
+        Some(schema) => {
+            let told = uids_text(alloc, action_ancestors(&schema, action))?;
+            Ok(told.as_str() == above && field_count(context_of(&schema, action)) == count)
+        }
+        None => Ok(false),
+    }
+}
+
+/// The same of the action of this type and this id.
+fn is_action_in(
+    alloc: Global,
+    text: &str,
+    (type_name, id): (&str, &str),
+    declared: (&str, Option<usize>),
+) -> Result<bool, AllocError> {
+    let action = uid(alloc, type_name, id)?;
+    is_in(alloc, text, &action, declared)
+}
+
+#[test]
+fn actions_above_actions_and_contexts(rt: HostRuntime) -> Result<(), Fail> {
+    for (text, of, declared) in [
+        (SAMPLE, ("Action", "view"), ("", Some(1))),
+        (
+            SAMPLE,
+            ("Shop::Action", "buy"),
+            (r#"Action::"view" "#, Some(0)),
+        ),
+        (SAMPLE, ("Action", "buy"), ("none", None)),
+        (
+            CHAINS,
+            ("Action", "x"),
+            (r#"Action::"g" Action::"h" "#, Some(0)),
+        ),
+        (CHAINS, ("Action", "g"), (r#"Action::"h" "#, Some(0))),
+        (CHAINS, ("Action", "h"), ("", Some(0))),
+    ] {
+        assert!(rt; is_action_in(rt.alloc(), text, of, declared)?, "{}", of.1);
+    }
+    Ok(())
+}

@@ -1,0 +1,248 @@
+//! What the search finds of small problems whose answers are known.
+ghost use Rattle.std.specs.Prelude.{◌≡◌, ◌∷◌, ◌+◌, ◌^◌, ◌<◌, [], true, length, IsTrue};
+ghost use Rattle.std.specs.List.{list_all};
+ghost use Rattle.sc_term_tests.specs.Listed.{all_listed, is_listed};
+
+use sc_clauses::{Assignment, Clause, Instance, Lit, Step};
+use sc_lists::{Seq, Text};
+use sc_search::{Found, Source, search};
+use std::alloc::{AllocError, Global};
+use std::test::Fail;
+
+/// A source that has the clause that atom 1 is false, or no clause.
+#[derive(Drop)]
+struct Told {
+    alloc: Global,
+    first_is_false: bool,
+}
+
+impl Source for Told {
+    ghost accepts = { λ s _. s.first_is_false };
+
+    ghost clause_of = { λ _ _. record { atom = 1; negated = true } ∷ [] };
+
+    fn violated(&self, m: &Assignment) -> Result<Option<Instance>, AllocError> {
+        if !self.first_is_false {
+            return Ok(None);
+        }
+        if m.value(1) != Some(true) {
+            return Ok(None);
+        }
+        Ok(Some(Instance {
+            rule: Text::from_str(self.alloc, "first")?,
+            words: Seq::new(self.alloc),
+        }))
+    }
+
+    fn clause(&self, _instance: &Instance) -> Result<Clause, AllocError> {
+        let mut lits = Seq::new(self.alloc);
+        lits.push(Lit {
+            atom: 1,
+            negated: true,
+        })?;
+        Ok(lits)
+    }
+}
+
+/// A literal as it is written in DIMACS files: a number, or minus a number.
+fn lit(number: i64) -> Lit {
+    Lit {
+        atom: number.unsigned_abs(),
+        negated: number < 0,
+    }
+}
+
+fn clause(alloc: Global, numbers: &[i64]) -> Result<Clause, AllocError> {
+    let mut lits = Seq::new(alloc);
+    for number in numbers {
+        lits.push(lit(*number))?;
+    }
+    Ok(lits)
+}
+
+fn clauses_of(alloc: Global, written: &[&[i64]]) -> Result<Seq<Clause>, AllocError> {
+    let mut clauses = Seq::new(alloc);
+    for numbers in written {
+        clauses.push(clause(alloc, numbers)?)?;
+    }
+    Ok(clauses)
+}
+
+fn is_listed(lit: Lit, atoms: u64) -> bool
+    ensures { result ≡ is_listed atoms lit }
+{
+    0 < lit.atom && lit.atom <= atoms
+}
+
+fn are_listed(clause: &Clause, atoms: u64) -> bool
+    ensures { result ≡ list_all (is_listed atoms) clause.now }
+{
+    clause.as_slice().iter().all(|lit| is_listed(*lit, atoms))
+}
+
+fn all_listed(clauses: &Seq<Clause>, atoms: u64) -> bool
+    ensures { result ≡ all_listed atoms clauses.now }
+{
+    clauses
+        .as_slice()
+        .iter()
+        .all(|clause| are_listed(clause, atoms))
+}
+
+fn are_few(atoms: u64, clauses: &Seq<Clause>, budget: u64) -> bool
+    ensures atoms { IsTrue result → atoms < 10 ^ 18 }
+    ensures clauses { IsTrue result → length clauses.now + budget < 10 ^ 18 }
+{
+    atoms < 1000 && clauses.len() < 1000 && budget < 1000
+}
+
+/// What is to be found.
+#[derive(Clone, Copy)]
+enum Wanted {
+    /// A refutation of at most so many steps.
+    Refuted(usize),
+    /// So many steps.
+    Spent(usize),
+    /// An assignment that makes this atom true.
+    True(u64),
+}
+
+fn has_empty_clause(step: &Step) -> bool {
+    match step {
+        Step::Instance(_) => false,
+        Step::Learned(learned) => learned.clause.is_empty(),
+    }
+}
+
+fn ends_empty(steps: &[Step]) -> bool {
+    match steps.last() {
+        Some(step) => has_empty_clause(step),
+        None => false,
+    }
+}
+
+fn is_wanted(found: &Found, wanted: Wanted) -> bool {
+    match (found, wanted) {
+        (Found::Refuted(steps), Wanted::Refuted(most)) => {
+            steps.len() <= most && ends_empty(steps.as_slice())
+        }
+        (Found::Spent(steps), Wanted::Spent(count)) => steps.len() == count,
+        (Found::Consistent(m), Wanted::True(atom)) => m.value(atom) == Some(true),
+        _ => false,
+    }
+}
+
+/// Whether the search finds what is wanted of clauses of so many atoms, with this budget.
+#[tactic(auto, using(crate::proofs::ListedLaws::listed_from))]
+fn finds(
+    told: &Told,
+    atoms: u64,
+    written: &[&[i64]],
+    budget: u64,
+    wanted: Wanted,
+) -> Result<bool, AllocError> {
+    let clauses = clauses_of(told.alloc, written)?;
+    if !are_few(atoms, &clauses, budget) {
+        return Ok(false);
+    }
+    if !all_listed(&clauses, atoms) {
+        return Ok(false);
+    }
+    let found = search(told.alloc, told, atoms, clauses, budget)?;
+    Ok(is_wanted(&found, wanted))
+}
+
+/// Three pigeons in two holes: atom 2p + h - 2 says that pigeon p is in hole h.
+const PIGEONS: &[&[i64]] = &[
+    &[1, 2],
+    &[3, 4],
+    &[5, 6],
+    &[-1, -3],
+    &[-1, -5],
+    &[-3, -5],
+    &[-2, -4],
+    &[-2, -6],
+    &[-4, -6],
+];
+
+/// Four clauses over atoms 31 and 32 that contradict one another.
+const FOUR: &[&[i64]] = &[&[31, 32], &[31, -32], &[-31, 32], &[-31, -32]];
+
+/// Clauses, how many atoms there are, the budget, and what is to be found.
+const PROBLEMS: [(&str, &[&[i64]], u64, u64, Wanted); 7] = [
+    (
+        "a contradiction beside idle atoms",
+        FOUR,
+        32,
+        4,
+        Wanted::Refuted(4),
+    ),
+    (
+        "a chain",
+        &[&[-3, 4], &[-2, 3], &[-1, 2], &[1]],
+        4,
+        9,
+        Wanted::True(4),
+    ),
+    (
+        "pigeons with a budget of one",
+        PIGEONS,
+        6,
+        1,
+        Wanted::Spent(1),
+    ),
+    (
+        "pigeons are too many",
+        PIGEONS,
+        6,
+        100,
+        Wanted::Refuted(100),
+    ),
+    (
+        "no budget for a contradiction",
+        FOUR,
+        32,
+        0,
+        Wanted::Spent(0),
+    ),
+    (
+        "no budget is needed without a conflict",
+        &[&[1]],
+        2,
+        0,
+        Wanted::True(1),
+    ),
+    (
+        "a clause without literals",
+        &[&[1], &[]],
+        1,
+        1,
+        Wanted::Refuted(1),
+    ),
+];
+
+#[test]
+fn problems_without_a_source(rt: HostRuntime) -> Result<(), Fail> {
+    let told = Told {
+        alloc: rt.alloc(),
+        first_is_false: false,
+    };
+    for (name, clauses, atoms, budget, wanted) in PROBLEMS {
+        let found = finds(&told, atoms, clauses, budget, wanted) == Ok(true);
+        assert!(rt; found, "{name}");
+    }
+    Ok(())
+}
+
+#[test]
+fn the_source_is_asked(rt: HostRuntime) -> Result<(), Fail> {
+    let told = Told {
+        alloc: rt.alloc(),
+        first_is_false: true,
+    };
+    let refuted = finds(&told, 2, &[&[1, 2], &[1, -2]], 9, Wanted::Refuted(3)) == Ok(true);
+    assert!(rt; refuted);
+    let holds = finds(&told, 2, &[&[1, 2]], 9, Wanted::True(2)) == Ok(true);
+    assert!(rt; holds);
+    Ok(())
+}

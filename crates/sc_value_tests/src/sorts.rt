@@ -1,0 +1,241 @@
+//! Defaults, the sorts of types, copies and the order of sorts.
+use crate::samples::{name, uid};
+use sc_decimal::write_decimal;
+use sc_ip::write_ip;
+use sc_lists::{Boxed, Seq, Text};
+use sc_names::{Name, Uid, put_escaped, put_uid};
+use sc_schema::{Presence, Ty};
+use sc_sorts::{Sort, default_of, sort_of, try_clone};
+use sc_values::{Rec, Value};
+use std::alloc::{AllocError, Global};
+use std::test::Fail;
+
+/// Entities of a type, of which none is listed.
+fn entities(alloc: Global, type_name: &str) -> Result<Sort, AllocError> {
+    Ok(Sort::Entity(name(alloc, type_name)?, Seq::new(alloc)))
+}
+
+/// Actions, of which two are listed.
+fn actions(alloc: Global) -> Result<Sort, AllocError> {
+    let mut choices = Seq::new(alloc);
+    choices.push(uid(alloc, ("Action", "buy"))?)?;
+    choices.push(uid(alloc, ("Action", "view"))?)?;
+    Ok(Sort::Entity(name(alloc, "Action")?, choices))
+}
+
+/// The type of records of a level, perhaps a nick, and a truth value.
+fn record_type(alloc: Global) -> Result<Ty, AllocError> {
+    let mut fields = Seq::new(alloc);
+    let level = Text::from_str(alloc, "level")?;
+    fields.push((level, Presence::Required, Ty::Long))?;
+    let nick = Text::from_str(alloc, "nick")?;
+    fields.push((nick, Presence::Optional, Ty::String))?;
+    let on = Text::from_str(alloc, "on")?;
+    fields.push((on, Presence::Required, Ty::Bool))?;
+    Ok(Ty::Record(fields))
+}
+
+/// The sort of that type.
+fn records(alloc: Global) -> Result<Sort, AllocError> {
+    let ty = record_type(alloc)?;
+    sort_of(alloc, &ty)
+}
+
+fn option(alloc: Global, sort: Sort) -> Result<Sort, AllocError> {
+    Ok(Sort::Option(Boxed::new(alloc, sort)?))
+}
+
+fn set(alloc: Global, sort: Sort) -> Result<Sort, AllocError> {
+    Ok(Sort::Set(Boxed::new(alloc, sort)?))
+}
+
+/// A sort of each kind, and actions beside other entities.
+#[derive(Clone, Copy)]
+enum Sample {
+    Bool,
+    Long,
+    String,
+    Decimal,
+    Ip,
+    Users,
+    Actions,
+    Set,
+    Record,
+    Option,
+}
+
+fn sort(alloc: Global, sample: Sample) -> Result<Sort, AllocError> {
+    match sample {
+        Sample::Bool => Ok(Sort::Bool),
+        Sample::Long => Ok(Sort::Long),
+        Sample::String => Ok(Sort::String),
+        Sample::Decimal => Ok(Sort::Decimal),
+        Sample::Ip => Ok(Sort::Ip),
+        Sample::Users => entities(alloc, "User"),
+        Sample::Actions => actions(alloc),
+        Sample::Set => set(alloc, Sort::Long),
+        Sample::Record => records(alloc),
+        Sample::Option => option(alloc, entities(alloc, "User")?),
+    }
+}
+
+/// Writes a value, and of a set whether it has members.
+#[cycle(values)]
+fn put_value(alloc: Global, told: &mut String, value: &Value) -> Result<(), AllocError> {
+    match value {
+        Value::Bool(b) => told.push_str(if *b { "true" } else { "false" }),
+        Value::Long(n) => told.push_str(format!(in alloc; "{n}")?.as_str()),
+        Value::String(text) => put_escaped(told, text.as_str()),
+        Value::Entity(uid) => put_uid(told, uid),
+        Value::Set(members) => told.push_str(if members.is_empty() { "[]" } else { "[..]" }),
+        Value::Record(fields) => put_values(alloc, told, fields),
+        Value::Decimal(number) => told.push_str(write_decimal(alloc, number)?.as_str()),
+        Value::Ip(address) => told.push_str(write_ip(alloc, address)?.as_str()),
+    }
+}
+
+#[cycle(values)]
+fn put_values(alloc: Global, told: &mut String, fields: &Rec) -> Result<(), AllocError> {
+    for field in fields.as_slice() {
+        told.push_str(field.0.as_str())?;
+        told.push_str(": ")?;
+        put_value(alloc, told, &field.1)?;
+        told.push_str("; ")?;
+    }
+    Ok(())
+}
+
+fn default_text(alloc: Global, sort: &Sort) -> Result<String, AllocError> {
+    let mut told = String::new(alloc);
+    let value = default_of(alloc, sort)?;
+    put_value(alloc, &mut told, &value)?;
+    Ok(told)
+}
+
+fn has_default(alloc: Global, sample: Sample, text: &str) -> Result<bool, AllocError> {
+    let sort = sort(alloc, sample)?;
+    Ok(default_text(alloc, &sort)?.as_str() == text)
+}
+
+#[test]
+fn defaults(rt: HostRuntime) -> Result<(), Fail> {
+    for (sample, text) in [
+        (Sample::Bool, "false"),
+        (Sample::Long, "0"),
+        (Sample::String, ""),
+        (Sample::Decimal, "0.0000"),
+        (Sample::Ip, "0.0.0.0/32"),
+        (Sample::Users, r#"User::"""#),
+        // the least that is listed
+        (Sample::Actions, r#"Action::"buy""#),
+        (Sample::Set, "[]"),
+        // without the field that may be absent
+        (Sample::Record, "level: 0; on: false; "),
+        // of what the option holds
+        (Sample::Option, r#"User::"""#),
+    ] {
+        assert!(rt; has_default(rt.alloc(), sample, text)?, "{text}");
+    }
+    Ok(())
+}
+
+/// Writes a sort, and of entities how many are listed.
+#[cycle(sorts)]
+fn put_sort(alloc: Global, told: &mut String, sort: &Sort) -> Result<(), AllocError> {
+    match sort {
+        Sort::Bool => told.push_str("Bool"),
+        Sort::Long => told.push_str("Long"),
+        Sort::String => told.push_str("String"),
+        Sort::Decimal => told.push_str("Decimal"),
+        Sort::Ip => told.push_str("Ip"),
+        Sort::Entity(name, choices) => put_entities(alloc, told, name, choices),
+        Sort::Set(member) => {
+            told.push_str("set of ")?;
+            put_sort(alloc, told, member.get())
+        }
+        Sort::Record(fields) => put_fields(alloc, told, fields),
+        Sort::Option(held) => {
+            told.push_str("option of ")?;
+            put_sort(alloc, told, held.get())
+        }
+    }
+}
+
+#[cycle(sorts)]
+fn put_fields(
+    alloc: Global,
+    told: &mut String,
+    fields: &Seq<(Text, Sort)>,
+) -> Result<(), AllocError> {
+    for field in fields.as_slice() {
+        told.push_str(field.0.as_str())?;
+        told.push_str(": ")?;
+        put_sort(alloc, told, &field.1)?;
+        told.push_str("; ")?;
+    }
+    Ok(())
+}
+
+fn put_entities(
+    alloc: Global,
+    told: &mut String,
+    name: &Name,
+    choices: &Seq<Uid>,
+) -> Result<(), AllocError> {
+    told.push_str(name.as_str())?;
+    for choice in choices.as_slice() {
+        told.push_str(" ")?;
+        told.push_str(choice.id.as_str())?;
+    }
+    Ok(())
+}
+
+/// The text of a sort's copy.
+fn copy_text(alloc: Global, sort: &Sort) -> Result<String, AllocError> {
+    let mut told = String::new(alloc);
+    let copy = try_clone(alloc, sort)?;
+    put_sort(alloc, &mut told, &copy)?;
+    Ok(told)
+}
+
+fn has_copy(alloc: Global, sample: Sample, text: &str) -> Result<bool, AllocError> {
+    let sort = sort(alloc, sample)?;
+    Ok(copy_text(alloc, &sort)?.as_str() == text)
+}
+
+#[test]
+fn copies(rt: HostRuntime) -> Result<(), Fail> {
+    for (sample, text) in [
+        (Sample::Bool, "Bool"),
+        (Sample::Long, "Long"),
+        (Sample::String, "String"),
+        (Sample::Decimal, "Decimal"),
+        (Sample::Ip, "Ip"),
+        (Sample::Users, "User"),
+        (Sample::Actions, "Action buy view"),
+        (Sample::Set, "set of Long"),
+        // the sort of its type: the field that may be absent has options
+        (
+            Sample::Record,
+            "level: Long; nick: option of String; on: Bool; ",
+        ),
+        (Sample::Option, "option of User"),
+    ] {
+        assert!(rt; has_copy(rt.alloc(), sample, text)?, "{text}");
+    }
+    Ok(())
+}
+
+/// Whether fewer listed entities come before more of them.
+fn fewer_come_first(alloc: Global) -> Result<bool, AllocError> {
+    let none = entities(alloc, "Action")?;
+    let two = actions(alloc)?;
+    Ok(none < two)
+}
+
+#[test]
+fn listed_entities_are_compared(rt: HostRuntime) -> Result<(), Fail> {
+    let first = fewer_come_first(rt.alloc())?;
+    assert!(rt; first);
+    Ok(())
+}

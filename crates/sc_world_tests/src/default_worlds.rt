@@ -1,0 +1,135 @@
+//! Worlds in which everything is as it is by default.
+ghost use Rattle.std.specs.Prelude.{Contains};
+ghost use Rattle.sc_schema.specs.Declarations.{environments};
+
+use crate::samples::{literal, schema, uid};
+use sc_names::Lits;
+use sc_schema::{Env, Schema, environments};
+use sc_world::{Request, World, default_context, default_world, well_formed, world_for};
+use sc_world_json::world_text;
+use std::alloc::{AllocError, Global};
+
+/// A document and a user, who views it.
+const DEFAULT: &str =
+    r#"{"entities":[{"attrs":{},"parents":[],"tags":{},"uid":{"id":"view","type":"Action"}},{"attrs":{},"parents":[],"tags":{},"uid":{"id":"","type":"Doc"}},{"attrs":{},"parents":[{"id":"view","type":"Action"}],"tags":{},"uid":{"id":"buy","type":"Shop::Action"}},{"attrs":{"level":0},"parents":[],"tags":{},"uid":{"id":"","type":"User"}}],"request":{"action":{"id":"view","type":"Action"},"context":{"mfa":false},"principal":{"id":"","type":"User"},"resource":{"id":"","type":"Doc"}}}"#;
+
+/// The same with a team.
+const WITH_TEAM: &str =
+    r#"{"entities":[{"attrs":{},"parents":[],"tags":{},"uid":{"id":"view","type":"Action"}},{"attrs":{},"parents":[],"tags":{},"uid":{"id":"","type":"Doc"}},{"attrs":{},"parents":[{"id":"view","type":"Action"}],"tags":{},"uid":{"id":"buy","type":"Shop::Action"}},{"attrs":{},"parents":[],"tags":{},"uid":{"id":"t","type":"Team"}},{"attrs":{"level":0},"parents":[],"tags":{},"uid":{"id":"","type":"User"}}],"request":{"action":{"id":"view","type":"Action"},"context":{"mfa":false},"principal":{"id":"","type":"User"},"resource":{"id":"","type":"Doc"}}}"#;
+
+/// A document `d` and a user `u`, who views it.
+const OF_REQUEST: &str =
+    r#"{"entities":[{"attrs":{},"parents":[],"tags":{},"uid":{"id":"view","type":"Action"}},{"attrs":{},"parents":[],"tags":{},"uid":{"id":"d","type":"Doc"}},{"attrs":{},"parents":[{"id":"view","type":"Action"}],"tags":{},"uid":{"id":"buy","type":"Shop::Action"}},{"attrs":{"level":0},"parents":[],"tags":{},"uid":{"id":"u","type":"User"}}],"request":{"action":{"id":"view","type":"Action"},"context":{"mfa":false},"principal":{"id":"u","type":"User"},"resource":{"id":"d","type":"Doc"}}}"#;
+
+/// A call that makes a world.
+#[derive(Clone, Copy)]
+enum Call {
+    Default,
+    ForRequest,
+}
+
+/// A request of the user `u` to view the document `d`.
+fn request(alloc: Global, schema: &Schema, env: &Env) -> Result<Request, AllocError> {
+    Ok(Request {
+        principal: uid(alloc, "User", "u")?,
+        action: uid(alloc, "Action", "view")?,
+        resource: uid(alloc, "Doc", "d")?,
+        context: default_context(alloc, schema, env)?,
+    })
+}
+
+fn for_request(
+    alloc: Global,
+    schema: &Schema,
+    env: &Env,
+    literals: &Lits,
+) -> Result<World, AllocError> {
+    world_for(alloc, schema, request(alloc, schema, env)?, literals)
+}
+
+fn made(
+    alloc: Global,
+    call: Call,
+    schema: &Schema,
+    env: &Env,
+    literals: &Lits,
+) -> Result<World, AllocError>
+    requires { Contains (environments schema.now) env.now }
+{
+    match call {
+        Call::Default => default_world(alloc, schema, env, literals),
+        Call::ForRequest => for_request(alloc, schema, env, literals),
+    }
+}
+
+/// Whether a world is well-formed and has this text.
+fn has_text(
+    alloc: Global,
+    schema: &Schema,
+    env: &Env,
+    literals: &Lits,
+    world: &World,
+    text: &str,
+) -> bool
+    requires { Contains (environments schema.now) env.now }
+{
+    if !well_formed(schema, env, world, literals) {
+        return false;
+    }
+    match world_text(alloc, world) {
+        Ok(found) => found.as_str() == text,
+        Err(_) => false,
+    }
+}
+
+fn makes_in(
+    alloc: Global,
+    call: Call,
+    schema: &Schema,
+    env: &Env,
+    literals: &Lits,
+    text: &str,
+) -> bool
+    requires { Contains (environments schema.now) env.now }
+{
+    match made(alloc, call, schema, env, literals) {
+        Ok(world) => has_text(alloc, schema, env, literals, &world, text),
+        Err(_) => false,
+    }
+}
+
+/// Whether a call makes the world with this text for requests of a user to view a document.
+fn makes(alloc: Global, call: Call, literals: &Lits, text: &str) -> bool {
+    match schema(alloc) {
+        Some(schema) => makes_by(alloc, call, &schema, literals, text),
+        None => false,
+    }
+}
+
+fn makes_by(alloc: Global, call: Call, schema: &Schema, literals: &Lits, text: &str) -> bool {
+    match environments(schema).get(2) {
+        Some(env) => makes_in(alloc, call, schema, env, literals, text),
+        None => false,
+    }
+}
+
+/// Whether a call makes the world with this text where policies write no uid.
+fn makes_plainly(alloc: Global, call: Call, text: &str) -> bool {
+    makes(alloc, call, &Lits::new(alloc), text)
+}
+
+/// Whether the default world where policies write a team is the one with this text.
+fn makes_with_team(alloc: Global, text: &str) -> bool {
+    match literal(alloc, "Team", "t") {
+        Some(team) => makes(alloc, Call::Default, &team, text),
+        None => false,
+    }
+}
+
+#[test]
+fn worlds_by_default(rt: HostRuntime) {
+    let alloc = rt.alloc();
+    assert!(rt; makes_plainly(alloc, Call::Default, DEFAULT));
+    assert!(rt; makes_plainly(alloc, Call::ForRequest, OF_REQUEST));
+    assert!(rt; makes_with_team(alloc, WITH_TEAM));
+}
