@@ -4,6 +4,9 @@ use Rattle.std.specs.Bool.{⊤}
 use Rattle.std.specs.List.{AllByRecursion}
 use Rattle.std.specs.Option.{option_or}
 use Rattle.std.proofs.lemmas.List.Elements.{Contains-append_left, Contains-append_right, Contains-append_cases}
+use Rattle.std.proofs.lemmas.Bool.{true_from_ne_false}
+use Rattle.sc_lists.proofs.BoolLaws.{not_true}
+use Rattle.sc_lists.proofs.ListLaws.{all_of_elements}
 use Rattle.sc_ast.specs.declared.policy.Policy.{Policy}
 use Rattle.sc_ast.specs.Literals.{literals}
 use Rattle.sc_constructs.specs.First.{unsupported, first_from}
@@ -107,14 +110,10 @@ pub goal-stands : (o : Option Tree) (nodes : List Node) (n : ℕ) → IsSome o �
 goal-stands None nodes n h stands = absurd cc
 goal-stands (Some t) nodes n h stands = (t, refl, stands)
 
-all-from : {X : Type 0} (P : X → Type 0) (xs : List X) → ((x : X) → Contains xs x → P x) → AllByRecursion P xs
-all-from P [] h = tt
-all-from P (x ∷ xs) h = (h x (0, omega arith, refl), all-from P xs (λ y c. h y (suc c.0, omega (arith, c.1), c.2)))
-
 -- the uids of a query are declared
 pub query-declared : Declaring → (s : Declarations) (q : Query) → IsAsked q → AreServed s q.first q.against → AllByRecursion (IsDeclared s) q.literals
 query-declared declared s q asked served =
-    all-from (IsDeclared s) q.literals
+    all_of_elements (IsDeclared s) q.literals
     (λ u c. ⊎_elim
     (λ (h : Contains (literals q.first) u). declared s q.first u (first-none (name_fault s) q.first q.against served.declared) h)
     (λ (h : Contains (literals (second q)) u). declared s (second q) u (second-none (name_fault s) q.first q.against refl served.declared) h)
@@ -162,25 +161,17 @@ to-question fewer q env p w is world =
     fewer q.schema env (written_uids q) p.literals w (λ u c. (is.literals_are u).1 c)
     (subst (λ e. IsWellFormed q.schema e p.literals w) is.env_is (subst (λ s. IsWellFormed s p.env p.literals w) is.schema_is world))
 
-is-so : (b : Bool) → (b ≡ false → ⊥) → b ≡ true
-is-so true h = refl
-is-so false h = absurd (h refl)
-
-not-so : (b : Bool) → true ≡ not b → b ≡ false
-not-so true h = absurd cc
-not-so false h = refl
-
 -- a goal that is true in no world shows that the property always holds
 pub refuted-holds : Right → Fewer → (q : Asked) (env : Env) (p : Posed) → IsLawful q.schema → IsProblem q env p → IsUnsatisfiable p → AlwaysHas q env
 refuted-holds right fewer q env p lawful is none w world =
-    is-so (has_property q w)
+    true_from_ne_false (has_property q w)
     (λ lacks. none w (record { well_formed = to-problem fewer q env p w is world; goal_true = goal-truth right q env p w lawful is world ∙ ap not lacks }))
 
 -- a world in which it is true lacks the property
 pub satisfied-violates : Right → Fewer → (q : Asked) (env : Env) (p : Posed) (w : World) → IsLawful q.schema → IsProblem q env p → Satisfies p w → Violates q env w
 satisfied-violates right fewer q env p w lawful is found =
     let world = to-question fewer q env p w is found.well_formed in
-    record { well_formed = world; lacks = not-so (has_property q w) (sym found.goal_true ∙ goal-truth right q env p w lawful is world) }
+    record { well_formed = world; lacks = not_true (has_property q w) (sym found.goal_true ∙ goal-truth right q env p w lawful is world) }
 
 pub has-room : (q : Asked) (env : Env) (p : Posed) → IsProblem q env p → length (atoms p) ≤ most_atoms → HasRoom q env
 has-room q env p is few = record { posed = p; is_problem = is; few = few }

@@ -2,6 +2,7 @@
 use Rattle.std.proofs.Common.{◌≡◌, ◌+◌, ◌<◌, ◌≤◌, ◌||◌, ℕ, List, [], ◌∷◌, ◌++◌, map, Bool, true, false, Option, Some, None, Result, Ok, Err, length, get_or, take, drop, refl, sym, ap, ◌∙◌, subst, arith, append_assoc, ⊎_elim}
 use Rattle.std.specs.List.{AllByRecursion, list_any}
 use Rattle.std.proofs.lemmas.List.{take_more, take_all, take-append-drop}
+use Rattle.sc_lists.proofs.BoolLaws.{or_false, or_grouped}
 use Rattle.sc_outside.specs.Counts.{Rose}
 use Rattle.sc_outside.specs.Writes.{appended}
 use Rattle.sc_outside.specs.declared.faults.SinkFault.{SinkFault}
@@ -49,17 +50,9 @@ true-push : (q : Asked) (lines : List Line) (l : Line) → AllByRecursion (IsLin
 true-push q [] l h t = (t, tt)
 true-push q (x ∷ lines) l h t = (h.0, true-push q lines l h.1 t)
 
-or-false : (b : Bool) → b || false ≡ b
-or-false true = refl
-or-false false = refl
-
-or-assoc : (a b c : Bool) → a || (b || c) ≡ (a || b) || c
-or-assoc true b c = refl
-or-assoc false b c = refl
-
 any-push : (P : Line → Bool) (lines : List Line) (l : Line) → list_any P (lines ++ l ∷ []) ≡ list_any P lines || P l
-any-push P [] l = or-false (P l)
-any-push P (x ∷ lines) l = ap (λ b. P x || b) (any-push P lines l) ∙ or-assoc (P x) (list_any P lines) (P l)
+any-push P [] l = or_false (P l)
+any-push P (x ∷ lines) l = ap (λ b. P x || b) (any-push P lines l) ∙ or_grouped (P x) (list_any P lines) (P l)
 
 logs-nil : (xs : List (List Step)) → xs ++ [] ≡ xs
 logs-nil [] = refl

@@ -2,6 +2,8 @@
 use Rattle.std.proofs.Common.{◌≡◌, ◌≤◌, ◌<◌, ◌==◌, ◌||◌, ◌↔◌, ◌++◌, ℕ, zero, suc, List, [], ◌∷◌, map, Bool, true, false, Option, Some, None, Contains, refl, sym, ap, ◌∙◌, subst, arith, ⊎_elim, inl, inr, ◌⊎◌}
 use Rattle.std.specs.Bool.{⊤}
 use Rattle.std.specs.List.{AllByRecursion}
+use Rattle.std.proofs.lemmas.Bool.{or_cases}
+use Rattle.sc_lists.proofs.BoolLaws.{or_first, or_second}
 use Rattle.sc_replay.specs.Reports as outcome
 use Rattle.sc_schema.specs.declared.declarations.Env.{Env}
 use Rattle.sc_schema.specs.Declarations.{Declarations, environments}
@@ -79,18 +81,6 @@ refusal-code (too_long f) = record { least = omega arith; most = omega arith; no
 
 -- ---- whole reports
 
-or_cases : (a b : Bool) → a || b ≡ true → (a ≡ true) ⊎ (b ≡ true)
-or_cases true b e = inl refl
-or_cases false b e = inr e
-
-or_false_left : (a b : Bool) → a || b ≡ false → a ≡ false
-or_false_left true b e = absurd cc
-or_false_left false b e = refl
-
-or_false_right : (a b : Bool) → a || b ≡ false → b ≡ false
-or_false_right true b e = absurd cc
-or_false_right false b e = e
-
 line-holds : (q : Asked) (env : Env) (v : Verdict) → is_counterexample v ≡ false → is_open v ≡ false → IsLine q (record { env = env; verdict = v }) → AlwaysHas q env
 line-holds q env holds e o t = t.0
 line-holds q env (counterexample w) e o t = absurd cc
@@ -99,9 +89,9 @@ line-holds q env over_limit e o t = absurd cc
 
 lines-hold : (q : Asked) (lines : List Line) → has_counterexample lines ≡ false → has_open lines ≡ false → AllByRecursion (IsLine q) lines → (env : Env) → Contains (map (λ (l : Line). l.env) lines) env → AlwaysHas q env
 lines-hold q [] e o t env (k, h, s) = absurd (omega arith)
-lines-hold q (l ∷ lines) e o t env (zero, h, s) = subst (AlwaysHas q) s (line-holds q l.env l.verdict (or_false_left _ _ e) (or_false_left _ _ o) t.0)
+lines-hold q (l ∷ lines) e o t env (zero, h, s) = subst (AlwaysHas q) s (line-holds q l.env l.verdict (or_first _ _ e) (or_first _ _ o) t.0)
 lines-hold q (l ∷ lines) e o t env (suc k, h, s) =
-    lines-hold q lines (or_false_right (is_counterexample l.verdict) _ e) (or_false_right (is_open l.verdict) _ o) t.1 env (k, omega arith, s)
+    lines-hold q lines (or_second (is_counterexample l.verdict) _ e) (or_second (is_open l.verdict) _ o) t.1 env (k, omega arith, s)
 
 record Printed (q : Asked) (lines : List Line) : Type 0 where
   pub env : Env

@@ -4,6 +4,7 @@ use Rattle.std.specs.List.{list_any}
 use Rattle.std.specs.List.Sorted.{IsStrictlyIncreasing}
 use Rattle.std.proofs.lemmas.List.Folds.{Any-from_list_any, list_any-from_Any}
 use Rattle.std.proofs.lemmas.List.Elements.{Contains-get_or}
+use Rattle.sc_lists.proofs.ListLaws.{contains_nothing, contains_split, contains_rest, contains_first}
 use Rattle.sc_ast.specs.declared.policy.Policy.{Policy}
 use Rattle.sc_ast.specs.declared.policy.Effect.{Effect}
 use Rattle.sc_ast.specs.declared.policy.Effect.TheVariants.{Permit, Forbid}
@@ -12,7 +13,6 @@ use Rattle.sc_values.specs.declared.value.Value.{Value, Value-F, out-Value, roll
 use Rattle.sc_values.specs.declared.value.Value.TheOpen as v
 use Rattle.sc_values.specs.declared.value.Value.TheVariants as value
 use Rattle.sc_values.specs.declared.value.Value.TheVariants.{rolls-Bool}
-use Rattle.sc_values.proofs.AscendingLaws.{of_first, of_rest, split, no_first}
 use Rattle.sc_values.proofs.OutLaws.{out_Bool}
 use Rattle.sc_world.specs.declared.world.World.{World}
 use Rattle.sc_eval.specs.Outcomes.{Outcome}
@@ -73,23 +73,23 @@ allows_decides w ps =
 -- ---- places
 
 listed_at : (b : Bool) (m n : ℕ) (ns : List ℕ) → Contains (if b then m ∷ ns else ns) n → (IsTrue b × (m ≡ n)) ⊎ Contains ns n
-listed_at true m n ns has = elim (split m ns n has) [ inl is ↦ inl (refl, is) | inr later ↦ inr later ]
+listed_at true m n ns has = elim (contains_split m ns n has) [ inl is ↦ inl (refl, is) | inr later ↦ inr later ]
 listed_at false m n ns has = inr has
 
 -- what is listed is the place of a policy that passes
 places_from-passes : (test : Policy → Bool) (m : ℕ) (ps : List Policy) (n : ℕ) → Contains (places_from m test ps) n → (k : ℕ) × (n ≡ m + k) × IsSomeAnd (slice_get ps k) (λ p. IsTrue (test p))
-places_from-passes test m [] n has = absurd (no_first n has)
+places_from-passes test m [] n has = absurd (contains_nothing n has)
 places_from-passes test m (p ∷ ps) n has = elim (listed_at (test p) m n (places_from (m + 1) test ps) has) [
   | inl here ↦ (zero, sym here.1 ∙ sym (add-zero m), here.0)
   | inr later ↦ let rest = places_from-passes test (m + 1) ps n later in (suc rest.0, rest.1 ∙ omega arith, rest.2)
 ]
 
 keeps : (b : Bool) (m n : ℕ) (ns : List ℕ) → Contains ns n → Contains (if b then m ∷ ns else ns) n
-keeps true m n ns has = of_rest m ns n has
+keeps true m n ns has = contains_rest m ns n has
 keeps false m n ns has = has
 
 heads : (b : Bool) (m : ℕ) (ns : List ℕ) → IsTrue b → Contains (if b then m ∷ ns else ns) m
-heads true m ns h = of_first m ns
+heads true m ns h = contains_first m ns
 heads false m ns h = cc
 
 passes-places_from : (test : Policy → Bool) (m : ℕ) (ps : List Policy) (k : ℕ) → IsSomeAnd (slice_get ps k) (λ p. IsTrue (test p)) → Contains (places_from m test ps) (m + k)

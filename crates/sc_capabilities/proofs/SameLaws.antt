@@ -2,6 +2,7 @@
 use Rattle.std.proofs.Common.{◌≡◌, ◌&&◌, ℕ, List, [], ◌∷◌, map, Bool, true, false, refl, sym, ap, subst, ◌∙◌, rules}
 use Rattle.std.specs.Cmp.{unsigned_Decides, signed_Decides}
 use Rattle.std.specs.Cmp.Lexicographic.{pointwise, same_text}
+use Rattle.std.proofs.lemmas.Bool.{and_parts}
 use Rattle.sc_ast.specs.declared.expr.Expr.{Expr, Expr-F, out-Expr, roll-Expr, out-roll-Expr, roll-out-Expr, map-Expr, ind-Expr}
 use Rattle.sc_ast.specs.declared.expr.Expr.TheOpen as e
 use Rattle.sc_ast.specs.declared.expr.TypeName.{TypeName}
@@ -37,10 +38,6 @@ use denote.Enum.Bare.{same_true}
 never : (Q : Type 0) → false ≡ true → Q
 never Q h = absurd cc
 
-both_true : (a b : Bool) → (a && b) ≡ true → (a ≡ true) × (b ≡ true)
-both_true true b h = (refl, h)
-both_true false b h = never _ h
-
 -- ---- what expressions are made of
 
 one_place : (p q : Place) → places.eq p q ≡ true → p ≡ q
@@ -66,7 +63,7 @@ one_bool false false h = refl
 
 one_uid : (u v : Uid) → (texts u.type_name v.type_name && texts u.id v.id) ≡ true → u ≡ v
 one_uid u v h =
-    let p = both_true (texts u.type_name v.type_name) (texts u.id v.id) h in
+    let p = and_parts (texts u.type_name v.type_name) (texts u.id v.id) h in
     let name = one_text u.type_name v.type_name p.0 in
     let id = one_text u.id v.id p.1 in
     λ i. record { type_name = name i; id = id i }
@@ -93,7 +90,7 @@ one_list eq one [] [] h = refl
 one_list eq one [] (y ∷ ys) h = never _ h
 one_list eq one (x ∷ xs) [] h = never _ h
 one_list eq one (x ∷ xs) (y ∷ ys) h =
-    let p = both_true (eq x y) (pointwise eq xs ys) h in
+    let p = and_parts (eq x y) (pointwise eq xs ys) h in
     let first = one x y p.0 in
     let rest = one_list eq one xs ys p.1 in
     λ i. first i ∷ rest i
@@ -103,7 +100,7 @@ one_pattern s t h = one_list parts.eq one_part s t h
 
 one_type_name : (s t : TypeName) → type_names.eq s t ≡ true → s ≡ t
 one_type_name s t h =
-    let p = both_true (places.eq s.place t.place) (texts s.name t.name) h in
+    let p = and_parts (places.eq s.place t.place) (texts s.name t.name) h in
     let place = one_place s.place t.place p.0 in
     let name = one_text s.name t.name p.1 in
     λ i. record { place = place i; name = name i }
@@ -124,7 +121,7 @@ one_set [] [] h = refl
 one_set [] (y ∷ ys) h = never _ h
 one_set (k ∷ ks) [] h = never _ h
 one_set (k ∷ ks) (y ∷ ys) h =
-    let p = both_true (exprs.eq k.0 y) (pointwise exprs.eq (map (λ (k : Known). k.0) ks) ys) h in
+    let p = and_parts (exprs.eq k.0 y) (pointwise exprs.eq (map (λ (k : Known). k.0) ks) ys) h in
     let first : k.0 ≡ y = k.1 y p.0 in
     let rest = one_set ks ys p.1 in
     λ i. first i ∷ rest i
@@ -140,8 +137,8 @@ one_record [] [] h = refl
 one_record [] (y ∷ ys) h = never _ h
 one_record (k ∷ ks) [] h = never _ h
 one_record (k ∷ ks) (y ∷ ys) h =
-    let p = both_true (same_field (k.0, k.1.0) y) (pointwise same_field (fields ks) ys) h in
-    let q = both_true (texts k.0 y.0) (exprs.eq k.1.0 y.1) p.0 in
+    let p = and_parts (same_field (k.0, k.1.0) y) (pointwise same_field (fields ks) ys) h in
+    let q = and_parts (texts k.0 y.0) (exprs.eq k.1.0 y.1) p.0 in
     let name : k.0 ≡ y.0 = one_text k.0 y.0 q.0 in
     let value : k.1.0 ≡ y.1 = k.1.1 y.1 q.1 in
     let rest = one_record ks ys p.1 in
@@ -149,63 +146,63 @@ one_record (k ∷ ks) (y ∷ ys) h =
 
 row : (x : Expr-F Known) (y : Expr-F Expr) → alike (forget x) y ≡ true → forget x ≡ y
 row (e.If p c a b) (e.If q d f g) h =
-    let s = both_true (places.eq p q) (exprs.eq c.0 d && (exprs.eq a.0 f && exprs.eq b.0 g)) h in
-    let t = both_true (exprs.eq c.0 d) (exprs.eq a.0 f && exprs.eq b.0 g) s.1 in
-    let u = both_true (exprs.eq a.0 f) (exprs.eq b.0 g) t.1 in
+    let s = and_parts (places.eq p q) (exprs.eq c.0 d && (exprs.eq a.0 f && exprs.eq b.0 g)) h in
+    let t = and_parts (exprs.eq c.0 d) (exprs.eq a.0 f && exprs.eq b.0 g) s.1 in
+    let u = and_parts (exprs.eq a.0 f) (exprs.eq b.0 g) t.1 in
     let place = one_place p q s.0 in
     let first : c.0 ≡ d = c.1 d t.0 in
     let second : a.0 ≡ f = a.1 f u.0 in
     let third : b.0 ≡ g = b.1 g u.1 in
     λ i. e.If (place i) (first i) (second i) (third i)
 row (e.Or p a b) (e.Or q f g) h =
-    let s = both_true (places.eq p q) (exprs.eq a.0 f && exprs.eq b.0 g) h in
-    let u = both_true (exprs.eq a.0 f) (exprs.eq b.0 g) s.1 in
+    let s = and_parts (places.eq p q) (exprs.eq a.0 f && exprs.eq b.0 g) h in
+    let u = and_parts (exprs.eq a.0 f) (exprs.eq b.0 g) s.1 in
     let place = one_place p q s.0 in
     let first : a.0 ≡ f = a.1 f u.0 in
     let second : b.0 ≡ g = b.1 g u.1 in
     λ i. e.Or (place i) (first i) (second i)
 row (e.And p a b) (e.And q f g) h =
-    let s = both_true (places.eq p q) (exprs.eq a.0 f && exprs.eq b.0 g) h in
-    let u = both_true (exprs.eq a.0 f) (exprs.eq b.0 g) s.1 in
+    let s = and_parts (places.eq p q) (exprs.eq a.0 f && exprs.eq b.0 g) h in
+    let u = and_parts (exprs.eq a.0 f) (exprs.eq b.0 g) s.1 in
     let place = one_place p q s.0 in
     let first : a.0 ≡ f = a.1 f u.0 in
     let second : b.0 ≡ g = b.1 g u.1 in
     λ i. e.And (place i) (first i) (second i)
 row (e.Binary p o a b) (e.Binary q n f g) h =
-    let s = both_true (places.eq p q) (binaries.eq o n && (exprs.eq a.0 f && exprs.eq b.0 g)) h in
-    let t = both_true (binaries.eq o n) (exprs.eq a.0 f && exprs.eq b.0 g) s.1 in
-    let u = both_true (exprs.eq a.0 f) (exprs.eq b.0 g) t.1 in
+    let s = and_parts (places.eq p q) (binaries.eq o n && (exprs.eq a.0 f && exprs.eq b.0 g)) h in
+    let t = and_parts (binaries.eq o n) (exprs.eq a.0 f && exprs.eq b.0 g) s.1 in
+    let u = and_parts (exprs.eq a.0 f) (exprs.eq b.0 g) t.1 in
     let place = one_place p q s.0 in
     let operator = one_binary o n t.0 in
     let first : a.0 ≡ f = a.1 f u.0 in
     let second : b.0 ≡ g = b.1 g u.1 in
     λ i. e.Binary (place i) (operator i) (first i) (second i)
 row (e.Has p a ns) (e.Has q f ms) h =
-    let s = both_true (places.eq p q) (exprs.eq a.0 f && pointwise texts ns ms) h in
-    let t = both_true (exprs.eq a.0 f) (pointwise texts ns ms) s.1 in
+    let s = and_parts (places.eq p q) (exprs.eq a.0 f && pointwise texts ns ms) h in
+    let t = and_parts (exprs.eq a.0 f) (pointwise texts ns ms) s.1 in
     let place = one_place p q s.0 in
     let first : a.0 ≡ f = a.1 f t.0 in
     let names = one_list texts one_text ns ms t.1 in
     λ i. e.Has (place i) (first i) (names i)
 row (e.Like p a ps) (e.Like q f qs) h =
-    let s = both_true (places.eq p q) (exprs.eq a.0 f && patterns.eq ps qs) h in
-    let t = both_true (exprs.eq a.0 f) (patterns.eq ps qs) s.1 in
+    let s = and_parts (places.eq p q) (exprs.eq a.0 f && patterns.eq ps qs) h in
+    let t = and_parts (exprs.eq a.0 f) (patterns.eq ps qs) s.1 in
     let place = one_place p q s.0 in
     let first : a.0 ≡ f = a.1 f t.0 in
     let pattern = one_pattern ps qs t.1 in
     λ i. e.Like (place i) (first i) (pattern i)
 row (e.Is p a m) (e.Is q f n) h =
-    let s = both_true (places.eq p q) (exprs.eq a.0 f && type_names.eq m n) h in
-    let t = both_true (exprs.eq a.0 f) (type_names.eq m n) s.1 in
+    let s = and_parts (places.eq p q) (exprs.eq a.0 f && type_names.eq m n) h in
+    let t = and_parts (exprs.eq a.0 f) (type_names.eq m n) s.1 in
     let place = one_place p q s.0 in
     let first : a.0 ≡ f = a.1 f t.0 in
     let name = one_type_name m n t.1 in
     λ i. e.Is (place i) (first i) (name i)
 row (e.IsIn p a m k b) (e.IsIn q f n l g) h =
-    let s = both_true (places.eq p q) (exprs.eq a.0 f && (type_names.eq m n && (places.eq k l && exprs.eq b.0 g))) h in
-    let t = both_true (exprs.eq a.0 f) (type_names.eq m n && (places.eq k l && exprs.eq b.0 g)) s.1 in
-    let u = both_true (type_names.eq m n) (places.eq k l && exprs.eq b.0 g) t.1 in
-    let v = both_true (places.eq k l) (exprs.eq b.0 g) u.1 in
+    let s = and_parts (places.eq p q) (exprs.eq a.0 f && (type_names.eq m n && (places.eq k l && exprs.eq b.0 g))) h in
+    let t = and_parts (exprs.eq a.0 f) (type_names.eq m n && (places.eq k l && exprs.eq b.0 g)) s.1 in
+    let u = and_parts (type_names.eq m n) (places.eq k l && exprs.eq b.0 g) t.1 in
+    let v = and_parts (places.eq k l) (exprs.eq b.0 g) u.1 in
     let place = one_place p q s.0 in
     let first : a.0 ≡ f = a.1 f t.0 in
     let name = one_type_name m n u.0 in
@@ -213,36 +210,36 @@ row (e.IsIn p a m k b) (e.IsIn q f n l g) h =
     let second : b.0 ≡ g = b.1 g v.1 in
     λ i. e.IsIn (place i) (first i) (name i) (in_place i) (second i)
 row (e.Unary p o a) (e.Unary q n f) h =
-    let s = both_true (places.eq p q) (unaries.eq o n && exprs.eq a.0 f) h in
-    let t = both_true (unaries.eq o n) (exprs.eq a.0 f) s.1 in
+    let s = and_parts (places.eq p q) (unaries.eq o n && exprs.eq a.0 f) h in
+    let t = and_parts (unaries.eq o n) (exprs.eq a.0 f) s.1 in
     let place = one_place p q s.0 in
     let operator = one_unary o n t.0 in
     let first : a.0 ≡ f = a.1 f t.1 in
     λ i. e.Unary (place i) (operator i) (first i)
 row (e.Access p a m) (e.Access q f n) h =
-    let s = both_true (places.eq p q) (exprs.eq a.0 f && texts m n) h in
-    let t = both_true (exprs.eq a.0 f) (texts m n) s.1 in
+    let s = and_parts (places.eq p q) (exprs.eq a.0 f && texts m n) h in
+    let t = and_parts (exprs.eq a.0 f) (texts m n) s.1 in
     let place = one_place p q s.0 in
     let first : a.0 ≡ f = a.1 f t.0 in
     let name = one_text m n t.1 in
     λ i. e.Access (place i) (first i) (name i)
 row (e.Literal p l) (e.Literal q m) h =
-    let s = both_true (places.eq p q) (literals.eq l m) h in
+    let s = and_parts (places.eq p q) (literals.eq l m) h in
     let place = one_place p q s.0 in
     let value = one_literal l m s.1 in
     λ i. e.Literal (place i) (value i)
 row (e.Variable p x) (e.Variable q y) h =
-    let s = both_true (places.eq p q) (variables.eq x y) h in
+    let s = and_parts (places.eq p q) (variables.eq x y) h in
     let place = one_place p q s.0 in
     let variable = one_variable x y s.1 in
     λ i. e.Variable (place i) (variable i)
 row (e.Set p ks) (e.Set q ys) h =
-    let s = both_true (places.eq p q) (pointwise exprs.eq (map (λ (k : Known). k.0) ks) ys) h in
+    let s = and_parts (places.eq p q) (pointwise exprs.eq (map (λ (k : Known). k.0) ks) ys) h in
     let place = one_place p q s.0 in
     let members = one_set ks ys s.1 in
     λ i. e.Set (place i) (members i)
 row (e.Record p ks) (e.Record q ys) h =
-    let s = both_true (places.eq p q) (pointwise same_field (fields ks) ys) h in
+    let s = and_parts (places.eq p q) (pointwise same_field (fields ks) ys) h in
     let place = one_place p q s.0 in
     let inside = one_record ks ys s.1 in
     λ i. e.Record (place i) (inside i)
@@ -281,7 +278,7 @@ one_key (Tag x) (Tag y) h = ap Tag (same_expr x y h)
 pub same_is : (c d : Capability) → same c d ≡ true → c ≡ d
 unfolding same
 same_is c d h =
-    let p = both_true (exprs.eq c.object d.object) (keys.eq c.key d.key) h in
+    let p = and_parts (exprs.eq c.object d.object) (keys.eq c.key d.key) h in
     let object = same_expr c.object d.object p.0 in
     let key = one_key c.key d.key p.1 in
     λ i. record { object = object i; key = key i }

@@ -3,6 +3,7 @@ use Rattle.std.proofs.Common.{◌≡◌, ◌<◌, ◌≤◌, ◌&&◌, ℕ, List
 use Rattle.std.specs.List.{All, AllByRecursion, Contains, list_all}
 use Rattle.std.proofs.lemmas.Bool.{and_from, lt-ltb, le-leb}
 use Rattle.std.proofs.lemmas.List.Elements.{All-contains_itself, All-weaker, recursion_from_All}
+use Rattle.sc_lists.proofs.ListLaws.{list_all_true}
 use Rattle.sc_world.specs.declared.world.World.{World}
 use Rattle.sc_clauses.specs.declared.lit.Lit.{Lit}
 use Rattle.sc_clauses.specs.declared.step.Instance.{Instance}
@@ -21,13 +22,9 @@ use Rattle.sc_checker.proofs.Soundness.{AllHold, AreTrue, accepted-sound}
 
 -- ---- listed atoms
 
-tested : {X : Type 0} (test : X → Bool) (xs : List X) → AllByRecursion (λ x. test x ≡ true) xs → list_all test xs ≡ true
-tested test [] h = refl
-tested test (x ∷ xs) h = and_from (test x) (list_all test xs) h.0 (tested test xs h.1)
-
 -- a test that each element passes
 each_passes : {X : Type 0} (test : X → Bool) (xs : List X) → ((x : X) → Contains xs x → test x ≡ true) → list_all test xs ≡ true
-each_passes test xs h = tested test xs (recursion_from_All (λ x. test x ≡ true) xs (All-weaker (Contains xs) (λ x. test x ≡ true) h xs (All-contains_itself xs)))
+each_passes test xs h = list_all_true test xs (recursion_from_All (λ x. test x ≡ true) xs (All-weaker (Contains xs) (λ x. test x ≡ true) h xs (All-contains_itself xs)))
 
 lit_listed : (count : ℕ) (l : Lit) → IsListed count l → is_listed count l ≡ true
 lit_listed count l h = and_from _ _ (lt-ltb 0 l.atom h.0) (le-leb l.atom count h.1)

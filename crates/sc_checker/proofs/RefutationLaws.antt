@@ -4,7 +4,8 @@ use Rattle.std.proofs.Math.Path.{fun_ext}
 use Rattle.std.specs.List.{list_all}
 use Rattle.std.proofs.lemmas.List.{take_more, take-append-drop}
 use Rattle.std.proofs.lemmas.List.Folds.{list_all-append}
-use Rattle.std.proofs.lemmas.Bool.{and_parts, and_from, and_left, and_right, not-true, true≢false}
+use Rattle.std.proofs.lemmas.Bool.{and_parts, and_from, and_left, and_right, not-true, true≢false, or_right, or_left}
+use Rattle.sc_lists.proofs.BoolLaws.{or_false, or_grouped}
 use Rattle.sc_clauses.specs.declared.lit.Lit.{Lit}
 use Rattle.sc_clauses.specs.Clauses.{Clause, bool_eq, lit_eq, negation, is_in}
 use Rattle.sc_clauses.proofs.LitLaws.{lit_eq-true, lit_eq-itself, negation_twice}
@@ -73,17 +74,9 @@ or_comm true false = refl
 or_comm false true = refl
 or_comm false false = refl
 
-or_false : (a : Bool) → a || false ≡ a
-or_false true = refl
-or_false false = refl
-
-or_assoc : (a b c : Bool) → a || (b || c) ≡ (a || b) || c
-or_assoc true b c = refl
-or_assoc false b c = refl
-
 is_in-append : (a b : Clause) (l : Lit) → is_in (a ++ b) l ≡ is_in a l || is_in b l
 is_in-append [] b l = refl
-is_in-append (m ∷ a) b l = ap (λ t. lit_eq l m || t) (is_in-append a b l) ∙ or_assoc (lit_eq l m) (is_in a l) (is_in b l)
+is_in-append (m ∷ a) b l = ap (λ t. lit_eq l m || t) (is_in-append a b l) ∙ or_grouped (lit_eq l m) (is_in a l) (is_in b l)
 
 pub negated_push : (a : Clause) (l : Lit) → with_lit (negated a) (negation l) ≡ negated (a ++ l ∷ [])
 negated_push a l = fun_ext (λ m.
@@ -91,15 +84,7 @@ negated_push a l = fun_ext (λ m.
     ∙ ap (λ b. is_in a (negation m) || b) (lit_eq_negation m l ∙ sym (or_false (lit_eq (negation m) l)))
     ∙ sym (is_in-append a (l ∷ []) (negation m)))
 
-or_right : (a b : Bool) → b ≡ true → a || b ≡ true
-or_right true b e = refl
-or_right false b e = e
-
 -- ---- literals of listed atoms, none with its negation
-
-or_left : (a b : Bool) → a ≡ true → a || b ≡ true
-or_left true b e = refl
-or_left false b e = absurd (true≢false (sym e))
 
 fails_at : (n : ℕ) (a b : Clause) (l : Lit) (t s : Bool) → is_listed n l ≡ t → is_in a (negation l) ≡ s → t && not s ≡ false → is_listed n l && not (is_in (a ++ b) (negation l)) ≡ false
 fails_at n a b l false s is in_a e = and_left _ _ is

@@ -3,6 +3,7 @@ use Rattle.std.proofs.Common.{◌≡◌, ◌-◌, ◌==◌, ℕ, zero, suc, List
 use Rattle.std.specs.Prelude.{⊤}
 use Rattle.std.specs.List.{list_all, AllByRecursion}
 use Rattle.std.proofs.lemmas.Bool.{and_parts, or_cases, not-false, true≢false}
+use Rattle.sc_lists.proofs.BoolLaws.{or_first, or_second}
 use Rattle.sc_clauses.specs.declared.lit.Lit.{Lit}
 use Rattle.sc_clauses.specs.Clauses.{Clause, bool_eq, lit_eq, negation, is_in, holds, clause_holds}
 use Rattle.sc_checker.specs.declared.refuting.Residual.{Residual}
@@ -70,14 +71,6 @@ from-option v known (Some c) t h = residual-sound v (open_lits known c) (open-ho
 
 -- ---- hints, steps and logs
 
-or_left-false : (a b : Bool) → a || b ≡ false → a ≡ false
-or_left-false true b e = absurd (true≢false e)
-or_left-false false b e = refl
-
-or_right-false : (a b : Bool) → a || b ≡ false → b ≡ false
-or_right-false true b e = absurd (true≢false e)
-or_right-false false b e = e
-
 false-negation : (v : ℕ → Bool) (l m : Lit) → lit_eq (negation l) m ≡ true → holds v m ≡ false → holds v l ≡ true
 false-negation v l m s e = not-false (holds v l) (sym (holds_negation v l) ∙ ap (holds v) (lit_eq-true (negation l) m s) ∙ e)
 
@@ -100,7 +93,7 @@ refutes-sound v cs known (n ∷ hints) h t e =
 negated-true : (v : ℕ → Bool) (c : Clause) → clause_holds v c ≡ false → AllTrue v (negated c)
 negated-true v [] e l i = absurd (true≢false (sym i))
 negated-true v (m ∷ c) e l i =
-    ⊎_elim (λ (s : lit_eq (negation l) m ≡ true). false-negation v l m s (or_left-false (holds v m) (clause_holds v c) e)) (λ (k : is_in c (negation l) ≡ true). negated-true v c (or_right-false (holds v m) (clause_holds v c) e) l k)
+    ⊎_elim (λ (s : lit_eq (negation l) m ≡ true). false-negation v l m s (or_first (holds v m) (clause_holds v c) e)) (λ (k : is_in c (negation l) ≡ true). negated-true v c (or_second (holds v m) (clause_holds v c) e) l k)
     (or_cases (lit_eq (negation l) m) (is_in c (negation l)) i)
 
 step-holds : (v : ℕ → Bool) (cs : List Clause) (c : Clause) (hints : List ℕ) (b : Bool) → AllHold v cs → refutes cs (negated c) hints ≡ true → clause_holds v c ≡ b → b ≡ true

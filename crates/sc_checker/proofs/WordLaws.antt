@@ -9,6 +9,7 @@ use Rattle.std.proofs.lemmas.Bool.{and_parts, and_from, ltb-true, ltb-false, tru
 use Rattle.std.proofs.lemmas.Fmt.{IsAscii-decimal, parse-decimal, decimal_is_IsNumeral, decimal_injective}
 use Rattle.std.proofs.lemmas.Str.{IsUtf8-from_ascii}
 use Rattle.std.proofs.lemmas.Slice.Eq.{bytes_eq-Decides}
+use Rattle.sc_lists.proofs.ListLaws.{map_itself}
 use Rattle.sc_checker.specs.Writable.{is_number, is_hint, is_lit}
 use Rattle.sc_checker.specs.Texts.{sign_text, lit_text}
 use Rattle.sc_checker.specs.Readings.{Reads}
@@ -79,13 +80,9 @@ each_none test text f (y ∷ ys) zero d h none (x ∷ xs) t e = none x (and_part
 each_none test text f (y ∷ ys) (suc i) d h none [] t e = absurd cc
 each_none test text f (y ∷ ys) (suc i) d h none (x ∷ xs) t e = each_none test text f ys i d (omega arith) none xs (and_parts (test x) (list_all test xs) t).1 cc
 
-map_same : {X : Type 0} (xs : List X) → map (λ x. x) xs ≡ xs
-map_same [] = refl
-map_same (x ∷ xs) = ap (λ ys. x ∷ ys) (map_same xs)
-
 all_true : {X : Type 0} (xs : List X) → list_all (λ x. true) xs ≡ true
 all_true [] = refl
 all_true (x ∷ xs) = all_true xs
 
 pub signs_none : (word : List ℕ) (i d : ℕ) → i < length word → Reads (λ b. true) sign_text (get_or word i d) None → Reads (λ signs. not (length signs == 0)) (map sign_text) word None
-signs_none word i d h none signs t e = each_none (λ b. true) sign_text (λ x. x) word i d h none signs (all_true signs) (e ∙ sym (map_same word))
+signs_none word i d h none signs t e = each_none (λ b. true) sign_text (λ x. x) word i d h none signs (all_true signs) (e ∙ sym (map_itself word))

@@ -1,6 +1,7 @@
 -- When two literals are one, what is negated twice, and the truth of what is negated.
 use Rattle.std.proofs.Common.{◌≡◌, ◌==◌, ℕ, Bool, true, false, not, refl, sym}
 use Rattle.std.proofs.lemmas.Bool.{eq-eqb, eqb-true, and_parts, and_from, true≢false}
+use Rattle.sc_lists.proofs.BoolLaws.{not_not}
 use Rattle.sc_clauses.specs.declared.lit.Lit.{Lit}
 use Rattle.sc_clauses.specs.Clauses.{bool_eq, lit_eq, negation, holds}
 
@@ -24,12 +25,8 @@ lit_eq-true a b e =
 pub lit_eq-itself : (l : Lit) → lit_eq l l ≡ true
 lit_eq-itself l = and_from (l.atom == l.atom) (bool_eq l.negated l.negated) (eq-eqb l.atom l.atom refl) (bool_eq-itself l.negated)
 
-pub not_twice : (b : Bool) → not (not b) ≡ b
-not_twice true = refl
-not_twice false = refl
-
 pub negation_twice : (l : Lit) → negation (negation l) ≡ l
-negation_twice l = λ i. record { atom = l.atom; negated = not_twice l.negated i }
+negation_twice l = λ i. record { atom = l.atom; negated = not_not l.negated i }
 
 negated_by : (t n : Bool) → bool_eq t (not (not n)) ≡ not (bool_eq t (not n))
 negated_by true true = refl

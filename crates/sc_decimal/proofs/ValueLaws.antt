@@ -4,50 +4,30 @@ use Rattle.std.specs.Option.{option_and_then, option_map}
 use Rattle.std.specs.Result.{result_ok}
 use Rattle.std.specs.Char.{digit_value}
 use Rattle.std.specs.Str.Parse.{IsNumeral, AllDigits, digits_value}
-use Rattle.std.proofs.lemmas.Bool.{eqb-true, lt-ltb, ltb-true, le-leb, leb-true, and_parts}
+use Rattle.std.proofs.lemmas.Bool.{eqb-true, lt-ltb, ltb-true, le-leb, leb-true, and_parts, and_from}
+use Rattle.std.proofs.lemmas.Option.{cond_some}
+use Rattle.sc_lists.proofs.NumberLaws.{eqb_false}
+use Rattle.sc_lists.proofs.OptionLaws.{option_map_some, option_and_then_some}
 use Rattle.sc_decimal.specs.DecimalText.{IsMagnitude, IsSigned, plain, minus, IsDecimalText}
 use Rattle.sc_decimal.specs.DecimalValue.{are_digits, is_numeral, cut_at_point, sum_of, magnitude_of, in_range, decimal_of}
 use Rattle.sc_decimal.proofs.DecimalLaws.{no_minus}
 
-both : (a b : Bool) → a ≡ true → b ≡ true → a && b ≡ true
-both a b p q = rw (p, q)
-
 digits_from : (ds : List ℕ) → AllDigits 10 ds → are_digits ds ≡ true
 digits_from [] h = refl
-digits_from (c ∷ cs) h = both _ _ (lt-ltb (digit_value c) 10 h.0) (digits_from cs h.1)
+digits_from (c ∷ cs) h = and_from _ _ (lt-ltb (digit_value c) 10 h.0) (digits_from cs h.1)
 
 digits_to : (ds : List ℕ) → are_digits ds ≡ true → AllDigits 10 ds
 digits_to [] h = tt
 digits_to (c ∷ cs) h = let p = and_parts _ _ h in (ltb-true (digit_value c) 10 p.0, digits_to cs p.1)
 
 numeral_from : (ds : List ℕ) → IsNumeral 10 ds → is_numeral ds ≡ true
-numeral_from ds h = both _ _ (lt-ltb 0 (length ds) h.0) (digits_from ds h.1)
+numeral_from ds h = and_from _ _ (lt-ltb 0 (length ds) h.0) (digits_from ds h.1)
 
 numeral_to : (ds : List ℕ) → is_numeral ds ≡ true → IsNumeral 10 ds
 numeral_to ds h = let p = and_parts _ _ h in (ltb-true 0 (length ds) p.0, digits_to ds p.1)
 
--- a choice that gave a number passed its test
-some_if : {X : Type 0} (b : Bool) (x y : X) → cond b (Some x) None ≡ Some y → (b ≡ true) × (x ≡ y)
-some_if true x y e = (refl, cc)
-some_if false x y e = absurd (cc)
-
-map_some : {X Y : Type 0} (f : X → Y) (o : Option X) (y : Y) → option_map f o ≡ Some y → (x : X) × (o ≡ Some x) × (f x ≡ y)
-map_some f None y e = absurd (cc)
-map_some f (Some x) y e = (x, refl, cc)
-
-then_some : {X Y : Type 0} (f : X → Option Y) (o : Option X) (y : Y) → option_and_then f o ≡ Some y → (x : X) × (o ≡ Some x) × (f x ≡ Some y)
-then_some f None y e = absurd (cc)
-then_some f (Some x) y e = (x, refl, e)
-
-unequal : (a b : ℕ) → a ≢ b → eqb a b ≡ false
-unequal a b h = by_test (eqb a b) refl
-  where
-    by_test : (t : Bool) → eqb a b ≡ t → eqb a b ≡ false
-    by_test false e = e
-    by_test true e = absurd (h (eqb-true a b e))
-
 digit_no_point : (c : ℕ) → digit_value c < 10 → eqb c 46 ≡ false
-digit_no_point c h = unequal c 46 (λ e. let same : digit_value c ≡ digit_value 46 = ap digit_value e in omega arith)
+digit_no_point c h = eqb_false c 46 (λ e. let same : digit_value c ≡ digit_value 46 = ap digit_value e in omega arith)
 
 cut_from : (whole fraction : List ℕ) → AllDigits 10 whole → cut_at_point (whole ++ (46 ∷ fraction)) ≡ Some (whole, fraction)
 cut_from [] fraction h = refl
@@ -63,21 +43,21 @@ cut_to (b ∷ bs) p e = by_test (eqb b 46) refl e (λ q i. cut_to bs q i)
         let P : List ℕ × List ℕ → Type 0 = λ q. b ∷ bs ≡ q.0 ++ (46 ∷ q.1) in
         subst P is (ap (λ c. c ∷ bs) (eqb-true b 46 same))
     by_test false same e rest =
-        let m = map_some (λ (q : List ℕ × List ℕ). (b ∷ q.0, q.1)) (cut_at_point bs) p e in
+        let m = option_map_some (λ (q : List ℕ × List ℕ). (b ∷ q.0, q.1)) (cut_at_point bs) p e in
         let P : List ℕ × List ℕ → Type 0 = λ q. b ∷ bs ≡ q.0 ++ (46 ∷ q.1) in
         subst P m.2 (ap (λ l. b ∷ l) (rest m.0 m.1))
 
 magnitude_from : (text : List ℕ) (n : ℕ) → IsMagnitude text n → magnitude_of text ≡ Some n
 magnitude_from text n m =
     let tests : is_numeral m.whole && (is_numeral m.fraction && leb (length m.fraction) 4) ≡ true =
-    both _ _ (numeral_from m.whole m.whole_digits) (both _ _ (numeral_from m.fraction m.fraction_digits) (le-leb (length m.fraction) 4 m.at_most_four)) in
+    and_from _ _ (numeral_from m.whole m.whole_digits) (and_from _ _ (numeral_from m.fraction m.fraction_digits) (le-leb (length m.fraction) 4 m.at_most_four)) in
     ap magnitude_of m.parts ∙ (ap (option_and_then sum_of) (cut_from m.whole m.fraction m.whole_digits.1)
     ∙ (ap (λ t. cond t (Some (digits_value 10 m.whole * 10000 + digits_value 10 m.fraction * 10 ^ (4 - length m.fraction))) None) tests ∙ ap Some (sym m.value)))
 
 magnitude_to : (text : List ℕ) (n : ℕ) → magnitude_of text ≡ Some n → IsMagnitude text n
 magnitude_to text n e =
-    let t = then_some sum_of (cut_at_point text) n e in
-    let s = some_if _ _ n t.2 in
+    let t = option_and_then_some sum_of (cut_at_point text) n e in
+    let s = cond_some _ _ n t.2 in
     let a = and_parts _ _ s.0 in
     let b = and_parts _ _ a.1 in
     record {
@@ -96,11 +76,11 @@ in_range_from (negsuc n) h = ap (λ t. cond t (Some (negsuc n)) None) (lt-ltb n 
 
 in_range_to : (y z : ℤ) → in_range y ≡ Some z → FitsSigned w64 z × (y ≡ z)
 in_range_to (pos n) z e =
-    let s = some_if (ltb n (2 ^ 63)) (pos n) z e in
+    let s = cond_some (ltb n (2 ^ 63)) (pos n) z e in
     let P : ℤ → Type 0 = λ x. FitsSigned w64 x in
     (subst P s.1 (record { sfits = ltb-true n (2 ^ 63) s.0 }), s.1)
 in_range_to (negsuc n) z e =
-    let s = some_if (ltb n (2 ^ 63)) (negsuc n) z e in
+    let s = cond_some (ltb n (2 ^ 63)) (negsuc n) z e in
     let P : ℤ → Type 0 = λ x. FitsSigned w64 x in
     (subst P s.1 (record { sfits = ltb-true n (2 ^ 63) s.0 }), s.1)
 
@@ -108,7 +88,7 @@ plain_value : (text : List ℕ) (n : ℕ) (z : ℤ) → IsMagnitude text n → z
 unfolding decimal_of
 plain_value [] n z m e fits = let none : magnitude_of [] ≡ Some n = magnitude_from [] n m in absurd (cc)
 plain_value (b ∷ bs) n z m e fits =
-    let other = unequal b 45 (λ i. no_minus (b ∷ bs) bs n (ap (λ c. c ∷ bs) i) m) in
+    let other = eqb_false b 45 (λ i. no_minus (b ∷ bs) bs n (ap (λ c. c ∷ bs) i) m) in
     ap (λ t. option_and_then in_range (cond t (option_map (λ k. neg_ℤ (pos k)) (magnitude_of bs)) (option_map pos (magnitude_of (b ∷ bs))))) other
     ∙ (ap (λ o. option_and_then in_range (option_map pos o)) (magnitude_from (b ∷ bs) n m) ∙ (ap in_range (sym e) ∙ in_range_from z fits))
 
@@ -131,13 +111,13 @@ value_to (b ∷ bs) z e = by_test (eqb b 45) refl e
   where
     by_test : (t : Bool) → eqb b 45 ≡ t → option_and_then in_range (cond t (option_map (λ k. neg_ℤ (pos k)) (magnitude_of bs)) (option_map pos (magnitude_of (b ∷ bs)))) ≡ Some z → IsDecimalText (b ∷ bs) z
     by_test true same e =
-        let t = then_some in_range (option_map (λ (k : ℕ). neg_ℤ (pos k)) (magnitude_of bs)) z e in
-        let m = map_some (λ (k : ℕ). neg_ℤ (pos k)) (magnitude_of bs) t.0 t.1 in
+        let t = option_and_then_some in_range (option_map (λ (k : ℕ). neg_ℤ (pos k)) (magnitude_of bs)) z e in
+        let m = option_map_some (λ (k : ℕ). neg_ℤ (pos k)) (magnitude_of bs) t.0 t.1 in
         let r = in_range_to t.0 z t.2 in
         record { signed = minus (ap (λ c. c ∷ bs) (eqb-true b 45 same)) (magnitude_to bs m.0 m.1) (sym r.1 ∙ sym m.2); in_range = r.0 }
     by_test false same e =
-        let t = then_some in_range (option_map pos (magnitude_of (b ∷ bs))) z e in
-        let m = map_some pos (magnitude_of (b ∷ bs)) t.0 t.1 in
+        let t = option_and_then_some in_range (option_map pos (magnitude_of (b ∷ bs))) z e in
+        let m = option_map_some pos (magnitude_of (b ∷ bs)) t.0 t.1 in
         let r = in_range_to t.0 z t.2 in
         record { signed = plain (magnitude_to (b ∷ bs) m.0 m.1) (sym r.1 ∙ sym m.2); in_range = r.0 }
 

@@ -8,56 +8,37 @@ use Rattle.std.specs.BTreeSet.{insert_key}
 use Rattle.std.specs.Map.{keys_of}
 use Rattle.std.specs.List.{list_any, list_all}
 use Rattle.std.proofs.lemmas.Cmp.{nat_list_cmp_total}
+use Rattle.std.proofs.lemmas.Bool.{or_cases, or_left, or_right, and_from, and_parts}
+use Rattle.sc_lists.proofs.ListLaws.{contains_nothing, contains_split, contains_rest, contains_first}
+use Rattle.sc_lists.proofs.BoolLaws.{or_grouped, same_truth}
+use Rattle.sc_lists.proofs.OrderingLaws.{is_eq_true}
 use Rattle.sc_lists.proofs.OrderedLaws.{none_ascends, no_pair_ascends, is_in-insert_key, ascending-insert_key, ascending-insert_entry}
 use Rattle.sc_names.specs.Uids.{text_cmp}
 use Rattle.sc_values.specs.declared.value.Value.{Value}
 use Rattle.sc_values.specs.Order.{value_cmp}
 use Rattle.sc_values.specs.Records.{Fields}
 use Rattle.sc_values.specs.Sets.{IsSetOf}
-use Rattle.sc_values.proofs.AscendingLaws.{of_first, of_rest, split, no_first}
 use Rattle.sc_values.proofs.OrderLaws.{value_cmp_total, value_cmp_level}
 use Rattle.sc_values.specs.Sets.{IsSubset, Meets}
 use Rattle.sc_values.specs.declared.value.Value.TheVariants as value
 use Rattle.sc_values.proofs.SetLaws.{one_set}
 use Rattle.sc_eval.specs.Collections.{is_same, is_member, members_of, set_value, with_field, fields_of}
-use Rattle.sc_eval.proofs.TestLaws.{same_truth}
 
 -- ---- values that are one
 
-level_tested : (o : Ordering) → is_eq o ≡ true → o ≡ Equal
-level_tested Less h = cc
-level_tested Equal h = refl
-level_tested Greater h = cc
-
 pub is_same-decides : (x y : Value) → IsTrue (is_same x y) ↔ x ≡ y
-is_same-decides x y = (λ t. (value_cmp_level x y).0 (level_tested (value_cmp x y) t), λ e. ap is_eq ((value_cmp_level x y).1 e))
+is_same-decides x y = (λ t. (value_cmp_level x y).0 (is_eq_true (value_cmp x y) t), λ e. ap is_eq ((value_cmp_level x y).1 e))
 
 -- ---- members
 
-or_parts : (a b : Bool) → IsTrue (a || b) → IsTrue a ⊎ IsTrue b
-or_parts true b h = inl refl
-or_parts false b h = inr h
-
-or_left : (a b : Bool) → IsTrue a → IsTrue (a || b)
-or_left true b p = refl
-or_left false b p = cc
-
-or_right : (a b : Bool) → IsTrue b → IsTrue (a || b)
-or_right true b q = refl
-or_right false b q = q
-
-or_assoc : (a b c : Bool) → ((a || b) || c) ≡ (a || (b || c))
-or_assoc true b c = refl
-or_assoc false b c = refl
-
 pub is_member-decides : (members : List Value) (x : Value) → IsTrue (is_member members x) ↔ Contains members x
-is_member-decides [] x = (λ t. cc, λ h. absurd (no_first x h))
+is_member-decides [] x = (λ t. cc, λ h. absurd (contains_nothing x h))
 is_member-decides (y ∷ ys) x = (
-  λ t. elim (or_parts (is_same x y) (is_member ys x) t) [
-    | inl here ↦ subst (Contains (y ∷ ys)) (sym ((is_same-decides x y).0 here)) (of_first y ys)
-    | inr later ↦ of_rest y ys x ((is_member-decides ys x).0 later)
+  λ t. elim (or_cases (is_same x y) (is_member ys x) t) [
+    | inl here ↦ subst (Contains (y ∷ ys)) (sym ((is_same-decides x y).0 here)) (contains_first y ys)
+    | inr later ↦ contains_rest y ys x ((is_member-decides ys x).0 later)
   ],
-  λ h. elim (split y ys x h) [
+  λ h. elim (contains_split y ys x h) [
     | inl here ↦ or_left (is_same x y) (is_member ys x) ((is_same-decides x y).1 (sym here))
     | inr later ↦ or_right (is_same x y) (is_member ys x) ((is_member-decides ys x).1 later)
   ],
@@ -71,37 +52,29 @@ same_is r x y h = same_truth r (is_same x y) h (is_same-decides x y)
 pub member_is : (r : Bool) (members : List Value) (x : Value) → (IsTrue r ↔ Contains members x) → r ≡ is_member members x
 member_is r members x h = same_truth r (is_member members x) h (is_member-decides members x)
 
-and_whole : (a b : Bool) → IsTrue a → IsTrue b → IsTrue (a && b)
-and_whole true b p q = q
-and_whole false b p q = cc
-
-and_parts : (a b : Bool) → IsTrue (a && b) → IsTrue a × IsTrue b
-and_parts true b h = (refl, h)
-and_parts false b h = cc
-
 all-decides : (s t : List Value) → IsTrue (list_all (is_member t) s) ↔ IsSubset s t
-all-decides [] t = (λ h x has. absurd (no_first x has), λ h. refl)
+all-decides [] t = (λ h x has. absurd (contains_nothing x has), λ h. refl)
 all-decides (y ∷ ys) t = (
   λ h x has.
       let parts = and_parts (is_member t y) (list_all (is_member t) ys) h in
-      elim (split y ys x has) [
+      elim (contains_split y ys x has) [
         | inl here ↦ subst (Contains t) here ((is_member-decides t y).0 parts.0)
         | inr later ↦ (all-decides ys t).0 parts.1 x later
       ],
-  λ h. and_whole (is_member t y) (list_all (is_member t) ys) ((is_member-decides t y).1 (h y (of_first y ys))) ((all-decides ys t).1 (λ x has. h x (of_rest y ys x has))),
+  λ h. and_from (is_member t y) (list_all (is_member t) ys) ((is_member-decides t y).1 (h y (contains_first y ys))) ((all-decides ys t).1 (λ x has. h x (contains_rest y ys x has))),
 )
 
 pub all_are : (r : Bool) (s t : List Value) → (IsTrue r ↔ IsSubset s t) → r ≡ list_all (is_member t) s
 all_are r s t h = same_truth r (list_all (is_member t) s) h (all-decides s t)
 
 any-decides : (s t : List Value) → IsTrue (list_any (is_member t) s) ↔ Meets s t
-any-decides [] t = (λ h. cc, λ h. absurd (no_first h.0 h.1))
+any-decides [] t = (λ h. cc, λ h. absurd (contains_nothing h.0 h.1))
 any-decides (y ∷ ys) t = (
-  λ h. elim (or_parts (is_member t y) (list_any (is_member t) ys) h) [
-    | inl here ↦ (y, of_first y ys, (is_member-decides t y).0 here)
-    | inr later ↦ let m = (any-decides ys t).0 later in (m.0, of_rest y ys m.0 m.1, m.2)
+  λ h. elim (or_cases (is_member t y) (list_any (is_member t) ys) h) [
+    | inl here ↦ (y, contains_first y ys, (is_member-decides t y).0 here)
+    | inr later ↦ let m = (any-decides ys t).0 later in (m.0, contains_rest y ys m.0 m.1, m.2)
   ],
-  λ h. elim (split y ys h.0 h.1) [
+  λ h. elim (contains_split y ys h.0 h.1) [
     | inl here ↦ or_left (is_member t y) (list_any (is_member t) ys) ((is_member-decides t y).1 (subst (Contains t) (sym here) h.2))
     | inr later ↦ or_right (is_member t y) (list_any (is_member t) ys) ((any-decides ys t).1 (h.0, later, h.2))
   ],
@@ -128,7 +101,7 @@ is_member-with_all set [] y = sym (or_false (is_member set y))
 is_member-with_all set (x ∷ xs) y =
     is_member-with_all (insert_key value_cmp set x) xs y
     ∙ ap (λ b. b || is_member xs y) (is_in-insert_key value_cmp_total set x y)
-    ∙ or_assoc (is_member set y) (is_same y x) (is_member xs y)
+    ∙ or_grouped (is_member set y) (is_same y x) (is_member xs y)
 
 -- what values make is the set of them
 pub members_of-set : (values : List Value) → IsSetOf values (members_of values)

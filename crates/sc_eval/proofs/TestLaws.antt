@@ -1,12 +1,7 @@
 -- A test whose truth is told is the one of the definitions.
 use Rattle.std.proofs.Common.{◌≡◌, ◌↔◌, ℤ, ◌<ℤ◌, ◌≤ℤ◌, int_lt, int_le, Bool, true, false, IsTrue, refl, sym, arith}
 use Rattle.std.proofs.lemmas.Int.{ints}
-
-pub same_truth : {P : Type 0} (b c : Bool) → (IsTrue b ↔ P) → (IsTrue c ↔ P) → b ≡ c
-same_truth true true p q = refl
-same_truth true false p q = sym (q.1 (p.0 refl))
-same_truth false true p q = p.1 (q.0 refl)
-same_truth false false p q = refl
+use Rattle.sc_lists.proofs.BoolLaws.{same_truth}
 
 lt-decides : (m n : ℤ) → IsTrue (int_lt m n) ↔ (m <ℤ n)
 lt-decides m n = (λ t. grind (arith, ints), λ t. grind (arith, ints))

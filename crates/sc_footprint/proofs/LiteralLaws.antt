@@ -1,5 +1,6 @@
 -- The literal of a term, one negation at a time.
 use Rattle.std.proofs.Common.{◌≡◌, ℕ, Bool, true, false, not, Some, None, refl, ap, ◌∙◌}
+use Rattle.sc_lists.proofs.BoolLaws.{not_not}
 use Rattle.sc_clauses.specs.declared.lit.Lit.{Lit}
 use Rattle.sc_clauses.specs.Clauses.{negation}
 use Rattle.sc_terms.specs.declared.node.Leaf.TheVariants as leafs
@@ -31,12 +32,8 @@ module _ (number : Tree → ℕ) where
   literal_of_other (two o b c) h = refl
   literal_of_other (choice c b d) h = refl
 
-not_twice : (b : Bool) → not (not b) ≡ b
-not_twice true = refl
-not_twice false = refl
-
 signed_once : (b : Bool) (l : Lit) → signed b (negation l) ≡ signed (not b) l
-signed_once true l = ap (λ (b : Bool). let m : Lit = record { atom = l.atom; negated = b } in m) (not_twice l.negated)
+signed_once true l = ap (λ (b : Bool). let m : Lit = record { atom = l.atom; negated = b } in m) (not_not l.negated)
 signed_once false l = refl
 
 -- one negation further down

@@ -5,6 +5,7 @@ use Rattle.std.proofs.Math.Seq.{take-suc}
 use Rattle.std.proofs.lemmas.List.{take-append-le}
 use Rattle.std.proofs.lemmas.Bool.Decides.{nat_tests}
 use Rattle.std.specs.List.{AllByRecursion, IsDistinct, list_any}
+use Rattle.sc_lists.proofs.NumberLaws.{nat_eq_true}
 use Rattle.sc_footprint.specs.Following.{Has, put_one, put_new}
 
 -- ---- membership
@@ -116,15 +117,12 @@ within_at l (m ∷ ms) h (suc i) n k e = within_at l ms h.1 i n (omega arith) e
 
 -- ---- numbers put after others
 
-same_number : (a b : ℕ) → nat_eq a b ≡ true → a ≡ b
-same_number a b h = grind (arith, nat_tests)
-
 Has-any : (ns : List ℕ) (m : ℕ) → list_any (nat_eq m) ns ≡ true → Has ns m
 Has-any [] m h = cc
 Has-any (n ∷ ns) m h = by (nat_eq m n) refl (λ k. Has-any ns m k) h
   where
     by : (b : Bool) → nat_eq m n ≡ b → (list_any (nat_eq m) ns ≡ true → Has ns m) → (b || list_any (nat_eq m) ns) ≡ true → Has (n ∷ ns) m
-    by true e f k = inl (sym (same_number m n e))
+    by true e f k = inl (sym (nat_eq_true m n e))
     by false e f k = inr (f k)
 
 module _ (ns : List ℕ) (m : ℕ) where

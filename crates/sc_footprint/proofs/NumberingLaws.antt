@@ -8,6 +8,7 @@ use Rattle.std.specs.List.Sorted.{IsStrictlySortedBy}
 use Rattle.std.specs.Ordering.{is_eq, is_lt}
 use Rattle.std.specs.declared.cmp.Ordering.{Ordering}
 use Rattle.std.specs.declared.cmp.Ordering.TheVariants.{Less, Equal, Greater}
+use Rattle.sc_lists.proofs.OrderingLaws.{is_eq_true}
 use Rattle.sc_terms.specs.declared.node.Leaf.TheVariants as leafs
 use Rattle.sc_terms.specs.declared.node.Literal.TheVariants as literals
 use Rattle.sc_terms.specs.declared.node.UnaryOp.TheVariants as unary
@@ -18,11 +19,6 @@ use Rattle.sc_terms.specs.Folds.{truth_term}
 use Rattle.sc_footprint.specs.Problems.{is_atom, atoms_among, numbered, number_among, one_more}
 use Rattle.sc_footprint.specs.Following.{Has}
 use Rattle.sc_footprint.proofs.OrderingLaws.{after}
-
-level_tested : (o : Ordering) → is_eq o ≡ true → o ≡ Equal
-level_tested Less h = cc
-level_tested Equal h = refl
-level_tested Greater h = cc
 
 -- ---- a term's number, and the term of a number
 
@@ -44,7 +40,7 @@ further x xs (suc k) t h =
 module _ (level : (a b : Tree) → tree_cmp a b ≡ Equal ↔ a ≡ b) where
   same_term : (x t : Tree) → tree_eq x t ≡ true → x ≡ t
   unfolding tree_eq
-  same_term x t h = (level x t).0 (level_tested (tree_cmp x t) h)
+  same_term x t h = (level x t).0 (is_eq_true (tree_cmp x t) h)
 
   one_term : (x t : Tree) → x ≡ t → tree_eq x t ≡ true
   unfolding tree_eq

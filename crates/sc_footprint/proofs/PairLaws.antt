@@ -6,6 +6,7 @@ use Rattle.std.specs.Ordering.{is_eq, is_gt, ordering_reverse}
 use Rattle.std.specs.Str.{bytes_eq}
 use Rattle.std.specs.declared.cmp.Ordering.{Ordering}
 use Rattle.std.specs.declared.cmp.Ordering.TheVariants.{Less, Equal, Greater}
+use Rattle.sc_lists.proofs.TextLaws.{bytes_eq_swap}
 use Rattle.sc_sorts.proofs.OutLaws.{out_Bool}
 use Rattle.sc_terms.specs.declared.node.Leaf.TheVariants as leafs
 use Rattle.sc_terms.specs.declared.node.Literal.TheVariants as literals
@@ -27,17 +28,11 @@ no_constant (one o a) h = refl
 no_constant (two o a b) h = refl
 no_constant (choice c a b) h = refl
 
-turned : (m n : List ℕ) → bytes_eq m n ≡ bytes_eq n m
-turned m n =
-    both_ways (bytes_eq m n) (bytes_eq n m)
-    (λ h. (bytes_eq-Decides n m).1 (sym ((bytes_eq-Decides m n).0 h)))
-    (λ h. (bytes_eq-Decides m n).1 (sym ((bytes_eq-Decides n m).0 h)))
-
 same_turned : (o p : Option (List ℕ)) → same_name o p ≡ same_name p o
 same_turned None None = refl
 same_turned None (Some n) = refl
 same_turned (Some m) None = refl
-same_turned (Some m) (Some n) = turned m n
+same_turned (Some m) (Some n) = bytes_eq_swap m n
 
 both_turned : (a b : Bool) → both a b ≡ both b a
 both_turned true true = refl

@@ -1,6 +1,7 @@
 -- Truth values of a goal in a well-formed world.
 use Rattle.std.proofs.Common.{◌≡◌, ℕ, ◌&&◌, Bool, true, false, not, inl, inr, List, [], ◌∷◌, Option, Some, None, IsSomeAnd, IsTrue, unwrap_or, Contains, refl, sym, ap, ◌∙◌, subst}
 use Rattle.std.specs.List.{list_all}
+use Rattle.sc_lists.proofs.BoolLaws.{and_first}
 use Rattle.sc_schema.specs.declared.declarations.Env.{Env}
 use Rattle.sc_schema.specs.declared.ty.Presence.{Presence}
 use Rattle.sc_schema.specs.declared.ty.Presence.TheVariants.{Required, Optional}
@@ -85,10 +86,6 @@ passes_at (f ∷ fs) g context h k = by (passes f.1 (conforms f.2) (field f.0 co
     by true e p (inr q) rest = rest p q
     by false e p q rest = cc
 
-first_true : (a b : Bool) → (a && b) ≡ true → a ≡ true
-first_true true b h = refl
-first_true false b h = cc
-
 plain_field_is : (g : Field) → is_bool_field g ≡ true → (g.1 ≡ Required) × (g.2 ≡ ty.Bool)
 plain_field_is g h = by g.1 (is_bool (out-Ty g.2)) refl h
   where
@@ -122,7 +119,7 @@ field_is : (fs : List Field) (name : List ℕ) (context : Fields) → list_all i
     → (b : Bool) × (field name context ≡ Some (value.Bool b))
 field_is fs name context h k p =
     let q = map-Has (λ (g : Field). g.0) fs name p in
-    let all = first_true (list_all (λ (a : List ℕ × Presence × Test). passes a.1 a.2 (field a.0 context)) (shape_of fs)) _ k in
+    let all = and_first (list_all (λ (a : List ℕ × Presence × Test). passes a.1 a.2 (field a.0 context)) (shape_of fs)) _ k in
     let r = required_is q.0 (field q.0.0 context) (each_is fs q.0 h q.1) (passes_at fs q.0 context all q.1) in
     (r.0, ap (λ (n : List ℕ). field n context) (sym q.2) ∙ r.1)
 

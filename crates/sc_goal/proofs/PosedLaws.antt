@@ -1,10 +1,10 @@
 -- Policies that are typed and have no further constructs are compiled.
 use Rattle.std.proofs.Common.{◌≡◌, inl, inr, ℕ, ◌+◌, Bool, true, false, cond, List, [], ◌∷◌, Contains, Option, Some, None, IsSome, Result, Ok, Err, refl, sym, ap, subst, ◌∙◌}
 use Rattle.std.specs.Option.{option_map, option_and_then, option_or}
+use Rattle.sc_lists.proofs.ListLaws.{contains_nothing, contains_split}
 use Rattle.sc_ast.specs.declared.policy.Policy.{Policy}
 use Rattle.sc_schema.specs.declared.declarations.Env.{Env}
 use Rattle.sc_schema.specs.Declarations.{Declarations, environments}
-use Rattle.sc_values.proofs.AscendingLaws.{split, no_first}
 use Rattle.sc_typed.specs.declared.fault.TypeFault.{TypeFault}
 use Rattle.sc_typed.specs.declared.typed_expr.TypedExpr.{TypedExpr}
 use Rattle.sc_typing.specs.declared.ill_typed.IllTyped.{IllTyped}
@@ -38,10 +38,10 @@ some_not_none (Some x) h e = let clash : Some x ≡ None = e in cc
 
 no_fault : (s : Declarations) (i : ℕ) (p : Policy) (env : Env) (envs : List Env) → Contains envs env → typing.first_in s i p envs ≡ None → fault_in s i p env ≡ None
 unfolding typing.first_in
-no_fault s i p env [] has e = absurd (no_first env has)
+no_fault s i p env [] has e = absurd (contains_nothing env has)
 no_fault s i p env (other ∷ envs) has e =
     let both = neither (fault_in s i p other) (typing.first_in s i p envs) e in
-    elim (split other envs env has) [ inl is ↦ subst (λ (x : Env). fault_in s i p x ≡ None) is both.0 | inr later ↦ no_fault s i p env envs later both.1 ]
+    elim (contains_split other envs env has) [ inl is ↦ subst (λ (x : Env). fault_in s i p x ≡ None) is both.0 | inr later ↦ no_fault s i p env envs later both.1 ]
 
 typed_of : (i : ℕ) (env : Env) (r : Result TypedExpr TypeFault) → option_map {U = IllTyped} (λ (f : TypeFault). record { policy = i; env = env; fault = f }) (fault_of r) ≡ None → (x : TypedExpr) × (r ≡ Ok x)
 typed_of i env (Ok x) e = (x, refl)
@@ -51,10 +51,10 @@ typed_of i env (Err f) e = absurd (some_not_none {X = IllTyped} (Some (record { 
 
 told_nothing : (s : Declarations) (i : ℕ) (p : Policy) (env : Env) (envs : List Env) → Contains envs env → first.first_in s i p envs ≡ None → told_in s i p env ≡ None
 unfolding first.first_in
-told_nothing s i p env [] has e = absurd (no_first env has)
+told_nothing s i p env [] has e = absurd (contains_nothing env has)
 told_nothing s i p env (other ∷ envs) has e =
     let both = neither (told_in s i p other) (first.first_in s i p envs) e in
-    elim (split other envs env has) [ inl is ↦ subst (λ (x : Env). told_in s i p x ≡ None) is both.0 | inr later ↦ told_nothing s i p env envs later both.1 ]
+    elim (contains_split other envs env has) [ inl is ↦ subst (λ (x : Env). told_in s i p x ≡ None) is both.0 | inr later ↦ told_nothing s i p env envs later both.1 ]
 
 either_some : (b : Bool) (x y : Found) → IsSome (cond b (Some y) (Some x))
 either_some true x y = refl

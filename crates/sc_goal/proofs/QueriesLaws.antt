@@ -1,9 +1,9 @@
 -- The uids that the sets of a query write.
 use Rattle.std.proofs.Common.{◌≡◌, ◌↔◌, ◌⊎◌, inl, inr, List, [], Contains, subst, sym}
+use Rattle.sc_lists.proofs.ListLaws.{contains_nothing}
 use Rattle.sc_names.specs.declared.uid.Uid.{Uid}
 use Rattle.sc_ast.specs.declared.policy.Policy.{Policy}
 use Rattle.sc_ast.specs.Literals.{literals as uids_of}
-use Rattle.sc_values.proofs.AscendingLaws.{no_first}
 
 -- these uids, in any order
 abbrev pub Are : List Uid → List Uid → Type 0
@@ -17,7 +17,7 @@ pub one_set : (lits : List Uid) (read a b : List Policy) → read ≡ a → b �
 one_set lits read a b e none h = subst (λ (ps : List Policy). AreOfEither lits (uids_of a) (uids_of ps)) (sym none) (subst (λ (ps : List Policy). AreOfEither lits (uids_of ps) []) e one)
   where
     one : AreOfEither lits (uids_of read) []
-    one u = (λ has. inl ((h u).0 has), λ has. elim has [ inl first ↦ (h u).1 first | inr second ↦ absurd (no_first u second) ])
+    one u = (λ has. inl ((h u).0 has), λ has. elim has [ inl first ↦ (h u).1 first | inr second ↦ absurd (contains_nothing u second) ])
 
 pub two_sets : (lits x y : List Uid) (read a other b : List Policy) → read ≡ a → other ≡ b → Are x (uids_of read) → Are y (uids_of other) → AreOfEither lits x y → AreOfEither lits (uids_of a) (uids_of b)
 two_sets lits x y read a other b e f h k whole = subst (λ (ps : List Policy). AreOfEither lits (uids_of a) (uids_of ps)) f (subst (λ (ps : List Policy). AreOfEither lits (uids_of ps) (uids_of other)) e both)

@@ -3,6 +3,7 @@ use Rattle.std.proofs.Common.{◌≡◌, Bool, true, false, not, ◌&&◌, ◌||
 use Rattle.std.specs.Option.{option_map, option_and_then}
 use Rattle.std.specs.List.{AllByRecursion, AllZip, list_any}
 use Rattle.std.proofs.lemmas.List.Elements.{Contains-append_left, Contains-append_right}
+use Rattle.sc_lists.proofs.ListLaws.{all_of_elements, contains_rest, contains_first}
 use Rattle.sc_names.specs.declared.uid.Uid.{Uid}
 use Rattle.sc_ast.specs.declared.policy.Effect.{Effect}
 use Rattle.sc_ast.specs.declared.policy.Policy.{Policy}
@@ -11,7 +12,6 @@ use Rattle.sc_ast.specs.Literals.{policy_uids, literals as uids_of}
 use Rattle.sc_schema.specs.declared.declarations.Env.{Env}
 use Rattle.sc_schema.specs.Declarations.{Declarations}
 use Rattle.sc_schema.specs.Lawful.{IsLawful}
-use Rattle.sc_values.proofs.AscendingLaws.{of_first, of_rest}
 use Rattle.sc_world.specs.declared.world.World.{World}
 use Rattle.sc_world.specs.WellFormed.{IsWellFormed}
 use Rattle.sc_eval.specs.Eval.{eval}
@@ -32,10 +32,6 @@ use Rattle.sc_goal.specs.Properties.{same, has}
 use Rattle.sc_goal.specs.Goals.{goal_of, compiled, all_compiled, goal_term}
 
 -- ---- what is compiled, part by part
-
-all_from_contains : {X : Type 0} (P : X → Type 0) (xs : List X) → ((x : X) → Contains xs x → P x) → AllByRecursion P xs
-all_from_contains P [] h = tt
-all_from_contains P (x ∷ xs) h = (h x (of_first x xs), all_from_contains P xs (λ y has. h y (of_rest x xs y has)))
 
 -- a first policy and the rest
 pub record AreParts (o : Option Compiled) (r : Option (List Compiled)) (cs : List Compiled) : Type 0 where
@@ -128,7 +124,7 @@ module _ (agree : CodesAgree) (s : Declarations) (env : Env) (lits : List Uid) (
   one_represents p c within e =
       let k = compiled_of p.effect (policy_code s env p) c e in
       subst (λ (d : Compiled). Represents w d p) (sym k.whole)
-      (record { effect = refl; agrees = agree s env lits w p k.code lawful formed (all_from_contains (Contains lits) (policy_uids p) within) k.is })
+      (record { effect = refl; agrees = agree s env lits w p k.code lawful formed (all_of_elements (Contains lits) (policy_uids p) within) k.is })
 
   pub all_represent : (ps : List Policy) (cs : List Compiled) → ((u : Uid) → Contains (uids_of ps) u → Contains lits u) → all_compiled s env ps ≡ Some cs → AllZip (Represents w) cs ps
   all_represent [] cs within e = subst (λ (ds : List Compiled). AllZip (Represents w) ds []) (sym (no_parts cs e)) tt

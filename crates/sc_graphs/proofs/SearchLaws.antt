@@ -5,6 +5,7 @@ use Rattle.std.proofs.Math.Nat.{eq-or-lt_of_le}
 use Rattle.std.specs.BTreeMap.{is_at}
 use Rattle.std.specs.BTreeSet.{BTreeSet}
 use Rattle.std.specs.Ordering.{nat_cmp}
+use Rattle.std.proofs.lemmas.Bool.{or_cases, or_left, or_right}
 use Rattle.sc_graphs.specs.Reaching.{has, successors, Reaches, step, on}
 use Rattle.sc_graphs.specs.Searches.{IsListed, IsSearched}
 
@@ -43,17 +44,6 @@ has_one (m ∷ ns) (suc k) h = later (is_at (nat_cmp (get_or ns k 0)) m) (has ns
   later true c e = refl
   later false c e = e
 
-either : (b c : Bool) → (b || c) ≡ true → (b ≡ true) ⊎ (c ≡ true)
-either true c e = inl refl
-either false c e = inr e
-
-or_left : (b c : Bool) → b ≡ true → (b || c) ≡ true
-or_left b c e = ap (λ (d : Bool). d || c) e
-
-or_right : (b c : Bool) → c ≡ true → (b || c) ≡ true
-or_right true c e = refl
-or_right false c e = e
-
 then_one : {graph : List (List ℕ)} {a b : ℕ} (c : ℕ) → Reaches graph a b → has (successors graph b) c ≡ true → Reaches graph a c
 then_one c (step a b h) e = on a b c h (step b c e)
 then_one d (on a b c h r) e = on a b d h (then_one d r e)
@@ -72,7 +62,7 @@ pub searched_next : (graph : List (List ℕ)) (start : ℕ) (old order : List �
     → IsSearched graph start order (at + 1)
 searched_next graph start old order at s below kept members =
     record {
-      sound = λ n h. from (either (has old n) (has (successors graph (get_or old at 0)) n) (sym (members n) ∙ h)) n;
+      sound = λ n h. from (or_cases (has old n) (has (successors graph (get_or old at 0)) n) (sym (members n) ∙ h)) n;
       begun = λ n h. members n ∙ or_left (has old n) _ (s.begun n h);
       closed = λ k n less h. closed_at k n (is_less k less) h;
     } where

@@ -1,13 +1,11 @@
 -- The tests pass exactly the ranges that lie within the other.
 use Rattle.std.proofs.Common.{◌≡◌, ◌==◌, ◌&&◌, ◌||◌, ◌↔◌, ◌⊎◌, inl, inr, ℕ, ◌-◌, ◌/◌, ◌^◌, ◌≤◌, ◌<◌, Bool, true, false, IsTrue, refl, sym, nat_le, leb-true, leb-false, eqb-true, eq-eqb}
+use Rattle.std.proofs.lemmas.Bool.{and_parts}
+use Rattle.sc_lists.proofs.BoolLaws.{same_truth}
 use Rattle.sc_ip.specs.declared.ip.Ip.{Ip}
 use Rattle.sc_ip.specs.declared.ip.Ip.TheVariants.{V4, V6}
 use Rattle.sc_ip.specs.Addresses.{IsInRange, IsLoopback, IsMulticast, is_within, is_in_range, is_loopback, is_multicast}
 use Rattle.sc_ip.proofs.RangeLaws.{within_from, not_within}
-
-and_parts : (a b : Bool) → IsTrue (a && b) → IsTrue a × IsTrue b
-and_parts true b h = (refl, h)
-and_parts false b h = cc
 
 abbrev Within : ℕ → ℕ → ℕ → ℕ → Type 0
 Within x p y q = (n : ℕ) → n / 2 ^ p ≡ x / 2 ^ p → n / 2 ^ q ≡ y / 2 ^ q
@@ -29,12 +27,6 @@ is_in_range-decides (V4 x p) (V4 y q) = (λ t. record { same_version = refl; inc
 is_in_range-decides (V4 x p) (V6 y q) = (λ t. cc, λ h. let e = h.same_version in cc)
 is_in_range-decides (V6 x p) (V4 y q) = (λ t. cc, λ h. let e = h.same_version in cc)
 is_in_range-decides (V6 x p) (V6 y q) = (λ t. record { same_version = refl; included = is_within-from x (128 - p) y (128 - q) t }, λ h. is_within-to x (128 - p) y (128 - q) h.included)
-
-same_truth : {P : Type 0} (b c : Bool) → (IsTrue b ↔ P) → (IsTrue c ↔ P) → b ≡ c
-same_truth true true p q = refl
-same_truth true false p q = sym (q.1 (p.0 refl))
-same_truth false true p q = p.1 (q.0 refl)
-same_truth false false p q = refl
 
 pub in_range_is : (r : Bool) (a b : Ip) → (IsTrue r ↔ IsInRange a b) → r ≡ is_in_range a b
 in_range_is r a b h = same_truth r (is_in_range a b) h (is_in_range-decides a b)

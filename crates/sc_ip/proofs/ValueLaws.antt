@@ -11,7 +11,10 @@ use Rattle.std.specs.Cmp.Lexicographic.{bytes_decides}
 use Rattle.std.proofs.lemmas.Fmt.{decimal_is_IsNumeral}
 use Rattle.std.proofs.lemmas.List.Splits.{slice_split_none, slice_split_at, length-slice_split, join_with_byte-slice_split}
 use Rattle.std.proofs.lemmas.List.Elements.{All-nil, All-cons}
-use Rattle.std.proofs.lemmas.Bool.{eq-eqb, eqb-true, lt-ltb, ltb-true, le-leb, leb-true, and_parts}
+use Rattle.std.proofs.lemmas.Bool.{eq-eqb, eqb-true, lt-ltb, ltb-true, le-leb, leb-true, and_parts, and_from}
+use Rattle.std.proofs.lemmas.Option.{cond_some}
+use Rattle.sc_lists.proofs.NumberLaws.{eqb_false}
+use Rattle.sc_lists.proofs.OptionLaws.{option_map_some, option_and_then_some}
 use Rattle.sc_ip.specs.declared.ip.Ip.{Ip}
 use Rattle.sc_ip.specs.declared.ip.Ip.TheVariants.{V4, V6}
 use Rattle.sc_ip.specs.declared.notation.Notation.{Notation}
@@ -23,37 +26,15 @@ use Rattle.sc_ip.specs.Notations.{separator_of, IsGroupOf, AreGroupsOf}
 use Rattle.sc_ip.proofs.GroupLaws.{Lacks, separator_lacks, group_some}
 use Rattle.sc_ip.proofs.AddressLaws.{IsSingle, groups_single, one_version, address_lacks_slash}
 
-both : (a b : Bool) → a ≡ true → b ≡ true → a && b ≡ true
-both a b p q = rw (p, q)
-
-some_if : {X : Type 0} (b : Bool) (x y : X) → cond b (Some x) None ≡ Some y → (b ≡ true) × (x ≡ y)
-some_if true x y e = (refl, cc)
-some_if false x y e = absurd (cc)
-
 if_some : {X : Type 0} (b : Bool) (x : X) → b ≡ true → cond b (Some x) None ≡ Some x
 if_some b x e = rw e
-
-map_some : {X Y : Type 0} (f : X → Y) (o : Option X) (y : Y) → option_map f o ≡ Some y → (x : X) × (o ≡ Some x) × (f x ≡ y)
-map_some f None y e = absurd (cc)
-map_some f (Some x) y e = (x, refl, cc)
-
-then_some : {X Y : Type 0} (f : X → Option Y) (o : Option X) (y : Y) → option_and_then f o ≡ Some y → (x : X) × (o ≡ Some x) × (f x ≡ Some y)
-then_some f None y e = absurd (cc)
-then_some f (Some x) y e = (x, refl, e)
 
 some_then : {X Y : Type 0} (f : X → Option Y) (o : Option X) (x : X) (y : Y) → o ≡ Some x → f x ≡ Some y → option_and_then f o ≡ Some y
 some_then f o x y p q = ap (option_and_then f) p ∙ q
 
-unequal : (a b : ℕ) → a ≢ b → eqb a b ≡ false
-unequal a b h = by_test (eqb a b) refl
-  where
-    by_test : (t : Bool) → eqb a b ≡ t → eqb a b ≡ false
-    by_test false e = e
-    by_test true e = absurd (h (eqb-true a b e))
-
 digits_from : (radix : ℕ) (ds : List ℕ) → AllDigits radix ds → are_digits radix ds ≡ true
 digits_from radix [] h = refl
-digits_from radix (c ∷ cs) h = both _ _ (lt-ltb (digit_value c) radix h.0) (digits_from radix cs h.1)
+digits_from radix (c ∷ cs) h = and_from _ _ (lt-ltb (digit_value c) radix h.0) (digits_from radix cs h.1)
 
 digits_to : (radix : ℕ) (ds : List ℕ) → are_digits radix ds ≡ true → AllDigits radix ds
 digits_to radix [] h = tt
@@ -69,27 +50,27 @@ group_from Decimal text n g =
     let d = decimal_is_IsNumeral n (let s = g.0 in omega arith) in
     let v : digits_value 10 text ≡ n = ap (digits_value 10) g.1 ∙ d.1 in
     let same : text ≡ decimal (digits_value 10 text) = g.1 ∙ ap decimal (sym v) in
-    if_some _ (digits_value 10 text) (both _ _ (lt-ltb (digits_value 10 text) 256 (let s = g.0 in omega arith)) ((bytes_decides text (decimal (digits_value 10 text))).1 same)) ∙ ap Some v
+    if_some _ (digits_value 10 text) (and_from _ _ (lt-ltb (digits_value 10 text) 256 (let s = g.0 in omega arith)) ((bytes_decides text (decimal (digits_value 10 text))).1 same)) ∙ ap Some v
 group_from Hexadecimal text n g =
-    if_some _ (digits_value 16 text) (both _ _ (lt-ltb 0 (length text) g.0.0) (both _ _ (digits_from 16 text g.0.1) (le-leb (length text) 4 g.1))) ∙ ap Some (sym g.2)
+    if_some _ (digits_value 16 text) (and_from _ _ (lt-ltb 0 (length text) g.0.0) (and_from _ _ (digits_from 16 text g.0.1) (le-leb (length text) 4 g.1))) ∙ ap Some (sym g.2)
 
 group_to : (w : Notation) (text : List ℕ) (n : ℕ) → group_of w text ≡ Some n → IsGroupOf w text n
 group_to Decimal text n e =
-    let s = some_if _ (digits_value 10 text) n e in
+    let s = cond_some _ (digits_value 10 text) n e in
     let a = and_parts _ _ s.0 in
     let small = ltb-true (digits_value 10 text) 256 a.0 in
     let same = (bytes_decides text (decimal (digits_value 10 text))).0 a.1 in
     let v = s.1 in
     (omega arith, same ∙ ap decimal v)
 group_to Hexadecimal text n e =
-    let s = some_if _ (digits_value 16 text) n e in
+    let s = cond_some _ (digits_value 16 text) n e in
     let a = and_parts _ _ s.0 in
     let b = and_parts _ _ a.1 in
     ((ltb-true 0 (length text) a.0, digits_to 16 text b.0), leb-true (length text) 4 b.1, sym s.1)
 
 lacks_all : (c : ℕ) (bs : List ℕ) → Lacks c bs → All (λ b. eqb b c ≡ false) bs
 lacks_all c [] h = All-nil (λ b. eqb b c ≡ false)
-lacks_all c (b ∷ bs) h = All-cons (λ d. eqb d c ≡ false) b bs (unequal b c h.0) (lacks_all c bs h.1)
+lacks_all c (b ∷ bs) h = All-cons (λ d. eqb d c ≡ false) b bs (eqb_false b c h.0) (lacks_all c bs h.1)
 
 -- the numbers of groups
 abbrev pub numbers_at : Notation → List ℕ → Option (List ℕ)
@@ -126,8 +107,8 @@ numbers_from w text (n ∷ m ∷ ns) g =
 all_length : (w : Notation) (groups : List (List ℕ)) (ns : List ℕ) → numbers_of_all (group_of w) groups ≡ Some ns → length ns ≡ length groups
 all_length w [] ns e = let is : [] ≡ ns = cc in ap length (sym is)
 all_length w (x ∷ xs) ns e =
-    let t = then_some (λ (n : ℕ). option_map (λ k. n ∷ k) (numbers_of_all (group_of w) xs)) (group_of w x) ns e in
-    let m = map_some (λ k. t.0 ∷ k) (numbers_of_all (group_of w) xs) ns t.2 in
+    let t = option_and_then_some (λ (n : ℕ). option_map (λ k. n ∷ k) (numbers_of_all (group_of w) xs)) (group_of w x) ns e in
+    let m = option_map_some (λ k. t.0 ∷ k) (numbers_of_all (group_of w) xs) ns t.2 in
     let i = all_length w xs m.0 m.1 in
     let j : length ns ≡ length (t.0 ∷ m.0) = ap length (sym m.2) in
     omega arith
@@ -139,13 +120,13 @@ one_more w group rest n (m ∷ ns) g h some = (group, rest, refl, g, h)
 pieces_to : (w : Notation) (groups : List (List ℕ)) (ns : List ℕ) → 0 < length groups → numbers_of_all (group_of w) groups ≡ Some ns → AreGroupsOf w (join_with_byte (separator_of w) groups) ns
 pieces_to w [] ns some e = absurd (omega arith)
 pieces_to w (x ∷ []) ns some e =
-    let t = then_some (λ (n : ℕ). option_map (λ k. n ∷ k) (numbers_of_all (group_of w) [])) (group_of w x) ns e in
+    let t = option_and_then_some (λ (n : ℕ). option_map (λ k. n ∷ k) (numbers_of_all (group_of w) [])) (group_of w x) ns e in
     let is : t.0 ∷ [] ≡ ns = (let f = t.2 in cc) in
     let P : List ℕ → Type 0 = λ k. AreGroupsOf w x k in
     subst P is (group_to w x t.0 t.1)
 pieces_to w (x ∷ y ∷ xs) ns some e =
-    let t = then_some (λ (n : ℕ). option_map (λ k. n ∷ k) (numbers_of_all (group_of w) (y ∷ xs))) (group_of w x) ns e in
-    let m = map_some (λ k. t.0 ∷ k) (numbers_of_all (group_of w) (y ∷ xs)) ns t.2 in
+    let t = option_and_then_some (λ (n : ℕ). option_map (λ k. n ∷ k) (numbers_of_all (group_of w) (y ∷ xs))) (group_of w x) ns e in
+    let m = option_map_some (λ k. t.0 ∷ k) (numbers_of_all (group_of w) (y ∷ xs)) ns t.2 in
     let l = all_length w (y ∷ xs) m.0 m.1 in
     let P : List ℕ → Type 0 = λ k. AreGroupsOf w (join_with_byte (separator_of w) (x ∷ y ∷ xs)) k in
     subst P m.2 (one_more w x (join_with_byte (separator_of w) (y ∷ xs)) t.0 m.0 (group_to w x t.0 t.1) (pieces_to w (y ∷ xs) m.0 (omega arith) m.1) (omega arith))
@@ -161,14 +142,14 @@ counted : (count base : ℕ) (ns : List ℕ) (a : ℕ) → length ns ≡ count �
 counted count base ns a l v = if_some _ (number_from_digits base ns) (eq-eqb (length ns) count l) ∙ ap Some (sym v)
 
 count_is : (count base : ℕ) (ns : List ℕ) (a : ℕ) → number_of count base ns ≡ Some a → (length ns ≡ count) × (a ≡ number_from_digits base ns)
-count_is count base ns a e = let s = some_if _ (number_from_digits base ns) a e in (eqb-true (length ns) count s.0, sym s.1)
+count_is count base ns a e = let s = cond_some _ (number_from_digits base ns) a e in (eqb-true (length ns) count s.0, sym s.1)
 
 v4_from : (text : List ℕ) (a : ℕ) → IsV4Text text a → v4_of text ≡ Some a
 v4_from text a f = some_then (number_of 4 256) (numbers_at Decimal text) f.numbers a (numbers_from Decimal text f.numbers f.groups) (counted 4 256 f.numbers a f.four f.value)
 
 v4_to : (text : List ℕ) (a : ℕ) → v4_of text ≡ Some a → IsV4Text text a
 v4_to text a e =
-    let t = then_some (number_of 4 256) (numbers_at Decimal text) a e in
+    let t = option_and_then_some (number_of 4 256) (numbers_at Decimal text) a e in
     let c = count_is 4 256 t.0 a t.2 in
     record { numbers = t.0; groups = numbers_to Decimal text t.0 t.1; four = c.0; value = c.1 }
 
@@ -177,7 +158,7 @@ full_from text a f = some_then (number_of 8 65536) (numbers_at Hexadecimal text)
 
 full_to : (text : List ℕ) (a : ℕ) → full_of text ≡ Some a → IsFullText text a
 full_to text a e =
-    let t = then_some (number_of 8 65536) (numbers_at Hexadecimal text) a e in
+    let t = option_and_then_some (number_of 8 65536) (numbers_at Hexadecimal text) a e in
     let c = count_is 8 65536 t.0 a t.2 in
     record { numbers = t.0; groups = numbers_to Hexadecimal text t.0 t.1; eight = c.0; value = c.1 }
 
@@ -189,9 +170,9 @@ gap_from front back a g =
 
 gap_to : (front back : List ℕ) (a : ℕ) → gap_of (front, back) ≡ Some a → IsGap front back a
 gap_to front back a e =
-    let t = then_some (λ before. option_and_then (joined before) (numbers_at Hexadecimal back)) (numbers_at Hexadecimal front) a e in
-    let u = then_some (joined t.0) (numbers_at Hexadecimal back) a t.2 in
-    let s = some_if _ (number_from_digits 65536 (t.0 ++ (replicate (8 - (length t.0 + length u.0)) 0 ++ u.0))) a u.2 in
+    let t = option_and_then_some (λ before. option_and_then (joined before) (numbers_at Hexadecimal back)) (numbers_at Hexadecimal front) a e in
+    let u = option_and_then_some (joined t.0) (numbers_at Hexadecimal back) a t.2 in
+    let s = cond_some _ (number_from_digits 65536 (t.0 ++ (replicate (8 - (length t.0 + length u.0)) 0 ++ u.0))) a u.2 in
     record {
       before = t.0;
       after = u.0;
@@ -233,7 +214,7 @@ colons_to (b ∷ c ∷ bs) p e = by_test (eqb b 58 && eqb c 58) refl e (λ q i. 
         let j = eqb-true c 58 t.1 in
         subst P is (cc)
     by_test false same e rest =
-        let m = map_some (λ (q : List ℕ × List ℕ). (b ∷ q.0, q.1)) (cut_at_colons (c ∷ bs)) p e in
+        let m = option_map_some (λ (q : List ℕ × List ℕ). (b ∷ q.0, q.1)) (cut_at_colons (c ∷ bs)) p e in
         let P : List ℕ × List ℕ → Type 0 = λ q. b ∷ c ∷ bs ≡ q.0 ++ (58 ∷ 58 ∷ q.1) in
         subst P m.2 (ap (λ l. b ∷ l) (rest m.0 m.1))
 
@@ -264,15 +245,15 @@ address_to text a e = by_v4 (v4_of text) refl e
   where
     by_v4 : (o : Option ℕ) → v4_of text ≡ o → address_by o (v6_by text (cut_at_colons text)) ≡ Some a → IsAddressText text a
     by_v4 (Some n) some e = v4 (v4_to text n some) (let is : V4 n 32 ≡ a = cc in sym is)
-    by_v4 None none e = let m = map_some (λ (n : ℕ). V6 n 128) (v6_by text (cut_at_colons text)) a e in v6 (v6_to text m.0 m.1) (sym m.2)
+    by_v4 None none e = let m = option_map_some (λ (n : ℕ). V6 n 128) (v6_by text (cut_at_colons text)) a e in v6 (v6_to text m.0 m.1) (sym m.2)
 
 slash_from : (part rest : List ℕ) → Lacks 47 part → cut_at_slash (part ++ (47 ∷ rest)) ≡ Some (part, rest)
 slash_from [] rest l = refl
-slash_from (b ∷ bs) rest l = rw (unequal b 47 l.0, slash_from bs rest l.1)
+slash_from (b ∷ bs) rest l = rw (eqb_false b 47 l.0, slash_from bs rest l.1)
 
 slash_none : (text : List ℕ) → Lacks 47 text → cut_at_slash text ≡ None
 slash_none [] l = refl
-slash_none (b ∷ bs) l = rw (unequal b 47 l.0, slash_none bs l.1)
+slash_none (b ∷ bs) l = rw (eqb_false b 47 l.0, slash_none bs l.1)
 
 slash_to : (text : List ℕ) (p : List ℕ × List ℕ) → cut_at_slash text ≡ Some p → text ≡ p.0 ++ (47 ∷ p.1)
 slash_to [] p e = absurd (cc)
@@ -284,7 +265,7 @@ slash_to (b ∷ bs) p e = by_test (eqb b 47) refl e (λ q i. slash_to bs q i)
         let P : List ℕ × List ℕ → Type 0 = λ q. b ∷ bs ≡ q.0 ++ (47 ∷ q.1) in
         subst P is (ap (λ c. c ∷ bs) (eqb-true b 47 same))
     by_test false same e rest =
-        let m = map_some (λ (q : List ℕ × List ℕ). (b ∷ q.0, q.1)) (cut_at_slash bs) p e in
+        let m = option_map_some (λ (q : List ℕ × List ℕ). (b ∷ q.0, q.1)) (cut_at_slash bs) p e in
         let P : List ℕ × List ℕ → Type 0 = λ q. b ∷ bs ≡ q.0 ++ (47 ∷ q.1) in
         subst P m.2 (ap (λ l. b ∷ l) (rest m.0 m.1))
 
@@ -309,9 +290,9 @@ ip_to text a e = by_cut (cut_at_slash text) refl e
     by_cut : (o : Option (List ℕ × List ℕ)) → cut_at_slash text ≡ o → ip_by text o ≡ Some a → IsIpText text a
     by_cut None cut e = alone (address_to text a e)
     by_cut (Some p) cut e =
-        let t = then_some (λ b. option_and_then (prefixed_by b) (decimal_group p.1)) (address_from p.0) a e in
-        let u = then_some (prefixed_by t.0) (decimal_group p.1) a t.2 in
-        let s = some_if _ (with_prefix t.0 u.0) a u.2 in
+        let t = option_and_then_some (λ b. option_and_then (prefixed_by b) (decimal_group p.1)) (address_from p.0) a e in
+        let u = option_and_then_some (prefixed_by t.0) (decimal_group p.1) a t.2 in
+        let s = cond_some _ (with_prefix t.0 u.0) a u.2 in
         let g = group_to Decimal p.1 u.0 u.1 in
         prefixed (slash_to text p cut ∙ ap (λ l. p.0 ++ (47 ∷ l)) g.1) (address_to p.0 t.0 t.1) (leb-true u.0 (width_of t.0) s.0) (sym s.1)
 

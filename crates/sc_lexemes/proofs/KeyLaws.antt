@@ -9,6 +9,8 @@ use Rattle.std.specs.BTreeSet.{BTreeSet, contains, IsEmpty, Updates}
 use Rattle.std.specs.Cmp.Lexicographic.{slice_cmp}
 use Rattle.std.specs.Ordering.{nat_cmp}
 use Rattle.std.specs.Str.{bytes_eq}
+use Rattle.sc_lists.proofs.BoolLaws.{not_true}
+use Rattle.sc_lists.proofs.TextLaws.{bytes_eq_swap}
 use Rattle.sc_ast.specs.declared.expr.Expr.{Expr}
 use Rattle.sc_ast.specs.declared.place.Place.{Place}
 use Rattle.sc_pattern.specs.declared.part.Part.{Part}
@@ -23,13 +25,6 @@ use Rattle.sc_lexemes.specs.Outcomes.{read, halt}
 use Rattle.sc_lexemes.specs.ReadsWords.{ReadsKey, ident, string, key_ident, key_ident_twice, key_string, key_string_twice}
 use Rattle.sc_lexemes.specs.Tables.{has_key}
 
-bytes_eq_swap : (a b : List ℕ) → bytes_eq a b ≡ bytes_eq b a
-bytes_eq_swap a b =
-    let there = bytes_eq-Decides a b in
-    let back = bytes_eq-Decides b a in
-    let turned : Decides (bytes_eq b a) (a ≡ b) = (λ h. sym (back.0 h), λ e. back.1 (sym e)) in
-    same_from_decides (bytes_eq a b) (bytes_eq b a) there turned
-
 either : (a b : Bool) → (a || (b || false)) ≡ cond b true a
 either true true = refl
 either true false = refl
@@ -39,10 +34,6 @@ either false false = refl
 -- one more field at the end
 has_key_more : (n w : List ℕ) (x : Expr) (fs : List (List ℕ × Expr)) → has_key n (fs ++ (w, x) ∷ []) ≡ cond (bytes_eq n w) true (has_key n fs)
 has_key_more n w x fs = list_any-append (λ (f : List ℕ × Expr). bytes_eq n f.0) fs ((w, x) ∷ []) ∙ either (has_key n fs) (bytes_eq n w)
-
-is_new : (b : Bool) → true ≡ not b → b ≡ false
-is_new true e = cc
-is_new false e = refl
 
 is_there : (b : Bool) → false ≡ not b → b ≡ true
 is_there true e = refl
@@ -61,13 +52,13 @@ new_key old w fs added e k = rw (sym (k.same w)) e
 
 -- the keys that are read, where the test and the cursor behind are given by equations
 pub ident_read : {ts : List Lexeme} {s t : Cursor} {p : Place} {w : List ℕ} {fs : List (List ℕ × Expr)} → IsIdent ts s.at p w → fits s ≡ true → true ≡ not (has_key w fs) → t ≡ next s → ReadsKey ts s fs (read w t)
-ident_read i f n is = rw is (key_ident (ident i f) (is_new _ n))
+ident_read i f n is = rw is (key_ident (ident i f) (not_true _ n))
 
 pub ident_twice : {ts : List Lexeme} {s : Cursor} {p : Place} {w : List ℕ} {fs : List (List ℕ × Expr)} → IsIdent ts s.at p w → fits s ≡ true → false ≡ not (has_key w fs) → ReadsKey ts s fs (halt DuplicateKey s.at)
 ident_twice i f n = key_ident_twice (ident i f) (is_there _ n)
 
 pub string_read : {ts : List Lexeme} {s t : Cursor} {p : Place} {w : List ℕ} {parts : List Part} {fs : List (List ℕ × Expr)} → Is ts s.at p (String w parts) → fits s ≡ true → true ≡ not (has_key w fs) → t ≡ next s → ReadsKey ts s fs (read w t)
-string_read i f n is = rw is (key_string (string i f) (is_new _ n))
+string_read i f n is = rw is (key_string (string i f) (not_true _ n))
 
 pub string_twice : {ts : List Lexeme} {s : Cursor} {p : Place} {w : List ℕ} {parts : List Part} {fs : List (List ℕ × Expr)} → Is ts s.at p (String w parts) → fits s ≡ true → false ≡ not (has_key w fs) → ReadsKey ts s fs (halt DuplicateKey s.at)
 string_twice i f n = key_string_twice (string i f) (is_there _ n)

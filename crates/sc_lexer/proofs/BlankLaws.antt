@@ -11,8 +11,8 @@ use Rattle.std.proofs.lemmas.Str.{IsCharBoundary-before_ascii, IsCharBoundary-en
 use Rattle.std.proofs.lemmas.Str.Pattern.{starts_text}
 use Rattle.std.proofs.lemmas.List.{take-append-drop, drop_at}
 use Rattle.std.proofs.lemmas.List.Sums.{take_while-cons}
+use Rattle.sc_lists.proofs.TextLaws.{take_while_stops, take_while_within, take_while_front, take_while_passes}
 use Rattle.sc_lexer.specs.Blanks.{ends_line, stays_in_line, EndsLine, BeginsNoSpace, Skips, none, space, comment, Leads}
-use Rattle.sc_lexer.proofs.RunLaws.{list_all-take_while, take-run, length-take_while-le}
 
 -- white space
 
@@ -46,15 +46,7 @@ Leads_trim t r e u = record {
 
 -- a line and what comes after it
 pub take_while-drop : (p : ℕ → Bool) (cs : List ℕ) → take_while p cs ++ drop (length (take_while p cs)) cs ≡ cs
-take_while-drop p cs = ap (λ xs. xs ++ drop (length (take_while p cs)) cs) (sym (take-run p cs)) ∙ take-append-drop (length (take_while p cs)) cs
-
-pub take_while-stops : (p : ℕ → Bool) (cs : List ℕ) → take_while p (drop (length (take_while p cs)) cs) ≡ []
-take_while-stops p [] = refl
-take_while-stops p (c ∷ cs) =
-    rw take_while-cons (elim (p c) as (λ b. p c ≡ b → take_while p (drop (length (cond b (c ∷ take_while p cs) [])) (c ∷ cs)) ≡ []) [
-      | true ↦ λ e. take_while-stops p cs
-      | false ↦ λ e. take_while-cons p c cs ∙ rw e refl
-    ] refl)
+take_while-drop p cs = ap (λ xs. xs ++ drop (length (take_while p cs)) cs) (sym (take_while_front p cs)) ∙ take-append-drop (length (take_while p cs)) cs
 
 EndsLine-from : (s : List ℕ) → take_while stays_in_line s ≡ [] → EndsLine s
 EndsLine-from [] e = tt
@@ -64,7 +56,7 @@ EndsLine-from (c ∷ cs) e = elim (ends_line c) as (λ b. ends_line c ≡ b → 
 ] refl
 
 EndsLine-drop : (s : List ℕ) → EndsLine (drop (length (take_while stays_in_line s)) s)
-EndsLine-drop s = EndsLine-from (drop (length (take_while stays_in_line s)) s) (take_while-stops stays_in_line s)
+EndsLine-drop s = EndsLine-from (drop (length (take_while stays_in_line s)) s) (take_while_stops stays_in_line s)
 
 -- a comment's slashes
 slashes : (t : List ℕ) → starts_with eqb t (codes "//") ≡ true → (s : List ℕ) × (t ≡ 47 ∷ 47 ∷ s)
@@ -84,7 +76,7 @@ starts_comment r t h = starts_text r (codes "//") t h
 Leads_line : (s left : List ℕ) → Skips (drop (length (take_while stays_in_line s)) s) left → Skips (47 ∷ 47 ∷ s) left
 Leads_line s left k =
     subst (λ bs. Skips (47 ∷ 47 ∷ bs) left) (take_while-drop stays_in_line s)
-    (comment (take_while stays_in_line s) (drop (length (take_while stays_in_line s)) s) left (list_all-take_while stays_in_line s) (EndsLine-drop s) k)
+    (comment (take_while stays_in_line s) (drop (length (take_while stays_in_line s)) s) left (take_while_passes stays_in_line s) (EndsLine-drop s) k)
 
 line_slashes : (s : List ℕ) → drop (length (take_while stays_in_line (47 ∷ 47 ∷ s))) (47 ∷ 47 ∷ s) ≡ drop (length (take_while stays_in_line s)) s
 line_slashes s = rw (take_while-cons stays_in_line 47 (47 ∷ s), take_while-cons stays_in_line 47 s) refl
@@ -119,7 +111,7 @@ boundary_of s n h e = elim (cases_lt n (length s)) [
 ]
 
 pub line_boundary : (t : List ℕ) (n : ℕ) → n ≡ length (take_while stays_in_line t) → IsCharBoundary t n
-line_boundary t n e = rw e (boundary_of t (length (take_while stays_in_line t)) (length-take_while-le stays_in_line t) (EndsLine-drop t))
+line_boundary t n e = rw e (boundary_of t (length (take_while stays_in_line t)) (take_while_within stays_in_line t) (EndsLine-drop t))
 
 -- several steps
 

@@ -6,9 +6,10 @@ use Rattle.std.specs.List.{list_all, take_while}
 use Rattle.std.proofs.lemmas.Bool.Decides.{nat_tests}
 use Rattle.std.proofs.lemmas.List.{take_rest, get_or_past}
 use Rattle.std.proofs.Math.Utf8.{scalar}
+use Rattle.sc_lists.proofs.TextLaws.{take_while_front, take_while_passes}
 use Rattle.sc_lexer.specs.declared.piece.Piece.TheVariants.{Char, EscapedStar}
 use Rattle.sc_lexer.specs.Escapes.{is_letter, letter_char, ascii_of, braced_of, scalar_of, escape_of}
-use Rattle.sc_lexer.proofs.RunLaws.{list_all-take_while, take-run, take-take_while}
+use Rattle.sc_lexer.proofs.RunLaws.{take-take_while}
 
 -- digits in front
 
@@ -21,7 +22,7 @@ list_all-take (suc n) (d ∷ ds) h = elim (is_ascii_hexdigit d) as (λ b. (b && 
 ] h
 
 pub digits_front : (cs : List ℕ) (n : ℕ) → n ≤ length (take_while is_ascii_hexdigit cs) → list_all is_ascii_hexdigit (take n cs) ≡ true
-digits_front cs n h = subst (λ ds. list_all is_ascii_hexdigit ds ≡ true) (take-take_while is_ascii_hexdigit n cs h) (list_all-take n (take_while is_ascii_hexdigit cs) (list_all-take_while is_ascii_hexdigit cs))
+digits_front cs n h = subst (λ ds. list_all is_ascii_hexdigit ds ≡ true) (take-take_while is_ascii_hexdigit n cs h) (list_all-take n (take_while is_ascii_hexdigit cs) (take_while_passes is_ascii_hexdigit cs))
 
 -- `x`
 
@@ -65,15 +66,15 @@ no_scalar c h = elim (scalar c) as (λ b. scalar c ≡ b → b ≡ false) [
 pub braced_none : (bytes : List ℕ) → (IsScalar (digits_value 16 (take (length (take_while is_ascii_hexdigit bytes)) bytes)) → ⊥) → None ≡ braced_of bytes
 unfolding braced_of
 braced_none bytes h =
-    let none : scalar (digits_value 16 (take_while is_ascii_hexdigit bytes)) ≡ false = subst (λ ds. scalar (digits_value 16 ds) ≡ false) (take-run is_ascii_hexdigit bytes) (no_scalar (digits_value 16 (take (length (take_while is_ascii_hexdigit bytes)) bytes)) h) in
+    let none : scalar (digits_value 16 (take_while is_ascii_hexdigit bytes)) ≡ false = subst (λ ds. scalar (digits_value 16 ds) ≡ false) (take_while_front is_ascii_hexdigit bytes) (no_scalar (digits_value 16 (take (length (take_while is_ascii_hexdigit bytes)) bytes)) h) in
     grind (arith, nat_tests)
 
 pub braced_some : (bytes : List ℕ) → 1 ≤ length (take_while is_ascii_hexdigit bytes) → length (take_while is_ascii_hexdigit bytes) ≤ 6 → get_or bytes (length (take_while is_ascii_hexdigit bytes)) 0 ≡ 125
     → IsScalar (digits_value 16 (take (length (take_while is_ascii_hexdigit bytes)) bytes))
     → Some (record { piece = Char (digits_value 16 (take (length (take_while is_ascii_hexdigit bytes)) bytes)); len = length (take_while is_ascii_hexdigit bytes) + 3 }) ≡ braced_of bytes
 unfolding braced_of
-braced_some bytes h k q s = rw (take-run is_ascii_hexdigit bytes) (
-    let is : scalar (digits_value 16 (take_while is_ascii_hexdigit bytes)) ≡ true = subst (λ ds. scalar (digits_value 16 ds) ≡ true) (take-run is_ascii_hexdigit bytes) s in
+braced_some bytes h k q s = rw (take_while_front is_ascii_hexdigit bytes) (
+    let is : scalar (digits_value 16 (take_while is_ascii_hexdigit bytes)) ≡ true = subst (λ ds. scalar (digits_value 16 ds) ≡ true) (take_while_front is_ascii_hexdigit bytes) s in
     grind (arith, nat_tests))
 
 -- `u`

@@ -9,14 +9,16 @@ use Rattle.std.proofs.lemmas.Str.{IsCharBoundary-after_ascii}
 use Rattle.std.proofs.lemmas.List.{take-append-drop, get_or_append_left}
 use Rattle.std.proofs.Math.Seq.{take-append_seam, take-length}
 use Rattle.std.proofs.lemmas.List.Sums.{take_while-cons}
+use Rattle.std.proofs.lemmas.Bool.{cases_Bool}
+use Rattle.sc_lists.proofs.BoolLaws.{and_second, and_first}
+use Rattle.sc_lists.proofs.TextLaws.{take_while_within, take_while_front, take_while_passes}
+use Rattle.sc_lists.proofs.ListLaws.{rest_is}
 use Rattle.sc_names.specs.Names.{begins_word, goes_on_word, is_word}
 use Rattle.sc_lexer.specs.declared.token.Kind.{Kind}
 use Rattle.sc_lexer.specs.declared.token.Kind.TheVariants.{Word, Number, Str}
 use Rattle.sc_lexer.specs.Tokens.{is_number, is_string, closes, one_sign, two_sign, sign_of, kind_of, BeginsNoToken}
 use Rattle.sc_lexer.specs.Fronts.{IsFront, long_sign}
 use Rattle.sc_lexer.proofs.StringLaws.{closes_once, closes_last, last_more}
-use Rattle.sc_lexer.proofs.TestLaws.{bool_tells, first_passes, rest_passes}
-use Rattle.sc_lexer.proofs.RunLaws.{list_all-take_while, take-run, length-take_while-le}
 
 -- what the first byte says of a token
 
@@ -110,11 +112,11 @@ longest_run p kind a cs h k (x ∷ u) others other e is =
 run : (p : ℕ → Bool) (kind : Kind) (a : ℕ) (cs : List ℕ) → p a ≡ true → ((u : List ℕ) → kind_of (a ∷ u) ≡ cond (list_all p u) (Some kind) None)
     → IsFront (a ∷ cs) kind (length (take_while p (a ∷ cs)))
 run p kind a cs h k = record {
-  within = length-take_while-le p (a ∷ cs);
+  within = take_while_within p (a ∷ cs);
   begins = record {
     parts = sym (take-append-drop (length (take_while p (a ∷ cs))) (a ∷ cs));
-    is = rw (take-run p (a ∷ cs), take_while-cons p a cs, h) (k (take_while p cs) ∙ ap (λ b. cond b (Some kind) None) (list_all-take_while p cs));
-    longest = λ longer others other e is. rw (take-run p (a ∷ cs)) (longest_run p kind a cs h k longer others other e is);
+    is = rw (take_while_front p (a ∷ cs), take_while-cons p a cs, h) (k (take_while p cs) ∙ ap (λ b. cond b (Some kind) None) (take_while_passes p cs));
+    longest = λ longer others other e is. rw (take_while_front p (a ∷ cs)) (longest_run p kind a cs h k longer others other e is);
   };
 }
 
@@ -155,9 +157,6 @@ string_front cs n h e = record {
     longest = longest_string cs n e;
   };
 }
-
-rest_is : (a : ℕ) (cs : List ℕ) → take (length (a ∷ cs) - 1) (drop 1 (a ∷ cs)) ≡ cs
-rest_is a cs = let less : length (a ∷ cs) - 1 ≡ length cs = omega arith in rw less (take-length cs)
 
 pub IsFront_string : (bytes : List ℕ) (n : ℕ) → 0 < length bytes → get_or bytes 0 0 ≡ 34 → n ≤ length (take (length bytes - 1) (drop 1 bytes)) → closes (take n (take (length bytes - 1) (drop 1 bytes))) ≡ true
     → IsFront bytes Str (n + 1)
@@ -289,8 +288,8 @@ pub record EndsAscii (t : List ℕ) : Type 0 where
 
 all_small : (p : ℕ → Bool) (cs : List ℕ) (i : ℕ) → ((c : ℕ) → p c ≡ true → c < 128) → list_all p cs ≡ true → i < length cs → get_or cs i 0 < 128
 all_small p [] i f h l = absurd (omega arith)
-all_small p (c ∷ cs) zero f h l = f c (first_passes (p c) (list_all p cs) h)
-all_small p (c ∷ cs) (suc i) f h l = all_small p cs i f (rest_passes (p c) (list_all p cs) h) (omega arith)
+all_small p (c ∷ cs) zero f h l = f c (and_first (p c) (list_all p cs) h)
+all_small p (c ∷ cs) (suc i) f h l = all_small p cs i f (and_second (p c) (list_all p cs) h) (omega arith)
 
 word_small : (c : ℕ) → goes_on_word c ≡ true → c < 128
 word_small c h = grind (arith, nat_tests)
@@ -301,7 +300,7 @@ digit_small c h = grind (arith, nat_tests)
 EndsAscii-word : (t : List ℕ) → is_word t ≡ true → EndsAscii t
 EndsAscii-word [] h = cc
 EndsAscii-word (c ∷ cs) h =
-    let all : list_all goes_on_word (c ∷ cs) ≡ true = rw (word_goes_on c (first_passes (begins_word c) (list_all goes_on_word cs) h)) (rest_passes (begins_word c) (list_all goes_on_word cs) h) in
+    let all : list_all goes_on_word (c ∷ cs) ≡ true = rw (word_goes_on c (and_first (begins_word c) (list_all goes_on_word cs) h)) (and_second (begins_word c) (list_all goes_on_word cs) h) in
     record { some = omega arith; last = all_small goes_on_word (c ∷ cs) (length (c ∷ cs) - 1) word_small all (omega arith) }
 
 EndsAscii-number : (t : List ℕ) → is_number t ≡ true → EndsAscii t
@@ -311,7 +310,7 @@ EndsAscii-number (c ∷ cs) h = record { some = omega arith; last = all_small is
 EndsAscii-string : (t : List ℕ) → is_string t ≡ true → EndsAscii t
 EndsAscii-string [] h = cc
 EndsAscii-string (c ∷ cs) h =
-    let end = closes_last cs (rest_passes (c == 34) (closes cs) h) in
+    let end = closes_last cs (and_second (c == 34) (closes cs) h) in
     record { some = omega arith; last = rw (last_more c cs end.0, end.1) (omega arith) }
 
 one_small : (a : ℕ) (k : Kind) → one_sign a ≡ Some k → a < 128
@@ -330,11 +329,11 @@ EndsAscii-sign (a ∷ b ∷ c ∷ cs) k h = cc
 
 pub ends_ascii : (t : List ℕ) (k : Kind) → kind_of t ≡ Some k → EndsAscii t
 unfolding kind_of
-ends_ascii t k h = elim (bool_tells (is_word t)) [
+ends_ascii t k h = elim (cases_Bool (is_word t)) [
   | inl word ↦ EndsAscii-word t word
-  | inr no_word ↦ elim (bool_tells (is_number t)) [
+  | inr no_word ↦ elim (cases_Bool (is_number t)) [
     | inl number ↦ EndsAscii-number t number
-    | inr no_number ↦ elim (bool_tells (is_string t)) [
+    | inr no_number ↦ elim (cases_Bool (is_string t)) [
       | inl string ↦ EndsAscii-string t string
       | inr no_string ↦ EndsAscii-sign t k (rw (no_word, no_number, no_string) at h)
     ]

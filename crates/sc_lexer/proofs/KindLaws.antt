@@ -1,11 +1,11 @@
 -- What the kind of a token says of its text.
 use Rattle.std.proofs.Common.{◌≡◌, ℕ, List, [], ◌∷◌, true, inl, inr, arith, Some}
 use Rattle.std.proofs.lemmas.Bool.Decides.{nat_tests}
+use Rattle.std.proofs.lemmas.Bool.{cases_Bool}
 use Rattle.sc_names.specs.Names.{is_word}
 use Rattle.sc_lexer.specs.declared.token.Kind.{Kind}
 use Rattle.sc_lexer.specs.declared.token.Kind.TheVariants.{Word, Number, Str}
 use Rattle.sc_lexer.specs.Tokens.{is_number, is_string, one_sign, two_sign, sign_of, kind_of}
-use Rattle.sc_lexer.proofs.TestLaws.{bool_tells}
 
 -- which of the four sorts of tokens a text is
 data Sort (t : List ℕ) (k : Kind) : Type 0 where
@@ -19,11 +19,11 @@ kind_same h = cc
 
 sort_of : (t : List ℕ) (k : Kind) → kind_of t ≡ Some k → Sort t k
 unfolding kind_of
-sort_of t k h = elim (bool_tells (is_word t)) [
+sort_of t k h = elim (cases_Bool (is_word t)) [
   | inl yes_word ↦ word yes_word (kind_same (rw yes_word at h))
-  | inr no_word ↦ elim (bool_tells (is_number t)) [
+  | inr no_word ↦ elim (cases_Bool (is_number t)) [
     | inl yes_number ↦ number yes_number (kind_same (rw (no_word, yes_number) at h))
-    | inr no_number ↦ elim (bool_tells (is_string t)) [
+    | inr no_number ↦ elim (cases_Bool (is_string t)) [
       | inl yes_string ↦ string yes_string (kind_same (rw (no_word, no_number, yes_string) at h))
       | inr no_string ↦ sign (rw (no_word, no_number, no_string) at h)
     ]

@@ -10,6 +10,7 @@ use Rattle.std.proofs.Math.Utf8.{scalars, scalar}
 use Rattle.std.proofs.lemmas.Bool.Decides.{nat_tests, eqb_tells}
 use Rattle.std.proofs.lemmas.List.{drop_at, append_cancel_left, append_cancel_right}
 use Rattle.std.proofs.lemmas.Str.{encodes-append, encodes-IsAscii, chars-encodes, chars-append, chars-IsAscii, IsUtf8-from_ascii, inside_one, encode_ascii, encodes-chars, scalars-chars, is_utf8-from_IsUtf8, IsUtf8-between, IsCharBoundary-after_ascii, IsCharBoundary-before_ascii}
+use Rattle.sc_lists.proofs.BoolLaws.{and_second, and_first}
 use Rattle.sc_lexer.specs.declared.piece.Piece.{Piece}
 use Rattle.sc_lexer.specs.declared.piece.Piece.TheVariants.{Char, Star}
 use Rattle.sc_lexer.specs.Escapes.{is_letter, IsEscape, letter, star, ascii, code, IsSpelled, ends, plain, escape, ascii_of, braced_of, scalar_of, escape_of}
@@ -22,7 +23,6 @@ use Rattle.sc_lexer.proofs.StringLaws.{closes-plain, closes-pair, closes-quote, 
 use Rattle.sc_lexer.proofs.EscapeLaws.{escape_letter}
 use Rattle.sc_lexer.proofs.SpellingLaws.{IsMeant-escape, ascii-digits, braced-digits}
 use Rattle.sc_lexer.proofs.UnescapingLaws.{IsAscii-escape, pieces-skip, pieces_plain, pieces_star}
-use Rattle.sc_lexer.proofs.TestLaws.{first_passes, rest_passes}
 
 -- spelled pieces are the ones that are given
 
@@ -100,7 +100,7 @@ after_backslash bs (escape f r h s) e = record { e = f; rest = r; parts = cc; is
 
 scalars_rest : (xs ys : List ℕ) → scalars (xs ++ ys) ≡ true → scalars ys ≡ true
 scalars_rest [] ys h = h
-scalars_rest (x ∷ xs) ys h = scalars_rest xs ys (rest_passes (scalar x) (scalars (xs ++ ys)) h)
+scalars_rest (x ∷ xs) ys h = scalars_rest xs ys (and_second (scalar x) (scalars (xs ++ ys)) h)
 
 -- the characters after an escape
 record Leaves (cs e rest : List ℕ) : Type 0 where
@@ -125,7 +125,7 @@ spell : (n : ℕ) (cs : List ℕ) → length cs ≤ n → scalars cs ≡ true �
 spell n [] l h s = record { pieces = []; spelled = nothing }
 spell zero (c ∷ cs) l h s = absurd (omega arith)
 spell (suc n) (c ∷ cs) l h s =
-    let valid : scalars cs ≡ true = rest_passes (scalar c) (scalars cs) h in
+    let valid : scalars cs ≡ true = and_second (scalar c) (scalars cs) h in
     elim (eqb_tells c 92) [
       | inl is ↦
           let bytes : encode_utf8 c ++ encode_utf8_all cs ≡ 92 ∷ encode_utf8_all cs = ap (λ bs. bs ++ encode_utf8_all cs) (ap encode_utf8 is.1 ∙ encode_ascii 92 (omega arith)) in
@@ -171,8 +171,8 @@ digit_quote d h = grind (arith, nat_tests)
 closes-digits : (ds rest : List ℕ) → list_all is_ascii_hexdigit ds ≡ true → closes (ds ++ rest) ≡ closes rest
 closes-digits [] rest h = refl
 closes-digits (d ∷ ds) rest h =
-    let digit : is_ascii_hexdigit d ≡ true = first_passes (is_ascii_hexdigit d) (list_all is_ascii_hexdigit ds) h in
-    closes-plain d (ds ++ rest) (digit_plain d digit) (digit_quote d digit) ∙ closes-digits ds rest (rest_passes (is_ascii_hexdigit d) (list_all is_ascii_hexdigit ds) h)
+    let digit : is_ascii_hexdigit d ≡ true = and_first (is_ascii_hexdigit d) (list_all is_ascii_hexdigit ds) h in
+    closes-plain d (ds ++ rest) (digit_plain d digit) (digit_quote d digit) ∙ closes-digits ds rest (and_second (is_ascii_hexdigit d) (list_all is_ascii_hexdigit ds) h)
 
 closes-escape : {like : Bool} (e rest : List ℕ) → IsEscape like e → closes (92 ∷ (e ++ rest)) ≡ closes rest
 closes-escape e rest (letter c h) = closes-pair 92 c rest refl
@@ -205,16 +205,16 @@ inside_utf8 t h l q u =
 inside_spelled : {like : Bool} (t : List ℕ) → is_string t ≡ true → IsSpelled like t → IsSpelled like (inside t)
 inside_spelled [] h s = cc
 inside_spelled {like} (c ∷ u) h s =
-    let quote : c ≡ 34 = eqb-true c 34 (first_passes (c == 34) (closes u) h) in
-    let inner = spelled_inner u (spelled_tail c u s refl (omega arith)) (rest_passes (c == 34) (closes u) h) in
+    let quote : c ≡ 34 = eqb-true c 34 (and_first (c == 34) (closes u) h) in
+    let inner = spelled_inner u (spelled_tail c u s refl (omega arith)) (and_second (c == 34) (closes u) h) in
     let size : length (c ∷ u) - 2 ≡ length u - 1 = omega arith in
     subst (λ (n : ℕ). IsSpelled like (take n u)) (sym size) inner
 
 some_inside : (t : List ℕ) → is_string t ≡ true → (2 ≤ length t) × (get_or t 0 0 ≡ 34)
 some_inside [] h = cc
 some_inside (c ∷ u) h =
-    let end = closes_last u (rest_passes (c == 34) (closes u) h) in
-    (omega (arith, end.0), eqb-true c 34 (first_passes (c == 34) (closes u) h))
+    let end = closes_last u (and_second (c == 34) (closes u) h) in
+    (omega (arith, end.0), eqb-true c 34 (and_first (c == 34) (closes u) h))
 
 pub Spells_string : {like : Bool} (t : List ℕ) → kind_of t ≡ Some Str → IsUtf8 t → IsSpelled like t → Spells (chars (inside t)) (pieces_of t)
 unfolding pieces_of

@@ -4,12 +4,16 @@ use Rattle.std.specs.Prelude.{nat_eq, nat_le}
 use Rattle.std.specs.Char.{IsScalar, is_ascii_hexdigit}
 use Rattle.std.specs.Str.Parse.{digits_value}
 use Rattle.std.specs.List.{list_all, take_while}
-use Rattle.std.proofs.lemmas.Bool.{cases_lt}
+use Rattle.std.proofs.lemmas.Bool.{cases_lt, cases_Bool}
 use Rattle.std.proofs.lemmas.Bool.Decides.{nat_tests, eqb_tells}
 use Rattle.std.proofs.lemmas.List.{take-append-drop, get_or_at, get_or_past, take_more, take_rest}
 use Rattle.std.proofs.lemmas.List.Sums.{take_while-cons}
 use Rattle.std.proofs.Math.Utf8.{scalar}
 use Rattle.std.proofs.Math.Seq.{take-add, take-length}
+use Rattle.sc_lists.proofs.BoolLaws.{and_second, and_first}
+use Rattle.sc_lists.proofs.TextLaws.{take_while_within, take_while_front, take_while_passes}
+use Rattle.sc_lists.proofs.ListLaws.{rest_is}
+use Rattle.sc_lists.proofs.NumberLaws.{nat_eq_true}
 use Rattle.sc_lexer.specs.declared.piece.Piece.{Piece}
 use Rattle.sc_lexer.specs.declared.piece.Piece.TheVariants.{Char, EscapedStar}
 use Rattle.sc_lexer.specs.declared.piece.Escape.{Escape}
@@ -17,16 +21,15 @@ use Rattle.sc_lexer.specs.Escapes.{is_letter, IsEscape, letter, star, ascii, cod
 use Rattle.sc_lexer.specs.Pieces.{Means, of_letter, of_star, of_ascii, of_code}
 use Rattle.sc_lexer.specs.Parts.{allows, IsPart, BeginsBadEscape}
 use Rattle.sc_lexer.proofs.EscapeLaws.{ascii_some, braced_some, escape_letter, digits_front}
-use Rattle.sc_lexer.proofs.RunLaws.{list_all-take_while, take-run, take-take_while, length-take_while-le}
-use Rattle.sc_lexer.proofs.TestLaws.{bool_tells, first_passes, rest_passes}
+use Rattle.sc_lexer.proofs.RunLaws.{take-take_while}
 
 -- an escape in front of other bytes is read
 
 take_while-stop : (ds rest : List ℕ) (c : ℕ) → list_all is_ascii_hexdigit ds ≡ true → is_ascii_hexdigit c ≡ false → take_while is_ascii_hexdigit (ds ++ (c ∷ rest)) ≡ ds
 take_while-stop [] rest c h k = rw (take_while-cons, k) refl
 take_while-stop (d ∷ ds) rest c h k =
-    let digit : is_ascii_hexdigit d ≡ true = first_passes (is_ascii_hexdigit d) (list_all is_ascii_hexdigit ds) h in
-    rw (take_while-cons, digit, take_while-stop ds rest c (rest_passes (is_ascii_hexdigit d) (list_all is_ascii_hexdigit ds) h) k) refl
+    let digit : is_ascii_hexdigit d ≡ true = and_first (is_ascii_hexdigit d) (list_all is_ascii_hexdigit ds) h in
+    rw (take_while-cons, digit, take_while-stop ds rest c (and_second (is_ascii_hexdigit d) (list_all is_ascii_hexdigit ds) h) k) refl
 
 ascii-two : (a b : ℕ) (rest : List ℕ) → is_ascii_hexdigit a ≡ true → is_ascii_hexdigit b ≡ true → digits_value 16 (a ∷ b ∷ []) ≤ 127 → ascii_of (a ∷ b ∷ rest) ≡ Some (record { piece = Char (digits_value 16 (a ∷ b ∷ [])); len = 3 })
 ascii-two a b rest h k v =
@@ -37,7 +40,7 @@ pub ascii-digits : (ds rest : List ℕ) → list_all is_ascii_hexdigit ds ≡ tr
 ascii-digits [] rest h l v = absurd (omega arith)
 ascii-digits (a ∷ []) rest h l v = absurd (omega arith)
 ascii-digits (a ∷ b ∷ []) rest h l v =
-    ascii-two a b rest (first_passes (is_ascii_hexdigit a) (list_all is_ascii_hexdigit (b ∷ [])) h) (first_passes (is_ascii_hexdigit b) true (rest_passes (is_ascii_hexdigit a) (list_all is_ascii_hexdigit (b ∷ [])) h)) v
+    ascii-two a b rest (and_first (is_ascii_hexdigit a) (list_all is_ascii_hexdigit (b ∷ [])) h) (and_first (is_ascii_hexdigit b) true (and_second (is_ascii_hexdigit a) (list_all is_ascii_hexdigit (b ∷ [])) h)) v
 ascii-digits (a ∷ b ∷ c ∷ ds) rest h l v = absurd (omega arith)
 
 braced_from : (bytes ds : List ℕ) → take_while is_ascii_hexdigit bytes ≡ ds → 1 ≤ length ds → length ds ≤ 6 → get_or bytes (length ds) 0 ≡ 125 → IsScalar (digits_value 16 ds)
@@ -45,8 +48,8 @@ braced_from : (bytes ds : List ℕ) → take_while is_ascii_hexdigit bytes ≡ d
 braced_from bytes ds e =
     subst (λ xs. 1 ≤ length xs → length xs ≤ 6 → get_or bytes (length xs) 0 ≡ 125 → IsScalar (digits_value 16 xs) → braced_of bytes ≡ Some (record { piece = Char (digits_value 16 xs); len = length xs + 3 })) e
     (λ l m q v.
-    let front : IsScalar (digits_value 16 (take (length (take_while is_ascii_hexdigit bytes)) bytes)) = subst (λ xs. IsScalar (digits_value 16 xs)) (sym (take-run is_ascii_hexdigit bytes)) v in
-    sym (subst (λ xs. Some (record { piece = Char (digits_value 16 xs); len = length (take_while is_ascii_hexdigit bytes) + 3 }) ≡ braced_of bytes) (take-run is_ascii_hexdigit bytes) (braced_some bytes l m q front)))
+    let front : IsScalar (digits_value 16 (take (length (take_while is_ascii_hexdigit bytes)) bytes)) = subst (λ xs. IsScalar (digits_value 16 xs)) (sym (take_while_front is_ascii_hexdigit bytes)) v in
+    sym (subst (λ xs. Some (record { piece = Char (digits_value 16 xs); len = length (take_while is_ascii_hexdigit bytes) + 3 }) ≡ braced_of bytes) (take_while_front is_ascii_hexdigit bytes) (braced_some bytes l m q front)))
 
 pub braced-digits : (ds rest : List ℕ) → list_all is_ascii_hexdigit ds ≡ true → 1 ≤ length ds → length ds ≤ 6 → IsScalar (digits_value 16 ds) → braced_of (ds ++ (125 ∷ rest)) ≡ Some (record { piece = Char (digits_value 16 ds); len = length ds + 3 })
 braced-digits ds rest h l m v =
@@ -91,20 +94,17 @@ some_same h = cc
 le_true : (a b : ℕ) → nat_le a b ≡ true → a ≤ b
 le_true a b h = grind (arith, nat_tests)
 
-eq_true : (a b : ℕ) → nat_eq a b ≡ true → a ≡ b
-eq_true a b h = grind (arith, nat_tests)
-
 Begins-ascii : (like : Bool) (cs : List ℕ) (e : Escape) → ascii_of cs ≡ Some e → Begins like (120 ∷ cs) e.len
 unfolding ascii_of
 Begins-ascii like cs e h =
     let digits = take 2 (take_while is_ascii_hexdigit cs) in
     let k = cond_some (nat_eq (length digits) 2 && nat_le (digits_value 16 digits) 127) (record { piece = Char (digits_value 16 digits); len = 3 }) e h in
-    let two : length digits ≡ 2 = eq_true (length digits) 2 (first_passes (nat_eq (length digits) 2) (nat_le (digits_value 16 digits) 127) k.0) in
-    let small : digits_value 16 digits ≤ 127 = le_true (digits_value 16 digits) 127 (rest_passes (nat_eq (length digits) 2) (nat_le (digits_value 16 digits) 127) k.0) in
+    let two : length digits ≡ 2 = nat_eq_true (length digits) 2 (and_first (nat_eq (length digits) 2) (nat_le (digits_value 16 digits) 127) k.0) in
+    let small : digits_value 16 digits ≤ 127 = le_true (digits_value 16 digits) 127 (and_second (nat_eq (length digits) 2) (nat_le (digits_value 16 digits) 127) k.0) in
     let some : 2 ≤ length (take_while is_ascii_hexdigit cs) = omega (arith, length-take 2 (take_while is_ascii_hexdigit cs)) in
     let front : digits ≡ take 2 cs = take-take_while is_ascii_hexdigit 2 cs some in
     subst (λ (x : Escape). Begins like (120 ∷ cs) x.len) k.1 (record {
-      within = omega (arith, length-take_while-le is_ascii_hexdigit cs);
+      within = omega (arith, take_while_within is_ascii_hexdigit cs);
       is = subst (λ ds. IsEscape like (120 ∷ ds)) front (ascii digits (rw front (digits_front cs 2 some)) two small);
     })
 
@@ -121,18 +121,18 @@ Begins-braced like cs e h =
     let closing = get_or cs n 0 == 125 in
     let value = scalar (digits_value 16 digits) in
     let k = cond_some (least && most && closing && value) (record { piece = Char (digits_value 16 digits); len = n + 3 }) e h in
-    let front : (least && most && closing) ≡ true = first_passes (least && most && closing) value k.0 in
-    let some : (least && most) ≡ true = first_passes (least && most) closing front in
-    let close : get_or cs n 0 ≡ 125 = eqb-true (get_or cs n 0) 125 (rest_passes (least && most) closing front) in
+    let front : (least && most && closing) ≡ true = and_first (least && most && closing) value k.0 in
+    let some : (least && most) ≡ true = and_first (least && most) closing front in
+    let close : get_or cs n 0 ≡ 125 = eqb-true (get_or cs n 0) 125 (and_second (least && most) closing front) in
     let inside : n < length cs = elim (cases_lt n (length cs)) [
       | inl less ↦ less
       | inr above ↦ absurd (let past : get_or cs n 0 ≡ 0 = get_or_past cs n 0 above in omega arith)
     ] in
-    let text : take (n + 1) cs ≡ digits ++ (125 ∷ []) = take_more cs n 0 inside ∙ ap (λ ds. ds ++ (get_or cs n 0 ∷ [])) (take-run is_ascii_hexdigit cs) ∙ ap (λ (c : ℕ). digits ++ (c ∷ [])) close in
+    let text : take (n + 1) cs ≡ digits ++ (125 ∷ []) = take_more cs n 0 inside ∙ ap (λ ds. ds ++ (get_or cs n 0 ∷ [])) (take_while_front is_ascii_hexdigit cs) ∙ ap (λ (c : ℕ). digits ++ (c ∷ [])) close in
     let whole : take (n + 3) (117 ∷ 123 ∷ cs) ≡ 117 ∷ 123 ∷ (digits ++ (125 ∷ [])) = take_two n cs ∙ ap (λ bs. 117 ∷ 123 ∷ bs) text in
     subst (λ (x : Escape). Begins like (117 ∷ 123 ∷ cs) x.len) k.1 (record {
       within = omega arith;
-      is = rw whole (code digits (list_all-take_while is_ascii_hexdigit cs) (le_true 1 n (first_passes least most some)) (le_true n 6 (rest_passes least most some)) (rest_passes (least && most && closing) value k.0));
+      is = rw whole (code digits (take_while_passes is_ascii_hexdigit cs) (le_true 1 n (and_first least most some)) (le_true n 6 (and_second least most some)) (and_second (least && most && closing) value k.0));
     })
 
 Begins-scalar : (like : Bool) (cs : List ℕ) (e : Escape) → scalar_of cs ≡ Some e → Begins like (117 ∷ cs) e.len
@@ -146,7 +146,7 @@ Begins-scalar like (c ∷ cs) e h = elim (eqb_tells c 123) [
 pub Begins-escape : (like : Bool) (bytes : List ℕ) (e : Escape) → escape_of bytes ≡ Some e → allows like e.piece ≡ true → Begins like bytes e.len
 unfolding escape_of
 Begins-escape like [] e h a = cc
-Begins-escape like (c ∷ cs) e h a = elim (bool_tells (is_letter c)) [
+Begins-escape like (c ∷ cs) e h a = elim (cases_Bool (is_letter c)) [
   | inl is ↦ let k : record { piece = Char (letter_char c); len = 1 } ≡ e = some_same (rw is at h) in subst (λ (x : Escape). Begins like (c ∷ cs) x.len) k (record { within = omega arith; is = letter c is })
   | inr none ↦ elim (eqb_tells c 42) [
     | inl is ↦
@@ -164,9 +164,6 @@ Begins-escape like (c ∷ cs) e h a = elim (bool_tells (is_letter c)) [
 ]
 
 -- a byte or an escape in front
-
-rest_is : (a : ℕ) (cs : List ℕ) → take (length (a ∷ cs) - 1) (drop 1 (a ∷ cs)) ≡ cs
-rest_is a cs = take_rest (a ∷ cs) 1
 
 pub IsPart_plain : (like : Bool) (bytes : List ℕ) → 0 < length bytes → get_or bytes 0 0 ≢ 92 → IsPart like bytes 1
 IsPart_plain like [] some h = absurd (omega arith)

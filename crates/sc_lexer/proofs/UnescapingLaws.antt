@@ -9,6 +9,7 @@ use Rattle.std.specs.declared.alloc.AllocError.{AllocError}
 use Rattle.std.proofs.lemmas.Bool.Decides.{nat_tests}
 use Rattle.std.proofs.lemmas.List.{take-append-drop, drop_at, length-take-le, map_more}
 use Rattle.std.proofs.lemmas.Str.{encodes-append, encodes-chars, encodes-IsAscii, chars-append, chars-IsAscii, IsUtf8-from_ascii, IsAscii-append, IsCharBoundary-from_take, is_utf8-from_IsUtf8, IsUtf8-from_is_utf8}
+use Rattle.sc_lists.proofs.BoolLaws.{and_second, and_first}
 use Rattle.sc_lexer.specs.declared.piece.Piece.{Piece}
 use Rattle.sc_lexer.specs.declared.piece.Piece.TheVariants.{Char, Star, EscapedStar}
 use Rattle.sc_lexer.specs.declared.piece.Escape.{Escape}
@@ -16,7 +17,6 @@ use Rattle.sc_lexer.specs.Escapes.{is_letter, IsEscape, letter, star, ascii, cod
 use Rattle.sc_lexer.specs.Parts.{allows}
 use Rattle.sc_lexer.specs.Pieces.{inside, pieces_after, pieces_of, piece_char}
 use Rattle.sc_lexer.proofs.SpellingLaws.{IsMeant-escape, Begins-escape}
-use Rattle.sc_lexer.proofs.TestLaws.{first_passes, rest_passes}
 
 -- escapes are ASCII
 
@@ -35,7 +35,7 @@ digit_small c h = grind (arith, nat_tests)
 
 IsAscii-digits : (ds : List ℕ) → list_all is_ascii_hexdigit ds ≡ true → IsAscii ds
 IsAscii-digits [] h = IsAscii-nil
-IsAscii-digits (d ∷ ds) h = IsAscii-cons d ds (digit_small d (first_passes (is_ascii_hexdigit d) (list_all is_ascii_hexdigit ds) h)) (IsAscii-digits ds (rest_passes (is_ascii_hexdigit d) (list_all is_ascii_hexdigit ds) h))
+IsAscii-digits (d ∷ ds) h = IsAscii-cons d ds (digit_small d (and_first (is_ascii_hexdigit d) (list_all is_ascii_hexdigit ds) h)) (IsAscii-digits ds (and_second (is_ascii_hexdigit d) (list_all is_ascii_hexdigit ds) h))
 
 pub IsAscii-escape : {like : Bool} (e : List ℕ) → IsEscape like e → IsAscii e
 IsAscii-escape e (letter c h) = IsAscii-cons c [] (letter_small c h) IsAscii-nil

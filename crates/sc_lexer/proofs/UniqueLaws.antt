@@ -7,6 +7,7 @@ use Rattle.std.specs.List.{list_all}
 use Rattle.std.proofs.lemmas.Bool.Decides.{nat_tests}
 use Rattle.std.proofs.lemmas.List.{take_at, drop_at}
 use Rattle.std.proofs.lemmas.Str.{encode_same, char_from_byte, utf8_valid_len-IsValidUpTo}
+use Rattle.sc_lists.proofs.BoolLaws.{and_second, and_first}
 use Rattle.sc_lists.specs.declared.fault.Fault.{Fault}
 use Rattle.sc_lists.specs.declared.fault.Fault.TheVariants.{Told, NoMemory}
 use Rattle.sc_lists.specs.Told.{Gives}
@@ -21,7 +22,6 @@ use Rattle.sc_lexer.specs.Escapes.{IsEscape, IsSpelled, ends, plain, escape, IsB
 use Rattle.sc_lexer.specs.Reading.{Reads, ends as no_more, no_token, bad_escape, some_token, token_of, before, Lexes, ill_formed, text, LexFails}
 use Rattle.sc_lexer.proofs.FrontLaws.{kind-nil}
 use Rattle.sc_lexer.proofs.SpellingLaws.{IsMeant-escape, some_same}
-use Rattle.sc_lexer.proofs.TestLaws.{first_passes, rest_passes}
 
 -- lists cut at one place
 
@@ -45,14 +45,14 @@ after_line [] rest [] after e h k i j = e
 after_line [] [] (c ∷ other) after e h k i j = cc
 after_line [] (d ∷ rest) (c ∷ other) after e h k i j =
     let same : d ≡ c = cc in
-    absurd (line_end d k (subst (λ (x : ℕ). stays_in_line x ≡ true) (sym same) (first_passes (stays_in_line c) (list_all stays_in_line other) i)))
+    absurd (line_end d k (subst (λ (x : ℕ). stays_in_line x ≡ true) (sym same) (and_first (stays_in_line c) (list_all stays_in_line other) i)))
 after_line (c ∷ line) rest [] [] e h k i j = cc
 after_line (c ∷ line) rest [] (d ∷ after) e h k i j =
     let same : c ≡ d = cc in
-    absurd (line_end c (subst (λ (x : ℕ). ends_line x ≡ true) (sym same) j) (first_passes (stays_in_line c) (list_all stays_in_line line) h))
+    absurd (line_end c (subst (λ (x : ℕ). ends_line x ≡ true) (sym same) j) (and_first (stays_in_line c) (list_all stays_in_line line) h))
 after_line (c ∷ line) rest (d ∷ other) after e h k i j =
     let left : line ++ rest ≡ other ++ after = cc in
-    after_line line rest other after left (rest_passes (stays_in_line c) (list_all stays_in_line line) h) k (rest_passes (stays_in_line d) (list_all stays_in_line other) i) j
+    after_line line rest other after left (and_second (stays_in_line c) (list_all stays_in_line line) h) k (and_second (stays_in_line d) (list_all stays_in_line other) i) j
 
 no_slash : (c : ℕ) (r s : List ℕ) → is_whitespace c ≡ true → encode_utf8 c ++ r ≡ 47 ∷ 47 ∷ s → ⊥
 no_slash c r s w e =

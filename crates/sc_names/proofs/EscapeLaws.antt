@@ -3,7 +3,7 @@ use Rattle.std.proofs.Common.{◌≡◌, ◌≢◌, ℕ, ◌<◌, ◌≤◌, ◌
 use Rattle.std.specs.Prelude.{not, if◌then◌else◌}
 use Rattle.std.specs.Char.{digit_char, digit_value, encode_utf8}
 use Rattle.std.specs.Str.{encode_utf8_all}
-use Rattle.std.proofs.lemmas.Bool.{cases_lt}
+use Rattle.std.proofs.lemmas.Bool.{cases_lt, and_parts}
 use Rattle.std.proofs.lemmas.Bool.Decides.{nat_tests, eqb_tells}
 use Rattle.std.proofs.lemmas.Grind.{flat_map-append}
 use Rattle.std.proofs.lemmas.Str.{encode_ascii, encodes-append, inside_one, digit_value-digit_char}
@@ -38,8 +38,8 @@ escaped_text_plain c low quote backslash delete = elim (cases_lt c 128) [
 pub escaped_text_more : (old now new cs : List ℕ) (c : ℕ) → now ≡ old ++ escaped_text (encode_utf8_all cs) → new ≡ now ++ escaped_text (encode_utf8 c)
     → new ≡ old ++ escaped_text (encode_utf8_all (cs ++ c ∷ []))
 escaped_text_more old now new cs c before put =
-    let both : escaped_text (encode_utf8_all (cs ++ c ∷ [])) ≡ escaped_text (encode_utf8_all cs) ++ escaped_text (encode_utf8 c) = rw (encodes-append, flat_map-append, append-nil) refl in
-    rw (both, put, before) (append_assoc old (escaped_text (encode_utf8_all cs)) (escaped_text (encode_utf8 c)))
+    let joined : escaped_text (encode_utf8_all (cs ++ c ∷ [])) ≡ escaped_text (encode_utf8_all cs) ++ escaped_text (encode_utf8 c) = rw (encodes-append, flat_map-append, append-nil) refl in
+    rw (joined, put, before) (append_assoc old (escaped_text (encode_utf8_all cs)) (escaped_text (encode_utf8 c)))
 
 -- what a letter after a backslash stands for
 meant : ℕ → ℕ
@@ -215,15 +215,11 @@ unfolding guarded
 guarded-escaped_text p [] = refl
 guarded-escaped_text p (b ∷ bs) = guarded-escaped p b (escaped_text bs) (escape_of b) (λ q. guarded-escaped_text q bs)
 
-both : (a b : Bool) → (a && b) ≡ true → (a ≡ true) × (b ≡ true)
-both true b h = (refl, h)
-both false b h = cc
-
 -- what stands before a quote in a guarded text
 behind_quote : (p : ℕ) (xs ys : List ℕ) → guarded p (xs ++ 34 ∷ ys) ≡ true → last_of p xs ≡ 92
 unfolding guarded last_of
-behind_quote p [] ys h = eqb-true p 92 (both (p == 92) _ h).0
-behind_quote p (x ∷ xs) ys h = behind_quote x xs ys (both (not (x == 34) || (p == 92)) _ h).1
+behind_quote p [] ys h = eqb-true p 92 (and_parts (p == 92) _ h).0
+behind_quote p (x ∷ xs) ys h = behind_quote x xs ys (and_parts (not (x == 34) || (p == 92)) _ h).1
 
 -- the quote that opens the id is the only one behind a colon
 opens : (p q : ℕ) (xs ys es fs : List ℕ) → ((r : ℕ) → guarded r es ≡ true) → ((r : ℕ) → guarded r fs ≡ true)

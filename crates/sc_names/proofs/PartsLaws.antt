@@ -5,12 +5,9 @@ use Rattle.std.specs.Int.{is_in_range}
 use Rattle.sc_names.specs.Paths.{IsBadAt}
 use Rattle.sc_names.proofs.BadNameLaws.{not_path_IsBadAt}
 use Rattle.std.specs.List.{list_all}
+use Rattle.std.proofs.lemmas.Bool.{and_parts}
 use Rattle.sc_names.specs.Names.{begins_word, goes_on_word, is_word, is_reserved, is_ident}
 use Rattle.sc_names.specs.Paths.{IsPath, ident, joined, is_separator, with_first, parts, is_path}
-
-both : (a b : Bool) → (a && b) ≡ true → (a ≡ true) × (b ≡ true)
-both true b h = (refl, h)
-both false b h = cc
 
 -- ---- a path's parts are identifiers
 
@@ -33,15 +30,15 @@ unfolding parts
 parts-word [] h = refl
 parts-word (c ∷ []) h = refl
 parts-word (c ∷ d ∷ cs) h =
-    let of_first = both (goes_on_word c) (list_all goes_on_word (d ∷ cs)) h in
+    let of_first = and_parts (goes_on_word c) (list_all goes_on_word (d ∷ cs)) h in
     parts-next c d cs of_first.0 ∙ ap (with_first c) (parts-word (d ∷ cs) of_first.1)
 
 parts-joined : (w p : List ℕ) → list_all goes_on_word w ≡ true → parts (w ++ (codes "::" ++ p)) ≡ w ∷ parts p
 unfolding parts
 parts-joined [] p h = refl
-parts-joined (c ∷ []) p h = parts-next c 58 (58 ∷ p) (both (goes_on_word c) true h).0
+parts-joined (c ∷ []) p h = parts-next c 58 (58 ∷ p) (and_parts (goes_on_word c) true h).0
 parts-joined (c ∷ d ∷ cs) p h =
-    let of_first = both (goes_on_word c) (list_all goes_on_word (d ∷ cs)) h in
+    let of_first = and_parts (goes_on_word c) (list_all goes_on_word (d ∷ cs)) h in
     parts-next c d (cs ++ (codes "::" ++ p)) of_first.0 ∙ ap (with_first c) (parts-joined (d ∷ cs) p of_first.1)
 
 one_of_more : (d a b u : Bool) → ((a || b) || u) ≡ true → (((d || a) || b) || u) ≡ true
@@ -54,7 +51,7 @@ goes_on c h = one_of_more (is_in_range 48 57 c) (is_in_range 65 90 c) (is_in_ran
 word_goes_on : (w : List ℕ) → is_ident w ≡ true → list_all goes_on_word w ≡ true
 word_goes_on [] h = absurd cc
 word_goes_on (c ∷ cs) h =
-    let word = both (begins_word c) (list_all goes_on_word cs) (both (is_word (c ∷ cs)) (not (is_reserved (c ∷ cs))) h).0 in
+    let word = and_parts (begins_word c) (list_all goes_on_word cs) (and_parts (is_word (c ∷ cs)) (not (is_reserved (c ∷ cs))) h).0 in
     rw (goes_on c word.0, word.1) refl
 
 path_parts : (t : List ℕ) → IsPath t → is_path t ≡ true
@@ -99,7 +96,7 @@ joined-separated ps b = rw b.is refl
 joined-step : (c d : ℕ) (cs : List ℕ) (b : Bool) → is_separator c d ≡ b → joined_by (parts cs) ≡ cs → joined_by (parts (d ∷ cs)) ≡ d ∷ cs
     → joined_by (cond b ([] ∷ parts cs) (with_first c (parts (d ∷ cs)))) ≡ c ∷ d ∷ cs
 joined-step c d cs true e after rest =
-    let colons = both (c == 58) (d == 58) e in
+    let colons = and_parts (c == 58) (d == 58) e in
     let first : c ≡ 58 = eqb-true c 58 colons.0 in
     let second : d ≡ 58 = eqb-true d 58 colons.1 in
     joined-separated (parts cs) (begins cs) ∙ (ap (λ xs. codes "::" ++ xs) after ∙ rw (first, second) refl)
@@ -112,9 +109,9 @@ joined-parts (c ∷ []) = refl
 joined-parts (c ∷ d ∷ cs) = joined-step c d cs (is_separator c d) refl (joined-parts cs) (joined-parts (d ∷ cs))
 
 path-joined : (p : List ℕ) (ps : List (List ℕ)) → list_all is_ident (p ∷ ps) ≡ true → IsPath (joined_by (p ∷ ps))
-path-joined p [] h = ident p (both (is_ident p) true h).0
+path-joined p [] h = ident p (and_parts (is_ident p) true h).0
 path-joined p (q ∷ qs) h =
-    let each = both (is_ident p) (list_all is_ident (q ∷ qs)) h in
+    let each = and_parts (is_ident p) (list_all is_ident (q ∷ qs)) h in
     joined p (joined_by (q ∷ qs)) each.0 (path-joined q qs each.1)
 
 parts_path : (t : List ℕ) → is_path t ≡ true → IsPath t

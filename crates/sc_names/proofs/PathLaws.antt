@@ -4,14 +4,10 @@ use Rattle.std.specs.Prelude.{codes, not, if◌then◌else◌}
 use Rattle.std.specs.List.{list_all}
 use Rattle.std.specs.Str.{bytes_eq}
 use Rattle.std.proofs.lemmas.List.Folds.{list_all-append}
-use Rattle.std.proofs.lemmas.Bool.{not-true}
+use Rattle.std.proofs.lemmas.Bool.{not-true, and_parts, and_right}
 use Rattle.sc_names.specs.Names.{begins_word, goes_on_word, is_word, is_ident}
 use Rattle.sc_names.specs.Paths.{IsPath, ident, joined, BeginsPath}
 use Rattle.sc_names.specs.Scanning.{Place, start, word, colon, nowhere, next, place, is_end, is_somewhere}
-
-both : (a b : Bool) → (a && b) ≡ true → (a ≡ true) × (b ≡ true)
-both true b h = (refl, h)
-both false b h = cc
 
 pub place-append : (p : Place) (xs ys : List ℕ) → place p (xs ++ ys) ≡ place (place p xs) ys
 unfolding place
@@ -32,7 +28,7 @@ pub place-word : (w cs : List ℕ) → list_all goes_on_word cs ≡ true → pla
 unfolding place
 place-word w [] h = rw append-nil refl
 place-word w (c ∷ cs) h =
-    let parts = both (goes_on_word c) (list_all goes_on_word cs) h in
+    let parts = and_parts (goes_on_word c) (list_all goes_on_word cs) h in
     rw (next-word w c parts.0) (place-word (w ++ c ∷ []) cs parts.1 ∙ ap word (append_assoc w (c ∷ []) cs))
 
 -- a word from the start
@@ -40,7 +36,7 @@ pub place-start : (w : List ℕ) → is_word w ≡ true → place start w ≡ wo
 unfolding place next
 place-start [] h = cc
 place-start (c ∷ cs) h =
-    let parts = both (begins_word c) (list_all goes_on_word cs) h in
+    let parts = and_parts (begins_word c) (list_all goes_on_word cs) h in
     rw parts.0 (place-word (c ∷ []) cs parts.1)
 
 -- an identifier and `::` lead to the start again
@@ -51,14 +47,14 @@ next-colon w h = rw h refl
 pub place-joined : (w cs : List ℕ) → is_ident w ≡ true → place start (w ++ (codes "::" ++ cs)) ≡ place start cs
 unfolding place next
 place-joined w cs h =
-    let is : is_word w ≡ true = (both (is_word w) _ h).0 in
+    let is : is_word w ≡ true = (and_parts (is_word w) _ h).0 in
     place-append start w (codes "::" ++ cs)
     ∙ (rw (place-start w is, next-colon w h) refl)
 
 -- a path ends where a path may end
 pub is_end-path : (t : List ℕ) → IsPath t → is_end (place start t) ≡ true
 unfolding is_end
-is_end-path _ (ident w h) = rw (place-start w (both (is_word w) _ h).0) h
+is_end-path _ (ident w h) = rw (place-start w (and_parts (is_word w) _ h).0) h
 is_end-path _ (joined w p h path) = rw (place-joined w p h) (is_end-path p path)
 
 -- what is still to come of a path
@@ -76,7 +72,7 @@ by_word false c cs h = absurd h
 by_colon : (b : Bool) (w : List ℕ) (c : ℕ) (cs : List ℕ) → ((c == 58) && is_ident w) ≡ b → Completes (if b then colon else nowhere) cs → IsPath (w ++ c ∷ cs)
 unfolding Completes
 by_colon true w c cs e h =
-    let parts = both (c == 58) (is_ident w) e in
+    let parts = and_parts (c == 58) (is_ident w) e in
     rw (eqb-true c 58 parts.0, h.1) (joined w h.0 parts.1 h.2)
 by_colon false w c cs e h = absurd h
 
@@ -120,7 +116,7 @@ IsProper nowhere = Unit {0}
 is_word-more : (w : List ℕ) (c : ℕ) → is_word w ≡ true → goes_on_word c ≡ true → is_word (w ++ c ∷ []) ≡ true
 is_word-more [] c h g = cc
 is_word-more (b ∷ bs) c h g =
-    let parts = both (begins_word b) (list_all goes_on_word bs) h in
+    let parts = and_parts (begins_word b) (list_all goes_on_word bs) h in
     rw (parts.0, list_all-append goes_on_word bs (c ∷ []), parts.1, g) refl
 
 IsProper-first : (b : Bool) (c : ℕ) → begins_word c ≡ b → IsProper (if b then word (c ∷ []) else nowhere)
@@ -161,18 +157,14 @@ has_no_zero r = list_all (λ c. not (nat_eq 48 c)) r
 
 no_zero : (c : ℕ) (r : List ℕ) → has_no_zero (c ∷ r) ≡ true → nat_eq 48 c ≡ false
 unfolding has_no_zero
-no_zero c r h = not-true (nat_eq 48 c) (both (not (nat_eq 48 c)) _ h).0
-
-and-false : (b c : Bool) → c ≡ false → (b && c) ≡ false
-and-false true c h = h
-and-false false c h = refl
+no_zero c r h = not-true (nat_eq 48 c) (and_parts (not (nat_eq 48 c)) _ h).0
 
 bytes_eq-zero : (w r : List ℕ) → has_no_zero r ≡ true → bytes_eq (w ++ 48 ∷ []) r ≡ false
 unfolding has_no_zero
 bytes_eq-zero [] [] h = refl
 bytes_eq-zero [] (c ∷ r) h = rw (no_zero c r h) refl
 bytes_eq-zero (b ∷ w) [] h = refl
-bytes_eq-zero (b ∷ w) (c ∷ r) h = and-false (nat_eq b c) _ (bytes_eq-zero w r (both (not (nat_eq 48 c)) (has_no_zero r) h).1)
+bytes_eq-zero (b ∷ w) (c ∷ r) h = and_right (nat_eq b c) _ (bytes_eq-zero w r (and_parts (not (nat_eq 48 c)) (has_no_zero r) h).1)
 
 is_ident-zero : (w : List ℕ) → is_word w ≡ true → is_ident (w ++ 48 ∷ []) ≡ true
 unfolding has_no_zero

@@ -5,6 +5,7 @@ use Rattle.std.proofs.lemmas.List.{take_rest, take-append-drop, length-take-le}
 use Rattle.std.proofs.lemmas.List.Sums.{take_while-cons, prefix_len-le-length}
 use Rattle.std.proofs.lemmas.List.Folds.{length-prefix_len}
 use Rattle.std.proofs.Math.Seq.{take-add, take-length}
+use Rattle.sc_lists.proofs.TextLaws.{take_while_passes, take_while_front, take_while_stops, take_while_within}
 use Rattle.sc_names.specs.Names.{begins_word, goes_on_word, is_word, is_ident}
 use Rattle.sc_names.specs.Paths.{IsPath, IsBadAt}
 use Rattle.sc_names.specs.Scanning.{Place, start, word, colon, nowhere, next, place, is_end, is_somewhere, word_len, colons, Stops, Stands, EndsIdent}
@@ -44,26 +45,6 @@ IsBadAt-Ends : (t : List ℕ) (at n : ℕ) (p : Place) → Stands t at p → End
 IsBadAt-Ends t at n p s e =
     IsBadAt-stands t (at + n) (place p (take n (drop at t))) (Stands-add t at n p s e.within) e.somewhere (rw (← drop-drop n at t) e.stops)
 
--- what passes from the front on, and what comes after it
-list_all-take_while : (p : ℕ → Bool) (cs : List ℕ) → list_all p (take_while p cs) ≡ true
-list_all-take_while p [] = refl
-list_all-take_while p (c ∷ cs) =
-    rw take_while-cons (elim (p c) as (λ b. p c ≡ b → list_all p (cond b (c ∷ take_while p cs) []) ≡ true) [
-      | true ↦ λ e. rw (e, list_all-take_while p cs) refl
-      | false ↦ λ e. refl
-    ] refl)
-
-take-take_while : (p : ℕ → Bool) (cs : List ℕ) → take (length (take_while p cs)) cs ≡ take_while p cs
-take-take_while p cs = rw (length-prefix_len p cs) refl
-
-take_while-drop : (p : ℕ → Bool) (cs : List ℕ) → take_while p (drop (length (take_while p cs)) cs) ≡ []
-take_while-drop p [] = refl
-take_while-drop p (c ∷ cs) =
-    rw take_while-cons (elim (p c) as (λ b. p c ≡ b → take_while p (drop (length (cond b (c ∷ take_while p cs) [])) (c ∷ cs)) ≡ []) [
-      | true ↦ λ e. take_while-drop p cs
-      | false ↦ λ e. take_while-cons p c cs ∙ rw e refl
-    ] refl)
-
 stops_here : (p : ℕ → Bool) (c : ℕ) (cs : List ℕ) → take_while p (c ∷ cs) ≡ [] → p c ≡ false
 stops_here p c cs h = elim (p c) as (λ b. p c ≡ b → b ≡ false) [
   | true ↦ λ e. absurd (let k : c ∷ take_while p cs ≡ [] = (rw (take_while-cons, e) at h) in cc)
@@ -81,11 +62,11 @@ word_of c cs = c ∷ take_while goes_on_word cs
 
 is_word-word_of : (c : ℕ) (cs : List ℕ) → begins_word c ≡ true → is_word (word_of c cs) ≡ true
 unfolding word_of
-is_word-word_of c cs h = rw (h, list_all-take_while goes_on_word cs) refl
+is_word-word_of c cs h = rw (h, take_while_passes goes_on_word cs) refl
 
 word_len-cons : (c : ℕ) (cs : List ℕ) → begins_word c ≡ true → take (word_len (c ∷ cs)) (c ∷ cs) ≡ word_of c cs
 unfolding word_len word_of
-word_len-cons c cs h = rw (h, add-one, take-take_while goes_on_word cs) refl
+word_len-cons c cs h = rw (h, add-one, take_while_front goes_on_word cs) refl
 
 word_len-none : (c : ℕ) (cs : List ℕ) → begins_word c ≡ false → word_len (c ∷ cs) ≡ 0
 unfolding word_len
@@ -95,11 +76,8 @@ word_len-some : (c : ℕ) (cs : List ℕ) → begins_word c ≡ true → word_le
 unfolding word_len
 word_len-some c cs h = rw h refl
 
-length-take_while-le : (p : ℕ → Bool) (cs : List ℕ) → length (take_while p cs) ≤ length cs
-length-take_while-le p cs = rw (length-prefix_len p cs) (prefix_len-le-length p cs)
-
 word_len-le_of : (c : ℕ) (cs : List ℕ) (b : Bool) → begins_word c ≡ b → word_len (c ∷ cs) ≤ length (c ∷ cs)
-word_len-le_of c cs true e = rw (word_len-some c cs e) (omega (arith, length-take_while-le goes_on_word cs))
+word_len-le_of c cs true e = rw (word_len-some c cs e) (omega (arith, take_while_within goes_on_word cs))
 word_len-le_of c cs false e = rw (word_len-none c cs e) (omega arith)
 
 word_len-le : (bytes : List ℕ) → word_len bytes ≤ length bytes
@@ -108,7 +86,7 @@ word_len-le [] = omega arith
 word_len-le (c ∷ cs) = word_len-le_of c cs (begins_word c) refl
 
 longest : (c : ℕ) (cs : List ℕ) → begins_word c ≡ true → take_while goes_on_word (drop (word_len (c ∷ cs)) (c ∷ cs)) ≡ []
-longest c cs e = rw (word_len-some c cs e, add-one) (take_while-drop goes_on_word cs)
+longest c cs e = rw (word_len-some c cs e, add-one) (take_while_stops goes_on_word cs)
 
 Stops-start : (c : ℕ) (cs : List ℕ) → begins_word c ≡ false → Stops start (c ∷ cs)
 unfolding Stops next

@@ -5,20 +5,16 @@ use Rattle.std.specs.declared.cmp.Ordering.TheVariants.{Less, Equal, Greater}
 use Rattle.std.specs.Ordering.{ordering_then}
 use Rattle.std.specs.Cmp.{IsTotalOrder}
 use Rattle.std.proofs.lemmas.Map.Lookups.{CmpEqualImpliesEq, exact_bytes}
+use Rattle.sc_lists.proofs.OrderingLaws.{ordering_then_equal}
 use Rattle.sc_names.specs.contracts.uid.UidOrd.TheImpl.Laws.{total-law}
 use Rattle.sc_names.specs.Uids.{uid_cmp}
 
 pub uid_cmp_total : IsTotalOrder uid_cmp
 uid_cmp_total = total-law
 
-both_level : (a b : Ordering) → ordering_then a b ≡ Equal → (a ≡ Equal) × (b ≡ Equal)
-both_level Less b h = cc
-both_level Equal b h = (refl, h)
-both_level Greater b h = cc
-
 pub uid_cmp_level : CmpEqualImpliesEq uid_cmp
 uid_cmp_level a b h =
-    let level = both_level _ _ h in
+    let level = ordering_then_equal _ _ h in
     let one_type : a.type_name ≡ b.type_name = exact_bytes _ _ level.0 in
     let one_id : a.id ≡ b.id = exact_bytes _ _ level.1 in
     λ i. record { type_name = one_type i; id = one_id i }

@@ -1,6 +1,6 @@
 -- What reading a file tells of the files that there are.
 use Rattle.std.proofs.Common.{◌≡◌, ◌+◌, ◌<◌, ◌≤◌, ◌||◌, ◌&&◌, ◌==◌, ℕ, nat_lt, Bool, List, [], length, slice_get, None, true, false, refl, arith, le_refl}
-use Rattle.std.proofs.lemmas.Bool.{lt-ltb}
+use Rattle.std.proofs.lemmas.Bool.{lt-ltb, or_right, and_from}
 use Rattle.std.proofs.lemmas.Bool.Decides.{Decides-eqb}
 use Rattle.std.proofs.lemmas.Option.{slice_get_past}
 use Rattle.sc_ast.specs.declared.policy.Policy.{Policy}
@@ -70,16 +70,8 @@ not_ended a p = halted a (λ e. absurd cc) (record { same = λ k le. refl }) p
 pub not_kept : {K : Limits} {ts : List Lexeme} {f : Stop} {n : ℕ} → ReadsPolicies ts 0 [] (halt f n) → is_limit f ≡ true → K f n ≡ true → Begins K ts (n + 1) → ⊥
 not_kept a l k b = halted a (λ e. k) (agrees b.2) b.3
 
-or_true : (a b : Bool) → b ≡ true → a || b ≡ true
-or_true true b h = refl
-or_true false b h = h
-
-and_true : (a b : Bool) → a ≡ true → b ≡ true → a && b ≡ true
-and_true true b g h = h
-and_true false b g h = absurd cc
-
 up_to_itself : (f : Stop) (n : ℕ) → up_to f n f n ≡ true
-up_to_itself f n = or_true (nat_lt n n) _ (and_true (n == n) _ ((Decides-eqb n n).1 refl) (lt-ltb (rank f) (rank f + 1) (omega arith)))
+up_to_itself f n = or_right (nat_lt n n) _ (and_from (n == n) _ ((Decides-eqb n n).1 refl) (lt-ltb (rank f) (rank f + 1) (omega arith)))
 
 pub not_up_to : {ts : List Lexeme} {f : Stop} {n : ℕ} → ReadsPolicies ts 0 [] (halt f n) → is_limit f ≡ true → Begins (up_to f n) ts (n + 1) → ⊥
 not_up_to {f = f} {n = n} a l b = not_kept a l (up_to_itself f n) b

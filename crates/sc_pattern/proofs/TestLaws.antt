@@ -1,5 +1,7 @@
 -- The test passes exactly the texts that the pattern matches.
 use Rattle.std.proofs.Common.{◌≡◌, ◌==◌, ◌&&◌, ◌||◌, ◌↔◌, ◌⊎◌, inl, inr, ℕ, List, [], ◌∷◌, ◌++◌, Bool, true, false, IsTrue, refl, sym, ap, ◌∙◌, subst, eqb-true, eq-eqb}
+use Rattle.std.proofs.lemmas.Bool.{and_parts, and_from, or_cases, or_left, or_right}
+use Rattle.sc_lists.proofs.BoolLaws.{same_truth}
 use Rattle.sc_pattern.specs.declared.part.Part.{Part}
 use Rattle.sc_pattern.specs.declared.part.Part.TheVariants.{Star, Char}
 use Rattle.sc_pattern.specs.Language.{IsMatch, is_end, behind, somewhere, is_match}
@@ -12,26 +14,6 @@ end_decides : Decides is_end (λ text. text ≡ [])
 end_decides [] = (λ t. refl, λ e. refl)
 end_decides (c ∷ rest) = (λ t. cc, λ e. cc)
 
-and_parts : (a b : Bool) → IsTrue (a && b) → IsTrue a × IsTrue b
-and_parts true b h = (refl, h)
-and_parts false b h = cc
-
-and_whole : (a b : Bool) → IsTrue a → IsTrue b → IsTrue (a && b)
-and_whole true b p q = q
-and_whole false b p q = cc
-
-or_parts : (a b : Bool) → IsTrue (a || b) → IsTrue a ⊎ IsTrue b
-or_parts true b h = inl refl
-or_parts false b h = inr h
-
-or_left : (a b : Bool) → IsTrue a → IsTrue (a || b)
-or_left true b p = refl
-or_left false b p = cc
-
-or_right : (a b : Bool) → IsTrue b → IsTrue (a || b)
-or_right true b q = refl
-or_right false b q = q
-
 behind_decides : (c : ℕ) (test : List ℕ → Bool) (P : List ℕ → Type 0) → Decides test P → Decides (behind c test) (λ text. (rest : List ℕ) × (text ≡ c ∷ rest) × P rest)
 behind_decides c test P h [] = (λ t. cc, λ e. let none : [] ≡ c ∷ e.0 = e.1 in cc)
 behind_decides c test P h (d ∷ rest) = (
@@ -39,7 +21,7 @@ behind_decides c test P h (d ∷ rest) = (
   λ e.
       let first : d ≡ c = let is : d ∷ rest ≡ c ∷ e.0 = e.1 in cc in
       let then : e.0 ≡ rest = let is : d ∷ rest ≡ c ∷ e.0 = e.1 in cc in
-      and_whole (d == c) (test rest) (eq-eqb d c first) ((h rest).1 (subst P then e.2)),
+      and_from (d == c) (test rest) (eq-eqb d c first) ((h rest).1 (subst P then e.2)),
 )
 
 nothing_left : (taken rest : List ℕ) → [] ≡ taken ++ rest → rest ≡ []
@@ -55,7 +37,7 @@ tried_later c test P rest h later (d ∷ taken) left e p = or_right (test (c ∷
 somewhere_decides : (test : List ℕ → Bool) (P : List ℕ → Type 0) → Decides test P → Decides (somewhere test) (λ text. (taken rest : List ℕ) × (text ≡ taken ++ rest) × P rest)
 somewhere_decides test P h [] = (λ t. ([], [], refl, (h []).0 t), λ e. (h []).1 (subst P (nothing_left e.0 e.1 e.2) e.3))
 somewhere_decides test P h (c ∷ rest) = (
-  λ t. elim (or_parts (test (c ∷ rest)) (somewhere test rest) t) [
+  λ t. elim (or_cases (test (c ∷ rest)) (somewhere test rest) t) [
     | inl now ↦ ([], c ∷ rest, refl, (h (c ∷ rest)).0 now)
     | inr then ↦ let m = (somewhere_decides test P h rest).0 then in (c ∷ m.0, m.1, ap (λ l. c ∷ l) m.2, m.3)
   ],
@@ -67,12 +49,6 @@ unfolding is_match IsMatch
 is_match_decides [] text = end_decides text
 is_match_decides (Char c ∷ parts) text = behind_decides c (is_match parts) (IsMatch parts) (is_match_decides parts) text
 is_match_decides (Star ∷ parts) text = somewhere_decides (is_match parts) (IsMatch parts) (is_match_decides parts) text
-
-same_truth : {P : Type 0} (b c : Bool) → (IsTrue b ↔ P) → (IsTrue c ↔ P) → b ≡ c
-same_truth true true p q = refl
-same_truth true false p q = sym (q.1 (p.0 refl))
-same_truth false true p q = p.1 (q.0 refl)
-same_truth false false p q = refl
 
 pub match_is : (r : Bool) (parts pattern : List Part) (text : List ℕ) → parts ≡ pattern → (IsTrue r ↔ IsMatch parts text) → r ≡ is_match pattern text
 match_is r parts pattern text e h = same_truth r (is_match parts text) h (is_match_decides parts text) ∙ ap (λ p. is_match p text) e

@@ -3,6 +3,7 @@ use Rattle.std.proofs.Common.{◌≡◌, ◌↔◌, List, [], ◌∷◌, ◌++�
 use Rattle.std.specs.List.{AllByRecursion}
 use Rattle.std.proofs.lemmas.List.Elements.{All-contains, All-from_recursion, Contains-append_left, Contains-append_right, Contains-append_cases}
 use Rattle.std.specs.Prelude.{flat_map}
+use Rattle.sc_lists.proofs.ListLaws.{contains_rest, contains_first}
 use Rattle.sc_ast.specs.declared.policy.Policy.{Policy}
 use Rattle.sc_ast.specs.Literals.{literals}
 use Rattle.sc_names.specs.declared.uid.Uid.{Uid}
@@ -10,13 +11,12 @@ use Rattle.sc_schema.specs.Declarations.{Declarations, action_uids}
 use Rattle.sc_world.specs.declared.world.World.{World}
 use Rattle.sc_world.specs.Named.{request_uids}
 use Rattle.sc_world.specs.WellFormed.{IsStored}
-use Rattle.sc_schema.proofs.OrderLaws.{of_first, of_rest}
 use Rattle.sc_world_breaks.specs.declared.breaks.Break.{Break}
 use Rattle.sc_world_breaks.specs.Breaks.{uids_in_entry, wanted, IsFirstBreak, in_request, in_entity, missing, nowhere}
 
 each_of : (P : Uid → Type 0) (us : List Uid) → ((u : Uid) → Contains us u → P u) → AllByRecursion P us
 each_of P [] f = tt
-each_of P (u ∷ us) f = (f u (of_first u us), each_of P us (λ v has. f v (of_rest u us v has)))
+each_of P (u ∷ us) f = (f u (contains_first u us), each_of P us (λ v has. f v (contains_rest u us v has)))
 
 abbrev IsWithin : List Uid → List Uid → Type 0
 IsWithin xs ys = (u : Uid) → Contains xs u → Contains ys u

@@ -22,8 +22,10 @@ use Rattle.std.proofs.lemmas.Grind.{flat_map-append}
 use Rattle.std.proofs.lemmas.List.Sums.{fold-append}
 use Rattle.std.proofs.lemmas.Map.Text.{is_eq-slice_cmp}
 use Rattle.std.proofs.lemmas.Slice.Eq.{bytes_eq-Decides}
+use Rattle.sc_lists.proofs.ListLaws.{contains_nothing, contains_split, contains_rest, contains_first}
+use Rattle.sc_lists.proofs.TextLaws.{bytes_eq_swap}
 use Rattle.sc_schema.specs.Lawful.{AreAscending}
-use Rattle.sc_schema.proofs.OrderLaws.{level_itself, above_from_below, below_from_above, sorted_from_strict, split, of_first, of_rest, no_element}
+use Rattle.sc_schema.proofs.OrderLaws.{level_itself, above_from_below, below_from_above, sorted_from_strict}
 use Rattle.sc_schema.proofs.PlaceLaws.{all_at, searched}
 
 abbrev Names : Type 0
@@ -132,42 +134,42 @@ in_order_ascending ns = ascending-fold [] ns none_ascend
 -- what is put is there, and what was there still is
 put_there : (xs : Names) (n : List ℕ) → Contains (with_name xs n) n
 unfolding with_name
-put_there [] n = of_first n []
+put_there [] n = contains_first n []
 put_there (x ∷ xs) n =
-    by_order (λ ys. Contains ys n) (text_cmp n x) _ _ _ (λ _. of_first n (x ∷ xs))
-    (λ level. subst (λ y. Contains (y ∷ xs) n) (exact_bytes n x level) (of_first n xs))
-    (λ _. of_rest x (with_name xs n) n (put_there xs n))
+    by_order (λ ys. Contains ys n) (text_cmp n x) _ _ _ (λ _. contains_first n (x ∷ xs))
+    (λ level. subst (λ y. Contains (y ∷ xs) n) (exact_bytes n x level) (contains_first n xs))
+    (λ _. contains_rest x (with_name xs n) n (put_there xs n))
 
 was_there : (xs : Names) (n y : List ℕ) → Contains xs y → Contains (with_name xs n) y
 unfolding with_name
-was_there [] n y h = absurd (no_element y h)
+was_there [] n y h = absurd (contains_nothing y h)
 was_there (x ∷ xs) n y h =
-    by_order (λ ys. Contains ys y) (text_cmp n x) _ _ _ (λ _. of_rest n (x ∷ xs) y h) (λ _. h)
-    (λ _. elim (split x xs y h) [ inl is ↦ subst (λ z. Contains (z ∷ with_name xs n) y) (sym is) (of_first y (with_name xs n)) | inr later ↦ of_rest x (with_name xs n) y (was_there xs n y later) ])
+    by_order (λ ys. Contains ys y) (text_cmp n x) _ _ _ (λ _. contains_rest n (x ∷ xs) y h) (λ _. h)
+    (λ _. elim (contains_split x xs y h) [ inl is ↦ subst (λ z. Contains (z ∷ with_name xs n) y) (sym is) (contains_first y (with_name xs n)) | inr later ↦ contains_rest x (with_name xs n) y (was_there xs n y later) ])
 
 -- and nothing else is
 with_one_more : (x : List ℕ) (xs : Names) (n y : List ℕ) → (n ≡ y) ⊎ Contains xs y → (n ≡ y) ⊎ Contains (x ∷ xs) y
 with_one_more x xs n y (inl is) = inl is
-with_one_more x xs n y (inr has) = inr (of_rest x xs y has)
+with_one_more x xs n y (inr has) = inr (contains_rest x xs y has)
 
 first_or_later : (x : List ℕ) (xs : Names) (n y : List ℕ) → (Contains (with_name xs n) y → (n ≡ y) ⊎ Contains xs y) → (x ≡ y) ⊎ Contains (with_name xs n) y → (n ≡ y) ⊎ Contains (x ∷ xs) y
-first_or_later x xs n y f (inl is) = inr (subst (λ z. Contains (z ∷ xs) y) (sym is) (of_first y xs))
+first_or_later x xs n y f (inl is) = inr (subst (λ z. Contains (z ∷ xs) y) (sym is) (contains_first y xs))
 first_or_later x xs n y f (inr has) = with_one_more x xs n y (f has)
 
 only_put : (xs : Names) (n y : List ℕ) → Contains (with_name xs n) y → (n ≡ y) ⊎ Contains xs y
 unfolding with_name
-only_put [] n y h = split n [] y h
+only_put [] n y h = contains_split n [] y h
 only_put (x ∷ xs) n y h =
-    by_order (λ ys. Contains ys y → (n ≡ y) ⊎ Contains (x ∷ xs) y) (text_cmp n x) _ _ _ (λ _ k. split n (x ∷ xs) y k) (λ _ k. inr k)
-    (λ _ k. first_or_later x xs n y (only_put xs n y) (split x (with_name xs n) y k)) h
+    by_order (λ ys. Contains ys y → (n ≡ y) ⊎ Contains (x ∷ xs) y) (text_cmp n x) _ _ _ (λ _ k. contains_split n (x ∷ xs) y k) (λ _ k. inr k)
+    (λ _ k. first_or_later x xs n y (only_put xs n y) (contains_split x (with_name xs n) y k)) h
 
 fold-was_there : (xs ns : Names) (y : List ℕ) → Contains xs y → Contains (fold with_name xs ns) y
 fold-was_there xs [] y h = h
 fold-was_there xs (n ∷ ns) y h = fold-was_there (with_name xs n) ns y (was_there xs n y h)
 
 fold-put : (xs ns : Names) (y : List ℕ) → Contains ns y → Contains (fold with_name xs ns) y
-fold-put xs [] y h = absurd (no_element y h)
-fold-put xs (n ∷ ns) y h = elim (split n ns y h) [
+fold-put xs [] y h = absurd (contains_nothing y h)
+fold-put xs (n ∷ ns) y h = elim (contains_split n ns y h) [
   | inl is ↦ fold-was_there (with_name xs n) ns y (subst (λ z. Contains (with_name xs n) z) is (put_there xs n))
   | inr later ↦ fold-put (with_name xs n) ns y later
 ]
@@ -175,12 +177,12 @@ fold-put xs (n ∷ ns) y h = elim (split n ns y h) [
 fold-only : (xs ns : Names) (y : List ℕ) → Contains (fold with_name xs ns) y → Contains xs y ⊎ Contains ns y
 fold-only xs [] y h = inl h
 fold-only xs (n ∷ ns) y h = elim (fold-only (with_name xs n) ns y h) [
-  | inl before ↦ elim (only_put xs n y before) [ inl is ↦ inr (subst (λ z. Contains (z ∷ ns) y) (sym is) (of_first y ns)) | inr has ↦ inl has ]
-  | inr later ↦ inr (of_rest n ns y later)
+  | inl before ↦ elim (only_put xs n y before) [ inl is ↦ inr (subst (λ z. Contains (z ∷ ns) y) (sym is) (contains_first y ns)) | inr has ↦ inl has ]
+  | inr later ↦ inr (contains_rest n ns y later)
 ]
 
 pub in_order_members : (ns : Names) (y : List ℕ) → Contains (in_order ns) y ↔ Contains ns y
-in_order_members ns y = (λ h. elim (fold-only [] ns y h) [ inl none ↦ absurd (no_element y none) | inr has ↦ has ], λ h. fold-put [] ns y h)
+in_order_members ns y = (λ h. elim (fold-only [] ns y h) [ inl none ↦ absurd (contains_nothing y none) | inr has ↦ has ], λ h. fold-put [] ns y h)
 
 -- ---- the types above those of actions
 
@@ -218,16 +220,9 @@ types_above_actions-more xs a q =
       step false true ns e = ap (λ ms. Some (fold with_name ns ms)) (append-nil (above_one a)) ∙ ap (λ ms. Some (fold with_name ms (above_one a))) (sym e)
       step false false ns e = refl
 
-bytes_eq-turned : (x y : List ℕ) → bytes_eq x y ≡ bytes_eq y x
-bytes_eq-turned x y = both_ways (bytes_eq x y) (bytes_eq y x) (λ h. (bytes_eq-Decides y x).1 (sym ((bytes_eq-Decides x y).0 h))) (λ h. (bytes_eq-Decides x y).1 (sym ((bytes_eq-Decides y x).0 h))) where
-  both_ways : (a b : Bool) → (a ≡ true → b ≡ true) → (b ≡ true → a ≡ true) → a ≡ b
-  both_ways true b h k = sym (h refl)
-  both_ways false true h k = k refl
-  both_ways false false h k = refl
-
 -- the same text either way round
 one_text : (x y : List ℕ) → is_eq (text_cmp x y) ≡ bytes_eq y x
-one_text x y = is_eq-slice_cmp x y ∙ bytes_eq-turned x y
+one_text x y = is_eq-slice_cmp x y ∙ bytes_eq_swap x y
 
 -- the map with what it takes for one action more
 pub IsAbove-more : (xs : List Action) (a : Action) (before after : Above) (names : Names)

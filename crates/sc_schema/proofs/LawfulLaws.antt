@@ -1,6 +1,6 @@
 -- What it takes for declarations to be lawful, part by part; for names that are known it is computed.
 use Rattle.std.proofs.Common.{◌≡◌, ◌&&◌, ◌<◌, ltb, ℕ, zero, suc, List, [], ◌∷◌, slice_index, Bool, true, false, refl, arith}
-use Rattle.std.proofs.lemmas.Bool.{ltb-true}
+use Rattle.std.proofs.lemmas.Bool.{ltb-true, and_parts}
 use Rattle.std.specs.List.{AllByRecursion, list_all}
 use Rattle.std.specs.List.Sorted.{IsStrictlySortedBy}
 use Rattle.std.specs.Ordering.{is_lt}
@@ -20,16 +20,12 @@ use Rattle.sc_schema.specs.Lawful.{AreAscending, names_of_fields, IsTypeLevel, I
 use Rattle.sc_schema.specs.Plain.{plain_type}
 use Rattle.sc_schema.proofs.EveryTypeLaws.{every_Record}
 
-both : (a b : Bool) → (a && b) ≡ true → (a ≡ true) × (b ≡ true)
-both true b h = (refl, h)
-both false b h = absurd cc
-
 -- ---- texts that are known
 
 byte_below : (bs : List ℕ) (i : ℕ) → list_all (λ b. ltb b 128) bs ≡ true → slice_index bs i < 128
 byte_below [] i h = omega arith
-byte_below (b ∷ bs) zero h = ltb-true b 128 (both (ltb b 128) (list_all (λ b. ltb b 128) bs) h).0
-byte_below (b ∷ bs) (suc i) h = byte_below bs i (both (ltb b 128) (list_all (λ b. ltb b 128) bs) h).1
+byte_below (b ∷ bs) zero h = ltb-true b 128 (and_parts (ltb b 128) (list_all (λ b. ltb b 128) bs) h).0
+byte_below (b ∷ bs) (suc i) h = byte_below bs i (and_parts (ltb b 128) (list_all (λ b. ltb b 128) bs) h).1
 
 pub ascii_text : (bs : List ℕ) → list_all (λ b. ltb b 128) bs ≡ true → IsUtf8 bs
 ascii_text bs h = IsUtf8-from_ascii bs (λ i. byte_below bs i h)
@@ -37,7 +33,7 @@ ascii_text bs h = IsUtf8-from_ascii bs (λ i. byte_below bs i h)
 pub ascii_texts : (ts : List (List ℕ)) → list_all (list_all (λ b. ltb b 128)) ts ≡ true → AllByRecursion IsUtf8 ts
 ascii_texts [] h = tt
 ascii_texts (t ∷ ts) h =
-    let parts = both (list_all (λ b. ltb b 128) t) (list_all (list_all (λ b. ltb b 128)) ts) h in
+    let parts = and_parts (list_all (λ b. ltb b 128) t) (list_all (list_all (λ b. ltb b 128)) ts) h in
     (ascii_text t parts.0, ascii_texts ts parts.1)
 
 -- ---- keys that are known
@@ -54,14 +50,14 @@ below Greater h = absurd cc
 all_below : {K : Type 0} (R : K → K → Ordering) (k : K) (ks : List K) → list_all (λ j. is_lt (R k j)) ks ≡ true → AllByRecursion (λ j. R k j ≡ Less) ks
 all_below R k [] h = tt
 all_below R k (j ∷ js) h =
-    let parts = both (is_lt (R k j)) (list_all (λ i. is_lt (R k i)) js) h in
+    let parts = and_parts (is_lt (R k j)) (list_all (λ i. is_lt (R k i)) js) h in
     (below (R k j) parts.0, all_below R k js parts.1)
 
 pub sorted : {K : Type 0} (R : K → K → Ordering) (ks : List K) → strictly_sorted R ks ≡ true → IsStrictlySortedBy R ks
 unfolding IsStrictlySortedBy
 sorted R [] h = tt
 sorted R (k ∷ ks) h =
-    let parts = both (list_all (λ j. is_lt (R k j)) ks) (strictly_sorted R ks) h in
+    let parts = and_parts (list_all (λ j. is_lt (R k j)) ks) (strictly_sorted R ks) h in
     (all_below R k ks parts.0, sorted R ks parts.1)
 
 pub no_names_ascend : AreAscending []

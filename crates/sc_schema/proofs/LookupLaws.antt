@@ -8,21 +8,22 @@ use Rattle.std.specs.Str.{bytes_eq}
 use Rattle.std.specs.declared.cmp.Ordering.{Ordering}
 use Rattle.std.proofs.lemmas.Cmp.{nat_list_cmp_total}
 use Rattle.std.proofs.lemmas.Slice.Eq.{bytes_eq-Decides}
+use Rattle.std.proofs.lemmas.Option.{slice_get-get_or}
+use Rattle.sc_lists.proofs.ListLaws.{contains_rest, contains_first}
 use Rattle.sc_names.specs.declared.uid.Uid.{Uid}
 use Rattle.sc_names.proofs.UidLaws.{uid_cmp_total}
 use Rattle.sc_schema.specs.declared.declarations.EntityType.{EntityType}
 use Rattle.sc_schema.specs.declared.declarations.Action.{Action}
 use Rattle.sc_schema.specs.Declarations.{Declarations, uid_eq, entity_type, action}
 use Rattle.sc_schema.specs.Lawful.{IsLawful}
-use Rattle.sc_schema.proofs.OrderLaws.{of_first, of_rest}
-use Rattle.sc_schema.proofs.PlaceLaws.{get_place, find_place, uid_eq-Decides}
+use Rattle.sc_schema.proofs.PlaceLaws.{find_place, uid_eq-Decides}
 
 module _ {X K : Type 0} (same : K → K → Bool) (decides : (a b : K) → Decides (same a b) (a ≡ b)) (key : X → K) where
   found_at : (k : K) (y : X) (xs : List X) (x : X) (b : Bool) (later : Option X) → (b ≡ true → k ≡ key y) → (later ≡ Some x → Contains xs x × (k ≡ key x)) → cond b (Some y) later ≡ Some x → Contains (y ∷ xs) x × (k ≡ key x)
   found_at k y xs x true later is rest e =
       let one : y ≡ x = cc in
-      subst (λ z. Contains (y ∷ xs) z × (k ≡ key z)) one (of_first y xs, is refl)
-  found_at k y xs x false later is rest e = let found = rest e in (of_rest y xs x found.0, found.1)
+      subst (λ z. Contains (y ∷ xs) z × (k ≡ key z)) one (contains_first y xs, is refl)
+  found_at k y xs x false later is rest e = let found = rest e in (contains_rest y xs x found.0, found.1)
 
   find_declared : (xs : List X) (k : K) (x : X) → find (λ y. same k (key y)) xs ≡ Some x → Contains xs x × (k ≡ key x)
   find_declared [] k x e = absurd cc
@@ -35,7 +36,7 @@ module _ {X K : Type 0} (same : K → K → Bool) (decides : (a b : K) → Decid
 
   find_found : {R : K → K → Ordering} (o : IsTotalOrder R) (xs : List X) (x : X) → IsStrictlySortedBy R (map key xs) → Contains xs x → find (λ y. same (key x) (key y)) xs ≡ Some x
   find_found o xs x a has =
-      let stands : slice_get xs has.0 ≡ Some x = get_place xs has.0 x has.1 ∙ ap Some has.2 in
+      let stands : slice_get xs has.0 ≡ Some x = slice_get-get_or xs has.0 x has.1 ∙ ap Some has.2 in
       sym (find_place o same decides key xs (key x) has.0 a (key_place xs has.0 x stands)) ∙ stands
 
 pub type_found : (s : Declarations) (t : EntityType) → IsLawful s → Contains s.types t → entity_type s t.name ≡ Some t

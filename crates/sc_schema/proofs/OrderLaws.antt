@@ -42,21 +42,5 @@ sorted_from_strict {K} {R} o xs a k d low high =
 
 -- ---- the elements of a list
 
-pub of_first : {X : Type 0} (x : X) (xs : List X) → Contains (x ∷ xs) x
-of_first x xs = (0, omega arith, refl)
-
-pub of_rest : {X : Type 0} (x : X) (xs : List X) (y : X) → Contains xs y → Contains (x ∷ xs) y
-of_rest x xs y has = (suc has.0, omega (arith, has.1), has.2)
-
-split_at : {X : Type 0} (x : X) (xs : List X) (y : X) (k : ℕ) → k < length (x ∷ xs) → get_or (x ∷ xs) k y ≡ y → (x ≡ y) ⊎ Contains xs y
-split_at x xs y zero within is = inl is
-split_at x xs y (suc k) within is = inr (k, omega arith, is)
-
-pub split : {X : Type 0} (x : X) (xs : List X) (y : X) → Contains (x ∷ xs) y → (x ≡ y) ⊎ Contains xs y
-split x xs y has = split_at x xs y has.0 has.1 has.2
-
-pub no_element : {X : Type 0} (x : X) → Contains [] x → ⊥
-no_element x has = absurd (omega (arith, has.1))
-
 pub first_below : {K : Type 0} (R : K → K → Ordering) (x : K) (xs : List K) (y : K) → IsStrictlySortedBy R (x ∷ xs) → Contains xs y → R x y ≡ Less
 first_below R x xs y a has = All-contains (λ z. R x z ≡ Less) xs y (All-from_recursion (λ z. R x z ≡ Less) xs (sorted_head R x xs a)) has

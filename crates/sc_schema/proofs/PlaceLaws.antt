@@ -10,21 +10,18 @@ use Rattle.std.specs.List.Sorted.{IsStrictlySortedBy, IsBinarySearchResult}
 use Rattle.std.specs.Cmp.{IsTotalOrder}
 use Rattle.std.specs.declared.cmp.Ordering.{Ordering}
 use Rattle.std.specs.declared.cmp.Ordering.TheVariants.{Less, Greater}
-use Rattle.std.proofs.lemmas.Bool.{cases_lt}
+use Rattle.std.proofs.lemmas.Bool.{cases_lt, and_parts}
 use Rattle.std.proofs.lemmas.List.Sorted.{searchable_from_sorted}
 use Rattle.std.proofs.lemmas.Map.Keys.{sorted_head, sorted_tail}
 use Rattle.std.proofs.lemmas.Map.Lookups.{CmpEqualImpliesEq}
-use Rattle.sc_schema.proofs.OrderLaws.{not_below, not_above, sorted_from_strict, of_first, of_rest}
-
-pub get_place : {X : Type 0} (xs : List X) (i : ℕ) (d : X) → i < length xs → slice_get xs i ≡ Some (get_or xs i d)
-get_place [] i d h = absurd (omega arith)
-get_place (x ∷ xs) zero d h = refl
-get_place (x ∷ xs) (suc i) d h = get_place xs i d (omega arith)
+use Rattle.std.proofs.lemmas.Option.{slice_get-get_or}
+use Rattle.sc_lists.proofs.ListLaws.{contains_rest, contains_first}
+use Rattle.sc_schema.proofs.OrderLaws.{not_below, not_above, sorted_from_strict}
 
 -- ---- what a binary search finds
 
 pub searched : {K : Type 0} {R : K → K → Ordering} → CmpEqualImpliesEq R → (xs : List K) (k : K) (i : ℕ) → i < length xs → IsBinarySearchResult (λ y. R y k) xs (Ok i) → slice_get xs i ≡ Some k
-searched level xs k i within search = get_place xs i k within ∙ ap Some (level (get_or xs i k) k (search k))
+searched level xs k i within search = slice_get-get_or xs i k within ∙ ap Some (level (get_or xs i k) k (search k))
 
 pub absent : {K : Type 0} {R : K → K → Ordering} (o : IsTotalOrder R) (xs : List K) (k : K) (i : ℕ) → IsStrictlySortedBy R xs → IsBinarySearchResult (λ y. R y k) xs (Err i) → ¬ Contains xs k
 absent {K} {R} o xs k i a search = λ has.
@@ -64,17 +61,13 @@ find_place {X} {K} {R} o same decides key (x ∷ xs) k (suc i) a e =
 pub find_none : {X K : Type 0} (same : K → K → Bool) (decides : (a b : K) → Decides (same a b) (a ≡ b)) (key : X → K) (xs : List X) (k : K) → ¬ Contains (map key xs) k → None ≡ find (λ x. same k (key x)) xs
 find_none same decides key [] k h = refl
 find_none same decides key (x ∷ xs) k h =
-    passes_over (same k (key x)) x _ _ (λ is. h (subst (λ y. Contains (y ∷ map key xs) k) ((decides k (key x)).0 is) (of_first k (map key xs))))
-    (find_none same decides key xs k (λ has. h (of_rest (key x) (map key xs) k has)))
-
-both : (a b : Bool) → (a && b) ≡ true → (a ≡ true) × (b ≡ true)
-both true b h = (refl, h)
-both false b h = absurd cc
+    passes_over (same k (key x)) x _ _ (λ is. h (subst (λ y. Contains (y ∷ map key xs) k) ((decides k (key x)).0 is) (contains_first k (map key xs))))
+    (find_none same decides key xs k (λ has. h (contains_rest (key x) (map key xs) k has)))
 
 pub uid_eq-Decides : (a b : Uid) → Decides (uid_eq a b) (a ≡ b)
 uid_eq-Decides a b = (
   λ h.
-      let parts = both (bytes_eq a.type_name b.type_name) (bytes_eq a.id b.id) h in
+      let parts = and_parts (bytes_eq a.type_name b.type_name) (bytes_eq a.id b.id) h in
       let one_type : a.type_name ≡ b.type_name = (bytes_eq-Decides a.type_name b.type_name).0 parts.0 in
       let one_id : a.id ≡ b.id = (bytes_eq-Decides a.id b.id).0 parts.1 in
       λ i. record { type_name = one_type i; id = one_id i },

@@ -7,6 +7,7 @@ use Rattle.std.proofs.lemmas.Slice.Eq.{bytes_eq-Decides}
 use Rattle.std.specs.List.Sorted.{IsStrictlySortedBy}
 use Rattle.std.specs.Str.{IsUtf8}
 use Rattle.std.proofs.lemmas.Str.{IsUtf8-from_ascii}
+use Rattle.sc_lists.proofs.TextLaws.{bytes_eq_false}
 use Rattle.sc_names.specs.declared.uid.Uid.{Uid}
 use Rattle.sc_names.specs.Uids.{text_cmp}
 use Rattle.sc_schema.specs.declared.ty.Presence.{Presence}
@@ -18,12 +19,6 @@ use Rattle.sc_schema.specs.Lawful.{names_of_fields, IsTypeLevel, IsTypeOf, IsRec
 use Rattle.sc_schema.proofs.EveryTypeLaws.{every_Bool}
 use Rattle.sc_schema.proofs.LawfulLaws.{no_names_ascend, no_uids_ascend, one_uid_ascends, record_lawful, no_fields_lawful, one_type}
 use Rattle.sc_schema.specs.Plain.{bool_field, action_type, bool_record, IsTypeName, IsPlainType, IsPlain, HasOneEnvironment, IsBare, action_of, PlainLookups}
-
-bytes_eq-other : (xs ys : List ℕ) → xs ≢ ys → bytes_eq xs ys ≡ false
-bytes_eq-other xs ys differ = decided (bytes_eq xs ys) ((bytes_eq-Decides xs ys).0) where
-  decided : (b : Bool) → (b ≡ true → xs ≡ ys) → b ≡ false
-  decided true is = absurd (differ (is refl))
-  decided false is = refl
 
 bytes_eq-same : (xs : List ℕ) → bytes_eq xs xs ≡ true
 bytes_eq-same xs = (bytes_eq-Decides xs xs).1 refl
@@ -50,7 +45,7 @@ found name (t ∷ types) plain some =
 
 -- no declared type is that of the action
 is_action_type-declared : (s : Declarations) (h : IsPlain s) (name : List ℕ) → IsTypeName name → is_action_type s name ≡ false
-is_action_type-declared s h name named = rw (h.actions, bytes_eq-other name action_type named.no_action) refl
+is_action_type-declared s h name named = rw (h.actions, bytes_eq_false name action_type named.no_action) refl
 
 IsBare-declared : (s : Declarations) (h : IsPlain s) (name : List ℕ) → IsFound name (entity_type s name) → IsBare s name
 IsBare-declared s h name is =

@@ -1,6 +1,7 @@
 -- The schema for tests is lawful.
 use Rattle.std.proofs.Common.{◌≡◌, ℕ, List, [], ◌∷◌, true, false, codes, refl, sym, ap, ◌∙◌, inl, inr, Contains}
 use Rattle.std.specs.Str.{bytes_eq}
+use Rattle.sc_lists.proofs.ListLaws.{contains_nothing, contains_split, contains_first}
 use Rattle.sc_names.specs.declared.uid.Uid.{Uid}
 use Rattle.sc_names.specs.Uids.{text_cmp, uid_cmp}
 use Rattle.sc_schema.specs.declared.ty.Presence.TheVariants.{Required}
@@ -11,7 +12,6 @@ use Rattle.sc_schema.specs.Lawful.{IsTypeLevel, AreEntityTypes, IsLawfulType, Is
 use Rattle.sc_schema.specs.Samples.{team, user_fields, user, view_uid, view, buy, sample}
 use Rattle.sc_schema.proofs.EveryTypeLaws.{every_Bool, every_Long, every_String}
 use Rattle.sc_schema.proofs.LawfulLaws.{ascii_text, ascii_texts, sorted, no_uids_ascend, one_uid_ascends, record_lawful, no_fields_lawful, no_types, one_type, plain_type_lawful}
-use Rattle.sc_schema.proofs.OrderLaws.{of_first, split, no_element}
 
 team_lawful : IsLawfulType sample team
 team_lawful =
@@ -19,7 +19,7 @@ team_lawful =
       text = ascii_text (codes "Team") refl;
       no_action = refl;
       above = one_type sample (codes "Team") refl;
-      closed = ((of_first (codes "Team") [], tt), tt);
+      closed = ((contains_first (codes "Team") [], tt), tt);
       shape_type = no_fields_lawful sample;
       tag_type = tt;
     }
@@ -30,7 +30,7 @@ user_lawful =
       text = ascii_text (codes "User") refl;
       no_action = refl;
       above = one_type sample (codes "Team") refl;
-      closed = ((of_first (codes "Team") [], tt), tt);
+      closed = ((contains_first (codes "Team") [], tt), tt);
       shape_type =
           record_lawful sample user_fields (sorted text_cmp (codes "level" ∷ codes "nick" ∷ []) refl) (ascii_texts (codes "level" ∷ codes "nick" ∷ []) refl)
           (every_Long (IsTypeLevel sample) tt, (every_String (IsTypeLevel sample) tt, tt));
@@ -48,7 +48,7 @@ view_lawful =
       ascending = no_uids_ascend;
       declared = tt;
       closed = tt;
-      acyclic = no_element view_uid;
+      acyclic = contains_nothing view_uid;
       principal_types = two_types (codes "Team") (codes "User") refl (one_type sample (codes "Team") refl) (one_type sample (codes "User") refl);
       resource_types = two_types (codes "Doc") (codes "Team") refl (one_type sample (codes "Doc") refl) (one_type sample (codes "Team") refl);
       context_type =
@@ -57,9 +57,9 @@ view_lawful =
     }
 
 other_uids : (u v : Uid) → bytes_eq u.type_name v.type_name ≡ false → bytes_eq u.type_name u.type_name ≡ true → ¬ Contains (u ∷ []) v
-other_uids u v differ same has = elim (split u [] v has) [
+other_uids u v differ same has = elim (contains_split u [] v has) [
   | inl is ↦ absurd (let no : true ≡ false = sym same ∙ ap (λ (w : Uid). bytes_eq u.type_name w.type_name) is ∙ differ in cc)
-  | inr later ↦ no_element v later
+  | inr later ↦ contains_nothing v later
 ]
 
 buy_lawful : IsLawfulAction sample buy

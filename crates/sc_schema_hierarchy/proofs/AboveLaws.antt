@@ -15,25 +15,24 @@ use Rattle.std.specs.Option.{option_map_or}
 use Rattle.std.specs.Ordering.{nat_cmp}
 use Rattle.std.specs.declared.cmp.Ordering.{Ordering}
 use Rattle.std.specs.declared.cmp.Ordering.TheVariants.{Less}
+use Rattle.sc_lists.proofs.ListLaws.{contains_place}
+use Rattle.sc_lists.proofs.OptionLaws.{same_some}
 use Rattle.sc_graphs.specs.Reaching.{has, successors, Reaches, step, on}
 use Rattle.sc_schema.proofs.OrderLaws.{not_below}
 use Rattle.sc_schema.proofs.PlaceLaws.{all_at}
 use Rattle.sc_schema_hierarchy.specs.Above.{Links, IsParent, IsAbove, parent, further, NamesKeys}
 use Rattle.sc_schema_hierarchy.specs.Graphs.{IsGraphOf, parents_at}
 
-one_key : {X : Type 0} {x y : X} → Some x ≡ Some y → x ≡ y
-one_key h = cc
-
 -- ---- places of links and of keys
 
 pub key_there : {K : Type 0} (links : Links K) (i : ℕ) (l : K × List K) → slice_get links i ≡ Some l → slice_get (keys_of links) i ≡ Some (l.0)
 key_there [] i l h = absurd cc
-key_there {K} (m ∷ ms) zero l h = ap (λ (x : K × List K). Some x.0) (one_key h)
+key_there {K} (m ∷ ms) zero l h = ap (λ (x : K × List K). Some x.0) (same_some h)
 key_there (m ∷ ms) (suc i) l h = key_there ms i l h
 
 link_there : {K : Type 0} (links : Links K) (i : ℕ) (k : K) → slice_get (keys_of links) i ≡ Some k → (above : List K) × (slice_get links i ≡ Some (k, above))
 link_there [] i k h = absurd cc
-link_there {K} (m ∷ ms) zero k h = (m.1, ap (λ (x : K). Some (x, m.1)) (one_key h))
+link_there {K} (m ∷ ms) zero k h = (m.1, ap (λ (x : K). Some (x, m.1)) (same_some h))
 link_there (m ∷ ms) (suc i) k h = link_there ms i k h
 
 parents_there : {K : Type 0} (links : Links K) (i : ℕ) (k : K) (above : List K) → slice_get links i ≡ Some (k, above) → parents_at links i ≡ above
@@ -41,9 +40,6 @@ parents_there {K} links i k above h = ap (λ (o : Option (K × List K)). option_
 
 contains_at : {X : Type 0} (xs : List X) (x : X) → Contains xs x → (i : ℕ) × (slice_get xs i ≡ Some x)
 contains_at xs x has = (has.0, slice_get-get_or xs has.0 x has.1 ∙ ap Some has.2)
-
-at_contains : {X : Type 0} (xs : List X) (i : ℕ) (x : X) → slice_get xs i ≡ Some x → Contains xs x
-at_contains xs i x h = (i, slice_get_within xs i x h, get_or_from_slice_get xs i x x h)
 
 -- two places of one key are one
 one_place : {K : Type 0} {R : K → K → Ordering} (o : IsTotalOrder R) (keys : List K) (i j : ℕ) (k : K) → IsStrictlySortedBy R keys → slice_get keys i ≡ Some k → slice_get keys j ≡ Some k → i ≡ j
@@ -70,7 +66,7 @@ module _ {K : Type 0} {links : Links K} {graph : List (List ℕ)} (g : IsGraphOf
         named.there,
         record {
           above = above;
-          listed = at_contains links i (k, above) h;
+          listed = contains_place links i (k, above) h;
           parent = subst (λ (ks : List K). Contains ks named.key) (parents_there links i k above h) named.named;
         },
       )

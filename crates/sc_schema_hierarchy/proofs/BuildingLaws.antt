@@ -6,8 +6,8 @@ use Rattle.std.proofs.lemmas.List.Sorted.{Contains-permutation, IsPermutation-ma
 use Rattle.std.proofs.lemmas.Option.{slice_get-map}
 use Rattle.std.specs.Map.{keys_of}
 use Rattle.std.specs.Option.{option_map}
+use Rattle.sc_lists.proofs.ListLaws.{contains_nothing, contains_split, contains_rest, contains_first}
 use Rattle.sc_names.specs.Uids.{text_cmp, uid_cmp}
-use Rattle.sc_schema.proofs.OrderLaws.{of_first, of_rest, split, no_element}
 use Rattle.sc_schema.specs.declared.declarations.Action.{Action}
 use Rattle.sc_schema.specs.declared.declarations.EntityType.{EntityType}
 use Rattle.sc_schema_resolved.specs.declared.expanded.ExpandedAction.{ExpandedAction}
@@ -70,25 +70,25 @@ built_at {D} Of all left rest built d b next =
 
 module _ {D T : Type 0} (Of : D → T → Type 0) where
   zip_left : (ds : List D) (ts : List T) → AllZip Of ds ts → (t : T) → Contains ts t → (d : D) × Contains ds d × Of d t
-  zip_left [] [] all t has = absurd (no_element t has)
+  zip_left [] [] all t has = absurd (contains_nothing t has)
   zip_left [] (u ∷ us) all t has = absurd all
   zip_left (e ∷ es) [] all t has = absurd all
-  zip_left (e ∷ es) (u ∷ us) all t has = elim (split u us t has) [
-    | inl same ↦ (e, of_first e es, subst (Of e) same all.0)
+  zip_left (e ∷ es) (u ∷ us) all t has = elim (contains_split u us t has) [
+    | inl same ↦ (e, contains_first e es, subst (Of e) same all.0)
     | inr more ↦ later (zip_left es us all.1 t more)
   ] where
     later : (d : D) × Contains es d × Of d t → (d : D) × Contains (e ∷ es) d × Of d t
-    later found = (found.0, of_rest e es found.0 found.1, found.2)
+    later found = (found.0, contains_rest e es found.0 found.1, found.2)
 
   zip_right : (ds : List D) (ts : List T) → AllZip Of ds ts → (d : D) → Contains ds d → (t : T) × Contains ts t × Of d t
-  zip_right [] ts all d has = absurd (no_element d has)
+  zip_right [] ts all d has = absurd (contains_nothing d has)
   zip_right (e ∷ es) [] all d has = absurd all
-  zip_right (e ∷ es) (u ∷ us) all d has = elim (split e es d has) [
-    | inl same ↦ (u, of_first u us, subst (λ (x : D). Of x u) same all.0)
+  zip_right (e ∷ es) (u ∷ us) all d has = elim (contains_split e es d has) [
+    | inl same ↦ (u, contains_first u us, subst (λ (x : D). Of x u) same all.0)
     | inr more ↦ later (zip_right es us all.1 d more)
   ] where
     later : (t : T) × Contains us t × Of d t → (t : T) × Contains (u ∷ us) t × Of d t
-    later found = (found.0, of_rest u us found.0 found.1, found.2)
+    later found = (found.0, contains_rest u us found.0 found.1, found.2)
 
   zip_keys : {K : Type 0} (declared : D → K) (key : T → K) → ((d : D) (t : T) → Of d t → key t ≡ declared d) → (ds : List D) (ts : List T) → AllZip Of ds ts → map declared ds ≡ map key ts
   zip_keys declared key same [] [] all = refl

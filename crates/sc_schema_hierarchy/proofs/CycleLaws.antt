@@ -11,6 +11,8 @@ use Rattle.std.specs.List.Sorted.{IsStrictlySortedBy}
 use Rattle.std.specs.Map.{keys_of}
 use Rattle.std.specs.declared.cmp.Ordering.{Ordering}
 use Rattle.std.specs.declared.cmp.Ordering.TheVariants.{Less}
+use Rattle.sc_lists.proofs.ListLaws.{all_element}
+use Rattle.sc_lists.proofs.OptionLaws.{same_some}
 use Rattle.sc_schema.specs.Declarations.{uid_eq}
 use Rattle.sc_schema.proofs.OrderLaws.{not_below, both_below}
 use Rattle.sc_schema_resolved.specs.Resolved.{IsResolved, IsResolvedAction, actions}
@@ -19,10 +21,7 @@ use Rattle.sc_schema_resolved.specs.declared.schema.ResolvedSchema.{ResolvedSche
 use Rattle.sc_schema_hierarchy.specs.Above.{Links, IsAbove, NamesKeys, NoCycle, IsLeastCycle}
 use Rattle.sc_schema_hierarchy.specs.Schemas.{resolved_links}
 use Rattle.sc_schema_hierarchy.proofs.AboveLaws.{key_there}
-use Rattle.sc_schema_hierarchy.proofs.LinksLaws.{each_of, above_within, below_link, keys_of_links, links_named}
-
-one_key : {X : Type 0} {x y : X} → Some x ≡ Some y → x ≡ y
-one_key h = cc
+use Rattle.sc_schema_hierarchy.proofs.LinksLaws.{above_within, below_link, keys_of_links, links_named}
 
 -- none of the first n keys stands above itself
 abbrev pub NoneBefore : {K : Type 0} → Links K → ℕ → Type 0
@@ -65,7 +64,7 @@ least_found {K} {R} o links n key above sorted before here is =
       no_less i other beside h cycle less (inl earlier) = before i other beside earlier h cycle
       no_less i other beside h cycle less (inr more) = elim (eq-or-lt_of_le more) [
         | inl same ↦
-            let one : (key, beside) ≡ (other, beside) = ap (λ (l : K × List K). (l.0, beside)) (one_key (sym here ∙ (ap (slice_get links) same ∙ h))) in
+            let one : (key, beside) ≡ (other, beside) = ap (λ (l : K × List K). (l.0, beside)) (same_some (sym here ∙ (ap (slice_get links) same ∙ h))) in
             not_below o key (subst (λ (y : K). R y key ≡ Less) (sym (ap (λ (l : K × List K). l.0) one)) less)
         | inr after ↦ both_below o other key less (later i other beside h after)
       ]
@@ -112,4 +111,4 @@ resolved_distinct s r = subst (IsDistinct uid_eq) (sym (keys_of_links (λ (a : R
 
 pub resolved_named : (s : ResolvedSchema) → IsResolved s → NamesKeys (resolved_links (actions s))
 resolved_named s r =
-    links_named (λ (a : ResolvedAction). a.uid) (λ (a : ResolvedAction). a.parents) (actions s) (λ a has. (each_of (IsResolvedAction s) (actions s) a r.each_action has).above)
+    links_named (λ (a : ResolvedAction). a.uid) (λ (a : ResolvedAction). a.parents) (actions s) (λ a has. (all_element (IsResolvedAction s) (actions s) a r.each_action has).above)

@@ -2,7 +2,7 @@
 use Rattle.std.proofs.Common.{◌≡◌, ◌⊎◌, ◌<◌, ◌≤◌, ◌+◌, ◌||◌, ℕ, List, [], ◌∷◌, ◌++◌, Bool, true, false, Option, Some, zero, suc, length, get_or, refl, sym, ap, subst, ◌∙◌, inl, inr, arith, Contains}
 use Rattle.std.proofs.Math.Nat.{eq-or-lt_of_le}
 use Rattle.std.proofs.Math.ListN.{get_or-eq_default}
-use Rattle.std.proofs.lemmas.Bool.{cases_lt}
+use Rattle.std.proofs.lemmas.Bool.{cases_lt, or_cases, or_left, or_right}
 use Rattle.std.proofs.lemmas.Bool.Decides.{nat_tests}
 use Rattle.std.proofs.lemmas.List.Folds.{list_any-append}
 use Rattle.std.proofs.lemmas.Option.{slice_get_past, slice_get_read}
@@ -11,43 +11,24 @@ use Rattle.std.specs.List.{slice_get}
 use Rattle.std.specs.Map.{keys_of}
 use Rattle.std.specs.Option.{option_map_or}
 use Rattle.std.specs.Ordering.{nat_cmp}
+use Rattle.sc_lists.proofs.ListLaws.{contains_nothing}
+use Rattle.sc_lists.proofs.BoolLaws.{true_or_false}
+use Rattle.sc_lists.proofs.OrderingLaws.{is_at_same, is_at_itself}
 use Rattle.sc_graphs.specs.Reaching.{has}
-use Rattle.sc_schema.proofs.OrderLaws.{no_element}
 use Rattle.sc_schema_hierarchy.specs.Above.{Links}
 use Rattle.sc_schema_hierarchy.specs.Graphs.{NamesPlace, ArePlaces, IsGraphOf, parents_at}
 use Rattle.sc_schema_hierarchy.proofs.MemberLaws.{contains_more, contains_last, split_last}
-
-level_same : (n m : ℕ) → is_at (nat_cmp n) m ≡ true → m ≡ n
-level_same n m h = grind (arith, nat_tests)
-
-level_itself : (n : ℕ) → is_at (nat_cmp n) n ≡ true
-level_itself n = grind (arith, nat_tests)
-
-either : (b c : Bool) → (b || c) ≡ true → (b ≡ true) ⊎ (c ≡ true)
-either true c e = inl refl
-either false c e = inr e
-
-or_left : (b c : Bool) → b ≡ true → (b || c) ≡ true
-or_left b c e = ap (λ (d : Bool). d || c) e
-
-or_right : (b c : Bool) → c ≡ true → (b || c) ≡ true
-or_right true c e = refl
-or_right false c e = e
-
-plain : (b : Bool) → (b || false) ≡ true → b ≡ true
-plain true e = refl
-plain false e = e
 
 has_last : (ns : List ℕ) (m n : ℕ) → has (ns ++ m ∷ []) n ≡ (has ns n || (is_at (nat_cmp n) m || false))
 has_last ns m n = list_any-append (is_at (nat_cmp n)) ns (m ∷ [])
 
 pub places_first : {K : Type 0} (all : List K) → ArePlaces all [] []
-places_first all = record { sound = λ n h. absurd cc; complete = λ k c a. absurd (no_element k c) }
+places_first all = record { sound = λ n h. absurd cc; complete = λ k c a. absurd (contains_nothing k c) }
 
 pub one_place : {K : Type 0} (all ks : List K) (k : K) (places new : List ℕ) (at : ℕ) → slice_get all at ≡ Some k → new ≡ places ++ at ∷ [] → ArePlaces all ks places → ArePlaces all (ks ++ k ∷ []) new
 one_place {K} all ks k places new at there e p =
     record {
-      sound = λ n h. sound_at n (either (has places n) _ (sym (has_last places at n) ∙ (ap (λ (ns : List ℕ). has ns n) (sym e) ∙ h)));
+      sound = λ n h. sound_at n (or_cases (has places n) _ (sym (has_last places at n) ∙ (ap (λ (ns : List ℕ). has ns n) (sym e) ∙ h)));
       complete = λ j c a. complete_at j (split_last ks k j c) a;
     } where
       sound_at : (n : ℕ) → (has places n ≡ true) ⊎ ((is_at (nat_cmp n) at || false) ≡ true) → NamesPlace all (ks ++ k ∷ []) n
@@ -55,7 +36,7 @@ one_place {K} all ks k places new at there e p =
           let was = p.sound n old in
           record { key = was.key; there = was.there; named = contains_more ks (k ∷ []) was.key was.named }
       sound_at n (inr here) =
-          let same : at ≡ n = level_same n at (plain _ here) in
+          let same : at ≡ n = is_at_same n at (true_or_false _ here) in
           record { key = k; there = subst (λ i. slice_get all i ≡ Some k) same there; named = contains_last ks k }
 
       new_has : (n : ℕ) → (has places n || (is_at (nat_cmp n) at || false)) ≡ true → has new n ≡ true
@@ -66,7 +47,7 @@ one_place {K} all ks k places new at there e p =
           let was = p.complete j old a in
           (was.0, was.1, new_has was.0 (or_left (has places was.0) _ was.2))
       complete_at j (inr here) a =
-          (at, there ∙ ap Some here, new_has at (or_right (has places at) _ (or_left (is_at (nat_cmp at) at) false (level_itself at))))
+          (at, there ∙ ap Some here, new_has at (or_right (has places at) _ (or_left (is_at (nat_cmp at) at) false (is_at_itself at))))
 
 pub no_place : {K : Type 0} (all ks : List K) (k : K) (places : List ℕ) → ¬ Contains all k → ArePlaces all ks places → ArePlaces all (ks ++ k ∷ []) places
 no_place {K} all ks k places none p =

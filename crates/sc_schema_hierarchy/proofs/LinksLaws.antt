@@ -5,33 +5,19 @@ use Rattle.std.specs.Map.{keys_of}
 use Rattle.std.specs.declared.cmp.Ordering.{Ordering}
 use Rattle.std.proofs.lemmas.List.Elements.{All-contains, All-from_recursion}
 use Rattle.std.proofs.lemmas.List.Sorted.{Contains-permutation, IsPermutation-map, IsPermutation-sym}
-use Rattle.sc_schema.proofs.OrderLaws.{of_first, of_rest, split, no_element}
+use Rattle.sc_lists.proofs.ListLaws.{all_element, all_of_elements, contains_nothing, contains_split, contains_rest, contains_first}
 use Rattle.sc_schema_hierarchy.specs.Above.{Links, IsParent, IsAbove, parent, further, AreAbove, NamesKeys}
 
 -- ---- elements of lists
 
-pub contains_map : {X Y : Type 0} (f : X → Y) (xs : List X) (x : X) → Contains xs x → Contains (map f xs) (f x)
-contains_map f [] x has = absurd (no_element x has)
-contains_map {X} {Y} f (y ∷ ys) x has = elim (split y ys x has) [
-  | inl same ↦ subst (λ (z : Y). Contains (f y ∷ map f ys) z) (ap f same) (of_first (f y) (map f ys))
-  | inr more ↦ of_rest (f y) (map f ys) (f x) (contains_map f ys x more)
-]
-
 pub contains_from_map : {X Y : Type 0} (f : X → Y) (xs : List X) (y : Y) → Contains (map f xs) y → (x : X) × Contains xs x × (f x ≡ y)
-contains_from_map f [] y has = absurd (no_element y has)
-contains_from_map {X} {Y} f (x ∷ xs) y has = elim (split (f x) (map f xs) y has) [
-  | inl same ↦ (x, of_first x xs, same)
+contains_from_map f [] y has = absurd (contains_nothing y has)
+contains_from_map {X} {Y} f (x ∷ xs) y has = elim (contains_split (f x) (map f xs) y has) [
+  | inl same ↦ (x, contains_first x xs, same)
   | inr more ↦ later (contains_from_map f xs y more)
 ] where
   later : (z : X) × Contains xs z × (f z ≡ y) → (z : X) × Contains (x ∷ xs) z × (f z ≡ y)
-  later found = (found.0, of_rest x xs found.0 found.1, found.2)
-
-pub each_of : {X : Type 0} (P : X → Type 0) (xs : List X) (x : X) → AllByRecursion P xs → Contains xs x → P x
-each_of P xs x all has = All-contains P xs x (All-from_recursion P xs all) has
-
-pub all_of : {X : Type 0} (P : X → Type 0) (xs : List X) → ((x : X) → Contains xs x → P x) → AllByRecursion P xs
-all_of P [] each = tt
-all_of P (x ∷ xs) each = (each x (of_first x xs), all_of P xs (λ y has. each y (of_rest x xs y has)))
+  later found = (found.0, contains_rest x xs found.0 found.1, found.2)
 
 -- ---- the same links, the same above
 
@@ -51,10 +37,10 @@ are_above_permuted R links others a ks permutation above =
 
 pub named_permuted : {K : Type 0} (links others : Links K) → IsPermutation links others → NamesKeys links → NamesKeys others
 named_permuted {K} links others permutation named =
-    all_of (λ (l : K × List K). AllByRecursion (Contains (keys_of others)) l.1) others (λ l has.
-    all_of (Contains (keys_of others)) l.1 (λ k above.
+    all_of_elements (λ (l : K × List K). AllByRecursion (Contains (keys_of others)) l.1) others (λ l has.
+    all_of_elements (Contains (keys_of others)) l.1 (λ k above.
     Contains-permutation (keys_of links) (keys_of others) k (IsPermutation-map (λ (m : K × List K). m.0) links others permutation)
-    (each_of (Contains (keys_of links)) l.1 k (each_of (λ (m : K × List K). AllByRecursion (Contains (keys_of links)) m.1) links l named (Contains-permutation others links l (IsPermutation-sym links others permutation) has)) above)))
+    (all_element (Contains (keys_of links)) l.1 k (all_element (λ (m : K × List K). AllByRecursion (Contains (keys_of links)) m.1) links l named (Contains-permutation others links l (IsPermutation-sym links others permutation) has)) above)))
 
 -- ---- chains
 
@@ -66,7 +52,7 @@ above_above c (further a b d p q) r = further a b c p (above_above c q r)
 
 parent_key : {K : Type 0} {links : Links K} {a b : K} → NamesKeys links → IsParent links a b → Contains (keys_of links) b
 parent_key {K} {links} {a} {b} named p =
-    each_of (Contains (keys_of links)) p.above b (each_of (λ (l : K × List K). AllByRecursion (Contains (keys_of links)) l.1) links (a, p.above) named p.listed) p.parent
+    all_element (Contains (keys_of links)) p.above b (all_element (λ (l : K × List K). AllByRecursion (Contains (keys_of links)) l.1) links (a, p.above) named p.listed) p.parent
 
 pub above_key : {K : Type 0} {links : Links K} {a b : K} → NamesKeys links → IsAbove links a b → Contains (keys_of links) b
 above_key named (parent a b p) = parent_key named p
@@ -84,7 +70,7 @@ keys_of_links {K} key above (d ∷ ds) = ap (λ (ks : List K). key d ∷ ks) (ke
 
 pub links_named : {K D : Type 0} (key : D → K) (above : D → List K) (ds : List D) → ((d : D) → Contains ds d → AllByRecursion (Contains (map key ds)) (above d)) → NamesKeys (map (λ (d : D). (key d, above d)) ds)
 links_named {K} {D} key above ds each =
-    all_of (λ (l : K × List K). AllByRecursion (Contains (keys_of (map (λ (d : D). (key d, above d)) ds))) l.1) (map (λ (d : D). (key d, above d)) ds)
+    all_of_elements (λ (l : K × List K). AllByRecursion (Contains (keys_of (map (λ (d : D). (key d, above d)) ds))) l.1) (map (λ (d : D). (key d, above d)) ds)
     (λ l has. one l (contains_from_map (λ (d : D). (key d, above d)) ds l has)) where
       one : (l : K × List K) → (d : D) × Contains ds d × ((key d, above d) ≡ l) → AllByRecursion (Contains (keys_of (map (λ (d : D). (key d, above d)) ds))) l.1
       one l found =

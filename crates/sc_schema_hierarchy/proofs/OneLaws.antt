@@ -8,12 +8,13 @@ use Rattle.std.specs.declared.cmp.Ordering.{Ordering}
 use Rattle.std.specs.declared.cmp.Ordering.TheVariants.{Less}
 use Rattle.std.proofs.lemmas.Cmp.{nat_list_cmp_total, on_total}
 use Rattle.std.proofs.lemmas.Map.Keys.{sorted_tail}
+use Rattle.sc_lists.proofs.ListLaws.{contains_nothing, contains_split, contains_rest, contains_first}
 use Rattle.sc_names.specs.Uids.{text_cmp, uid_cmp}
 use Rattle.sc_names.proofs.UidLaws.{uid_cmp_total}
 use Rattle.sc_schema.specs.Declarations.{Declarations}
 use Rattle.sc_schema.specs.declared.declarations.Action.{Action}
 use Rattle.sc_schema.specs.declared.declarations.EntityType.{EntityType}
-use Rattle.sc_schema.proofs.OrderLaws.{not_below, both_below, first_below, split, of_first, of_rest, no_element}
+use Rattle.sc_schema.proofs.OrderLaws.{not_below, both_below, first_below}
 use Rattle.sc_schema_resolved.specs.declared.expanded.ExpandedAction.{ExpandedAction}
 use Rattle.sc_schema_resolved.specs.declared.expanded.ExpandedEntityType.{ExpandedEntityType}
 use Rattle.sc_schema_resolved.specs.declared.expanded.ExpandedSchema.{ExpandedSchema}
@@ -24,28 +25,28 @@ use Rattle.sc_schema_hierarchy.specs.Schemas.{AreInOrder, IsEntityTypeOf, IsActi
 
 module _ {X : Type 0} {R : X → X → Ordering} (o : IsTotalOrder R) where
   one_first : (x y : X) (xs ys : List X) → IsStrictlySortedBy R (x ∷ xs) → IsStrictlySortedBy R (y ∷ ys) → Contains (y ∷ ys) x → Contains (x ∷ xs) y → x ≡ y
-  one_first x y xs ys a b has had = elim (split y ys x has) [
+  one_first x y xs ys a b has had = elim (contains_split y ys x has) [
     | inl is ↦ sym is
-    | inr later ↦ elim (split x xs y had) [
+    | inr later ↦ elim (contains_split x xs y had) [
       | inl is ↦ is
       | inr after ↦ absurd (both_below o y x (first_below R y ys x b later) (first_below R x xs y a after))
     ]
   ]
 
   rest_has : (x y : X) (xs ys : List X) (z : X) → x ≡ y → IsStrictlySortedBy R (x ∷ xs) → Contains xs z → Contains (y ∷ ys) z → Contains ys z
-  rest_has x y xs ys z same_first a has had = elim (split y ys z had) [
+  rest_has x y xs ys z same_first a has had = elim (contains_split y ys z had) [
     | inl is ↦ absurd (not_below o z (subst (λ (v : X). R v z ≡ Less) (same_first ∙ is) (first_below R x xs z a has)))
     | inr later ↦ later
   ]
 
   one_list : (xs ys : List X) → IsStrictlySortedBy R xs → IsStrictlySortedBy R ys → ((x : X) → Contains xs x ↔ Contains ys x) → xs ≡ ys
   one_list [] [] a b h = refl
-  one_list [] (y ∷ ys) a b h = absurd (no_element y ((h y).1 (of_first y ys)))
-  one_list (x ∷ xs) [] a b h = absurd (no_element x ((h x).0 (of_first x xs)))
+  one_list [] (y ∷ ys) a b h = absurd (contains_nothing y ((h y).1 (contains_first y ys)))
+  one_list (x ∷ xs) [] a b h = absurd (contains_nothing x ((h x).0 (contains_first x xs)))
   one_list (x ∷ xs) (y ∷ ys) a b h =
-      let first : x ≡ y = one_first x y xs ys a b ((h x).0 (of_first x xs)) ((h y).1 (of_first y ys)) in
+      let first : x ≡ y = one_first x y xs ys a b ((h x).0 (contains_first x xs)) ((h y).1 (contains_first y ys)) in
       let rest : xs ≡ ys = one_list xs ys (sorted_tail R x xs a) (sorted_tail R y ys b) (λ z.
-      (λ has. rest_has x y xs ys z first a has ((h z).0 (of_rest x xs z has)), λ has. rest_has y x ys xs z (sym first) b has ((h z).1 (of_rest y ys z has)))) in
+      (λ has. rest_has x y xs ys z first a has ((h z).0 (contains_rest x xs z has)), λ has. rest_has y x ys xs z (sym first) b has ((h z).1 (contains_rest y ys z has)))) in
       cc
 
   -- of the same members

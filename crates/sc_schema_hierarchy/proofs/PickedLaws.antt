@@ -11,44 +11,27 @@ use Rattle.std.specs.Map.{keys_of}
 use Rattle.std.specs.Ordering.{nat_cmp}
 use Rattle.std.specs.declared.cmp.Ordering.{Ordering}
 use Rattle.std.specs.declared.cmp.Ordering.TheVariants.{Less}
+use Rattle.std.proofs.lemmas.Bool.{or_left, or_right, or_cases}
+use Rattle.sc_lists.proofs.ListLaws.{contains_nothing, contains_split, contains_rest, contains_first}
+use Rattle.sc_lists.proofs.OptionLaws.{same_some}
+use Rattle.sc_lists.proofs.OrderingLaws.{is_at_itself, is_at_same}
 use Rattle.sc_graphs.specs.Reaching.{has, Reaches}
-use Rattle.sc_schema.proofs.OrderLaws.{split, of_first, of_rest, no_element}
 use Rattle.sc_schema_hierarchy.specs.Above.{Links, IsAbove, AreAbove, NamesKeys}
 use Rattle.sc_schema_hierarchy.specs.Graphs.{IsGraphOf}
 use Rattle.sc_schema_hierarchy.proofs.AboveLaws.{reached_above, above_reached, key_there}
 
-level_itself : (n : ℕ) → is_at (nat_cmp n) n ≡ true
-level_itself n = grind (arith, nat_tests)
-
-level_same : (n m : ℕ) → is_at (nat_cmp n) m ≡ true → m ≡ n
-level_same n m h = grind (arith, nat_tests)
-
 less_from : (n m : ℕ) → nat_cmp n m ≡ Less → n < m
 less_from n m h = grind (arith, nat_tests)
-
-or_left : (b c : Bool) → b ≡ true → (b || c) ≡ true
-or_left b c e = ap (λ (d : Bool). d || c) e
-
-or_right : (b c : Bool) → c ≡ true → (b || c) ≡ true
-or_right true c e = refl
-or_right false c e = e
-
-either : (b c : Bool) → (b || c) ≡ true → (b ≡ true) ⊎ (c ≡ true)
-either true c e = inl refl
-either false c e = inr e
-
-one_key : {X : Type 0} {x y : X} → Some x ≡ Some y → x ≡ y
-one_key h = cc
 
 -- these are the keys at the places
 abbrev pub ArePicked : {K : Type 0} → List K → List ℕ → List K → Type 0
 ArePicked all places ks = map Some ks ≡ map (slice_get all) places
 
 picked_place : {K : Type 0} (all ks : List K) (places : List ℕ) (b : K) → ArePicked all places ks → Contains ks b → (p : ℕ) × (has places p ≡ true) × (slice_get all p ≡ Some b)
-picked_place all [] places b e c = absurd (no_element b c)
+picked_place all [] places b e c = absurd (contains_nothing b c)
 picked_place all (k ∷ ks) [] b e c = absurd cc
-picked_place {K} all (k ∷ ks) (p ∷ ps) b e c = elim (split k ks b c) [
-  | inl same ↦ (p, or_left _ (has ps p) (level_itself p), sym first ∙ ap Some same)
+picked_place {K} all (k ∷ ks) (p ∷ ps) b e c = elim (contains_split k ks b c) [
+  | inl same ↦ (p, or_left _ (has ps p) (is_at_itself p), sym first ∙ ap Some same)
   | inr more ↦ later (picked_place all ks ps b rest more)
 ] where
   first : Some k ≡ slice_get all p
@@ -63,7 +46,7 @@ picked_place {K} all (k ∷ ks) (p ∷ ps) b e c = elim (split k ks b c) [
 picked_key : {K : Type 0} (all ks : List K) (places : List ℕ) (p : ℕ) (b : K) → ArePicked all places ks → has places p ≡ true → slice_get all p ≡ Some b → Contains ks b
 picked_key all ks [] p b e h at = absurd cc
 picked_key all [] (q ∷ qs) p b e h at = absurd cc
-picked_key {K} all (k ∷ ks) (q ∷ qs) p b e h at = choose (either (is_at (nat_cmp p) q) (has qs p) h) (λ more. picked_key all ks qs p b rest more at) where
+picked_key {K} all (k ∷ ks) (q ∷ qs) p b e h at = choose (or_cases (is_at (nat_cmp p) q) (has qs p) h) (λ more. picked_key all ks qs p b rest more at) where
   first : Some k ≡ slice_get all q
   first = cc
 
@@ -72,9 +55,9 @@ picked_key {K} all (k ∷ ks) (q ∷ qs) p b e h at = choose (either (is_at (nat
 
   choose : (is_at (nat_cmp p) q ≡ true) ⊎ (has qs p ≡ true) → (has qs p ≡ true → Contains ks b) → Contains (k ∷ ks) b
   choose (inl here) later =
-      let same : k ≡ b = one_key (first ∙ (ap (slice_get all) (level_same p q here) ∙ at)) in
-      subst (λ (x : K). Contains (k ∷ ks) x) same (of_first k ks)
-  choose (inr more) later = of_rest k ks b (later more)
+      let same : k ≡ b = same_some (first ∙ (ap (slice_get all) (is_at_same p q here) ∙ at)) in
+      subst (λ (x : K). Contains (k ∷ ks) x) same (contains_first k ks)
+  choose (inr more) later = contains_rest k ks b (later more)
 
 module _ {K : Type 0} (R : K → K → Ordering) (all : List K) (sorted : IsStrictlySortedBy R all) where
   below_each : (k : K) (p : ℕ) (ks : List K) (places : List ℕ) → slice_get all p ≡ Some k → ArePicked all places ks → AllByRecursion (λ q. nat_cmp p q ≡ Less) places → AllByRecursion (λ y. R k y ≡ Less) ks
@@ -109,7 +92,7 @@ all_above {K} {R} o links graph i places ks key above sorted declared g reached 
       forth : (b : K) → (p : ℕ) × (has places p ≡ true) × (slice_get (keys_of links) p ≡ Some b) → IsAbove links key b
       forth b found =
           let last = reached_above g ((reached found.0).0 found.1) key above h in
-          subst (λ (x : K). IsAbove links key x) (one_key (sym last.1 ∙ found.2)) last.2
+          subst (λ (x : K). IsAbove links key x) (same_some (sym last.1 ∙ found.2)) last.2
 
       back : (b : K) → (j : ℕ) × (slice_get (keys_of links) j ≡ Some b) × Reaches graph i j → Contains ks b
       back b found = picked_key (keys_of links) ks places found.0 b picked ((reached found.0).1 found.2) found.1

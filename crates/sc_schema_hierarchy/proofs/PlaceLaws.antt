@@ -9,6 +9,7 @@ use Rattle.std.proofs.lemmas.Cmp.{nat_list_cmp_total}
 use Rattle.std.proofs.lemmas.List.{get_or-take, get_or-drop, length-take-le, length-drop}
 use Rattle.std.proofs.lemmas.Option.{slice_get_within, get_or_from_slice_get}
 use Rattle.std.proofs.lemmas.Map.Lookups.{CmpEqualImpliesEq, exact_bytes}
+use Rattle.sc_lists.proofs.ListLaws.{contains_place}
 use Rattle.sc_lists.specs.Ordered.{StandsAt, BelongsAt}
 use Rattle.sc_names.specs.declared.uid.Uid.{Uid}
 use Rattle.sc_names.specs.Uids.{text_cmp, uid_cmp}
@@ -47,12 +48,8 @@ uid_found keys k i h = stands_is uid_cmp_level (slice_get keys i) k h
 pub uid_absent : (keys : List Uid) (k : Uid) (i : ℕ) → BelongsAt uid_cmp keys k i → ¬ Contains keys k
 uid_absent = belongs_absent uid_cmp_total
 
--- whether a key is among others
-at_contains : {X : Type 0} (xs : List X) (i : ℕ) (x : X) → slice_get xs i ≡ Some x → Contains xs x
-at_contains xs i x h = (i, slice_get_within xs i x h, get_or_from_slice_get xs i x x h)
-
 among : {K : Type 0} {R : K → K → Ordering} (o : IsTotalOrder R) → CmpEqualImpliesEq R → (keys : List K) (k : K) (r : Result ℕ ℕ) → IfOk r (StandsAt R keys k) → IfErr r (BelongsAt R keys k) → IsTrue (is_ok r) ↔ Contains keys k
-among o level keys k (Ok i) found absent = (λ h. at_contains keys i k (stands_is level (slice_get keys i) k found), λ h. refl)
+among o level keys k (Ok i) found absent = (λ h. contains_place keys i k (stands_is level (slice_get keys i) k found), λ h. refl)
 among o level keys k (Err i) found absent = (λ h. absurd (let no : false ≡ true = h in cc), λ h. absurd (belongs_absent o keys k i absent h))
 
 pub name_among : (keys : List (List ℕ)) (k : List ℕ) (r : Result ℕ ℕ) → IfOk r (StandsAt text_cmp keys k) → IfErr r (BelongsAt text_cmp keys k) → IsTrue (is_ok r) ↔ Contains keys k

@@ -10,6 +10,8 @@ use Rattle.std.specs.declared.cmp.Ordering.{Ordering}
 use Rattle.std.proofs.lemmas.Cmp.{nat_list_cmp_total}
 use Rattle.std.proofs.lemmas.Option.{slice_get-map, slice_get-get_or}
 use Rattle.std.proofs.lemmas.Slice.Eq.{bytes_eq-Decides}
+use Rattle.std.proofs.lemmas.Bool.{or_parts}
+use Rattle.sc_lists.proofs.ListLaws.{contains_nothing, contains_split, contains_rest, contains_first, all_of_elements, all_element, contains_map}
 use Rattle.sc_names.specs.declared.uid.Uid.{Uid}
 use Rattle.sc_names.specs.Uids.{text_cmp, uid_cmp}
 use Rattle.sc_names.proofs.UidLaws.{uid_cmp_total}
@@ -18,7 +20,6 @@ use Rattle.sc_schema.specs.Lawful.{AreEntityTypes, IsEntityType, IsTypeWithin, I
 use Rattle.sc_schema.specs.declared.declarations.Action.{Action}
 use Rattle.sc_schema.specs.declared.declarations.EntityType.{EntityType}
 use Rattle.sc_schema.specs.declared.ty.Ty.{Ty}
-use Rattle.sc_schema.proofs.OrderLaws.{of_first, of_rest, split, no_element}
 use Rattle.sc_schema.proofs.PlaceLaws.{find_place, uid_eq-Decides}
 use Rattle.sc_schema_resolved.specs.Expanded.{IsExpanded, IsExpandedEntityType, IsExpandedAction, expanded_names, expanded_uids}
 use Rattle.sc_schema_resolved.specs.declared.expanded.ExpandedAction.{ExpandedAction}
@@ -26,7 +27,7 @@ use Rattle.sc_schema_resolved.specs.declared.expanded.ExpandedEntityType.{Expand
 use Rattle.sc_schema_resolved.specs.declared.expanded.ExpandedSchema.{ExpandedSchema}
 use Rattle.sc_schema_hierarchy.specs.Above.{IsAbove, AreAbove, NamesKeys, NoCycle}
 use Rattle.sc_schema_hierarchy.specs.Schemas.{type_links, action_links, AreInOrder, IsEntityTypeOf, IsActionOf, IsSchemaOf}
-use Rattle.sc_schema_hierarchy.proofs.LinksLaws.{contains_map, contains_from_map, each_of, all_of, above_above, above_key, keys_of_links, links_named}
+use Rattle.sc_schema_hierarchy.proofs.LinksLaws.{contains_from_map, above_above, above_key, keys_of_links, links_named}
 use Rattle.sc_schema_hierarchy.proofs.TypeLaws.{record_type_of, tags_of}
 
 -- ---- look-ups
@@ -38,20 +39,16 @@ found {X} {K} o same decides key xs x k sorted has is =
     let place : slice_get (map key xs) has.0 ≡ Some k = slice_get-map key xs has.0 ∙ (ap (option_map key) stands ∙ ap Some is) in
     sym (find_place o same decides key xs k has.0 sorted place) ∙ stands
 
-either_false : (b c : Bool) → (b || c) ≡ false → (b ≡ false) × (c ≡ false)
-either_false true c h = absurd (let no : true ≡ false = h in cc)
-either_false false c h = (refl, h)
-
 each_fails : {X : Type 0} (test : X → Bool) (xs : List X) (x : X) → list_any test xs ≡ false → Contains xs x → test x ≡ false
-each_fails test [] x h has = absurd (no_element x has)
-each_fails test (y ∷ ys) x h has = elim (split y ys x has) [
-  | inl same ↦ ap test (sym same) ∙ (either_false (test y) (list_any test ys) h).0
-  | inr more ↦ each_fails test ys x (either_false (test y) (list_any test ys) h).1 more
+each_fails test [] x h has = absurd (contains_nothing x has)
+each_fails test (y ∷ ys) x h has = elim (contains_split y ys x has) [
+  | inl same ↦ ap test (sym same) ∙ (or_parts (test y) (list_any test ys) h).0
+  | inr more ↦ each_fails test ys x (or_parts (test y) (list_any test ys) h).1 more
 ]
 
 none_passes : {X : Type 0} (test : X → Bool) (xs : List X) → ((x : X) → Contains xs x → test x ≡ false) → list_any test xs ≡ false
 none_passes test [] h = refl
-none_passes test (x ∷ xs) h = rw (h x (of_first x xs)) (none_passes test xs (λ y has. h y (of_rest x xs y has)))
+none_passes test (x ∷ xs) h = rw (h x (contains_first x xs)) (none_passes test xs (λ y has. h y (contains_rest x xs y has)))
 
 is_found : {X : Type 0} (o : Option X) (x : X) → o ≡ Some x → IsSome o
 is_found o x is = subst IsSome (sym is) refl
@@ -60,11 +57,11 @@ is_found o x is = subst IsSome (sym is) refl
 
 pub types_named : (x : ExpandedSchema) → IsExpanded x → NamesKeys (type_links x.entity_types)
 types_named x e =
-    links_named (λ (d : ExpandedEntityType). d.name) (λ (d : ExpandedEntityType). d.parents) x.entity_types (λ d has. (each_of (IsExpandedEntityType x) x.entity_types d e.each_type has).above)
+    links_named (λ (d : ExpandedEntityType). d.name) (λ (d : ExpandedEntityType). d.parents) x.entity_types (λ d has. (all_element (IsExpandedEntityType x) x.entity_types d e.each_type has).above)
 
 pub actions_named : (x : ExpandedSchema) → IsExpanded x → NamesKeys (action_links x.actions)
 actions_named x e =
-    links_named (λ (d : ExpandedAction). d.uid) (λ (d : ExpandedAction). d.parents) x.actions (λ d has. (each_of (IsExpandedAction x) x.actions d e.each_action has).above)
+    links_named (λ (d : ExpandedAction). d.uid) (λ (d : ExpandedAction). d.parents) x.actions (λ d has. (all_element (IsExpandedAction x) x.actions d e.each_action has).above)
 
 -- ---- what is declared under a name or a uid
 
@@ -106,7 +103,7 @@ module _ (x : ExpandedSchema) (s : Declarations) (e : IsExpanded x) (made : IsSc
 
   types_known : (names all : List (List ℕ)) → AllByRecursion (Contains (expanded_names x)) names → AreInOrder names all → AreEntityTypes s all
   types_known names all known ordered =
-      record { ascending = ordered.ascending; declared = all_of (IsEntityType s) all (λ name has. type_known name (each_of (Contains (expanded_names x)) names name known ((ordered.members name).0 has))) }
+      record { ascending = ordered.ascending; declared = all_of_elements (IsEntityType s) all (λ name has. type_known name (all_element (Contains (expanded_names x)) names name known ((ordered.members name).0 has))) }
 
   above_name : {a b : List ℕ} → IsAbove (type_links x.entity_types) a b → Contains (expanded_names x) b
   above_name {a} {b} is =
@@ -122,7 +119,7 @@ module _ (x : ExpandedSchema) (s : Declarations) (e : IsExpanded x) (made : IsSc
     other a d =
         ap (λ (u : Uid). bytes_eq name u.type_name) d.2.uid
         ∙ each_fails (λ (u : Uid). bytes_eq name u.type_name) (expanded_uids x) d.0.uid
-        (each_of (λ (n : List ℕ). list_any (λ (u : Uid). bytes_eq n u.type_name) (expanded_uids x) ≡ false) (expanded_names x) name e.no_action has)
+        (all_element (λ (n : List ℕ). list_any (λ (u : Uid). bytes_eq n u.type_name) (expanded_uids x) ≡ false) (expanded_names x) name e.no_action has)
         (contains_map (λ (y : ExpandedAction). y.uid) x.actions d.0 d.1)
 
   -- ---- entity types
@@ -133,17 +130,17 @@ module _ (x : ExpandedSchema) (s : Declarations) (e : IsExpanded x) (made : IsSc
       let at = type_at b (above_name up) in
       let are : ancestor_types s b ≡ Some at.type.ancestors = rw (no_action b (above_name up), at.there) refl in
       subst (λ (o : Option (List (List ℕ))). AllByRecursion (Contains names) (unwrap_or o [])) (sym are)
-      (all_of (Contains names) at.type.ancestors (λ c further. (above.members c).1 (above_above c up ((at.above.members c).0 further))))
+      (all_of_elements (Contains names) at.type.ancestors (λ c further. (above.members c).1 (above_above c up ((at.above.members c).0 further))))
 
   lawful_type : (t : EntityType) → (d : ExpandedEntityType) × Contains x.entity_types d × IsEntityTypeOf (type_links x.entity_types) d t → IsLawfulType s t
   lawful_type t d =
-      let known = each_of (IsExpandedEntityType x) x.entity_types d.0 e.each_type d.1 in
+      let known = all_element (IsExpandedEntityType x) x.entity_types d.0 e.each_type d.1 in
       let named : Contains (expanded_names x) t.name = subst (λ (n : List ℕ). Contains (expanded_names x) n) (sym d.2.name) (contains_map (λ (y : ExpandedEntityType). y.name) x.entity_types d.0 d.1) in
       record {
         text = subst IsUtf8 (sym d.2.name) known.text;
         no_action = no_action t.name named;
-        above = record { ascending = d.2.ancestors.ascending; declared = all_of (IsEntityType s) t.ancestors (λ b has. type_known b (above_name ((d.2.ancestors.members b).0 has))) };
-        closed = all_of (IsTypeWithin s t.ancestors) t.ancestors (type_closed d.0.name t.ancestors d.2.ancestors);
+        above = record { ascending = d.2.ancestors.ascending; declared = all_of_elements (IsEntityType s) t.ancestors (λ b has. type_known b (above_name ((d.2.ancestors.members b).0 has))) };
+        closed = all_of_elements (IsTypeWithin s t.ancestors) t.ancestors (type_closed d.0.name t.ancestors d.2.ancestors);
         shape_type = subst (IsRecordTypeOf s) (sym d.2.shape) (record_type_of (expanded_names x) s type_known d.0.shape known.shape_type);
         tag_type = subst (λ (o : Option Ty). IfSome o (IsTypeOf s)) (sym d.2.tags) (tags_of (expanded_names x) s type_known d.0.tags known.tag_type);
       }
@@ -156,20 +153,20 @@ module _ (x : ExpandedSchema) (s : Declarations) (e : IsExpanded x) (made : IsSc
       let at = action_at b (above_uid up) in
       let are : action_ancestors s b ≡ Some at.action_there.ancestors = rw at.there refl in
       subst (λ (o : Option (List Uid)). AllByRecursion (Contains uids) (unwrap_or o [])) (sym are)
-      (all_of (Contains uids) at.action_there.ancestors (λ c further. (above.members c).1 (above_above c up ((at.above.members c).0 further))))
+      (all_of_elements (Contains uids) at.action_there.ancestors (λ c further. (above.members c).1 (above_above c up ((at.above.members c).0 further))))
 
   action_known : (u : Uid) → Contains (expanded_uids x) u → IsSome (action s u)
   action_known u has = let at = action_at u has in is_found (action s u) at.action_there at.there
 
   lawful_action : NoCycle (action_links x.actions) → (a : Action) → (d : ExpandedAction) × Contains x.actions d × IsActionOf (action_links x.actions) d a → IsLawfulAction s a
   lawful_action acyclic a d =
-      let known = each_of (IsExpandedAction x) x.actions d.0 e.each_action d.1 in
+      let known = all_element (IsExpandedAction x) x.actions d.0 e.each_action d.1 in
       record {
         type_text = subst (λ (u : Uid). IsUtf8 u.type_name) (sym d.2.uid) known.type_text;
         id_text = subst (λ (u : Uid). IsUtf8 u.id) (sym d.2.uid) known.id_text;
         ascending = d.2.ancestors.ascending;
-        declared = all_of (λ u. IsSome (action s u)) a.ancestors (λ u has. action_known u (above_uid ((d.2.ancestors.members u).0 has)));
-        closed = all_of (IsActionWithin s a.ancestors) a.ancestors (action_closed d.0.uid a.ancestors d.2.ancestors);
+        declared = all_of_elements (λ u. IsSome (action s u)) a.ancestors (λ u has. action_known u (above_uid ((d.2.ancestors.members u).0 has)));
+        closed = all_of_elements (IsActionWithin s a.ancestors) a.ancestors (action_closed d.0.uid a.ancestors d.2.ancestors);
         acyclic = λ has. acyclic d.0.uid ((d.2.ancestors.members d.0.uid).0 (subst (λ (u : Uid). Contains a.ancestors u) d.2.uid has));
         principal_types = types_known d.0.principals a.principals known.principal_types d.2.principals;
         resource_types = types_known d.0.resources a.resources known.resource_types d.2.resources;
@@ -181,6 +178,6 @@ schema_lawful x s e acyclic made =
     record {
       types_ascend = made.types.ascending;
       actions_ascend = made.actions.ascending;
-      each_type = all_of (IsLawfulType s) s.types (λ t has. lawful_type x s e made t (made.types.each t has));
-      each_action = all_of (IsLawfulAction s) s.actions (λ a has. lawful_action x s e made acyclic a (made.actions.each a has));
+      each_type = all_of_elements (IsLawfulType s) s.types (λ t has. lawful_type x s e made t (made.types.each t has));
+      each_action = all_of_elements (IsLawfulAction s) s.actions (λ a has. lawful_action x s e made acyclic a (made.actions.each a has));
     }

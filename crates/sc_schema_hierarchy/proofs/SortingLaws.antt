@@ -19,6 +19,7 @@ use Rattle.std.specs.Ordering.{eq_by_cmp, is_eq, is_lt, ordering_reverse}
 use Rattle.std.specs.Str.{bytes_eq}
 use Rattle.std.specs.declared.cmp.Ordering.{Ordering}
 use Rattle.std.specs.declared.cmp.Ordering.TheVariants.{Less, Equal, Greater}
+use Rattle.sc_lists.proofs.OrderingLaws.{is_eq_true}
 use Rattle.sc_names.specs.contracts.name.NameEq.TheImpl.Laws.{laws-law}
 use Rattle.sc_names.specs.contracts.name.NameOrd.TheImpl.Laws.{matches_eq-law}
 use Rattle.sc_names.specs.contracts.name.NamePartialEq.TheImpl.{ghosts}
@@ -58,11 +59,6 @@ module _ {X K : Type 0} {R : K → K → Ordering} (o : IsTotalOrder R) (key : X
 
 -- ---- the tests of names and of uids
 
-level_tested : (o : Ordering) → is_eq o ≡ true → o ≡ Equal
-level_tested Less h = cc
-level_tested Equal h = refl
-level_tested Greater h = cc
-
 name_test : bytes_eq ≡ eq_by_cmp text_cmp
 name_test = fun_ext (λ x. fun_ext (λ y. sym (is_eq-slice_cmp x y)))
 
@@ -76,7 +72,7 @@ one_test false false p q = refl
 uid_test : uid_eq ≡ eq_by_cmp uid_cmp
 uid_test = fun_ext (λ u. fun_ext (λ v. one_test (uid_eq u v) (eq_by_cmp uid_cmp u v) (uid_eq-Decides u v) (decides u v))) where
   decides : (u v : Uid) → Decides (eq_by_cmp uid_cmp u v) (u ≡ v)
-  decides u v = (λ h. uid_cmp_level u v (level_tested (uid_cmp u v) h), λ e. ap is_eq (ap (uid_cmp u) (sym e) ∙ tied_itself uid_cmp_total u))
+  decides u v = (λ h. uid_cmp_level u v (is_eq_true (uid_cmp u v) h), λ e. ap is_eq (ap (uid_cmp u) (sym e) ∙ tied_itself uid_cmp_total u))
 
 pub by_name : {X : Type 0} (name : X → List ℕ) (xs ys : List X) → IsPermutation xs ys → IsDistinct bytes_eq (map name xs) → IsSortedBy (λ a b. is_lt (text_cmp (name a) (name b))) ys
     → IsStrictlySortedBy text_cmp (map name ys)

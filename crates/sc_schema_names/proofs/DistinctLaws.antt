@@ -6,17 +6,10 @@ use Rattle.std.specs.Str.{bytes_eq}
 use Rattle.std.proofs.lemmas.Bool.{or_from, false_from_ne_true}
 use Rattle.std.proofs.lemmas.Cmp.{nat_list_cmp_total, tied_itself}
 use Rattle.std.proofs.lemmas.Slice.Eq.{bytes_eq-Decides}
+use Rattle.sc_lists.proofs.ListLaws.{all_append, all_weaker, all_always}
 use Rattle.sc_names.specs.Uids.{text_cmp}
 
 -- ---- all elements
-
-pub all-append : {X : Type 0} (P : X → Type 0) (xs ys : List X) → AllByRecursion P xs → AllByRecursion P ys → AllByRecursion P (xs ++ ys)
-all-append P [] ys h k = k
-all-append P (x ∷ xs) ys h k = (h.0, all-append P xs ys h.1 k)
-
-pub all-weaker : {X : Type 0} (P Q : X → Type 0) → ((x : X) → P x → Q x) → (xs : List X) → AllByRecursion P xs → AllByRecursion Q xs
-all-weaker P Q f [] h = tt
-all-weaker P Q f (x ∷ xs) h = (f x h.0, all-weaker P Q f xs h.1)
 
 pub all-map : {X Y : Type 0} (P : Y → Type 0) (f : X → Y) (xs : List X) → AllByRecursion (λ x. P (f x)) xs → AllByRecursion P (map f xs)
 all-map P f [] h = tt
@@ -28,20 +21,9 @@ all-unmap P f (x ∷ xs) h = (h.0, all-unmap P f xs h.1)
 
 pub all-flat_map : {N X : Type 0} (P : X → Type 0) (f : N → List X) (ns : List N) → AllByRecursion (λ n. AllByRecursion P (f n)) ns → AllByRecursion P (flat_map f ns)
 all-flat_map P f [] h = tt
-all-flat_map P f (n ∷ ns) h = all-append P (f n) (flat_map f ns) h.0 (all-flat_map P f ns h.1)
-
-pub all_true : {X : Type 0} (P : X → Type 0) → ((x : X) → P x) → (xs : List X) → AllByRecursion P xs
-all_true P f [] = tt
-all_true P f (x ∷ xs) = (f x, all_true P f xs)
-
-pub none-any : {X : Type 0} (p : X → Bool) (xs : List X) → AllByRecursion (λ x. p x ≡ false) xs → list_any p xs ≡ false
-none-any p [] h = refl
-none-any p (x ∷ xs) h = or_from (p x) (list_any p xs) h.0 (none-any p xs h.1)
+all-flat_map P f (n ∷ ns) h = all_append P (f n) (flat_map f ns) h.0 (all-flat_map P f ns h.1)
 
 -- ---- texts that differ
-
-pub differ : (x y : List ℕ) → x ≢ y → bytes_eq x y ≡ false
-differ x y h = false_from_ne_true (bytes_eq x y) (λ e. h ((bytes_eq-Decides x y).0 e))
 
 pub below_differ : (x y : List ℕ) → text_cmp x y ≡ Less → x ≢ y
 below_differ x y less e =
@@ -59,7 +41,7 @@ module _ {X : Type 0} (eq : X → X → Bool) where
   distinct-append : (xs ys : List X) → IsDistinct eq xs → IsDistinct eq ys → Apart xs ys → IsDistinct eq (xs ++ ys)
   unfolding IsDistinct
   distinct-append [] ys h k apart = k
-  distinct-append (x ∷ xs) ys h k apart = (all-append (λ y. eq x y ≡ false) xs ys h.0 apart.0, distinct-append xs ys h.1 k apart.1)
+  distinct-append (x ∷ xs) ys h k apart = (all_append (λ y. eq x y ≡ false) xs ys h.0 apart.0, distinct-append xs ys h.1 k apart.1)
 
   -- elements that are made of items in the order of their names
   pub distinct-map : {I : Type 0} (name : I → List ℕ) (make : I → X) → ((a b : I) → text_cmp (name a) (name b) ≡ Less → eq (make a) (make b) ≡ false) → (is : List I)
@@ -67,17 +49,17 @@ module _ {X : Type 0} (eq : X → X → Bool) where
   unfolding IsDistinct IsStrictlySortedBy
   distinct-map name make apart [] h = tt
   distinct-map name make apart (i ∷ is) h = (
-    all-map (λ y. eq (make i) y ≡ false) make is (all-weaker (λ j. text_cmp (name i) (name j) ≡ Less) (λ j. eq (make i) (make j) ≡ false) (apart i) is (all-unmap (λ y. text_cmp (name i) y ≡ Less) name is h.0)),
+    all-map (λ y. eq (make i) y ≡ false) make is (all_weaker (λ j. text_cmp (name i) (name j) ≡ Less) (λ j. eq (make i) (make j) ≡ false) (apart i) is (all-unmap (λ y. text_cmp (name i) y ≡ Less) name is h.0)),
     distinct-map name make apart is h.1,
   )
 
   module _ {N : Type 0} (name : N → List ℕ) (f : N → List X) (Good : N → Type 0) (apart : (n m : N) → Good n → Good m → text_cmp (name n) (name m) ≡ Less → Apart (f n) (f m)) where
     apart_later : (n : N) → Good n → (ms : List N) → AllByRecursion Good ms → AllByRecursion (λ m. text_cmp (name n) m ≡ Less) (map name ms) → Apart (f n) (flat_map f ms)
-    apart_later n good [] goods h = all_true (λ x. AllByRecursion (λ y. eq x y ≡ false) []) (λ x. tt) (f n)
+    apart_later n good [] goods h = all_always (λ x. AllByRecursion (λ y. eq x y ≡ false) []) (λ x. tt) (f n)
     apart_later n good (m ∷ ms) goods h = both (f n) (apart n m good goods.0 h.0) (apart_later n good ms goods.1 h.1) where
       both : (xs : List X) → Apart xs (f m) → Apart xs (flat_map f ms) → Apart xs (f m ++ flat_map f ms)
       both [] p q = tt
-      both (x ∷ xs) p q = (all-append (λ y. eq x y ≡ false) (f m) (flat_map f ms) p.0 q.0, both xs p.1 q.1)
+      both (x ∷ xs) p q = (all_append (λ y. eq x y ≡ false) (f m) (flat_map f ms) p.0 q.0, both xs p.1 q.1)
 
     -- namespaces in the order of their names
     pub distinct-flat_map : (ns : List N) → AllByRecursion Good ns → IsStrictlySortedBy text_cmp (map name ns) → AllByRecursion (λ n. IsDistinct eq (f n)) ns → IsDistinct eq (flat_map f ns)

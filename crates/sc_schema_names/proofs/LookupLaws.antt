@@ -5,6 +5,8 @@ use Rattle.std.specs.List.{find}
 use Rattle.std.specs.BTreeMap.{is_at}
 use Rattle.std.proofs.lemmas.Bool.{cond_both}
 use Rattle.std.proofs.lemmas.Map.Lookups.{CmpEqualImpliesEq, exact_bytes}
+use Rattle.sc_lists.proofs.OrderingLaws.{is_eq_true}
+use Rattle.sc_lists.proofs.ListLaws.{contains_first}
 use Rattle.sc_lists.specs.Ordered.{is_in}
 use Rattle.sc_names.specs.declared.uid.Uid.{Uid}
 use Rattle.sc_names.specs.Uids.{text_cmp, uid_cmp}
@@ -12,25 +14,17 @@ use Rattle.sc_names.proofs.UidLaws.{uid_cmp_level}
 
 -- ---- members of a list
 
-first_contained : {X : Type 0} (x : X) (xs : List X) → Contains (x ∷ xs) x
-first_contained x xs = (0, omega arith, refl)
-
 later_contained : {X : Type 0} (y x : X) (xs : List X) → Contains xs x → Contains (y ∷ xs) x
 later_contained y x xs h = (suc h.0, omega (arith, h.1), h.2)
 
-level_equal : (o : Ordering) → is_eq o ≡ true → o ≡ Equal
-level_equal Less e = absurd cc
-level_equal Equal e = refl
-level_equal Greater e = absurd cc
-
 module _ {X : Type 0} (R : X → X → Ordering) (exact : CmpEqualImpliesEq R) where
   either_contained : (b c : Bool) (x y : X) (ys : List X) → (b ≡ true → x ≡ y) → (c ≡ true → Contains ys x) → b || c ≡ true → Contains (y ∷ ys) x
-  either_contained true c x y ys h k e = subst (λ z. Contains (y ∷ ys) z) (sym (h refl)) (first_contained y ys)
+  either_contained true c x y ys h k e = subst (λ z. Contains (y ∷ ys) z) (sym (h refl)) (contains_first y ys)
   either_contained false c x y ys h k e = later_contained y x ys (k e)
 
   contained : (x : X) (ys : List X) → is_in R x ys ≡ true → Contains ys x
   contained x [] e = absurd cc
-  contained x (y ∷ ys) e = either_contained (is_at (R x) y) (is_in R x ys) x y ys (λ h. exact x y (level_equal (R x y) h)) (contained x ys) e
+  contained x (y ∷ ys) e = either_contained (is_at (R x) y) (is_in R x ys) x y ys (λ h. exact x y (is_eq_true (R x y) h)) (contained x ys) e
 
 pub name_contained : (name : List ℕ) (names : List (List ℕ)) → is_in text_cmp name names ≡ true → Contains names name
 name_contained = contained text_cmp exact_bytes

@@ -6,6 +6,8 @@ use Rattle.std.specs.Str.{IsUtf8, bytes_eq}
 use Rattle.std.proofs.lemmas.Bool.{and_parts, and_left, and_right, not-true}
 use Rattle.std.proofs.lemmas.List.{map-append}
 use Rattle.std.proofs.lemmas.Slice.Eq.{bytes_eq-Decides}
+use Rattle.sc_lists.proofs.ListLaws.{list_any_false, all_always, all_weaker}
+use Rattle.sc_lists.proofs.TextLaws.{bytes_eq_false}
 use Rattle.sc_names.specs.declared.uid.Uid.{Uid}
 use Rattle.sc_names.specs.Names.{is_ident}
 use Rattle.sc_names.specs.Uids.{text_cmp}
@@ -25,7 +27,7 @@ use Rattle.sc_schema_resolved.specs.declared.namespace.ResolvedNamespace.{Resolv
 use Rattle.sc_schema_names.specs.Names.{Known, known_in, full, action_type, action_uid, entity_types_of, common_types_of, actions_of}
 use Rattle.sc_schema_names.specs.Resolution.{resolved_action, resolved_common_type, resolved_entity_type, resolved_namespace, resolved}
 use Rattle.sc_schema_names.specs.Unknown.{inside, first_member, namespace_fault}
-use Rattle.sc_schema_names.proofs.DistinctLaws.{all-weaker, all-map, all-unmap, all-flat_map, all_true, none-any, differ, below_differ, Apart, distinct-map, distinct-flat_map}
+use Rattle.sc_schema_names.proofs.DistinctLaws.{all-map, all-unmap, all-flat_map, below_differ, Apart, distinct-map, distinct-flat_map}
 use Rattle.sc_schema_names.proofs.FullLaws.{HasNoColon, no_colon, full_parts, full_same}
 use Rattle.sc_schema_names.proofs.TypesLaws.{SameNames}
 
@@ -84,24 +86,24 @@ action_no_colon = no_colon (codes "Action") refl
 module _ {X : Type 0} (own : X → List ℕ) (test : List ℕ → Bool) where
   no_colons : (xs : List X) → AllByRecursion (λ name. (is_ident name && test name) ≡ true) (map own xs) → AllByRecursion (λ x. HasNoColon (own x)) xs
   no_colons xs h =
-      all-weaker (λ x. (is_ident (own x) && test (own x)) ≡ true) (λ x. HasNoColon (own x)) (λ x e. no_colon (own x) (and_parts (is_ident (own x)) (test (own x)) e).0) xs
+      all_weaker (λ x. (is_ident (own x) && test (own x)) ≡ true) (λ x. HasNoColon (own x)) (λ x e. no_colon (own x) (and_parts (is_ident (own x)) (test (own x)) e).0) xs
       (all-unmap (λ name. (is_ident name && test name) ≡ true) own xs h)
 
   all_tested : (xs : List X) → AllByRecursion (λ name. (is_ident name && test name) ≡ true) (map own xs) → AllByRecursion (λ x. test (own x) ≡ true) xs
   all_tested xs h =
-      all-weaker (λ x. (is_ident (own x) && test (own x)) ≡ true) (λ x. test (own x) ≡ true) (λ x e. (and_parts (is_ident (own x)) (test (own x)) e).1) xs
+      all_weaker (λ x. (is_ident (own x) && test (own x)) ≡ true) (λ x. test (own x) ≡ true) (λ x e. (and_parts (is_ident (own x)) (test (own x)) e).1) xs
       (all-unmap (λ name. (is_ident name && test name) ≡ true) own xs h)
 
 -- names in full of two namespaces differ, as do two names of one namespace
 other_namespace : (n m x y : List ℕ) → text_cmp n m ≡ Less → HasNoColon x → HasNoColon y → bytes_eq (full n x) (full m y) ≡ false
-other_namespace n m x y less p q = differ (full n x) (full m y) (λ e. below_differ n m less (full_parts n m x y p q e).0)
+other_namespace n m x y less p q = bytes_eq_false (full n x) (full m y) (λ e. below_differ n m less (full_parts n m x y p q e).0)
 
 other_name : (n x y : List ℕ) → text_cmp x y ≡ Less → bytes_eq (full n x) (full n y) ≡ false
-other_name n x y less = differ (full n x) (full n y) (λ e. below_differ x y less (full_same n x y e))
+other_name n x y less = bytes_eq_false (full n x) (full n y) (λ e. below_differ x y less (full_same n x y e))
 
 no_action_name : (n m x : List ℕ) → HasNoColon x → bytes_eq x (codes "Action") ≡ false → bytes_eq (full n x) (action_type m) ≡ false
 no_action_name n m x p other =
-    differ (full n x) (action_type m) (λ e.
+    bytes_eq_false (full n x) (action_type m) (λ e.
     let same : x ≡ codes "Action" = (full_parts n m x (codes "Action") p action_no_colon e).1 in
     let both : true ≡ false = sym ((bytes_eq-Decides x (codes "Action")).1 same) ∙ other in
     cc)
@@ -115,10 +117,10 @@ module _ {X : Type 0} (own : X → List ℕ) where
       → Apart bytes_eq (fulls n xs) (fulls m ys)
   apart_names n m less xs ys h k =
       all-map (λ a. AllByRecursion (λ b. bytes_eq a b ≡ false) (fulls m ys)) (λ x. full n (own x)) xs
-      (all-weaker (λ x. HasNoColon (own x)) (λ x. AllByRecursion (λ b. bytes_eq (full n (own x)) b ≡ false) (fulls m ys))
+      (all_weaker (λ x. HasNoColon (own x)) (λ x. AllByRecursion (λ b. bytes_eq (full n (own x)) b ≡ false) (fulls m ys))
       (λ x p.
       all-map (λ b. bytes_eq (full n (own x)) b ≡ false) (λ y. full m (own y)) ys
-      (all-weaker (λ y. HasNoColon (own y)) (λ y. bytes_eq (full n (own x)) (full m (own y)) ≡ false) (λ y q. other_namespace n m (own x) (own y) less p q) ys k)) xs h)
+      (all_weaker (λ y. HasNoColon (own y)) (λ y. bytes_eq (full n (own x)) (full m (own y)) ≡ false) (λ y q. other_namespace n m (own x) (own y) less p q) ys k)) xs h)
 
   distinct_names : (n : List ℕ) (xs : List X) → IsStrictlySortedBy text_cmp (map own xs) → IsDistinct bytes_eq (fulls n xs)
   distinct_names n xs h = distinct-map bytes_eq own (λ x. full n (own x)) (λ a b less. other_name n (own a) (own b) less) xs h
@@ -138,10 +140,10 @@ module _ (known : Known) where
   apart_actions : (n m : WrittenNamespace) → IsGood known n → IsGood known m → text_cmp n.name m.name ≡ Less → Apart uid_eq (actions_of n) (actions_of m)
   apart_actions n m g h less =
       all-map (λ x. AllByRecursion (λ y. uid_eq x y ≡ false) (actions_of m)) (λ (a : WrittenAction). action_uid n.name a.id) n.actions
-      (all_true (λ (a : WrittenAction). AllByRecursion (λ y. uid_eq (action_uid n.name a.id) y ≡ false) (actions_of m))
+      (all_always (λ (a : WrittenAction). AllByRecursion (λ y. uid_eq (action_uid n.name a.id) y ≡ false) (actions_of m))
       (λ a.
       all-map (λ y. uid_eq (action_uid n.name a.id) y ≡ false) (λ (b : WrittenAction). action_uid m.name b.id) m.actions
-      (all_true (λ (b : WrittenAction). uid_eq (action_uid n.name a.id) (action_uid m.name b.id) ≡ false)
+      (all_always (λ (b : WrittenAction). uid_eq (action_uid n.name a.id) (action_uid m.name b.id) ≡ false)
       (λ b. and_left (bytes_eq (action_type n.name) (action_type m.name)) (bytes_eq a.id b.id) (other_namespace n.name m.name (codes "Action") (codes "Action") less action_no_colon action_no_colon))
       m.actions))
       n.actions)
@@ -149,7 +151,7 @@ module _ (known : Known) where
   distinct_actions : (n : WrittenNamespace) → IsGood known n → IsDistinct uid_eq (actions_of n)
   distinct_actions n g =
       distinct-map uid_eq (λ (a : WrittenAction). a.id) (λ a. action_uid n.name a.id)
-      (λ a b less. and_right (bytes_eq (action_type n.name) (action_type n.name)) (bytes_eq a.id b.id) (differ a.id b.id (below_differ a.id b.id less))) n.actions g.written.ids.ascending
+      (λ a b less. and_right (bytes_eq (action_type n.name) (action_type n.name)) (bytes_eq a.id b.id) (bytes_eq_false a.id b.id (below_differ a.id b.id less))) n.actions g.written.ids.ascending
 
   -- no entity type has the name of a type of actions
   no_actions : (ns : List WrittenNamespace) (n : WrittenNamespace) → IsGood known n
@@ -161,12 +163,12 @@ module _ (known : Known) where
             → AllByRecursion (λ (t : WrittenEntityType). list_any (λ (u : Uid). bytes_eq (full n.name t.name) u.type_name) (flat_map actions_of ns) ≡ false) ts
         each [] p q = tt
         each (t ∷ ts) p q = (
-          none-any (λ (u : Uid). bytes_eq (full n.name t.name) u.type_name) (flat_map actions_of ns)
+          list_any_false (λ (u : Uid). bytes_eq (full n.name t.name) u.type_name) (flat_map actions_of ns)
               (all-flat_map (λ (u : Uid). bytes_eq (full n.name t.name) u.type_name ≡ false) actions_of ns
-              (all_true (λ m. AllByRecursion (λ (u : Uid). bytes_eq (full n.name t.name) u.type_name ≡ false) (actions_of m))
+              (all_always (λ m. AllByRecursion (λ (u : Uid). bytes_eq (full n.name t.name) u.type_name ≡ false) (actions_of m))
               (λ m.
               all-map (λ (u : Uid). bytes_eq (full n.name t.name) u.type_name ≡ false) (λ (a : WrittenAction). action_uid m.name a.id) m.actions
-              (all_true (λ (a : WrittenAction). bytes_eq (full n.name t.name) (action_type m.name) ≡ false)
+              (all_always (λ (a : WrittenAction). bytes_eq (full n.name t.name) (action_type m.name) ≡ false)
               (λ a. no_action_name n.name m.name t.name p.0 (not-true (bytes_eq t.name (codes "Action")) q.0)) m.actions)) ns)),
           each ts p.1 q.1,
         )
@@ -178,20 +180,20 @@ module _ (known : Known) where
     distinct_commons =
         distinct-flat_map bytes_eq (λ (n : WrittenNamespace). n.name) common_types_of (IsGood known)
         (λ n m h k less. apart_names (λ (c : WrittenCommonType). c.name) n.name m.name less n.common_types m.common_types (common_no_colons n h) (common_no_colons m k)) ns g ascending
-        (all-weaker (IsGood known) (λ n. IsDistinct bytes_eq (common_types_of n)) (λ n h. distinct_names (λ (c : WrittenCommonType). c.name) n.name n.common_types h.written.common_names.ascending) ns g)
+        (all_weaker (IsGood known) (λ n. IsDistinct bytes_eq (common_types_of n)) (λ n h. distinct_names (λ (c : WrittenCommonType). c.name) n.name n.common_types h.written.common_names.ascending) ns g)
 
     pub distinct_entities : IsDistinct bytes_eq (flat_map entity_types_of ns)
     distinct_entities =
         distinct-flat_map bytes_eq (λ (n : WrittenNamespace). n.name) entity_types_of (IsGood known)
         (λ n m h k less. apart_names (λ (t : WrittenEntityType). t.name) n.name m.name less n.entity_types m.entity_types (entity_no_colons n h) (entity_no_colons m k)) ns g ascending
-        (all-weaker (IsGood known) (λ n. IsDistinct bytes_eq (entity_types_of n)) (λ n h. distinct_names (λ (t : WrittenEntityType). t.name) n.name n.entity_types h.written.entity_names.ascending) ns g)
+        (all_weaker (IsGood known) (λ n. IsDistinct bytes_eq (entity_types_of n)) (λ n h. distinct_names (λ (t : WrittenEntityType). t.name) n.name n.entity_types h.written.entity_names.ascending) ns g)
 
     pub distinct_uids : IsDistinct uid_eq (flat_map actions_of ns)
     distinct_uids =
         distinct-flat_map uid_eq (λ (n : WrittenNamespace). n.name) actions_of (IsGood known) apart_actions ns g ascending
-        (all-weaker (IsGood known) (λ n. IsDistinct uid_eq (actions_of n)) distinct_actions ns g)
+        (all_weaker (IsGood known) (λ n. IsDistinct uid_eq (actions_of n)) distinct_actions ns g)
 
     pub no_action_types : AllByRecursion (λ name. list_any (λ (u : Uid). bytes_eq name u.type_name) (flat_map actions_of ns) ≡ false) (flat_map entity_types_of ns)
     no_action_types =
         all-flat_map (λ name. list_any (λ (u : Uid). bytes_eq name u.type_name) (flat_map actions_of ns) ≡ false) entity_types_of ns
-        (all-weaker (IsGood known) (λ n. AllByRecursion (λ name. list_any (λ (u : Uid). bytes_eq name u.type_name) (flat_map actions_of ns) ≡ false) (entity_types_of n)) (no_actions ns) ns g)
+        (all_weaker (IsGood known) (λ n. AllByRecursion (λ name. list_any (λ (u : Uid). bytes_eq name u.type_name) (flat_map actions_of ns) ≡ false) (entity_types_of n)) (no_actions ns) ns g)

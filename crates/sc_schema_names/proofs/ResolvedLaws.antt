@@ -5,6 +5,7 @@ use Rattle.std.specs.Option.{option_or}
 use Rattle.std.specs.List.{AllByRecursion, flat_map, list_any, IsDistinct}
 use Rattle.std.specs.Str.{IsUtf8, bytes_eq}
 use Rattle.std.proofs.lemmas.Str.{IsUtf8-append}
+use Rattle.sc_lists.proofs.ListLaws.{all_weaker}
 use lib.Utf8.{encode}
 use Rattle.sc_names.specs.declared.uid.Uid.{Uid}
 use Rattle.sc_schema.specs.Declarations.{uid_eq}
@@ -24,7 +25,7 @@ use Rattle.sc_schema_names.specs.Names.{Known, known_in, full, action_type, acti
 use Rattle.sc_schema_names.specs.Resolution.{resolved_action, resolved_common_type, resolved_entity_type, resolved_namespace, resolved}
 use Rattle.sc_schema_names.specs.Unknown.{inside, first_member, first_item, parent_fault, entity_types_fault, any_type_fault, applies_to_fault, action_fault, common_type_fault, declared_entity_type_fault, first_unknown}
 use Rattle.sc_schema_names.specs.Resolves.{Resolves}
-use Rattle.sc_schema_names.proofs.DistinctLaws.{all-weaker, all-map, all-flat_map}
+use Rattle.sc_schema_names.proofs.DistinctLaws.{all-map, all-flat_map}
 use Rattle.sc_schema_names.proofs.OwnNamesLaws.{same_names, IsGood, goods, distinct_commons, distinct_entities, distinct_uids, no_action_types}
 use Rattle.sc_schema_names.proofs.TypesLaws.{SameNames, fine_type, fine_any_type, entities_declared, parents_declared}
 
@@ -135,7 +136,7 @@ resolved_is w h e =
     let ns = w.namespaces in
     let same = same_names w in
     let g = goods k ns h.names.texts h.each_namespace e in
-    let fine = all-weaker (IsGood k) (IsFine w (resolved w) same) (fine_namespace w (resolved w) same) ns g in
+    let fine = all_weaker (IsGood k) (IsFine w (resolved w) same) (fine_namespace w (resolved w) same) ns g in
     record {
       common_distinct = subst (IsDistinct bytes_eq) (sym same.commons) (distinct_commons k ns g h.names.ascending);
       entities_distinct = subst (IsDistinct bytes_eq) (sym same.entities) (distinct_entities k ns g h.names.ascending);
@@ -143,11 +144,11 @@ resolved_is w h e =
       no_action = subst (λ (uids : List Uid). AllByRecursion (λ name. list_any (λ (u : Uid). bytes_eq name u.type_name) uids ≡ false) (entity_names (resolved w))) (sym same.uids)
           (subst (AllByRecursion (λ name. list_any (λ (u : Uid). bytes_eq name u.type_name) (actions w) ≡ false)) (sym same.entities) (no_action_types k ns g h.names.ascending));
       each_common = all_declared (λ (c : ResolvedCommonType). IsResolvedType (resolved w) c.body) (λ (n : ResolvedNamespace). n.common_types) (resolved_namespace k) ns
-          (all-weaker (IsFine w (resolved w) same) (λ n. AllByRecursion (λ (c : ResolvedCommonType). IsResolvedType (resolved w) c.body) (map (resolved_common_type k n.name) n.common_types)) (λ n x. x.commons) ns fine);
+          (all_weaker (IsFine w (resolved w) same) (λ n. AllByRecursion (λ (c : ResolvedCommonType). IsResolvedType (resolved w) c.body) (map (resolved_common_type k n.name) n.common_types)) (λ n x. x.commons) ns fine);
       each_entity = all_declared (IsResolvedEntityType (resolved w)) (λ (n : ResolvedNamespace). n.entity_types) (resolved_namespace k) ns
-          (all-weaker (IsFine w (resolved w) same) (λ n. AllByRecursion (IsResolvedEntityType (resolved w)) (map (resolved_entity_type k n.name) n.entity_types)) (λ n x. x.entities) ns fine);
+          (all_weaker (IsFine w (resolved w) same) (λ n. AllByRecursion (IsResolvedEntityType (resolved w)) (map (resolved_entity_type k n.name) n.entity_types)) (λ n x. x.entities) ns fine);
       each_action = all_declared (IsResolvedAction (resolved w)) (λ (n : ResolvedNamespace). n.actions) (resolved_namespace k) ns
-          (all-weaker (IsFine w (resolved w) same) (λ n. AllByRecursion (IsResolvedAction (resolved w)) (map (resolved_action k n.name) n.actions)) (λ n x. x.uids) ns fine);
+          (all_weaker (IsFine w (resolved w) same) (λ n. AllByRecursion (IsResolvedAction (resolved w)) (map (resolved_action k n.name) n.actions)) (λ n x. x.uids) ns fine);
     }
 
 pub resolves_resolved : (w : WrittenSchema) (s : ResolvedSchema) → IsWritten w → Resolves w s → IsResolved s

@@ -2,7 +2,7 @@
 use Rattle.std.proofs.Common.{◌≡◌, ℕ, List, [], ◌∷◌, map, Contains, refl, ap, sym, ◌∙◌, subst}
 use Rattle.std.specs.List.{flat_map}
 use Rattle.std.proofs.lemmas.List.Elements.{Contains-append_left, Contains-append_right}
-use Rattle.sc_schema.proofs.OrderLaws.{of_first}
+use Rattle.sc_lists.proofs.ListLaws.{contains_first}
 use Rattle.sc_schema.specs.declared.ty.Presence.{Presence}
 use Rattle.sc_schema.specs.declared.ty.Ty.{Ty}
 use Rattle.sc_schema.specs.declared.ty.Ty.TheVariants as ty
@@ -61,7 +61,7 @@ module _ (m n : Meaning) where
   same_step (r.Entity name) h = refl
   same_step (r.Set e) h = ap ty.Set (e.1 h)
   same_step (r.Record es) h = ap ty.Record (same_fields es h)
-  same_step (r.Common name) h = h.same name (of_first name [])
+  same_step (r.Common name) h = h.same name (contains_first name [])
 
   same_layer : (y : ResolvedType-F Known) → IsSame (roll-ResolvedType (forget y))
   same_layer y h = expanded-roll m (forget y) ∙ same_step y (subst (Agree m n) (names-roll (forget y)) h) ∙ sym (expanded-roll n (forget y))

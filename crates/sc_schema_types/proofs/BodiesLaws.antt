@@ -8,13 +8,14 @@ use Rattle.std.specs.Option.{is_some, option_or}
 use Rattle.std.specs.Str.{bytes_eq}
 use Rattle.std.proofs.lemmas.Grind.{flat_map-append}
 use Rattle.std.proofs.lemmas.List.{take_more}
+use Rattle.sc_lists.proofs.TextLaws.{bytes_eq_true}
 use Rattle.sc_names.specs.Uids.{text_cmp}
 use Rattle.sc_schema_resolved.specs.declared.common_type.ResolvedCommonType.{ResolvedCommonType}
 use Rattle.sc_schema_resolved.specs.declared.namespace.ResolvedNamespace.{ResolvedNamespace}
 use Rattle.sc_schema_resolved.specs.declared.resolved_type.ResolvedType.{ResolvedType}
 use Rattle.sc_schema_types.specs.References.{body_among}
 use Rattle.sc_schema_types.specs.Tables.{body_in}
-use Rattle.sc_schema_types.proofs.TextsLaws.{is_at-bytes, same_bytes}
+use Rattle.sc_schema_types.proofs.TextsLaws.{is_at-bytes}
 
 abbrev Found : Type 0
 Found = Option ResolvedType
@@ -82,7 +83,7 @@ put_new old new c key v same body absent updates q =
     ∙ ap (λ (t : ResolvedType). cond (is_at (text_cmp key) q) (Some t) (body_in old q)) body
     ∙ put_new_at (is_at (text_cmp key) q) (bytes_eq q c.name) c.body (body_in old q)
     (ap (λ (n : List ℕ). is_at (text_cmp n) q) same ∙ is_at-bytes c.name q)
-    (λ h. ap (body_in old) (same_bytes q c.name h) ∙ none_found _ absent)
+    (λ h. ap (body_in old) (bytes_eq_true q c.name h) ∙ none_found _ absent)
     ∙ ap (option_or (body_in old q)) (sym (body_among_one c q))
 
 put_there_at : (o p : Found) → (is_some o ≡ false → p ≡ None) → o ≡ option_or o p
@@ -101,7 +102,7 @@ is_some-seen (Some x) = refl
 pub put_there : (old : Entries) (c : ResolvedCommonType) → true ≡ is_some (lookup (is_at (text_cmp c.name)) old) → (q : List ℕ) → body_in old q ≡ option_or (body_in old q) (body_among (c ∷ []) q)
 put_there old c there q =
     put_there_at (body_in old q) (body_among (c ∷ []) q) (λ h. body_among_one c q
-    ∙ not_here (bytes_eq q c.name) c.body (λ same. there ∙ (ap (λ (n : List ℕ). is_some (lookup (is_at (text_cmp n)) old)) (sym (same_bytes q c.name same)) ∙ (sym (is_some-seen (lookup (is_at (text_cmp q)) old)) ∙ h))))
+    ∙ not_here (bytes_eq q c.name) c.body (λ same. there ∙ (ap (λ (n : List ℕ). is_some (lookup (is_at (text_cmp n)) old)) (sym (bytes_eq_true q c.name same)) ∙ (sym (is_some-seen (lookup (is_at (text_cmp q)) old)) ∙ h))))
 
 -- ---- and one after the other
 

@@ -8,8 +8,9 @@ use Rattle.std.proofs.lemmas.Cmp.{nat_list_cmp_total}
 use Rattle.std.proofs.lemmas.List.{get_or_append_left, get_or_default}
 use Rattle.std.proofs.lemmas.List.Elements.{Contains-append_left, Contains-append_cases, All-contains}
 use Rattle.std.proofs.lemmas.Map.Keys.{Less-from_sorted}
+use Rattle.sc_lists.proofs.ListLaws.{contains_nothing}
 use Rattle.sc_names.specs.Uids.{text_cmp}
-use Rattle.sc_schema.proofs.OrderLaws.{not_below, both_below, no_element}
+use Rattle.sc_schema.proofs.OrderLaws.{not_below, both_below}
 use Rattle.sc_schema_resolved.specs.declared.resolved_type.ResolvedType.{ResolvedType}
 use Rattle.sc_schema_types.specs.References.{Names, Bodies, Graph, Reaches, at_once, through, references, names_in}
 use Rattle.sc_schema_types.specs.Orders.{IsLeastCycle}
@@ -118,7 +119,7 @@ module _ (graph : Graph) (start : List ℕ) (old seen : Names) (at : ℕ) (h : I
 -- ---- the least name that reaches itself
 
 has_body : (o : Option ResolvedType) (x : List ℕ) → Contains (unwrap_or (option_map names_in o) []) x → is_some o ≡ true
-has_body None x found = absurd (no_element x found)
+has_body None x found = absurd (contains_nothing x found)
 has_body (Some body) x found = refl
 
 pub leads_declared : (bodies : Bodies) {a b : List ℕ} → Reaches (references bodies) a b → IsSome (bodies a)

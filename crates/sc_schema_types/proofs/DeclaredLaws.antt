@@ -3,7 +3,8 @@ use Rattle.std.proofs.Common.{◌≡◌, ◌⊎◌, ℕ, List, [], ◌∷◌, ma
 use Rattle.std.specs.List.{AllByRecursion, flat_map, find}
 use Rattle.std.specs.Str.{bytes_eq}
 use Rattle.std.proofs.lemmas.List.Elements.{Contains-append_cases}
-use Rattle.sc_schema.proofs.OrderLaws.{split, no_element}
+use Rattle.sc_lists.proofs.TextLaws.{bytes_eq_true}
+use Rattle.sc_lists.proofs.ListLaws.{contains_nothing, contains_split}
 use Rattle.sc_schema.specs.declared.ty.Presence.{Presence}
 use Rattle.sc_schema_resolved.specs.declared.common_type.ResolvedCommonType.{ResolvedCommonType}
 use Rattle.sc_schema_resolved.specs.declared.resolved_type.ResolvedType.{ResolvedType, ResolvedType-F, roll-ResolvedType, map-ResolvedType, ind-ResolvedType}
@@ -16,7 +17,7 @@ use Rattle.sc_schema_types.proofs.AgreeLaws.{names-roll}
 use Rattle.sc_schema_types.proofs.BodiesLaws.{body_first}
 use Rattle.sc_schema_types.proofs.EveryLaws.{at_level, in_Set, in_Record}
 use Rattle.sc_schema_types.proofs.NamesLaws.{Attribute}
-use Rattle.sc_schema_types.proofs.TextsLaws.{same_bytes, bytes_same}
+use Rattle.sc_schema_types.proofs.TextsLaws.{bytes_same}
 
 -- ---- bodies
 
@@ -39,12 +40,12 @@ pub has_body : (P : ResolvedCommonType → Type 0) (types : List ResolvedCommonT
 has_body P [] q body all is = absurd (body_among-none q body is)
 has_body P (c ∷ types) q body all is = here (bytes_eq q c.name) refl (sym (body_among-first c types q) ∙ is) (has_body P types q body all.1) where
   here : (b : Bool) → bytes_eq q c.name ≡ b → cond b (Some c.body) (body_among types q) ≡ Some body → (body_among types q ≡ Some body → HasBody P q body) → HasBody P q body
-  here true same found rest = record { type = c; named = same_bytes q c.name same; stands = (let e : Some c.body ≡ Some body = found in cc); holds = all.0 }
+  here true same found rest = record { type = c; named = bytes_eq_true q c.name same; stands = (let e : Some c.body ≡ Some body = found in cc); holds = all.0 }
   here false same found rest = rest found
 
 pub named_has_body : (types : List ResolvedCommonType) (q : List ℕ) → Contains (map (λ (c : ResolvedCommonType). c.name) types) q → (body : ResolvedType) × (body_among types q ≡ Some body)
-named_has_body [] q has = absurd (no_element q has)
-named_has_body (c ∷ types) q has = here (bytes_eq q c.name) refl (split c.name (map (λ (d : ResolvedCommonType). d.name) types) q has) (named_has_body types q) where
+named_has_body [] q has = absurd (contains_nothing q has)
+named_has_body (c ∷ types) q has = here (bytes_eq q c.name) refl (contains_split c.name (map (λ (d : ResolvedCommonType). d.name) types) q has) (named_has_body types q) where
   here : (b : Bool) → bytes_eq q c.name ≡ b → (c.name ≡ q) ⊎ Contains (map (λ (d : ResolvedCommonType). d.name) types) q → (Contains (map (λ (d : ResolvedCommonType). d.name) types) q → (body : ResolvedType) × (body_among types q ≡ Some body))
       → (body : ResolvedType) × (body_among (c ∷ types) q ≡ Some body)
   here true same found rest = (c.body, body_among-first c types q ∙ ap (λ (t : Bool). cond t (Some c.body) (body_among types q)) same)
@@ -81,7 +82,7 @@ module _ (s : ResolvedSchema) where
   names_of fields = flat_map (λ (a : List ℕ × Presence × Names). a.2) (map (λ (a : Attribute). (a.0, a.1, names_in a.2)) fields)
 
   named_fields : (es : List (List ℕ × Presence × Known)) (q : List ℕ) → AllByRecursion (λ (a : Attribute). IsResolvedType s a.2) (forget_fields es) → Contains (names_of (forget_fields es)) q → Contains (common_names s) q
-  named_fields [] q all has = absurd (no_element q has)
+  named_fields [] q all has = absurd (contains_nothing q has)
   named_fields (e ∷ es) q all has = pick (Contains-append_cases (names_in e.2.0) (names_of (forget_fields es)) q has) (named_fields es q all.1) where
     pick : Contains (names_in e.2.0) q ⊎ Contains (names_of (forget_fields es)) q → (Contains (names_of (forget_fields es)) q → Contains (common_names s) q) → Contains (common_names s) q
     pick (inl here) rest = e.2.1 all.0 q here
@@ -89,18 +90,18 @@ module _ (s : ResolvedSchema) where
 
   one_name : (name q : List ℕ) → Contains (common_names s) name → (name ≡ q) ⊎ Contains [] q → Contains (common_names s) q
   one_name name q has (inl is) = subst (Contains (common_names s)) is has
-  one_name name q has (inr none) = absurd (no_element q none)
+  one_name name q has (inr none) = absurd (contains_nothing q none)
 
   named_step : (y : ResolvedType-F Known) (q : List ℕ) → IsResolvedType s (roll-ResolvedType (forget y)) → Contains (names_step (map-ResolvedType ResolvedType Names names_in (forget y))) q → Contains (common_names s) q
-  named_step r.Boolean q h has = absurd (no_element q has)
-  named_step r.Long q h has = absurd (no_element q has)
-  named_step r.String q h has = absurd (no_element q has)
-  named_step r.Decimal q h has = absurd (no_element q has)
-  named_step r.Ip q h has = absurd (no_element q has)
-  named_step (r.Entity name) q h has = absurd (no_element q has)
+  named_step r.Boolean q h has = absurd (contains_nothing q has)
+  named_step r.Long q h has = absurd (contains_nothing q has)
+  named_step r.String q h has = absurd (contains_nothing q has)
+  named_step r.Decimal q h has = absurd (contains_nothing q has)
+  named_step r.Ip q h has = absurd (contains_nothing q has)
+  named_step (r.Entity name) q h has = absurd (contains_nothing q has)
   named_step (r.Set e) q h has = e.1 (in_Set (IsResolvedLevel s) e.0 h) q has
   named_step (r.Record es) q h has = named_fields es q (in_Record (IsResolvedLevel s) (forget_fields es) h) has
-  named_step (r.Common name) q h has = one_name name q (at_level (IsResolvedLevel s) (r.Common name) h) (split name [] q has)
+  named_step (r.Common name) q h has = one_name name q (at_level (IsResolvedLevel s) (r.Common name) h) (contains_split name [] q has)
 
   named_layer : (y : ResolvedType-F Known) → IsNamed (roll-ResolvedType (forget y))
   named_layer y h q has = named_step y q h (subst (λ (ns : Names). Contains ns q) (names-roll (forget y)) has)

@@ -3,6 +3,7 @@ use Rattle.std.proofs.Common.{◌≡◌, ℕ, List, [], ◌∷◌, ◌++◌, Boo
 use Rattle.std.specs.List.{AllByRecursion, flat_map}
 use Rattle.std.specs.Option.{option_or, IfSome}
 use Rattle.std.proofs.lemmas.List.{drop_more}
+use Rattle.sc_lists.proofs.ListLaws.{all_append}
 use Rattle.sc_schema.specs.declared.ty.Ty.{Ty, Ty-F, out-Ty, roll-Ty, roll-out-Ty}
 use Rattle.sc_schema.specs.declared.ty.Ty.TheOpen as t
 use Rattle.sc_schema.specs.declared.ty.Ty.TheVariants as ty
@@ -28,10 +29,6 @@ Found = Option SchemaFault
 all_append : {X : Type 0} (P : X → Type 0) (xs ys : List X) → AllByRecursion P (xs ++ ys) → AllByRecursion P xs × AllByRecursion P ys
 all_append P [] ys all = (tt, all)
 all_append P (x ∷ xs) ys all = let rest = all_append P xs ys all.1 in ((all.0, rest.0), rest.1)
-
-all_join : {X : Type 0} (P : X → Type 0) (xs ys : List X) → AllByRecursion P xs → AllByRecursion P ys → AllByRecursion P (xs ++ ys)
-all_join P [] ys all more = more
-all_join P (x ∷ xs) ys all more = (all.0, all_join P xs ys all.1 more)
 
 -- ---- the elements of a list, one after the other
 
@@ -167,8 +164,8 @@ module _ (j : Judge) where
       let here = namespace_none n parts.0 in
       let rest = namespaces_none ns parts.1 in
       record {
-        contexts = all_join HasRecordContext n.actions (flat_map (λ (m : ResolvedNamespace). m.actions) ns) here.contexts rest.contexts;
-        shapes = all_join HasRecordShape n.entity_types (flat_map (λ (m : ResolvedNamespace). m.entity_types) ns) here.shapes rest.shapes;
+        contexts = all_append HasRecordContext n.actions (flat_map (λ (m : ResolvedNamespace). m.actions) ns) here.contexts rest.contexts;
+        shapes = all_append HasRecordShape n.entity_types (flat_map (λ (m : ResolvedNamespace). m.entity_types) ns) here.shapes rest.shapes;
       }
 
   pub no_fault_records : (s : ResolvedSchema) → first_fault j s ≡ None → AreRecords (actions s) (entity_types s)

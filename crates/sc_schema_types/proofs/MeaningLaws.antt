@@ -5,8 +5,8 @@ use Rattle.std.specs.BTreeMap.{is_at}
 use Rattle.std.specs.List.{All, fold}
 use Rattle.std.proofs.lemmas.List.{take_at, get_or_at, length-append}
 use Rattle.std.proofs.lemmas.List.Elements.{All-contains, Contains-append_left, Contains-push_cases}
+use Rattle.sc_lists.proofs.ListLaws.{contains_nothing}
 use Rattle.sc_names.specs.Uids.{text_cmp}
-use Rattle.sc_schema.proofs.OrderLaws.{no_element}
 use Rattle.sc_schema.specs.declared.ty.Ty.{Ty}
 use Rattle.sc_schema.specs.declared.ty.Ty.TheVariants as ty
 use Rattle.sc_schema_resolved.specs.declared.resolved_type.ResolvedType.{ResolvedType}
@@ -138,4 +138,4 @@ meant_rest bodies front (x ∷ rest) m order closed h =
 
 pub meant_by_order : (bodies : Bodies) (order : Names) → LeadsBack (references bodies) order → AreMeant bodies (meaning_by bodies order) order
 meant_by_order bodies order h =
-    meant_rest bodies [] order (λ _. ty.Bool) h (record { closed = λ q has. absurd (no_element q has) }) (record { meant = λ q body has is. absurd (no_element q has) })
+    meant_rest bodies [] order (λ _. ty.Bool) h (record { closed = λ q has. absurd (contains_nothing q has) }) (record { meant = λ q body has is. absurd (contains_nothing q has) })

@@ -4,41 +4,36 @@ use Rattle.std.specs.BTreeMap.{is_at}
 use Rattle.std.specs.List.{AllByRecursion, IsDistinct}
 use Rattle.std.specs.Str.{bytes_eq}
 use Rattle.std.proofs.lemmas.List.Elements.{Contains-append_left, Contains-push, Contains-push_cases}
+use Rattle.sc_lists.proofs.ListLaws.{contains_nothing, contains_split, contains_rest, contains_first}
+use Rattle.sc_lists.proofs.TextLaws.{bytes_eq_false, bytes_eq_true}
 use Rattle.sc_names.specs.Uids.{text_cmp}
-use Rattle.sc_schema.proofs.OrderLaws.{split, of_first, of_rest, no_element}
 use Rattle.sc_schema_types.specs.declared.search.Mark.{Mark}
 use Rattle.sc_schema_types.specs.declared.search.Mark.TheVariants.{Open, Placed}
 use Rattle.sc_schema_types.specs.References.{Names}
 use Rattle.sc_schema_types.specs.Searches.{Marks, mark_in, marked_in, IsOnce}
 use Rattle.sc_schema_types.proofs.MembersLaws.{all_push, all_front}
-use Rattle.sc_schema_types.proofs.TextsLaws.{is_at-bytes, same_bytes, same_at, not_first}
+use Rattle.sc_schema_types.proofs.TextsLaws.{is_at-bytes, same_at, not_first}
 
 -- ---- names that differ
 
-apart : (x y : List ℕ) → (x ≡ y → ⊥) → bytes_eq x y ≡ false
-apart x y other = by (bytes_eq x y) refl where
-  by : (b : Bool) → bytes_eq x y ≡ b → bytes_eq x y ≡ false
-  by true e = absurd (other (same_bytes x y e))
-  by false e = e
-
 not_at : (a b : List ℕ) → (a ≡ b → ⊥) → is_at (text_cmp a) b ≡ false
-not_at a b other = is_at-bytes a b ∙ apart b a (λ is. other (sym is))
+not_at a b other = is_at-bytes a b ∙ bytes_eq_false b a (λ is. other (sym is))
 
 distinct_push : (xs : Names) (y : List ℕ) → IsDistinct bytes_eq xs → (Contains xs y → ⊥) → IsDistinct bytes_eq (xs ++ y ∷ [])
 unfolding IsDistinct
 distinct_push [] y h none = (tt, tt)
 distinct_push (x ∷ xs) y h none = (
-  all_push (λ z. bytes_eq x z ≡ false) xs y h.0 (apart x y (λ is. none (subst (Contains (x ∷ xs)) is (of_first x xs)))),
-  distinct_push xs y h.1 (λ has. none (of_rest x xs y has)),
+  all_push (λ z. bytes_eq x z ≡ false) xs y h.0 (bytes_eq_false x y (λ is. none (subst (Contains (x ∷ xs)) is (contains_first x xs)))),
+  distinct_push xs y h.1 (λ has. none (contains_rest x xs y has)),
 )
 
 distinct_front : (xs : Names) (y : List ℕ) → IsDistinct bytes_eq (xs ++ y ∷ []) → IsDistinct bytes_eq xs × (Contains xs y → ⊥)
 unfolding IsDistinct
-distinct_front [] y h = (tt, no_element y)
+distinct_front [] y h = (tt, contains_nothing y)
 distinct_front (x ∷ xs) y h =
     let rest = distinct_front xs y h.1 in
     let first = all_front (λ z. bytes_eq x z ≡ false) xs y h.0 in
-    ((first.0, rest.0), λ has. not_first x xs y first.1 rest.1 (split x xs y has))
+    ((first.0, rest.0), λ has. not_first x xs y first.1 rest.1 (contains_split x xs y has))
 
 -- ---- marks
 
@@ -101,8 +96,8 @@ module _ (order path : Names) (old new : Marks) (name : List ℕ) (h : IsOnce or
 pub once_first : (marks : Marks) → IsOnce [] [] marks
 unfolding IsDistinct
 once_first marks = record {
-  in_order = λ q has. absurd (no_element q has);
-  on_path = λ q on. absurd (no_element q on);
+  in_order = λ q has. absurd (contains_nothing q has);
+  on_path = λ q on. absurd (contains_nothing q on);
   order_once = tt;
   path_once = tt;
 }

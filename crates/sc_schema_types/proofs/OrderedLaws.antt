@@ -8,8 +8,8 @@ use Rattle.std.specs.Str.{bytes_eq}
 use Rattle.std.specs.Map.{keys_of, lookup}
 use Rattle.std.specs.Option.{is_some}
 use Rattle.std.proofs.lemmas.List.Elements.{All-contains}
+use Rattle.sc_lists.proofs.ListLaws.{contains_rest, contains_first}
 use Rattle.sc_names.specs.Uids.{text_cmp}
-use Rattle.sc_schema.proofs.OrderLaws.{of_first, of_rest}
 use Rattle.sc_schema_resolved.specs.declared.common_type.ResolvedCommonType.{ResolvedCommonType}
 use Rattle.sc_schema_resolved.specs.declared.resolved_type.ResolvedType.{ResolvedType}
 use Rattle.sc_schema_resolved.specs.declared.schema.ResolvedSchema.{ResolvedSchema}
@@ -30,8 +30,8 @@ keyed [] name h = absurd cc
 keyed (e ∷ entries) name h = here (is_at (text_cmp name) e.0) refl h (keyed entries name) where
   here : (b : Bool) → is_at (text_cmp name) e.0 ≡ b → is_some (option_map (λ (y : Bor ResolvedType). y.now) (cond b (Some e.1) (lookup (is_at (text_cmp name)) entries))) ≡ true
       → (IsSome (body_in entries name) → Contains (keys_of entries) name) → Contains (e.0 ∷ keys_of entries) name
-  here true same found rest = subst (Contains (e.0 ∷ keys_of entries)) (sym (at_same name e.0 same)) (of_first e.0 (keys_of entries))
-  here false other found rest = of_rest e.0 (keys_of entries) name (rest found)
+  here true same found rest = subst (Contains (e.0 ∷ keys_of entries)) (sym (at_same name e.0 same)) (contains_first e.0 (keys_of entries))
+  here false other found rest = contains_rest e.0 (keys_of entries) name (rest found)
 
 pub all_keyed : (entries : Entries) (names : Names) → names ≡ keys_of entries → (name : List ℕ) → IsSome (body_in entries name) → Contains names name
 all_keyed entries names same name h = subst (λ (ns : Names). Contains ns name) (sym same) (keyed entries name h)
@@ -41,8 +41,8 @@ all_keyed entries names same name h = subst (λ (ns : Names). Contains ns name) 
 each_named : (order : Names) (types : List ResolvedCommonType) → ((q : List ℕ) → Contains (map (λ (c : ResolvedCommonType). c.name) types) q → Contains order q) → AllByRecursion (λ (c : ResolvedCommonType). Contains order c.name) types
 each_named order [] f = tt
 each_named order (c ∷ types) f = (
-  f c.name (of_first c.name (map (λ (d : ResolvedCommonType). d.name) types)),
-  each_named order types (λ q has. f q (of_rest c.name (map (λ (d : ResolvedCommonType). d.name) types) q has)),
+  f c.name (contains_first c.name (map (λ (d : ResolvedCommonType). d.name) types)),
+  each_named order types (λ q has. f q (contains_rest c.name (map (λ (d : ResolvedCommonType). d.name) types) q has)),
 )
 
 some_is : (o : Option ResolvedType) (body : ResolvedType) → o ≡ Some body → IsSome o

@@ -3,8 +3,8 @@ use Rattle.std.proofs.Common.{◌≡◌, ℕ, List, [], ◌∷◌, map, Contains
 use Rattle.std.specs.List.{AllByRecursion, flat_map}
 use Rattle.std.specs.Str.{IsUtf8}
 use Rattle.std.proofs.lemmas.List.Elements.{Contains-append_left, Contains-append_right}
+use Rattle.sc_lists.proofs.ListLaws.{contains_first}
 use Rattle.sc_schema.proofs.EveryTypeLaws.{every_Bool, every_Long, every_String, every_Decimal, every_Ip, every_Entity, every_Set, every_Record}
-use Rattle.sc_schema.proofs.OrderLaws.{of_first}
 use Rattle.sc_schema.specs.declared.ty.Presence.{Presence}
 use Rattle.sc_schema.specs.declared.ty.Ty.{Ty}
 use Rattle.sc_schema.specs.Lawful.{AreAscending, names_of_fields}
@@ -71,7 +71,7 @@ module _ (s : ResolvedSchema) (m : Meaning) where
   proper_step (r.Entity name) h over = every_Entity (IsLevelOver (entity_names s)) name (at_level (IsResolvedLevel s) (r.Entity name) h)
   proper_step (r.Set e) h over = every_Set (IsLevelOver (entity_names s)) (expanded m e.0) tt (e.1 (in_Set (IsResolvedLevel s) e.0 h) over)
   proper_step (r.Record es) h over = proper_record es h over
-  proper_step (r.Common name) h over = over.over name (of_first name [])
+  proper_step (r.Common name) h over = over.over name (contains_first name [])
 
   proper_layer : (y : ResolvedType-F Known) → IsProper (roll-ResolvedType (forget y))
   proper_layer y h over = subst IsOver (sym (expanded-roll m (forget y))) (proper_step y h (subst AreOver (names-roll (forget y)) over))

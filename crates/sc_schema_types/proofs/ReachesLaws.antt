@@ -1,6 +1,6 @@
 -- What leads to what.
 use Rattle.std.proofs.Common.{◌≡◌, ◌⊎◌, ℕ, List, [], ◌∷◌, ◌++◌, Contains, inl, inr, subst}
-use Rattle.sc_schema.proofs.OrderLaws.{split, of_first, no_element}
+use Rattle.sc_lists.proofs.ListLaws.{contains_nothing, contains_split, contains_first}
 use Rattle.sc_schema_types.specs.References.{Names, Graph, Reaches, at_once, through}
 use Rattle.sc_schema_types.specs.Searches.{IsPath}
 
@@ -29,12 +29,12 @@ module _ (graph : Graph) where
   -- what stands on a path before its end leads to its end
   pub path_reach : (front : Names) (a q : List ℕ) → IsPath graph (front ++ a ∷ []) → Contains front q → Reaches graph q a
   unfolding IsPath
-  path_reach [] a q h found = absurd (no_element q found)
-  path_reach (x ∷ []) a q h found = pick (split x [] q found) where
+  path_reach [] a q h found = absurd (contains_nothing q found)
+  path_reach (x ∷ []) a q h found = pick (contains_split x [] q found) where
     pick : (x ≡ q) ⊎ Contains [] q → Reaches graph q a
     pick (inl is) = subst (λ (y : List ℕ). Reaches graph y a) is (at_once h.0)
-    pick (inr none) = absurd (no_element q none)
-  path_reach (x ∷ y ∷ front) a q h found = pick (split x (y ∷ front) q found) (path_reach (y ∷ front) a y h.1 (of_first y front)) (path_reach (y ∷ front) a q h.1) where
+    pick (inr none) = absurd (contains_nothing q none)
+  path_reach (x ∷ y ∷ front) a q h found = pick (contains_split x (y ∷ front) q found) (path_reach (y ∷ front) a y h.1 (contains_first y front)) (path_reach (y ∷ front) a q h.1) where
     pick : (x ≡ q) ⊎ Contains (y ∷ front) q → Reaches graph y a → (Contains (y ∷ front) q → Reaches graph q a) → Reaches graph q a
     pick (inl is) r f = subst (λ (z : List ℕ). Reaches graph z a) is (through y h.0 r)
     pick (inr later) r f = f later

@@ -7,8 +7,8 @@ use Rattle.std.proofs.lemmas.Bool.{cases_lt}
 use Rattle.std.proofs.lemmas.List.Elements.{Contains-append_left, Contains-push, Contains-push_cases}
 use Rattle.std.proofs.lemmas.Option.{slice_get_within, slice_get-get_or, get_or_from_slice_get}
 use Rattle.std.proofs.lemmas.List.{take_at, take-append-le, get_or_append_left, get_or_default, get_or_push, length_push, map_push}
+use Rattle.sc_lists.proofs.ListLaws.{contains_nothing, contains_first}
 use Rattle.sc_names.specs.Uids.{text_cmp}
-use Rattle.sc_schema.proofs.OrderLaws.{of_first, no_element}
 use Rattle.sc_schema_types.specs.declared.search.Mark.{Mark}
 use Rattle.sc_schema_types.specs.declared.search.Mark.TheVariants.{Open, Placed}
 use Rattle.sc_schema_types.specs.declared.search.Step.{Step}
@@ -251,7 +251,7 @@ goes_down bodies old new step further q at h skips found none name next place or
 
 -- where nothing is on the path, a name that isn't placed has no mark
 pub rests_unmarked : (bodies : Bodies) (search : Search) (q : List ℕ) → IsRested bodies search → (mark_in search.marks.entries q ≡ Some Placed → ⊥) → mark_in search.marks.entries q ≡ None
-rests_unmarked bodies search q h placed = no_mark search.marks.entries q placed (λ is_open. no_element q (h.sound.marked.open_ones q is_open))
+rests_unmarked bodies search q h placed = no_mark search.marks.entries q placed (λ is_open. contains_nothing q (h.sound.marked.open_ones q is_open))
 
 -- a common type and all that it reaches get their places: nothing that has its place loses it
 pub record IsPlacing (bodies : Bodies) (first : Names) (start : List ℕ) (search : Search) : Type 0 where
@@ -267,7 +267,7 @@ placing_first bodies old new start h none order path marks =
     record {
       sound = subst (λ (p : List Step). IsSearch bodies new.order.items p new.marks.entries) (sym path_is) (subst (λ (ns : Names). IsSearch bodies ns (opened bodies start ∷ []) new.marks.entries) (sym order) after);
       keeps = λ q has. inl (subst (λ (ns : Names). Contains ns q) (sym order) has);
-      begun = inr (subst (λ (p : List Step). Contains (names_on p) start) (sym path_is) (of_first start []));
+      begun = inr (subst (λ (p : List Step). Contains (names_on p) start) (sym path_is) (contains_first start []));
     }
 
 known_after : (bodies : Bodies) (popped : Search) (path : List Step) (step : Step) (new : Search) (q : List ℕ) → path ≡ popped.path.items ++ step ∷ [] → GoesOn bodies popped step new → IsKnown popped.order.items path q → IsKnown new.order.items new.path.items q
@@ -284,7 +284,7 @@ placing_next bodies first start old popped new step h path order goes = record {
 -- nothing is on the path any more
 placed_known : (order : Names) (path : List Step) (q : List ℕ) → path ≡ [] → IsKnown order path q → Contains order q
 placed_known order path q none (inl has) = has
-placed_known order path q none (inr on) = absurd (no_element q (subst (λ (p : List Step). Contains (names_on p) q) none on))
+placed_known order path q none (inr on) = absurd (contains_nothing q (subst (λ (p : List Step). Contains (names_on p) q) none on))
 
 pub placing_last : (bodies : Bodies) (first : Names) (start : List ℕ) (old new : Search) → IsPlacing bodies first start old → old.path.items ≡ new.path.items ++ [] → new.path.items ≡ [] → new.order.items ≡ old.order.items → new.marks.entries ≡ old.marks.entries
     → IsRested bodies new × Contains new.order.items start × ((q : List ℕ) → Contains first q → Contains new.order.items q)

@@ -5,27 +5,19 @@ use Rattle.std.specs.Cmp.{both_ways}
 use Rattle.std.specs.Str.{bytes_eq}
 use Rattle.std.proofs.lemmas.Map.Text.{is_eq-slice_cmp}
 use Rattle.std.proofs.lemmas.Slice.Eq.{bytes_eq-Decides}
+use Rattle.sc_lists.proofs.ListLaws.{contains_nothing, contains_split, contains_rest, contains_first}
+use Rattle.sc_lists.proofs.TextLaws.{bytes_eq_swap, bytes_eq_true}
 use Rattle.sc_names.specs.Uids.{text_cmp}
-use Rattle.sc_schema.proofs.OrderLaws.{split, of_first, of_rest, no_element}
-
-pub bytes_eq-turned : (a b : List ℕ) → bytes_eq a b ≡ bytes_eq b a
-bytes_eq-turned a b =
-    both_ways (bytes_eq a b) (bytes_eq b a)
-    (λ h. (bytes_eq-Decides b a).1 (sym ((bytes_eq-Decides a b).0 h)))
-    (λ h. (bytes_eq-Decides a b).1 (sym ((bytes_eq-Decides b a).0 h)))
 
 -- a look-up of one name tests another one by its bytes
 pub is_at-bytes : (a b : List ℕ) → is_at (text_cmp a) b ≡ bytes_eq b a
-is_at-bytes a b = is_eq-slice_cmp a b ∙ bytes_eq-turned a b
-
-pub same_bytes : (a b : List ℕ) → bytes_eq a b ≡ true → a ≡ b
-same_bytes a b = (bytes_eq-Decides a b).0
+is_at-bytes a b = is_eq-slice_cmp a b ∙ bytes_eq_swap a b
 
 pub bytes_same : (a b : List ℕ) → a ≡ b → bytes_eq a b ≡ true
 bytes_same a b = (bytes_eq-Decides a b).1
 
 pub at_same : (a b : List ℕ) → is_at (text_cmp a) b ≡ true → a ≡ b
-at_same a b h = sym (same_bytes b a (sym (is_at-bytes a b) ∙ h))
+at_same a b h = sym (bytes_eq_true b a (sym (is_at-bytes a b) ∙ h))
 
 pub same_at : (a b : List ℕ) → a ≡ b → is_at (text_cmp a) b ≡ true
 same_at a b h = is_at-bytes a b ∙ bytes_same b a (sym h)
@@ -36,17 +28,17 @@ not_first y names x other none (inr has) = none has
 
 -- a name is among names or it isn't
 pub has_or_not : (names : List (List ℕ)) (x : List ℕ) → Contains names x ⊎ (Contains names x → ⊥)
-has_or_not [] x = inr (no_element x)
+has_or_not [] x = inr (contains_nothing x)
 has_or_not (y ∷ names) x = here (bytes_eq y x) refl (has_or_not names x) where
   here : (b : Bool) → bytes_eq y x ≡ b → Contains names x ⊎ (Contains names x → ⊥) → Contains (y ∷ names) x ⊎ (Contains (y ∷ names) x → ⊥)
-  here true same rest = inl (subst (Contains (y ∷ names)) (same_bytes y x same) (of_first y names))
-  here false other (inl has) = inl (of_rest y names x has)
-  here false other (inr none) = inr (λ has. not_first y names x other none (split y names x has))
+  here true same rest = inl (subst (Contains (y ∷ names)) (bytes_eq_true y x same) (contains_first y names))
+  here false other (inl has) = inl (contains_rest y names x has)
+  here false other (inr none) = inr (λ has. not_first y names x other none (contains_split y names x has))
 
 -- ---- a test of two texts
 
 pub tested_same : (a b x y : List ℕ) → a ≡ x → b ≡ y → true ≡ bytes_eq a b → x ≡ y
-tested_same a b x y first second same = sym first ∙ same_bytes a b (sym same) ∙ second
+tested_same a b x y first second same = sym first ∙ bytes_eq_true a b (sym same) ∙ second
 
 pub tested_other : (a b x y : List ℕ) → a ≡ x → b ≡ y → false ≡ bytes_eq a b → x ≢ y
 tested_other a b x y first second other is = absurd (let both : true ≡ false = sym (bytes_same a b (first ∙ is ∙ sym second)) ∙ sym other in cc)

@@ -4,6 +4,9 @@ use Rattle.std.specs.List.{Contains}
 use Rattle.std.proofs.lemmas.List.{get_or_default, reverse-append, take_more, length-map, get_or-replicate, length-replicate}
 use Rattle.std.proofs.Math.ListN.{set, length-set, get_or-eq_default, get_or-map}
 use Rattle.std.proofs.lemmas.List.Elements.{Contains-append_left, Contains-push, Contains-push_cases}
+use Rattle.std.proofs.lemmas.Bool.{false_from_ne_true}
+use Rattle.sc_lists.proofs.BoolLaws.{and_first}
+use Rattle.sc_lists.proofs.ListLaws.{contains_nothing, contains_first}
 use Rattle.sc_clauses.specs.Clauses.{negation, Clause}
 use Rattle.sc_clauses.specs.declared.lit.Lit.{Lit}
 use Rattle.sc_search.proofs.CellLaws.{consistent, before-more, at-before, before-at, at-not-before}
@@ -16,7 +19,7 @@ use Rattle.sc_search.specs.Trails.{true_before, set_before, cell_of, HasPlace, s
 use Rattle.sc_search.specs.declared.cell.Cell.{Cell}
 use Rattle.sc_search.specs.declared.cell.Cell.TheVariants.{Free, Decided, Implied}
 use Rattle.sc_clauses.proofs.LitLaws.{negation_twice, bool_eq-true}
-use Rattle.sc_search.proofs.LitLaws.{lit-of, nat-cases, lit-cases, below-or, bool-false, and-left, head-has, tail-has, cons-cases, none-in}
+use Rattle.sc_search.proofs.LitLaws.{lit-of, nat-cases, lit-cases, below-or, tail-has, cons-cases}
 
 -- a literal that is true before place i + 1 is the one at i, or is true before i
 before-cases : (cells : List Cell) (trail : List Lit) → Agree cells trail → (i : ℕ) (l m : Lit) → At trail i l → true_before cells (i + 1) m ≡ true → (l ≡ m) ⊎ (true_before cells i m ≡ true)
@@ -39,7 +42,7 @@ numbered cs k c at = let e : k ≡ k + 1 - 1 = omega arith in (omega arith, subs
 pub hint-within : (cs : List Clause) (known : List Lit) (hints : List ℕ) → Refutes cs known hints → (h : ℕ) → Contains hints h → (0 < h) × (h ≤ length cs)
 hint-within cs known hints (conflict _ h c (some, at) all) g has =
     let lt : h - 1 < length cs = at.0 in
-    ⊎_elim (λ (e : h ≡ g). (omega arith, omega arith)) (λ (old : Contains [] g). absurd (none-in g old)) (cons-cases h g [] has)
+    ⊎_elim (λ (e : h ≡ g). (omega arith, omega arith)) (λ (old : Contains [] g). absurd (contains_nothing g old)) (cons-cases h g [] has)
 hint-within cs known hints (one_left _ h hs c l (some, at) cl apart others rest) g has =
     let lt : h - 1 < length cs = at.0 in
     ⊎_elim (λ (e : h ≡ g). (omega arith, omega arith)) (λ (old : Contains hs g). hint-within cs _ hs rest g old) (cons-cases h g hs has)
@@ -82,7 +85,7 @@ refutes-resolve cs cells trail p i r met after hints l agree at lt why grow is_m
     (h (l ∷ known)
     (λ m b is_met.
     ⊎_elim
-    (λ (e : l ≡ m). subst (λ (w : Lit). Contains (l ∷ known) w) e (head-has l known))
+    (λ (e : l ≡ m). subst (λ (w : Lit). Contains (l ∷ known) w) e (contains_first l known))
     (λ (b' : true_before cells i m ≡ true). tail-has l m known (has m b' (grow m is_met)))
     (before-cases cells trail agree i l m at b))
     (λ m known'.
@@ -93,8 +96,8 @@ refutes-resolve cs cells trail p i r met after hints l agree at lt why grow is_m
 
 one-sign : (c : Cell) (p q : ℕ) (s t : Bool) → set_before c p s ≡ true → set_before c q t ≡ true → s ≡ t
 one-sign Free p q s t e f = absurd cc
-one-sign (Decided n k) p q s t e f = sym (bool_eq-true n s (and-left _ _ e)) ∙ bool_eq-true n t (and-left _ _ f)
-one-sign (Implied n k r) p q s t e f = sym (bool_eq-true n s (and-left _ _ e)) ∙ bool_eq-true n t (and-left _ _ f)
+one-sign (Decided n k) p q s t e f = sym (bool_eq-true n s (and_first _ _ e)) ∙ bool_eq-true n t (and_first _ _ f)
+one-sign (Implied n k r) p q s t e f = sym (bool_eq-true n s (and_first _ _ e)) ∙ bool_eq-true n t (and_first _ _ f)
 
 pub same-lit : (cells : List Cell) (p q : ℕ) (a b : Lit) → true_before cells p a ≡ true → true_before cells q b ≡ true → a.atom ≡ b.atom → a ≡ b
 same-lit cells p q a b ba bb e =
@@ -206,7 +209,7 @@ twice (x ∷ xs) = cc (negation_twice x, twice xs)
 
 -- what isn't true later wasn't true earlier
 pub not-lower : (cells : List Cell) (first p : ℕ) (m : Lit) → true_before cells p m ≡ false → first ≤ p → true_before cells first m ≡ false
-not-lower cells first p m f le = bool-false _ (λ e. true≢false (sym (before-more cells first p m le e) ∙ f))
+not-lower cells first p m f le = false_from_ne_true _ (λ e. true≢false (sym (before-more cells first p m le e) ∙ f))
 
 has-neg : (c : List Lit) (x : Lit) → Contains c x → Contains (map negation c) (negation x)
 has-neg c x (k, lt, e) = (k, let l : length (map negation c) ≡ length c = simp length-map in omega arith, get_or_map_at c k x lt ∙ ap negation e)
@@ -272,10 +275,10 @@ pub collected-fresh : (n : ℕ) (cells : List Cell) (first : ℕ) (met : List Bo
 collected-fresh n cells first met lower e f = record {
   sized = ap length e ∙ length-replicate n false;
   covers = λ m b is_met. absurd (true≢false (sym (subst (λ (ms : List Bool). IsMet ms m) e is_met) ∙ all-false n m.atom));
-  are_lower = λ m has. absurd (none-in m (subst (λ (xs : List Lit). Contains xs m) f has));
+  are_lower = λ m has. absurd (contains_nothing m (subst (λ (xs : List Lit). Contains xs m) f has));
 }
 
 -- where no place is left, nothing has to be known
 pub refutes-none : (cs : List Clause) (cells : List Cell) (p i : ℕ) (met : List Bool) (hints : List ℕ) → i ≤ 0 → RefutesMet cs cells p i met hints → Refutes cs [] (reverse hints)
 refutes-none cs cells p i met hints le h =
-    h [] (λ m b is_met. let w = before-at cells m i b in let lt : w.0 < i = w.1 in absurd (omega arith)) (λ m has. absurd (none-in m has))
+    h [] (λ m b is_met. let w = before-at cells m i b in let lt : w.0 < i = w.1 in absurd (omega arith)) (λ m has. absurd (contains_nothing m has))

@@ -5,6 +5,8 @@ use Rattle.std.proofs.Math.ListN.{set}
 use Rattle.std.proofs.Math.Seq.{get_or-append_seam}
 use Rattle.std.proofs.lemmas.List.{length-append, get_or_default, get_or-take, length-take-le}
 use Rattle.std.proofs.lemmas.List.Elements.{Contains-append_left, Contains-push, Contains-push_cases, All-nil, All-cons, All-contains, Contains-get_or}
+use Rattle.std.proofs.lemmas.Bool.{cases_Bool}
+use Rattle.sc_lists.proofs.ListLaws.{contains_nothing, contains_first}
 use Rattle.sc_clauses.specs.Clauses.{negation, Clause}
 use Rattle.sc_clauses.specs.declared.lit.Lit.{Lit}
 use Rattle.sc_clauses.specs.declared.step.Learned as step
@@ -22,7 +24,7 @@ use Rattle.sc_search.specs.declared.trail.Trail.{Trail}
 use Rattle.sc_search.specs.declared.cell.Cell.{Cell}
 use Rattle.sc_search.specs.declared.cell.Cell.TheVariants.{Free, Decided, Implied}
 use Rattle.sc_clauses.proofs.LitLaws.{negation_twice}
-use Rattle.sc_search.proofs.LitLaws.{below-or, bool-cases, sign-cases, head-has, tail-has, none-in}
+use Rattle.sc_search.proofs.LitLaws.{below-or, sign-cases, tail-has}
 
 -- all were false before a place, or one wasn't
 pub find-open : (cells : List Cell) (p : ℕ) (c : List Lit) → AreBefore cells p c ⊎ ((m : Lit) × (Contains c m) × (true_before cells p (negation m) ≡ false))
@@ -34,8 +36,8 @@ find-open cells p (m ∷ c) =
     (λ (all : AreBefore cells p c). inl (All-cons (λ w. true_before cells p (negation w) ≡ true) m c t all))
     (λ (w : (x : Lit) × (Contains c x) × (true_before cells p (negation x) ≡ false)). inr (w.0, tail-has m w.0 c w.1, w.2))
     (find-open cells p c))
-    (λ (f : true_before cells p (negation m) ≡ false). inr (m, head-has m c, f))
-    (bool-cases (true_before cells p (negation m)))
+    (λ (f : true_before cells p (negation m) ≡ false). inr (m, contains_first m c, f))
+    (cases_Bool (true_before cells p (negation m)))
 
 pub free-or-at : (c : Cell) (s : Bool) → (c ≡ Free) ⊎ ((i : ℕ) × (set_at c s i ⊎ set_at c (not s) i))
 free-or-at Free s = inl refl
@@ -259,9 +261,9 @@ in-cells-more n cs C h is c has l cl =
 -- the step that logs the empty clause
 pub refuted-shown : (cs : List Clause) (hints : List ℕ) (s : step.Learned) → Refutes cs [] hints → length cs < 10 ^ 18 → s.clause ≡ [] → s.hints ≡ hints → (atoms : ℕ) → IsShown atoms cs s
 refuted-shown cs hints s shows few clause same atoms = record {
-  is_clause = subst (λ (c : Clause). IsClause atoms c) (sym clause) (λ l has. absurd (none-in l has));
+  is_clause = subst (λ (c : Clause). IsClause atoms c) (sym clause) (λ l has. absurd (contains_nothing l has));
   refutes = subst (λ (c : Clause). Refutes cs (map negation c) s.hints) (sym clause) (subst (λ (hs : List ℕ). Refutes cs [] hs) (sym same) shows);
   some = subst (λ (hs : List ℕ). 0 < length hs) (sym same) (some-hint cs [] hints shows);
-  lit_numbers = λ l has. absurd (none-in l (subst (λ (c : Clause). Contains c l) clause has));
+  lit_numbers = λ l has. absurd (contains_nothing l (subst (λ (c : Clause). Contains c l) clause has));
   hint_numbers = λ h has. hint-number cs [] hints shows few h (subst (λ (hs : List ℕ). Contains hs h) same has);
 }

@@ -2,6 +2,9 @@
 use Rattle.std.proofs.Common.{◌≡◌, ◌≢◌, ◌⊎◌, inl, inr, ⊎_elim, ℕ, zero, suc, ◌<◌, ◌≤◌, List, [], ◌∷◌, Bool, true, false, not, ◌&&◌, ◌||◌, eqb, ltb, length, refl, sym, ap, ◌∙◌, subst, true≢false, arith}
 use Rattle.std.specs.List.{Contains}
 use Rattle.std.proofs.lemmas.Bool.Decides.{Decides-eqb, Decides-ltb, nat_tests}
+use Rattle.std.proofs.lemmas.Bool.{or_cases}
+use Rattle.sc_lists.proofs.ListLaws.{contains_first, contains_nothing}
+use Rattle.sc_lists.proofs.BoolLaws.{and_first, and_second}
 use Rattle.sc_clauses.specs.Clauses.{Clause, lit_eq, is_in, contained}
 use Rattle.sc_clauses.specs.declared.lit.Lit.{Lit}
 use Rattle.sc_clauses.proofs.LitLaws.{lit_eq-true}
@@ -36,39 +39,13 @@ lit-cases a b =
     (λ (e : a.negated ≢ b.negated). inr (λ g. e (ap (λ (x : Lit). x.negated) g)))
     (same-or-not a.negated b.negated)
 
-pub bool-cases : (b : Bool) → (b ≡ true) ⊎ (b ≡ false)
-bool-cases true = inl refl
-bool-cases false = inr refl
-
 pub sign-cases : (n s : Bool) → (n ≡ s) ⊎ (n ≡ not s)
 sign-cases true true = inl refl
 sign-cases true false = inr refl
 sign-cases false true = inr refl
 sign-cases false false = inl refl
 
-pub bool-false : (b : Bool) → (b ≡ true → ⊥) → b ≡ false
-bool-false true h = absurd (h refl)
-bool-false false h = refl
-
-pub and-left : (a b : Bool) → a && b ≡ true → a ≡ true
-and-left true b e = refl
-and-left false b e = absurd cc
-
-pub and-right : (a b : Bool) → a && b ≡ true → b ≡ true
-and-right true b e = e
-and-right false b e = absurd cc
-
-pub both : (a b : Bool) → a ≡ true → b ≡ true → a && b ≡ true
-both a b e f = rw (e, f) refl
-
-or-cases : (a b : Bool) → a || b ≡ true → (a ≡ true) ⊎ (b ≡ true)
-or-cases true b e = inl refl
-or-cases false b e = inr e
-
 -- ---- what is in a list
-
-pub head-has : {X : Type 0} (x : X) (xs : List X) → Contains (x ∷ xs) x
-head-has x xs = (0, omega arith, refl)
 
 pub tail-has : {X : Type 0} (x y : X) (xs : List X) → Contains xs y → Contains (x ∷ xs) y
 tail-has x y xs (k, lt, e) = (suc k, omega arith, e)
@@ -76,9 +53,6 @@ tail-has x y xs (k, lt, e) = (suc k, omega arith, e)
 pub cons-cases : {X : Type 0} (x y : X) (xs : List X) → Contains (x ∷ xs) y → (x ≡ y) ⊎ Contains xs y
 cons-cases x y xs (zero, lt, e) = inl e
 cons-cases x y xs (suc k, lt, e) = inr (k, omega arith, e)
-
-pub none-in : {X : Type 0} (x : X) → Contains [] x → ⊥
-none-in x (k, lt, e) = omega arith
 
 pub nil-of : {X : Type 0} (xs : List X) → length xs ≡ 0 → xs ≡ []
 nil-of [] e = refl
@@ -89,24 +63,24 @@ found : (xs : List Lit) (m : Lit) → is_in xs m ≡ true → Contains xs m
 found [] m e = absurd cc
 found (x ∷ xs) m e =
     ⊎_elim
-    (λ (t : lit_eq m x ≡ true). subst (λ (w : Lit). Contains (x ∷ xs) w) (sym (lit_eq-true m x t)) (head-has x xs))
+    (λ (t : lit_eq m x ≡ true). subst (λ (w : Lit). Contains (x ∷ xs) w) (sym (lit_eq-true m x t)) (contains_first x xs))
     (λ (t : is_in xs m ≡ true). tail-has x m xs (found xs m t))
-    (or-cases (lit_eq m x) (is_in xs m) e)
+    (or_cases (lit_eq m x) (is_in xs m) e)
 
 -- each literal of one clause is in the other
 pub contained-has : (c d : Clause) → contained c d ≡ true → (m : Lit) → Contains c m → Contains d m
-contained-has [] d e m has = absurd (none-in m has)
+contained-has [] d e m has = absurd (contains_nothing m has)
 contained-has (x ∷ c) d e m has =
     ⊎_elim
-    (λ (s : x ≡ m). subst (λ (w : Lit). Contains d w) s (found d x (and-left (is_in d x) (contained c d) e)))
-    (λ (old : Contains c m). contained-has c d (and-right (is_in d x) (contained c d) e) m old)
+    (λ (s : x ≡ m). subst (λ (w : Lit). Contains d w) s (found d x (and_first (is_in d x) (contained c d) e)))
+    (λ (old : Contains c m). contained-has c d (and_second (is_in d x) (contained c d) e) m old)
     (cons-cases x m c has)
 
 pub has-or-not : (c : Clause) (l : Lit) → Contains c l ⊎ ((m : Lit) → Contains c m → m ≢ l)
-has-or-not [] l = inr (λ m has e. none-in m has)
+has-or-not [] l = inr (λ m has e. contains_nothing m has)
 has-or-not (x ∷ c) l =
     ⊎_elim
-    (λ (s : x ≡ l). inl (subst (λ (w : Lit). Contains (x ∷ c) w) s (head-has x c)))
+    (λ (s : x ≡ l). inl (subst (λ (w : Lit). Contains (x ∷ c) w) s (contains_first x c)))
     (λ (ne : x ≢ l).
     ⊎_elim
     (λ (old : Contains c l). inl (tail-has x l c old))

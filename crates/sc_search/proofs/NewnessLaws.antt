@@ -1,11 +1,12 @@
 -- A clause that a quiet set of literals falsifies but for one literal is new.
 use Rattle.std.proofs.Common.{◌≡◌, ◌≢◌, inl, inr, ⊎_elim, List, Bool, true, false, refl, sym, ◌∙◌, subst, true≢false}
 use Rattle.std.specs.List.{Contains}
+use Rattle.std.proofs.lemmas.Bool.{false_from_ne_true}
 use Rattle.sc_clauses.specs.Clauses.{negation, Clause, contained}
 use Rattle.sc_clauses.specs.declared.lit.Lit.{Lit}
 use Rattle.sc_search.specs.Propagation.{Follows, assumed, unit, IsNewBy, IsNew}
 use Rattle.sc_search.specs.Trails.{IsSingle, IsQuiet, AreQuiet}
-use Rattle.sc_search.proofs.LitLaws.{lit-cases, bool-false, contained-has, has-or-not}
+use Rattle.sc_search.proofs.LitLaws.{lit-cases, contained-has, has-or-not}
 
 clash : {P : Type 0} (T : Lit → Bool) (m : Lit) → T (negation m) ≡ true → T (negation m) ≡ false → P
 clash T m e f = absurd (true≢false (sym e ∙ f))
@@ -32,7 +33,7 @@ module _ (T : Lit → Bool) (consistent : IsSingle T) (cs : List Clause) (quiet 
 -- a clause that is new has all literals of no clause before it
 pub uncovered : (cs : List Clause) (C : Clause) → IsNew cs C → (c : Clause) → Contains cs c → contained c C ≡ false
 uncovered cs C (l, (has, not_given, no_conflict)) c ic =
-    bool-false _ (λ e.
+    false_from_ne_true _ (λ e.
     let sub = contained-has c C e in
     ⊎_elim
     (λ (cl : Contains c l). not_given (unit c l ic cl (λ m cm ne. assumed m (negation m) (sub m cm) ne refl)))

@@ -5,9 +5,10 @@ use Rattle.std.proofs.Math.ListN.{set, length-set, get_or-append, get_or-eq_defa
 use Rattle.std.proofs.Math.Seq.{get_or-append_seam}
 use Rattle.std.proofs.lemmas.List.{length-append, get_or-replicate, length-replicate, take_more, length-take-le}
 use Rattle.std.proofs.lemmas.List.Elements.{Contains-append_left, Contains-get_or, Contains-push, Contains-push_cases}
+use Rattle.sc_lists.proofs.ListLaws.{contains_nothing, contains_first}
 use Rattle.sc_clauses.specs.Clauses.{Clause}
 use Rattle.sc_clauses.specs.declared.lit.Lit.{Lit}
-use Rattle.sc_search.proofs.LitLaws.{lit-of, lit-cases, below-or, none-in, head-has, cons-cases, sign-cases}
+use Rattle.sc_search.proofs.LitLaws.{lit-of, lit-cases, below-or, cons-cases, sign-cases}
 use Rattle.sc_search.specs.Occurrences.{ListsAll, ListsMore, lists_of, places_of}
 use Rattle.sc_search.specs.Trails.{AllInCells}
 use Rattle.sc_search.specs.declared.occurrences.Occurrences.{Occurrences}
@@ -57,7 +58,7 @@ module _ (o new : Occurrences) (lit : Lit) (place : ℕ) (within : lit.atom < le
     added = λ l has.
         ⊎_elim
         (λ (e : lit ≡ l). subst (λ (m : Lit). Contains (places_of new m) place) e (subst (λ (ps : List ℕ). Contains ps place) (sym here) (Contains-push (places_of o lit) place)))
-        (λ (none : Contains [] l). absurd (none-in l none))
+        (λ (none : Contains [] l). absurd (contains_nothing l none))
         (cons-cases lit l [] has);
     only = λ l i has. only-in l i has (lit-cases l lit);
   }
@@ -80,7 +81,7 @@ lists-negation (Ok x) o lit place ls e within is = lists-one-by true o (record {
 lists-negation (Err x) o lit place ls e within is = is
 
 pub lists-none : (place : ℕ) (o : Occurrences) → ListsMore [] place o o
-lists-none place o = record { sizes = λ b. refl; kept = λ l i has. has; added = λ l has. absurd (none-in l has); only = λ l i has. inl has }
+lists-none place o = record { sizes = λ b. refl; kept = λ l i has. has; added = λ l has. absurd (contains_nothing l has); only = λ l i has. inl has }
 
 lists-join : (lits : List Lit) (lit : Lit) (place : ℕ) (a b c : Occurrences) → ListsMore lits place a b → ListsMore (lit ∷ []) place b c → ListsMore (lits ++ lit ∷ []) place a c
 lists-join lits lit place a b c h k = record {
@@ -89,7 +90,7 @@ lists-join lits lit place a b c h k = record {
   added = λ l has.
       ⊎_elim
       (λ (old : Contains lits l). k.kept l place (h.added l old))
-      (λ (e : lit ≡ l). k.added l (subst (λ (m : Lit). Contains (lit ∷ []) m) e (head-has lit [])))
+      (λ (e : lit ≡ l). k.added l (subst (λ (m : Lit). Contains (lit ∷ []) m) e (contains_first lit [])))
       (Contains-push_cases lits lit l has);
   only = λ l i has. ⊎_elim (λ (old : Contains (places_of b l) i). h.only l i old) (λ (e : i ≡ place). inr e) (k.only l i has);
 }
@@ -125,8 +126,8 @@ lists-all-more n cs C place old new e h k =
 no-place : (n : ℕ) (l : Lit) (i : ℕ) → Contains (get_or (replicate n []) l.atom []) i → ⊥
 no-place n l i has =
     ⊎_elim
-    (λ (lt : l.atom < n). none-in i (subst (λ (ps : List ℕ). Contains ps i) (get_or-replicate n l.atom [] [] lt) has))
-    (λ (le : n ≤ l.atom). none-in i (subst (λ (ps : List ℕ). Contains ps i) (get_or-eq_default (replicate n []) [] (let e : length (replicate {A = List ℕ} n []) ≡ n = length-replicate n [] in omega arith)) has))
+    (λ (lt : l.atom < n). contains_nothing i (subst (λ (ps : List ℕ). Contains ps i) (get_or-replicate n l.atom [] [] lt) has))
+    (λ (le : n ≤ l.atom). contains_nothing i (subst (λ (ps : List ℕ). Contains ps i) (get_or-eq_default (replicate n []) [] (let e : length (replicate {A = List ℕ} n []) ≡ n = length-replicate n [] in omega arith)) has))
     (below-or l.atom n)
 
 empty-lists : (n : ℕ) (o : Occurrences) → o.atoms.items ≡ replicate n [] → o.negations.items ≡ replicate n [] → (b : Bool) → lists_of o b ≡ replicate n []
@@ -137,7 +138,7 @@ empty-lists n o e f true = f
 pub lists-all-none : (n : ℕ) (o : Occurrences) → o.atoms.items ≡ replicate n [] → o.negations.items ≡ replicate n [] → ListsAll n [] o
 lists-all-none n o e f = record {
   sized = λ b. ap length (empty-lists n o e f b) ∙ length-replicate n [];
-  listed = λ i c l at has. absurd (none-in c (i, at.0, at.1));
+  listed = λ i c l at has. absurd (contains_nothing c (i, at.0, at.1));
   within = λ l i has. absurd (no-place n l i (subst (λ (ls : List (List ℕ)). Contains (get_or ls l.atom []) i) (empty-lists n o e f l.negated) has));
 }
 

@@ -2,9 +2,11 @@
 use Rattle.std.proofs.Common.{◌≡◌, ◌≢◌, ⊎_elim, ℕ, zero, suc, ◌+◌, ◌-◌, ◌<◌, ◌≤◌, List, [], ◌∷◌, ◌++◌, Bool, true, false, not, cond, eqb, length, map, drop, get_or, slice_get, Option, None, Result, Ok, Err, IfOk, refl, sym, ap, ◌∙◌, subst, true≢false, arith}
 use Rattle.std.specs.Prelude.{option_and_then, IsSome}
 use Rattle.std.specs.List.{Contains}
-use Rattle.std.proofs.lemmas.Bool.{ne_eqb}
+use Rattle.std.proofs.lemmas.Bool.{ne_eqb, false_from_ne_true}
 use Rattle.std.proofs.lemmas.List.{length-append, length-map, length-drop, append-nil, append_assoc, map-append}
 use Rattle.std.proofs.lemmas.List.Elements.{Contains-append_left}
+use Rattle.sc_lists.proofs.BoolLaws.{and_second, and_first}
+use Rattle.sc_lists.proofs.ListLaws.{contains_nothing}
 use Rattle.sc_clauses.specs.Assignments.{Assignment, value_of, is_false, is_false_at, falsifies}
 use Rattle.sc_clauses.specs.Clauses.{Clause, negation}
 use Rattle.sc_clauses.specs.declared.lit.Lit.{Lit}
@@ -26,7 +28,7 @@ use Rattle.sc_search.specs.declared.solver.Turn.TheVariants as turn
 use Rattle.sc_search.proofs.BackjumpLaws.{in-cells-of-false, clause-of-false}
 use Rattle.sc_search.proofs.CellLaws.{consistent}
 use Rattle.sc_clauses.proofs.LitLaws.{bool_eq-true, negation_twice}
-use Rattle.sc_search.proofs.LitLaws.{bool-false, cons-cases, none-in, nil-of, and-left, and-right}
+use Rattle.sc_search.proofs.LitLaws.{cons-cases, nil-of}
 use Rattle.sc_search.proofs.NewnessLaws.{new-by, ok-conflict, uncovered}
 use Rattle.sc_search.proofs.ReadingLaws.{at-end}
 
@@ -79,11 +81,11 @@ false-on-trail cells trail l h e =
     at-end cells trail h (negation l) w.0 w.1
 
 false-each : (m : Assignment) (c : Clause) → falsifies m c ≡ true → (l : Lit) → Contains c l → is_false m l ≡ true
-false-each m [] e l has = absurd (none-in l has)
+false-each m [] e l has = absurd (contains_nothing l has)
 false-each m (x ∷ c) e l has =
     ⊎_elim
-    (λ (s : x ≡ l). subst (λ (w : Lit). is_false m w ≡ true) s (and-left (is_false m x) (falsifies m c) e))
-    (λ (old : Contains c l). false-each m c (and-right (is_false m x) (falsifies m c) e) l old)
+    (λ (s : x ≡ l). subst (λ (w : Lit). is_false m w ≡ true) s (and_first (is_false m x) (falsifies m c) e))
+    (λ (old : Contains c l). false-each m c (and_second (is_false m x) (falsifies m c) e) l old)
     (cons-cases x l c has)
 
 -- so are the literals of a clause that it falsifies
@@ -94,7 +96,7 @@ falsified-on-trail cells trail c h e l has = false-on-trail cells trail l h (fal
 -- a quiet clause isn't falsified
 pub quiet-kept : (cells : List Cell) (trail : List Lit) (cs : List Clause) → Agree cells trail → AreQuiet (true_before cells (length trail)) cs → (c : Clause) → Contains cs c → falsifies (map cell_value (drop 1 cells)) c ≡ false
 quiet-kept cells trail cs h quiet c has =
-    bool-false _ (λ e. ok-conflict (true_before cells (length trail)) (consistent cells (length trail)) c (quiet c has) (falsified-on-trail cells trail c h e))
+    false_from_ne_true _ (λ e. ok-conflict (true_before cells (length trail)) (consistent cells (length trail)) c (quiet c has) (falsified-on-trail cells trail c h e))
 
 some-value : (c : Cell) → c ≢ Free → IsSome (cell_value c)
 some-value Free ne = absurd (ne refl)
@@ -150,7 +152,7 @@ module _ (accepts : instance.Instance → Bool) (clause_of : instance.Instance �
         record { is_lawful = told-lawful; some = some; uncovered = uncovered s.clauses.items (clause_of i) is_new; is_new = is_new }
 
   not-nil : (C : Clause) (cs : List Clause) → IsNew cs C → C ≢ []
-  not-nil C cs (l, (has, not_given, no_conflict)) e = none-in l (subst (λ (d : Clause). Contains d l) e has)
+  not-nil C cs (l, (has, not_given, no_conflict)) e = contains_nothing l (subst (λ (d : Clause). Contains d l) e has)
 
   pub learned-added : (n atoms : ℕ) (cs : List Clause) (ss : List Step) (s : Solver) → n ≡ atoms + 1 → HasLearned n cs ss s → HasAdded atoms accepts clause_of cs ss s
   learned-added n atoms cs ss s e h = record {

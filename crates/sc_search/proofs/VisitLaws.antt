@@ -4,11 +4,12 @@ use Rattle.std.specs.List.{Contains}
 use Rattle.std.proofs.Math.ListN.{set, get_or-append}
 use Rattle.std.proofs.Math.Seq.{get_or-append_seam}
 use Rattle.std.proofs.lemmas.List.{length-append, get_or_default}
+use Rattle.std.proofs.lemmas.Bool.{cases_Bool}
 use Rattle.sc_clauses.proofs.LitLaws.{negation_twice}
 use Rattle.sc_clauses.specs.Clauses.{Clause, negation}
 use Rattle.sc_clauses.specs.declared.lit.Lit.{Lit}
 use Rattle.sc_search.proofs.CellLaws.{at-before, before-at, before-more}
-use Rattle.sc_search.proofs.LitLaws.{below-or, bool-cases}
+use Rattle.sc_search.proofs.LitLaws.{below-or}
 use Rattle.sc_search.proofs.ReadingLaws.{at-end}
 use Rattle.sc_search.proofs.TrailLaws.{before-kept, decided-holds, free-set, implied-holds, trail-imply-to}
 use Rattle.sc_search.specs.Occurrences.{ListsAll, places_of}
@@ -52,7 +53,7 @@ module _ (cells after : List Cell) (trail : List Lit) (l : Lit) (agree : Agree a
       (λ (was : true_before cells (length trail) (negation y) ≡ true). absurd (true≢false (sym was ∙ e)))
       (new-or-old (negation y) t))
       (λ (f : true_before after (length (trail ++ l ∷ [])) (negation y) ≡ false). inl f)
-      (bool-cases (true_before after (length (trail ++ l ∷ [])) (negation y)))
+      (cases_Bool (true_before after (length (trail ++ l ∷ [])) (negation y)))
 
   still-quiet : (c : Clause) → IsQuiet (true_before cells (length trail)) c → IsQuiet (true_before after (length (trail ++ l ∷ []))) c ⊎ Contains c (negation l)
   still-quiet c (inl (y, has, e)) = inl (inl (y, has, still-true y e))

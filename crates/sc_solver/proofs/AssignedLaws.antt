@@ -1,5 +1,6 @@
 -- What the defining clauses say of an assignment that falsifies none of them.
 use Rattle.std.proofs.Common.{◌≡◌, ◌≤◌, ◌||◌, ◌&&◌, ℕ, not, Bool, true, false, [], ◌∷◌, flat_map, length, Option, Some, None, IsSome, unwrap_or, Contains, refl, subst, arith}
+use Rattle.sc_lists.proofs.BoolLaws.{true_or_false}
 use Rattle.sc_clauses.specs.Clauses.{Clause, bool_eq, holds}
 use Rattle.sc_clauses.specs.Assignments.{Assignment, value_of, is_false_at, is_false}
 use Rattle.sc_terms.specs.declared.node.BinaryOp.TheVariants.{And, Or, Equal}
@@ -32,10 +33,6 @@ true_at : (o : Option Bool) (t n : Bool) → o ≡ Some t → is_false_at o n �
 true_at None t n e f = absurd cc
 true_at (Some u) t n e f = let same : u ≡ t = cc in is_true_by t n (subst (λ (b : Bool). bool_eq b n ≡ false) same f)
 
-or_false : (b : Bool) → (b || false) ≡ true → b ≡ true
-or_false true e = refl
-or_false false e = absurd cc
-
 module _ (rules : Rules) (p : Posed) (m : Assignment) (lawful : AreLawful p) (c : IsConsistent rules p m) where
   pub valued : (n : ℕ) → 1 ≤ n → n ≤ length (atoms p) → value_of m n ≡ Some (truth_at m n)
   valued n least most = some_value (value_of m n) (c.total n least most)
@@ -53,7 +50,7 @@ module _ (p : Posed) (v : ℕ → Bool) (hold : AllHold v (defining p)) where
   definition_holds t h c k = hold c (has_left (flat_map (definition (literal_in p)) (atoms p)) ((goal_literal p ∷ []) ∷ []) c (has_flat_map (definition (literal_in p)) (atoms p) t c h k))
 
   pub truth_holds : Has (atoms p) (truth_term true) → holds v (literal_in p (truth_term true)) ≡ true
-  truth_holds h = or_false (holds v (literal_in p (truth_term true))) (definition_holds (truth_term true) h (literal_in p (truth_term true) ∷ []) (here _ _))
+  truth_holds h = true_or_false (holds v (literal_in p (truth_term true))) (definition_holds (truth_term true) h (literal_in p (truth_term true) ∷ []) (here _ _))
 
   pub and_holds : (a b : Tree) → Has (atoms p) (two And a b) → AllHold v (table (λ t u. t && u) (literal_in p (two And a b)) (literal_in p a) (literal_in p b))
   and_holds a b h = definition_holds (two And a b) h
@@ -67,4 +64,4 @@ module _ (p : Posed) (v : ℕ → Bool) (hold : AllHold v (defining p)) where
       subst (AllHold v) all (definition_holds (two Equal a b) h)
 
   pub goal_holds : holds v (goal_literal p) ≡ true
-  goal_holds = or_false (holds v (goal_literal p)) (hold (goal_literal p ∷ []) (has_right (flat_map (definition (literal_in p)) (atoms p)) ((goal_literal p ∷ []) ∷ []) (goal_literal p ∷ []) (here _ _)))
+  goal_holds = true_or_false (holds v (goal_literal p)) (hold (goal_literal p ∷ []) (has_right (flat_map (definition (literal_in p)) (atoms p)) ((goal_literal p ∷ []) ∷ []) (goal_literal p ∷ []) (here _ _)))

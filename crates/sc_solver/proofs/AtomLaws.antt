@@ -6,6 +6,7 @@ use Rattle.std.specs.Ordering.{is_eq}
 use Rattle.std.specs.List.Sorted.{IsStrictlySortedBy}
 use Rattle.std.proofs.lemmas.List.Kept.{IsStrictlySortedBy-filter}
 use Rattle.std.proofs.Math.Dec.{eqb-suc-zero}
+use Rattle.sc_lists.proofs.OrderingLaws.{is_eq_true}
 use Rattle.sc_clauses.specs.Clauses.{positive}
 use Rattle.sc_terms.specs.declared.node.UnaryOp.TheVariants as unary
 use Rattle.sc_terms.specs.Trees.{Tree, leaf, one, two, choice}
@@ -21,11 +22,6 @@ use Rattle.sc_solver.proofs.ListLaws.{Has, here, there, has_of, contains_of, of_
 abbrev pub IsLevel : Type 0
 IsLevel = (a b : Tree) → tree_cmp a b ≡ Equal ↔ a ≡ b
 
-eq_level : (o : Ordering) → is_eq o ≡ true → o ≡ Equal
-eq_level Less e = absurd cc
-eq_level Equal e = refl
-eq_level Greater e = absurd cc
-
 -- ---- lists of terms
 
 numbered_suc : (xs : List Tree) (k : ℕ) → numbered xs (suc k) ≡ slice_get xs k
@@ -39,7 +35,7 @@ more n i e = let sum : suc i + 1 ≡ suc (suc i) = omega arith in rw (e, eqb-suc
 module _ (level : IsLevel) where
   pub same_tree : (a b : Tree) → tree_eq a b ≡ true → a ≡ b
   unfolding tree_eq
-  same_tree a b e = (level a b).0 (eq_level (tree_cmp a b) e)
+  same_tree a b e = (level a b).0 (is_eq_true (tree_cmp a b) e)
 
   pub tree_itself : (a : Tree) → tree_eq a a ≡ true
   unfolding tree_eq

@@ -33,8 +33,9 @@ use Rattle.sc_terms.specs.Booleans.{names_of, attribute_term}
 use Rattle.sc_footprint.specs.Problems.{Posed, atom_number}
 use Rattle.sc_solver.specs.Rebuilding.{truth_at, assigned}
 use Rattle.sc_solver.specs.Contexts.{IsContext}
-use Rattle.sc_solver.proofs.ListLaws.{Has, of_any, of_all, all_at, has_map, map_has, and_right}
+use Rattle.sc_solver.proofs.ListLaws.{Has, of_any, of_all, all_at, has_map, map_has}
 use Rattle.std.proofs.lemmas.Bool.{and_from}
+use Rattle.sc_lists.proofs.BoolLaws.{and_second}
 use Rattle.sc_solver.proofs.KindLaws.{are_plain, bool_type}
 use Rattle.sc_solver.proofs.ValueLaws.{field_told}
 
@@ -50,7 +51,7 @@ told g fields = map (λ (f : Field). (f.0, value.Bool (g f.0))) fields
 module _ (g : List ℕ → Bool) (fields : List Field) (each : list_all is_bool_field fields ≡ true) where
   passes_bool : (f : Field) → is_bool_field f ≡ true → (o : Option Value) → o ≡ Some (value.Bool (g f.0)) → passes f.1 (conforms f.2) o ≡ true
   passes_bool f h o e =
-      let of_type = bool_type f.2 (out-Ty f.2) refl (and_right (is_required f.1) (plain.is_bool (out-Ty f.2)) h) in
+      let of_type = bool_type f.2 (out-Ty f.2) refl (and_second (is_required f.1) (plain.is_bool (out-Ty f.2)) h) in
       ap (passes f.1 (conforms f.2)) e ∙ ap (λ type. conforms type (value.Bool (g f.0))) of_type ∙ conforms_Bool (g f.0)
 
   passes_told : (a : Told) → Has (shape_of fields) a → passes a.1 a.2 (field a.0 (told g fields)) ≡ true

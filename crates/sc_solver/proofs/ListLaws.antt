@@ -1,30 +1,12 @@
 -- What is in a list, one element after the other.
 use Rattle.std.proofs.Common.{◌≡◌, ◌<◌, ◌++◌, ◌||◌, ◌&&◌, ◌⊎◌, inl, inr, ℕ, zero, suc, Bool, true, false, cond, List, [], ◌∷◌, map, filter, flat_map, length, Some, slice_get, slice_index_or, Contains, refl, subst, arith}
 use Rattle.std.specs.List.{AllByRecursion, list_any, list_all}
+use Rattle.std.proofs.lemmas.Bool.{or_cases, or_left, or_right}
+use Rattle.sc_lists.proofs.BoolLaws.{and_first, and_second}
 
 pub data Has {X : Type 0} : List X → X → Type 0 where
   here : (x : X) (xs : List X) → Has (x ∷ xs) x
   there : (x y : X) (xs : List X) → Has xs y → Has (x ∷ xs) y
-
-or_cases : (a b : Bool) → (a || b) ≡ true → (a ≡ true) ⊎ (b ≡ true)
-or_cases true b e = inl refl
-or_cases false b e = inr e
-
-pub or_left : (a b : Bool) → a ≡ true → (a || b) ≡ true
-or_left true b e = refl
-or_left false b e = absurd cc
-
-pub or_right : (a b : Bool) → b ≡ true → (a || b) ≡ true
-or_right true b e = refl
-or_right false b e = e
-
-pub and_left : (a b : Bool) → (a && b) ≡ true → a ≡ true
-and_left true b e = refl
-and_left false b e = absurd cc
-
-pub and_right : (a b : Bool) → (a && b) ≡ true → b ≡ true
-and_right true b e = e
-and_right false b e = absurd cc
 
 and_cases : (a b : Bool) → (a && b) ≡ false → (a ≡ false) ⊎ (b ≡ false)
 and_cases true b e = inr e
@@ -87,8 +69,8 @@ module _ {X : Type 0} where
     of_any _ _ (there x y xs h) e = or_right (p x) (list_any p xs) (of_any xs y h e)
 
     pub all_at : (xs : List X) (x : X) → list_all p xs ≡ true → Has xs x → p x ≡ true
-    all_at _ _ e (here x xs) = and_left (p x) (list_all p xs) e
-    all_at _ _ e (there x y xs h) = all_at xs y (and_right (p x) (list_all p xs) e) h
+    all_at _ _ e (here x xs) = and_first (p x) (list_all p xs) e
+    all_at _ _ e (there x y xs h) = all_at xs y (and_second (p x) (list_all p xs) e) h
 
     pub of_all : (xs : List X) → ((x : X) → Has xs x → p x ≡ true) → list_all p xs ≡ true
     of_all [] h = refl

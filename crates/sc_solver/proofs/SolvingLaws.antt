@@ -4,6 +4,7 @@ use Rattle.std.specs.List.{list_all}
 use Rattle.std.specs.Str.{bytes_eq}
 use Rattle.std.proofs.lemmas.Bool.Decides.{nat_tests}
 use Rattle.std.proofs.lemmas.List.{get_or_default}
+use Rattle.sc_lists.proofs.BoolLaws.{and_second, and_first}
 use Rattle.sc_clauses.specs.declared.step.Instance.{Instance}
 use Rattle.sc_clauses.specs.declared.step.Step.{Step}
 use Rattle.sc_clauses.specs.Clauses.{Clause}
@@ -22,7 +23,7 @@ use Rattle.th_defs.specs.Instances.{number_in, is_before_last, definition_clause
 use Rattle.sc_solver.specs.Rebuilding.{IsConsistent, IsRebuilt}
 use Rattle.sc_solver.specs.Solutions.{rules_of}
 use Rattle.sc_solver.specs.Units.{IsSpent}
-use Rattle.sc_solver.proofs.ListLaws.{has_of, contains_of, has_right, and_left, and_right}
+use Rattle.sc_solver.proofs.ListLaws.{has_of, contains_of, has_right}
 use Rattle.sc_solver.proofs.AtomLaws.{IsLevel}
 use Rattle.sc_solver.proofs.AssignedLaws.{AreLawful, defined_hold}
 use Rattle.sc_solver.proofs.StepLaws.{AllHold}
@@ -66,8 +67,8 @@ module _ (p : Posed) (n : ℕ) (clauses : List Clause) (count : n ≡ length (at
 -- a number before the last is that of a clause
 numbered_clause : (clauses : List Clause) (n : ℕ) → is_before_last clauses n ≡ true → Contains clauses (slice_index_or clauses (n - 1) [])
 numbered_clause clauses n e =
-    let least : nat_lt 0 n ≡ true = and_left (nat_lt 0 n) (nat_lt n (length clauses)) e in
-    let most : nat_lt n (length clauses) ≡ true = and_right (nat_lt 0 n) (nat_lt n (length clauses)) e in
+    let least : nat_lt 0 n ≡ true = and_first (nat_lt 0 n) (nat_lt n (length clauses)) e in
+    let most : nat_lt n (length clauses) ≡ true = and_second (nat_lt 0 n) (nat_lt n (length clauses)) e in
     let lt : n - 1 < length clauses = grind (arith, nat_tests) in
     (n - 1, lt, get_or_default clauses (n - 1) (slice_index_or clauses (n - 1) []) [] lt)
 
@@ -78,7 +79,7 @@ module _ (p : Posed) (accepts : Instance → Bool) (clause_of : Instance → Cla
       record {
         total = c.total;
         defined = c.keeps_clauses;
-        ruled = λ i e. c.keeps_clauses (definition_clause p i) (numbered_clause (defining p) (number_in i.words) (and_right (bytes_eq i.rule []) (is_before_last (defining p) (number_in i.words)) e));
+        ruled = λ i e. c.keeps_clauses (definition_clause p i) (numbered_clause (defining p) (number_in i.words) (and_second (bytes_eq i.rule []) (is_before_last (defining p) (number_in i.words)) e));
       }
 
   module _ (none : (i : Instance) → accepts i ≡ true → ⊥) (true_laws : (w : World) (c : Clause) → Satisfies p w → Contains (defining p) c → IsTrueIn p w c) where

@@ -7,6 +7,7 @@ use Rattle.std.specs.Cmp.{IsTotalOrder}
 use Rattle.std.specs.Cmp.Lexicographic.{slice_cmp}
 use Rattle.std.proofs.lemmas.Cmp.{tied_itself}
 use Rattle.std.proofs.lemmas.Map.Lookups.{CmpEqualImpliesEq, exact_bytes}
+use Rattle.sc_lists.proofs.OrderingLaws.{ordering_then_equal, is_eq_true}
 use Rattle.sc_names.specs.declared.uid.Uid.{Uid}
 use Rattle.sc_names.specs.Uids.{uid_cmp}
 use Rattle.sc_names.proofs.UidLaws.{uid_cmp_level}
@@ -112,11 +113,6 @@ sort_cmp_by_kind a b = is a b ∙ unfolded_level a b (out-Sort a) (out-Sort b) r
 
 -- ---- only equal sorts are level
 
-both_level : (a b : Ordering) → ordering_then a b ≡ Equal → (a ≡ Equal) × (b ≡ Equal)
-both_level Less b h = cc
-both_level Equal b h = (refl, h)
-both_level Greater b h = cc
-
 abbrev IsExact : Sort → Type 0
 IsExact a = (b : Sort) → sort_cmp a b ≡ Equal → a ≡ b
 
@@ -131,8 +127,8 @@ exact_fields [] [] h = refl
 exact_fields [] (f ∷ fs) h = cc
 exact_fields (e ∷ es) [] h = cc
 exact_fields (e ∷ es) (f ∷ fs) h =
-    let p = both_level _ _ h in
-    let q = both_level _ _ p.0 in
+    let p = ordering_then_equal _ _ h in
+    let q = ordering_then_equal _ _ p.0 in
     let name : e.0 ≡ f.0 = exact_bytes _ _ q.0 in
     let one_sort : e.1.0 ≡ f.1 = e.1.1 f.1 q.1 in
     let rest : forget_fields es ≡ fs = exact_fields es fs p.1 in
@@ -144,14 +140,14 @@ exact_uids [] [] h = refl
 exact_uids [] (v ∷ vs) h = cc
 exact_uids (u ∷ us) [] h = cc
 exact_uids (u ∷ us) (v ∷ vs) h =
-    let p = both_level _ _ h in
+    let p = ordering_then_equal _ _ h in
     let first : u ≡ v = uid_cmp_level u v p.0 in
     let rest : us ≡ vs = exact_uids us vs p.1 in
     cc
 
 exact_entity : (m n : List ℕ) (us vs : List Uid) → by_kind (s.Entity m us) (s.Entity n vs) ≡ Equal → ◌≡◌ {A = Sort-F Sort} (s.Entity m us) (s.Entity n vs)
 exact_entity m n us vs h =
-    let p = both_level _ _ h in
+    let p = ordering_then_equal _ _ h in
     let name : m ≡ n = exact_bytes m n p.0 in
     let choices : us ≡ vs = exact_uids us vs p.1 in
     λ i. s.Entity (name i) (choices i)
@@ -192,14 +188,9 @@ sort_cmp_level a b = (sort_cmp_exact a b, λ e. subst (λ (z : Sort). sort_cmp a
 
 -- ---- sorts that `==` finds equal
 
-level_tested : (o : Ordering) → is_eq o ≡ true → o ≡ Equal
-level_tested Less h = cc
-level_tested Equal h = refl
-level_tested Greater h = cc
-
 pub sort_eq_decides : (a b : Sort) → equality.eq a b ≡ true ↔ a ≡ b
 unfolding sort_cmp
 sort_eq_decides a b = (
-  λ h. sort_cmp_exact a b (level_tested (sort_cmp a b) (sym (matches_eq-law a b) ∙ h)),
+  λ h. sort_cmp_exact a b (is_eq_true (sort_cmp a b) (sym (matches_eq-law a b) ∙ h)),
   λ e. matches_eq-law a b ∙ ap is_eq ((sort_cmp_level a b).1 e),
 )

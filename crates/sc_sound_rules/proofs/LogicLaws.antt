@@ -1,5 +1,6 @@
 -- `if`, `||` and `&&` of operands that keep what their types say.
 use Rattle.std.proofs.Common.{◌≡◌, [], ◌++◌, Bool, true, false, if◌then◌else◌, Option, Some, unwrap_or, Ok, Err, IfOk, IsTrue, refl, sym, ap, subst, ◌∙◌}
+use Rattle.sc_lists.proofs.BoolLaws.{never}
 use Rattle.sc_ast.specs.declared.place.Place.{Place}
 use Rattle.sc_schema.specs.declared.ty.Ty.{Ty, Ty-F, out-Ty}
 use Rattle.sc_schema.specs.declared.ty.Ty.TheVariants as types
@@ -45,9 +46,6 @@ given_by_test P false x y h k = k refl
 fits_as : (type : Ty) (b c : Bool) → b ≡ c → Fits type c → Fits type b
 fits_as type b c e h = subst (Fits type) (sym e) h
 
-differ : (Q : Type 0) → true ≡ false → Q
-differ Q e = absurd cc
-
 module _ (x y : TypedExpr) where
   -- a false left side
   and_left_false : Fits (ty x) false → Fits (and_type x y) false
@@ -62,7 +60,7 @@ module _ (x y : TypedExpr) where
 
   or_left_true : Fits (ty x) true → Fits (or_type x y) true
   or_left_true h =
-      by_test (λ u. Fits u true) (is_false (ty x)) (ty y) (if is_true (ty y) then types.True else types.Bool) (λ f. differ _ (fits-false (ty x) true f h)) λ f.
+      by_test (λ u. Fits u true) (is_false (ty x)) (ty y) (if is_true (ty y) then types.True else types.Bool) (λ f. never _ (fits-false (ty x) true f h)) λ f.
       by_test (λ u. Fits u true) (is_true (ty y)) types.True types.Bool (λ g. true_fits) λ g. bool_fits true
 
   or_left_false : (q : Bool) → Fits (ty y) q → Fits (or_type x y) q
@@ -129,7 +127,7 @@ module _ (w : World) where
   and_left : (place : Place) (x y : Typed) (a b : Outcome) (known : Capabilities) → is_boolean (ty y.expr) ≡ true → AllHold w known → IsSound w a x → (AllHold w (known ++ x.given) → IsSound w b y)
       → (p : Bool) → a ≡ Ok (value.Bool p) → Fits (ty x.expr) p → IsSound w (if p then decide b of_bool else of_bool false) (and_whole place x y)
   and_left place x y a b known d held h k true at fit = let first = h.given at in and_right place x y b d fit first (k (both-hold w known x.given held first))
-  and_left place x y a b known d held h k false at fit = gives_and place x y false (and_left_false x.expr y.expr fit) (λ e. differ _ (sym e))
+  and_left place x y a b known d held h k false at fit = gives_and place x y false (and_left_false x.expr y.expr fit) (λ e. never _ (sym e))
 
   and_sound : (place : Place) (x y : Typed) (a b : Outcome) (known : Capabilities) → is_boolean (ty x.expr) ≡ true → is_boolean (ty y.expr) ≡ true → AllHold w known → IsSound w a x → (AllHold w (known ++ x.given) → IsSound w b y)
       → IsSound w (and_outcome a b) (and_whole place x y)
@@ -161,7 +159,7 @@ module _ (w : World) where
   -- what a true left side gives
   left_gives : (x y : Typed) → Fits (ty x.expr) true → AllHold w x.given → AllHold w (or_given x y)
   left_gives x y fit h =
-      given_by_test (AllHold w) (is_false (ty x.expr)) y.given (if is_true (ty y.expr) then [] else or_rest x y) (λ f. differ _ (fits-false (ty x.expr) true f fit)) λ f.
+      given_by_test (AllHold w) (is_false (ty x.expr)) y.given (if is_true (ty y.expr) then [] else or_rest x y) (λ f. never _ (fits-false (ty x.expr) true f fit)) λ f.
       given_by_test (AllHold w) (is_true (ty y.expr)) [] (or_rest x y) (λ g. tt) λ g.
       given_by_test (AllHold w) (is_false (ty y.expr)) x.given (common x.given y.given) (λ e. h) λ e. common-first w x.given y.given h
 
@@ -170,7 +168,7 @@ module _ (w : World) where
   right_gives x y fit h =
       given_by_test (AllHold w) (is_false (ty x.expr)) y.given (if is_true (ty y.expr) then [] else or_rest x y) (λ f. h) λ f.
       given_by_test (AllHold w) (is_true (ty y.expr)) [] (or_rest x y) (λ g. tt) λ g.
-      given_by_test (AllHold w) (is_false (ty y.expr)) x.given (common x.given y.given) (λ e. differ _ (fits-false (ty y.expr) true e fit)) λ e. common-second w x.given y.given h
+      given_by_test (AllHold w) (is_false (ty y.expr)) x.given (common x.given y.given) (λ e. never _ (fits-false (ty y.expr) true e fit)) λ e. common-second w x.given y.given h
 
   or_right : (place : Place) (x y : Typed) (b : Outcome) → is_boolean (ty y.expr) ≡ true → IsSound w b y → IsSound w (decide b of_bool) (or_whole place x y)
   or_right place x y b d h =

@@ -4,6 +4,9 @@ use Rattle.std.specs.List.{AllByRecursion, list_any}
 use Rattle.std.specs.Option.{option_and_then}
 use Rattle.std.specs.Str.{bytes_eq}
 use Rattle.std.proofs.lemmas.Slice.Eq.{bytes_eq-Decides}
+use Rattle.std.proofs.lemmas.Bool.{or_from, or_parts, false_from_ne_true}
+use Rattle.sc_lists.proofs.BoolLaws.{same_truth}
+use Rattle.sc_lists.proofs.ListLaws.{list_any_false, contains_nothing, contains_split, contains_rest, contains_first}
 use Rattle.sc_ast.specs.declared.expr.Expr.{Expr, Expr-F, out-Expr, map-Expr, fold_out-Expr}
 use Rattle.sc_ast.specs.declared.expr.Expr.TheOpen as e
 use Rattle.sc_ast.specs.declared.literal.Literal.{Literal}
@@ -21,7 +24,6 @@ use Rattle.sc_schema.proofs.PlaceLaws.{uid_eq-Decides}
 use Rattle.sc_values.specs.declared.value.Value.{Value, out-Value}
 use Rattle.sc_values.specs.declared.value.Value.TheVariants as value
 use Rattle.sc_values.specs.declared.value.Value.TheOpen as v
-use Rattle.sc_values.proofs.AscendingLaws.{of_first, of_rest, split, no_first}
 use Rattle.sc_values.proofs.OutLaws.{out_Entity, out_Set}
 use Rattle.sc_world.specs.declared.entity.EntityData.{EntityData}
 use Rattle.sc_world.specs.declared.world.World.{World}
@@ -33,7 +35,6 @@ use Rattle.sc_eval.specs.Entities.{same_uid, ancestors_of, is_or_in, all_entitie
 use Rattle.sc_eval.specs.Collections.{members_of}
 use Rattle.sc_eval.specs.Eval.{Meaning, all_values, eval_step, eval}
 use Rattle.sc_eval.proofs.CollectionsLaws.{members_of-set}
-use Rattle.sc_eval.proofs.TestLaws.{same_truth as one_truth}
 use Rattle.sc_typed.specs.declared.typed_expr.TypedExpr.{TypedExpr}
 use Rattle.sc_typed.specs.Types.{entity_name, entity_name_in, group, group_in, member, member_in, truth}
 use Rattle.sc_typed.specs.Capabilities.{Capabilities}
@@ -54,21 +55,6 @@ use Rattle.sc_sound_values.proofs.ListLaws.{each_weaker, contained, each_contain
 
 some_is : {X : Type 0} (x y : X) → ◌≡◌ {A = Option X} (Some x) (Some y) → x ≡ y
 some_is x y h = cc
-
-none_of : {X : Type 0} (test : X → Bool) (xs : List X) → AllByRecursion (λ x. test x ≡ false) xs → list_any test xs ≡ false
-none_of test [] h = refl
-none_of test (x ∷ xs) h = ap (λ b. b || list_any test xs) h.0 ∙ none_of test xs h.1
-
-false_or : (b c : Bool) → b ≡ false → c ≡ false → (b || c) ≡ false
-false_or b c h k = λ i. h i || k i
-
-parts_false : (b c : Bool) → (b || c) ≡ false → (b ≡ false) × (c ≡ false)
-parts_false true c h = absurd cc
-parts_false false c h = (refl, h)
-
-false_unless : (b : Bool) → (b ≡ true → ⊥) → b ≡ false
-false_unless true h = absurd (h refl)
-false_unless false h = refl
 
 clash : (Q : Type 0) (b : Bool) → b ≡ true → b ≡ false → Q
 clash Q b told apart = absurd (let e : true ≡ false = sym told ∙ apart in cc)
@@ -126,12 +112,12 @@ module _ (s : Declarations) (env : Env) (literals : List Uid) (w : World) (lawfu
       clash ⊥ (list_any (bytes_eq u) names) (any_contained (bytes_eq u) names u has ((bytes_eq-Decides u u).1 refl)) apart
 
   other_uid : (u : List ℕ) (b c : Uid) → b.type_name ≡ u → (c.type_name ≡ u → ⊥) → same_uid b c ≡ false
-  other_uid u b c named apart = false_unless (same_uid b c) (λ h. apart (ap (λ (d : Uid). d.type_name) (sym ((same_uid-decides b c).0 h)) ∙ named))
+  other_uid u b c named apart = false_from_ne_true (same_uid b c) (λ h. apart (ap (λ (d : Uid). d.type_name) (sym ((same_uid-decides b c).0 h)) ∙ named))
 
   -- an entity whose ancestors are of other types isn't in one of the type u
   not_in : (t u : List ℕ) (a b : Uid) → may_be_in s t u ≡ false → a.type_name ≡ t → IsStored w.store a → b.type_name ≡ u → is_or_in w a b ≡ false
   not_in t u a b apart at there bt =
-      let parts = parts_false (bytes_eq t u) (list_any (bytes_eq u) (unwrap_or (ancestor_types s t) [])) apart in
+      let parts = or_parts (bytes_eq t u) (list_any (bytes_eq u) (unwrap_or (ancestor_types s t) [])) apart in
       let d = data_of a w.store there in
       let above : HasAncestorTypes s (a, d.0) = of_stored (HasAncestorTypes s) a w.store d.0 d.1 well.ancestor_types in
       let moved : AllByRecursion (λ (c : Uid). IsSomeAnd (ancestor_types s t) (λ (names : List (List ℕ)). Contains names c.type_name)) d.0.ancestors =
@@ -139,15 +125,15 @@ module _ (s : Declarations) (env : Env) (literals : List Uid) (w : World) (lawfu
       let others : AllByRecursion (λ (c : Uid). same_uid b c ≡ false) d.0.ancestors =
       each_weaker (λ (c : Uid). IsSomeAnd (ancestor_types s t) (λ (names : List (List ℕ)). Contains names c.type_name)) (λ (c : Uid). same_uid b c ≡ false)
       (λ c has. other_uid u b c bt (not_above (ancestor_types s t) u c parts.1 has)) d.0.ancestors moved in
-      let first : same_uid a b ≡ false = false_unless (same_uid a b) (λ h.
+      let first : same_uid a b ≡ false = false_from_ne_true (same_uid a b) (λ h.
       clash ⊥ (bytes_eq t u) ((bytes_eq-Decides t u).1 (sym at ∙ ap (λ (c : Uid). c.type_name) ((same_uid-decides a b).0 h) ∙ bt)) parts.0) in
-      let rest : list_any (same_uid b) (ancestors_of (stored a w.store)) ≡ false = ap (λ o. list_any (same_uid b) (ancestors_of o)) d.1 ∙ none_of (same_uid b) d.0.ancestors others in
-      false_or (same_uid a b) (list_any (same_uid b) (ancestors_of (stored a w.store))) first rest
+      let rest : list_any (same_uid b) (ancestors_of (stored a w.store)) ≡ false = ap (λ o. list_any (same_uid b) (ancestors_of o)) d.1 ∙ list_any_false (same_uid b) d.0.ancestors others in
+      or_from (same_uid a b) (list_any (same_uid b) (ancestors_of (stored a w.store))) first rest
 
   in_type : (t u : List ℕ) (a : Uid) (bs : List Uid) (r : Bool) → may_be_in s t u ≡ r → a.type_name ≡ t → IsStored w.store a → AllByRecursion (λ (b : Uid). b.type_name ≡ u) bs → Fits (if r then types.Bool else types.False) (list_any (is_or_in w a) bs)
   in_type t u a bs true may at there named = bool_fits (list_any (is_or_in w a) bs)
   in_type t u a bs false may at there named =
-      let none : list_any (is_or_in w a) bs ≡ false = none_of (is_or_in w a) bs (each_weaker (λ (b : Uid). b.type_name ≡ u) (λ b. is_or_in w a b ≡ false) (λ b bt. not_in t u a b may at there bt) bs named) in
+      let none : list_any (is_or_in w a) bs ≡ false = list_any_false (is_or_in w a) bs (each_weaker (λ (b : Uid). b.type_name ≡ u) (λ b. is_or_in w a b ≡ false) (λ b bt. not_in t u a b may at there bt) bs named) in
       subst (Fits types.False) (sym none) false_fits
 
   abbrev pub InType : TypedExpr → TypedExpr → Ty → Type 0
@@ -193,7 +179,7 @@ module _ (s : Declarations) (env : Env) (literals : List Uid) (w : World) (lawfu
       ap ancestors_of d.1 ∙ declared_data u p.0 d.0 p.1 d.1 ∙ p.2
 
   turned : (u v : Uid) → same_uid u v ≡ uid_eq v u
-  turned u v = one_truth (same_uid u v) (uid_eq v u) (same_uid-decides u v) ((λ h. sym ((uid_eq-Decides v u).0 h)), (λ e. (uid_eq-Decides v u).1 (sym e)))
+  turned u v = same_truth (same_uid u v) (uid_eq v u) (same_uid-decides u v) ((λ h. sym ((uid_eq-Decides v u).0 h)), (λ e. (uid_eq-Decides v u).1 (sym e)))
 
   same_list : (v : Uid) (xs : List Uid) → list_any (same_uid v) xs ≡ list_any (uid_eq v) xs
   same_list v [] = refl
@@ -256,17 +242,17 @@ module _ (s : Declarations) (env : Env) (literals : List Uid) (w : World) (lawfu
       )
 
   among_entities : (us : List Uid) (x : Value) → Contains (entities us) x → (u : Uid) × Contains us u × (x ≡ value.Entity u)
-  among_entities [] x has = absurd (no_first x has)
-  among_entities (u ∷ us) x has = elim (split (value.Entity u) (entities us) x has) [
-    | inl here ↦ (u, of_first u us, sym here)
-    | inr later ↦ let p = among_entities us x later in (p.0, of_rest u us p.0 p.1, p.2)
+  among_entities [] x has = absurd (contains_nothing x has)
+  among_entities (u ∷ us) x has = elim (contains_split (value.Entity u) (entities us) x has) [
+    | inl here ↦ (u, contains_first u us, sym here)
+    | inr later ↦ let p = among_entities us x later in (p.0, contains_rest u us p.0 p.1, p.2)
   ]
 
   of_entities : (us : List Uid) (u : Uid) → Contains us u → Contains (entities us) (value.Entity u)
-  of_entities [] u has = absurd (no_first u has)
-  of_entities (v ∷ us) u has = elim (split v us u has) [
-    | inl here ↦ subst (λ (k : Uid). Contains (entities (v ∷ us)) (value.Entity k)) here (of_first (value.Entity v) (entities us))
-    | inr later ↦ of_rest (value.Entity v) (entities us) (value.Entity u) (of_entities us u later)
+  of_entities [] u has = absurd (contains_nothing u has)
+  of_entities (v ∷ us) u has = elim (contains_split v us u has) [
+    | inl here ↦ subst (λ (k : Uid). Contains (entities (v ∷ us)) (value.Entity k)) here (contains_first (value.Entity v) (entities us))
+    | inr later ↦ contains_rest (value.Entity v) (entities us) (value.Entity u) (of_entities us u later)
   ]
 
   -- the entities of a set that is written are those that are written
@@ -290,7 +276,7 @@ module _ (s : Declarations) (env : Env) (literals : List Uid) (w : World) (lawfu
       )
 
   same_any : (test : Uid → Bool) (us vs : List Uid) → ((u : Uid) → Contains us u ↔ Contains vs u) → list_any test us ≡ list_any test vs
-  same_any test us vs h = one_truth {P = IsTrue (list_any test vs)} (list_any test us) (list_any test vs) (
+  same_any test us vs h = same_truth {P = IsTrue (list_any test vs)} (list_any test us) (list_any test vs) (
     λ k. let p = one_passes test us k in any_contained test vs p.0 ((h p.0).0 p.1) p.2,
     λ k. let p = one_passes test vs k in any_contained test us p.0 ((h p.0).1 p.1) p.2,
   )

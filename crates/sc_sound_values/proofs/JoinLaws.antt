@@ -4,6 +4,7 @@ use Rattle.std.specs.List.{list_all, list_any}
 use Rattle.std.specs.Option.{option_and_then}
 use Rattle.std.specs.Str.{bytes_eq}
 use Rattle.std.proofs.lemmas.Slice.Eq.{bytes_eq-Decides}
+use Rattle.std.proofs.lemmas.Bool.{and_from, and_parts}
 use Rattle.sc_schema.specs.declared.ty.Presence.{Presence}
 use Rattle.sc_schema.specs.declared.ty.Presence.TheVariants.{Required, Optional}
 use Rattle.sc_schema.specs.declared.ty.Ty.{Ty, Ty-F, out-Ty, roll-Ty, map-Ty, ind-Ty, fold-roll-Ty}
@@ -15,7 +16,7 @@ use Rattle.sc_values.specs.declared.value.Value.TheOpen as v
 use Rattle.sc_values.specs.Records.{Fields, field}
 use Rattle.sc_world.specs.Conforms.{Test, conforms, is_truth, is_bool, is_set_of, is_record_of, passes, has_shape, shape_of}
 use Rattle.sc_typed.specs.Types.{Field, is_true_in, is_false_in, is_boolean_in, is_long_in, is_string_in, is_decimal_in, is_ip_in, entity_name_in, member_in, record_fields_in, only_if, same_name, same_presence, with_front, join_fields, join_step, join}
-use Rattle.sc_sound_values.proofs.ValueLaws.{fits, conforms-out, conforms-roll, both_true, both_hold}
+use Rattle.sc_sound_values.proofs.ValueLaws.{fits, conforms-out, conforms-roll}
 
 -- what conforms to the first type conforms to the second one
 abbrev pub IsWithin : Ty → Ty → Type 0
@@ -113,7 +114,7 @@ entity_row a _ u e = absurd cc
 
 each : (a j : Ty) → IsWithin a j → (xs : List Value) → IsTrue (list_all (conforms a) xs) → IsTrue (list_all (conforms j) xs)
 each a j f [] h = refl
-each a j f (x ∷ xs) h = let p = both_true (conforms a x) (list_all (conforms a) xs) h in both_hold (conforms j x) (list_all (conforms j) xs) (f x p.0) (each a j f xs p.1)
+each a j f (x ∷ xs) h = let p = and_parts (conforms a x) (list_all (conforms a) xs) h in and_from (conforms j x) (list_all (conforms j) xs) (f x p.0) (each a j f xs p.1)
 
 in_set : (a j : Ty) → IsWithin a j → (z : Value-F Value) → IsTrue (is_set_of (conforms a) z) → IsTrue (is_set_of (conforms j) z)
 in_set a j f (v.Set xs) h = each a j f xs h
@@ -161,7 +162,7 @@ field_joined : (f : List ℕ × Presence × Known) (fs : List Field) (g : Field)
     → ((vs : List Field) → rest ≡ Some vs → AreJoined fs gs vs) → (if b then with_front g.0 g.1 o rest else None) ≡ Some us → AreJoined ((f.0, f.1, f.2.0) ∷ fs) (g ∷ gs) us
 field_joined f fs g gs us true alike (Some j) at (Some vs) later e =
     let is : ◌≡◌ {A = List Field} ((g.0, g.1, j) ∷ vs) us = cc in
-    let p = both_true (bytes_eq f.0 g.0) (same_presence f.1 g.1) alike in
+    let p = and_parts (bytes_eq f.0 g.0) (same_presence f.1 g.1) alike in
     let q = f.2.1 g.2 j at in
     let r = later vs refl in
     subst (AreJoined ((f.0, f.1, f.2.0) ∷ fs) (g ∷ gs)) is (((bytes_eq-Decides f.0 g.0).0 p.0, same_presences f.1 g.1 p.1, q.first, r.0), (refl, refl, q.second, r.1))
@@ -186,10 +187,10 @@ each_passes [] [] fields k h = refl
 each_passes [] (u ∷ us) fields k h = absurd k
 each_passes (f ∷ fs) [] fields k h = absurd k
 each_passes (f ∷ fs) (u ∷ us) fields k h =
-    let p = both_true (passes f.1 (conforms f.2) (field f.0 fields)) (list_all (λ (a : List ℕ × Presence × Test). passes a.1 a.2 (field a.0 fields)) (shape_of fs)) h in
+    let p = and_parts (passes f.1 (conforms f.2) (field f.0 fields)) (list_all (λ (a : List ℕ × Presence × Test). passes a.1 a.2 (field a.0 fields)) (shape_of fs)) h in
     let first : IsTrue (passes f.1 (conforms u.2) (field f.0 fields)) = passes-within f.1 f.2 u.2 k.2 (field f.0 fields) p.0 in
     let moved : IsTrue (passes u.1 (conforms u.2) (field u.0 fields)) = subst₂ (λ n q. IsTrue (passes q (conforms u.2) (field n fields))) k.0 k.1 first in
-    both_hold _ _ moved (each_passes fs us fields k.3 p.1)
+    and_from _ _ moved (each_passes fs us fields k.3 p.1)
 
 same_names : (fs us : List Field) (name : List ℕ) → AreWithin fs us → list_any (λ (a : List ℕ × Presence × Test). bytes_eq name a.0) (shape_of fs) ≡ list_any (λ (a : List ℕ × Presence × Test). bytes_eq name a.0) (shape_of us)
 same_names [] [] name k = refl
@@ -206,8 +207,8 @@ shape-within : (fs us : List Field) (fields : Fields) → AreWithin fs us → Is
 shape-within fs us fields k h =
     let all_pass : List Field → Bool = λ xs. list_all (λ (a : List ℕ × Presence × Test). passes a.1 a.2 (field a.0 fields)) (shape_of xs) in
     let all_named : List Field → Bool = λ xs. list_all (λ (f : List ℕ × Value). list_any (λ (a : List ℕ × Presence × Test). bytes_eq f.0 a.0) (shape_of xs)) fields in
-    let p = both_true (all_pass fs) (all_named fs) h in
-    both_hold (all_pass us) (all_named us) (each_passes fs us fields k p.0) (sym (each_named fs us fields k) ∙ p.1)
+    let p = and_parts (all_pass fs) (all_named fs) h in
+    and_from (all_pass us) (all_named us) (each_passes fs us fields k p.0) (sym (each_named fs us fields k) ∙ p.1)
 
 in_record : (fs us : List Field) → AreWithin fs us → (z : Value-F Value) → IsTrue (is_record_of (shape_of fs) z) → IsTrue (is_record_of (shape_of us) z)
 in_record fs us k (v.Record fields) h = shape-within fs us fields k h

@@ -1,9 +1,9 @@
 -- What holds of each member of a list.
 use Rattle.std.proofs.Common.{◌||◌, ◌⊎◌, inl, inr, List, [], ◌∷◌, ◌++◌, map, Bool, true, false, IsTrue, Contains, refl, sym, subst}
 use Rattle.std.specs.List.{AllByRecursion, list_all, list_any}
-use Rattle.sc_values.proofs.AscendingLaws.{of_first, of_rest, no_first}
+use Rattle.std.proofs.lemmas.Bool.{or_cases, or_left, or_right, and_from}
+use Rattle.sc_lists.proofs.ListLaws.{contains_nothing, contains_rest, contains_first}
 use Rattle.sc_values.proofs.AscendingLaws as ascending
-use Rattle.sc_sound_values.proofs.ValueLaws.{both_hold}
 
 module _ {X : Type 0} (P : X → Type 0) where
   pub split : (xs ys : List X) → AllByRecursion P (xs ++ ys) → AllByRecursion P xs × AllByRecursion P ys
@@ -16,7 +16,7 @@ module _ {X : Type 0} (P : X → Type 0) where
 
   pub all_true : (test : X → Bool) → ((x : X) → P x → IsTrue (test x)) → (xs : List X) → AllByRecursion P xs → IsTrue (list_all test xs)
   all_true test f [] h = refl
-  all_true test f (x ∷ xs) h = both_hold (test x) (list_all test xs) (f x h.0) (all_true test f xs h.1)
+  all_true test f (x ∷ xs) h = and_from (test x) (list_all test xs) (f x h.0) (all_true test f xs h.1)
 
   pub each_weaker : (Q : X → Type 0) → ((x : X) → P x → Q x) → (xs : List X) → AllByRecursion P xs → AllByRecursion Q xs
   each_weaker Q f [] h = tt
@@ -27,7 +27,7 @@ module _ {X : Type 0} (P : X → Type 0) where
   each_mapped f (y ∷ ys) h = (h.0, each_mapped f ys h.1)
 
   pub contained : (xs : List X) (x : X) → AllByRecursion P xs → Contains xs x → P x
-  contained [] x all has = absurd (no_first x has)
+  contained [] x all has = absurd (contains_nothing x has)
   contained (y ∷ ys) x all has = elim (ascending.split y ys x has) [
     | inl here ↦ subst P here all.0
     | inr later ↦ contained ys x all.1 later
@@ -35,32 +35,20 @@ module _ {X : Type 0} (P : X → Type 0) where
 
   pub each_contained : (xs : List X) → ((x : X) → Contains xs x → P x) → AllByRecursion P xs
   each_contained [] h = tt
-  each_contained (y ∷ ys) h = (h y (of_first y ys), each_contained ys (λ x has. h x (of_rest y ys x has)))
+  each_contained (y ∷ ys) h = (h y (contains_first y ys), each_contained ys (λ x has. h x (contains_rest y ys x has)))
 
 -- ---- tests
 
-pub any_or : (b c : Bool) → IsTrue (b || c) → IsTrue b ⊎ IsTrue c
-any_or true c h = inl refl
-any_or false c h = inr h
-
-pub any_left : (b c : Bool) → IsTrue b → IsTrue (b || c)
-any_left true c h = refl
-any_left false c h = absurd cc
-
-pub any_right : (b c : Bool) → IsTrue c → IsTrue (b || c)
-any_right true c h = refl
-any_right false c h = h
-
 pub any_contained : {X : Type 0} (test : X → Bool) (xs : List X) (x : X) → Contains xs x → IsTrue (test x) → IsTrue (list_any test xs)
-any_contained test [] x has h = absurd (no_first x has)
+any_contained test [] x has h = absurd (contains_nothing x has)
 any_contained test (y ∷ ys) x has h = elim (ascending.split y ys x has) [
-  | inl here ↦ any_left (test y) (list_any test ys) (subst (λ z. IsTrue (test z)) (sym here) h)
-  | inr later ↦ any_right (test y) (list_any test ys) (any_contained test ys x later h)
+  | inl here ↦ or_left (test y) (list_any test ys) (subst (λ z. IsTrue (test z)) (sym here) h)
+  | inr later ↦ or_right (test y) (list_any test ys) (any_contained test ys x later h)
 ]
 
 pub one_passes : {X : Type 0} (test : X → Bool) (xs : List X) → IsTrue (list_any test xs) → (x : X) × Contains xs x × IsTrue (test x)
 one_passes test [] h = absurd cc
-one_passes test (y ∷ ys) h = elim (any_or (test y) (list_any test ys) h) [
-  | inl here ↦ (y, of_first y ys, here)
-  | inr later ↦ let p = one_passes test ys later in (p.0, of_rest y ys p.0 p.1, p.2)
+one_passes test (y ∷ ys) h = elim (or_cases (test y) (list_any test ys) h) [
+  | inl here ↦ (y, contains_first y ys, here)
+  | inr later ↦ let p = one_passes test ys later in (p.0, contains_rest y ys p.0 p.1, p.2)
 ]

@@ -2,6 +2,8 @@
 use Rattle.std.proofs.Common.{◌≡◌, ◌↔◌, Bool, true, false, IsTrue, Ordering, Less, Equal, Greater, is_eq, refl, sym, ap, subst, ◌∙◌}
 use Rattle.std.proofs.lemmas.Cmp.{tied_itself}
 use Rattle.std.specs.Cmp.Lexicographic.{texts_ties}
+use Rattle.sc_lists.proofs.BoolLaws.{same_truth}
+use Rattle.sc_lists.proofs.OrderingLaws.{is_eq_true}
 use Rattle.sc_ast.specs.declared.literal.Literal.{Literal}
 use Rattle.sc_ast.specs.declared.literal.Literal.TheVariants as literal
 use Rattle.sc_names.specs.declared.uid.Uid.{Uid}
@@ -17,19 +19,13 @@ use Rattle.sc_values.proofs.OutLaws.{out_Bool, out_Long, out_String, out_Entity}
 use Rattle.sc_eval.specs.Entities.{same_uid}
 use Rattle.sc_eval.specs.Collections.{is_same}
 use Rattle.sc_eval.specs.Operators.{literal_value}
-use Rattle.sc_eval.proofs.TestLaws.{same_truth as one_truth}
 use Rattle.sc_typed.specs.Literals.{same_truth, same_literal}
 
 -- ---- uids
 
-level : (o : Ordering) → is_eq o ≡ true → o ≡ Equal
-level Less h = absurd cc
-level Equal h = refl
-level Greater h = absurd cc
-
 uid-decides : (a b : Uid) → IsTrue (is_eq (uid_cmp a b)) ↔ a ≡ b
 uid-decides a b = (
-  λ h. uid_cmp_level a b (level (uid_cmp a b) h),
+  λ h. uid_cmp_level a b (is_eq_true (uid_cmp a b) h),
   λ is. ap is_eq (subst (λ (c : Uid). uid_cmp a c ≡ Equal) is (tied_itself uid_cmp_total a)),
 )
 
@@ -38,7 +34,7 @@ same_uid-decides a b = uid-decides a b
 
 -- the two tests of uids are one
 pub same_uid-eq : (a b : Uid) → same_uid a b ≡ uid_eq a b
-same_uid-eq a b = one_truth (same_uid a b) (uid_eq a b) (uid-decides a b) (uid_eq-Decides a b)
+same_uid-eq a b = same_truth (same_uid a b) (uid_eq a b) (uid-decides a b) (uid_eq-Decides a b)
 
 -- ---- literals
 

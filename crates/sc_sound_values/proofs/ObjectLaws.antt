@@ -4,6 +4,8 @@ use Rattle.std.specs.List.{AllByRecursion, list_all, list_any}
 use Rattle.std.specs.Option.{option_and_then}
 use Rattle.std.specs.Str.{bytes_eq}
 use Rattle.std.proofs.lemmas.Slice.Eq.{bytes_eq-Decides}
+use Rattle.std.proofs.lemmas.Bool.{and_parts}
+use Rattle.sc_lists.proofs.OrderingLaws.{is_eq_true}
 use Rattle.sc_names.specs.declared.uid.Uid.{Uid}
 use Rattle.sc_names.specs.Uids.{uid_cmp}
 use Rattle.sc_names.proofs.UidLaws.{uid_cmp_level}
@@ -29,17 +31,12 @@ use Rattle.sc_eval.specs.declared.error.EvalError.{EvalError}
 use Rattle.sc_eval.specs.Entities.{or_missing, attr_of, access_in, access, has_attr, has_in, has}
 use Rattle.sc_typed.specs.Types.{Field, entity_name_in, record_fields, record_fields_in, attributes_in, attributes, attribute, same_presence, is_required}
 use Rattle.sc_sound_values.specs.Sound.{IsOf}
-use Rattle.sc_sound_values.proofs.ValueLaws.{fits, conforms-out, both_true, IsEntityOf, entity_of}
+use Rattle.sc_sound_values.proofs.ValueLaws.{fits, conforms-out, IsEntityOf, entity_of}
 
 -- ---- entries of a store
 
-level : (o : Ordering) → is_eq o ≡ true → o ≡ Equal
-level Less h = absurd cc
-level Equal h = refl
-level Greater h = absurd cc
-
 uid_found : (u k : Uid) → is_eq (uid_cmp u k) ≡ true → u ≡ k
-uid_found u k h = uid_cmp_level u k (level (uid_cmp u k) h)
+uid_found u k h = uid_cmp_level u k (is_eq_true (uid_cmp u k) h)
 
 entry_at : (P : Entry → Type 0) (u : Uid) (e : EntityData) (x : Entry) (b : Bool) (later : Option EntityData) → (b ≡ true → u ≡ x.0) → P x → (later ≡ Some e → P (u, e)) → cond b (Some x.1) later ≡ Some e → P (u, e)
 entry_at P u e x true later is here rest h =
@@ -156,7 +153,7 @@ passes_found : (fields : List Field) (attrs : Fields) (name : List ℕ) (f : Fie
     → attribute name fields ≡ Some f → IsTrue (passes f.1 (conforms f.2) (field name attrs))
 passes_found [] attrs name f all h = absurd cc
 passes_found (g ∷ fields) attrs name f all h =
-    let p = both_true (passes g.1 (conforms g.2) (field g.0 attrs)) (list_all (λ (a : List ℕ × Presence × Test). passes a.1 a.2 (field a.0 attrs)) (shape_of fields)) all in
+    let p = and_parts (passes g.1 (conforms g.2) (field g.0 attrs)) (list_all (λ (a : List ℕ × Presence × Test). passes a.1 a.2 (field a.0 attrs)) (shape_of fields)) all in
     field_found name attrs g f (bytes_eq name g.0) (attribute name fields) refl p.0 (passes_found fields attrs name f p.1) h
 
 none_past : (b : Bool) (g : Field) (later : Option Field) (c : Bool) → cond b (Some g) later ≡ None → (later ≡ None → c ≡ false) → (b || c) ≡ false
@@ -180,7 +177,7 @@ not_named : (attrs : Fields) (shape : Shape) (name : List ℕ) → IsTrue (list_
     → list_any (λ (a : List ℕ × Presence × Test). bytes_eq name a.0) shape ≡ false → field name attrs ≡ None
 not_named [] shape name all apart = refl
 not_named (f ∷ attrs) shape name all apart =
-    let p = both_true (list_any (λ (a : List ℕ × Presence × Test). bytes_eq f.0 a.0) shape) (list_all (λ (g : List ℕ × Value). list_any (λ (a : List ℕ × Presence × Test). bytes_eq g.0 a.0) shape) attrs) all in
+    let p = and_parts (list_any (λ (a : List ℕ × Presence × Test). bytes_eq f.0 a.0) shape) (list_all (λ (g : List ℕ × Value). list_any (λ (a : List ℕ × Presence × Test). bytes_eq g.0 a.0) shape) attrs) all in
     none_at name shape f (bytes_eq name f.0) (field name attrs) refl p.0 apart (not_named attrs shape name p.1 apart)
 
 value_found : (P : Value → Type 0) (f : List ℕ × Value) (b : Bool) (later : Option Value) (y : Value) → P f.1 → (later ≡ Some y → P y) → cond b (Some f.1) later ≡ Some y → P y
@@ -211,13 +208,13 @@ module _ (w : World) (fields : List Field) (x : Value) (attrs : Fields) (object 
   -- it hasn't what isn't declared
   pub has_none : attribute name fields ≡ None → has name w x ≡ Ok false
   has_none h =
-      let p = both_true all_pass all_named object.shape in
+      let p = and_parts all_pass all_named object.shape in
       object.asks name ∙ ap (λ o. Ok (is_some o)) (not_named attrs (shape_of fields) name p.1 (none_named fields name h))
 
   -- it has what is required
   pub has_required : (f : Field) → attribute name fields ≡ Some f → is_required f ≡ true → has name w x ≡ Ok true
   has_required f h required =
-      let p = both_true all_pass all_named object.shape in
+      let p = and_parts all_pass all_named object.shape in
       object.asks name ∙ ap Ok (passes_required f.1 (conforms f.2) (field name attrs) required (passes_found fields attrs name f p.0 h))
 
   read_at : (f : Field) (o : Option Value) → field name attrs ≡ o → IsTrue (passes f.1 (conforms f.2) o) → is_some o ≡ true → (y : Value) × (or_missing o ≡ Ok y) × IsOf w f.2 y
@@ -234,7 +231,7 @@ module _ (w : World) (fields : List Field) (x : Value) (attrs : Fields) (object 
   -- what it has is of the declared type
   pub reads_declared : (f : Field) → attribute name fields ≡ Some f → has name w x ≡ Ok true → (y : Value) × (access name w x ≡ Ok y) × IsOf w f.2 y
   reads_declared f h there =
-      let p = both_true all_pass all_named object.shape in
+      let p = and_parts all_pass all_named object.shape in
       let some : is_some (field name attrs) ≡ true = of_ok (is_some (field name attrs)) true (sym (object.asks name) ∙ there) in
       let q = read_at f (field name attrs) refl (passes_found fields attrs name f p.0 h) some in
       (q.0, object.reads name ∙ q.1, q.2)

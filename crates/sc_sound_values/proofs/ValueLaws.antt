@@ -2,6 +2,7 @@
 use Rattle.std.proofs.Common.{◌≡◌, ◌&&◌, ℕ, ℤ, List, [], ◌∷◌, Bool, true, false, if◌then◌else◌, IsTrue, Some, Result, Ok, Err, refl, sym, ap, subst, ◌∙◌}
 use Rattle.std.specs.List.{AllByRecursion, list_all}
 use Rattle.std.proofs.lemmas.Slice.Eq.{bytes_eq-Decides}
+use Rattle.std.proofs.lemmas.Bool.{and_parts}
 use Rattle.sc_ip.specs.declared.ip.Ip.{Ip}
 use Rattle.sc_names.specs.declared.uid.Uid.{Uid}
 use Rattle.sc_schema.specs.declared.ty.Ty.{Ty, Ty-F, out-Ty, roll-Ty, map-Ty, fold_out-Ty, fold-roll-Ty}
@@ -41,14 +42,6 @@ conforms-out type x = ap (λ f. f x) (fold_out-Ty Test conforms_step type)
 pub conforms-roll : (type : Ty) (y : Ty-F Ty) → roll-Ty y ≡ type → (x : Value) → conforms type x ≡ fits y x
 unfolding conforms
 conforms-roll type y at x = ap (λ u. conforms u x) (sym at) ∙ ap (λ f. f x) (fold-roll-Ty Test conforms_step y)
-
-pub both_true : (a b : Bool) → IsTrue (a && b) → IsTrue a × IsTrue b
-both_true true b h = (refl, h)
-both_true false b h = absurd cc
-
-pub both_hold : (a b : Bool) → IsTrue a → IsTrue b → IsTrue (a && b)
-both_hold true b h k = k
-both_hold false b h k = absurd cc
 
 -- what follows an outcome
 pub follows : {A B : Type 0} (P : A → Type 0) (Q : B → Type 0) (o : Result A EvalError) (f : A → Result B EvalError) → OrOverflows P o → ((x : A) → P x → OrOverflows Q (f x)) → OrOverflows Q (o >>= f)
@@ -238,7 +231,7 @@ module _ (w : World) where
 
   members_of : (type : Ty) (xs : List Value) → IsTrue (list_all (conforms type) xs) → AllByRecursion (NamesStored w.store) xs → AllByRecursion (IsOf w type) xs
   members_of type [] h k = tt
-  members_of type (x ∷ xs) h k = let p = both_true (conforms type x) (list_all (conforms type) xs) h in (record { conforming = p.0; stored = k.0 }, members_of type xs p.1 k.1)
+  members_of type (x ∷ xs) h k = let p = and_parts (conforms type x) (list_all (conforms type) xs) h in (record { conforming = p.0; stored = k.0 }, members_of type xs p.1 k.1)
 
   set_at : (type : Ty) (y : Ty-F Ty) (x : Value) → member_in y ≡ Some type → IsTrue (fits y x) → (xs : List Value) × (out-Value x ≡ v.Set xs) × IsTrue (list_all (conforms type) xs)
   set_at type (t.Set m) x k h = let same : m ≡ type = cc in let p = set_value (conforms m) (out-Value x) h in (p.0, p.1, subst (λ u. IsTrue (list_all (conforms u) p.0)) same p.2)

@@ -8,6 +8,8 @@ use Rattle.std.specs.Ordering.{match_ordering}
 use Rattle.std.specs.Str.{bytes_eq}
 use Rattle.std.proofs.lemmas.Cmp.{tied_itself, nat_list_cmp_total}
 use Rattle.std.proofs.lemmas.Slice.Eq.{bytes_eq-Decides}
+use Rattle.std.proofs.lemmas.Bool.{or_right, or_left, and_from}
+use Rattle.sc_lists.proofs.ListLaws.{contains_nothing, contains_split, contains_rest, contains_first}
 use Rattle.sc_ast.specs.declared.place.Place.{Place}
 use Rattle.sc_names.specs.Uids.{text_cmp}
 use Rattle.sc_schema.specs.declared.ty.Presence.{Presence}
@@ -19,7 +21,6 @@ use Rattle.sc_schema.specs.declared.ty.Ty.TheOpen as t
 use Rattle.sc_values.specs.declared.value.Value.{Value}
 use Rattle.sc_values.specs.declared.value.Value.TheVariants as value
 use Rattle.sc_values.specs.Records.{Fields, field}
-use Rattle.sc_values.proofs.AscendingLaws.{of_first, of_rest, split, no_first}
 use Rattle.sc_values.proofs.EveryLaws as every
 use Rattle.sc_values.proofs.OutLaws.{out_Set}
 use Rattle.sc_world.specs.declared.world.World.{World}
@@ -35,9 +36,9 @@ use Rattle.sc_typing_rules.specs.Rules.{all_joined, member_type, record_type}
 use Rattle.sc_typing_rules.specs.Rules as typing
 use Rattle.sc_typed.proofs.OutcomeLaws.{found, weaker}
 use Rattle.sc_sound_values.specs.Sound.{IsOf}
-use Rattle.sc_sound_values.proofs.ValueLaws.{conforms-roll, both_hold}
+use Rattle.sc_sound_values.proofs.ValueLaws.{conforms-roll}
 use Rattle.sc_sound_values.proofs.JoinLaws.{IsWithin, join-within}
-use Rattle.sc_sound_values.proofs.ListLaws.{all_true, each_weaker, contained, each_contained, any_left, any_right}
+use Rattle.sc_sound_values.proofs.ListLaws.{all_true, each_weaker, contained, each_contained}
 
 module _ (w : World) where
   -- ---- sets
@@ -145,8 +146,8 @@ module _ (w : World) where
       absurd (let both : Less ≡ Equal = sym h ∙ level in cc)
 
   of_keys : (P : List ℕ → Type 0) (gs : Fields) (g : List ℕ × Value) → AllByRecursion P (keys_of gs) → Contains gs g → P g.0
-  of_keys P [] g all has = absurd (no_first g has)
-  of_keys P (f ∷ gs) g all has = elim (split f gs g has) [
+  of_keys P [] g all has = absurd (contains_nothing g has)
+  of_keys P (f ∷ gs) g all has = elim (contains_split f gs g has) [
     | inl here ↦ subst (λ (x : List ℕ × Value). P x.0) here all.0
     | inr later ↦ of_keys P gs g all.1 later
   ]
@@ -161,8 +162,8 @@ module _ (w : World) where
 
   field_of : (gs : Fields) (g : List ℕ × Value) → IsStrictlySortedBy text_cmp (keys_of gs) → Contains gs g → field g.0 gs ≡ Some g.1
   unfolding IsStrictlySortedBy
-  field_of [] g ascending has = absurd (no_first g has)
-  field_of (f ∷ gs) g ascending has = elim (split f gs g has) [
+  field_of [] g ascending has = absurd (contains_nothing g has)
+  field_of (f ∷ gs) g ascending has = elim (contains_split f gs g has) [
     | inl here ↦ subst (λ (x : List ℕ × Value). field x.0 (f ∷ gs) ≡ Some x.1) here (first_field f (bytes_eq f.0 f.0) (field f.0 gs) ((bytes_eq-Decides f.0 f.0).1 refl))
     | inr later ↦
         let below : text_cmp f.0 g.0 ≡ Less = of_keys (λ k. text_cmp f.0 k ≡ Less) gs g ascending.0 later in
@@ -174,10 +175,10 @@ module _ (w : World) where
   each_passes whole [] gs h find = refl
   each_passes whole (e ∷ es) [] h find = absurd h
   each_passes whole (e ∷ es) (g ∷ gs) h find =
-      let there : field e.0 whole ≡ Some g.1 = ap (λ n. field n whole) h.0 ∙ find g (of_first g gs) in
-      both_hold (passes Required (conforms e.1) (field e.0 whole)) (list_all (λ (a : List ℕ × Presence × Test). passes a.1 a.2 (field a.0 whole)) (shape_of (required es)))
+      let there : field e.0 whole ≡ Some g.1 = ap (λ n. field n whole) h.0 ∙ find g (contains_first g gs) in
+      and_from (passes Required (conforms e.1) (field e.0 whole)) (list_all (λ (a : List ℕ × Presence × Test). passes a.1 a.2 (field a.0 whole)) (shape_of (required es)))
       (subst (λ o. IsTrue (passes Required (conforms e.1) o)) (sym there) h.1.conforming)
-      (each_passes whole es gs h.2 (λ f has. find f (of_rest g gs f has)))
+      (each_passes whole es gs h.2 (λ f has. find f (contains_rest g gs f has)))
 
   abbrev names_one : List (List ℕ × Ty) → List ℕ → Bool
   names_one es name = list_any (λ (a : List ℕ × Presence × Test). bytes_eq name a.0) (shape_of (required es))
@@ -186,9 +187,9 @@ module _ (w : World) where
   each_named whole es [] h up = refl
   each_named whole [] (g ∷ gs) h up = absurd h
   each_named whole (e ∷ es) (g ∷ gs) h up =
-      both_hold (names_one whole g.0) (list_all (λ (f : List ℕ × Value). names_one whole f.0) gs)
-      (up g.0 (any_left (bytes_eq g.0 e.0) (names_one es g.0) ((bytes_eq-Decides g.0 e.0).1 (sym h.0))))
-      (each_named whole es gs h.2 (λ name k. up name (any_right (bytes_eq name e.0) (names_one es name) k)))
+      and_from (names_one whole g.0) (list_all (λ (f : List ℕ × Value). names_one whole f.0) gs)
+      (up g.0 (or_left (bytes_eq g.0 e.0) (names_one es g.0) ((bytes_eq-Decides g.0 e.0).1 (sym h.0))))
+      (each_named whole es gs h.2 (λ name k. up name (or_right (bytes_eq name e.0) (names_one es name) k)))
 
   names_stored : (es : List (List ℕ × Ty)) (gs : Fields) → Match es gs → AllByRecursion (λ (f : List ℕ × Value). NamesStored w.store f.1) gs
   names_stored es [] h = tt
@@ -199,7 +200,7 @@ module _ (w : World) where
   record_is es gs h ascending = record {
     conforming =
         conforms_Record (required es) gs
-        ∙ both_hold (list_all (λ (a : List ℕ × Presence × Test). passes a.1 a.2 (field a.0 gs)) (shape_of (required es))) (list_all (λ (f : List ℕ × Value). names_one es f.0) gs)
+        ∙ and_from (list_all (λ (a : List ℕ × Presence × Test). passes a.1 a.2 (field a.0 gs)) (shape_of (required es))) (list_all (λ (f : List ℕ × Value). names_one es f.0) gs)
         (each_passes gs es gs h (λ g has. field_of gs g ascending has)) (each_named es es gs h (λ name k. k));
     stored = every.every_Record (NamesStoredLevel w.store) gs tt (names_stored es gs h);
   }

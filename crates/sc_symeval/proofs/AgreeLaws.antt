@@ -1,5 +1,6 @@
 -- Compiled terms agree with evaluation: construct by construct, of parts that may err.
 use Rattle.std.proofs.Common.{◌≡◌, Bool, true, false, not, cond, if◌then◌else◌, Option, Some, None, Ok, Err, IfOk, IfSome, refl, ap, sym, subst, ◌∙◌}
+use Rattle.sc_lists.proofs.BoolLaws.{never}
 use Rattle.sc_schema.specs.declared.ty.Ty.{Ty}
 use Rattle.sc_schema.specs.declared.ty.Ty.TheVariants as types
 use Rattle.sc_values.specs.declared.value.Value.{Value, out-Value}
@@ -45,9 +46,6 @@ or_yes false y = ap (λ (o : Option Bool). or_seen o (seen y) (yes false) y) (se
 fits_as : (type : Ty) (b c : Bool) → b ≡ c → Fits type c → Fits type b
 fits_as type b c e h = subst (Fits type) (sym e) h
 
-differ : (Q : Type 0) → true ≡ false → Q
-differ Q e = absurd cc
-
 negated_fits : (type : Ty) (b : Bool) → Fits type b → Fits (negated type) (not b)
 negated_fits type b h =
     by_test (λ u. Fits u (not b)) (is_false type) types.True (cond (is_true type) types.False types.Bool) (λ f. fits_as types.True (not b) true (ap not (fits-false type b f h)) true_fits) λ f.
@@ -66,7 +64,7 @@ module _ (x y : TypedExpr) where
 
   or_left_true : Fits (ty x) true → Fits (or_type x y) true
   or_left_true h =
-      by_test (λ u. Fits u true) (is_false (ty x)) (ty y) (cond (is_true (ty y)) types.True types.Bool) (λ f. differ _ (fits-false (ty x) true f h)) λ f.
+      by_test (λ u. Fits u true) (is_false (ty x)) (ty y) (cond (is_true (ty y)) types.True types.Bool) (λ f. never _ (fits-false (ty x) true f h)) λ f.
       by_test (λ u. Fits u true) (is_true (ty y)) types.True types.Bool (λ g. true_fits) λ g. bool_fits true
 
   or_left_false : (q : Bool) → Fits (ty y) q → Fits (or_type x y) q

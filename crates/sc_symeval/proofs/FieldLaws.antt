@@ -4,6 +4,8 @@ use Rattle.std.specs.List.{list_all}
 use Rattle.std.specs.Option.{option_and_then}
 use Rattle.std.specs.Str.{bytes_eq}
 use Rattle.std.proofs.lemmas.Slice.Eq.{bytes_eq-Decides}
+use Rattle.std.proofs.lemmas.Bool.{and_parts}
+use Rattle.sc_lists.proofs.ListLaws.{contains_rest, contains_first}
 use Rattle.sc_schema.specs.declared.ty.Presence.{Presence}
 use Rattle.sc_schema.specs.declared.ty.Presence.TheVariants.{Required, Optional}
 use Rattle.sc_schema.specs.declared.ty.Ty.{Ty, Ty-F, out-Ty}
@@ -12,8 +14,6 @@ use Rattle.sc_schema.specs.Declarations.{Declarations}
 use Rattle.sc_sorts.specs.Plain.{Field, is_bool, is_required, is_bool_field, plain_in, plain_fields}
 use Rattle.sc_typed.specs.declared.typed_expr.TypedExpr.{TypedExpr, out-TypedExpr}
 use Rattle.sc_typed.specs.Types.{same_presence, is_boolean, is_boolean_in, attributes_in, attributes, attribute}
-use Rattle.sc_values.proofs.AscendingLaws.{of_first, of_rest}
-use Rattle.sc_sound_values.proofs.ValueLaws.{both_true}
 use Rattle.sc_terms.specs.Booleans.{attribute_term, names_of}
 use Rattle.sc_symeval.specs.Codes.{Code, always, of_attribute, of_access}
 use Rattle.sc_symeval.specs.Parts.{seen, context_type}
@@ -32,13 +32,13 @@ found_in P g f false later here rest h = rest h
 found_bool : (name : List ℕ) (fields : List Field) (f : Field) → list_all is_bool_field fields ≡ true → attribute name fields ≡ Some f → is_bool_field f ≡ true
 found_bool name [] f all h = absurd cc
 found_bool name (g ∷ fields) f all h =
-    let p = both_true (is_bool_field g) (list_all is_bool_field fields) all in
+    let p = and_parts (is_bool_field g) (list_all is_bool_field fields) all in
     found_in (λ (k : Field). is_bool_field k ≡ true) g f (bytes_eq name g.0) (attribute name fields) p.0 (λ k. found_bool name fields f p.1 k) h
 
 named : (name : List ℕ) (g f : Field) (fields : List Field) (b : Bool) → bytes_eq name g.0 ≡ b → (attribute name fields ≡ Some f → Contains (names_of fields) name) → cond b (Some g) (attribute name fields) ≡ Some f
     → Contains (names_of (g ∷ fields)) name
-named name g f fields true at rest h = subst (Contains (names_of (g ∷ fields))) (sym ((bytes_eq-Decides name g.0).0 at)) (of_first g.0 (names_of fields))
-named name g f fields false at rest h = of_rest g.0 (names_of fields) name (rest h)
+named name g f fields true at rest h = subst (Contains (names_of (g ∷ fields))) (sym ((bytes_eq-Decides name g.0).0 at)) (contains_first g.0 (names_of fields))
+named name g f fields false at rest h = contains_rest g.0 (names_of fields) name (rest h)
 
 -- its name is among the names of the fields
 pub found_name : (name : List ℕ) (fields : List Field) (f : Field) → attribute name fields ≡ Some f → Contains (names_of fields) name
@@ -82,7 +82,7 @@ pub record IsField (s : Declarations) (type : Ty) (name : List ℕ) (fields : Li
 field_is : (s : Declarations) (type : Ty) (name : List ℕ) (fields : List Field) (f : Field) → plain_fields type ≡ Some fields → attribute name fields ≡ Some f → IsField s type name fields f
 field_is s type name fields f h k =
     let p = fields_of (out-Ty type) fields h in
-    let q = both_true (is_required f.1) (is_bool (out-Ty f.2)) (found_bool name fields f p.all k) in
+    let q = and_parts (is_required f.1) (is_bool (out-Ty f.2)) (found_bool name fields f p.all k) in
     record { plain = h; declared = ap (attributes_in s) p.is; found = k; required = required_is f.1 q.0; boolean = bool_is_boolean (out-Ty f.2) q.1; bool = q.1 }
 
 -- ---- what is compiled

@@ -1,5 +1,6 @@
 -- In a well-formed world what an expression is compiled to agrees with its evaluation.
 use Rattle.std.proofs.Common.{◌≡◌, ℕ, List, [], Bool, true, false, cond, IsTrue, IsSomeAnd, Option, Some, None, unwrap_or, option_map, Result, Ok, IfSome, refl, ap, sym, subst, ◌∙◌}
+use Rattle.std.proofs.lemmas.Bool.{and_parts}
 use Rattle.sc_ast.specs.declared.expr.Expr.{Expr, out-Expr, out-roll-Expr}
 use Rattle.sc_ast.specs.declared.expr.Expr.TheOpen as e
 use Rattle.sc_ast.specs.declared.expr.Expr.TheVariants as expr
@@ -45,7 +46,7 @@ use Rattle.sc_typing_rules.specs.Operators.{negated, equal_by}
 use Rattle.sc_typing_rules.specs.Operators as ops
 use Rattle.sc_typing_rules.specs.Rules.{or_type, and_type, literal_type, variable_type}
 use Rattle.sc_sound_values.specs.Sound.{IsOf}
-use Rattle.sc_sound_values.proofs.ValueLaws.{truth_fits, both_true, boolean}
+use Rattle.sc_sound_values.proofs.ValueLaws.{truth_fits, boolean}
 use Rattle.sc_sound_values.proofs.ObjectLaws.{has_declared, value_declared}
 use Rattle.sc_sound_values.proofs.LiteralLaws.{literals-same}
 use Rattle.sc_terms.specs.declared.node.UnaryOp.TheVariants as unary
@@ -121,7 +122,7 @@ module _ (s : Declarations) (env : Env) (literals : List Uid) (w : World) (well 
       → IfSome (of_equation type (seen x) (seen y)) (λ c. Tells w type c (eval a w >>= λ u. eval b w >>= λ v. binary Equal w u v))
   equation_tells p known type a b x y r q typing =
       by_literals (λ c. Tells w type c (eval a w >>= λ u. eval b w >>= λ v. binary Equal w u v)) (are_literals (seen x) (seen y)) (constant (is_true type)) λ h.
-      let both = both_true (is_literal (out-TypedExpr x)) (is_literal (out-TypedExpr y)) h in
+      let both = and_parts (is_literal (out-TypedExpr x)) (is_literal (out-TypedExpr y)) h in
       let l = literal_leaf s env a x (leaf_of s env r) both.0 in
       let m = literal_leaf s env b y (leaf_of s env q) both.1 in
       equal_tells p known type a b x y l.0 m.0 l.1 m.1 typing

@@ -3,6 +3,7 @@ use Rattle.std.proofs.Common.{◌≡◌, ◌||◌, ℕ, List, [], ◌∷◌, ◌
 use Rattle.std.specs.List.{AllByRecursion, flat_map, list_any}
 use Rattle.std.specs.Str.{bytes_eq}
 use Rattle.std.proofs.lemmas.List.Elements.{All-contains, All-from_recursion}
+use Rattle.sc_lists.proofs.OptionLaws.{some_of}
 use Rattle.sc_names.specs.declared.uid.Uid.{Uid}
 use Rattle.sc_schema.specs.declared.declarations.Action.{Action}
 use Rattle.sc_schema.specs.declared.ty.Presence.{Presence}
@@ -55,10 +56,6 @@ none_among : (name : List ℕ) (actions : List Action) → list_any (λ (a : Act
     → find (λ (u : Uid). bytes_eq name u.type_name) (map (λ (a : Action). a.uid) actions) ≡ None
 none_among name [] h = refl
 none_among name (a ∷ actions) h = passes_over (bytes_eq name a.uid.type_name) _ a.uid _ h (none_among name actions)
-
-some_of : {X : Type 0} (o : Option X) → IsSome o → (x : X) × (o ≡ Some x)
-some_of None h = absurd cc
-some_of (Some x) h = (x, refl)
 
 -- ---- what holds at every level
 

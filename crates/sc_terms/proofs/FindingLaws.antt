@@ -2,6 +2,7 @@
 use Rattle.std.proofs.Common.{◌≡◌, ◌≢◌, ◌<◌, ◌+◌, ◌++◌, ℕ, zero, suc, false, List, [], ◌∷◌, Some, length, slice_get, get_or, refl, sym, ap, ◌∙◌, subst, arith, length-append}
 use Rattle.std.proofs.lemmas.List.Quantifiers.{position-Some}
 use Rattle.std.specs.List.{list_any, position}
+use Rattle.std.proofs.lemmas.Option.{slice_get-get_or}
 use Rattle.indexmap.specs.IndexSet.{insert_key}
 use Rattle.sc_terms.specs.declared.node.Node.{Node}
 use Rattle.sc_terms.specs.contracts.node.NodePartialEq.TheImpl.{ghosts as node_eq}
@@ -9,11 +10,6 @@ use Rattle.sc_terms.specs.contracts.node.NodeEq.TheImpl.Laws.{laws-law}
 use Rattle.sc_terms.proofs.SameLaws.{same_node}
 use Rattle.sc_terms.proofs.TableLaws.{tree_is, keeps_append, table_insert, stands_insert}
 use Rattle.sc_terms.specs.Tables.{tree, node_tree, PartsAreBelow, IsTable, StandsFor}
-
-slice_get-at : {X : Type 0} (xs : List X) (n : ℕ) (d : X) → n < length xs → slice_get xs n ≡ Some (get_or xs n d)
-slice_get-at [] n d h = absurd (omega arith)
-slice_get-at (x ∷ xs) zero d h = refl
-slice_get-at (x ∷ xs) (suc n) d h = slice_get-at xs n d (omega arith)
 
 slice_get-end : {X : Type 0} (xs : List X) (v : X) → slice_get (xs ++ v ∷ []) (length xs) ≡ Some v
 slice_get-end [] v = refl
@@ -24,7 +20,7 @@ module _ (xs : List Node) (v : Node) (t : IsTable xs) where
   found_at n e =
       let p = position-Some (node_eq.eq v) xs n v e in
       let same : v ≡ get_or xs n v = same_node v (get_or xs n v) p.1 in
-      let at : slice_get xs n ≡ Some v = slice_get-at xs n v p.0 ∙ ap Some (sym same) in
+      let at : slice_get xs n ≡ Some v = slice_get-get_or xs n v p.0 ∙ ap Some (sym same) in
       record { within = p.0; is = tree_is xs n v at (t.below n v at) }
 
   -- where the node isn't there, it may come in, and no two numbers stand for one term

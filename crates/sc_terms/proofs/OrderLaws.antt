@@ -6,6 +6,7 @@ use Rattle.std.specs.declared.cmp.Ordering.{Ordering}
 use Rattle.std.specs.declared.cmp.Ordering.TheVariants.{Less, Equal, Greater}
 use Rattle.std.specs.Ordering.{nat_cmp, ordering_then, ordering_reverse, is_eq}
 use Rattle.std.specs.Cmp.{nat_cmp_total, IsTotalOrder, Equal-is, tied_itself}
+use Rattle.sc_lists.proofs.OrderingLaws.{ordering_then_equal}
 use Rattle.sc_terms.specs.declared.node.Leaf.{Leaf}
 use Rattle.sc_terms.specs.declared.node.Leaf.TheVariants as leafs
 use Rattle.sc_terms.specs.declared.node.Literal.TheVariants as literal
@@ -57,11 +58,6 @@ nat_itself n = tied_itself nat_cmp_total n
 nat_level : (m n : ℕ) → nat_cmp m n ≡ Equal → m ≡ n
 nat_level m n h = grind (arith, nat_tests)
 
-then_level : (a b : Ordering) → ordering_then a b ≡ Equal → (a ≡ Equal) × (b ≡ Equal)
-then_level Less b h = cc
-then_level Equal b h = (refl, h)
-then_level Greater b h = cc
-
 -- terms of one row have as many parts
 apart : (m n k l : ℕ) → arity_at m ≡ k → arity_at n ≡ l → nat_cmp m n ≡ Equal → k ≡ l
 apart m n k l e f h = sym e ∙ ap arity_at (nat_level m n h) ∙ f
@@ -79,34 +75,34 @@ binary_exact o p h = same_binary o p (binary_level o p ∙ ap is_eq h)
 
 pub exact : (x y : Tree) → tree_cmp x y ≡ Equal → x ≡ y
 unfolding tree_cmp
-exact (leaf l1) (leaf l2) h = ap leaf (leaf_exact l1 l2 (then_level _ _ h).1)
-exact (leaf l1) (one o2 a2) h = absurd (omega (arith, apart _ _ 0 1 (leaf_arity l1) (unary_arity o2) (then_level _ _ h).0))
-exact (leaf l1) (two o2 a2 b2) h = absurd (omega (arith, apart _ _ 0 2 (leaf_arity l1) (binary_arity o2) (then_level _ _ h).0))
-exact (leaf l1) (choice a2 b2 c2) h = absurd (omega (arith, apart _ _ 0 3 (leaf_arity l1) choice_arity (then_level _ _ h).0))
-exact (one o1 a1) (leaf l2) h = absurd (omega (arith, apart _ _ 1 0 (unary_arity o1) (leaf_arity l2) (then_level _ _ h).0))
+exact (leaf l1) (leaf l2) h = ap leaf (leaf_exact l1 l2 (ordering_then_equal _ _ h).1)
+exact (leaf l1) (one o2 a2) h = absurd (omega (arith, apart _ _ 0 1 (leaf_arity l1) (unary_arity o2) (ordering_then_equal _ _ h).0))
+exact (leaf l1) (two o2 a2 b2) h = absurd (omega (arith, apart _ _ 0 2 (leaf_arity l1) (binary_arity o2) (ordering_then_equal _ _ h).0))
+exact (leaf l1) (choice a2 b2 c2) h = absurd (omega (arith, apart _ _ 0 3 (leaf_arity l1) choice_arity (ordering_then_equal _ _ h).0))
+exact (one o1 a1) (leaf l2) h = absurd (omega (arith, apart _ _ 1 0 (unary_arity o1) (leaf_arity l2) (ordering_then_equal _ _ h).0))
 exact (one o1 a1) (one o2 a2) h =
-    let k = then_level _ _ (then_level _ _ h).1 in
+    let k = ordering_then_equal _ _ (ordering_then_equal _ _ h).1 in
     let e = exact a1 a2 k.0 in
     let f = unary_exact o1 o2 k.1 in
     cc
-exact (one o1 a1) (two o2 a2 b2) h = absurd (omega (arith, apart _ _ 1 2 (unary_arity o1) (binary_arity o2) (then_level _ _ h).0))
-exact (one o1 a1) (choice a2 b2 c2) h = absurd (omega (arith, apart _ _ 1 3 (unary_arity o1) choice_arity (then_level _ _ h).0))
-exact (two o1 a1 b1) (leaf l2) h = absurd (omega (arith, apart _ _ 2 0 (binary_arity o1) (leaf_arity l2) (then_level _ _ h).0))
-exact (two o1 a1 b1) (one o2 a2) h = absurd (omega (arith, apart _ _ 2 1 (binary_arity o1) (unary_arity o2) (then_level _ _ h).0))
+exact (one o1 a1) (two o2 a2 b2) h = absurd (omega (arith, apart _ _ 1 2 (unary_arity o1) (binary_arity o2) (ordering_then_equal _ _ h).0))
+exact (one o1 a1) (choice a2 b2 c2) h = absurd (omega (arith, apart _ _ 1 3 (unary_arity o1) choice_arity (ordering_then_equal _ _ h).0))
+exact (two o1 a1 b1) (leaf l2) h = absurd (omega (arith, apart _ _ 2 0 (binary_arity o1) (leaf_arity l2) (ordering_then_equal _ _ h).0))
+exact (two o1 a1 b1) (one o2 a2) h = absurd (omega (arith, apart _ _ 2 1 (binary_arity o1) (unary_arity o2) (ordering_then_equal _ _ h).0))
 exact (two o1 a1 b1) (two o2 a2 b2) h =
-    let k = then_level _ _ (then_level _ _ h).1 in
-    let l = then_level _ _ k.1 in
+    let k = ordering_then_equal _ _ (ordering_then_equal _ _ h).1 in
+    let l = ordering_then_equal _ _ k.1 in
     let e = exact a1 a2 k.0 in
     let f = exact b1 b2 l.0 in
     let g = binary_exact o1 o2 l.1 in
     cc
-exact (two o1 a1 b1) (choice a2 b2 c2) h = absurd (omega (arith, apart _ _ 2 3 (binary_arity o1) choice_arity (then_level _ _ h).0))
-exact (choice a1 b1 c1) (leaf l2) h = absurd (omega (arith, apart _ _ 3 0 choice_arity (leaf_arity l2) (then_level _ _ h).0))
-exact (choice a1 b1 c1) (one o2 a2) h = absurd (omega (arith, apart _ _ 3 1 choice_arity (unary_arity o2) (then_level _ _ h).0))
-exact (choice a1 b1 c1) (two o2 a2 b2) h = absurd (omega (arith, apart _ _ 3 2 choice_arity (binary_arity o2) (then_level _ _ h).0))
+exact (two o1 a1 b1) (choice a2 b2 c2) h = absurd (omega (arith, apart _ _ 2 3 (binary_arity o1) choice_arity (ordering_then_equal _ _ h).0))
+exact (choice a1 b1 c1) (leaf l2) h = absurd (omega (arith, apart _ _ 3 0 choice_arity (leaf_arity l2) (ordering_then_equal _ _ h).0))
+exact (choice a1 b1 c1) (one o2 a2) h = absurd (omega (arith, apart _ _ 3 1 choice_arity (unary_arity o2) (ordering_then_equal _ _ h).0))
+exact (choice a1 b1 c1) (two o2 a2 b2) h = absurd (omega (arith, apart _ _ 3 2 choice_arity (binary_arity o2) (ordering_then_equal _ _ h).0))
 exact (choice a1 b1 c1) (choice a2 b2 c2) h =
-    let k = then_level _ _ h in
-    let l = then_level _ _ k.1 in
+    let k = ordering_then_equal _ _ h in
+    let l = ordering_then_equal _ _ k.1 in
     let e = exact a1 a2 k.0 in
     let f = exact b1 b2 l.0 in
     let g = exact c1 c2 l.1 in

@@ -4,6 +4,7 @@ use Rattle.std.proofs.lemmas.Bool.{false≢true}
 use Rattle.std.proofs.lemmas.Bool.Decides.{nat_tests}
 use Rattle.std.specs.Cmp.{first_so, second_so}
 use Rattle.std.specs.Cmp.Lexicographic.{pointwise, bytes_decides}
+use Rattle.sc_lists.proofs.NumberLaws.{nat_eq_true}
 use Rattle.sc_sorts.specs.contracts.sort.SortPartialEq.TheImpl.{ghosts as sort_eq}
 use Rattle.sc_sorts.proofs.OrderLaws.{sort_eq_decides}
 use Rattle.sc_terms.specs.declared.node.Literal.{Literal}
@@ -49,15 +50,12 @@ same_unary (unary.Field m r) (unary.Field n s) h =
 pub same_binary : (o p : BinaryOp) → binary_eq.eq o p ≡ true → o ≡ p
 same_binary o p h = search rules
 
-same_part : (a b : ℕ) → nat_eq a b ≡ true → a ≡ b
-same_part a b h = grind (arith, nat_tests)
-
 pub same_node : (x y : Node) → node_eq.eq x y ≡ true → x ≡ y
 same_node (node.Leaf l) (node.Leaf m) h = ap node.Leaf (same_leaf l m h)
 same_node (node.Leaf l) _ h = absurd (false≢true h)
 same_node (node.One o a) (node.One p b) h =
     let e = same_unary o p (first_so (unary_eq.eq o p) (nat_eq a b) h) in
-    let f = same_part a b (second_so (unary_eq.eq o p) (nat_eq a b) h) in
+    let f = nat_eq_true a b (second_so (unary_eq.eq o p) (nat_eq a b) h) in
     cc
 same_node (node.One o a) _ h = absurd (false≢true h)
 same_node (node.Two o a b) (node.Two p c d) h = grind (arith, nat_tests, same_binary)

@@ -1,6 +1,6 @@
 -- Laws of tables: what comes in stands for its term, and what is there stays.
 use Rattle.std.proofs.Common.{◌≡◌, ℕ, suc, zero, ◌+◌, ◌<◌, ◌≤◌, Bool, true, false, cond, ◌||◌, ◌⊎◌, inl, inr, List, [], ◌∷◌, ◌++◌, Some, length, slice_get, refl, sym, ap, ◌∙◌, subst, arith, length-append}
-use Rattle.std.proofs.lemmas.Bool.{false≢true}
+use Rattle.std.proofs.lemmas.Bool.{false≢true, or_right}
 use Rattle.std.proofs.Math.ListN.{get_or-append}
 use Rattle.std.proofs.lemmas.List.{get_or_at}
 use Rattle.std.proofs.lemmas.Option.{slice_get_within}
@@ -141,14 +141,10 @@ found [] n h = absurd (omega arith)
 found (x ∷ xs) zero h = (x, refl)
 found (x ∷ xs) (suc n) h = found xs n (omega arith)
 
-or_true : (a b : Bool) → b ≡ true → (a || b) ≡ true
-or_true true b e = refl
-or_true false b e = e
-
 list_any-at : (p : Node → Bool) (xs : List Node) (n : ℕ) (x : Node) → slice_get xs n ≡ Some x → p x ≡ true → list_any p xs ≡ true
 list_any-at p [] n x e h = cc
 list_any-at p (y ∷ ys) zero x e h = let f : y ≡ x = cc in rw f (rw h refl)
-list_any-at p (y ∷ ys) (suc n) x e h = or_true (p y) (list_any p ys) (list_any-at p ys n x e h)
+list_any-at p (y ∷ ys) (suc n) x e h = or_right (p y) (list_any p ys) (list_any-at p ys n x e h)
 
 itself : (x : Node) → node_eq.eq x x ≡ true
 itself x = laws-law.refl x

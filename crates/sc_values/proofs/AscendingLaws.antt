@@ -15,24 +15,9 @@ use Rattle.std.proofs.lemmas.List.Elements.{All-from_recursion, All-contains}
 use Rattle.std.proofs.lemmas.Map.Keys.{sorted_head, sorted_tail}
 use Rattle.std.proofs.lemmas.Map.Lookups.{CmpEqualImpliesEq}
 use Rattle.std.proofs.lemmas.Map.Views.{tells_apart}
+use Rattle.sc_lists.proofs.ListLaws.{contains_first, contains_rest, contains_split, contains_nothing}
 
 -- ---- the elements of a list are its first and those of the rest
-
-pub of_first : {K : Type 0} (x : K) (xs : List K) → Contains (x ∷ xs) x
-of_first x xs = (0, omega arith, refl)
-
-pub of_rest : {K : Type 0} (x : K) (xs : List K) (u : K) → Contains xs u → Contains (x ∷ xs) u
-of_rest x xs u has = (suc has.0, omega (arith, has.1), has.2)
-
-split_at : {K : Type 0} (x : K) (xs : List K) (u : K) (k : ℕ) → k < length (x ∷ xs) → get_or (x ∷ xs) k u ≡ u → (x ≡ u) ⊎ Contains xs u
-split_at x xs u zero within is = inl is
-split_at x xs u (suc k) within is = inr (k, omega arith, is)
-
-pub split : {K : Type 0} (x : K) (xs : List K) (u : K) → Contains (x ∷ xs) u → (x ≡ u) ⊎ Contains xs u
-split x xs u has = split_at x xs u has.0 has.1 has.2
-
-pub no_first : {K : Type 0} (x : K) → Contains [] x → ⊥
-no_first x has = absurd (omega (arith, has.1))
 
 -- ---- at an order
 
@@ -52,16 +37,16 @@ module _ {K : Type 0} {R : K → K → Ordering} (o : IsTotalOrder R) (exact : C
   first_below x xs u a has = All-contains (λ y. R x y ≡ Less) xs u (All-from_recursion (λ y. R x y ≡ Less) xs (sorted_head R x xs a)) has
 
   one_first : (x y : K) (xs ys : List K) → IsStrictlySortedBy R (x ∷ xs) → IsStrictlySortedBy R (y ∷ ys) → Contains (y ∷ ys) x → Contains (x ∷ xs) y → x ≡ y
-  one_first x y xs ys a b has had = elim (split y ys x has) [
+  one_first x y xs ys a b has had = elim (contains_split y ys x has) [
     | inl is ↦ sym is
-    | inr later ↦ elim (split x xs y had) [
+    | inr later ↦ elim (contains_split x xs y had) [
       | inl is ↦ is
       | inr after ↦ absurd (both_below y x (first_below y ys x b later) (first_below x xs y a after))
     ]
   ]
 
   rest_has : (x y : K) (xs ys : List K) (u : K) → x ≡ y → IsStrictlySortedBy R (x ∷ xs) → Contains xs u → Contains (y ∷ ys) u → Contains ys u
-  rest_has x y xs ys u same_first a has had = elim (split y ys u had) [
+  rest_has x y xs ys u same_first a has had = elim (contains_split y ys u had) [
     | inl is ↦ absurd (not_below u (subst (λ (v : K). R v u ≡ Less) (same_first ∙ is) (first_below x xs u a has)))
     | inr later ↦ later
   ]
@@ -69,12 +54,12 @@ module _ {K : Type 0} {R : K → K → Ordering} (o : IsTotalOrder R) (exact : C
   -- ascending lists of the same elements are one
   pub one_list : (xs ys : List K) → IsStrictlySortedBy R xs → IsStrictlySortedBy R ys → ((u : K) → Contains xs u ↔ Contains ys u) → xs ≡ ys
   one_list [] [] a b h = refl
-  one_list [] (y ∷ ys) a b h = absurd (no_first y ((h y).1 (of_first y ys)))
-  one_list (x ∷ xs) [] a b h = absurd (no_first x ((h x).0 (of_first x xs)))
+  one_list [] (y ∷ ys) a b h = absurd (contains_nothing y ((h y).1 (contains_first y ys)))
+  one_list (x ∷ xs) [] a b h = absurd (contains_nothing x ((h x).0 (contains_first x xs)))
   one_list (x ∷ xs) (y ∷ ys) a b h =
-      let first : x ≡ y = one_first x y xs ys a b ((h x).0 (of_first x xs)) ((h y).1 (of_first y ys)) in
+      let first : x ≡ y = one_first x y xs ys a b ((h x).0 (contains_first x xs)) ((h y).1 (contains_first y ys)) in
       let rest : xs ≡ ys = one_list xs ys (sorted_tail R x xs a) (sorted_tail R y ys b) (λ u.
-      (λ has. rest_has x y xs ys u first a has ((h u).0 (of_rest x xs u has)), λ has. rest_has y x ys xs u (sym first) b has ((h u).1 (of_rest y ys u has)))) in
+      (λ has. rest_has x y xs ys u first a has ((h u).0 (contains_rest x xs u has)), λ has. rest_has y x ys xs u (sym first) b has ((h u).1 (contains_rest y ys u has)))) in
       cc
 
   module _ {E : K → K → Bool} (e : IsEquivalence E) (ties : (a b : K) → E a b ≡ eq_by_cmp R a b) where

@@ -7,6 +7,7 @@ use Rattle.std.specs.Cmp.{IsTotalOrder}
 use Rattle.std.specs.Cmp.Lexicographic.{slice_cmp}
 use Rattle.std.proofs.lemmas.Cmp.{tied_itself}
 use Rattle.std.proofs.lemmas.Map.Lookups.{CmpEqualImpliesEq, exact_unsigned, exact_signed, exact_bytes}
+use Rattle.sc_lists.proofs.OrderingLaws.{ordering_then_equal}
 use Rattle.sc_names.proofs.UidLaws.{uid_cmp_level}
 use Rattle.sc_ip.specs.declared.ip.Ip.{Ip}
 use Rattle.sc_ip.specs.declared.ip.Ip.TheVariants.{V4, V6}
@@ -97,11 +98,6 @@ value_cmp_by_kind a b = is a b ∙ unfolded_level a b (out-Value a) (out-Value b
 
 -- ---- only equal values are level
 
-both_level : (a b : Ordering) → ordering_then a b ≡ Equal → (a ≡ Equal) × (b ≡ Equal)
-both_level Less b h = cc
-both_level Equal b h = (refl, h)
-both_level Greater b h = cc
-
 exact_bool : (a b : Bool) → bool_cmp a b ≡ Equal → a ≡ b
 exact_bool true true h = refl
 exact_bool true false h = cc
@@ -119,7 +115,7 @@ exact_members [] [] h = refl
 exact_members [] (y ∷ ys) h = cc
 exact_members (e ∷ es) [] h = cc
 exact_members (e ∷ es) (y ∷ ys) h =
-    let p = both_level _ _ h in
+    let p = ordering_then_equal _ _ h in
     let first : e.0 ≡ y = e.1 y p.0 in
     let rest : map (λ (e : Known). e.0) es ≡ ys = exact_members es ys p.1 in
     cc
@@ -132,8 +128,8 @@ exact_fields [] [] h = refl
 exact_fields [] (f ∷ fs) h = cc
 exact_fields (e ∷ es) [] h = cc
 exact_fields (e ∷ es) (f ∷ fs) h =
-    let p = both_level _ _ h in
-    let q = both_level _ _ p.0 in
+    let p = ordering_then_equal _ _ h in
+    let q = ordering_then_equal _ _ p.0 in
     let name : e.0 ≡ f.0 = exact_bytes _ _ q.0 in
     let value : e.1.0 ≡ f.1 = e.1.1 f.1 q.1 in
     let rest : forget_fields es ≡ fs = exact_fields es fs p.1 in
@@ -141,7 +137,7 @@ exact_fields (e ∷ es) (f ∷ fs) h =
     cc
 
 both_numbers : (m n p q : ℕ) → ordering_then (nat_cmp m n) (nat_cmp p q) ≡ Equal → (m ≡ n) × (p ≡ q)
-both_numbers m n p q h = let parts = both_level (nat_cmp m n) (nat_cmp p q) h in (exact_unsigned m n parts.0, exact_unsigned p q parts.1)
+both_numbers m n p q h = let parts = ordering_then_equal (nat_cmp m n) (nat_cmp p q) h in (exact_unsigned m n parts.0, exact_unsigned p q parts.1)
 
 exact_ip : (a b : Ip) → ip_cmp a b ≡ Equal → a ≡ b
 exact_ip (V4 m p) (V4 n q) h = let same = both_numbers m n p q h in λ i. V4 (same.0 i) (same.1 i)

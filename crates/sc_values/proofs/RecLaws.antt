@@ -13,6 +13,8 @@ use Rattle.std.proofs.lemmas.List.Sums.{sum_by-cons}
 use Rattle.std.proofs.lemmas.List.Sorted.{IsPermutation-map, IsPermutation-sym, sum_by-IsPermutation, Contains-permutation}
 use Rattle.std.proofs.lemmas.Map.Lookups.{CmpEqualImpliesEq, exact_bytes, exact_pairs}
 use Rattle.std.proofs.lemmas.Slice.Eq.{bytes_eq-Decides}
+use Rattle.sc_lists.proofs.TextLaws.{bytes_eq_true}
+use Rattle.sc_lists.proofs.OrderingLaws.{is_gt_false}
 use Rattle.sc_names.specs.Uids.{text_cmp}
 use Rattle.sc_values.specs.declared.value.Value.{Value}
 use Rattle.sc_values.specs.Order.{value_cmp, field_cmp}
@@ -37,14 +39,9 @@ at_most_trans : (k j i : List ℕ) → AtMost k j → AtMost j i → AtMost k i
 unfolding AtMost
 at_most_trans k j i = upto total k j i
 
-not_greater : (o : Ordering) → is_gt o ≡ false → o ≢ Greater
-not_greater Less h e = cc
-not_greater Equal h e = cc
-not_greater Greater h e = cc
-
 at_most_is : (k j : List ℕ) → AtMost k j → text_cmp k j ≢ Greater
 unfolding AtMost
-at_most_is k j h = not_greater (text_cmp k j) h
+at_most_is k j h = is_gt_false (text_cmp k j) h
 
 reversed : (o : Ordering) → is_gt (ordering_reverse o) ≡ is_lt o
 reversed Less = refl
@@ -54,9 +51,6 @@ reversed Greater = refl
 turned : (k j : List ℕ) → is_lt (text_cmp j k) ≡ false → AtMost k j
 unfolding AtMost
 turned k j h = ap is_gt (total.antisymm k j) ∙ reversed (text_cmp j k) ∙ h
-
-same_text : (k j : List ℕ) → bytes_eq k j ≡ true → k ≡ j
-same_text k j h = (bytes_eq-Decides k j).0 h
 
 less_unless : (o : Ordering) → is_gt o ≡ false → o ≢ Equal → o ≡ Less
 less_unless Less h n = refl
@@ -93,7 +87,7 @@ passed k j keys e = count-cons k j keys ∙ ap (λ (b : Bool). cond b 1 0 + coun
 
 -- what holds of each key holds of one that stands there
 occurs_at : (P : List ℕ → Type 0) (k j : List ℕ) (keys : List (List ℕ)) (b : Bool) → bytes_eq k j ≡ b → 1 ≤ count k (j ∷ keys) → P j → (1 ≤ count k keys → P k) → P k
-occurs_at P k j keys true e h here later = subst P (sym (same_text k j e)) here
+occurs_at P k j keys true e h here later = subst P (sym (bytes_eq_true k j e)) here
 occurs_at P k j keys false e h here later = later (omega (arith, passed k j keys e))
 
 occurs : (P : List ℕ → Type 0) (k : List ℕ) (keys : List (List ℕ)) → 1 ≤ count k keys → AllByRecursion P keys → P k
@@ -163,7 +157,7 @@ record IsLeast (keys : List (List ℕ)) (key : List ℕ) : Type 0 where
 -- the first two are one
 least_here : (k j : List ℕ) (keys : List (List ℕ)) → bytes_eq j k ≡ true → AllByRecursion (AtMost k) (j ∷ keys) → IsLeast (k ∷ j ∷ keys) k
 least_here k j keys e all =
-    let same : j ≡ k = same_text j k e in
+    let same : j ≡ k = bytes_eq_true j k e in
     let first : bytes_eq k k ≡ true = (bytes_eq-Decides k k).1 refl in
     let second : bytes_eq k j ≡ true = (bytes_eq-Decides k j).1 (sym same) in
     record {
@@ -173,7 +167,7 @@ least_here k j keys e all =
 
 least_past_at : (k j m key : List ℕ) (keys : List (List ℕ)) (b : Bool) → bytes_eq m k ≡ b → text_cmp k j ≡ Less → AllByRecursion (AtMost j) (j ∷ keys) → IsLeast (j ∷ keys) key → 2 ≤ count m (k ∷ j ∷ keys) → AtMost key m
 least_past_at k j m key keys true e below all later twice =
-    let same : m ≡ k = same_text m k e in
+    let same : m ≡ k = bytes_eq_true m k e in
     let once : 1 ≤ count m (j ∷ keys) = omega (arith, counted m k (j ∷ keys) e) in
     absurd (below_at_most k j below (subst (AtMost j) same (occurs (AtMost j) m (j ∷ keys) once all)))
 least_past_at k j m key keys false e below all later twice = later.least m (omega (arith, passed m k (j ∷ keys) e))
@@ -256,7 +250,7 @@ not_below k h = below_at_most k k h (at_most_itself k)
 once_at : (k j : List ℕ) (keys : List (List ℕ)) (b : Bool) → bytes_eq k j ≡ b → AllByRecursion (λ y. text_cmp j y ≡ Less) keys → (2 ≤ count k keys → ⊥) → 2 ≤ count k (j ∷ keys) → ⊥
 once_at k j keys true e below rest twice =
     let once : 1 ≤ count k keys = omega (arith, counted k j keys e) in
-    not_below j (subst (λ (x : List ℕ). text_cmp j x ≡ Less) (same_text k j e) (occurs (λ y. text_cmp j y ≡ Less) k keys once below))
+    not_below j (subst (λ (x : List ℕ). text_cmp j x ≡ Less) (bytes_eq_true k j e) (occurs (λ y. text_cmp j y ≡ Less) k keys once below))
 once_at k j keys false e below rest twice = rest (omega (arith, passed k j keys e))
 
 once : (k : List ℕ) (keys : List (List ℕ)) → IsStrictlySortedBy text_cmp keys → 2 ≤ count k keys → ⊥

@@ -5,6 +5,7 @@ use Rattle.std.specs.List.Sorted.{IsSorted, IsPermutation}
 use Rattle.std.specs.declared.cmp.Ordering.{Ordering}
 use Rattle.std.specs.declared.cmp.Ordering.TheVariants.{Less, Equal, Greater}
 use Rattle.std.specs.Ordering.{is_eq, eq_by_cmp}
+use Rattle.sc_lists.proofs.OrderingLaws.{is_eq_true}
 use Rattle.sc_values.specs.declared.value.Value.{Value}
 use Rattle.sc_values.specs.contracts.value.ValueOrd.TheImpl.{ghosts as order}
 use Rattle.sc_values.specs.contracts.value.ValueOrd.TheImpl.Laws.{matches_eq-law}
@@ -15,15 +16,10 @@ use Rattle.sc_values.specs.Sets.{IsSetOf}
 use Rattle.sc_values.proofs.AscendingLaws.{one_list, ascending_made, members_made}
 use Rattle.sc_values.proofs.OrderLaws.{value_cmp_total, value_cmp_exact, value_cmp_level}
 
-level_tested : (o : Ordering) → is_eq o ≡ true → o ≡ Equal
-level_tested Less h = cc
-level_tested Equal h = refl
-level_tested Greater h = cc
-
 -- values that are level are one
 pub one_value : (r : Bool) (o : Ordering) (a b : Value) → r ≡ is_eq o → o ≡ value_cmp a b → IsTrue r ↔ a ≡ b
 one_value r o a b is level = (
-  λ h. (value_cmp_level a b).0 (sym level ∙ level_tested o (sym is ∙ h)),
+  λ h. (value_cmp_level a b).0 (sym level ∙ is_eq_true o (sym is ∙ h)),
   λ same. is ∙ ap is_eq (level ∙ (value_cmp_level a b).1 same),
 )
 

@@ -6,6 +6,9 @@ use Rattle.std.specs.Map.{keys_of}
 use Rattle.std.specs.Str.{bytes_eq}
 use Rattle.std.proofs.lemmas.Cmp.{nat_list_cmp_total, tied_itself}
 use Rattle.std.proofs.lemmas.Slice.Eq.{bytes_eq-Decides}
+use Rattle.std.proofs.lemmas.Bool.{and_parts}
+use Rattle.sc_lists.proofs.OrderingLaws.{less≢equal}
+use Rattle.sc_lists.proofs.ListLaws.{all_append}
 use Rattle.sc_names.specs.declared.uid.Uid.{Uid}
 use Rattle.sc_names.specs.Uids.{text_cmp}
 use Rattle.sc_schema.specs.declared.declarations.EntityType.{EntityType}
@@ -24,14 +27,6 @@ use Rattle.sc_world.specs.Conforms.{Test, Shape, is_bool, is_truth, is_long, is_
 use Rattle.sc_world.specs.Named.{uids_step, uids_in, IsDeclared}
 use Rattle.sc_world.proofs.DefaultTypeLaws.{type_named}
 use Rattle.sc_world.proofs.TypeLaws as of_type
-
-both : (a b : Bool) → IsTrue (a && b) → IsTrue a × IsTrue b
-both true b h = (refl, h)
-both false b h = absurd cc
-
-all-append : {X : Type 0} (P : X → Type 0) (xs ys : List X) → AllByRecursion P xs → AllByRecursion P ys → AllByRecursion P (xs ++ ys)
-all-append P [] ys h k = k
-all-append P (x ∷ xs) ys h k = (h.0, all-append P xs ys h.1 k)
 
 -- ---- entities of declared types
 
@@ -67,9 +62,6 @@ skip_at name other x o false e apart = refl
 
 skip : (name other : List ℕ) (x o : Option Value) → (name ≡ other → ⊥) → cond (bytes_eq name other) x o ≡ o
 skip name other x o apart = skip_at name other x o (bytes_eq name other) refl apart
-
-less≢equal : Less ≡ Equal → ⊥
-less≢equal e = cc
 
 gets_later : (f : Field) (whole fs : Fields) → AllByRecursion (λ y. text_cmp f.0 y ≡ Less) (keys_of fs) → Gets whole fs → Gets (f ∷ whole) fs
 gets_later f whole [] below g = tt
@@ -138,8 +130,8 @@ module _ (s : Declarations) (lawful : IsLawful s) where
   members : (test : Test) → NamesDeclared test → (xs : List Value) → AllByRecursion IsProper xs → IsTrue (list_all test xs) → AreDeclared (flat_map (λ (us : List Uid). us) (map uids_in xs))
   members test d [] p h = tt
   members test d (x ∷ xs) p h =
-      let parts = both (test x) (list_all test xs) h in
-      all-append (IsDeclared s) (uids_in x) _ (d x p.0 parts.0) (members test d xs p.1 parts.1)
+      let parts = and_parts (test x) (list_all test xs) h in
+      all_append (IsDeclared s) (uids_in x) _ (d x p.0 parts.0) (members test d xs p.1 parts.1)
 
   of_set : (test : Test) → NamesDeclared test → LevelsDeclare (is_set_of test)
   of_set test d (v.Set xs) p h = members test d xs ((level.in_Set IsProperLevel xs).0 (subst IsProper (rolls-Set xs) p)).1 h
@@ -177,22 +169,22 @@ module _ (s : Declarations) (lawful : IsLawful s) where
       elim (bytes_eq name k.0) as (λ b. bytes_eq name k.0 ≡ b → AreDeclared (uids_in x)) [
         | true ↦ λ is.
             let same : name ≡ k.0 = (bytes_eq-Decides name k.0).0 is in
-            let here = subst (λ o. IsTrue (passes k.1 (conforms k.2.0) o)) (ap (λ n. field n fs) (sym same) ∙ f) (both _ _ h).0 in
+            let here = subst (λ o. IsTrue (passes k.1 (conforms k.2.0) o)) (ap (λ n. field n fs) (sym same) ∙ f) (and_parts _ _ h).0 in
             k.2.1 types.0 x p here
-        | false ↦ λ is. attribute ks fs name x types.1 (subst (λ b. IsTrue (b || is_declared ks name)) is d) (both _ _ h).1 f p
+        | false ↦ λ is. attribute ks fs name x types.1 (subst (λ b. IsTrue (b || is_declared ks name)) is d) (and_parts _ _ h).1 f p
       ] refl
 
   fields : (ks : KnownAttributes) (whole : Fields) → AreTypes ks → AllPass ks whole → (fs : Fields) → Gets whole fs → IsTrue (list_all (λ (f : Field). is_declared ks f.0) fs) → AllByRecursion (λ (f : Field). IsProper f.1) fs
       → AreDeclared (flat_map (λ (f : List ℕ × List Uid). f.1) (map (λ (f : Field). (f.0, uids_in f.1)) fs))
   fields ks whole types h [] g d p = tt
   fields ks whole types h (f ∷ fs) g d p =
-      let parts = both _ _ d in
-      all-append (IsDeclared s) (uids_in f.1) _ (attribute ks whole f.0 f.1 types parts.0 h g.0 p.0) (fields ks whole types h fs g.1 parts.1 p.1)
+      let parts = and_parts _ _ d in
+      all_append (IsDeclared s) (uids_in f.1) _ (attribute ks whole f.0 f.1 types parts.0 h g.0 p.0) (fields ks whole types h fs g.1 parts.1 p.1)
 
   of_record : (ks : KnownAttributes) → AreTypes ks → LevelsDeclare (is_record_of (tests ks))
   of_record ks types (v.Record fs) p h =
       let inner = (level.in_Record IsProperLevel fs).0 (subst IsProper (rolls-Record fs) p) in
-      let parts = both _ _ h in
+      let parts = and_parts _ _ h in
       fields ks fs types parts.0 fs (gets_itself fs inner.0.0) parts.1 inner.1
   of_record ks types _ p h = absurd cc
 

@@ -6,6 +6,8 @@ use Rattle.std.specs.Str.{bytes_eq, IsUtf8}
 use Rattle.std.proofs.lemmas.List.Elements.{All-contains, All-from_recursion}
 use Rattle.std.proofs.lemmas.List.Folds.{flat_map-map}
 use Rattle.std.proofs.lemmas.Slice.Eq.{bytes_eq-Decides}
+use Rattle.sc_lists.proofs.ListLaws.{all_element}
+use Rattle.sc_lists.proofs.OptionLaws.{some_of}
 use Rattle.sc_ip.specs.declared.ip.Ip.TheVariants.{V4}
 use Rattle.sc_names.specs.declared.uid.Uid.{Uid}
 use Rattle.sc_schema.specs.declared.declarations.Action.{Action}
@@ -68,13 +70,6 @@ default_uid-text s name lawful text =
 
 -- ---- declared types
 
-pub some_of : {X : Type 0} (o : Option X) → IsSome o → (x : X) × (o ≡ Some x)
-some_of None h = absurd cc
-some_of (Some x) h = (x, refl)
-
-pub of_element : {X : Type 0} (P : X → Type 0) (xs : List X) (x : X) → AllByRecursion P xs → Contains xs x → P x
-of_element P xs x each has = All-contains P xs x (All-from_recursion P xs each) has
-
 -- an entity type that is declared
 pub record IsTypeNamed (s : Declarations) (name : List ℕ) : Type 0 where
   pub type : EntityType
@@ -86,7 +81,7 @@ pub type_named : (s : Declarations) (name : List ℕ) → IsLawful s → IsEntit
 type_named s name lawful declared =
     let found = some_of (entity_type s name) declared in
     let there = type_declared s name found.0 found.1 in
-    record { type = found.0; found = found.1; named = there.1; lawful = of_element (IsLawfulType s) s.types found.0 lawful.each_type there.0 }
+    record { type = found.0; found = found.1; named = there.1; lawful = all_element (IsLawfulType s) s.types found.0 lawful.each_type there.0 }
 
 pub type_text : (s : Declarations) (name : List ℕ) → IsLawful s → IsEntityType s name → IsUtf8 name
 type_text s name lawful declared =

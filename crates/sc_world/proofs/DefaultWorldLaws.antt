@@ -5,6 +5,9 @@ use Rattle.std.specs.List.Sorted.{IsStrictlySortedBy}
 use Rattle.std.specs.Str.{bytes_eq}
 use Rattle.std.proofs.lemmas.List.Elements.{Contains-append_left, Contains-append_right, Contains-append_cases}
 use Rattle.std.proofs.lemmas.Slice.Eq.{bytes_eq-Decides}
+use Rattle.std.proofs.lemmas.Bool.{or_right, or_left}
+use Rattle.sc_lists.proofs.OptionLaws.{some_of}
+use Rattle.sc_lists.proofs.ListLaws.{all_weaker, contains_map, contains_nothing, contains_split, contains_rest, contains_first, all_element, all_of_elements}
 use Rattle.sc_names.specs.declared.uid.Uid.{Uid}
 use Rattle.sc_names.specs.Uids.{uid_cmp}
 use Rattle.sc_schema.specs.declared.declarations.Action.{Action}
@@ -17,7 +20,6 @@ use Rattle.sc_schema.specs.Lawful.{IsEntityType, AreEntityTypes, IsRecordTypeOf,
 use Rattle.sc_schema.proofs.IndexLaws.{in_order_members}
 use Rattle.sc_schema.proofs.LawfulLaws.{no_fields_lawful, no_names_ascend, no_uids_ascend}
 use Rattle.sc_schema.proofs.LookupLaws.{action_found, action_declared}
-use Rattle.sc_schema.proofs.OrderLaws.{of_first, of_rest, no_element, split}
 use Rattle.sc_values.specs.declared.value.Value.{Value}
 use Rattle.sc_values.specs.declared.value.Value.TheVariants as value
 use Rattle.sc_values.specs.Proper.{IsProperLevel, IsProperRecord, IsUidText}
@@ -33,16 +35,12 @@ use Rattle.sc_world.specs.Tests.{IsWellFormedEntry, HasWellFormedParts}
 use Rattle.sc_world.specs.WellFormed.{Entry, IsStored, IsProperEntry, HasAttributes, HasAncestorTypes, IsTransitive, IsAcyclic, IsAction, action_data, EntryNamesStored, NamesStoredLevel, IsWellFormed}
 use Rattle.sc_world.proofs.DeclaredLaws.{declared_type, names_declared}
 use Rattle.sc_world.proofs.DefaultLaws.{default_Record, fields_Record}
-use Rattle.sc_world.proofs.DefaultTypeLaws.{some_of, type_named, IsDefaultOf, default_of, default_uid-type}
-use Rattle.sc_world.proofs.FillLaws.{each_of, of_element, of_stored, of_key, each_stored}
+use Rattle.sc_world.proofs.DefaultTypeLaws.{type_named, IsDefaultOf, default_of, default_uid-type}
+use Rattle.sc_world.proofs.FillLaws.{of_stored, of_key, each_stored}
 use Rattle.sc_world.proofs.NamesLaws.{names_stored}
 use Rattle.sc_world.proofs.PartLaws.{parts_tested}
 
 -- ---- lists
-
-weaker : {X : Type 0} (P Q : X → Type 0) → ((x : X) → P x → Q x) → (xs : List X) → AllByRecursion P xs → AllByRecursion Q xs
-weaker P Q f [] h = tt
-weaker P Q f (x ∷ xs) h = (f x h.0, weaker P Q f xs h.1)
 
 -- an element of rows stands in one of them
 record StandsInRow {X Y : Type 0} (f : X → List Y) (xs : List X) (y : Y) : Type 0 where
@@ -51,15 +49,15 @@ record StandsInRow {X Y : Type 0} (f : X → List Y) (xs : List X) (y : Y) : Typ
   stands : Contains (f row) y
 
 in_row : {X Y : Type 0} (f : X → List Y) (xs : List X) (y : Y) → Contains (flat_map f xs) y → StandsInRow f xs y
-in_row f [] y has = absurd (no_element y has)
+in_row f [] y has = absurd (contains_nothing y has)
 in_row f (x ∷ xs) y has = elim (Contains-append_cases (f x) (flat_map f xs) y has) [
-  | inl here ↦ record { row = x; among = of_first x xs; stands = here }
-  | inr later ↦ let there = in_row f xs y later in record { row = there.row; among = of_rest x xs there.row there.among; stands = there.stands }
+  | inl here ↦ record { row = x; among = contains_first x xs; stands = here }
+  | inr later ↦ let there = in_row f xs y later in record { row = there.row; among = contains_rest x xs there.row there.among; stands = there.stands }
 ]
 
 of_row : {X Y : Type 0} (f : X → List Y) (xs : List X) (x : X) (y : Y) → Contains xs x → Contains (f x) y → Contains (flat_map f xs) y
-of_row f [] x y among stands = absurd (no_element x among)
-of_row {X} {Y} f (z ∷ xs) x y among stands = elim (split z xs x among) [
+of_row f [] x y among stands = absurd (contains_nothing x among)
+of_row {X} {Y} f (z ∷ xs) x y among stands = elim (contains_split z xs x among) [
   | inl same ↦ Contains-append_left (f z) (flat_map f xs) y (subst (λ (w : X). Contains (f w) y) (sym same) stands)
   | inr later ↦ Contains-append_right (f z) (flat_map f xs) y (of_row f xs x y later stands)
 ]
@@ -70,32 +68,17 @@ record IsImage {X Y : Type 0} (f : X → Y) (xs : List X) (y : Y) : Type 0 where
   is : f it ≡ y
 
 image : {X Y : Type 0} (f : X → Y) (xs : List X) (y : Y) → Contains (map f xs) y → IsImage f xs y
-image f [] y has = absurd (no_element y has)
-image f (x ∷ xs) y has = elim (split (f x) (map f xs) y has) [
-  | inl same ↦ record { it = x; among = of_first x xs; is = same }
-  | inr later ↦ let there = image f xs y later in record { it = there.it; among = of_rest x xs there.it there.among; is = there.is }
+image f [] y has = absurd (contains_nothing y has)
+image f (x ∷ xs) y has = elim (contains_split (f x) (map f xs) y has) [
+  | inl same ↦ record { it = x; among = contains_first x xs; is = same }
+  | inr later ↦ let there = image f xs y later in record { it = there.it; among = contains_rest x xs there.it there.among; is = there.is }
 ]
-
-of_image : {X Y : Type 0} (f : X → Y) (xs : List X) (x : X) → Contains xs x → Contains (map f xs) (f x)
-of_image f [] x has = absurd (no_element x has)
-of_image {X} {Y} f (z ∷ xs) x has = elim (split z xs x has) [
-  | inl same ↦ subst (λ (w : X). Contains (f z ∷ map f xs) (f w)) same (of_first (f z) (map f xs))
-  | inr later ↦ of_rest (f z) (map f xs) (f x) (of_image f xs x later)
-]
-
-or_true : (a b : Bool) → b ≡ true → (a || b) ≡ true
-or_true true b h = refl
-or_true false b h = h
-
-true_or : (a b : Bool) → a ≡ true → (a || b) ≡ true
-true_or true b h = refl
-true_or false b h = absurd cc
 
 any_of : {X : Type 0} (test : X → Bool) (xs : List X) (x : X) → Contains xs x → test x ≡ true → list_any test xs ≡ true
-any_of test [] x has h = absurd (no_element x has)
-any_of {X} test (z ∷ xs) x has h = elim (split z xs x has) [
-  | inl same ↦ true_or (test z) (list_any test xs) (subst (λ (w : X). test w ≡ true) (sym same) h)
-  | inr later ↦ or_true (test z) (list_any test xs) (any_of test xs x later h)
+any_of test [] x has h = absurd (contains_nothing x has)
+any_of {X} test (z ∷ xs) x has h = elim (contains_split z xs x has) [
+  | inl same ↦ or_left (test z) (list_any test xs) (subst (λ (w : X). test w ≡ true) (sym same) h)
+  | inr later ↦ or_right (test z) (list_any test xs) (any_of test xs x later h)
 ]
 
 cond_true : {X : Type 0} (b : Bool) (x y : X) → b ≡ true → cond b x y ≡ x
@@ -109,7 +92,7 @@ module _ (s : Declarations) (lawful : IsLawful s) where
   uid_of a = a.uid
 
   lawful_action : (a : Action) → Contains s.actions a → IsLawfulAction s a
-  lawful_action a has = of_element (IsLawfulAction s) s.actions a lawful.each_action has
+  lawful_action a has = all_element (IsLawfulAction s) s.actions a lawful.each_action has
 
   of_action_type : (a : Action) → Contains s.actions a → is_action_type s a.uid.type_name ≡ true
   of_action_type a has = any_of (λ (b : Action). bytes_eq a.uid.type_name b.uid.type_name) s.actions a has ((bytes_eq-Decides a.uid.type_name a.uid.type_name).1 refl)
@@ -223,13 +206,13 @@ module _ (s : Declarations) (lawful : IsLawful s) where
   text_of_action b h = let it = action_of b h in subst IsUidText (sym it.named) (uid_text it.it it.among)
 
   ancestor_texts : (u : Uid) → AllByRecursion IsUidText (default_data s u).ancestors
-  ancestor_texts u = by_action (AllByRecursion IsUidText) u tt (λ a. weaker (λ b. IsSome (action s b)) IsUidText text_of_action a.it.ancestors (lawful_action a.it a.among).declared)
+  ancestor_texts u = by_action (AllByRecursion IsUidText) u tt (λ a. all_weaker (λ b. IsSome (action s b)) IsUidText text_of_action a.it.ancestors (lawful_action a.it a.among).declared)
 
   type_above : (a : Action) (b : Uid) → Contains s.actions a → Contains a.ancestors b → Contains (types_above s.actions a.uid.type_name) b.type_name
   type_above a b among has =
       let name = a.uid.type_name in
       of_row (λ (x : Action). cond (bytes_eq name x.uid.type_name) (map (λ (u : Uid). u.type_name) x.ancestors) []) s.actions a b.type_name among
-      (subst (λ (names : List (List ℕ)). Contains names b.type_name) (sym (cond_true (bytes_eq name name) _ [] ((bytes_eq-Decides name name).1 refl))) (of_image (λ (u : Uid). u.type_name) a.ancestors b has))
+      (subst (λ (names : List (List ℕ)). Contains names b.type_name) (sym (cond_true (bytes_eq name name) _ [] ((bytes_eq-Decides name name).1 refl))) (contains_map (λ (u : Uid). u.type_name) a.ancestors b has))
 
   types_of_action : (a : Action) (b : Uid) → Contains s.actions a → Contains a.ancestors b → IsSomeAnd (ancestor_types s a.uid.type_name) (λ types. Contains types b.type_name)
   types_of_action a b among has =
@@ -240,10 +223,10 @@ module _ (s : Declarations) (lawful : IsLawful s) where
   HasTypes u us = AllByRecursion (λ (b : Uid). IsSomeAnd (ancestor_types s u.type_name) (λ types. Contains types b.type_name)) us
 
   has_ancestor_types : (u : Uid) → HasAncestorTypes s (u, default_data s u)
-  has_ancestor_types u = by_action (HasTypes u) u tt (λ a. subst (λ (w : Uid). HasTypes w a.it.ancestors) (sym a.named) (each_of _ a.it.ancestors (λ b has. types_of_action a.it b a.among has)))
+  has_ancestor_types u = by_action (HasTypes u) u tt (λ a. subst (λ (w : Uid). HasTypes w a.it.ancestors) (sym a.named) (all_of_elements _ a.it.ancestors (λ b has. types_of_action a.it b a.among has)))
 
   is_acyclic : (u : Uid) → IsAcyclic (u, default_data s u)
-  is_acyclic u = by_action (λ us. ¬ Contains us u) u (no_element u) (λ a has. (lawful_action a.it a.among).acyclic (subst (Contains a.it.ancestors) a.named has))
+  is_acyclic u = by_action (λ us. ¬ Contains us u) u (contains_nothing u) (λ a has. (lawful_action a.it a.among).acyclic (subst (Contains a.it.ancestors) a.named has))
 
   -- ---- an action as it is stored
 
@@ -273,7 +256,7 @@ module _ (s : Declarations) (lawful : IsLawful s) where
     env_action = environment_of env among.environment
 
     entity_type_among : (names : List (List ℕ)) (name : List ℕ) → AreEntityTypes s names → Contains names name → IsEntityType s name
-    entity_type_among names name h has = of_element (IsEntityType s) names name h.declared has
+    entity_type_among names name h has = all_element (IsEntityType s) names name h.declared has
 
     principal_declared : IsDeclared s r.principal
     principal_declared =
@@ -300,9 +283,9 @@ module _ (s : Declarations) (lawful : IsLawful s) where
 
     named_declared : (u : Uid) → Named u → IsDeclared s u
     named_declared u (by_schema has) = declared_uid u has
-    named_declared u (by_request has) = of_element (IsDeclared s) (request_uids r) u request_declared has
-    named_declared u (by_policy has) = of_element (IsDeclared s) literals u among.declared has
-    named_declared v (by_entity u before has) = of_element (IsDeclared s) (attribute_uids s u) v (attributes_declared u (named_declared u before)) has
+    named_declared u (by_request has) = all_element (IsDeclared s) (request_uids r) u request_declared has
+    named_declared u (by_policy has) = all_element (IsDeclared s) literals u among.declared has
+    named_declared v (by_entity u before has) = all_element (IsDeclared s) (attribute_uids s u) v (attributes_declared u (named_declared u before)) has
 
     is_stored : (u : Uid) → Named u → IsStored es u
     is_stored u h = (exact u).1 h
@@ -310,7 +293,7 @@ module _ (s : Declarations) (lawful : IsLawful s) where
     action_stored : (b : Uid) → IsSome (action s b) → IsStored es b
     action_stored b h =
         let a = action_of b h in
-        is_stored b (by_schema (subst (Contains (action_uids s)) (sym a.named) (of_image uid_of s.actions a.it a.among)))
+        is_stored b (by_schema (subst (Contains (action_uids s)) (sym a.named) (contains_map uid_of s.actions a.it a.among)))
 
     -- ---- one entity
 
@@ -323,14 +306,14 @@ module _ (s : Declarations) (lawful : IsLawful s) where
     is_transitive : (u : Uid) → IsTransitive es (u, default_data s u)
     is_transitive u =
         by_action (λ us. AllByRecursion (λ b. IfSome (stored b es) (λ e. AllByRecursion (λ c. Contains us c) e.ancestors)) us) u tt
-        (λ a. weaker (IsActionWithin s a.it.ancestors) _ (λ b within. transitive_at a.it.ancestors b within (stored b es) refl) a.it.ancestors (lawful_action a.it a.among).closed)
+        (λ a. all_weaker (IsActionWithin s a.it.ancestors) _ (λ b within. transitive_at a.it.ancestors b within (stored b es) refl) a.it.ancestors (lawful_action a.it a.among).closed)
 
     names_are_stored : (u : Uid) → Named u → EntryNamesStored es (u, default_data s u)
     names_are_stored u h =
         record {
-          attrs = names_stored es (value.Record (default_attrs s u.type_name)) (each_of (IsStored es) (attribute_uids s u) (λ v has. is_stored v (by_entity u h has)));
+          attrs = names_stored es (value.Record (default_attrs s u.type_name)) (all_of_elements (IsStored es) (attribute_uids s u) (λ v has. is_stored v (by_entity u h has)));
           tags = (level.in_Record (NamesStoredLevel es) []).1 (tt, tt);
-          ancestors = by_action (AllByRecursion (IsStored es)) u tt (λ a. weaker (λ b. IsSome (action s b)) (IsStored es) action_stored a.it.ancestors (lawful_action a.it a.among).declared);
+          ancestors = by_action (AllByRecursion (IsStored es)) u tt (λ a. all_weaker (λ b. IsSome (action s b)) (IsStored es) action_stored a.it.ancestors (lawful_action a.it a.among).declared);
         }
 
     has_attributes : (u : Uid) → IsDeclared s u → HasAttributes s (u, default_data s u)
@@ -367,14 +350,14 @@ module _ (s : Declarations) (lawful : IsLawful s) where
 
     entry_at : (x : Entry) → Contains es x → IsWellFormedEntry s es x
     entry_at x has =
-        let is : x.1 ≡ default_data s x.0 = of_element (λ (y : Entry). y.1 ≡ default_data s y.0) es x defaults has in
-        let here : IsStored es x.0 = of_element (λ (y : Entry). IsStored es y.0) es x (each_stored es) has in
-        let text : IsUidText x.0 = of_element (λ (y : Entry). IsUidText y.0) es x texts has in
+        let is : x.1 ≡ default_data s x.0 = all_element (λ (y : Entry). y.1 ≡ default_data s y.0) es x defaults has in
+        let here : IsStored es x.0 = all_element (λ (y : Entry). IsStored es y.0) es x (each_stored es) has in
+        let text : IsUidText x.0 = all_element (λ (y : Entry). IsUidText y.0) es x texts has in
         let same : ◌≡◌ {A = Entry} (x.0, default_data s x.0) x = λ i. (x.0, sym is i) in
         subst (IsWellFormedEntry s es) same (entry x.0 ((exact x.0).0 here) text)
 
     entries : AllByRecursion (IsWellFormedEntry s es) es
-    entries = each_of (IsWellFormedEntry s es) es entry_at
+    entries = all_of_elements (IsWellFormedEntry s es) es entry_at
 
     -- ---- the world
 
@@ -388,22 +371,22 @@ module _ (s : Declarations) (lawful : IsLawful s) where
     context_uids = uids_in (value.Record r.context)
 
     first_of : Contains (request_uids r) r.principal
-    first_of = of_first r.principal (r.action ∷ r.resource ∷ context_uids)
+    first_of = contains_first r.principal (r.action ∷ r.resource ∷ context_uids)
 
     after_first : (u : Uid) → Contains (r.action ∷ r.resource ∷ context_uids) u → Contains (request_uids r) u
-    after_first u has = of_rest r.principal (r.action ∷ r.resource ∷ context_uids) u has
+    after_first u has = contains_rest r.principal (r.action ∷ r.resource ∷ context_uids) u has
 
     second_of : Contains (request_uids r) r.action
-    second_of = after_first r.action (of_first r.action (r.resource ∷ context_uids))
+    second_of = after_first r.action (contains_first r.action (r.resource ∷ context_uids))
 
     after_second : (u : Uid) → Contains (r.resource ∷ context_uids) u → Contains (request_uids r) u
-    after_second u has = after_first u (of_rest r.action (r.resource ∷ context_uids) u has)
+    after_second u has = after_first u (contains_rest r.action (r.resource ∷ context_uids) u has)
 
     third_of : Contains (request_uids r) r.resource
-    third_of = after_second r.resource (of_first r.resource context_uids)
+    third_of = after_second r.resource (contains_first r.resource context_uids)
 
     rest_of : (u : Uid) → Contains context_uids u → Contains (request_uids r) u
-    rest_of u has = after_second u (of_rest r.resource context_uids u has)
+    rest_of u has = after_second u (contains_rest r.resource context_uids u has)
 
     parts : HasWellFormedParts s env literals (record { request = r; store = es })
     parts =
@@ -414,12 +397,12 @@ module _ (s : Declarations) (lawful : IsLawful s) where
             principal = of_request r.principal first_of;
             action = of_request r.action second_of;
             resource = of_request r.resource third_of;
-            context = names_stored es (value.Record r.context) (each_of (IsStored es) (uids_in (value.Record r.context)) (λ u has. of_request u (rest_of u has)));
+            context = names_stored es (value.Record r.context) (all_of_elements (IsStored es) (uids_in (value.Record r.context)) (λ u has. of_request u (rest_of u has)));
           };
           store = ascending;
           entries = entries;
-          actions = each_of (λ (a : Action). IsStored es a.uid) s.actions (λ a has. is_stored a.uid (by_schema (of_image uid_of s.actions a has)));
-          written = each_of (IsStored es) literals (λ u has. is_stored u (by_policy has));
+          actions = all_of_elements (λ (a : Action). IsStored es a.uid) s.actions (λ a has. is_stored a.uid (by_schema (contains_map uid_of s.actions a has)));
+          written = all_of_elements (IsStored es) literals (λ u has. is_stored u (by_policy has));
         }
 
     pub well_formed_for : IsWellFormed s env literals (record { request = r; store = es })

@@ -9,11 +9,13 @@ use Rattle.std.specs.declared.cmp.Ordering.TheVariants.{Less, Equal, Greater}
 use Rattle.std.proofs.lemmas.Bool.{cases_lt}
 use Rattle.std.proofs.lemmas.Cmp.{tied_itself}
 use Rattle.std.proofs.lemmas.List.Elements.{All-contains, All-from_recursion, Contains-append_left, Contains-append_right}
+use Rattle.sc_lists.proofs.OptionLaws.{some_of}
+use Rattle.sc_lists.proofs.OrderingLaws.{is_eq_true}
+use Rattle.sc_lists.proofs.ListLaws.{all_weaker, all_of_elements, all_append, all_element, contains_rest, contains_first}
 use Rattle.sc_names.specs.declared.uid.Uid.{Uid}
 use Rattle.sc_names.specs.Uids.{uid_cmp}
 use Rattle.sc_names.proofs.UidLaws.{uid_cmp_total, uid_cmp_level}
 use Rattle.sc_schema.specs.Declarations.{Declarations}
-use Rattle.sc_schema.proofs.OrderLaws.{of_first, of_rest}
 use Rattle.sc_values.specs.Proper.{IsUidText}
 use Rattle.sc_world.specs.declared.entity.EntityData.{EntityData}
 use Rattle.sc_world.specs.Defaults.{default_data}
@@ -25,25 +27,10 @@ use Rattle.sc_world.proofs.StoreLaws.{stored-with_entity, stored-kept}
 
 -- ---- lists
 
-weaker : {X : Type 0} (P Q : X → Type 0) → ((x : X) → P x → Q x) → (xs : List X) → AllByRecursion P xs → AllByRecursion Q xs
-weaker P Q f [] h = tt
-weaker P Q f (x ∷ xs) h = (f x h.0, weaker P Q f xs h.1)
-
-pub each_of : {X : Type 0} (P : X → Type 0) (xs : List X) → ((x : X) → Contains xs x → P x) → AllByRecursion P xs
-each_of P [] f = tt
-each_of P (x ∷ xs) f = (f x (of_first x xs), each_of P xs (λ y has. f y (of_rest x xs y has)))
-
-all-append : {X : Type 0} (P : X → Type 0) (xs ys : List X) → AllByRecursion P xs → AllByRecursion P ys → AllByRecursion P (xs ++ ys)
-all-append P [] ys h k = k
-all-append P (x ∷ xs) ys h k = (h.0, all-append P xs ys h.1 k)
-
-pub of_element : {X : Type 0} (P : X → Type 0) (xs : List X) (x : X) → AllByRecursion P xs → Contains xs x → P x
-of_element P xs x each has = All-contains P xs x (All-from_recursion P xs each) has
-
 stands_in : {X : Type 0} (xs : List X) (k : ℕ) (d : X) → k < length xs → Contains xs (get_or xs k d)
 stands_in [] k d within = absurd (omega arith)
-stands_in (x ∷ xs) zero d within = of_first x xs
-stands_in (x ∷ xs) (suc k) d within = of_rest x xs _ (stands_in xs k d (omega arith))
+stands_in (x ∷ xs) zero d within = contains_first x xs
+stands_in (x ∷ xs) (suc k) d within = contains_rest x xs _ (stands_in xs k d (omega arith))
 
 before_end : {X : Type 0} (xs ys : List X) (k : ℕ) (d : X) → k < length xs → get_or (xs ++ ys) k d ≡ get_or xs k d
 before_end [] ys k d within = absurd (omega arith)
@@ -72,14 +59,9 @@ pub each-with_entity : (P : Entry → Type 0) (u : Uid) (e : EntityData) (es : E
 unfolding with_entity
 each-with_entity P u e es n h = put P u e es n h
 
-level_tested : (o : Ordering) → is_eq o ≡ true → o ≡ Equal
-level_tested Less h = absurd cc
-level_tested Equal h = refl
-level_tested Greater h = absurd cc
-
 look_at : (P : Entry → Type 0) (u : Uid) (e : EntityData) (x : Entry) (b : Bool) (rest : Option EntityData) → is_eq (uid_cmp u x.0) ≡ b → P x → (rest ≡ Some e → P (u, e)) → cond b (Some x.1) rest ≡ Some e → P (u, e)
 look_at P u e x true rest level h others is =
-    let same : u ≡ x.0 = uid_cmp_level u x.0 (level_tested (uid_cmp u x.0) level) in
+    let same : u ≡ x.0 = uid_cmp_level u x.0 (is_eq_true (uid_cmp u x.0) level) in
     let one : x.1 ≡ e = cc in
     let entry : ◌≡◌ {A = Entry} x (u, e) = λ i. (sym same i, one i) in
     subst P entry h
@@ -93,10 +75,6 @@ look P u e (x ∷ es) h is = look_at P u e x (is_eq (uid_cmp u x.0)) _ refl h.0 
 pub of_stored : (P : Entry → Type 0) (u : Uid) (e : EntityData) (es : Entities) → AllByRecursion P es → stored u es ≡ Some e → P (u, e)
 unfolding stored
 of_stored P u e es h is = look P u e es h is
-
-some_of : {X : Type 0} (o : Option X) → IsSome o → (x : X) × (o ≡ Some x)
-some_of None h = absurd cc
-some_of (Some x) h = (x, refl)
 
 pub of_key : (P : Uid → Type 0) (u : Uid) (es : Entities) → AllByRecursion (λ (x : Entry). P x.0) es → IsStored es u → P u
 of_key P u es h is = let found = some_of (stored u es) is in of_stored (λ (x : Entry). P x.0) u found.0 es h found.1
@@ -115,7 +93,7 @@ unfolding stored
 each_stored [] = tt
 each_stored (x ∷ es) = (
   found_here _ x.1 _ (ap is_eq (tied_itself uid_cmp_total x.0)),
-  weaker (λ (y : Entry). IsStored es y.0) (λ (y : Entry). IsStored (x ∷ es) y.0) (λ y h. found_later _ x.1 _ h) es (each_stored es),
+  all_weaker (λ (y : Entry). IsStored es y.0) (λ (y : Entry). IsStored (x ∷ es) y.0) (λ y h. found_later _ x.1 _ h) es (each_stored es),
 )
 
 -- ---- one step
@@ -139,8 +117,8 @@ module _ (s : Declarations) (first : List Uid) where
   pub filled-none : (uids : List Uid) (es : Entities) → uids ≡ first → es ≡ [] → IsFilled s first uids 0 es
   filled-none uids es all empty =
       rw (all, empty) (record {
-        begins = each_of (Contains first) first (λ u has. has);
-        reached = each_of (IsReached s first) first (λ u has. at_first has);
+        begins = all_of_elements (Contains first) first (λ u has. has);
+        reached = all_of_elements (IsReached s first) first (λ u has. at_first has);
         listed = tt;
         texts = tt;
         defaults = tt;
@@ -173,14 +151,14 @@ module _ (s : Declarations) (first : List Uid) where
       let entity = default_data s u in
       let stands : Contains uids u = subst (Contains uids) (is u) (stands_in uids done u within) in
       let kept = λ (v : Uid) (has : Contains uids v). Contains-append_left uids more v has in
-      let reached = of_element (IsReached s first) uids u h.reached stands in
+      let reached = all_element (IsReached s first) uids u h.reached stands in
       let now = stored-with_entity u entity es in
       let old = λ (k : ℕ) (d : Uid) (below : k < length uids). before_end uids more k d below in
       record {
-        begins = weaker (Contains uids) (Contains (uids ++ more)) kept first h.begins;
-        reached = all-append (IsReached s first) uids more h.reached (each_of (IsReached s first) more (λ v has. later u reached has));
+        begins = all_weaker (Contains uids) (Contains (uids ++ more)) kept first h.begins;
+        reached = all_append (IsReached s first) uids more h.reached (all_of_elements (IsReached s first) more (λ v has. later u reached has));
         listed = each-with_entity (λ (x : Entry). Contains (uids ++ more) x.0) u entity es (kept u stands)
-            (weaker (λ (x : Entry). Contains uids x.0) (λ (x : Entry). Contains (uids ++ more) x.0) (λ x has. kept x.0 has) es h.listed);
+            (all_weaker (λ (x : Entry). Contains uids x.0) (λ (x : Entry). Contains (uids ++ more) x.0) (λ x has. kept x.0 has) es h.listed);
         texts = each-with_entity (λ (x : Entry). IsUidText x.0) u entity es text h.texts;
         defaults = each-with_entity (λ (x : Entry). x.1 ≡ default_data s x.0) u entity es refl h.defaults;
         so_far = λ k d below. elim (cases_lt k done) [
@@ -191,9 +169,9 @@ module _ (s : Declarations) (first : List Uid) where
               subst (IsStored (with_entity u entity es)) (sym same) now
         ];
         closed = each-with_entity (λ (x : Entry). AllByRecursion (Contains (uids ++ more)) (attribute_uids s x.0)) u entity es
-            (each_of (Contains (uids ++ more)) more (λ v has. Contains-append_right uids more v has))
-            (weaker (λ (x : Entry). AllByRecursion (Contains uids) (attribute_uids s x.0)) (λ (x : Entry). AllByRecursion (Contains (uids ++ more)) (attribute_uids s x.0))
-            (λ x all. weaker (Contains uids) (Contains (uids ++ more)) kept (attribute_uids s x.0) all) es h.closed);
+            (all_of_elements (Contains (uids ++ more)) more (λ v has. Contains-append_right uids more v has))
+            (all_weaker (λ (x : Entry). AllByRecursion (Contains uids) (attribute_uids s x.0)) (λ (x : Entry). AllByRecursion (Contains (uids ++ more)) (attribute_uids s x.0))
+            (λ x all. all_weaker (Contains uids) (Contains (uids ++ more)) kept (attribute_uids s x.0) all) es h.closed);
       }
 
   step : (uids : List Uid) (es : Entities) (u : Uid) (more : List Uid) (fs : Entities) (done : ℕ) → IsStep s uids es u more fs → done < length uids → ((d : Uid) → get_or uids done d ≡ u) → IsFilled s first uids done es → IsFilled s first more (done + 1) fs
@@ -211,14 +189,14 @@ module _ (s : Declarations) (first : List Uid) where
   all_stored uids es done over h u has = subst (IsStored es) has.2 (h.so_far has.0 u (omega (arith, has.1, over)))
 
   reached_stored : (uids : List Uid) (es : Entities) (done : ℕ) → length uids ≤ done → IsFilled s first uids done es → (u : Uid) → IsReached s first u → IsStored es u
-  reached_stored uids es done over h u (at_first has) = all_stored uids es done over h u (of_element (Contains uids) first u h.begins has)
+  reached_stored uids es done over h u (at_first has) = all_stored uids es done over h u (all_element (Contains uids) first u h.begins has)
   reached_stored uids es done over h v (later u before has) =
       let here = reached_stored uids es done over h u before in
       let named = of_key (λ w. AllByRecursion (Contains uids) (attribute_uids s w)) u es h.closed here in
-      all_stored uids es done over h v (of_element (Contains uids) (attribute_uids s u) v named has)
+      all_stored uids es done over h v (all_element (Contains uids) (attribute_uids s u) v named has)
 
   pub filled-end : (uids : List Uid) (es : Entities) (done : ℕ) → length uids ≤ done → IsFilled s first uids done es → (u : Uid) → IsStored es u ↔ IsReached s first u
   filled-end uids es done over h u = (
-    λ is. of_element (IsReached s first) uids u h.reached (of_key (Contains uids) u es h.listed is),
+    λ is. all_element (IsReached s first) uids u h.reached (of_key (Contains uids) u es h.listed is),
     reached_stored uids es done over h u,
   )

@@ -1,6 +1,7 @@
 -- A well-formed world by what it asks of its request and of each stored entity.
 use Rattle.std.proofs.Common.{◌↔◌, List, [], ◌∷◌, Bool, IsTrue}
 use Rattle.std.specs.List.{AllByRecursion}
+use Rattle.sc_lists.proofs.ListLaws.{all_weaker}
 use Rattle.sc_names.specs.declared.uid.Uid.{Uid}
 use Rattle.sc_schema.specs.declared.declarations.Env.{Env}
 use Rattle.sc_schema.specs.Declarations.{Declarations}
@@ -8,11 +9,6 @@ use Rattle.sc_world.specs.declared.world.World.{World}
 use Rattle.sc_world.specs.Stores.{Entities}
 use Rattle.sc_world.specs.WellFormed.{Entry, HasAttributes, HasTags, HasAncestorTypes, IsTransitive, IsAcyclic, IsAction, EntryNamesStored, IsProperEntry, IsWellFormed}
 use Rattle.sc_world.specs.Tests.{IsWellFormedEntry, HasWellFormedParts}
-
--- what follows for each element
-each : {X : Type 0} (P Q : X → Type 0) → ((x : X) → P x → Q x) → (xs : List X) → AllByRecursion P xs → AllByRecursion Q xs
-each P Q f [] h = tt
-each P Q f (x ∷ xs) h = (f x h.0, each P Q f xs h.1)
 
 -- the parts of a well-formed world that speak of its entities
 record HasEntries (s : Declarations) (es xs : List Entry) : Type 0 where
@@ -28,14 +24,14 @@ record HasEntries (s : Declarations) (es xs : List Entry) : Type 0 where
 by_parts : (s : Declarations) (es xs : List Entry) → AllByRecursion (IsWellFormedEntry s es) xs → HasEntries s es xs
 by_parts s es xs h =
     record {
-      proper = each (IsWellFormedEntry s es) IsProperEntry (λ x e. e.proper) xs h;
-      attributes = each (IsWellFormedEntry s es) (HasAttributes s) (λ x e. e.attributes) xs h;
-      tags = each (IsWellFormedEntry s es) (HasTags s) (λ x e. e.tags) xs h;
-      ancestor_types = each (IsWellFormedEntry s es) (HasAncestorTypes s) (λ x e. e.ancestor_types) xs h;
-      transitive = each (IsWellFormedEntry s es) (IsTransitive es) (λ x e. e.transitive) xs h;
-      acyclic = each (IsWellFormedEntry s es) IsAcyclic (λ x e. e.acyclic) xs h;
-      actions = each (IsWellFormedEntry s es) (IsAction s) (λ x e. e.action) xs h;
-      named = each (IsWellFormedEntry s es) (EntryNamesStored es) (λ x e. e.named) xs h;
+      proper = all_weaker (IsWellFormedEntry s es) IsProperEntry (λ x e. e.proper) xs h;
+      attributes = all_weaker (IsWellFormedEntry s es) (HasAttributes s) (λ x e. e.attributes) xs h;
+      tags = all_weaker (IsWellFormedEntry s es) (HasTags s) (λ x e. e.tags) xs h;
+      ancestor_types = all_weaker (IsWellFormedEntry s es) (HasAncestorTypes s) (λ x e. e.ancestor_types) xs h;
+      transitive = all_weaker (IsWellFormedEntry s es) (IsTransitive es) (λ x e. e.transitive) xs h;
+      acyclic = all_weaker (IsWellFormedEntry s es) IsAcyclic (λ x e. e.acyclic) xs h;
+      actions = all_weaker (IsWellFormedEntry s es) (IsAction s) (λ x e. e.action) xs h;
+      named = all_weaker (IsWellFormedEntry s es) (EntryNamesStored es) (λ x e. e.named) xs h;
     }
 
 by_entries : (s : Declarations) (es xs : List Entry) → HasEntries s es xs → AllByRecursion (IsWellFormedEntry s es) xs

@@ -6,6 +6,10 @@ use Rattle.std.specs.Map.{keys_of}
 use Rattle.std.specs.Str.{bytes_eq}
 use Rattle.std.proofs.lemmas.Cmp.{nat_list_cmp_total, tied_itself}
 use Rattle.std.proofs.lemmas.Slice.Eq.{bytes_eq-Decides}
+use Rattle.std.proofs.lemmas.Bool.{or_right, or_left}
+use Rattle.sc_lists.proofs.ListLaws.{list_all_true}
+use Rattle.sc_lists.proofs.TextLaws.{bytes_eq_false}
+use Rattle.sc_lists.proofs.OrderingLaws.{less≢equal}
 use Rattle.sc_names.specs.Uids.{text_cmp}
 use Rattle.sc_schema.specs.declared.ty.Presence.{Presence}
 use Rattle.sc_schema.specs.declared.ty.Presence.TheVariants.{Required, Optional}
@@ -52,9 +56,6 @@ names-ascend s (a ∷ attributes) h =
 
 -- ---- what is found under a name
 
-less≢equal : Less ≡ Equal → ⊥
-less≢equal e = cc
-
 apart : (a b : List ℕ) → text_cmp a b ≡ Less → b ≡ a → ⊥
 apart a b less same = less≢equal (sym less ∙ ap (text_cmp a) same ∙ tied_itself nat_list_cmp_total a)
 
@@ -62,22 +63,16 @@ skipped : (b : Bool) (x o : Option Value) → b ≡ false → cond b x o ≡ o
 skipped true x o e = absurd cc
 skipped false x o e = refl
 
-unequal : (a b : List ℕ) → (a ≡ b → ⊥) → bytes_eq a b ≡ false
-unequal a b other = at (bytes_eq a b) refl where
-  at : (c : Bool) → bytes_eq a b ≡ c → c ≡ false
-  at true e = absurd (other ((bytes_eq-Decides a b).0 e))
-  at false e = refl
-
 -- a greater name is found among the later fields
 found_later : (p : Presence) (name other : List ℕ) (x : Value) (fields : Fields) → text_cmp name other ≡ Less → field other (default_field p name x ++ fields) ≡ field other fields
-found_later Required name other x fields less = skipped (bytes_eq other name) (Some x) (field other fields) (unequal other name (apart name other less))
+found_later Required name other x fields less = skipped (bytes_eq other name) (Some x) (field other fields) (bytes_eq_false other name (apart name other less))
 found_later Optional name other x fields less = refl
 
 -- a lesser name isn't found
 not_found : (name : List ℕ) (fields : Fields) → AllByRecursion (λ y. text_cmp name y ≡ Less) (keys_of fields) → field name fields ≡ None
 not_found name [] h = refl
 not_found name (f ∷ fields) h =
-    skipped (bytes_eq name f.0) (Some f.1) (field name fields) (unequal name f.0 (λ same. apart name f.0 h.0 (sym same))) ∙ not_found name fields h.1
+    skipped (bytes_eq name f.0) (Some f.1) (field name fields) (bytes_eq_false name f.0 (λ same. apart name f.0 h.0 (sym same))) ∙ not_found name fields h.1
 
 abbrev Passes : Fields → List Attribute → Type 0
 Passes whole attributes = AllByRecursion (λ (a : Attribute). passes a.1 (conforms a.2) (field a.0 whole) ≡ true) attributes
@@ -108,20 +103,12 @@ each_passes s (a ∷ attributes) ascend h = (
 abbrev pub is_declared : List Attribute → List ℕ × Value → Bool
 is_declared attributes f = list_any (λ (a : Attribute). bytes_eq f.0 a.0) attributes
 
-or_true : (a b : Bool) → b ≡ true → (a || b) ≡ true
-or_true true b h = refl
-or_true false b h = h
-
-true_or : (a b : Bool) → a ≡ true → (a || b) ≡ true
-true_or true b h = refl
-true_or false b h = absurd cc
-
 declared_later : (a : Attribute) (attributes : List Attribute) (fields : Fields) → AllByRecursion (λ (f : List ℕ × Value). is_declared attributes f ≡ true) fields → AllByRecursion (λ (f : List ℕ × Value). is_declared (a ∷ attributes) f ≡ true) fields
 declared_later a attributes [] h = tt
-declared_later a attributes (f ∷ fields) h = (or_true (bytes_eq f.0 a.0) (is_declared attributes f) h.0, declared_later a attributes fields h.1)
+declared_later a attributes (f ∷ fields) h = (or_right (bytes_eq f.0 a.0) (is_declared attributes f) h.0, declared_later a attributes fields h.1)
 
 declared_first : (a : Attribute) (attributes : List Attribute) (x : Value) → is_declared (a ∷ attributes) (a.0, x) ≡ true
-declared_first a attributes x = true_or (bytes_eq a.0 a.0) (is_declared attributes (a.0, x)) ((bytes_eq-Decides a.0 a.0).1 refl)
+declared_first a attributes x = or_left (bytes_eq a.0 a.0) (is_declared attributes (a.0, x)) ((bytes_eq-Decides a.0 a.0).1 refl)
 
 each_declared : (s : Declarations) (attributes : List Attribute) → AllByRecursion (λ (f : List ℕ × Value). is_declared attributes f ≡ true) (required_fields s attributes)
 each_declared s [] = tt
@@ -129,13 +116,9 @@ each_declared s (a ∷ attributes) =
     put_field (λ (f : List ℕ × Value). is_declared (a ∷ attributes) f ≡ true) a.1 a.0 (default_value s a.2) (required_fields s attributes)
     (declared_first a attributes (default_value s a.2)) (declared_later a attributes (required_fields s attributes) (each_declared s attributes))
 
-all_true : {X : Type 0} (test : X → Bool) (xs : List X) → AllByRecursion (λ x. test x ≡ true) xs → list_all test xs ≡ true
-all_true test [] h = refl
-all_true test (x ∷ xs) h = ap (λ b. b && list_all test xs) h.0 ∙ all_true test xs h.1
-
 pub required_pass : (s : Declarations) (attributes : List Attribute) → AreAscending (names_of_fields attributes) → AllByRecursion (λ (a : Attribute). conforms a.2 (default_value s a.2) ≡ true) attributes
     → list_all (λ (a : Attribute). passes a.1 (conforms a.2) (field a.0 (required_fields s attributes))) attributes ≡ true
-required_pass s attributes ascend h = all_true _ attributes (each_passes s attributes ascend h)
+required_pass s attributes ascend h = list_all_true _ attributes (each_passes s attributes ascend h)
 
 pub required_declared : (s : Declarations) (attributes : List Attribute) → list_all (is_declared attributes) (required_fields s attributes) ≡ true
-required_declared s attributes = all_true _ (required_fields s attributes) (each_declared s attributes)
+required_declared s attributes = list_all_true _ (required_fields s attributes) (each_declared s attributes)

@@ -12,6 +12,8 @@ use Rattle.std.proofs.lemmas.Cmp.{tied_itself}
 use Rattle.std.proofs.lemmas.List.Elements.{All-from_recursion, recursion_from_All}
 use Rattle.std.proofs.lemmas.Map.Lookups.{CmpEqualImpliesEq}
 use Rattle.std.proofs.lemmas.Slice.Eq.{bytes_eq-Decides}
+use Rattle.std.proofs.lemmas.Bool.{and_parts}
+use Rattle.sc_lists.proofs.OrderingLaws.{is_eq_true}
 use Rattle.sc_names.specs.declared.uid.Uid.{Uid}
 use Rattle.sc_names.specs.contracts.uid.UidPartialEq.TheImpl.{ghosts}
 use Rattle.sc_names.specs.contracts.uid.UidOrd.TheImpl.Laws.{matches_eq-law}
@@ -31,14 +33,9 @@ all_from_each P xs each = All-from_recursion P xs each
 pub one_text : (b : Bool) (x y : List ℕ) → b ≡ bytes_eq x y → IsTrue b ↔ x ≡ y
 one_text b x y is = (λ h. (bytes_eq-Decides x y).0 (sym is ∙ h), λ same. is ∙ (bytes_eq-Decides x y).1 same)
 
-level_tested : (o : Ordering) → is_eq o ≡ true → o ≡ Equal
-level_tested Less h = cc
-level_tested Equal h = refl
-level_tested Greater h = cc
-
 pub one_uid : (r : Bool) (o : Ordering) (a b : Uid) → r ≡ is_eq o → o ≡ uid_cmp a b → IsTrue r ↔ a ≡ b
 one_uid r o a b is level = (
-  λ h. uid_cmp_level a b (sym level ∙ level_tested o (sym is ∙ h)),
+  λ h. uid_cmp_level a b (sym level ∙ is_eq_true o (sym is ∙ h)),
   λ same. is ∙ ap is_eq (level ∙ ap (uid_cmp a) (sym same) ∙ tied_itself uid_cmp_total a),
 )
 
@@ -47,21 +44,17 @@ ties : (a b : Uid) → ghosts.eq a b ≡ eq_by_cmp uid_cmp a b
 ties a b = matches_eq-law a b
 
 same_uid : (a b : Uid) → ghosts.eq a b ≡ true → a ≡ b
-same_uid a b h = uid_cmp_level a b (level_tested (uid_cmp a b) (sym (ties a b) ∙ h))
+same_uid a b h = uid_cmp_level a b (is_eq_true (uid_cmp a b) (sym (ties a b) ∙ h))
 
 itself : (a : Uid) → ghosts.eq a a ≡ true
 itself a = ties a a ∙ ap is_eq (tied_itself uid_cmp_total a)
-
-both_true : (a b : Bool) → (a && b) ≡ true → (a ≡ true) × (b ≡ true)
-both_true true b h = (refl, h)
-both_true false b h = cc
 
 same_uids : (xs ys : List Uid) → pointwise ghosts.eq xs ys ≡ true → xs ≡ ys
 same_uids [] [] h = refl
 same_uids [] (y ∷ ys) h = cc
 same_uids (x ∷ xs) [] h = cc
 same_uids (x ∷ xs) (y ∷ ys) h =
-    let parts = both_true (ghosts.eq x y) (pointwise ghosts.eq xs ys) h in
+    let parts = and_parts (ghosts.eq x y) (pointwise ghosts.eq xs ys) h in
     let first : x ≡ y = same_uid x y parts.0 in
     let rest : xs ≡ ys = same_uids xs ys parts.1 in
     cc

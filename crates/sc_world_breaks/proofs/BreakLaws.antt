@@ -6,6 +6,7 @@ use Rattle.std.specs.Ordering.{ordering_reverse}
 use Rattle.std.specs.declared.cmp.Ordering.{Ordering}
 use Rattle.std.specs.declared.cmp.Ordering.TheVariants.{Less, Equal, Greater}
 use Rattle.std.proofs.lemmas.List.Elements.{All-from_recursion, All-contains}
+use Rattle.sc_lists.proofs.ListLaws.{all_weaker, all_append}
 use Rattle.sc_names.specs.declared.uid.Uid.{Uid}
 use Rattle.sc_names.specs.Uids.{uid_cmp}
 use Rattle.sc_names.proofs.UidLaws.{uid_cmp_total, uid_cmp_level}
@@ -22,7 +23,7 @@ use Rattle.sc_world.specs.WellFormed.{Entry, IsProperEntry, HasAttributes, HasTa
 use Rattle.sc_world_breaks.specs.declared.breaks.Break.{Break}
 use Rattle.sc_world_breaks.specs.declared.breaks.Break.TheVariants as break
 use Rattle.sc_world_breaks.specs.Breaks.{IsSoundRequest, IsBroken, uids_in_entry, wanted, IsMissing, IsLeast, IsFirstBreak, in_request, in_entity, missing, nowhere}
-use Rattle.sc_world_breaks.proofs.UidsLaws.{all-join, all-left, all-right, names_agree}
+use Rattle.sc_world_breaks.proofs.UidsLaws.{all-left, all-right, names_agree}
 
 -- ---- one at most
 
@@ -73,8 +74,8 @@ AllStored es us = AllByRecursion (IsStored es) us
 -- the uids that an entity names are stored
 entry_named : (es : Entities) (x : Entry) → EntryNamesStored es x → AllStored es (uids_in_entry x)
 entry_named es x h =
-    all-join (IsStored es) (uids_in (Record x.1.attrs)) (uids_in (Record x.1.tags) ++ x.1.ancestors) ((names_agree es (Record x.1.attrs)).0 h.attrs)
-    (all-join (IsStored es) (uids_in (Record x.1.tags)) x.1.ancestors ((names_agree es (Record x.1.tags)).0 h.tags) h.ancestors)
+    all_append (IsStored es) (uids_in (Record x.1.attrs)) (uids_in (Record x.1.tags) ++ x.1.ancestors) ((names_agree es (Record x.1.attrs)).0 h.attrs)
+    (all_append (IsStored es) (uids_in (Record x.1.tags)) x.1.ancestors ((names_agree es (Record x.1.tags)).0 h.tags) h.ancestors)
 
 named_entry : (es : Entities) (x : Entry) → AllStored es (uids_in_entry x) → EntryNamesStored es x
 named_entry es x h =
@@ -89,7 +90,7 @@ named_entry es x h =
 
 entries_named : (es xs : Entities) → AllByRecursion (EntryNamesStored es) xs → AllStored es (flat_map uids_in_entry xs)
 entries_named es [] h = tt
-entries_named es (x ∷ xs) h = all-join (IsStored es) (uids_in_entry x) (flat_map uids_in_entry xs) (entry_named es x h.0) (entries_named es xs h.1)
+entries_named es (x ∷ xs) h = all_append (IsStored es) (uids_in_entry x) (flat_map uids_in_entry xs) (entry_named es x h.0) (entries_named es xs h.1)
 
 named_entries : (es xs : Entities) → AllStored es (flat_map uids_in_entry xs) → AllByRecursion (EntryNamesStored es) xs
 named_entries es [] h = tt
@@ -105,11 +106,6 @@ actions_named es (a ∷ actions) h = (h.0, actions_named es actions h.1)
 named_actions : (es : Entities) (actions : List Action) → AllStored es (map (λ (a : Action). a.uid) actions) → AllByRecursion (λ (a : Action). IsStored es a.uid) actions
 named_actions es [] h = tt
 named_actions es (a ∷ actions) h = (h.0, named_actions es actions h.1)
-
--- what follows for each element
-each : {X : Type 0} (P Q : X → Type 0) → ((x : X) → P x → Q x) → (xs : List X) → AllByRecursion P xs → AllByRecursion Q xs
-each P Q f [] h = tt
-each P Q f (x ∷ xs) h = (f x h.0, each P Q f xs h.1)
 
 -- what a well-formed world asks of its entities, whatever they name
 record AreSound (s : Declarations) (es xs : Entities) : Type 0 where
@@ -154,14 +150,14 @@ to_well_formed s literals w r ascending sound all =
     let later = all-right (IsStored es) in_request (in_entries ++ (literals ++ action_uids s)) all in
     let last = all-right (IsStored es) in_entries (literals ++ action_uids s) later in
     record {
-      proper = record { principal = r.principal; action = r.action; resource = r.resource; context = r.context; store = ascending; entries = each (IsSoundEntry s es) IsProperEntry (λ x h. h.proper) es sound };
+      proper = record { principal = r.principal; action = r.action; resource = r.resource; context = r.context; store = ascending; entries = all_weaker (IsSoundEntry s es) IsProperEntry (λ x h. h.proper) es sound };
       request = r.fits;
-      attributes = each (IsSoundEntry s es) (HasAttributes s) (λ x h. h.attributes) es sound;
-      tags = each (IsSoundEntry s es) (HasTags s) (λ x h. h.tags) es sound;
-      ancestor_types = each (IsSoundEntry s es) (HasAncestorTypes s) (λ x h. h.ancestor_types) es sound;
-      transitive = each (IsSoundEntry s es) (IsTransitive es) (λ x h. h.transitive) es sound;
-      acyclic = each (IsSoundEntry s es) IsAcyclic (λ x h. h.acyclic) es sound;
-      actions = each (IsSoundEntry s es) (IsAction s) (λ x h. h.action) es sound;
+      attributes = all_weaker (IsSoundEntry s es) (HasAttributes s) (λ x h. h.attributes) es sound;
+      tags = all_weaker (IsSoundEntry s es) (HasTags s) (λ x h. h.tags) es sound;
+      ancestor_types = all_weaker (IsSoundEntry s es) (HasAncestorTypes s) (λ x h. h.ancestor_types) es sound;
+      transitive = all_weaker (IsSoundEntry s es) (IsTransitive es) (λ x h. h.transitive) es sound;
+      acyclic = all_weaker (IsSoundEntry s es) IsAcyclic (λ x h. h.acyclic) es sound;
+      actions = all_weaker (IsSoundEntry s es) (IsAction s) (λ x h. h.action) es sound;
       declared_actions = named_actions es s.actions (all-right (IsStored es) literals (action_uids s) last);
       closed = record {
         principal = here.0;
@@ -188,9 +184,9 @@ from_well_formed s env literals w listed h =
       acyclic = h.acyclic;
       actions = h.actions;
     }))
-    (all-join (IsStored es) (request_uids w.request) (flat_map uids_in_entry es ++ (literals ++ action_uids s)) request
-    (all-join (IsStored es) (flat_map uids_in_entry es) (literals ++ action_uids s) (entries_named es es h.closed.entries)
-    (all-join (IsStored es) literals (action_uids s) h.closed.written (actions_named es s.actions h.declared_actions))))
+    (all_append (IsStored es) (request_uids w.request) (flat_map uids_in_entry es ++ (literals ++ action_uids s)) request
+    (all_append (IsStored es) (flat_map uids_in_entry es) (literals ++ action_uids s) (entries_named es es h.closed.entries)
+    (all_append (IsStored es) literals (action_uids s) h.closed.written (actions_named es s.actions h.declared_actions))))
 
 -- a well-formed world, for some environment
 abbrev Fits : Declarations → List Uid → World → Type 0

@@ -7,10 +7,10 @@ use Rattle.std.specs.Map.{keys_of}
 use Rattle.std.specs.declared.cmp.Ordering.TheVariants.{Less}
 use Rattle.std.proofs.lemmas.List.Elements.{All-from_recursion, All-contains, Contains-append_right, Contains-append_cases}
 use Rattle.std.proofs.lemmas.Map.Keys.{sorted_head, sorted_tail}
+use Rattle.sc_lists.proofs.ListLaws.{contains_split, contains_first}
 use Rattle.sc_names.specs.declared.uid.Uid.{Uid}
 use Rattle.sc_names.specs.Uids.{uid_cmp}
 use Rattle.sc_schema.specs.Declarations.{Declarations}
-use Rattle.sc_values.proofs.AscendingLaws.{of_first, split}
 use Rattle.sc_world.specs.declared.world.World.{World}
 use Rattle.sc_world.specs.Sound.{IsSoundEntry}
 use Rattle.sc_world.specs.Stores.{Entities, IsMap}
@@ -56,14 +56,14 @@ pub first_here : (s : Declarations) (es rest : Entities) (x : Entry) → IsMap e
 first_here s es rest x ascending h k =
     let above = later_above h.done x rest (subst (λ (zs : Entities). IsStrictlySortedBy uid_cmp (keys_of zs)) (sym h.whole) ascending) in
     let above_all = All-from_recursion (λ (y : Entry). uid_cmp x.0 y.0 ≡ Less) rest (entries_above x.0 rest above) in
-    let here = subst (λ (zs : Entities). Contains zs x) h.whole (Contains-append_right h.done (x ∷ rest) x (of_first x rest)) in
+    let here = subst (λ (zs : Entities). Contains zs x) h.whole (Contains-append_right h.done (x ∷ rest) x (contains_first x rest)) in
     record {
       here = (x.1, here, k);
       least = λ w broken.
           let entry : Entry = (w, broken.0) in
           elim (Contains-append_cases h.done (x ∷ rest) entry (subst (λ (zs : Entities). Contains zs entry) (sym h.whole) broken.1)) [
             | inl before ↦ absurd (broken.2 (All-contains (IsSoundEntry s es) h.done entry (All-from_recursion (IsSoundEntry s es) h.done h.sound) before))
-            | inr after ↦ elim (split x rest entry after) [
+            | inr after ↦ elim (contains_split x rest entry after) [
               | inl is ↦ itself x.0 w (ap (λ (y : Entry). y.0) (sym is))
               | inr later ↦ less_below x.0 w (All-contains (λ (y : Entry). uid_cmp x.0 y.0 ≡ Less) rest entry above_all later)
             ]

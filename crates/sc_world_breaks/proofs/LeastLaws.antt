@@ -8,11 +8,11 @@ use Rattle.std.specs.Ordering.{match_ordering, ordering_reverse, is_gt}
 use Rattle.std.specs.declared.cmp.Ordering.{Ordering}
 use Rattle.std.specs.declared.cmp.Ordering.TheVariants.{Less, Equal, Greater}
 use Rattle.std.proofs.lemmas.Cmp.{tied_itself, upto}
+use Rattle.sc_lists.proofs.ListLaws.{contains_nothing, contains_split, contains_rest, contains_first}
+use Rattle.sc_lists.proofs.OrderingLaws.{is_gt_false}
 use Rattle.sc_names.specs.declared.uid.Uid.{Uid}
 use Rattle.sc_names.specs.Uids.{uid_cmp}
 use Rattle.sc_names.proofs.UidLaws.{uid_cmp_total, uid_cmp_level}
-use Rattle.sc_schema.proofs.OrderLaws.{of_first, of_rest}
-use Rattle.sc_values.proofs.AscendingLaws.{split, no_first}
 use Rattle.sc_world.specs.declared.entity.EntityData.{EntityData}
 use Rattle.sc_world.specs.Stores.{Entities, stored}
 use Rattle.sc_world.specs.WellFormed.{IsStored}
@@ -44,8 +44,8 @@ least_stop es f o whole xs none so_far = sym (ap (λ ys. least_missing es o (fla
 pub least_next : {X : Type 0} (es : Entities) (f : X → List Uid) (o new whole : Option Uid) (xs : List X) (n : ℕ) (x : X) → x ≡ get_or xs n x → n < length xs → new ≡ least_missing es o (f x)
     → least_missing es o (flat_map f (drop n xs)) ≡ whole → least_missing es new (flat_map f (drop (n + 1) xs)) ≡ whole
 least_next es f o new whole xs n x here within told so_far =
-    let split : drop n xs ≡ x ∷ drop (n + 1) xs = rw (add-one, drop-cons xs n x, ← here) refl in
-    least_more es f o new whole x (drop (n + 1) xs) told (ap (λ ys. least_missing es o (flat_map f ys)) (sym split) ∙ so_far)
+    let contains_split : drop n xs ≡ x ∷ drop (n + 1) xs = rw (add-one, drop-cons xs n x, ← here) refl in
+    least_more es f o new whole x (drop (n + 1) xs) told (ap (λ ys. least_missing es o (flat_map f ys)) (sym cut) ∙ so_far)
 
 pub least_end : {X : Type 0} (es : Entities) (f : X → List Uid) (o whole : Option Uid) (xs : List X) (n : ℕ) → length xs ≤ n → least_missing es o (flat_map f (drop n xs)) ≡ whole → o ≡ whole
 unfolding least_missing
@@ -63,8 +63,8 @@ pub least_uid_next : (es : Entities) (o new whole : Option Uid) (us : List Uid) 
     → least_missing es o (drop n us) ≡ whole → least_missing es new (drop (n + 1) us) ≡ whole
 unfolding least_missing
 least_uid_next es o new whole us n u here within told so_far =
-    let split : drop n us ≡ u ∷ drop (n + 1) us = rw (add-one, drop-cons us n u, ← here) refl in
-    ap (λ (p : Option Uid). least_missing es p (drop (n + 1) us)) told ∙ (ap (λ (ws : List Uid). least_missing es o ws) (sym split) ∙ so_far)
+    let contains_split : drop n us ≡ u ∷ drop (n + 1) us = rw (add-one, drop-cons us n u, ← here) refl in
+    ap (λ (p : Option Uid). least_missing es p (drop (n + 1) us)) told ∙ (ap (λ (ws : List Uid). least_missing es o ws) (sym cut) ∙ so_far)
 
 pub least_uid_end : (es : Entities) (o whole : Option Uid) (us : List Uid) (n : ℕ) → length us ≤ n → least_missing es o (drop n us) ≡ whole → o ≡ whole
 unfolding least_missing
@@ -98,13 +98,8 @@ not_gt Less h = refl
 not_gt Equal h = refl
 not_gt Greater h = absurd (h refl)
 
-gt_not : (o : Ordering) → is_gt o ≡ false → o ≢ Greater
-gt_not Less h is = cc
-gt_not Equal h is = cc
-gt_not Greater h is = cc
-
 below_both : (u v w : Uid) → uid_cmp u v ≢ Greater → uid_cmp v w ≢ Greater → uid_cmp u w ≢ Greater
-below_both u v w h k = gt_not (uid_cmp u w) (upto uid_cmp_total u v w (not_gt (uid_cmp u v) h) (not_gt (uid_cmp v w) k))
+below_both u v w h k = is_gt_false (uid_cmp u w) (upto uid_cmp_total u v w (not_gt (uid_cmp u v) h) (not_gt (uid_cmp v w) k))
 
 -- the second isn't stored and is the lesser of the two
 second_least : (es : Entities) (P : Uid → Type 0) (v u : Uid) → IsLeast P v → IsLost es u → uid_cmp u v ≢ Greater → IsLeast (With es P u) u
@@ -163,20 +158,20 @@ Among es P us w = P w ⊎ (Contains us w × IsLost es w)
 
 to_more : (es : Entities) (P : Uid → Type 0) (u : Uid) (us : List Uid) (w : Uid) → Among es (With es P u) us w → Among es P (u ∷ us) w
 to_more es P u us w k = elim k [
-  | inl p ↦ elim p [ inl q ↦ inl q | inr q ↦ inr (subst (λ (x : Uid). Contains (u ∷ us) x) (sym q.0) (of_first u us), q.1) ]
-  | inr q ↦ inr (of_rest u us w q.0, q.1)
+  | inl p ↦ elim p [ inl q ↦ inl q | inr q ↦ inr (subst (λ (x : Uid). Contains (u ∷ us) x) (sym q.0) (contains_first u us), q.1) ]
+  | inr q ↦ inr (contains_rest u us w q.0, q.1)
 ]
 
 from_more : (es : Entities) (P : Uid → Type 0) (u : Uid) (us : List Uid) (w : Uid) → Among es P (u ∷ us) w → Among es (With es P u) us w
 from_more es P u us w k = elim k [
   | inl p ↦ inl (inl p)
-  | inr q ↦ elim (split u us w q.0) [ inl is ↦ inl (inr (sym is, q.1)) | inr later ↦ inr (later, q.1) ]
+  | inr q ↦ elim (contains_split u us w q.0) [ inl is ↦ inl (inr (sym is, q.1)) | inr later ↦ inr (later, q.1) ]
 ]
 
 least_among : (es : Entities) (P : Uid → Type 0) (least : Option Uid) (us : List Uid) → IsLeastOf P least → IsLeastOf (Among es P us) (least_missing es least us)
 unfolding least_missing
 least_among es P least [] h =
-    same_least P (Among es P []) (λ w p. inl p) (λ w k. elim k [ inl p ↦ p | inr q ↦ absurd (no_first w q.0) ]) least h
+    same_least P (Among es P []) (λ w p. inl p) (λ w k. elim k [ inl p ↦ p | inr q ↦ absurd (contains_nothing w q.0) ]) least h
 least_among es P least (u ∷ us) h =
     same_least (Among es (With es P u) us) (Among es P (u ∷ us)) (to_more es P u us) (from_more es P u us) (least_missing es (lesser es least u) us)
     (least_among es (With es P u) (lesser es least u) us (one_more es P least u h))
@@ -195,8 +190,8 @@ stored_by es u (Some e) is h = subst IsSome (sym is) refl
 pub none_missing : (es : Entities) (us : List Uid) → ((u : Uid) → ¬ (Contains us u × IsLost es u)) → AllByRecursion (IsStored es) us
 none_missing es [] h = tt
 none_missing es (u ∷ us) h = (
-  stored_by es u (stored u es) refl (λ lost. h u (of_first u us, lost)),
-  none_missing es us (λ w k. h w (of_rest u us w k.0, k.1)),
+  stored_by es u (stored u es) refl (λ lost. h u (contains_first u us, lost)),
+  none_missing es us (λ w k. h w (contains_rest u us w k.0, k.1)),
 )
 
 -- ---- of lists after one another

@@ -2,6 +2,7 @@
 use Rattle.std.proofs.Common.{◌≡◌, ◌↔◌, ℕ, List, [], ◌∷◌, ◌++◌, map, Bool, Option, refl, sym, ap, ◌∙◌, subst}
 use Rattle.std.specs.Prelude.{flat_map}
 use Rattle.std.specs.List.{AllByRecursion}
+use Rattle.sc_lists.proofs.ListLaws.{all_append}
 use Rattle.sc_names.specs.declared.uid.Uid.{Uid}
 use Rattle.sc_values.specs.declared.value.Value.{Value, Value-F, roll-Value, map-Value, ind-Value, fold-roll-Value}
 use Rattle.sc_values.specs.declared.value.Value.TheOpen as v
@@ -56,10 +57,6 @@ uids_in-Ip ip = ap uids_in (sym (rolls-Ip ip)) ∙ uids_of_layer (v.Ip ip)
 
 -- ---- each is stored
 
-pub all-join : {X : Type 0} (P : X → Type 0) (xs ys : List X) → AllByRecursion P xs → AllByRecursion P ys → AllByRecursion P (xs ++ ys)
-all-join P [] ys h k = k
-all-join P (x ∷ xs) ys h k = (h.0, all-join P xs ys h.1 k)
-
 pub all-left : {X : Type 0} (P : X → Type 0) (xs ys : List X) → AllByRecursion P (xs ++ ys) → AllByRecursion P xs
 all-left P [] ys h = tt
 all-left P (x ∷ xs) ys h = (h.0, all-left P xs ys h.1)
@@ -89,7 +86,7 @@ fields_of es ks = map (λ (k : List ℕ × Known es). (k.0, k.1.0)) ks
 
 members_to : (es : Entities) (ks : List (Known es)) → AllByRecursion (NamesStored es) (values_of es ks) → AllStored es (flat_map uids_in (values_of es ks))
 members_to es [] h = tt
-members_to es (k ∷ ks) h = all-join (IsStored es) (uids_in k.0) (flat_map uids_in (values_of es ks)) (k.1.0 h.0) (members_to es ks h.1)
+members_to es (k ∷ ks) h = all_append (IsStored es) (uids_in k.0) (flat_map uids_in (values_of es ks)) (k.1.0 h.0) (members_to es ks h.1)
 
 members_from : (es : Entities) (ks : List (Known es)) → AllStored es (flat_map uids_in (values_of es ks)) → AllByRecursion (NamesStored es) (values_of es ks)
 members_from es [] h = tt
@@ -106,7 +103,7 @@ field_names f = uids_in f.1
 
 fields_to : (es : Entities) (ks : List (List ℕ × Known es)) → AllByRecursion (FieldNames es) (fields_of es ks) → AllStored es (flat_map field_names (fields_of es ks))
 fields_to es [] h = tt
-fields_to es (k ∷ ks) h = all-join (IsStored es) (uids_in k.1.0) (flat_map field_names (fields_of es ks)) (k.1.1.0 h.0) (fields_to es ks h.1)
+fields_to es (k ∷ ks) h = all_append (IsStored es) (uids_in k.1.0) (flat_map field_names (fields_of es ks)) (k.1.1.0 h.0) (fields_to es ks h.1)
 
 fields_from : (es : Entities) (ks : List (List ℕ × Known es)) → AllStored es (flat_map field_names (fields_of es ks)) → AllByRecursion (FieldNames es) (fields_of es ks)
 fields_from es [] h = tt

@@ -11,6 +11,7 @@ use Rattle.std.specs.declared.cmp.Ordering.{Ordering}
 use Rattle.std.specs.declared.cmp.Ordering.TheVariants.{Less, Equal, Greater}
 use Rattle.std.proofs.lemmas.Map.Keys.{sorted_head, sorted_tail}
 use Rattle.std.proofs.lemmas.Map.Lookups.{CmpEqualImpliesEq}
+use Rattle.sc_lists.proofs.ListLaws.{contains_nothing, contains_split, contains_rest, contains_first}
 use Rattle.sc_lists.proofs.OrderedLaws.{ascending-insert_key}
 use Rattle.sc_names.specs.declared.uid.Uid.{Uid}
 use Rattle.sc_names.specs.Uids.{uid_cmp}
@@ -21,7 +22,7 @@ use Rattle.sc_values.specs.declared.value.Value.{Value}
 use Rattle.sc_values.specs.contracts.value.ValueOrd.TheImpl.{ghosts as value_order}
 use Rattle.sc_values.specs.contracts.value.ValuePartialEq.TheImpl.{ghosts as value_ghosts}
 use Rattle.sc_values.specs.Order.{value_cmp}
-use Rattle.sc_values.proofs.AscendingLaws.{of_first, of_rest, split, no_first, one_list}
+use Rattle.sc_values.proofs.AscendingLaws.{one_list}
 use Rattle.sc_values.proofs.OrderLaws.{value_cmp_total, value_cmp_exact}
 use Rattle.sc_values.proofs.SetLaws.{set_made}
 use Rattle.sc_world_json.specs.Worlds.{in_order}
@@ -31,36 +32,36 @@ module _ {K : Type 0} {R : K → K → Ordering} (o : IsTotalOrder R) (exact : C
 
   from_step : (c : Ordering) (x z : K) (zs ks : List K) (u : K) → (Contains ks u → (x ≡ u) ⊎ Contains zs u)
       → Contains (match_ordering c (x ∷ z ∷ zs) (z ∷ zs) (z ∷ ks)) u → (x ≡ u) ⊎ Contains (z ∷ zs) u
-  from_step Less x z zs ks u later has = split x (z ∷ zs) u has
+  from_step Less x z zs ks u later has = contains_split x (z ∷ zs) u has
   from_step Equal x z zs ks u later has = inr has
-  from_step Greater x z zs ks u later has = elim (split z ks u has) [
-    | inl is ↦ inr (subst (λ (w : K). Contains (z ∷ zs) w) is (of_first z zs))
-    | inr after ↦ elim (later after) [ inl is ↦ inl is | inr before ↦ inr (of_rest z zs u before) ]
+  from_step Greater x z zs ks u later has = elim (contains_split z ks u has) [
+    | inl is ↦ inr (subst (λ (w : K). Contains (z ∷ zs) w) is (contains_first z zs))
+    | inr after ↦ elim (later after) [ inl is ↦ inl is | inr before ↦ inr (contains_rest z zs u before) ]
   ]
 
   Contains-from_insert_key : (xs : List K) (x u : K) → Contains (insert_key R xs x) u → (x ≡ u) ⊎ Contains xs u
-  Contains-from_insert_key [] x u has = split x [] u has
+  Contains-from_insert_key [] x u has = contains_split x [] u has
   Contains-from_insert_key (z ∷ zs) x u has = from_step (R x z) x z zs (insert_key R zs x) u (Contains-from_insert_key zs x u) has
 
   new_step : (c : Ordering) (x z : K) (zs ks : List K) → (c ≡ Equal → x ≡ z) → Contains ks x → Contains (match_ordering c (x ∷ z ∷ zs) (z ∷ zs) (z ∷ ks)) x
-  new_step Less x z zs ks same later = of_first x (z ∷ zs)
-  new_step Equal x z zs ks same later = subst (λ (w : K). Contains (z ∷ zs) w) (sym (same refl)) (of_first z zs)
-  new_step Greater x z zs ks same later = of_rest z ks x later
+  new_step Less x z zs ks same later = contains_first x (z ∷ zs)
+  new_step Equal x z zs ks same later = subst (λ (w : K). Contains (z ∷ zs) w) (sym (same refl)) (contains_first z zs)
+  new_step Greater x z zs ks same later = contains_rest z ks x later
 
   Contains-insert_key_new : (xs : List K) (x : K) → Contains (insert_key R xs x) x
-  Contains-insert_key_new [] x = of_first x []
+  Contains-insert_key_new [] x = contains_first x []
   Contains-insert_key_new (z ∷ zs) x = new_step (R x z) x z zs (insert_key R zs x) (exact x z) (Contains-insert_key_new zs x)
 
   old_step : (c : Ordering) (x z : K) (zs ks : List K) (u : K) → (Contains zs u → Contains ks u) → Contains (z ∷ zs) u → Contains (match_ordering c (x ∷ z ∷ zs) (z ∷ zs) (z ∷ ks)) u
-  old_step Less x z zs ks u later has = of_rest x (z ∷ zs) u has
+  old_step Less x z zs ks u later has = contains_rest x (z ∷ zs) u has
   old_step Equal x z zs ks u later has = has
-  old_step Greater x z zs ks u later has = elim (split z zs u has) [
-    | inl is ↦ subst (λ (w : K). Contains (z ∷ ks) w) is (of_first z ks)
-    | inr after ↦ of_rest z ks u (later after)
+  old_step Greater x z zs ks u later has = elim (contains_split z zs u has) [
+    | inl is ↦ subst (λ (w : K). Contains (z ∷ ks) w) is (contains_first z ks)
+    | inr after ↦ contains_rest z ks u (later after)
   ]
 
   Contains-insert_key_old : (xs : List K) (x u : K) → Contains xs u → Contains (insert_key R xs x) u
-  Contains-insert_key_old [] x u has = absurd (no_first u has)
+  Contains-insert_key_old [] x u has = absurd (contains_nothing u has)
   Contains-insert_key_old (z ∷ zs) x u has = old_step (R x z) x z zs (insert_key R zs x) u (Contains-insert_key_old zs x u) has
 
   -- ---- the whole
@@ -71,15 +72,15 @@ module _ {K : Type 0} {R : K → K → Ordering} (o : IsTotalOrder R) (exact : C
   ascending-in_order (x ∷ xs) = ascending-insert_key o (in_order R xs) x (ascending-in_order xs)
 
   from_in_order : (xs : List K) (u : K) → Contains (in_order R xs) u → Contains xs u
-  from_in_order [] u has = absurd (no_first u has)
+  from_in_order [] u has = absurd (contains_nothing u has)
   from_in_order (x ∷ xs) u has = elim (Contains-from_insert_key (in_order R xs) x u has) [
-    | inl is ↦ subst (λ (w : K). Contains (x ∷ xs) w) is (of_first x xs)
-    | inr later ↦ of_rest x xs u (from_in_order xs u later)
+    | inl is ↦ subst (λ (w : K). Contains (x ∷ xs) w) is (contains_first x xs)
+    | inr later ↦ contains_rest x xs u (from_in_order xs u later)
   ]
 
   to_in_order : (xs : List K) (u : K) → Contains xs u → Contains (in_order R xs) u
-  to_in_order [] u has = absurd (no_first u has)
-  to_in_order (x ∷ xs) u has = elim (split x xs u has) [
+  to_in_order [] u has = absurd (contains_nothing u has)
+  to_in_order (x ∷ xs) u has = elim (contains_split x xs u has) [
     | inl is ↦ subst (λ (w : K). Contains (insert_key R (in_order R xs) x) w) is (Contains-insert_key_new (in_order R xs) x)
     | inr later ↦ Contains-insert_key_old (in_order R xs) x u (to_in_order xs u later)
   ]

@@ -3,6 +3,7 @@ use Rattle.std.proofs.Common.{◌≡◌, ◌∙◌, ◌^◌, ◌+◌, ◌&&◌, 
 use Rattle.std.proofs.lemmas.Bool.Decides.{nat_tests}
 use Rattle.std.specs.List.{AllByRecursion, list_all}
 use Rattle.std.specs.List.Sorted.{IsStrictlySortedBy}
+use Rattle.std.proofs.lemmas.Bool.{and_parts}
 use Rattle.serde_json.specs.Data.{Data, array, object}
 use Rattle.serde_json.specs.Find.{as_i64, of_integer}
 use Rattle.serde_json.specs.View.{items_of}
@@ -66,10 +67,6 @@ reads-Ip ip text is = record { no_fault = rw is refl; said = rw is refl }
 
 -- ---- sets
 
-both : (a b : Bool) → IsTrue (a && b) → IsTrue a × IsTrue b
-both true b h = (refl, h)
-both false b h = absurd cc
-
 abbrev AllRead : List Value → Type 0
 AllRead = AllByRecursion (λ x. ReadsAs (value_data x) x)
 
@@ -98,7 +95,7 @@ no_mark (Some mark) h = absurd cc
 
 pub unmarked : (fs : Fields) → IsTrue (are_plain fs) → mark_of (fields_data fs) ≡ None
 unmarked [] h = refl
-unmarked (f ∷ []) h = no_mark (mark_named f.0) (both _ _ (both _ _ h).0).0
+unmarked (f ∷ []) h = no_mark (mark_named f.0) (and_parts _ _ (and_parts _ _ h).0).0
 unmarked (f ∷ g ∷ fs) h = refl
 
 abbrev FieldsRead : Fields → Type 0
@@ -134,14 +131,14 @@ forget = map-Value Known Value (λ k. k.0)
 
 members-read : (ks : List Known) → AllByRecursion IsProper (map (λ (k : Known). k.0) ks) → IsTrue (list_all is_plain (map (λ (k : Known). k.0) ks)) → AllRead (map (λ (k : Known). k.0) ks)
 members-read [] h p = tt
-members-read (k ∷ ks) h p = let parts = both _ _ p in (k.1 h.0 parts.0, members-read ks h.1 parts.1)
+members-read (k ∷ ks) h p = let parts = and_parts _ _ p in (k.1 h.0 parts.0, members-read ks h.1 parts.1)
 
 abbrev known_fields : List (List ℕ × Known) → Fields
 known_fields ks = map (λ (k : List ℕ × Known). (k.0, k.1.0)) ks
 
 fields-read : (ks : List (List ℕ × Known)) → AllByRecursion (λ (f : Field). IsProper f.1) (known_fields ks) → IsTrue (are_plain (known_fields ks)) → FieldsRead (known_fields ks)
 fields-read [] h p = tt
-fields-read (k ∷ ks) h p = let parts = both _ _ p in (k.1.1 h.0 (both _ _ parts.0).1, fields-read ks h.1 parts.1)
+fields-read (k ∷ ks) h p = let parts = and_parts _ _ p in (k.1.1 h.0 (and_parts _ _ parts.0).1, fields-read ks h.1 parts.1)
 
 -- the data of a layer reads as the value that is rolled from it
 abbrev LayerReads : Value-F Value → Type 0
@@ -176,7 +173,7 @@ reads_back = ind-Value ReadsBack (λ x y e. subst (λ z. ReadsBack (roll-Value z
 
 fields_back : (fs : Fields) → AllByRecursion (λ (f : Field). IsProper f.1) fs → IsTrue (are_plain fs) → FieldsRead fs
 fields_back [] h p = tt
-fields_back (f ∷ fs) h p = let parts = both _ _ p in (reads_back f.1 h.0 (both _ _ parts.0).1, fields_back fs h.1 parts.1)
+fields_back (f ∷ fs) h p = let parts = and_parts _ _ p in (reads_back f.1 h.0 (and_parts _ _ parts.0).1, fields_back fs h.1 parts.1)
 
 pub record_no_fault : (fs : Fields) → IsProperRecord fs → IsTrue (are_plain fs) → value_fault form.Record (object (fields_data fs)) ≡ None
 unfolding value_fault

@@ -7,6 +7,7 @@ use Rattle.std.specs.List.Sorted.{IsStrictlySortedBy}
 use Rattle.std.specs.Map.{keys_of}
 use Rattle.std.specs.Ordering.{ordering_reverse, is_eq}
 use Rattle.std.proofs.lemmas.Map.Keys.{sorted_head, sorted_tail}
+use Rattle.std.proofs.lemmas.Bool.{and_parts}
 use Rattle.serde_json.specs.Data.{Data}
 use Rattle.serde_json.specs.View.{items_of}
 use Rattle.sc_lists.specs.Ordered.{is_in}
@@ -33,10 +34,6 @@ use Rattle.sc_world_json.proofs.ReadValues.{record_no_fault, record_said}
 use Rattle.sc_world_json.proofs.TidyLaws.{tree_of_text}
 use Rattle.sc_world_json.proofs.TidyWorlds.{tidy-world}
 use Rattle.sc_world_json.proofs.WholeWorlds.{whole-world}
-
-both : (a b : Bool) → IsTrue (a && b) → IsTrue a × IsTrue b
-both true b h = (refl, h)
-both false b h = absurd cc
 
 elements-items_of : (ds : List Data) → elements (items_of ds) ≡ ds
 elements-items_of [] = refl
@@ -72,7 +69,7 @@ entity_with attrs ancestors tags = record { attrs = attrs; ancestors = ancestors
 entity_form : (x : Entry) → IsProperEntry x → IsTrue (is_plain_entry x) → value_fault (form.Object level.Entity) (entity_data x) ≡ None
 unfolding value_fault
 entity_form x h p =
-    let plain = both _ _ p in
+    let plain = and_parts _ _ p in
     let attrs = record_no_fault x.1.attrs h.attrs plain.0 in
     let parents = parents_no_fault x.1.ancestors in
     let tags = record_no_fault x.1.tags h.tags plain.1 in
@@ -80,7 +77,7 @@ entity_form x h p =
 
 entity_said : (x : Entry) → IsProperEntry x → IsTrue (is_plain_entry x) → entity_of (entity_data x) ≡ x
 entity_said x h p =
-    let plain = both _ _ p in
+    let plain = and_parts _ _ p in
     let attrs = record_said x.1.attrs h.attrs plain.0 in
     let parents = parents_said x.1.ancestors h.ancestors in
     let tags = record_said x.1.tags h.tags plain.1 in
@@ -92,7 +89,7 @@ AreReadable es = AllByRecursion IsProperEntry es × IsTrue (list_all is_plain_en
 entities_said : (es : Entities) → AllByRecursion IsProperEntry es → IsTrue (list_all is_plain_entry es) → map entity_of (elements (items_of (map entity_data es))) ≡ es
 entities_said [] h p = refl
 entities_said (x ∷ es) h p =
-    let plain = both _ _ p in
+    let plain = and_parts _ _ p in
     ap₂ (λ (y : Entry) (ys : Entities). y ∷ ys) (entity_said x h.0 plain.0) (entities_said es h.1 plain.1)
 
 -- ---- no uid is stored twice
@@ -116,7 +113,7 @@ entities-no_fault : (es : Entities) (before : List Uid) (n : ℕ) → AllByRecur
 unfolding entities_fault
 entities-no_fault [] before n h p ascending new = refl
 entities-no_fault (x ∷ es) before n h p ascending new =
-    let plain = both _ _ p in
+    let plain = and_parts _ _ p in
     let here = entity_form x h.0 plain.0 in
     let later = entities-no_fault es (insert_key uid_cmp before x.0) (n + 1) h.1 plain.1 (sorted_tail uid_cmp x.0 (keys_of es) ascending) (still_new before x.0 es new.1 (sorted_head uid_cmp x.0 (keys_of es) ascending)) in
     rw (here, new.0, later) refl
@@ -160,14 +157,14 @@ request_form r h p = let context = record_no_fault r.context h p in rw context r
 
 world_no_fault : (w : World) → IsProperWorld w → IsTrue (plain_keys w) → first_fault (world_data w) ≡ None
 world_no_fault w h p =
-    let plain = both _ _ p in
+    let plain = and_parts _ _ p in
     let store = entities-no_fault w.store [] 0 h.entries plain.1 h.store (none_before w.store) in
     let request = request_form w.request h.context plain.0 in
     rw (store, request) refl
 
 world_said : (w : World) → IsProperWorld w → IsTrue (plain_keys w) → world_of (world_data w) ≡ w
 world_said w h p =
-    let plain = both _ _ p in
+    let plain = and_parts _ _ p in
     let context = record_said w.request.context h.context plain.0 in
     let store = ap (store_with []) (entities_said w.store h.entries plain.1) ∙ store_made w.store [] h.store in
     λ i. world_with (request_with w.request.principal w.request.action w.request.resource (context i)) (store i)

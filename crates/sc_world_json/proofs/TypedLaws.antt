@@ -5,6 +5,8 @@ use Rattle.std.proofs.lemmas.Slice.Eq.{bytes_eq-Decides}
 use Rattle.std.specs.List.{AllByRecursion, list_all, list_any}
 use Rattle.std.specs.List.Sorted.{IsStrictlySortedBy}
 use Rattle.std.specs.Map.{keys_of}
+use Rattle.std.proofs.lemmas.Bool.{and_parts}
+use Rattle.sc_lists.proofs.OrderingLaws.{less≢equal}
 use Rattle.serde_json.specs.Data.{Data}
 use Rattle.serde_json.specs.Find.{of_integer}
 use Rattle.serde_json.specs.View.{items_of}
@@ -120,18 +122,14 @@ entity-same name _ b p q h k e = absurd cc
 
 -- ---- sets
 
-both : (a b : Bool) → IsTrue (a && b) → IsTrue a × IsTrue b
-both true b h = (refl, h)
-both false b h = absurd cc
-
 pub members-same : (test : Test) → Determined test → (xs ys : List Value) → AllByRecursion IsProper xs → AllByRecursion IsProper ys → IsTrue (list_all test xs) → IsTrue (list_all test ys)
     → items_of (map value_data xs) ≡ items_of (map value_data ys) → xs ≡ ys
 members-same test d [] [] p q h k e = refl
 members-same test d [] (y ∷ ys) p q h k e = absurd cc
 members-same test d (x ∷ xs) [] p q h k e = absurd cc
 members-same test d (x ∷ xs) (y ∷ ys) p q h k e =
-    let here = both _ _ h in
-    let there = both _ _ k in
+    let here = and_parts _ _ h in
+    let there = and_parts _ _ k in
     let first : x ≡ y = d x y p.0 q.0 here.0 there.0 cc in
     let rest : xs ≡ ys = members-same test d xs ys p.1 q.1 here.1 there.1 cc in
     cc
@@ -154,9 +152,6 @@ skip name other x o apart = at (bytes_eq name other) refl where
   at : (b : Bool) → bytes_eq name other ≡ b → cond b x o ≡ o
   at true e = absurd (apart ((bytes_eq-Decides name other).0 e))
   at false e = refl
-
-less≢equal : Less ≡ Equal → ⊥
-less≢equal e = cc
 
 gets_later : (f : Field) (whole fs : Fields) → AllByRecursion (λ y. text_cmp f.0 y ≡ Less) (keys_of fs) → Gets whole fs → Gets (f ∷ whole) fs
 gets_later f whole [] below g = tt
@@ -193,10 +188,10 @@ attribute-same (a ∷ ks) fs gs name x y d h k f g p q e =
     elim (bytes_eq name a.0) as (λ b. bytes_eq name a.0 ≡ b → x ≡ y) [
       | true ↦ λ is.
           let same : name ≡ a.0 = (bytes_eq-Decides name a.0).0 is in
-          let here = subst (λ o. IsTrue (passes a.1 (conforms a.2.0) o)) (ap (λ n. field n fs) (sym same) ∙ f) (both _ _ h).0 in
-          let there = subst (λ o. IsTrue (passes a.1 (conforms a.2.0) o)) (ap (λ n. field n gs) (sym same) ∙ g) (both _ _ k).0 in
+          let here = subst (λ o. IsTrue (passes a.1 (conforms a.2.0) o)) (ap (λ n. field n fs) (sym same) ∙ f) (and_parts _ _ h).0 in
+          let there = subst (λ o. IsTrue (passes a.1 (conforms a.2.0) o)) (ap (λ n. field n gs) (sym same) ∙ g) (and_parts _ _ k).0 in
           a.2.1 x y p q here there e
-      | false ↦ λ is. attribute-same ks fs gs name x y (subst (λ b. IsTrue (b || is_declared ks name)) is d) (both _ _ h).1 (both _ _ k).1 f g p q e
+      | false ↦ λ is. attribute-same ks fs gs name x y (subst (λ b. IsTrue (b || is_declared ks name)) is d) (and_parts _ _ h).1 (and_parts _ _ k).1 f g p q e
     ] refl
 
 fields-same : (ks : KnownAttributes) (whole other : Fields) → AllPass ks whole → AllPass ks other → (fs gs : Fields) → Gets whole fs → Gets other gs
@@ -206,7 +201,7 @@ fields-same ks whole other h k [] (y ∷ gs) f g d p q e = absurd cc
 fields-same ks whole other h k (x ∷ fs) [] f g d p q e = absurd cc
 fields-same ks whole other h k (x ∷ fs) (y ∷ gs) f g d p q e =
     let names : x.0 ≡ y.0 = cc in
-    let declared = both _ _ d in
+    let declared = and_parts _ _ d in
     let values : x.1 ≡ y.1 = attribute-same ks whole other x.0 x.1 y.1 declared.0 h k f.0 (ap (λ n. field n other) names ∙ g.0) p.0 q.0 cc in
     let rest : fs ≡ gs = fields-same ks whole other h k fs gs f.1 g.1 declared.1 p.1 q.1 cc in
     let first : ◌≡◌ {A = Field} x y = λ i. (names i, values i) in
@@ -215,8 +210,8 @@ fields-same ks whole other h k (x ∷ fs) (y ∷ gs) f g d p q e =
 record-same : (ks : KnownAttributes) → LayersDetermined (is_record_of (tests ks))
 record-same ks (v.Record fs) (v.Record gs) p q h k e =
     let proper = λ (zs : Fields) (r : IsProper (roll-Value (v.Record zs))). subst IsProper (rolls-Record zs) r in
-    let here = both _ _ h in
-    let there = both _ _ k in
+    let here = and_parts _ _ h in
+    let there = and_parts _ _ k in
     ap v.Record (fields-same ks fs gs here.0 there.0 fs gs (gets_itself fs (ascending_fields fs (proper fs p))) (gets_itself gs (ascending_fields gs (proper gs q)))
     here.1 (proper_fields fs (proper fs p)) (proper_fields gs (proper gs q)) cc)
 record-same ks (v.Record fs) _ p q h k e = absurd cc

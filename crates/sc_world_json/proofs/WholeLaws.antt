@@ -1,6 +1,7 @@
 -- JSON whose numbers are whole: it has no float, and its text determines it.
 use Rattle.std.proofs.Common.{◌≡◌, ◌+◌, ℤ, pos, negsuc, List, [], ◌++◌, Bool, true, false, ◌||◌, Option, Some, None, unwrap_or, FitsSigned, w64, refl, sym, ap, ap₂, ◌∙◌, subst, arith}
 use Rattle.std.specs.Prelude.{⊤}
+use Rattle.std.proofs.lemmas.Bool.{or_from}
 use Rattle.json.specs.Json as json
 use Rattle.json.specs.Lex.{tokens}
 use Rattle.json.specs.Token.{Token}
@@ -42,10 +43,6 @@ abbrev mutual
 
 -- ---- no float
 
-neither : (a b : Bool) → a ≡ false → b ≡ false → a || b ≡ false
-neither true b e h = absurd cc
-neither false b e h = h
-
 pub no_float-integer : (z : ℤ) → is_float (of_integer z) ≡ false
 no_float-integer (pos n) = refl
 no_float-integer (negsuc n) = refl
@@ -61,11 +58,11 @@ mutual
 
   no_float-items : (ds : Items) → AreWhole ds → items_have_float ds ≡ false
   no_float-items no_items h = refl
-  no_float-items (item d ds) h = neither _ _ (no_float d h.0) (no_float-items ds h.1)
+  no_float-items (item d ds) h = or_from _ _ (no_float d h.0) (no_float-items ds h.1)
 
   no_float-members : (ms : Members) → HaveWhole ms → members_have_float ms ≡ false
   no_float-members no_members h = refl
-  no_float-members (member k d ms) h = neither _ _ (no_float d h.0) (no_float-members ms h.1)
+  no_float-members (member k d ms) h = or_from _ _ (no_float d h.0) (no_float-members ms h.1)
 
 -- ---- what is printed is a number, and it reads back
 

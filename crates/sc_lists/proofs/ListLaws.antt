@@ -1,0 +1,74 @@
+-- What is in a list, and what holds of each of its elements.
+use Rattle.std.proofs.Common.{◌≡◌, ◌⊎◌, ◌<◌, ◌≤◌, ◌+◌, ◌-◌, ◌&&◌, ◌||◌, ℕ, zero, suc, List, [], ◌∷◌, ◌++◌, length, take, drop, get_or, map, slice_get, Contains, Bool, true, false, Option, Some, inl, inr, refl, ap, subst, ◌∙◌, arith}
+use Rattle.std.specs.List.{AllByRecursion, list_all, list_any, take_while}
+use Rattle.std.proofs.Math.Seq.{take-length}
+use Rattle.std.proofs.lemmas.List.Elements.{All-contains, All-from_recursion}
+use Rattle.std.proofs.lemmas.Option.{slice_get_within, get_or_from_slice_get}
+
+-- ---- the elements of a list are its first and those of the rest
+
+pub contains_first : {X : Type 0} (x : X) (xs : List X) → Contains (x ∷ xs) x
+contains_first x xs = (0, omega arith, refl)
+
+pub contains_rest : {X : Type 0} (x : X) (xs : List X) (y : X) → Contains xs y → Contains (x ∷ xs) y
+contains_rest x xs y has = (suc has.0, omega (arith, has.1), has.2)
+
+contains_split_at : {X : Type 0} (x : X) (xs : List X) (y : X) (k : ℕ) → k < length (x ∷ xs) → get_or (x ∷ xs) k y ≡ y → (x ≡ y) ⊎ Contains xs y
+contains_split_at x xs y zero within is = inl is
+contains_split_at x xs y (suc k) within is = inr (k, omega arith, is)
+
+pub contains_split : {X : Type 0} (x : X) (xs : List X) (y : X) → Contains (x ∷ xs) y → (x ≡ y) ⊎ Contains xs y
+contains_split x xs y has = contains_split_at x xs y has.0 has.1 has.2
+
+pub contains_nothing : {X : Type 0} (x : X) → Contains [] x → ⊥
+contains_nothing x has = absurd (omega (arith, has.1))
+
+pub contains_map : {X Y : Type 0} (f : X → Y) (xs : List X) (x : X) → Contains xs x → Contains (map f xs) (f x)
+contains_map f [] x has = absurd (contains_nothing x has)
+contains_map {X} {Y} f (y ∷ ys) x has = elim (contains_split y ys x has) [
+  | inl same ↦ subst (λ (z : Y). Contains (f y ∷ map f ys) z) (ap f same) (contains_first (f y) (map f ys))
+  | inr more ↦ contains_rest (f y) (map f ys) (f x) (contains_map f ys x more)
+]
+
+pub contains_place : {X : Type 0} (xs : List X) (i : ℕ) (x : X) → slice_get xs i ≡ Some x → Contains xs x
+contains_place xs i x h = (i, slice_get_within xs i x h, get_or_from_slice_get xs i x x h)
+
+-- ---- what holds of each element
+
+pub all_append : {X : Type 0} (P : X → Type 0) (xs ys : List X) → AllByRecursion P xs → AllByRecursion P ys → AllByRecursion P (xs ++ ys)
+all_append P [] ys h k = k
+all_append P (x ∷ xs) ys h k = (h.0, all_append P xs ys h.1 k)
+
+pub all_weaker : {X : Type 0} (P Q : X → Type 0) → ((x : X) → P x → Q x) → (xs : List X) → AllByRecursion P xs → AllByRecursion Q xs
+all_weaker P Q f [] h = tt
+all_weaker P Q f (x ∷ xs) h = (f x h.0, all_weaker P Q f xs h.1)
+
+pub all_always : {X : Type 0} (P : X → Type 0) → ((x : X) → P x) → (xs : List X) → AllByRecursion P xs
+all_always P f [] = tt
+all_always P f (x ∷ xs) = (f x, all_always P f xs)
+
+pub all_of_elements : {X : Type 0} (P : X → Type 0) (xs : List X) → ((x : X) → Contains xs x → P x) → AllByRecursion P xs
+all_of_elements P [] f = tt
+all_of_elements P (x ∷ xs) f = (f x (contains_first x xs), all_of_elements P xs (λ y has. f y (contains_rest x xs y has)))
+
+pub all_element : {X : Type 0} (P : X → Type 0) (xs : List X) (x : X) → AllByRecursion P xs → Contains xs x → P x
+all_element P xs x all has = All-contains P xs x (All-from_recursion P xs all) has
+
+-- ---- tests of each element
+
+pub list_all_true : {X : Type 0} (test : X → Bool) (xs : List X) → AllByRecursion (λ x. test x ≡ true) xs → list_all test xs ≡ true
+list_all_true test [] h = refl
+list_all_true test (x ∷ xs) h = ap (λ b. b && list_all test xs) h.0 ∙ list_all_true test xs h.1
+
+pub list_any_false : {X : Type 0} (test : X → Bool) (xs : List X) → AllByRecursion (λ x. test x ≡ false) xs → list_any test xs ≡ false
+list_any_false test [] h = refl
+list_any_false test (x ∷ xs) h = ap (λ b. b || list_any test xs) h.0 ∙ list_any_false test xs h.1
+
+-- ---- fronts and rests
+
+pub map_itself : {X : Type 0} (xs : List X) → map (λ x. x) xs ≡ xs
+map_itself [] = refl
+map_itself {X} (x ∷ xs) = ap (λ (ys : List X). x ∷ ys) (map_itself xs)
+
+pub rest_is : (a : ℕ) (cs : List ℕ) → take (length (a ∷ cs) - 1) (drop 1 (a ∷ cs)) ≡ cs
+rest_is a cs = let less : length (a ∷ cs) - 1 ≡ length cs = omega arith in rw less (take-length cs)

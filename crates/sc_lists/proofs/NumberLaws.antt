@@ -1,0 +1,13 @@
+-- Tests of numbers.
+use Rattle.std.proofs.Common.{◌≡◌, ◌≢◌, ℕ, Bool, true, false, eqb, nat_eq, refl, arith}
+use Rattle.std.proofs.lemmas.Bool.{eqb-true}
+use Rattle.std.proofs.lemmas.Bool.Decides.{nat_tests}
+
+pub nat_eq_true : (a b : ℕ) → nat_eq a b ≡ true → a ≡ b
+nat_eq_true a b h = grind (arith, nat_tests)
+
+pub eqb_false : (a b : ℕ) → a ≢ b → eqb a b ≡ false
+eqb_false a b h = by (eqb a b) refl where
+  by : (t : Bool) → eqb a b ≡ t → eqb a b ≡ false
+  by false e = e
+  by true e = absurd (h (eqb-true a b e))
