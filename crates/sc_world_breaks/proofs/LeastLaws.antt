@@ -63,7 +63,7 @@ pub least_uid_next : (es : Entities) (o new whole : Option Uid) (us : List Uid) 
     → least_missing es o (drop n us) ≡ whole → least_missing es new (drop (n + 1) us) ≡ whole
 unfolding least_missing
 least_uid_next es o new whole us n u here within told so_far =
-    let contains_split : drop n us ≡ u ∷ drop (n + 1) us = rw (add-one, drop-cons us n u, ← here) refl in
+    let cut : drop n us ≡ u ∷ drop (n + 1) us = rw (add-one, drop-cons us n u, ← here) refl in
     ap (λ (p : Option Uid). least_missing es p (drop (n + 1) us)) told ∙ (ap (λ (ws : List Uid). least_missing es o ws) (sym cut) ∙ so_far)
 
 pub least_uid_end : (es : Entities) (o whole : Option Uid) (us : List Uid) (n : ℕ) → length us ≤ n → least_missing es o (drop n us) ≡ whole → o ≡ whole
