@@ -4,29 +4,31 @@ use Rattle.std.specs.Prelude.{codes}
 use Rattle.std.specs.Str.{bytes_eq}
 use Rattle.std.specs.Str.Parse.{digits_value}
 use Rattle.std.proofs.lemmas.Bool.{true≢false}
-use Rattle.sc_lists.proofs.OptionLaws.{same_some}
 use Rattle.clap.specs.Words.{Row, Text, subcommand_of}
 use Rattle.sc_question.proofs.NameLaws.{one_name}
 use Rattle.sc_command.specs.CommandLine.{Analyse, Command, Commands, HasBudget, IsAnalyse, IsReplay, Reads, Replay, Values, analyse, replay, tool, values_of}
 
+one_value : {X : Type 0} (x y : X) → Some x ≡ Some y → x ≡ y
+one_value x y e = ap (λ o. unwrap_or o x) e
+
 one_budget : (given : Values) (m n : ℕ) → HasBudget given m → HasBudget given n → m ≡ n
 one_budget given m n h k =
-    sym h.spelled.value ∙ ap (digits_value 10) (same_some h.text k.text (sym h.given_text ∙ k.given_text)) ∙ k.spelled.value
+    sym h.spelled.value ∙ ap (digits_value 10) (one_value h.text k.text (sym h.given_text ∙ k.given_text)) ∙ k.spelled.value
 
 one_analyse : (given : Values) (a b : Analyse) → IsAnalyse given a → IsAnalyse given b → a ≡ b
 one_analyse given a b h k =
-    let schema = same_some a.schema b.schema (sym h.schema_given ∙ k.schema_given) in
-    let policies = same_some a.policies b.policies (sym h.policies_given ∙ k.policies_given) in
+    let schema = one_value a.schema b.schema (sym h.schema_given ∙ k.schema_given) in
+    let policies = one_value a.policies b.policies (sym h.policies_given ∙ k.policies_given) in
     let against = sym h.against_given ∙ k.against_given in
-    let question = one_name a.question b.question (same_some _ _ (sym h.query_given ∙ k.query_given)) in
+    let question = one_name a.question b.question (one_value _ _ (sym h.query_given ∙ k.query_given)) in
     let budget = one_budget given a.budget b.budget h.budget_given k.budget_given in
     λ i. record { schema = schema i; policies = policies i; against = against i; question = question i; budget = budget i }
 
 one_replay : (given : Values) (a b : Replay) → IsReplay given a → IsReplay given b → a ≡ b
 one_replay given a b h k =
-    let schema = same_some a.schema b.schema (sym h.schema_given ∙ k.schema_given) in
-    let policies = same_some a.policies b.policies (sym h.policies_given ∙ k.policies_given) in
-    let world = same_some a.world b.world (sym h.world_given ∙ k.world_given) in
+    let schema = one_value a.schema b.schema (sym h.schema_given ∙ k.schema_given) in
+    let policies = one_value a.policies b.policies (sym h.policies_given ∙ k.policies_given) in
+    let world = one_value a.world b.world (sym h.world_given ∙ k.world_given) in
     λ i. record { schema = schema i; policies = policies i; world = world i }
 
 abbrev Entered : Type 0
