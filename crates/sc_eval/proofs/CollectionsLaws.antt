@@ -10,7 +10,7 @@ use Rattle.std.specs.List.{list_any, list_all}
 use Rattle.std.proofs.lemmas.Cmp.{nat_list_cmp_total}
 use Rattle.std.proofs.lemmas.Bool.{or_cases, or_left, or_right, and_from, and_parts}
 use Rattle.sc_lists.proofs.ListLaws.{contains_nothing, contains_split, contains_rest, contains_first}
-use Rattle.sc_lists.proofs.BoolLaws.{or_grouped, same_truth}
+use Rattle.sc_lists.proofs.BoolLaws.{or_assoc, same_truth}
 use Rattle.sc_lists.proofs.OrderingLaws.{is_eq_true}
 use Rattle.sc_lists.proofs.OrderedLaws.{none_ascends, no_pair_ascends, is_in-insert_key, ascending-insert_key, ascending-insert_entry}
 use Rattle.sc_names.specs.Uids.{text_cmp}
@@ -101,7 +101,7 @@ is_member-with_all set [] y = sym (or_false (is_member set y))
 is_member-with_all set (x ∷ xs) y =
     is_member-with_all (insert_key value_cmp set x) xs y
     ∙ ap (λ b. b || is_member xs y) (is_in-insert_key value_cmp_total set x y)
-    ∙ or_grouped (is_member set y) (is_same y x) (is_member xs y)
+    ∙ or_assoc (is_member set y) (is_same y x) (is_member xs y)
 
 -- what values make is the set of them
 pub members_of-set : (values : List Value) → IsSetOf values (members_of values)
