@@ -26,9 +26,9 @@ use Rattle.sc_schema_types.specs.Faults.{Judge, type_fault, inside, first, optio
 abbrev Found : Type 0
 Found = Option SchemaFault
 
-all_append : {X : Type 0} (P : X → Type 0) (xs ys : List X) → AllByRecursion P (xs ++ ys) → AllByRecursion P xs × AllByRecursion P ys
-all_append P [] ys all = (tt, all)
-all_append P (x ∷ xs) ys all = let rest = all_append P xs ys all.1 in ((all.0, rest.0), rest.1)
+all_split : {X : Type 0} (P : X → Type 0) (xs ys : List X) → AllByRecursion P (xs ++ ys) → AllByRecursion P xs × AllByRecursion P ys
+all_split P [] ys all = (tt, all)
+all_split P (x ∷ xs) ys all = let rest = all_split P xs ys all.1 in ((all.0, rest.0), rest.1)
 
 -- ---- the elements of a list, one after the other
 
@@ -103,9 +103,9 @@ module _ (T : ResolvedType → Type 0) where
         → first (namespace_fault j) ns ≡ first (namespace_fault k) ns
     namespaces_same [] contexts bodies types = refl
     namespaces_same (n ∷ ns) contexts bodies types =
-        let a = all_append HasContext n.actions (flat_map (λ (m : ResolvedNamespace). m.actions) ns) contexts in
-        let c = all_append HasBody n.common_types (flat_map (λ (m : ResolvedNamespace). m.common_types) ns) bodies in
-        let e = all_append HasTypes n.entity_types (flat_map (λ (m : ResolvedNamespace). m.entity_types) ns) types in
+        let a = all_split HasContext n.actions (flat_map (λ (m : ResolvedNamespace). m.actions) ns) contexts in
+        let c = all_split HasBody n.common_types (flat_map (λ (m : ResolvedNamespace). m.common_types) ns) bodies in
+        let e = all_split HasTypes n.entity_types (flat_map (λ (m : ResolvedNamespace). m.entity_types) ns) types in
         let here : namespace_fault j n ≡ namespace_fault k n = namespace_same n a.0 c.0 e.0 in
         let rest : first (namespace_fault j) ns ≡ first (namespace_fault k) ns = namespaces_same ns a.1 c.1 e.1 in
         λ i. option_or (here i) (rest i)
