@@ -3,35 +3,7 @@ use Rattle.std.proofs.Common.{◌≡◌, ℕ, zero, suc, ◌+◌, ◌<◌, Bool,
 use Rattle.std.proofs.lemmas.Bool.{eqb-true, eqb-false}
 use Rattle.std.specs.Bool.{MatchBool}
 use Rattle.std.specs.List.{list_any}
-use Rattle.sc_languages.specs.Strings.{Has}
-
-pub Has-left : {X : Type 0} (xs ys : List X) (x : X) → Has xs x → Has (xs ++ ys) x
-Has-left [] ys x h = absurd h
-Has-left (z ∷ zs) ys x (inl e) = inl e
-Has-left (z ∷ zs) ys x (inr h) = inr (Has-left zs ys x h)
-
-pub Has-right : {X : Type 0} (xs ys : List X) (x : X) → Has ys x → Has (xs ++ ys) x
-Has-right [] ys x h = h
-Has-right (z ∷ zs) ys x h = inr (Has-right zs ys x h)
-
-pub Has-last : {X : Type 0} (xs : List X) (x : X) → Has (xs ++ x ∷ []) x
-Has-last xs x = Has-right xs (x ∷ []) x (inl refl)
-
-pub Has-push : {X : Type 0} (xs : List X) (y x : X) → Has (xs ++ y ∷ []) x → Has xs x ⊎ (y ≡ x)
-Has-push [] y x (inl e) = inr e
-Has-push [] y x (inr h) = absurd h
-Has-push (z ∷ zs) y x (inl e) = inl (inl e)
-Has-push (z ∷ zs) y x (inr h) = ⊎_elim (λ k. inl (inr k)) inr (Has-push zs y x h)
-
-pub Has-map : {X Y : Type 0} (f : X → Y) (xs : List X) (x : X) → Has xs x → Has (map f xs) (f x)
-Has-map f [] x h = absurd h
-Has-map f (z ∷ zs) x (inl e) = inl (ap f e)
-Has-map f (z ∷ zs) x (inr h) = inr (Has-map f zs x h)
-
-pub map-Has : {X Y : Type 0} (f : X → Y) (xs : List X) (y : Y) → Has (map f xs) y → (x : X) × Has xs x × (f x ≡ y)
-map-Has f [] y h = absurd h
-map-Has f (z ∷ zs) y (inl e) = (z, inl refl, e)
-map-Has f (z ∷ zs) y (inr h) = let k = map-Has f zs y h in (k.0, inr k.1, k.2)
+use Rattle.sc_lists.specs.Members.{Has}
 
 -- ---- the first of a list
 

@@ -2,6 +2,8 @@
 use Rattle.std.proofs.Common.{◌≡◌, ℕ, ◌+◌, ◌<◌, ◌≤◌, Bool, true, false, not, ◌&&◌, ◌||◌, ⊎_elim, inl, inr, List, [], ◌∷◌, ◌++◌, length, refl, sym, ◌∙◌, ap, subst, ◌↔◌, IsTrue, append_assoc, get_or, drop, arith}
 use Rattle.std.proofs.lemmas.List.{drop_more}
 use Rattle.std.proofs.lemmas.Bool.{and_parts, and_from}
+use Rattle.sc_lists.proofs.MemberLaws.{Has-push}
+use Rattle.sc_lists.specs.Members.{Has}
 use Rattle.sc_pattern.specs.declared.part.Part.{Part}
 use Rattle.sc_pattern.specs.declared.part.Part.TheVariants.{Star as any_characters, Char as this_character}
 use Rattle.sc_pattern.specs.Language.{IsMatch, is_match, is_end, behind, somewhere}
@@ -9,9 +11,8 @@ use Rattle.sc_pattern.proofs.TestLaws.{is_match_decides}
 use Rattle.sc_languages.specs.declared.item.Item.{Item}
 use Rattle.sc_languages.specs.declared.item.Item.TheVariants.{End}
 use Rattle.sc_languages.specs.Items.{part_item, with_pattern, items_of, refuses, start, fits, completes, obeys}
-use Rattle.sc_languages.specs.Strings.{Has, IsText, Obeys, AreDistinct, AreStrings}
+use Rattle.sc_languages.specs.Strings.{IsText, Obeys, AreDistinct, AreStrings}
 use Rattle.sc_languages.specs.Searching.{AreSoFar, IsFound}
-use Rattle.sc_languages.proofs.ListLaws.{Has-push}
 
 -- a pattern's items match what the pattern matches
 fits_pattern : (parts : List Part) (sign : Bool) (rest : List Item) → fits (with_pattern parts sign rest) ≡ is_match parts

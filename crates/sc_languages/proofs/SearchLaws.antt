@@ -3,11 +3,13 @@ use Rattle.std.proofs.Common.{◌≡◌, ℕ, ◌+◌, ◌<◌, ◌≤◌, Bool,
 use Rattle.std.proofs.lemmas.List.{take_more, map-append, take_at, take_all}
 use Rattle.std.proofs.lemmas.Bool.{and_parts, and_from, or_cases, or_parts, eqb-true, eq-eqb, cases_Bool, cases_lt}
 use Rattle.std.specs.Char.{IsScalar}
+use Rattle.sc_lists.proofs.MemberLaws.{Has-left, Has-last, Has-push, Has-map, map-Has}
+use Rattle.sc_lists.specs.Members.{Has}
 use Rattle.sc_languages.specs.declared.item.Item.{Item}
 use Rattle.sc_languages.specs.Items.{start, step, accepts, completes, obeys, is_dead}
-use Rattle.sc_languages.specs.Strings.{Has, IsText}
+use Rattle.sc_languages.specs.Strings.{IsText}
 use Rattle.sc_languages.specs.Searching.{Entry, places_of, IsPut, StandsFor, Covers, IsOn, IsOff, begins, is_on, is_one, IsMet, IsStepped, IsEntry, IsFollowed, IsEnd, IsFound, IsVisited, AreEntries, IsWalk, IsAt, IsSearch}
-use Rattle.sc_languages.proofs.ListLaws.{Has-left, Has-last, Has-push, Has-map, map-Has, take_longer, take_past, Has-at, Has-read}
+use Rattle.sc_languages.proofs.ListLaws.{take_longer, take_past, Has-at, Has-read}
 use Rattle.sc_languages.proofs.StepLaws.{completes_next, completes_end, dead_for_good}
 use Rattle.sc_languages.proofs.SymbolLaws.{step_alike}
 

@@ -5,12 +5,13 @@ use Rattle.std.proofs.lemmas.List.{take_more, take_all}
 use Rattle.std.specs.Bool.{MatchBool}
 use Rattle.std.specs.List.{list_any}
 use Rattle.std.specs.Char.{IsScalar}
+use Rattle.sc_lists.proofs.MemberLaws.{Has-left, Has-last, Has-push}
+use Rattle.sc_lists.specs.Members.{Has}
 use Rattle.sc_languages.specs.declared.item.Item.{Item}
 use Rattle.sc_languages.specs.declared.item.Item.TheVariants.{Star, Char, End}
 use Rattle.sc_languages.specs.Items.{step}
-use Rattle.sc_languages.specs.Strings.{Has}
 use Rattle.sc_languages.specs.Searching.{AreAlike, StandsFor, Covers, HasLetters, AreAmong, IsNoted}
-use Rattle.sc_languages.proofs.ListLaws.{Has-left, Has-last, Has-push, among}
+use Rattle.sc_languages.proofs.ListLaws.{among}
 
 -- characters that are alike are read alike
 pub step_alike : (c d : ℕ) (k a : Bool) (items : List Item) (marks : List Bool) → AreAlike items c d → step c k a items marks ≡ step d k a items marks

@@ -4,8 +4,8 @@ use Rattle.std.proofs.lemmas.Bool.{and_parts}
 use Rattle.std.specs.Bool.{beq}
 use Rattle.std.specs.Cmp.Lexicographic.{pointwise}
 use Rattle.std.specs.Map.{lookup}
+use Rattle.sc_lists.specs.Members.{Has}
 use Rattle.indexmap.specs.IndexMap.{insert_entry}
-use Rattle.sc_languages.specs.Strings.{Has}
 use Rattle.sc_languages.specs.Searching.{Entry, places_of, IsPut}
 
 same_bit : (a b : Bool) → beq a b ≡ true → a ≡ b

@@ -1,11 +1,12 @@
 -- The search for a text: places that were met, each with a text that leads there. No public promise speaks of it.
 use Rattle.std.specs.Prelude.{◌≡◌, ◌==◌, ◌⊎◌, ℕ, List, [], ◌∷◌, ◌++◌, Bool, true, false, map, take, length, ◌+◌, ◌<◌, ◌&&◌, ◌||◌, ⊤}
 use Rattle.std.specs.Char.{IsScalar}
+use Rattle.sc_lists.specs.Members.{Has}
 use Rattle.sc_pattern.specs.declared.part.Part.{Part}
 use Rattle.sc_languages.specs.declared.item.Item.{Item}
 use Rattle.sc_languages.specs.declared.item.Item.TheVariants.{Star, Char, End}
 use Rattle.sc_languages.specs.Items.{step, accepts, completes, obeys}
-use Rattle.sc_languages.specs.Strings.{Has, IsText, Obeys, AreDistinct}
+use Rattle.sc_languages.specs.Strings.{IsText, Obeys, AreDistinct}
 
 abbrev pub Entry : Type 0
 Entry = List Bool × List ℕ

@@ -3,8 +3,9 @@
 ghost use Rattle.std.specs.Prelude.{◌≡◌, ◌&&◌, not, ◌++◌, ◌∷◌, [], ◌+◌, ◌<◌, ◌^◌, true, false, ℕ, List, slice_get, length, IfOk, IfSome, IfNone};
 ghost use Rattle.std.specs.Char.{IsScalar};
 ghost use Rattle.std.specs.Option.{option_map};
+ghost use Rattle.sc_lists.specs.Members.{Has};
 ghost use Rattle.sc_languages.specs.Items.{accepts as accepts_of, obeys};
-ghost use Rattle.sc_languages.specs.Strings.{Has, IsText};
+ghost use Rattle.sc_languages.specs.Strings.{IsText};
 ghost use Rattle.sc_languages.specs.Searching.{Entry, IsEntry, IsAt, IsStepped, IsEnd, IsFollowed, IsFound, IsWalk, AreEntries, Covers, is_one as is_one_of};
 
 use crate::item::Item;

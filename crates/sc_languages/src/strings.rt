@@ -1,8 +1,9 @@
 //! Texts that match some patterns and don't match others.
 ghost use Rattle.std.specs.Prelude.{◌≡◌, ◌++◌, ℕ, List, [], map, string_bytes, IfOk, OnOk};
 ghost use Rattle.std.specs.Str.{chars};
+ghost use Rattle.sc_lists.specs.Members.{Has};
 ghost use Rattle.sc_languages.specs.Items.{part_item, with_pattern, items_of as all_items};
-ghost use Rattle.sc_languages.specs.Strings.{Has, IsText, AreStrings};
+ghost use Rattle.sc_languages.specs.Strings.{IsText, AreStrings};
 
 use crate::item::Item;
 use crate::search::find;

@@ -2,8 +2,8 @@
 ghost use Rattle.std.specs.Prelude.{◌≡◌, ◌∷◌, ◌<◌, ◌≤◌, ℕ, IfOk, OnOk, MatchOption};
 ghost use Rattle.std.specs.Bool.{MatchBool};
 ghost use Rattle.std.specs.Char.{IsScalar};
+ghost use Rattle.sc_lists.specs.Members.{Has};
 ghost use Rattle.sc_languages.specs.declared.item.Item.TheVariants.{Char as this_character};
-ghost use Rattle.sc_languages.specs.Strings.{Has};
 ghost use Rattle.sc_languages.specs.Searching.{HasLetters, AreAmong, IsNoted, Covers};
 
 use crate::item::Item;

@@ -1,7 +1,7 @@
 //! What was met on the way, each once: places, and a text that leads there.
 ghost use Rattle.std.specs.Prelude.{◌≡◌, [], ◌<◌, ◌^◌, slice_get, length, IsTrue, OnOk};
 ghost use Rattle.std.specs.Option.{option_map};
-ghost use Rattle.sc_languages.specs.Strings.{Has};
+ghost use Rattle.sc_lists.specs.Members.{Has};
 ghost use Rattle.sc_languages.specs.Searching.{places_of, IsPut};
 
 use indexmap::IndexMap;

@@ -1,6 +1,6 @@
 use Rattle.std.proofs.Common.{ℕ, List, take}
+use Rattle.sc_lists.specs.Members.{Has}
 use Rattle.sc_languages.specs.declared.item.Item.TheVariants.{Char}
-use Rattle.sc_languages.specs.Strings.{Has}
 use Rattle.sc_languages.proofs.symbols.letters_of.Given as goal
 
 abbrev pub invariant-loop-word : goal.invariant-loop-word

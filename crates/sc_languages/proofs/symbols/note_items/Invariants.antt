@@ -1,6 +1,6 @@
 use Rattle.std.proofs.Common.{ℕ, take}
+use Rattle.sc_lists.specs.Members.{Has}
 use Rattle.sc_languages.specs.declared.item.Item.TheVariants.{Char}
-use Rattle.sc_languages.specs.Strings.{Has}
 use Rattle.sc_languages.specs.Searching.{AreAmong}
 use Rattle.sc_languages.proofs.symbols.note_items.Given as goal
 

@@ -1,5 +1,5 @@
 use Rattle.std.proofs.Common.{ℕ, take}
-use Rattle.sc_languages.specs.Strings.{Has}
+use Rattle.sc_lists.specs.Members.{Has}
 use Rattle.sc_languages.specs.Searching.{AreAmong}
 use Rattle.sc_languages.proofs.symbols.note_word.Given as goal
 

@@ -1,5 +1,5 @@
 use Rattle.std.proofs.Common.{◌∙◌, sym, subst}
-use Rattle.sc_languages.specs.Strings.{Has}
+use Rattle.sc_lists.specs.Members.{Has}
 use Rattle.sc_languages.specs.Searching.{places_of}
 use Rattle.sc_languages.proofs.VisitedLaws.{has_place}
 use Rattle.sc_languages.proofs.visited.Visited.has.Goals as goal
