@@ -7,6 +7,8 @@ use Rattle.std.specs.List.{list_all}
 use Rattle.std.specs.Ordering.{is_eq, is_gt}
 use Rattle.std.specs.Str.{bytes_eq}
 use Rattle.std.specs.declared.cmp.Ordering.TheVariants.{Less}
+use Rattle.sc_lists.proofs.MemberLaws.{Has-append, Has-map, map-Has}
+use Rattle.sc_lists.specs.Members.{Has}
 use Rattle.sc_schema.specs.declared.declarations.Env.{Env}
 use Rattle.sc_schema.specs.declared.ty.Presence.{Presence}
 use Rattle.sc_schema.specs.declared.ty.Presence.TheVariants.{Required, Optional}
@@ -29,9 +31,9 @@ use Rattle.sc_terms.specs.Folds.{constant, equal_term, truth_term, field_term, e
 use Rattle.sc_terms.specs.Booleans.{IsBoolean, of_truth, of_attribute, of_not, of_two, context_term, attribute_term, names_of}
 use Rattle.sc_footprint.specs.Closure.{principal_term, resource_term, parts, fields_in, all_fields, follow, entity_in, entity_type, same_name, follow_pair, Closed, of_true, of_goal, next, pair}
 use Rattle.sc_footprint.specs.Closure.{of_principal as begins_principal, of_resource as begins_resource}
-use Rattle.sc_footprint.specs.Following.{Has, is_entity}
+use Rattle.sc_footprint.specs.Following.{is_entity}
 use Rattle.sc_footprint.specs.Kinds.{IsOfGoal, of_boolean, of_context, of_principal, of_resource, of_entities}
-use Rattle.sc_footprint.proofs.MemberLaws.{Has-append, Has-map, map-Has, Has-from_Contains, Contains-from_Has}
+use Rattle.sc_footprint.proofs.MemberLaws.{Has-from_Contains, Contains-from_Has}
 use Rattle.sc_footprint.proofs.PairLaws.{flip, of_entities as goes_with_entities}
 
 -- ---- types of records of required truth values

@@ -8,6 +8,7 @@ use Rattle.std.specs.List.Sorted.{IsStrictlySortedBy}
 use Rattle.std.specs.Ordering.{is_eq, is_lt}
 use Rattle.std.specs.declared.cmp.Ordering.{Ordering}
 use Rattle.std.specs.declared.cmp.Ordering.TheVariants.{Less, Equal, Greater}
+use Rattle.sc_lists.specs.Members.{Has}
 use Rattle.sc_lists.proofs.OrderingLaws.{is_eq_true}
 use Rattle.sc_terms.specs.declared.node.Leaf.TheVariants as leafs
 use Rattle.sc_terms.specs.declared.node.Literal.TheVariants as literals
@@ -17,12 +18,11 @@ use Rattle.sc_terms.specs.Trees.{Tree, leaf, one, two, choice}
 use Rattle.sc_terms.specs.Order.{tree_cmp, tree_eq}
 use Rattle.sc_terms.specs.Folds.{truth_term}
 use Rattle.sc_footprint.specs.Problems.{is_atom, atoms_among, numbered, number_among, one_more}
-use Rattle.sc_footprint.specs.Following.{Has}
 use Rattle.sc_footprint.proofs.OrderingLaws.{after}
 
 -- ---- a term's number, and the term of a number
 
-at_suc : (xs : List Tree) (k : ℕ) → numbered xs (suc k) ≡ slice_get xs k
+pub at_suc : (xs : List Tree) (k : ℕ) → numbered xs (suc k) ≡ slice_get xs k
 at_suc xs k =
     let some : (suc k == 0) ≡ false = grind (arith, nat_tests) in
     let back : suc k - 1 ≡ k = omega arith in

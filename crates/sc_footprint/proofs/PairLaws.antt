@@ -6,6 +6,7 @@ use Rattle.std.specs.Ordering.{is_eq, is_gt, ordering_reverse}
 use Rattle.std.specs.Str.{bytes_eq}
 use Rattle.std.specs.declared.cmp.Ordering.{Ordering}
 use Rattle.std.specs.declared.cmp.Ordering.TheVariants.{Less, Equal, Greater}
+use Rattle.sc_lists.specs.Members.{Has}
 use Rattle.sc_lists.proofs.TextLaws.{bytes_eq_swap}
 use Rattle.sc_sorts.proofs.OutLaws.{out_Bool}
 use Rattle.sc_terms.specs.declared.node.Leaf.TheVariants as leafs
@@ -15,7 +16,7 @@ use Rattle.sc_terms.specs.TreeSorts.{tree_sort}
 use Rattle.sc_terms.specs.Order.{tree_cmp, tree_eq}
 use Rattle.sc_terms.specs.Folds.{constant, is_literal, both, equal_term, other_equal, equation}
 use Rattle.sc_footprint.specs.Closure.{entity_in, entity_type, same_name, follow_pair}
-use Rattle.sc_footprint.specs.Following.{Has, is_entity}
+use Rattle.sc_footprint.specs.Following.{is_entity}
 
 -- an entity is no truth value
 no_constant : (x : Tree) → is_entity x ≡ true → constant x ≡ None

@@ -2,6 +2,7 @@
 use Rattle.std.proofs.Common.{◌≡◌, ◌↔◌, ℕ, ◌<◌, ◌≤◌, Bool, true, false, not, inl, inr, length, Option, Some, Contains, refl, sym, ap, ◌∙◌, subst}
 use Rattle.std.specs.Cmp.{IsTotalOrder}
 use Rattle.std.specs.declared.cmp.Ordering.TheVariants.{Equal as Level}
+use Rattle.sc_clauses.proofs.LitLaws.{holds_negation}
 use Rattle.sc_clauses.specs.declared.lit.Lit.{Lit}
 use Rattle.sc_clauses.specs.Clauses.{bool_eq, holds, positive, negation}
 use Rattle.sc_schema.specs.declared.declarations.Env.{Env}
@@ -68,15 +69,6 @@ two_is env context x o a b (of_entities f) e bool =
 
 -- ---- truth under a negation
 
-holds_negation : (f : ℕ → Bool) (l : Lit) → holds f (negation l) ≡ not (holds f l)
-holds_negation f l = by (f l.atom) l.negated
-  where
-    by : (a b : Bool) → bool_eq a (not (not b)) ≡ not (bool_eq a (not b))
-    by true true = refl
-    by true false = refl
-    by false true = refl
-    by false false = refl
-
 holds_positive : (f : ℕ → Bool) (n : ℕ) → holds f (positive n) ≡ f n
 holds_positive f n = by (f n)
   where
@@ -84,7 +76,7 @@ holds_positive f n = by (f n)
     by true = refl
     by false = refl
 
-atom_is : (x : Tree) → is_bool x ≡ true → is_opposite x ≡ false → is_atom x ≡ true
+pub atom_is : (x : Tree) → is_bool x ≡ true → is_opposite x ≡ false → is_atom x ≡ true
 atom_is x h k = rw (h, k) refl
 
 truth_sort : (b : Bool) → is_bool (truth_term b) ≡ true

@@ -1,6 +1,9 @@
 -- Truth values of a goal in a well-formed world.
 use Rattle.std.proofs.Common.{◌≡◌, ℕ, ◌&&◌, Bool, true, false, not, inl, inr, List, [], ◌∷◌, Option, Some, None, IsSomeAnd, IsTrue, unwrap_or, Contains, refl, sym, ap, ◌∙◌, subst}
 use Rattle.std.specs.List.{list_all}
+use Rattle.sc_terms.proofs.FoldValues.{seen_yes, truth_yes}
+use Rattle.sc_lists.proofs.MemberLaws.{map-Has}
+use Rattle.sc_lists.specs.Members.{Has}
 use Rattle.sc_lists.proofs.BoolLaws.{and_first}
 use Rattle.sc_schema.specs.declared.declarations.Env.{Env}
 use Rattle.sc_schema.specs.declared.ty.Presence.{Presence}
@@ -32,18 +35,14 @@ use Rattle.sc_terms.specs.Booleans.{IsBoolean, of_truth, of_attribute, of_not, o
 use Rattle.sc_terms.specs.Values.{Val, it, yes, val, seen, bool_seen, truth, not_value, and_value, or_value, equal_value, val_eq, field_value, field_seen, fields, fields_seen}
 use Rattle.sc_footprint.specs.Problems.{is_bool as truth_value, is_bool_in}
 use Rattle.sc_footprint.specs.Truths.{is_true}
-use Rattle.sc_footprint.specs.Following.{Has}
 use Rattle.sc_footprint.specs.Kinds.{IsOfGoal, of_boolean, of_context, of_principal, of_resource, of_entities}
-use Rattle.sc_footprint.proofs.MemberLaws.{map-Has, Has-from_Contains}
+use Rattle.sc_footprint.proofs.MemberLaws.{Has-from_Contains}
 use Rattle.sc_footprint.proofs.GoalLaws.{type_is, bool_is, each_is, plain_is, context_sort, principal_sort, resource_sort}
 
 -- ---- truth values
 
 abbrev IsTruth : Val → Type 0
 IsTruth x = (b : Bool) × (x ≡ yes b)
-
-seen_yes : (b : Bool) → seen (yes b) ≡ Some b
-seen_yes b = ap bool_seen (out_Bool b)
 
 not_truth : (x : Val) → IsTruth x → IsTruth (not_value x)
 unfolding not_value
@@ -179,10 +178,6 @@ goal_truth env context w fits x (of_context type fs e f) k = absurd (no_truth _ 
 goal_truth env context w fits x of_principal k = absurd (no_truth _ _ (principal_sort env) refl k)
 goal_truth env context w fits x of_resource k = absurd (no_truth _ _ (resource_sort env) refl k)
 goal_truth env context w fits x (of_entities e) k = entities_truth w.request.principal w.request.resource
-
-pub truth_yes : (b : Bool) → truth (yes b) ≡ b
-unfolding truth
-truth_yes b = ap (λ (o : Option Bool). unwrap_or o false) (seen_yes b)
 
 pub valued : (x : Tree) (w : World) → IsTruth (val x w) → val x w ≡ yes (is_true x w)
 valued x w h = h.1 ∙ ap yes (sym (ap truth h.1 ∙ truth_yes h.0))

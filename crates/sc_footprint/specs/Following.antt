@@ -2,6 +2,7 @@
 use Rattle.std.specs.Prelude.{◌≡◌, ℕ, ◌<◌, Bool, true, false, List, [], ◌∷◌, ◌++◌, ◌⊎◌, map, flat_map, take, length, nat_eq, is_some}
 use Rattle.std.specs.List.{AllByRecursion}
 use Rattle.indexmap.specs.IndexSet.{insert_key}
+use Rattle.sc_lists.specs.Members.{Has}
 use Rattle.sc_schema.specs.declared.declarations.Env.{Env}
 use Rattle.sc_sorts.specs.declared.sort.Sort.{Sort}
 use Rattle.sc_terms.specs.declared.node.Node.{Node}
@@ -9,11 +10,6 @@ use Rattle.sc_terms.specs.Trees.{Tree}
 use Rattle.sc_terms.specs.Tables.{tree, Keeps}
 use Rattle.sc_terms.specs.Folds.{truth_term, field_term}
 use Rattle.sc_footprint.specs.Closure.{principal_term, resource_term, follow, follow_pair, entity_type, Closed}
-
--- x is in a list
-abbrev pub Has : {X : Type 0} → List X → X → Type 0
-Has [] x = ⊥
-Has (y ∷ ys) x = (y ≡ x) ⊎ Has ys x
 
 -- what numbers of a table stand for
 abbrev pub stood : List Node → List ℕ → List Tree

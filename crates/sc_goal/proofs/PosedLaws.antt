@@ -1,6 +1,7 @@
 -- Policies that are typed and have no further constructs are compiled.
 use Rattle.std.proofs.Common.{◌≡◌, inl, inr, ℕ, ◌+◌, Bool, true, false, cond, List, [], ◌∷◌, Contains, Option, Some, None, IsSome, Result, Ok, Err, refl, sym, ap, subst, ◌∙◌}
 use Rattle.std.specs.Option.{option_map, option_and_then, option_or}
+use Rattle.sc_constructs.proofs.OrderLaws.{none_found}
 use Rattle.sc_lists.proofs.ListLaws.{contains_nothing, contains_split}
 use Rattle.sc_ast.specs.declared.policy.Policy.{Policy}
 use Rattle.sc_schema.specs.declared.declarations.Env.{Env}
@@ -65,12 +66,8 @@ stays o [] h = h
 stays None (x ∷ xs) h = stays (Some x) xs refl
 stays (Some y) (x ∷ xs) h = stays (lesser (Some y) x) xs (either_some _ y x)
 
-none_least : (xs : List Found) → least xs ≡ None → xs ≡ []
-none_least [] e = refl
-none_least (x ∷ xs) e = absurd (some_not_none (least (x ∷ xs)) (stays (Some x) xs refl) e)
-
 no_constructs : (i : ℕ) (p : Policy) (r : Result TypedExpr TypeFault) (x : TypedExpr) → r ≡ Ok x → told_of i p r ≡ None → constructs p x ≡ []
-no_constructs i p r x is e = none_least (constructs p x) (not_mapped (λ (f : Found). record { policy = i; found = f }) (least (constructs p x)) (ap (told_of i p) (sym is) ∙ e))
+no_constructs i p r x is e = none_found (constructs p x) (not_mapped (λ (f : Found). record { policy = i; found = f }) (least (constructs p x)) (ap (told_of i p) (sym is) ∙ e))
 
 -- ---- all policies
 

@@ -3,6 +3,7 @@ use Rattle.std.proofs.Common.{◌≡◌, Bool, true, false, not, ◌&&◌, ◌||
 use Rattle.std.specs.Option.{option_map, option_and_then}
 use Rattle.std.specs.List.{AllByRecursion, AllZip, list_any}
 use Rattle.std.proofs.lemmas.List.Elements.{Contains-append_left, Contains-append_right}
+use Rattle.sc_terms.proofs.FoldValues.{truth_yes}
 use Rattle.sc_lists.proofs.ListLaws.{all_of_elements, contains_rest, contains_first}
 use Rattle.sc_names.specs.declared.uid.Uid.{Uid}
 use Rattle.sc_ast.specs.declared.policy.Effect.{Effect}
@@ -27,7 +28,7 @@ use Rattle.sc_symeval.specs.Agreement.{Agrees}
 use Rattle.sc_symauth.specs.Standings.{Compiled, with_effect, allow, any_error}
 use Rattle.sc_symauth.specs.Agreement.{Represents}
 use Rattle.sc_symauth.proofs.ValuesLaws as values
-use Rattle.sc_symauth.proofs.ValuesLaws.{Negation, Both, Equation, truth_yes, not_is, and_is, equal_is}
+use Rattle.sc_symauth.proofs.ValuesLaws.{Negation, Both, Equation, not_is, and_is, equal_is}
 use Rattle.sc_goal.specs.Properties.{same, has}
 use Rattle.sc_goal.specs.Goals.{goal_of, compiled, all_compiled, goal_term}
 

@@ -1,5 +1,6 @@
 pub mod BoolLaws
 pub mod ListLaws
+pub mod MemberLaws
 pub mod NumberLaws
 pub mod OptionLaws
 pub mod OrderedLaws

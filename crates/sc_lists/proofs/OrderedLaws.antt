@@ -12,6 +12,7 @@ use Rattle.std.proofs.lemmas.List.{get_or-map, length-map}
 use Rattle.std.proofs.lemmas.List.Elements.{All-from_recursion, recursion_from_All}
 use Rattle.std.proofs.lemmas.List.Sorted.{searchable_from_sorted}
 use Rattle.std.proofs.lemmas.Map.Keys.{Less-from_sorted, sorted_from_all_adjacent}
+use Rattle.sc_lists.proofs.ListLaws.{map_itself}
 use Rattle.sc_lists.specs.Ordered.{is_in, value_at, StandsAt, BelongsAt}
 
 -- ---- the empty list
@@ -35,10 +36,6 @@ after key P [] zero h = tt
 after key P [] (suc i) h = tt
 after key P (x ∷ xs) zero h = (h 0 x (omega arith) (omega arith), after key P xs 0 (λ k d low high. h (suc k) d (omega arith) (omega arith)))
 after key P (x ∷ xs) (suc i) h = after key P xs i (λ k d low high. h (suc k) d (omega arith) (omega arith))
-
-map-same : {K : Type 0} (xs : List K) → map (λ x. x) xs ≡ xs
-map-same [] = refl
-map-same (x ∷ xs) = ap (λ l. x ∷ l) (map-same xs)
 
 module _ {K : Type 0} {R : K → K → Ordering} (o : IsTotalOrder R) where
   -- what is below one key is above it the other way round
@@ -105,12 +102,12 @@ module _ {K : Type 0} {R : K → K → Ordering} (o : IsTotalOrder R) where
   -- of members, which are their own keys
 
   pub members_decide : (xs : List K) (b : Bool) → IsAllAdjacentAnswer (λ x y t. t ≡ is_lt (R x y)) xs b → IsTrue b ↔ IsStrictlySortedBy R xs
-  members_decide xs b h = subst (λ ks. IsTrue b ↔ IsStrictlySortedBy R ks) (map-same xs) (decides_ascending (λ x. x) xs b h)
+  members_decide xs b h = subst (λ ks. IsTrue b ↔ IsStrictlySortedBy R ks) (map_itself xs) (decides_ascending (λ x. x) xs b h)
 
   pub members_searched : (xs : List K) (x : K) (r : Result ℕ ℕ) → IsStrictlySortedBy R xs → IsSearchInRange r (length xs) → IsBinarySearchResult (λ y. R y x) xs r
       → IfOk r (StandsAt R xs x) × IfErr r (BelongsAt R xs x)
   members_searched xs x r s within found =
-      subst (λ ks. IfOk r (StandsAt R ks x) × IfErr r (BelongsAt R ks x)) (map-same xs) (searched (λ y. y) xs x r (subst (IsStrictlySortedBy R) (sym (map-same xs)) s) within found)
+      subst (λ ks. IfOk r (StandsAt R ks x) × IfErr r (BelongsAt R ks x)) (map_itself xs) (searched (λ y. y) xs x r (subst (IsStrictlySortedBy R) (sym (map_itself xs)) s) within found)
 
   -- a key before the one that is level with x is below x
   below_level : (y : K) (ys : List K) (x : K) (i : ℕ) → AllByRecursion (λ z. R y z ≡ Less) ys → StandsAt R ys x i → R x y ≡ Greater

@@ -1,3 +1,4 @@
 pub mod formers
+pub mod Members
 pub mod Ordered
 pub mod Told

@@ -24,11 +24,6 @@ IsLevel = (a b : Tree) → tree_cmp a b ≡ Equal ↔ a ≡ b
 
 -- ---- lists of terms
 
-numbered_suc : (xs : List Tree) (k : ℕ) → numbered xs (suc k) ≡ slice_get xs k
-numbered_suc xs k =
-    let place : suc k - 1 ≡ k = omega arith in
-    rw (eqb-suc-zero k, place) refl
-
 more : (n i : ℕ) → n ≡ suc i → one_more n ≡ suc (suc i)
 more n i e = let sum : suc i + 1 ≡ suc (suc i) = omega arith in rw (e, eqb-suc-zero i, sum) refl
 

@@ -70,14 +70,6 @@ sort_truth context _ (of_attribute type fields name e f h) = out_Bool
 sort_truth context _ (of_not a h) = out_Bool
 sort_truth context _ (of_two o a b h k) = out_Bool
 
-pub sort_principal : (env : Env) → out-Sort (tree_sort (principal_term env)) ≡ s.Entity env.principal []
-unfolding tree_sort
-sort_principal env = out_Entity env.principal []
-
-pub sort_resource : (env : Env) → out-Sort (tree_sort (resource_term env)) ≡ s.Entity env.resource []
-unfolding tree_sort
-sort_resource env = out_Entity env.resource []
-
 pub sort_context : (type : Ty) (fields : List Field) → type ≡ ty.Record fields → out-Sort (tree_sort (context_term type)) ≡ s.Record (map field_sort fields)
 unfolding tree_sort
 sort_context type fields e = ap (λ x. out-Sort (sort_of x)) e ∙ ap out-Sort (sort_of_Record fields) ∙ out_Record (map field_sort fields)

@@ -7,6 +7,9 @@ use Rattle.std.specs.Fmt.{decimal, digits}
 use Rattle.std.specs.Ordering.{is_eq}
 use Rattle.std.specs.Str.{bytes_eq}
 use Rattle.std.proofs.lemmas.Slice.Eq.{bytes_eq-Decides}
+use Rattle.sc_footprint.proofs.TruthLaws.{atom_is}
+use Rattle.sc_footprint.proofs.GoalLaws.{principal_sort, resource_sort}
+use Rattle.sc_terms.proofs.FoldValues.{seen_yes}
 use Rattle.sc_clauses.specs.Clauses.{bool_eq, holds}
 use Rattle.sc_clauses.specs.Assignments.{Assignment}
 use Rattle.sc_names.specs.declared.uid.Uid.{Uid}
@@ -43,9 +46,9 @@ use Rattle.sc_solver.proofs.StepLaws.{AllHold}
 use Rattle.sc_solver.proofs.TableLaws.{table_says}
 use Rattle.sc_solver.proofs.AtomLaws.{IsLevel, literal_of_atom, listed, atom_closed, atom_is_plain, number_at, truth_listed, truth_first}
 use Rattle.sc_footprint.specs.Kinds.{IsOfGoal, of_boolean, of_context, of_principal, of_resource, of_entities}
-use Rattle.sc_solver.proofs.KindLaws.{are_plain, sort_truth, sort_principal, sort_resource, sort_context, one_entity_is}
+use Rattle.sc_solver.proofs.KindLaws.{are_plain, sort_truth, sort_context, one_entity_is}
 use Rattle.sc_solver.proofs.AssignedLaws.{truth_holds, and_holds, or_holds, equal_holds, goal_holds}
-use Rattle.sc_solver.proofs.ValueLaws.{seen_yes, truth_seen, not_seen_as, and_seen_as, or_seen_as, equal_seen_as, one_entity_seen, field_told, field_seen_as}
+use Rattle.sc_solver.proofs.ValueLaws.{truth_seen, not_seen_as, and_seen_as, or_seen_as, equal_seen_as, one_entity_seen, field_told, field_seen_as}
 
 -- ---- parts of closed terms
 
@@ -63,9 +66,6 @@ module _ (env : Env) (goal : Tree) where
 
 bool_of : (t : Tree) (y : Sort-F _) → out-Sort (tree_sort t) ≡ y → is_bool_in y ≡ true → is_bool t ≡ true
 bool_of t y e f = rw e f
-
-atom_of : (t : Tree) → is_bool t ≡ true → is_opposite t ≡ false → is_atom t ≡ true
-atom_of t e f = rw (e, f) refl
 
 no_atom : (t : Tree) (y : Sort-F _) → out-Sort (tree_sort t) ≡ y → is_bool_in y ≡ false → is_atom t ≡ true → ⊥
 no_atom t y e f g = absurd (let none : is_atom t ≡ false = rw (e, f) refl in cc)
@@ -159,7 +159,7 @@ module _ (level : IsLevel) (p : Posed) (posed : IsPosed p) (known : IsKnown p) (
   says_not a h = not_seen_as (val a w) (assigned_truth a) h ∙ ap Some (sym (holds_negation (truth_at m) (literal_in p a)))
 
   two_atom : (o : _) (a b : Tree) → IsBoolean type_of_context (two o a b) → IsClosed (two o a b) → Has (atoms p) (two o a b)
-  two_atom o a b h c = listed level p posed (two o a b) c (atom_of (two o a b) (bool_of (two o a b) s.Bool (sort_truth type_of_context (two o a b) h) refl) refl)
+  two_atom o a b h c = listed level p posed (two o a b) c (atom_is (two o a b) (bool_of (two o a b) s.Bool (sort_truth type_of_context (two o a b) h) refl) refl)
 
   says_two : (o : _) (a b : Tree) → IsBoolean type_of_context a → IsBoolean type_of_context b → IsClosed (two o a b) → Says a → Says b → Says (two o a b)
   unfolding val
@@ -198,8 +198,8 @@ module _ (level : IsLevel) (p : Posed) (posed : IsPosed p) (known : IsKnown p) (
 
   says_kind : (t : Tree) → IsOfGoal p.env type_of_context t → IsClosed t → is_atom t ≡ true → Says t
   says_kind _ (of_boolean t h) c a = says t h c
-  says_kind _ of_principal c a = absurd (no_atom (principal_term p.env) (s.Entity p.env.principal []) (sort_principal p.env) refl a)
-  says_kind _ of_resource c a = absurd (no_atom (resource_term p.env) (s.Entity p.env.resource []) (sort_resource p.env) refl a)
+  says_kind _ of_principal c a = absurd (no_atom (principal_term p.env) (s.Entity p.env.principal []) (principal_sort p.env) refl a)
+  says_kind _ of_resource c a = absurd (no_atom (resource_term p.env) (s.Entity p.env.resource []) (resource_sort p.env) refl a)
   says_kind _ (of_context type fields e f) c a = absurd (no_atom (context_term type) _ (sort_context type fields (are_plain type fields f).is) refl a)
   says_kind _ (of_entities e) c a = says_one e
 

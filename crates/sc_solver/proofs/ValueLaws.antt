@@ -2,6 +2,7 @@
 use Rattle.std.proofs.Common.{◌≡◌, ◌&&◌, ◌||◌, ℕ, not, Bool, true, false, cond, List, [], ◌∷◌, map, Option, Some, None, refl, ap, sym}
 use Rattle.std.specs.Str.{bytes_eq}
 use Rattle.std.proofs.lemmas.Slice.Eq.{bytes_eq-Decides}
+use Rattle.sc_terms.proofs.FoldValues.{seen_yes}
 use Rattle.sc_clauses.specs.Clauses.{bool_eq}
 use Rattle.sc_names.specs.declared.uid.Uid.{Uid}
 use Rattle.sc_sorts.specs.declared.sort.Sort.TheVariants as sort
@@ -14,9 +15,6 @@ use Rattle.sc_values.proofs.OutLaws.{out_Bool, out_Entity, out_Record}
 use Rattle.sc_terms.specs.Booleans.{names_of}
 use Rattle.sc_terms.specs.Values.{Val, it, yes, seen, bool_seen, truth, fields_seen, not_value, and_value, or_value, equal_value, value_eq, field_value}
 use Rattle.sc_solver.proofs.ListLaws.{Has, here, there}
-
-pub seen_yes : (b : Bool) → seen (yes b) ≡ Some b
-seen_yes b = ap bool_seen (out_Bool b)
 
 pub truth_seen : (x : Val) (b : Bool) → seen x ≡ Some b → truth x ≡ b
 unfolding truth

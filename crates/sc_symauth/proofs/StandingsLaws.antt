@@ -3,6 +3,7 @@ use Rattle.std.proofs.Common.{◌≡◌, Bool, true, false, not, cond, ◌&&◌,
 use Rattle.std.specs.Prelude.{fold}
 use Rattle.std.specs.List.{AllByRecursion, AllZip, list_any}
 use Rattle.std.proofs.lemmas.List.Elements.{All-from_recursion, All-filter, All-map}
+use Rattle.sc_terms.proofs.FoldValues.{truth_yes}
 use Rattle.sc_ast.specs.declared.expr.Expr.{Expr}
 use Rattle.sc_ast.specs.declared.literal.Literal.TheVariants as literal
 use Rattle.sc_ast.specs.declared.policy.Effect.{Effect}
@@ -22,7 +23,7 @@ use Rattle.sc_symeval.specs.Codes.{Code}
 use Rattle.sc_symeval.specs.Agreement.{Agrees}
 use Rattle.sc_symauth.specs.Standings.{Compiled, satisfied, error, any_satisfied, allow, any_error}
 use Rattle.sc_symauth.specs.Agreement.{IsTruth, Represents}
-use Rattle.sc_symauth.proofs.ValuesLaws.{Negation, Both, Either, AnyTrue, IsYes, truth_yes, and_no, and_yes, not_is, both_are, and_is, any_is}
+use Rattle.sc_symauth.proofs.ValuesLaws.{Negation, Both, Either, AnyTrue, IsYes, and_no, and_yes, not_is, both_are, and_is, any_is}
 
 -- ---- a condition comes to a truth value, or errs
 

@@ -1,6 +1,7 @@
 -- The values of terms that are truth values in a world.
 use Rattle.std.proofs.Common.{◌≡◌, Bool, true, false, not, ◌&&◌, ◌||◌, List, length, All, Option, Some, unwrap_or, refl, sym, ap, ◌∙◌}
 use Rattle.std.specs.List.{list_any}
+use Rattle.sc_terms.proofs.FoldValues.{seen_yes, not_yes, truth_yes, truth_is}
 use Rattle.sc_values.proofs.OutLaws.{out_Bool}
 use Rattle.sc_world.specs.declared.world.World.{World}
 use Rattle.sc_terms.specs.declared.node.UnaryOp.TheVariants.{Not}
@@ -17,17 +18,6 @@ same true b = b
 same false b = not b
 
 -- ---- connectives of truth values
-
-seen_yes : (b : Bool) → seen (yes b) ≡ Some b
-seen_yes b = ap bool_seen (out_Bool b)
-
-pub truth_yes : (b : Bool) → truth (yes b) ≡ b
-unfolding truth
-truth_yes b = ap (λ (o : Option Bool). unwrap_or o false) (seen_yes b)
-
-not_yes : (b : Bool) → not_value (yes b) ≡ yes (not b)
-unfolding not_value
-not_yes b = ap (λ (o : Option Bool). not_seen o (yes b)) (seen_yes b)
 
 pub and_no : (x : Val) → and_value (yes false) x ≡ yes false
 unfolding and_value
@@ -91,10 +81,6 @@ or_is either a b w p q h k = either a b w ∙ ap (λ x. or_value x (val b w)) h 
 pub equal_is : Equation → (a b : Tree) (w : World) (p q : Bool) → val a w ≡ yes p → val b w ≡ yes q → val (equal_term a b) w ≡ yes (same p q)
 unfolding val
 equal_is equation a b w p q h k = equation a b w ∙ ap (λ x. equal_value x (val b w)) h ∙ ap (equal_value (yes p)) k ∙ equal_yes p q
-
-truth_is : (b : Bool) (w : World) → val (truth_term b) w ≡ yes b
-unfolding val
-truth_is b w = refl
 
 pub yes_truth : (w : World) (t : Tree) → IsYes w t → val t w ≡ yes (truth (val t w))
 yes_truth w t h = h.1 ∙ ap yes (sym (ap truth h.1 ∙ truth_yes h.0))

@@ -1,5 +1,6 @@
 -- Compiled terms agree with evaluation: construct by construct, of parts that may err.
 use Rattle.std.proofs.Common.{◌≡◌, Bool, true, false, not, cond, if◌then◌else◌, Option, Some, None, Ok, Err, IfOk, IfSome, refl, ap, sym, subst, ◌∙◌}
+use Rattle.sc_terms.proofs.FoldValues.{seen_yes, not_yes}
 use Rattle.sc_lists.proofs.BoolLaws.{never}
 use Rattle.sc_schema.specs.declared.ty.Ty.{Ty}
 use Rattle.sc_schema.specs.declared.ty.Ty.TheVariants as types
@@ -23,13 +24,6 @@ use Rattle.sc_symeval.specs.Codes.{Code, constant, not_code, and_code, or_code, 
 use Rattle.sc_symeval.specs.Agreement.{Agrees}
 
 -- ---- connectives of truth values
-
-seen_yes : (b : Bool) → seen (yes b) ≡ Some b
-seen_yes b = ap bool_seen (out_Bool b)
-
-not_yes : (b : Bool) → not_value (yes b) ≡ yes (not b)
-unfolding not_value
-not_yes b = ap (λ (o : Option Bool). not_seen o (yes b)) (seen_yes b)
 
 and_yes : (b : Bool) (y : Val) → and_value (yes b) y ≡ cond b y (yes false)
 unfolding and_value

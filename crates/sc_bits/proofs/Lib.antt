@@ -1,0 +1,9 @@
+pub mod NumberLaws
+mod Examples
+pub mod IntegerLaws
+pub mod AdderLaws
+pub mod OrderLaws
+pub mod ProductLaws
+mod BlockLaws
+pub mod PlainLaws
+mod AddressLaws

@@ -1,0 +1,47 @@
+-- What is in a list that is put together from others.
+use Rattle.std.proofs.Common.{◌≡◌, ◌⊎◌, inl, inr, ⊎_elim, List, [], ◌∷◌, ◌++◌, map, flat_map, refl, sym, ap, subst}
+use Rattle.sc_lists.specs.Members.{Has}
+
+pub Has-left : {X : Type 0} (xs ys : List X) (x : X) → Has xs x → Has (xs ++ ys) x
+Has-left [] ys x h = absurd h
+Has-left (z ∷ zs) ys x (inl e) = inl e
+Has-left (z ∷ zs) ys x (inr h) = inr (Has-left zs ys x h)
+
+pub Has-right : {X : Type 0} (xs ys : List X) (x : X) → Has ys x → Has (xs ++ ys) x
+Has-right [] ys x h = h
+Has-right (z ∷ zs) ys x h = inr (Has-right zs ys x h)
+
+pub Has-append : {X : Type 0} (xs ys : List X) (x : X) → Has (xs ++ ys) x → Has xs x ⊎ Has ys x
+Has-append [] ys x h = inr h
+Has-append (z ∷ zs) ys x (inl e) = inl (inl e)
+Has-append (z ∷ zs) ys x (inr h) = ⊎_elim (λ k. inl (inr k)) inr (Has-append zs ys x h)
+
+pub Has-last : {X : Type 0} (xs : List X) (x : X) → Has (xs ++ x ∷ []) x
+Has-last [] x = inl refl
+Has-last (z ∷ zs) x = inr (Has-last zs x)
+
+pub Has-push : {X : Type 0} (xs : List X) (y x : X) → Has (xs ++ y ∷ []) x → Has xs x ⊎ (y ≡ x)
+Has-push [] y x (inl e) = inr e
+Has-push [] y x (inr h) = absurd h
+Has-push (z ∷ zs) y x (inl e) = inl (inl e)
+Has-push (z ∷ zs) y x (inr h) = ⊎_elim (λ k. inl (inr k)) inr (Has-push zs y x h)
+
+pub Has-map : {X Y : Type 0} (f : X → Y) (xs : List X) (x : X) → Has xs x → Has (map f xs) (f x)
+Has-map f [] x h = absurd h
+Has-map f (z ∷ zs) x (inl e) = inl (ap f e)
+Has-map f (z ∷ zs) x (inr h) = inr (Has-map f zs x h)
+
+pub map-Has : {X Y : Type 0} (f : X → Y) (xs : List X) (y : Y) → Has (map f xs) y → (x : X) × Has xs x × (f x ≡ y)
+map-Has f [] y h = absurd h
+map-Has f (z ∷ zs) y (inl e) = (z, inl refl, e)
+map-Has f (z ∷ zs) y (inr h) = let k = map-Has f zs y h in (k.0, inr k.1, k.2)
+
+pub Has-flat_map : {X Y : Type 0} (f : X → List Y) (xs : List X) (x : X) (y : Y) → Has xs x → Has (f x) y → Has (flat_map f xs) y
+Has-flat_map f [] x y h k = absurd h
+Has-flat_map f (z ∷ zs) x y (inl e) k = Has-left (f z) (flat_map f zs) y (subst (λ w. Has (f w) y) (sym e) k)
+Has-flat_map f (z ∷ zs) x y (inr h) k = Has-right (f z) (flat_map f zs) y (Has-flat_map f zs x y h k)
+
+pub flat_map-Has : {X Y : Type 0} (f : X → List Y) (xs : List X) (y : Y) → Has (flat_map f xs) y → (x : X) × Has xs x × Has (f x) y
+flat_map-Has f [] y h = absurd h
+flat_map-Has f (z ∷ zs) y h =
+    ⊎_elim (λ k. (z, inl refl, k)) (λ k. let r = flat_map-Has f zs y k in (r.0, inr r.1, r.2)) (Has-append (f z) (flat_map f zs) y h)
