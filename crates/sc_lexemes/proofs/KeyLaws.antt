@@ -1,11 +1,8 @@
 -- The keys of a record as a set of names.
 use Rattle.std.proofs.Common.{◌≡◌, ℕ, List, [], ◌∷◌, ◌++◌, ◌||◌, Bool, true, false, cond, not, refl, sym, ◌∙◌}
-use Rattle.std.proofs.lemmas.Bool.Decides.{same_from_decides}
 use Rattle.std.proofs.lemmas.List.Folds.{list_any-append}
 use Rattle.std.proofs.lemmas.Map.Text.{is_eq-slice_cmp}
-use Rattle.std.proofs.lemmas.Slice.Eq.{bytes_eq-Decides}
-use Rattle.std.specs.Bool.{Decides}
-use Rattle.std.specs.BTreeSet.{BTreeSet, contains, IsEmpty, Updates}
+use Rattle.std.specs.BTreeSet.{BTreeSet, IsEmpty, Updates}
 use Rattle.std.specs.Cmp.Lexicographic.{slice_cmp}
 use Rattle.std.specs.Ordering.{nat_cmp}
 use Rattle.std.specs.Str.{bytes_eq}
@@ -46,9 +43,6 @@ pub more_keys : (old new : BTreeSet (List ℕ)) (w : List ℕ) (x : Expr) (fs : 
 more_keys old new w x fs u k = record {
   same = λ n. u.0 n ∙ rw (is_eq-slice_cmp w n, k.same n, bytes_eq_swap w n) (sym (has_key_more n w x fs));
 }
-
-pub new_key : (old : BTreeSet (List ℕ)) (w : List ℕ) (fs : List (List ℕ × Expr)) (added : Bool) → added ≡ not (contains (slice_cmp nat_cmp) old w) → AreKeys old fs → added ≡ not (has_key w fs)
-new_key old w fs added e k = rw (sym (k.same w)) e
 
 -- the keys that are read, where the test and the cursor behind are given by equations
 pub ident_read : {ts : List Lexeme} {s t : Cursor} {p : Place} {w : List ℕ} {fs : List (List ℕ × Expr)} → IsIdent ts s.at p w → fits s ≡ true → true ≡ not (has_key w fs) → t ≡ next s → ReadsKey ts s fs (read w t)

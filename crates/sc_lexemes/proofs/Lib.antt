@@ -1,3 +1,4 @@
+pub mod DepthLaws
 pub mod KeyLaws
 pub mod LexemeLaws
 pub mod NumberLaws

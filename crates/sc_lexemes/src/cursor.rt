@@ -1,18 +1,18 @@
-//! How far reading has come.
+//! How far reading has come, and how deep the next token lies.
 ghost use Rattle.std.specs.Prelude.{◌≡◌, ◌+◌, ◌<◌, ◌^◌};
 ghost use Rattle.sc_lexemes.specs.Depth.{fits, next, past, inside, back, deeper, outside};
 
-/// How far reading has come, and how deep the next token may still lie.
+/// How far reading has come, and how deep the next token lies.
 #[derive(Clone, Copy, Debug, PartialEq, Eq)]
 pub struct Cursor {
     /// The number of tokens that are read.
     pub at: usize,
-    /// How many expressions may still be opened inside one another, the one around the next token
-    /// being counted; 0 where there are too many.
-    pub levels: usize,
-    /// How many operators, prefixes, accesses and expressions may still come before a token, one
-    /// being counted for the next token; 0 where there are too many.
-    pub room: usize,
+    /// How many expressions enclose the next token.
+    pub enclosing: usize,
+    /// How many constructs are open at the next token: the expressions that enclose it, the
+    /// operators, prefixes, accesses and parts of `has` that each of these already holds at its own
+    /// level, and the earlier clauses of the policy.
+    pub depth: usize,
 }
 
 impl Cursor {
@@ -22,8 +22,8 @@ impl Cursor {
     {
         Cursor {
             at,
-            levels: 101,
-            room: 1001,
+            enclosing: 0,
+            depth: 0,
         }
     }
 
@@ -31,7 +31,7 @@ impl Cursor {
     pub fn fits(self) -> bool
         ensures { result ≡ fits self }
     {
-        self.levels > 0 && self.room > 0
+        self.enclosing <= 100 && self.depth <= 1_000
     }
 
     /// After a token that doesn't count.
@@ -41,8 +41,8 @@ impl Cursor {
     {
         Cursor {
             at: self.at + 1,
-            levels: self.levels,
-            room: self.room,
+            enclosing: self.enclosing,
+            depth: self.depth,
         }
     }
 
@@ -53,8 +53,8 @@ impl Cursor {
     {
         Cursor {
             at: self.at + 1,
-            levels: self.levels,
-            room: self.room.saturating_sub(1),
+            enclosing: self.enclosing,
+            depth: self.depth.saturating_add(1),
         }
     }
 
@@ -64,8 +64,8 @@ impl Cursor {
     {
         Cursor {
             at: self.at,
-            levels: self.levels.saturating_sub(1),
-            room: self.room.saturating_sub(1),
+            enclosing: self.enclosing.saturating_add(1),
+            depth: self.depth.saturating_add(1),
         }
     }
 
@@ -75,8 +75,8 @@ impl Cursor {
     {
         Cursor {
             at: inner.at,
-            levels: self.levels,
-            room: self.room,
+            enclosing: self.enclosing,
+            depth: self.depth,
         }
     }
 
@@ -86,8 +86,8 @@ impl Cursor {
     {
         Cursor {
             at: self.at,
-            levels: self.levels,
-            room: self.room.saturating_sub(1),
+            enclosing: self.enclosing,
+            depth: self.depth.saturating_add(1),
         }
     }
 }

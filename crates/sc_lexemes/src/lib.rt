@@ -5,6 +5,7 @@
 
 mod cursor;
 mod keys;
+mod laws;
 mod lexeme;
 mod lexemes;
 mod name;
@@ -17,6 +18,7 @@ mod tables;
 
 pub use cursor::Cursor;
 pub use keys::no_keys;
+pub use laws::depth_laws;
 pub use lexeme::{Lexeme, Shape};
 pub use lexemes::lexemes_of;
 pub use name::{entity, ident, key, more_entity, names, path, string};

@@ -11,17 +11,12 @@ pub(crate) fn binary(
     alloc: Global,
     place: Place,
     operator: BinaryOperator,
-    a: Expr,
-    b: Expr,
-) -> Result<Expr, AllocError>
+    a: Boxed<Expr>,
+    b: Boxed<Expr>,
+) -> Result<Boxed<Expr>, AllocError>
     ensures { IfOk result (λ x. x ≡ expr.Binary place operator a b) }
 {
-    Ok(Expr::Binary(
-        place,
-        operator,
-        Boxed::new(alloc, a)?,
-        Boxed::new(alloc, b)?,
-    ))
+    Boxed::new(alloc, Expr::Binary(place, operator, a, b))
 }
 
 /// An operator with one operand.
@@ -29,9 +24,9 @@ pub fn prefixed(
     alloc: Global,
     place: Place,
     operator: UnaryOperator,
-    a: Expr,
-) -> Result<Expr, AllocError>
+    a: Boxed<Expr>,
+) -> Result<Boxed<Expr>, AllocError>
     ensures { IfOk result (λ x. x ≡ expr.Unary place operator a) }
 {
-    Ok(Expr::Unary(place, operator, Boxed::new(alloc, a)?))
+    Boxed::new(alloc, Expr::Unary(place, operator, a))
 }

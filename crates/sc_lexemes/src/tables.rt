@@ -66,14 +66,14 @@ pub fn joined(
     alloc: Global,
     operator: Operator,
     place: Place,
-    a: Expr,
-    b: Expr,
-) -> Result<Expr, AllocError>
+    a: Boxed<Expr>,
+    b: Boxed<Expr>,
+) -> Result<Boxed<Expr>, AllocError>
     ensures { IfOk result (λ x. x ≡ joined operator place a b) }
 {
     match operator {
-        Operator::Or => Ok(Expr::Or(place, Boxed::new(alloc, a)?, Boxed::new(alloc, b)?)),
-        Operator::And => Ok(Expr::And(place, Boxed::new(alloc, a)?, Boxed::new(alloc, b)?)),
+        Operator::Or => Boxed::new(alloc, Expr::Or(place, a, b)),
+        Operator::And => Boxed::new(alloc, Expr::And(place, a, b)),
         Operator::Less => binary(alloc, place, BinaryOperator::Less, a, b),
         Operator::LessOrEqual => binary(alloc, place, BinaryOperator::LessOrEqual, a, b),
         Operator::Greater => binary(alloc, place, BinaryOperator::Greater, a, b),
@@ -198,10 +198,10 @@ fn function_of(word: &str) -> Option<UnaryOperator>
 pub fn called(
     alloc: Global,
     place: Place,
-    receiver: Expr,
+    receiver: Boxed<Expr>,
     name: &str,
     arguments: Seq<Expr>,
-) -> Result<Option<Expr>, AllocError>
+) -> Result<Option<Boxed<Expr>>, AllocError>
     ensures { IfOk result (λ x. x ≡ called place receiver name.now arguments) }
 {
     let mut arguments = arguments.into_vec();
@@ -211,6 +211,7 @@ pub fn called(
             None => Ok(None),
         };
     };
+    let last = Boxed::new(alloc, last)?;
     if !arguments.is_empty() {
         return Ok(None);
     }
@@ -226,13 +227,14 @@ pub fn applied(
     place: Place,
     name: &str,
     arguments: Seq<Expr>,
-) -> Result<Option<Expr>, AllocError>
+) -> Result<Option<Boxed<Expr>>, AllocError>
     ensures { IfOk result (λ x. x ≡ applied place name.now arguments) }
 {
     let mut arguments = arguments.into_vec();
     let Some(last) = arguments.pop() else {
         return Ok(None);
     };
+    let last = Boxed::new(alloc, last)?;
     if !arguments.is_empty() {
         return Ok(None);
     }

@@ -63,7 +63,7 @@ times (suc n) f s = times n f (f s)
 open_expressions : (fits (times 100 inside (outside 0)) ≡ true) × (fits (times 101 inside (outside 0)) ≡ false)
 open_expressions = (refl, refl)
 
--- a token may stand behind 1,000 operators, and no more; each open expression and each earlier clause takes the room of one
+-- a token may stand behind 1,000 operators, and no more; each expression around it and each earlier clause counts as one
 operators_before : (fits (times 1000 past (outside 0)) ≡ true) × (fits (times 1001 past (outside 0)) ≡ false)
 operators_before = (refl, refl)
 
@@ -74,7 +74,7 @@ operators_behind : (fits (times 990 past (times 10 deeper (outside 0))) ≡ true
 operators_behind = (refl, refl)
 
 -- behind an expression the place is inside of as many as before it
-behind_expression : (s t : Cursor) → back s t ≡ record { at = t.at; levels = s.levels; room = s.room }
+behind_expression : (s t : Cursor) → back s t ≡ record { at = t.at; enclosing = s.enclosing; depth = s.depth }
 behind_expression s t = refl
 
 -- ---- policies
@@ -158,17 +158,17 @@ least = headed (word 34 (codes "when") ∷ sign 39 kind.OpenBrace ∷ sign 41 ki
 abbrev least_number : Condition
 least_number = record { place = at 34; kind = When; body = expr.Literal (at 41) (literal.Long least_long) }
 
-least_unary : Unary all_limits least (record { at = 10; levels = 100; room = 1000 }) (expr.Literal (at 41) (literal.Long least_long)) (record { at = 12; levels = 100; room = 999 })
+least_unary : Unary all_limits least (record { at = 10; enclosing = 1; depth = 1 }) (expr.Literal (at 41) (literal.Long least_long)) (record { at = 12; enclosing = 1; depth = 2 })
 least_unary = grammar.prefixes {p = at 41} (minus_prefix refl) (grammar.least (omega arith) (record { minus = refl; place = at 42; digits = refl }) (λ k. refl) (λ k. refl) grammar.no_access)
 
 unary_expression : {K : Limits} {ts : List Lexeme} {s t : Cursor} {x : Expr} → Unary K ts s x t → Expression K ts s x t
 unary_expression p = grammar.chain_or (grammar.chain (grammar.operand_or (grammar.chain (grammar.operand_and (grammar.sum (grammar.chain (grammar.operand_add (grammar.chain (grammar.operand_multiply p) grammar.operands_end)) grammar.operands_end))) grammar.operands_end)) grammar.operands_end)
 
 least_clause : Clauses all_limits least (outside 8) [] (least_number ∷ []) (deeper (outside 13))
-least_clause = g.clauses_more {t = outside 13} {p = at 34} {q = at 39} {k = When} (record { is = refl }) refl (grammar.enclosed {t = outside 12} {p = at 62} (grammar.inner {t = record { at = 12; levels = 100; room = 999 }} (unary_expression least_unary)) refl) g.clauses_end
+least_clause = g.clauses_more {t = outside 13} {p = at 34} {q = at 39} {k = When} (record { is = refl }) refl (grammar.enclosed {t = outside 12} {p = at 62} (grammar.inner {t = record { at = 12; enclosing = 1; depth = 2 }} (unary_expression least_unary)) refl) g.clauses_end
 
 least_spelled : File all_limits least (permits (least_number ∷ []) ∷ [])
-least_spelled = g.policies_more {t = record { at = 14; levels = 101; room = 1000 }} {x = permits (least_number ∷ [])} (λ k. refl) (g.policy {t = outside 1} {u = outside 8} {v = deeper (outside 13)} {p = at 0} {q = at 63} {e = Permit} {x = anything} (g.effect (record { is = refl })) (whole _) least_clause refl) g.policies_end
+least_spelled = g.policies_more {t = record { at = 14; enclosing = 0; depth = 1 }} {x = permits (least_number ∷ [])} (λ k. refl) (g.policy {t = outside 1} {u = outside 8} {v = deeper (outside 13)} {p = at 0} {q = at 63} {e = Permit} {x = anything} (g.effect (record { is = refl })) (whole _) least_clause refl) g.policies_end
 
 scopes_read : (rest : List Lexeme) → ReadsScopes (headed rest) (outside 1) (read anything (outside 8))
 scopes_read rest = r.scopes {t = outside 4} {u = outside 6} {p = at 6} refl
@@ -211,4 +211,4 @@ no_variable = refl
 
 -- the parenthesis that closes the call passes the limit
 unknown_passed : Passes (headed unknown) stop.BadCall 12
-unknown_passed = passes (clause_halts_file unknown (at 34) (at 39) refl refl (primary_halts (other (headed unknown) 10 {p = at 41} refl (other_word _ _ refl refl)) (no_prefix_at (headed unknown) 10 {p = at 41} refl (word_no_prefix (codes "any"))) (reads.no_function {t = record { at = 12; levels = 100; room = 1000 }} {p = at 41} {q = at 44} {w = codes "any"} (refl, refl) no_variable refl refl (reads.items_end {p = at 45} refl) refl))) refl
+unknown_passed = passes (clause_halts_file unknown (at 34) (at 39) refl refl (primary_halts (other (headed unknown) 10 {p = at 41} refl (other_word _ _ refl refl)) (no_prefix_at (headed unknown) 10 {p = at 41} refl (word_no_prefix (codes "any"))) (reads.no_function {t = record { at = 12; enclosing = 1; depth = 1 }} {p = at 41} {q = at 44} {w = codes "any"} (refl, refl) no_variable refl refl (reads.items_end {p = at 45} refl) refl))) refl

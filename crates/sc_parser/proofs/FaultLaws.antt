@@ -183,16 +183,3 @@ halts {f = stop.NoMemory} p = absurd ((within p).2 refl)
 pub ends : {ts : List Lexeme} {o : Outcome (List Policy)} → ReadsPolicies ts 0 [] o → Ends ts o
 ends {ts = ts} {o = read ps t} p = let q = (found p).1 in subst (Ends ts) (sym (complete p q)) (all_read q)
 ends {o = halt f n} p = halts p
-
--- each is met by nothing else
-pub only_unexpected : {ts : List Lexeme} {n : ℕ} {o : Outcome (List Policy)} → ReadsPolicies ts 0 [] o → IsUnexpected ts n → o ≡ halt stop.Unexpected n
-only_unexpected p u = one_end (ends p) (at_token u)
-
-pub only_ended : {ts : List Lexeme} {o : Outcome (List Policy)} → ReadsPolicies ts 0 [] o → IsUnexpectedEnd ts → o ≡ halt stop.Unexpected (length ts)
-only_ended p u = one_end (ends p) (at_end u)
-
-pub only_passes : {ts : List Lexeme} {f : Stop} {n : ℕ} {o : Outcome (List Policy)} → ReadsPolicies ts 0 [] o → Passes ts f n → o ≡ halt f n
-only_passes p q = one_end (ends p) (at_limit q)
-
-pub only_file : {ts : List Lexeme} {ps : List Policy} {o : Outcome (List Policy)} → ReadsPolicies ts 0 [] o → File all_limits ts ps → o ≡ read ps (outside (length ts))
-only_file p q = complete p q

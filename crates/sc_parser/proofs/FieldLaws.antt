@@ -1,4 +1,4 @@
--- A field of a record, where the cursor behind each token is given by an equation.
+-- A field of a record, where its value and the cursor behind each token are given by equations.
 use Rattle.std.proofs.Common.{◌≡◌, ℕ, List, [], ◌∷◌, ◌++◌}
 use Rattle.sc_ast.specs.declared.place.Place.{Place}
 use Rattle.sc_ast.specs.declared.expr.Expr.{Expr}
@@ -12,13 +12,13 @@ use Rattle.sc_lexemes.specs.Outcomes.{Outcome, read}
 use Rattle.sc_lexemes.specs.ReadsWords.{ReadsKey}
 use Rattle.sc_parser.specs.Reads.{ReadsInner, ReadsFields, last_field, more_fields}
 
-pub field_read : {ts : List Lexeme} {s t u v : Cursor} {p q : Place} {fs gs : List (List ℕ × Expr)} {w : List ℕ} {x : Expr} → Lacks ts s.at (Sign kind.CloseBrace) → ReadsKey ts s fs (read w t) → Is ts t.at p (Sign kind.Colon) → u ≡ next t → ReadsInner ts u (read x v) → Is ts v.at q (Sign kind.CloseBrace) → gs ≡ fs ++ (w, x) ∷ [] → ReadsFields ts s fs (read gs v)
-field_read {ts = ts} {t = t} {v = v} {x = x} l k c next_is i e is =
+pub field_read : {ts : List Lexeme} {s t u v : Cursor} {p q : Place} {fs gs : List (List ℕ × Expr)} {w : List ℕ} {x y : Expr} → Lacks ts s.at (Sign kind.CloseBrace) → ReadsKey ts s fs (read w t) → Is ts t.at p (Sign kind.Colon) → u ≡ next t → ReadsInner ts u (read x v) → Is ts v.at q (Sign kind.CloseBrace) → y ≡ x → gs ≡ fs ++ (w, y) ∷ [] → ReadsFields ts s fs (read gs v)
+field_read {ts = ts} {t = t} {v = v} {x = x} l k c next_is i e same is =
     let i' : ReadsInner ts (next t) (read x v) = rw next_is at i in
-    rw is (last_field l k c i' e)
+    rw (is, same) (last_field l k c i' e)
 
-pub field_more : {ts : List Lexeme} {s t u v z : Cursor} {p q : Place} {fs gs : List (List ℕ × Expr)} {w : List ℕ} {x : Expr} {o : Outcome (List (List ℕ × Expr))} → Lacks ts s.at (Sign kind.CloseBrace) → ReadsKey ts s fs (read w t) → Is ts t.at p (Sign kind.Colon) → u ≡ next t → ReadsInner ts u (read x v) → Is ts v.at q (Sign kind.Comma) → z ≡ next v → gs ≡ fs ++ (w, x) ∷ [] → ReadsFields ts z gs o → ReadsFields ts s fs o
-field_more {ts = ts} {t = t} {v = v} {fs = fs} {w = w} {x = x} {o = o} l k c next_is i e behind is r =
+pub field_more : {ts : List Lexeme} {s t u v z : Cursor} {p q : Place} {fs gs : List (List ℕ × Expr)} {w : List ℕ} {x y : Expr} {o : Outcome (List (List ℕ × Expr))} → Lacks ts s.at (Sign kind.CloseBrace) → ReadsKey ts s fs (read w t) → Is ts t.at p (Sign kind.Colon) → u ≡ next t → ReadsInner ts u (read x v) → Is ts v.at q (Sign kind.Comma) → z ≡ next v → y ≡ x → gs ≡ fs ++ (w, y) ∷ [] → ReadsFields ts z gs o → ReadsFields ts s fs o
+field_more {ts = ts} {t = t} {v = v} {fs = fs} {w = w} {x = x} {o = o} l k c next_is i e behind same is r =
     let i' : ReadsInner ts (next t) (read x v) = rw next_is at i in
-    let r' : ReadsFields ts (next v) (fs ++ (w, x) ∷ []) o = rw (behind, is) at r in
+    let r' : ReadsFields ts (next v) (fs ++ (w, x) ∷ []) o = rw (behind, is, same) at r in
     more_fields l k c i' e r'

@@ -1,5 +1,5 @@
 -- What reading a file tells of the files that there are.
-use Rattle.std.proofs.Common.{◌≡◌, ◌+◌, ◌<◌, ◌≤◌, ◌||◌, ◌&&◌, ◌==◌, ℕ, nat_lt, Bool, List, [], length, slice_get, None, true, false, refl, arith, le_refl}
+use Rattle.std.proofs.Common.{◌≡◌, ◌+◌, ◌<◌, ◌≤◌, ◌==◌, ℕ, nat_lt, List, [], length, slice_get, None, true, refl, arith, le_refl}
 use Rattle.std.proofs.lemmas.Bool.{lt-ltb, or_right, and_from}
 use Rattle.std.proofs.lemmas.Bool.Decides.{Decides-eqb}
 use Rattle.std.proofs.lemmas.Option.{slice_get_past}
@@ -16,10 +16,6 @@ use Rattle.sc_parser.specs.ReadsFiles.{ReadsPolicies}
 use Rattle.sc_parser.proofs.RunLaws.{Agree, only, moved, fewer, ends_within, place}
 use Rattle.sc_parser.proofs.ReadsFileLaws.{into_policies}
 use Rattle.sc_parser.proofs.GrammarFileLaws.{to_policies}
-
--- one outcome comes of reading
-pub only_policies : {ts : List Lexeme} {i : ℕ} {ps : List Policy} {o o' : Outcome (List Policy)} → ReadsPolicies ts i ps o → ReadsPolicies ts i ps o' → o ≡ o'
-only_policies a b = only (into_policies a) (into_policies b)
 
 -- it depends on the tokens up to where reading ended
 pub same_policies : {ts us : List Lexeme} {i : ℕ} {ps : List Policy} {o o' : Outcome (List Policy)} → Agree ts us (place o) → ReadsPolicies ts i ps o → ReadsPolicies us i ps o' → o ≡ o'

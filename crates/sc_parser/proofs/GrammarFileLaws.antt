@@ -104,7 +104,7 @@ resource_ends : {K : Limits} {ts : List Lexeme} {s t u : Cursor} {x : Scope} →
 resource_ends {ts = ts} {t = t} a (g.scope_end {p = p} h) = let b = to_scope_part a (weaker (omega arith) (weak_close_parenthesis ts t.at h)) in record { value = b.value; runs = calls b.runs (finds p h (goes h does)); same = b.same }
 resource_ends {ts = ts} {t = t} a (g.scope_comma_end {p = p} {q = q} h k) = let b = to_scope_part a (weaker (omega arith) (weak_comma ts t.at h)) in record { value = b.value; runs = calls b.runs (lacks (other ts t.at h (λ e. cc)) (finds p h (goes h (finds q k (goes k does))))); same = b.same }
 
-to_action : {K : Limits} {ts : List Lexeme} {s t : Cursor} {q : Place} {y : ActionScope} → ActionPart K ts s y t → Is ts t.at q (shape.Sign kind.Comma) → Runs K ts sort.action_scope (production n.action_part) s (read y (record { at = t.at + 1; levels = t.levels; room = t.room }))
+to_action : {K : Limits} {ts : List Lexeme} {s t : Cursor} {q : Place} {y : ActionScope} → ActionPart K ts s y t → Is ts t.at q (shape.Sign kind.Comma) → Runs K ts sort.action_scope (production n.action_part) s (read y (record { at = t.at + 1; enclosing = t.enclosing; depth = t.depth }))
 to_action {ts = ts} {t = t} {q = q} (g.action_part {p = p} h a) k = finds p h (goes h (calls (to_asked_of_action a (weaker (omega arith) (weak_comma ts t.at k))) (finds q k (goes k does))))
 
 pub to_whole_scope : {K : Limits} {ts : List Lexeme} {s t : Cursor} {x : Scopes} → WholeScope K ts s x t → Given K ts n.whole_scope s x t

@@ -38,12 +38,12 @@ is_minus ts i p x = let m = minus_shape x.shape x.operator in let is = x.is in c
 is_least : (ts : List Lexeme) (i : ℕ) (p q : Place) (r : UnaryOperator) → IsPrefix ts i p r → r ≡ Negate → Is ts (i + 1) q (Number least_digits) → IsLeast ts i p
 is_least ts i p q r x e d = let y : IsPrefix ts i p Negate = rw (sym e) x in record { minus = is_minus ts i p y; place = q; digits = d }
 
--- the cursor behind each token is given by an equation
-pub least_read : {ts : List Lexeme} {r : UnaryOperator} {m : ℕ} {s t u : Cursor} {p q : Place} {o : Outcome Expr} → 0 < m → IsPrefix ts s.at p r → fits s ≡ true → t ≡ past s → r ≡ Negate → Is ts t.at q (Number least_digits) → fits t ≡ true → u ≡ next t → ReadsAccesses ts u (expr.Literal p (Long least_long)) o → ReadsPrefixes ts r m s o
-least_read {ts = ts} {r = r} {m = m} {s = s} {p = p} {q = q} {o = o} lt x f past_is e d g next_is y =
+-- the number, and the cursor behind each token, are given by equations
+pub least_read : {ts : List Lexeme} {r : UnaryOperator} {m : ℕ} {s t u : Cursor} {p q : Place} {a : Expr} {o : Outcome Expr} → 0 < m → IsPrefix ts s.at p r → fits s ≡ true → t ≡ past s → r ≡ Negate → Is ts t.at q (Number least_digits) → fits t ≡ true → u ≡ next t → a ≡ expr.Literal p (Long least_long) → ReadsAccesses ts u a o → ReadsPrefixes ts r m s o
+least_read {ts = ts} {r = r} {m = m} {s = s} {p = p} {q = q} {o = o} lt x f past_is e d g next_is is y =
     let d' : Is ts (s.at + 1) q (Number least_digits) = rw past_is at d in
     let g' : fits (past s) ≡ true = rw past_is at g in
-    let y' : ReadsAccesses ts (next (past s)) (expr.Literal p (Long least_long)) o = rw (next_is, past_is) at y in
+    let y' : ReadsAccesses ts (next (past s)) (expr.Literal p (Long least_long)) o = rw (next_is, past_is, is) at y in
     rw e (least lt (is_least ts s.at p q r x e d') f g' y')
 
 pub least_refused : {ts : List Lexeme} {r : UnaryOperator} {m : ℕ} {s t : Cursor} {p q : Place} → 0 < m → IsPrefix ts s.at p r → fits s ≡ true → t ≡ past s → r ≡ Negate → Is ts t.at q (Number least_digits) → fits t ≡ false → ReadsPrefixes ts r m s (halt TooDeep t.at)

@@ -1,5 +1,5 @@
 -- A file is read in one way, and what comes of reading its tokens says how.
-use Rattle.std.proofs.Common.{◌≡◌, ℕ, List, [], length, map, slice_get, None, true, refl, sym, ap, ◌∙◌, arith, subst, Result, Ok, Err}
+use Rattle.std.proofs.Common.{◌≡◌, ℕ, List, [], map, slice_get, None, refl, sym, ap, ◌∙◌, arith, subst, Result, Ok, Err}
 use Rattle.std.specs.Prelude.{IfOk, IfErr}
 use Rattle.std.specs.declared.option.Option.{Option}
 use Rattle.std.specs.declared.option.Option.TheVariants.{Some}
@@ -18,12 +18,11 @@ use Rattle.sc_parser.specs.declared.fault.PolicyFault.TheVariants as fault
 use Rattle.sc_lexemes.specs.declared.lexeme.Lexeme.{Lexeme}
 use Rattle.sc_lexemes.specs.declared.stop.Stop.{Stop}
 use Rattle.sc_lexemes.specs.declared.stop.Stop.TheVariants as stop
-use Rattle.sc_parser.specs.Faults.{is_limit}
 use Rattle.sc_lexemes.specs.Outcomes.{Outcome, read, halt}
 use Rattle.sc_parser.specs.ReadsFiles.{ReadsPolicies}
 use Rattle.sc_lexemes.specs.Shapes.{lexeme_of}
 use Rattle.sc_parser.specs.Spelling.{AreLexemes, Spells, fault_of, HasFault, ill_formed, no_token, no_escape, unexpected, unexpected_end, passed, IsReading, spelled, faulty, ReadFails}
-use Rattle.sc_parser.proofs.FaultLaws.{Ends, all_read, at_token, at_end, at_limit, one_end, ends, ended, passes}
+use Rattle.sc_parser.proofs.FaultLaws.{Ends, all_read, at_token, at_end, at_limit, one_end, ends}
 use Rattle.sc_parser.proofs.FileLaws.{past_end}
 use Rattle.sc_parser.proofs.ViableFileLaws.{found, no_token as past_token}
 
@@ -86,6 +85,10 @@ one_known (by_tokens a h e) (by_tokens b k g) = sym e ∙ one_answer a h b k ∙
 pub one_reading : (bytes : List ℕ) (a b : Result (List Policy) PolicyFault) → IsReading bytes a → IsReading bytes b → a ≡ b
 one_reading bytes a b p q = one_known (known p) (known q)
 
+-- a file that spells policies has no fault
+pub no_fault : (bytes : List ℕ) (ps : List Policy) (f : PolicyFault) → Spells bytes ps → HasFault bytes f → ⊥
+no_fault bytes ps f h k = let e = one_reading bytes (Ok ps) (Err f) (spelled ps h) (faulty f k) in cc
+
 -- the answer is the one reading
 pub gives_reading : (bytes : List ℕ) (result : Result (List Policy) (Fault PolicyFault)) → IfOk result (Spells bytes) → IfErr result (ReadFails bytes) → (told : Result (List Policy) PolicyFault) → IsReading bytes told → Gives result told
 gives_reading bytes (Ok ps) ok err told h = one_reading bytes told (Ok ps) h (spelled ps ok)
@@ -117,20 +120,3 @@ reads_fault a p g = fault_there a (ends p) g
 
 pub reads_end : {bytes : List ℕ} {ts : List Lexeme} {f : Stop} {n : ℕ} → AreLexemes bytes ts → ReadsPolicies ts 0 [] (halt f n) → slice_get ts n ≡ None → HasFault bytes fault.UnexpectedEnd
 reads_end a p g = end_there a (ends p) g
-
--- the same where it is known only that memory didn't run out
-pub halts_fault : {bytes : List ℕ} {ts : List Lexeme} {f : Stop} {n : ℕ} {l : Lexeme} → AreLexemes bytes ts → ((f ≡ stop.NoMemory → ⊥) → ReadsPolicies ts 0 [] (halt f n)) → (f ≡ stop.NoMemory → ⊥) → slice_get ts n ≡ Some l → HasFault bytes (fault_of f l.place)
-halts_fault a h m g = reads_fault a (h m) g
-
-pub halts_end : {bytes : List ℕ} {ts : List Lexeme} {f : Stop} {n : ℕ} → AreLexemes bytes ts → ((f ≡ stop.NoMemory → ⊥) → ReadsPolicies ts 0 [] (halt f n)) → (f ≡ stop.NoMemory → ⊥) → slice_get ts n ≡ None → HasFault bytes fault.UnexpectedEnd
-halts_end a h m g = reads_end a (h m) g
-
--- the same for each kind by itself
-pub reads_unexpected : {bytes : List ℕ} {ts : List Lexeme} {n : ℕ} {l : Lexeme} → AreLexemes bytes ts → ReadsPolicies ts 0 [] (halt stop.Unexpected n) → slice_get ts n ≡ Some l → HasFault bytes (fault.Unexpected l.place)
-reads_unexpected a p g = reads_fault a p g
-
-pub reads_unexpected_end : {bytes : List ℕ} {ts : List Lexeme} {n : ℕ} → AreLexemes bytes ts → ReadsPolicies ts 0 [] (halt stop.Unexpected n) → n ≡ length ts → HasFault bytes fault.UnexpectedEnd
-reads_unexpected_end a p e = unexpected_end a (ended p e)
-
-pub reads_passed : {bytes : List ℕ} {ts : List Lexeme} {f : Stop} {n : ℕ} {l : Lexeme} → AreLexemes bytes ts → ReadsPolicies ts 0 [] (halt f n) → is_limit f ≡ true → slice_get ts n ≡ Some l → HasFault bytes (fault_of f l.place)
-reads_passed a p i g = passed a g (passes p i)

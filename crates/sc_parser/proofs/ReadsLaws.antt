@@ -1,5 +1,5 @@
 -- Reading expressions runs their programs.
-use Rattle.std.proofs.Common.{◌≡◌, ◌+◌, ℕ, List, refl, arith}
+use Rattle.std.proofs.Common.{◌+◌, ℕ, List, refl, arith}
 use Rattle.sc_ast.specs.declared.place.Place.{Place}
 use Rattle.sc_ast.specs.declared.expr.Expr.{Expr}
 use Rattle.sc_ast.specs.declared.operator.UnaryOperator.{UnaryOperator}
@@ -19,7 +19,7 @@ use Rattle.sc_parser.proofs.Nonterminals as n
 use Rattle.sc_parser.proofs.Productions.{production}
 use Rattle.sc_parser.proofs.Runs.{Runs, does, fails, finds, lacks, goes, keeps, breaks, calls, halts}
 use Rattle.sc_parser.proofs.TestLaws.{other, other_word, no_operator, operator_has, operator_like, operator_is, minus_prefix, variable_ident, comma_closes_none, nothing}
-use Rattle.sc_parser.proofs.RunLaws.{only, tail}
+use Rattle.sc_parser.proofs.RunLaws.{tail}
 use Rattle.sc_parser.proofs.ReadsWordLaws.{into_ident, into_string, into_names, into_path, into_more_entity, into_key}
 use Rattle.sc_parser.proofs.PrimaryLaws.{at_true, at_false, at_number, at_string, at_parenthesis, at_bracket, at_brace, at_ident}
 
@@ -148,7 +148,3 @@ mutual
   into_fields (r.last_field {p = p} {q = q} n a h b g) = lacks n (calls (into_key a) (finds p h (goes h (calls (into_inner b) (finds q g does)))))
   into_fields (r.no_field_comma {p = p} n a h b m l) = lacks n (calls (into_key a) (finds p h (goes h (calls (into_inner b) (lacks m (lacks l fails))))))
   into_fields {ts = ts} (r.more_fields {u = u} {p = p} {q = q} n a h b g c) = lacks n (calls (into_key a) (finds p h (goes h (calls (into_inner b) (lacks (other ts u.at g (λ e. cc)) (finds q g (goes g (tail (into_fields c)))))))))
-
--- one outcome comes of reading
-pub only_expression : {ts : List Lexeme} {s : Cursor} {o o' : Outcome Expr} → ReadsExpr ts s o → ReadsExpr ts s o' → o ≡ o'
-only_expression a b = only (into_expression a) (into_expression b)

@@ -45,7 +45,7 @@ SomeHead K s us t = (p : Place) × (e : Effect) × Head K us s p e t
 
 -- so many tokens further
 abbrev onto : Cursor → ℕ → Cursor
-onto s i = record { at = s.at + i; levels = s.levels; room = s.room }
+onto s i = record { at = s.at + i; enclosing = s.enclosing; depth = s.depth }
 
 more_annotation : {K : Limits} {ts : List Lexeme} {s : Cursor} {f : Stop} {n : ℕ} → Frees K f n → (rest : List Lexeme) → cut f n ≤ length ts → HaltsAnnotation ts s f n → Done (SomeHead K s) ts (cut f n) rest
 more_annotation {K = K} {s = s} g rest w (r.no_annotation_word h l) = leaf (SomeHead K s) (next s) (next (next (next s))) (word (codes "a") ∷ word (codes "permit") ∷ rest) w (omega arith) (λ us d. rest_of (rest_of d)) (λ us b d. (nowhere, Permit, bare_annotation (moved b (omega arith) h) (head_of d) (effect (record { is = head_of (rest_of d) }))))

@@ -10,6 +10,7 @@ use crate::prefix::unary;
 use crate::tree;
 use sc_ast::{Expr, Place};
 use sc_lexemes::{Cursor, Level, Lexeme, Stop, joined, names, operator_at, path, string, word_at};
+use sc_lists::Boxed;
 use std::alloc::Global;
 
 /// Reads operands of a level with its operators between them.
@@ -20,7 +21,7 @@ pub(crate) fn chain(
     ts: &[Lexeme],
     level: Level,
     cursor: &mut Cursor,
-) -> Result<Expr, Stop>
+) -> Result<Boxed<Expr>, Stop>
     requires within { cursor.old.at ≤ length ts.now }
     requires chains { level ≡ level_is.Relation → ⊥ }
     ensures forward { cursor.old.at ≤ cursor.new.at }
@@ -40,7 +41,12 @@ pub(crate) fn chain(
 /// Reads an operand of a chain.
 #[cycle(read)]
 #[tactic(auto, using(crate::specs::Reads::operand_or, crate::specs::Reads::operand_and, crate::specs::Reads::operand_add, crate::specs::Reads::operand_multiply))]
-fn operand(alloc: Global, ts: &[Lexeme], level: Level, cursor: &mut Cursor) -> Result<Expr, Stop>
+fn operand(
+    alloc: Global,
+    ts: &[Lexeme],
+    level: Level,
+    cursor: &mut Cursor,
+) -> Result<Boxed<Expr>, Stop>
     requires within { cursor.old.at ≤ length ts.now }
     requires chains { level ≡ level_is.Relation → ⊥ }
     ensures forward { cursor.old.at ≤ cursor.new.at }
@@ -60,7 +66,7 @@ fn operand(alloc: Global, ts: &[Lexeme], level: Level, cursor: &mut Cursor) -> R
 /// Reads one comparison, `has`, `like` or `is` at most.
 #[cycle(read)]
 #[tactic(auto, using(crate::specs::Reads::relation, crate::specs::Reads::relation_halts))]
-fn relation(alloc: Global, ts: &[Lexeme], cursor: &mut Cursor) -> Result<Expr, Stop>
+fn relation(alloc: Global, ts: &[Lexeme], cursor: &mut Cursor) -> Result<Boxed<Expr>, Stop>
     requires { cursor.old.at ≤ length ts.now }
     ensures forward { cursor.old.at ≤ cursor.new.at }
     ensures within { cursor.new.at ≤ length ts.now }
@@ -74,7 +80,12 @@ fn relation(alloc: Global, ts: &[Lexeme], cursor: &mut Cursor) -> Result<Expr, S
 /// Reads the rest of a relation behind its left side.
 #[cycle(read)]
 #[tactic(auto, using(crate::specs::Reads::no_tail, crate::specs::Reads::compare, crate::specs::Reads::compare_halts))]
-fn tail(alloc: Global, ts: &[Lexeme], left: Expr, cursor: &mut Cursor) -> Result<Expr, Stop>
+fn tail(
+    alloc: Global,
+    ts: &[Lexeme],
+    left: Boxed<Expr>,
+    cursor: &mut Cursor,
+) -> Result<Boxed<Expr>, Stop>
     requires { cursor.old.at ≤ length ts.now }
     ensures forward { cursor.old.at ≤ cursor.new.at }
     ensures within { cursor.new.at ≤ length ts.now }
@@ -104,9 +115,9 @@ fn has(
     alloc: Global,
     ts: &[Lexeme],
     place: Place,
-    left: Expr,
+    left: Boxed<Expr>,
     cursor: &mut Cursor,
-) -> Result<Expr, Stop>
+) -> Result<Boxed<Expr>, Stop>
     requires here { Is ts.now cursor.old.at place (Word (codes "has")) }
     requires within { cursor.old.at < length ts.now }
     ensures forward { cursor.old.at ≤ cursor.new.at }
@@ -125,9 +136,9 @@ fn like(
     alloc: Global,
     ts: &[Lexeme],
     place: Place,
-    left: Expr,
+    left: Boxed<Expr>,
     cursor: &mut Cursor,
-) -> Result<Expr, Stop>
+) -> Result<Boxed<Expr>, Stop>
     requires here { Is ts.now cursor.old.at place (Word (codes "like")) }
     requires within { cursor.old.at < length ts.now }
     ensures forward { cursor.old.at ≤ cursor.new.at }
@@ -147,9 +158,9 @@ fn is(
     alloc: Global,
     ts: &[Lexeme],
     place: Place,
-    left: Expr,
+    left: Boxed<Expr>,
     cursor: &mut Cursor,
-) -> Result<Expr, Stop>
+) -> Result<Boxed<Expr>, Stop>
     requires here { Is ts.now cursor.old.at place (Word (codes "is")) }
     requires within { cursor.old.at < length ts.now }
     ensures forward { cursor.old.at ≤ cursor.new.at }

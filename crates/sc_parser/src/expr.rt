@@ -7,12 +7,13 @@ use crate::chain::chain;
 use crate::tree::choice;
 use sc_ast::Expr;
 use sc_lexemes::{Close, Cursor, Level, Lexeme, Stop, close_at, word_at};
+use sc_lists::Boxed;
 use std::alloc::Global;
 
 /// Reads an expression.
 #[cycle(read)]
 #[tactic(auto, using(crate::specs::Reads::chain_or, crate::specs::Reads::if_deep, crate::specs::Reads::condition_halts, crate::specs::Reads::then_halts, crate::specs::Reads::else_halts, crate::specs::Reads::if_then_else))]
-fn expr(alloc: Global, ts: &[Lexeme], cursor: &mut Cursor) -> Result<Expr, Stop>
+fn expr(alloc: Global, ts: &[Lexeme], cursor: &mut Cursor) -> Result<Boxed<Expr>, Stop>
     requires { cursor.old.at ≤ length ts.now }
     ensures forward { cursor.old.at ≤ cursor.new.at }
     ensures within { cursor.new.at ≤ length ts.now }
@@ -35,7 +36,7 @@ fn expr(alloc: Global, ts: &[Lexeme], cursor: &mut Cursor) -> Result<Expr, Stop>
 /// Reads an expression inside of something.
 #[cycle(read)]
 #[tactic(auto, using(crate::specs::Reads::inner, crate::specs::Reads::inner_halts))]
-pub(crate) fn inner(alloc: Global, ts: &[Lexeme], cursor: &mut Cursor) -> Result<Expr, Stop>
+pub(crate) fn inner(alloc: Global, ts: &[Lexeme], cursor: &mut Cursor) -> Result<Boxed<Expr>, Stop>
     requires { cursor.old.at ≤ length ts.now }
     ensures forward { cursor.old.at ≤ cursor.new.at }
     ensures within { cursor.new.at ≤ length ts.now }
@@ -57,7 +58,7 @@ pub(crate) fn enclosed(
     ts: &[Lexeme],
     close: Close,
     cursor: &mut Cursor,
-) -> Result<Expr, Stop>
+) -> Result<Boxed<Expr>, Stop>
     requires { cursor.old.at ≤ length ts.now }
     ensures forward { cursor.old.at ≤ cursor.new.at }
     ensures within { cursor.new.at ≤ length ts.now }

@@ -31,7 +31,7 @@ pub(crate) fn items(
         if let Some(_) = close_at(ts, cursor.at, close) {
             return Ok(xs);
         }
-        xs.push(inner(alloc, ts, cursor)?)?;
+        xs.push(inner(alloc, ts, cursor)?.into_inner())?;
         if let Some(_) = close_at(ts, cursor.at, close) {
             return Ok(xs);
         }
@@ -69,7 +69,7 @@ pub(crate) fn fields(
         };
         *cursor = cursor.next();
         let value = inner(alloc, ts, cursor)?;
-        fs.push((name, value))?;
+        fs.push((name, value.into_inner()))?;
         if let Some(_) = sign_at(ts, cursor.at, Kind::CloseBrace) {
             return Ok(fs);
         }

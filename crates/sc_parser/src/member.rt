@@ -13,12 +13,13 @@ use crate::tree::access;
 use sc_ast::{Expr, Place};
 use sc_lexemes::{Close, Cursor, Lexeme, Stop, called, ident, sign_at, string};
 use sc_lexer::Kind;
+use sc_lists::Boxed;
 use std::alloc::Global;
 
 /// Reads a primary expression with accesses and calls of methods.
 #[cycle(read)]
 #[tactic(auto, using(crate::specs::Reads::member, crate::specs::Reads::member_halts))]
-pub(crate) fn member(alloc: Global, ts: &[Lexeme], cursor: &mut Cursor) -> Result<Expr, Stop>
+pub(crate) fn member(alloc: Global, ts: &[Lexeme], cursor: &mut Cursor) -> Result<Boxed<Expr>, Stop>
     requires { cursor.old.at ≤ length ts.now }
     ensures forward { cursor.old.at ≤ cursor.new.at }
     ensures within { cursor.new.at ≤ length ts.now }
@@ -35,9 +36,9 @@ pub(crate) fn member(alloc: Global, ts: &[Lexeme], cursor: &mut Cursor) -> Resul
 pub(crate) fn accesses(
     alloc: Global,
     ts: &[Lexeme],
-    receiver: Expr,
+    receiver: Boxed<Expr>,
     cursor: &mut Cursor,
-) -> Result<Expr, Stop>
+) -> Result<Boxed<Expr>, Stop>
     requires { cursor.old.at ≤ length ts.now }
     ensures forward { cursor.old.at ≤ cursor.new.at }
     ensures within { cursor.new.at ≤ length ts.now }
@@ -63,9 +64,9 @@ fn index(
     alloc: Global,
     ts: &[Lexeme],
     place: Place,
-    receiver: Expr,
+    receiver: Boxed<Expr>,
     cursor: &mut Cursor,
-) -> Result<Expr, Stop>
+) -> Result<Boxed<Expr>, Stop>
     requires here { Is ts.now cursor.old.at place (OfSign kind.OpenBracket) }
     requires within { cursor.old.at < length ts.now }
     ensures forward { cursor.old.at < cursor.new.at }
@@ -89,9 +90,9 @@ fn dot(
     alloc: Global,
     ts: &[Lexeme],
     place: Place,
-    receiver: Expr,
+    receiver: Boxed<Expr>,
     cursor: &mut Cursor,
-) -> Result<Expr, Stop>
+) -> Result<Boxed<Expr>, Stop>
     requires here { Is ts.now cursor.old.at place (OfSign kind.Dot) }
     requires within { cursor.old.at < length ts.now }
     ensures forward { cursor.old.at < cursor.new.at }

@@ -11,7 +11,7 @@ use crate::scopes::read_scopes;
 use sc_ast::{Condition, Policy};
 use sc_lexemes::{Close, Cursor, Lexeme, Stop, clause_at, policy_at, sign_at};
 use sc_lexer::Kind;
-use sc_lists::Seq;
+use sc_lists::{Boxed, Seq};
 use std::alloc::Global;
 
 /// Reads `when` and `unless` clauses.
@@ -32,7 +32,11 @@ fn clauses(alloc: Global, ts: &[Lexeme], cursor: &mut Cursor) -> Result<Seq<Cond
         *cursor = cursor.next();
         let body = enclosed(alloc, ts, Close::Brace, cursor)?;
         *cursor = cursor.deeper();
-        clauses.push(Condition { place, kind, body })?;
+        clauses.push(Condition {
+            place,
+            kind,
+            body: body.into_inner(),
+        })?;
     }
     Ok(clauses)
 }
@@ -48,12 +52,13 @@ fn policy(alloc: Global, ts: &[Lexeme], cursor: &mut Cursor) -> Result<Policy, S
     ensures err { IfErr result (λ f. Halts (ReadsPolicy ts.now cursor.old) f cursor.new) }
 {
     let (place, effect) = head(ts, cursor)?;
-    let scopes = read_scopes(alloc, ts, cursor)?;
+    let scopes = Boxed::new(alloc, read_scopes(alloc, ts, cursor)?)?;
     let conditions = clauses(alloc, ts, cursor)?;
     let Some(_) = sign_at(ts, cursor.at, Kind::Semicolon) else {
         return Err(Stop::Unexpected);
     };
     *cursor = cursor.next();
+    let scopes = scopes.into_inner();
     Ok(Policy {
         place,
         effect,

@@ -6,12 +6,13 @@ ghost use Rattle.sc_parser.specs.Reads.{ReadsUnary, ReadsPrefixes};
 use crate::member::{accesses, member};
 use sc_ast::{Expr, Literal, UnaryOperator};
 use sc_lexemes::{Cursor, Lexeme, Stop, least_behind, prefix_at, prefixed, this_prefix_at};
+use sc_lists::Boxed;
 use std::alloc::Global;
 
 /// Reads up to four prefixes of one kind, and what they stand before.
 #[cycle(read)]
 #[tactic(auto, using(crate::specs::Reads::no_prefix, crate::specs::Reads::prefixes))]
-pub(crate) fn unary(alloc: Global, ts: &[Lexeme], cursor: &mut Cursor) -> Result<Expr, Stop>
+pub(crate) fn unary(alloc: Global, ts: &[Lexeme], cursor: &mut Cursor) -> Result<Boxed<Expr>, Stop>
     requires { cursor.old.at ≤ length ts.now }
     ensures forward { cursor.old.at ≤ cursor.new.at }
     ensures within { cursor.new.at ≤ length ts.now }
@@ -33,7 +34,7 @@ fn prefixes(
     operator: UnaryOperator,
     left: u8,
     cursor: &mut Cursor,
-) -> Result<Expr, Stop>
+) -> Result<Boxed<Expr>, Stop>
     requires { cursor.old.at ≤ length ts.now }
     ensures forward { cursor.old.at ≤ cursor.new.at }
     ensures within { cursor.new.at ≤ length ts.now }
@@ -55,12 +56,8 @@ fn prefixes(
             return Err(Stop::TooDeep);
         }
         *cursor = cursor.next();
-        return accesses(
-            alloc,
-            ts,
-            Expr::Literal(place, Literal::Long(i64::MIN)),
-            cursor,
-        );
+        let least = Boxed::new(alloc, Expr::Literal(place, Literal::Long(i64::MIN)))?;
+        return accesses(alloc, ts, least, cursor);
     }
     let x = prefixes(alloc, ts, operator, left - 1, cursor)?;
     Ok(prefixed(alloc, place, operator, x)?)

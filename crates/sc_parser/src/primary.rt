@@ -21,14 +21,18 @@ use sc_lexemes::{
     variable_of, word_at,
 };
 use sc_lexer::Kind;
-use sc_lists::Text;
+use sc_lists::{Boxed, Text};
 use sc_names::is_ident;
 use std::alloc::Global;
 
 /// Reads what has no operator.
 #[cycle(read)]
 #[tactic(auto, using(crate::specs::Reads::no_primary, crate::specs::Reads::primary_deep))]
-pub(crate) fn primary(alloc: Global, ts: &[Lexeme], cursor: &mut Cursor) -> Result<Expr, Stop>
+pub(crate) fn primary(
+    alloc: Global,
+    ts: &[Lexeme],
+    cursor: &mut Cursor,
+) -> Result<Boxed<Expr>, Stop>
     requires { cursor.old.at ≤ length ts.now }
     ensures forward { cursor.old.at ≤ cursor.new.at }
     ensures within { cursor.new.at ≤ length ts.now }
@@ -47,10 +51,10 @@ pub(crate) fn primary(alloc: Global, ts: &[Lexeme], cursor: &mut Cursor) -> Resu
             if is_ident(word) {
                 named(alloc, ts, token.place, word, cursor)
             } else {
-                truth(ts, token.place, word, cursor)
+                truth(alloc, ts, token.place, word, cursor)
             }
         }
-        Shape::Number(digits) => number(ts, token.place, digits.as_str(), cursor),
+        Shape::Number(digits) => number(alloc, ts, token.place, digits.as_str(), cursor),
         Shape::String(text, _) => string_literal(alloc, ts, token.place, text.as_str(), cursor),
         Shape::Sign(kind) => opened(alloc, ts, token.place, *kind, cursor),
     }
@@ -58,7 +62,13 @@ pub(crate) fn primary(alloc: Global, ts: &[Lexeme], cursor: &mut Cursor) -> Resu
 
 /// Reads a number.
 #[tactic(auto, using(crate::specs::Reads::number, crate::specs::Reads::number_large))]
-fn number(ts: &[Lexeme], place: Place, digits: &str, cursor: &mut Cursor) -> Result<Expr, Stop>
+fn number(
+    alloc: Global,
+    ts: &[Lexeme],
+    place: Place,
+    digits: &str,
+    cursor: &mut Cursor,
+) -> Result<Boxed<Expr>, Stop>
     requires here { Is ts.now cursor.old.at place (Number digits.now) }
     requires fits { fits cursor.old ≡ true }
     requires within { cursor.old.at < length ts.now }
@@ -71,7 +81,7 @@ fn number(ts: &[Lexeme], place: Place, digits: &str, cursor: &mut Cursor) -> Res
         return Err(Stop::IntRange);
     };
     *cursor = cursor.next();
-    Ok(Expr::Literal(place, Literal::Long(number)))
+    Ok(Boxed::new(alloc, Expr::Literal(place, Literal::Long(number)))?)
 }
 
 /// Reads a string.
@@ -82,7 +92,7 @@ fn string_literal(
     place: Place,
     text: &str,
     cursor: &mut Cursor,
-) -> Result<Expr, Stop>
+) -> Result<Boxed<Expr>, Stop>
     requires here { (parts : List AnyPart) × Is ts.now cursor.old.at place (OfString text.now parts) }
     requires fits { fits cursor.old ≡ true }
     requires within { cursor.old.at < length ts.now }
@@ -93,12 +103,18 @@ fn string_literal(
 {
     *cursor = cursor.next();
     let text = Text::from_str(alloc, text)?;
-    Ok(Expr::Literal(place, Literal::String(text)))
+    Ok(Boxed::new(alloc, Expr::Literal(place, Literal::String(text)))?)
 }
 
 /// Reads `true` or `false`.
 #[tactic(auto, using(crate::specs::Reads::truth, crate::specs::Reads::falsehood))]
-fn truth(ts: &[Lexeme], place: Place, word: &str, cursor: &mut Cursor) -> Result<Expr, Stop>
+fn truth(
+    alloc: Global,
+    ts: &[Lexeme],
+    place: Place,
+    word: &str,
+    cursor: &mut Cursor,
+) -> Result<Boxed<Expr>, Stop>
     requires here { Is ts.now cursor.old.at place (Word word.now) }
     requires starts { starts (Word word.now) ≡ true }
     requires reserved { is_ident word.now ≡ false }
@@ -111,10 +127,10 @@ fn truth(ts: &[Lexeme], place: Place, word: &str, cursor: &mut Cursor) -> Result
 {
     if let Some(place) = word_at(ts, cursor.at, "true") {
         *cursor = cursor.next();
-        return Ok(Expr::Literal(place, Literal::Bool(true)));
+        return Ok(Boxed::new(alloc, Expr::Literal(place, Literal::Bool(true)))?);
     }
     *cursor = cursor.next();
-    Ok(Expr::Literal(place, Literal::Bool(false)))
+    Ok(Boxed::new(alloc, Expr::Literal(place, Literal::Bool(false)))?)
 }
 
 /// Reads what begins with an identifier: an entity's uid, a variable, or the call of a function.
@@ -126,7 +142,7 @@ fn named(
     place: Place,
     word: &str,
     cursor: &mut Cursor,
-) -> Result<Expr, Stop>
+) -> Result<Boxed<Expr>, Stop>
     requires here { IsIdent ts.now cursor.old.at place word.now }
     requires fits { fits cursor.old ≡ true }
     requires within { cursor.old.at < length ts.now }
@@ -140,7 +156,7 @@ fn named(
     }
     if let Some(variable) = variable_of(word) {
         *cursor = cursor.next();
-        return Ok(Expr::Variable(place, variable));
+        return Ok(Boxed::new(alloc, Expr::Variable(place, variable))?);
     }
     function(alloc, ts, place, word, cursor)
 }
@@ -153,7 +169,7 @@ fn entity_literal(
     place: Place,
     word: &str,
     cursor: &mut Cursor,
-) -> Result<Expr, Stop>
+) -> Result<Boxed<Expr>, Stop>
     requires here { IsIdent ts.now cursor.old.at place word.now }
     requires colons { (q : AnyPlace) × Is ts.now (cursor.old.at + 1) q (OfSign kind.DoubleColon) }
     requires fits { fits cursor.old ≡ true }
@@ -166,7 +182,10 @@ fn entity_literal(
     *cursor = cursor.next();
     let first = String::from_str(alloc, word)?;
     let entity = more_entity(alloc, ts, cursor, place, first)?;
-    Ok(Expr::Literal(entity.place, Literal::Entity(entity.uid)))
+    Ok(Boxed::new(
+        alloc,
+        Expr::Literal(entity.place, Literal::Entity(entity.uid)),
+    )?)
 }
 
 /// Reads the call of a function.
@@ -178,7 +197,7 @@ fn function(
     place: Place,
     word: &str,
     cursor: &mut Cursor,
-) -> Result<Expr, Stop>
+) -> Result<Boxed<Expr>, Stop>
     requires here { IsIdent ts.now cursor.old.at place word.now }
     requires free { variable_of word.now ≡ None }
     requires lacks { Lacks ts.now (cursor.old.at + 1) (OfSign kind.DoubleColon) }
@@ -211,7 +230,7 @@ fn opened(
     place: Place,
     kind: Kind,
     cursor: &mut Cursor,
-) -> Result<Expr, Stop>
+) -> Result<Boxed<Expr>, Stop>
     requires here { Is ts.now cursor.old.at place (OfSign kind) }
     requires starts { starts (OfSign kind) ≡ true }
     requires fits { fits cursor.old ≡ true }
@@ -227,12 +246,12 @@ fn opened(
         Kind::OpenBracket => {
             let items = items(alloc, ts, Close::Bracket, cursor)?;
             *cursor = cursor.next();
-            Ok(Expr::Set(place, items))
+            Ok(Boxed::new(alloc, Expr::Set(place, items))?)
         }
         Kind::OpenBrace => {
             let fields = fields(alloc, ts, cursor)?;
             *cursor = cursor.next();
-            Ok(Expr::Record(place, fields))
+            Ok(Boxed::new(alloc, Expr::Record(place, fields))?)
         }
         _ => unreachable!(),
     }

@@ -106,8 +106,11 @@ pub fn read_policies(alloc: Global, bytes: &[u8]) -> Result<PolicySet, Fault<Pol
     read_file(alloc, bytes)
 }
 
-/// A file is read in one way: it spells one list of policies, or has one first fault.
+/// A file is read in one way.
 #[tactic(auto, using(crate::proofs::ReadingLaws::one_reading))]
 pub fn reading_laws()
-    ensures { (bytes : List ℕ) (a b : Result (List AnyPolicy) AnyFault) → IsReading bytes a → IsReading bytes b → a ≡ b }
+    // It spells one list of policies, or has one first fault.
+    ensures one { (bytes : List ℕ) (a b : Result (List AnyPolicy) AnyFault) → IsReading bytes a → IsReading bytes b → a ≡ b }
+    // A file that spells policies has no fault.
+    ensures apart { (bytes : List ℕ) (ps : List AnyPolicy) (f : AnyFault) → Spells bytes ps → HasFault bytes f → ⊥ }
 {}

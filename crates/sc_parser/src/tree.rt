@@ -11,76 +11,75 @@ use std::alloc::{AllocError, Global};
 pub(crate) fn choice(
     alloc: Global,
     place: Place,
-    condition: Expr,
-    first: Expr,
-    second: Expr,
-) -> Result<Expr, AllocError>
+    condition: Boxed<Expr>,
+    first: Boxed<Expr>,
+    second: Boxed<Expr>,
+) -> Result<Boxed<Expr>, AllocError>
     ensures { IfOk result (λ x. x ≡ expr.If place condition first second) }
 {
-    Ok(Expr::If(
-        place,
-        Boxed::new(alloc, condition)?,
-        Boxed::new(alloc, first)?,
-        Boxed::new(alloc, second)?,
-    ))
+    Boxed::new(alloc, Expr::If(place, condition, first, second))
 }
 
 /// A test for attributes.
 pub(crate) fn has(
     alloc: Global,
     place: Place,
-    a: Expr,
+    a: Boxed<Expr>,
     names: Seq<Text>,
-) -> Result<Expr, AllocError>
+) -> Result<Boxed<Expr>, AllocError>
     ensures { IfOk result (λ x. x ≡ expr.Has place a names) }
 {
-    Ok(Expr::Has(place, Boxed::new(alloc, a)?, names))
+    Boxed::new(alloc, Expr::Has(place, a, names))
 }
 
 /// A test by a pattern.
-pub(crate) fn like(alloc: Global, place: Place, a: Expr, parts: &[Part]) -> Result<Expr, AllocError>
+pub(crate) fn like(
+    alloc: Global,
+    place: Place,
+    a: Boxed<Expr>,
+    parts: &[Part],
+) -> Result<Boxed<Expr>, AllocError>
     ensures { IfOk result (λ x. x ≡ expr.Like place a parts.now) }
 {
     let pattern = pattern_of(alloc, parts)?;
-    Ok(Expr::Like(place, Boxed::new(alloc, a)?, pattern))
+    Boxed::new(alloc, Expr::Like(place, a, pattern))
 }
 
 /// A test of the type.
 pub(crate) fn is(
     alloc: Global,
     place: Place,
-    a: Expr,
+    a: Boxed<Expr>,
     type_name: TypeName,
-) -> Result<Expr, AllocError>
+) -> Result<Boxed<Expr>, AllocError>
     ensures { IfOk result (λ x. x ≡ expr.Is place a type_name) }
 {
-    Ok(Expr::Is(place, Boxed::new(alloc, a)?, type_name))
+    Boxed::new(alloc, Expr::Is(place, a, type_name))
 }
 
 /// A test of the type and of what the entity is in.
 pub(crate) fn is_in(
     alloc: Global,
     place: Place,
-    a: Expr,
+    a: Boxed<Expr>,
     type_name: TypeName,
     second: Place,
-    b: Expr,
-) -> Result<Expr, AllocError>
+    b: Boxed<Expr>,
+) -> Result<Boxed<Expr>, AllocError>
     ensures { IfOk result (λ x. x ≡ expr.IsIn place a type_name second b) }
 {
-    Ok(Expr::IsIn(
-        place,
-        Boxed::new(alloc, a)?,
-        type_name,
-        second,
-        Boxed::new(alloc, b)?,
-    ))
+    Boxed::new(alloc, Expr::IsIn(place, a, type_name, second, b))
 }
 
 /// The access to an attribute.
-pub(crate) fn access(alloc: Global, place: Place, a: Expr, name: &str) -> Result<Expr, AllocError>
+pub(crate) fn access(
+    alloc: Global,
+    place: Place,
+    a: Boxed<Expr>,
+    name: &str,
+) -> Result<Boxed<Expr>, AllocError>
     ensures { IfOk result (λ x. x ≡ expr.Access place a name.now) }
 {
     let name = Text::from_str(alloc, name)?;
-    Ok(Expr::Access(place, Boxed::new(alloc, a)?, name))
+    Boxed::new(alloc, Expr::Access(place, a, name))
 }

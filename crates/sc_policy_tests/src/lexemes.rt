@@ -68,12 +68,12 @@ fn has_entity(alloc: Global, file: &str, (type_name, id): (&str, &str), end: usi
     }
 }
 
-/// How many names a file begins with, and how much room is left behind them.
+/// How many names a file begins with, and how deep the token behind them lies.
 fn count_of_names(alloc: Global, file: &str) -> Option<(usize, usize)> {
     let list = of_file(alloc, file);
     let mut cursor = Cursor::outside(0);
     match names(alloc, list.as_slice(), &mut cursor) {
-        Ok(found) => Some((found.len(), cursor.room)),
+        Ok(found) => Some((found.len(), cursor.depth)),
         Err(_) => None,
     }
 }
@@ -92,7 +92,7 @@ fn path_stop(alloc: Global, file: &str) -> Option<(Stop, usize)> {
 fn names_and_uids(rt: HostRuntime) {
     let alloc = rt.alloc();
     assert!(rt; has_entity(alloc, "A::B::\"c\" a", ("A::B", "c"), 5));
-    assert!(rt; count_of_names(alloc, "a.b.c A") == Some((3, 999)));
-    assert!(rt; count_of_names(alloc, "\"a b\".c") == Some((1, 1001)));
+    assert!(rt; count_of_names(alloc, "a.b.c A") == Some((3, 2)));
+    assert!(rt; count_of_names(alloc, "\"a b\".c") == Some((1, 0)));
     assert!(rt; path_stop(alloc, "A::in") == Some((Stop::Unexpected, 2)));
 }

@@ -120,13 +120,13 @@ fn is_negated(expr: &Expr) -> bool {
 
 // ---- words
 
-/// `principal has a`.
-fn is_has(expr: &Expr) -> bool {
+/// The names after `principal has`.
+fn names_of(expr: &Expr) -> &[Text] {
     match expr {
-        Expr::Has(place, a, names) => {
-            *place == at(53) && is_principal(a.get(), 43) && is_name(names.as_slice())
+        Expr::Has(place, a, names) if *place == at(53) && is_principal(a.get(), 43) => {
+            names.as_slice()
         }
-        _ => false,
+        _ => &[],
     }
 }
 
@@ -134,6 +134,14 @@ fn is_has(expr: &Expr) -> bool {
 fn is_name(names: &[Text]) -> bool {
     match names {
         [name] => name.as_str() == "a",
+        _ => false,
+    }
+}
+
+/// The names `a`, `b` and `c`.
+fn are_names(names: &[Text]) -> bool {
+    match names {
+        [a, b, c] => a.as_str() == "a" && b.as_str() == "b" && c.as_str() == "c",
         _ => false,
     }
 }
@@ -169,11 +177,11 @@ fn is_in(expr: &Expr) -> bool {
     }
 }
 
-/// `principal.a`.
-fn is_access(expr: &Expr) -> bool {
+/// `principal.a` or `principal["a"]`, of which the dot or the bracket is the place.
+fn is_access(expr: &Expr, attribute: &str) -> bool {
     match expr {
         Expr::Access(place, a, name) => {
-            *place == at(52) && is_principal(a.get(), 43) && name.as_str() == "a"
+            *place == at(52) && is_principal(a.get(), 43) && name.as_str() == attribute
         }
         _ => false,
     }
@@ -186,9 +194,11 @@ enum Tree {
     Unequal,
     Difference,
     Has,
+    HasPath,
     Like,
     IsIn,
     Access,
+    Index,
 }
 
 fn is_tree(expr: &Expr, tree: Tree) -> bool {
@@ -196,10 +206,12 @@ fn is_tree(expr: &Expr, tree: Tree) -> bool {
         Tree::Truths => is_truths(expr),
         Tree::Unequal => is_unequal(expr),
         Tree::Difference => is_difference(expr),
-        Tree::Has => is_has(expr),
+        Tree::Has => is_name(names_of(expr)),
+        Tree::HasPath => are_names(names_of(expr)),
         Tree::Like => is_like(expr),
         Tree::IsIn => is_in(expr),
-        Tree::Access => is_access(expr),
+        Tree::Access => is_access(expr, "a"),
+        Tree::Index => is_access(expr, "a b"),
     }
 }
 
@@ -224,9 +236,12 @@ const TREES: &[(&str, Tree)] = &[
     ("true != true", Tree::Unequal),
     ("-9223372036854775808 - -1", Tree::Difference),
     ("principal has a", Tree::Has),
+    ("principal has \"a\"", Tree::Has),
+    ("principal has a.b.c", Tree::HasPath),
     ("principal like \"\\**\"", Tree::Like),
     ("principal is A::T in principal", Tree::IsIn),
     ("principal.a", Tree::Access),
+    ("principal[\"a b\"]", Tree::Index),
 ];
 
 #[test]
