@@ -1,12 +1,12 @@
 -- What is on a trail was reached by decisions and unit propagation.
-use Rattle.std.proofs.Common.{◌≡◌, ◌≢◌, inl, inr, ⊎_elim, ℕ, zero, suc, ◌+◌, ◌<◌, ◌≤◌, List, [], ◌∷◌, Bool, true, false, length, get_or, refl, sym, ap, ◌∙◌, subst, true≢false, arith}
+use Rattle.std.proofs.Common.{◌≡◌, ◌≢◌, inl, inr, ⊎_elim, ℕ, zero, suc, ◌+◌, ◌<◌, ◌≤◌, List, [], ◌∷◌, Bool, true, false, length, get_or, refl, sym, ◌∙◌, subst, true≢false, arith}
 use Rattle.std.specs.List.{Contains}
 use Rattle.std.proofs.lemmas.List.{get_or_default}
 use Rattle.sc_lists.proofs.ListLaws.{contains_nothing, contains_first}
 use Rattle.sc_clauses.specs.Clauses.{negation, Clause}
 use Rattle.sc_clauses.specs.declared.lit.Lit.{Lit}
-use Rattle.sc_search.specs.Propagation.{IsSettledBy, AreFalseBy, IsReached, at_first, implied, decided, FallsBy, HasConflict}
-use Rattle.sc_search.specs.Readings.{AreFalse, IsFalsified}
+use Rattle.sc_search.specs.Propagation.{IsSettledBy, IsReached, at_first, implied, decided, FallsBy, HasConflict}
+use Rattle.sc_search.specs.Readings.{IsFalsified}
 use Rattle.sc_search.specs.Steps.{At}
 use Rattle.sc_search.specs.Trails.{true_before, cell_of, IsQuiet, AreQuiet, IsTrail}
 use Rattle.sc_search.specs.declared.cell.Cell.{Cell}
