@@ -1,5 +1,5 @@
--- Counts of faults: a failure is never answered without one.
-use Rattle.std.specs.Prelude.{◌≡◌, ℕ, ◌+◌, ◌-◌, ◌^◌, ◌≤◌, min}
+-- Counts of faults: a failure is never answered without one, and none is passed over.
+use Rattle.std.specs.Prelude.{◌≡◌, ℕ, ◌+◌, ◌-◌, ◌^◌, ◌<◌, ◌≤◌, min}
 
 -- where a count stands still
 abbrev pub last_count : ℕ
@@ -13,10 +13,11 @@ next_count count = min (count + 1) last_count
 abbrev pub Rose : ℕ → ℕ → Type 0
 Rose before now = next_count before ≤ now
 
--- what a call does to a count: it never falls, and it rose where the call failed
+-- what a call does to a count: it never falls, it rose where the call failed, and where it went up the call failed
 pub record Counts (before now : ℕ) (failed : Type 0) : Type 0 where
   pub later : before ≤ now
   pub rose : failed → Rose before now
+  pub told : before < now → failed
 
 -- what a call does to a count of failed calls: one more where the call failed, else none
 pub record CountsFailure (before now : ℕ) (failed : Type 0) : Type 0 where

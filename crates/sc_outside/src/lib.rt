@@ -1,8 +1,8 @@
 //! What lies outside the program: named files, and a place to write to.
 //!
 //! `Files` tells what a file holds and `Sink` what was written, where that can be told: of files and
-//! a sink in memory it is, of those of the system nothing is. Either way a failure is answered only
-//! where a count of faults rose in that call.
+//! a sink in memory it is, of those of the system nothing is. Either way a failure is answered where
+//! a count of faults rose in that call, and only there.
 #![tactic(auto)]
 
 mod count;

@@ -17,7 +17,7 @@ pub trait Files {
 
     /// All bytes of a file, which may have `limit` of them.
     ///
-    /// `TooLong` comes where it has more, and `Failed` only where the source failed in this call.
+    /// `TooLong` comes where it has more, and `Failed` where the source failed in this call: no failure is passed over.
     fn read(&mut self, alloc: Global, name: &str, limit: u64) -> Result<Vec<u8>, FileFault>
         ensures told { IfSome (content self.old name.now) (λ bytes. Reads bytes limit result) }
         ensures within { IfOk result (λ bytes. length bytes.items ≤ limit) }
@@ -38,8 +38,8 @@ pub trait Sink {
 
     /// Writes a piece behind all that was written.
     ///
-    /// `Failed` comes only where the sink failed in this call, and then a front of the piece may have
-    /// been written. Where memory runs out nothing was.
+    /// `Failed` comes where the sink failed in this call, and then a front of the piece may have been written: no failure is
+    /// passed over. Where memory runs out nothing was.
     fn write(&mut self, piece: &[u8]) -> Result<(), SinkFault>
         ensures text { Writes (written self.old) (written self.new) piece.now result }
         ensures counts { Counts (faults self.old) (faults self.new) (result ≡ Err SinkFault.Failed) };

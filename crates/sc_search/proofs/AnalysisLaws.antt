@@ -22,7 +22,7 @@ use Rattle.sc_clauses.proofs.LitLaws.{negation_twice, bool_eq-true}
 use Rattle.sc_search.proofs.LitLaws.{lit-of, nat-cases, lit-cases, below-or, tail-has, cons-cases}
 
 -- a literal that is true before place i + 1 is the one at i, or is true before i
-before-cases : (cells : List Cell) (trail : List Lit) → Agree cells trail → (i : ℕ) (l m : Lit) → At trail i l → true_before cells (i + 1) m ≡ true → (l ≡ m) ⊎ (true_before cells i m ≡ true)
+pub before-cases : (cells : List Cell) (trail : List Lit) → Agree cells trail → (i : ℕ) (l m : Lit) → At trail i l → true_before cells (i + 1) m ≡ true → (l ≡ m) ⊎ (true_before cells i m ≡ true)
 before-cases cells trail h i l m at b =
     let w = before-at cells m (i + 1) b in
     let j : ℕ = w.0 in

@@ -7,4 +7,5 @@ mod ReadingLaws
 mod VisitLaws
 mod AnalysisLaws
 mod BackjumpLaws
+mod DueLaws
 mod SearchLaws

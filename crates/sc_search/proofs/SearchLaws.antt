@@ -1,5 +1,5 @@
 -- What the search's last state tells, and what a step more keeps.
-use Rattle.std.proofs.Common.{◌≡◌, ◌≢◌, ⊎_elim, ℕ, zero, suc, ◌+◌, ◌-◌, ◌<◌, ◌≤◌, List, [], ◌∷◌, ◌++◌, Bool, true, false, not, cond, eqb, length, map, drop, get_or, slice_get, Option, None, Result, Ok, Err, IfOk, refl, sym, ap, ◌∙◌, subst, true≢false, arith}
+use Rattle.std.proofs.Common.{◌≡◌, ◌≢◌, inl, inr, ⊎_elim, ℕ, zero, suc, ◌+◌, ◌-◌, ◌<◌, ◌≤◌, List, [], ◌∷◌, ◌++◌, Bool, true, false, not, cond, eqb, length, map, drop, get_or, slice_get, Option, None, Result, Ok, Err, IfOk, refl, sym, ap, ◌∙◌, subst, true≢false, arith}
 use Rattle.std.specs.Prelude.{option_and_then, IsSome}
 use Rattle.std.specs.List.{Contains}
 use Rattle.std.proofs.lemmas.Bool.{ne_eqb, false_from_ne_true}
@@ -13,7 +13,7 @@ use Rattle.sc_clauses.specs.declared.lit.Lit.{Lit}
 use Rattle.sc_clauses.specs.declared.step.Instance as instance
 use Rattle.sc_clauses.specs.declared.step.Step.{Step}
 use Rattle.sc_clauses.specs.declared.step.Step.TheVariants.{Instance, Learned}
-use Rattle.sc_search.specs.Findings.{IsUnit, AreUnits, no_step, first_step, IsRefutation, IsSpent, IsConsistent}
+use Rattle.sc_search.specs.Findings.{IsUnit, AreUnits, no_step, first_step, IsRefutation, IsSpent, IsConsistent, IsDue}
 use Rattle.sc_search.specs.Occurrences.{ListsAll}
 use Rattle.sc_search.specs.Propagation.{IsNew}
 use Rattle.sc_search.specs.Steps.{AreListed, IsLawful, added, after}
@@ -27,6 +27,7 @@ use Rattle.sc_search.specs.declared.solver.Turn.{Turn}
 use Rattle.sc_search.specs.declared.solver.Turn.TheVariants as turn
 use Rattle.sc_search.proofs.BackjumpLaws.{in-cells-of-false, clause-of-false}
 use Rattle.sc_search.proofs.CellLaws.{consistent}
+use Rattle.sc_search.proofs.DueLaws.{falls}
 use Rattle.sc_clauses.proofs.LitLaws.{bool_eq-true, negation_twice}
 use Rattle.sc_search.proofs.LitLaws.{cons-cases, nil-of}
 use Rattle.sc_search.proofs.NewnessLaws.{new-by, ok-conflict, uncovered}
@@ -146,6 +147,10 @@ module _ (accepts : instance.Instance → Bool) (clause_of : instance.Instance �
     pub told-lawful : IsLawful atoms accepts clause_of s.clauses.items (Instance i)
     told-lawful = (accepted, clause-of-false s.trail.cells.items s.trail.lits.items (length s.trail.lits.items) atoms (clause_of i) ready.trail.sized ready.trail.agree all-false)
 
+    -- one more step is due
+    pub told-due : IsDue accepts clause_of s.clauses.items
+    told-due = inr (i, accepted, falls (atoms + 1) s.clauses.items s.trail.cells.items s.trail.lits.items s.trail.levels.items ready.trail (clause_of i) all-false)
+
     pub told-unit : clause_of i ≢ [] → IsUnit atoms accepts clause_of s.clauses.items (Instance i)
     told-unit some =
         let is_new = new-of-false s total (clause_of i) all-false some in
@@ -211,8 +216,12 @@ module _ (accepts : instance.Instance → Bool) (clause_of : instance.Instance �
             within = omega arith;
           }
 
-      pub spent : new.steps.items ≡ old.steps.items → length old.steps.items ≡ budget → IsSpent atoms accepts clause_of given budget new.steps.items
-      spent e count = (ap length e ∙ count, subst (λ (ss : List Step). AreUnits atoms accepts clause_of given ss) (sym e) h.are_units)
+      pub spent : new.steps.items ≡ old.steps.items → length old.steps.items ≡ budget → IsDue accepts clause_of old.clauses.items → IsSpent atoms accepts clause_of given budget new.steps.items
+      spent e count due = record {
+        count = ap length e ∙ count;
+        are_units = subst (λ (ss : List Step). AreUnits atoms accepts clause_of given ss) (sym e) h.are_units;
+        due = subst (λ (ss : List Step). IsDue accepts clause_of (after clause_of given ss)) (sym e) (subst (λ (cs : List Clause). IsDue accepts clause_of cs) h.clauses_are due);
+      }
 
       -- what falsifies none of all clauses falsifies none of those given
       pub consistent-given : (m : Assignment) → IsConsistent atoms accepts clause_of old.clauses.items m → IsConsistent atoms accepts clause_of given m
@@ -231,7 +240,7 @@ settled-turn accepts clause_of n atoms cs cs' ss ss' budget s t e same_cs same_s
   by turn.Added k = (learned-added accepts clause_of n atoms cs ss s e k.0, k.1)
   by turn.Refuted k = (refuted-ended accepts clause_of atoms cs ss s k.0, k.1)
   by (turn.Consistent m) k = absurd k
-  by turn.Spent k = k
+  by turn.Spent k = (k.0, k.1, inl k.2)
 
 pub settled-result : {E : Type 0} (accepts : instance.Instance → Bool) (clause_of : instance.Instance → Clause) (n atoms : ℕ) (cs cs' : List Clause) (ss ss' : List Step) (budget : ℕ) (s : Solver) (r : Result Turn E) → n ≡ atoms + 1 → cs' ≡ cs → ss' ≡ ss
     → IfOk r (λ t. HasSettled n cs' ss' budget s t) → IfOk r (λ t. IsTurn atoms accepts clause_of cs ss budget s t)

@@ -1,5 +1,5 @@
 -- What a search finds.
-use Rattle.std.specs.Prelude.{◌≡◌, ◌≢◌, ◌≤◌, ◌++◌, ⊤, ℕ, List, [], ◌∷◌, Bool, true, false, IsSome, length}
+use Rattle.std.specs.Prelude.{◌≡◌, ◌≢◌, ◌≤◌, ◌⊎◌, ◌++◌, ⊤, ℕ, List, [], ◌∷◌, Bool, true, false, IsSome, length}
 use Rattle.std.specs.List.{Contains}
 use Rattle.sc_clauses.specs.declared.step.Instance.{Instance}
 use Rattle.sc_clauses.specs.declared.step.Step.{Step}
@@ -7,7 +7,7 @@ use Rattle.sc_clauses.specs.Assignments.{Assignment, value_of, falsifies}
 use Rattle.sc_clauses.specs.Clauses.{Clause, contained}
 use Rattle.sc_search.specs.declared.searching.Found.{Found}
 use Rattle.sc_search.specs.declared.searching.Found.TheVariants.{Refuted, Consistent, Spent}
-use Rattle.sc_search.specs.Propagation.{IsNew}
+use Rattle.sc_search.specs.Propagation.{IsNew, FallsBy, HasConflict}
 use Rattle.sc_search.specs.Steps.{added, after, IsLawful}
 
 -- A unit: a lawful step, whose clause isn't empty, has not all literals of a clause before it, and is new to propagation.
@@ -33,9 +33,15 @@ pub record IsRefutation (atoms : ℕ) (accepts : Instance → Bool) (clause_of :
   pub are_all : steps ≡ units ++ last ∷ []
   pub within : length steps ≤ budget
 
--- as many units as the budget
-abbrev pub IsSpent : ℕ → (Instance → Bool) → (Instance → Clause) → List Clause → ℕ → List Step → Type 0
-IsSpent atoms accepts clause_of clauses budget steps = (length steps ≡ budget) × AreUnits atoms accepts clause_of clauses steps
+-- One more step is due: decisions and unit propagation falsify one of the clauses, or that of an accepted instance.
+abbrev pub IsDue : (Instance → Bool) → (Instance → Clause) → List Clause → Type 0
+IsDue accepts clause_of clauses = HasConflict clauses ⊎ ((i : Instance) × (accepts i ≡ true) × FallsBy clauses (clause_of i))
+
+-- as many units as the budget, after which one more step is due
+pub record IsSpent (atoms : ℕ) (accepts : Instance → Bool) (clause_of : Instance → Clause) (clauses : List Clause) (budget : ℕ) (steps : List Step) : Type 0 where
+  pub count : length steps ≡ budget
+  pub are_units : AreUnits atoms accepts clause_of clauses steps
+  pub due : IsDue accepts clause_of (after clause_of clauses steps)
 
 -- each atom has a value, and neither a clause given nor that of an accepted instance is falsified
 pub record IsConsistent (atoms : ℕ) (accepts : Instance → Bool) (clause_of : Instance → Clause) (clauses : List Clause) (m : Assignment) : Type 0 where

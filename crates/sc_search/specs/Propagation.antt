@@ -1,5 +1,5 @@
--- Unit propagation, and which clauses are new to it.
-use Rattle.std.specs.Prelude.{◌≡◌, ◌≢◌, List}
+-- Unit propagation, which clauses are new to it, and where decisions and it reach a conflict.
+use Rattle.std.specs.Prelude.{◌≡◌, ◌≢◌, ◌⊎◌, List, [], ◌∷◌}
 use Rattle.std.specs.List.{Contains}
 use Rattle.sc_clauses.specs.declared.lit.Lit.{Lit}
 use Rattle.sc_clauses.specs.Clauses.{Clause, negation}
@@ -21,3 +21,27 @@ IsNewBy clauses c l = (Contains c l) × (¬ Follows clauses c l l) × (¬ Confli
 -- c is new to propagation by one of its literals
 abbrev pub IsNew : List Clause → Clause → Type 0
 IsNew clauses c = (l : Lit) × IsNewBy clauses c l
+
+-- a literal of the clause is true, or two aren't false, where these are the literals that are true
+abbrev pub IsSettledBy : List Lit → Clause → Type 0
+IsSettledBy known c =
+    ((y : Lit) × Contains c y × Contains known y)
+    ⊎ ((y : Lit) × (z : Lit) × Contains c y × Contains c z × (y ≢ z) × ¬ Contains known (negation y) × ¬ Contains known (negation z))
+
+abbrev pub AreFalseBy : List Lit → Clause → Type 0
+AreFalseBy known c = (m : Lit) → Contains c m → Contains known (negation m)
+
+-- What decisions and unit propagation make true, the latest literal first: each is the one literal of a clause whose others are false by
+-- then, or a decision. That isn't false, and is made only where propagation has nothing more to give and no clause is falsified.
+pub data IsReached (clauses : List Clause) : List Lit → Type 0 where
+  at_first : IsReached clauses []
+  implied : (known : List Lit) (c : Clause) (l : Lit) → IsReached clauses known → Contains clauses c → Contains c l → ((m : Lit) → Contains c m → m ≢ l → Contains known (negation m)) → IsReached clauses (l ∷ known)
+  decided : (known : List Lit) (l : Lit) → IsReached clauses known → ((c : Clause) → Contains clauses c → IsSettledBy known c) → ¬ Contains known (negation l) → IsReached clauses (l ∷ known)
+
+-- they make all literals of this clause false
+abbrev pub FallsBy : List Clause → Clause → Type 0
+FallsBy clauses c = (known : List Lit) × IsReached clauses known × AreFalseBy known c
+
+-- they make all literals of one of the clauses false
+abbrev pub HasConflict : List Clause → Type 0
+HasConflict clauses = (c : Clause) × Contains clauses c × FallsBy clauses c

@@ -10,9 +10,9 @@ use Rattle.sc_search.specs.declared.cell.Cell.TheVariants.{Free, Decided, Implie
 use Rattle.sc_search.specs.declared.solver.Solver.{Solver}
 use Rattle.sc_search.specs.declared.solver.Turn.{Turn}
 use Rattle.sc_search.specs.declared.solver.Turn.TheVariants as turn
-use Rattle.sc_search.specs.Propagation.{IsNew}
+use Rattle.sc_search.specs.Propagation.{IsNew, HasConflict}
 use Rattle.sc_search.specs.Steps.{IsShown, IsLawful, after, added}
-use Rattle.sc_search.specs.Findings.{IsUnit, AreUnits, IsConsistent}
+use Rattle.sc_search.specs.Findings.{IsUnit, AreUnits, IsConsistent, IsDue}
 use Rattle.sc_search.specs.Trails.{true_before, AreQuiet, HoldsTrail, AreInCells, AreAllSet}
 use Rattle.sc_search.specs.Occurrences.{ListsAll}
 use Rattle.sc_search.specs.Readings.{IsFalsified}
@@ -60,7 +60,7 @@ abbrev pub HasSettled : ℕ → List Clause → List Step → ℕ → Solver →
 HasSettled n clauses steps budget s turn.Added = HasLearned n clauses steps s × (length steps ≢ budget)
 HasSettled n clauses steps budget s turn.Refuted = HasRefuted clauses steps s × (length steps ≢ budget)
 HasSettled n clauses steps budget s (turn.Consistent m) = ⊥
-HasSettled n clauses steps budget s turn.Spent = (s.steps.items ≡ steps) × (length steps ≡ budget)
+HasSettled n clauses steps budget s turn.Spent = (s.steps.items ≡ steps) × (length steps ≡ budget) × HasConflict clauses
 
 -- one unit more
 pub record HasAdded (atoms : ℕ) (accepts : instance.Instance → Bool) (clause_of : instance.Instance → Clause) (clauses : List Clause) (steps : List Step) (s : Solver) : Type 0 where
@@ -81,7 +81,7 @@ abbrev pub IsTurn : ℕ → (instance.Instance → Bool) → (instance.Instance 
 IsTurn atoms accepts clause_of clauses steps budget s turn.Added = HasAdded atoms accepts clause_of clauses steps s × (length steps ≢ budget)
 IsTurn atoms accepts clause_of clauses steps budget s turn.Refuted = HasEnded atoms accepts clause_of clauses steps s × (length steps ≢ budget)
 IsTurn atoms accepts clause_of clauses steps budget s (turn.Consistent m) = IsConsistent atoms accepts clause_of clauses m
-IsTurn atoms accepts clause_of clauses steps budget s turn.Spent = (s.steps.items ≡ steps) × (length steps ≡ budget)
+IsTurn atoms accepts clause_of clauses steps budget s turn.Spent = (s.steps.items ≡ steps) × (length steps ≡ budget) × IsDue accepts clause_of clauses
 
 -- the search so far: units after the clauses given, as many as the budget at most
 pub record IsSearching (atoms : ℕ) (accepts : instance.Instance → Bool) (clause_of : instance.Instance → Clause) (clauses : List Clause) (budget : ℕ) (s : Solver) : Type 0 where

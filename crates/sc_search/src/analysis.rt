@@ -1,5 +1,5 @@
-//! Conflict analysis: the clause that a conflict shows, by resolving back to the first literal of the level that alone
-//! is met there, the first unique implication point.
+//! Conflict analysis: the clause that a conflict shows, by resolving back along the trail until one literal of the level
+//! alone is met there, a unique implication point.
 ghost use Rattle.std.specs.Prelude.{false, replicate, ◌≡◌, ◌⊎◌, ◌+◌, ◌-◌, ◌<◌, ◌≤◌, ◌++◌, [], ◌∷◌, length, slice_set, slice_index_or, IfOk, IsTrue, List, ℕ, true};
 ghost use Rattle.std.specs.List.{Contains};
 ghost use Rattle.sc_clauses.specs.Clauses.{negation};
@@ -178,7 +178,7 @@ impl Trail {
         self.none_met(&analysis.met, first, i)
     }
 
-    /// Resolves back to the first literal of the level that alone is met there: its place.
+    /// Resolves back until one literal of the level alone is met there: its place.
     fn walk(
         &self,
         clauses: &[Clause],

@@ -20,7 +20,7 @@ pub enum Found {
     Refuted(Seq<Step>),
     /// An assignment of all atoms that falsifies nothing.
     Consistent(Assignment),
-    /// As many units as the budget.
+    /// As many units as the budget, where one more step is due.
     Spent(Seq<Step>),
 }
 
@@ -41,7 +41,7 @@ pub fn search<S: Source>(
     ensures refuted { IfOk result (λ f. IfRefuted (IsRefutation atoms (S.accepts source.now) (S.clause_of source.now) clauses budget) f) }
     // The assignment is total, and falsifies neither a clause given nor one of the source.
     ensures consistent { IfOk result (λ f. IfConsistent (IsConsistent atoms (S.accepts source.now) (S.clause_of source.now) clauses) f) }
-    // The steps are as many units as the budget.
+    // The steps are as many units as the budget, and one more is due: the search has made all literals of a clause false.
     ensures spent { IfOk result (λ f. IfSpent (IsSpent atoms (S.accepts source.now) (S.clause_of source.now) clauses budget) f) }
 {
     let mut solver = Solver::new(alloc, atoms, clauses)?;

@@ -1,5 +1,5 @@
 -- Why the solver's answers are right.
-use Rattle.std.proofs.Common.{◌≡◌, ◌-◌, ◌<◌, ◌≤◌, ◌^◌, ℕ, nat_lt, List, [], map, length, Bool, true, Contains, slice_index_or, refl, sym, subst, arith, IsTrue}
+use Rattle.std.proofs.Common.{◌≡◌, ◌-◌, ◌<◌, ◌≤◌, ◌^◌, ◌++◌, ⊎_elim, ℕ, nat_lt, List, [], map, length, Bool, true, Contains, slice_index_or, refl, sym, subst, arith, IsTrue}
 use Rattle.std.specs.List.{list_all}
 use Rattle.std.specs.Str.{bytes_eq}
 use Rattle.std.proofs.lemmas.Bool.Decides.{nat_tests}
@@ -10,6 +10,7 @@ use Rattle.sc_clauses.specs.declared.step.Step.{Step}
 use Rattle.sc_clauses.specs.Clauses.{Clause}
 use Rattle.sc_clauses.specs.Assignments.{Assignment}
 use Rattle.sc_world.specs.declared.world.World.{World}
+use Rattle.sc_search.specs.Propagation.{HasConflict}
 use Rattle.sc_search.specs.Steps.{AreListed, added}
 use Rattle.sc_search.specs.declared.searching.Found.{Found}
 use Rattle.sc_search.specs.declared.searching.Found.TheVariants.{Refuted, Consistent, Spent}
@@ -97,18 +98,23 @@ module _ (p : Posed) (accepts : Instance → Bool) (clause_of : Instance → Cla
     pub refuted_writable : (budget : ℕ) (steps : List Step) → found.IsRefutation (length (atoms p)) accepts clause_of (defining p) budget steps → IsTrue (list_all is_writable steps)
     refuted_writable budget steps r = refutation_writable (length (atoms p)) accepts clause_of none (defining p) budget steps r
 
+    -- no rule gives a clause, so what is due is a conflict
+    conflict_due : (clauses : List Clause) → found.IsDue accepts clause_of clauses → HasConflict clauses
+    conflict_due clauses due = ⊎_elim (λ h. h) (λ x. absurd (none x.0 x.1)) due
+
     pub spent : (budget : ℕ) (steps : List Step) → found.IsSpent (length (atoms p)) accepts clause_of (defining p) budget steps → IsSpent (rules_of p) p budget steps
     spent budget steps s =
         record {
           clauses = map (added clause_of) steps;
-          steps_add = units_add (length (atoms p)) accepts clause_of none (rules_of p) (defining p) steps s.1;
-          count = s.0;
-          are_units = units_are (length (atoms p)) accepts clause_of none (defining p) steps s.1;
-          hold = λ w c sat h. units_hold (length (atoms p)) accepts clause_of none (truths p w) (defining p) steps (all_true w sat) s.1 c (has_right (defining p) (map (added clause_of) steps) c (has_of (map (added clause_of) steps) c h));
+          steps_add = units_add (length (atoms p)) accepts clause_of none (rules_of p) (defining p) steps s.are_units;
+          count = s.count;
+          are_units = units_are (length (atoms p)) accepts clause_of none (defining p) steps s.are_units;
+          hold = λ w c sat h. units_hold (length (atoms p)) accepts clause_of none (truths p w) (defining p) steps (all_true w sat) s.are_units c (has_right (defining p) (map (added clause_of) steps) c (has_of (map (added clause_of) steps) c h));
+          due = conflict_due (defining p ++ map (added clause_of) steps) s.due;
         }
 
     pub spent_writable : (budget : ℕ) (steps : List Step) → found.IsSpent (length (atoms p)) accepts clause_of (defining p) budget steps → IsTrue (list_all is_writable steps)
-    spent_writable budget steps s = units_writable (length (atoms p)) accepts clause_of none (defining p) steps s.1
+    spent_writable budget steps s = units_writable (length (atoms p)) accepts clause_of none (defining p) steps s.are_units
 
 -- in the rebuilt world the goal is true
 pub violated : (p : Posed) (m : Assignment) (w : World) → IsLevel → AreLawful p → IsPosed p → IsKnown p → IsConsistent (rules_of p) p m → IsRebuilt p m w → IsWorldOf p w → Satisfies p w

@@ -13,7 +13,7 @@ abbrev pub rules_of : Posed → Rules
 rules_of p = record { accepts = is_definition p; clause_of = definition_clause p }
 
 -- an accepted log of at most so many steps, so that the goal is true in no well-formed world; a well-formed world in which it is; or a
--- log of as many units as the budget
+-- log of as many units as the budget, where one more is due
 abbrev pub IsSolution : Posed → ℕ → Solved → Type 0
 IsSolution p budget (Refuted log) = IsAccepted (rules_of p) p log × (length log ≤ budget) × IsUnsatisfiable p
 IsSolution p budget (Violated w) = Satisfies p w

@@ -21,12 +21,13 @@ pub enum Solved {
     Refuted(Log),
     /// A well-formed world in which the goal is true.
     Violated(World),
-    /// A log of as many units as the budget.
+    /// A log of as many units as the budget, where one more step is due.
     Spent(Log),
 }
 
 /// A log that refutes the problem's goal, or a well-formed world in which the goal is true, or a
-/// log of as many units as the budget, each of them lawful and new. Want of memory is its one fault.
+/// log of as many units as the budget, each of them lawful and new, where one more step is due. Want of memory is its one
+/// fault.
 pub fn solve(alloc: Global, problem: &Problem<'_>, budget: u64) -> Result<Solved, AllocError>
     requires few { length (atoms problem.now) ≤ most_atoms }
     requires budget { budget ≤ 1000000000 }

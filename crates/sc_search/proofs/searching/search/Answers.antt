@@ -2,7 +2,7 @@ use Rattle.std.proofs.Common.{◌≡◌, ◌≢◌, ◌+◌, ◌-◌, ℕ, List,
 use Rattle.sc_clauses.specs.declared.step.Step.{Step}
 use Rattle.sc_search.proofs.SearchLaws.{consistent-given, count-after, count-more, listed-in-cells, refutation, searching-begins, searching-more, spent}
 use Rattle.sc_search.proofs.searching.search.Goals as goal
-use Rattle.sc_search.specs.Findings.{IsConsistent, IsRefutation, IsSpent}
+use Rattle.sc_search.specs.Findings.{IsConsistent, IsDue, IsRefutation, IsSpent}
 use Rattle.sc_search.specs.Turns.{HasAdded, HasEnded, IsReady, IsTurn}
 use Rattle.sc_search.specs.declared.solver.Turn.{Turn}
 use Rattle.sc_search.specs.declared.solver.Turn.TheVariants as turn
@@ -100,7 +100,7 @@ returns-in-Spent-clause-spent g c =
     let K = g.S.Source.clause_of c.args.source.now in
     let s = c.turns.solver in
     let n = length s.trail.cells.items in
-    let fact : (c.turn.new.self.steps.items ≡ s.steps.items) × (length s.steps.items ≡ c.args.budget) =
+    let fact : (c.turn.new.self.steps.items ≡ s.steps.items) × (length s.steps.items ≡ c.args.budget) × IsDue A K s.clauses.items =
     subst (λ (t : Turn). IsTurn (n - 1) A K s.clauses.items s.steps.items c.args.budget c.turn.new.self t) c.in-Spent.is c.in_ok-turn.ensures in
     subst (λ (ss : List Step). IsSpent c.args.atoms A K c.args.clauses c.args.budget ss) (sym c.into_steps-in-Spent.ensures)
-    (spent A K c.args.atoms c.args.clauses c.args.budget s c.turn.new.self c.turns.invariant fact.0 fact.1)
+    (spent A K c.args.atoms c.args.clauses c.args.budget s c.turn.new.self c.turns.invariant fact.0 fact.1 fact.2)

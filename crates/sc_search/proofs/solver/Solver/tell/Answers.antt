@@ -1,9 +1,9 @@
-use Rattle.std.proofs.Common.{◌≡◌, ◌+◌, ◌-◌, ◌<◌, ℕ, [], ◌∷◌, ◌++◌, length, subst, sym, ap, ◌∙◌, true≢false, eqb, true, false, arith}
+use Rattle.std.proofs.Common.{◌≡◌, ◌+◌, ◌-◌, ◌<◌, ℕ, [], ◌∷◌, ◌++◌, length, refl, subst, sym, ap, ◌∙◌, true≢false, eqb, true, false, arith}
 use Rattle.std.proofs.lemmas.Bool.Decides.{Decides-eqb}
 use Rattle.sc_clauses.specs.Clauses.{Clause}
 use Rattle.sc_clauses.specs.declared.step.Step.TheVariants.{Instance}
 use Rattle.sc_search.proofs.LitLaws.{nil-of}
-use Rattle.sc_search.proofs.SearchLaws.{told-in-cells, told-lawful, told-unit}
+use Rattle.sc_search.proofs.SearchLaws.{told-due, told-in-cells, told-lawful, told-unit}
 use Rattle.sc_search.proofs.solver.Solver.tell.Goals as goal
 use Rattle.sc_search.specs.Trails.{AllInCells}
 use Rattle.sc_search.specs.Turns.{IsReady}
@@ -18,6 +18,17 @@ install-requires-clause-in_cells g c =
     let e : n ≡ n - 1 + 1 = omega arith in
     let ready = subst (λ (m : ℕ). IsReady m s) e c.requires.ready in
     subst (λ (d : Clause). AllInCells n d) (sym (c.in_ok-clause.ensures c.requires.accepted)) (told-in-cells A K (n - 1) s ready c.requires.total c.args.instance c.requires.accepted c.requires.falsified)
+
+pub returns-then-is_spent : goal.returns-then-is_spent
+returns-then-is_spent g c =
+    let A = g.S.Source.accepts c.args.source.now in
+    let K = g.S.Source.clause_of c.args.source.now in
+    let s = c.args.self.now in
+    let n = length s.trail.cells.items in
+    let some : 0 < n = c.requires.some in
+    let e : n ≡ n - 1 + 1 = omega arith in
+    let ready = subst (λ (m : ℕ). IsReady m s) e c.requires.ready in
+    (refl, c.is_spent.ensures.0 c.if-is_spent.true, told-due A K (n - 1) s ready c.requires.total c.args.instance c.requires.accepted c.requires.falsified)
 
 pub returns-then-is_empty : goal.returns-then-is_empty
 returns-then-is_empty g c =
