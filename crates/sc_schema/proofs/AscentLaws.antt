@@ -14,7 +14,7 @@ use Rattle.sc_schema.specs.Lawful.{AreAscending, IsLawfulType, IsLawfulAction, I
 use Rattle.sc_schema.proofs.IndexLaws.{in_order_ascending}
 
 -- what holds of each element holds of the one that is found
-of_found : {X : Type 0} (P : X → Type 0) (test : X → Bool) (xs : List X) → AllByRecursion P xs → IfSome (find test xs) P
+pub of_found : {X : Type 0} (P : X → Type 0) (test : X → Bool) (xs : List X) → AllByRecursion P xs → IfSome (find test xs) P
 of_found P test [] h = tt
 of_found P test (x ∷ xs) h = step (test x) (find test xs) (of_found P test xs h.1) where
   step : (b : Bool) (later : Option _) → IfSome later P → IfSome (cond b (Some x) later) P

@@ -1,8 +1,8 @@
 -- What holds at every level of a type holds of it and at every level of the types inside it, and the other way round.
-use Rattle.std.proofs.Common.{◌≡◌, ℕ, List, [], ◌∷◌, map, refl, sym, ap, subst}
+use Rattle.std.proofs.Common.{◌≡◌, ℕ, List, [], ◌∷◌, map, refl, sym, ap, ◌∙◌, subst}
 use Rattle.std.specs.List.{AllByRecursion}
 use Rattle.sc_schema.specs.declared.ty.Presence.{Presence}
-use Rattle.sc_schema.specs.declared.ty.Ty.{Ty, Ty-F, roll-Ty, map-Ty, every-Ty, every_made-Ty}
+use Rattle.sc_schema.specs.declared.ty.Ty.{Ty, Ty-F, roll-Ty, map-Ty, ind-Ty, every-Ty, every_here-Ty, every_held-Ty, every_made-Ty, out-roll-Ty}
 use Rattle.sc_schema.specs.declared.ty.Ty.TheVariants as ty
 use Rattle.sc_schema.specs.declared.ty.Ty.TheVariants.{rolls-Bool, rolls-Long, rolls-String, rolls-Decimal, rolls-Ip, rolls-Entity, rolls-Set, rolls-Record}
 use Rattle.sc_schema.specs.declared.ty.Ty.TheOpen as t
@@ -50,3 +50,79 @@ module _ (P : Ty-F Ty → Type 0) where
   every_Record fields h hs =
       let p = paired fields hs in
       subst (every-Ty P) (rolls-Record fields) (subst (λ (fs : Fields). every-Ty P (roll-Ty (t.Record fs))) p.1 (made (t.Record p.0) (subst (λ (fs : Fields). P (t.Record fs)) (sym p.1) h)))
+
+  -- ---- and the other way round
+
+  pub every_level : (x : Ty-F Ty) → every-Ty P (roll-Ty x) → P x
+  every_level x h = subst P (out-roll-Ty x) (every_here-Ty P (roll-Ty x) h)
+
+  held : (x : Ty-F Ty) → every-Ty P (roll-Ty x) → (y : Ty-F Held) × (forget y ≡ x)
+  held x h = let p = every_held-Ty P (roll-Ty x) h in (p.0, p.1 ∙ out-roll-Ty x)
+
+  set_member : (x : Ty) (y : Ty-F Held) → forget y ≡ t.Set x → every-Ty P x
+  set_member x t.True e = cc
+  set_member x t.False e = cc
+  set_member x t.Bool e = cc
+  set_member x t.Long e = cc
+  set_member x t.String e = cc
+  set_member x t.Decimal e = cc
+  set_member x t.Ip e = cc
+  set_member x (t.Entity name) e = cc
+  set_member x (t.Set z) e = let same : z.0 ≡ x = cc in subst (every-Ty P) same z.1
+  set_member x (t.Record es) e = cc
+
+  pub every_member : (x : Ty) → every-Ty P (roll-Ty (t.Set x)) → every-Ty P x
+  every_member x h = let p = held (t.Set x) h in set_member x p.0 p.1
+
+  unpaired : (es : List (List ℕ × Presence × Held)) → AllByRecursion (λ (f : List ℕ × Presence × Ty). every-Ty P f.2) (map (λ (e : List ℕ × Presence × Held). (e.0, e.1, e.2.0)) es)
+  unpaired [] = tt
+  unpaired (e ∷ es) = (e.2.1, unpaired es)
+
+  record_fields : (fields : Fields) (y : Ty-F Held) → forget y ≡ t.Record fields → AllByRecursion (λ (f : List ℕ × Presence × Ty). every-Ty P f.2) fields
+  record_fields fields t.True e = cc
+  record_fields fields t.False e = cc
+  record_fields fields t.Bool e = cc
+  record_fields fields t.Long e = cc
+  record_fields fields t.String e = cc
+  record_fields fields t.Decimal e = cc
+  record_fields fields t.Ip e = cc
+  record_fields fields (t.Entity name) e = cc
+  record_fields fields (t.Set z) e = cc
+  record_fields fields (t.Record es) e =
+      let same : map (λ (z : List ℕ × Presence × Held). (z.0, z.1, z.2.0)) es ≡ fields = cc in
+      subst (AllByRecursion (λ (f : List ℕ × Presence × Ty). every-Ty P f.2)) same (unpaired es)
+
+  pub every_field : (fields : Fields) → every-Ty P (roll-Ty (t.Record fields)) → AllByRecursion (λ (f : List ℕ × Presence × Ty). every-Ty P f.2) fields
+  every_field fields h = let p = held (t.Record fields) h in record_fields fields p.0 p.1
+
+-- what follows at each level follows at all
+module _ (P Q : Ty-F Ty → Type 0) (weaker : (x : Ty-F Ty) → P x → Q x) where
+  abbrev Known : Type 0
+  Known = (x : Ty) × (every-Ty P x → every-Ty Q x)
+
+  abbrev known : Ty-F Known → Ty-F Ty
+  known = map-Ty Known Ty (λ k. k.0)
+
+  abbrev known_fields : List (List ℕ × Presence × Known) → Fields
+  known_fields = map (λ (k : List ℕ × Presence × Known). (k.0, k.1, k.2.0))
+
+  each_weaker : (ks : List (List ℕ × Presence × Known)) → AllByRecursion (λ (f : List ℕ × Presence × Ty). every-Ty P f.2) (known_fields ks) → AllByRecursion (λ (f : List ℕ × Presence × Ty). every-Ty Q f.2) (known_fields ks)
+  each_weaker [] h = tt
+  each_weaker (k ∷ ks) h = (k.2.1 h.0, each_weaker ks h.1)
+
+  level_weaker : (y : Ty-F Known) → every-Ty P (roll-Ty (known y)) → every-Ty Q (roll-Ty (known y))
+  level_weaker t.True h = made Q t.True (weaker t.True (every_level P t.True h))
+  level_weaker t.False h = made Q t.False (weaker t.False (every_level P t.False h))
+  level_weaker t.Bool h = made Q t.Bool (weaker t.Bool (every_level P t.Bool h))
+  level_weaker t.Long h = made Q t.Long (weaker t.Long (every_level P t.Long h))
+  level_weaker t.String h = made Q t.String (weaker t.String (every_level P t.String h))
+  level_weaker t.Decimal h = made Q t.Decimal (weaker t.Decimal (every_level P t.Decimal h))
+  level_weaker t.Ip h = made Q t.Ip (weaker t.Ip (every_level P t.Ip h))
+  level_weaker (t.Entity name) h = made Q (t.Entity name) (weaker (t.Entity name) (every_level P (t.Entity name) h))
+  level_weaker (t.Set k) h = subst (every-Ty Q) (sym (rolls-Set k.0)) (every_Set Q k.0 (weaker (t.Set k.0) (every_level P (t.Set k.0) h)) (k.1 (every_member P k.0 h)))
+  level_weaker (t.Record ks) h =
+      let fields = known_fields ks in
+      subst (every-Ty Q) (sym (rolls-Record fields)) (every_Record Q fields (weaker (t.Record fields) (every_level P (t.Record fields) h)) (each_weaker ks (every_field P fields h)))
+
+  pub every_weaker : (x : Ty) → every-Ty P x → every-Ty Q x
+  every_weaker = ind-Ty (λ x. every-Ty P x → every-Ty Q x) (λ x y e. subst (λ z. every-Ty P (roll-Ty z) → every-Ty Q (roll-Ty z)) e (level_weaker y))

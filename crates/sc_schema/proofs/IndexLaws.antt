@@ -27,6 +27,7 @@ use Rattle.sc_lists.proofs.TextLaws.{bytes_eq_swap}
 use Rattle.sc_schema.specs.Lawful.{AreAscending}
 use Rattle.sc_schema.proofs.OrderLaws.{level_itself, above_from_below, below_from_above, sorted_from_strict}
 use Rattle.sc_schema.proofs.PlaceLaws.{all_at, searched}
+use Rattle.sc_schema.proofs.LawfulLaws.{no_names_ascend}
 
 abbrev Names : Type 0
 Names = List (List ℕ)
@@ -124,12 +125,8 @@ ascending-fold : (xs ns : Names) → AreAscending xs → AreAscending (fold with
 ascending-fold xs [] a = a
 ascending-fold xs (n ∷ ns) a = ascending-fold (with_name xs n) ns (ascending-with_name xs n a)
 
-none_ascend : AreAscending []
-unfolding IsStrictlySortedBy
-none_ascend = tt
-
 pub in_order_ascending : (ns : Names) → AreAscending (in_order ns)
-in_order_ascending ns = ascending-fold [] ns none_ascend
+in_order_ascending ns = ascending-fold [] ns no_names_ascend
 
 -- what is put is there, and what was there still is
 put_there : (xs : Names) (n : List ℕ) → Contains (with_name xs n) n

@@ -4,7 +4,7 @@ pub mod IndexLaws
 pub mod EnvironmentLaws
 pub mod EveryTypeLaws
 pub mod LawfulLaws
+pub mod SizesLaws
+pub mod CountedLaws
 pub mod AscentLaws
 pub mod LookupLaws
-pub mod PlainLaws
-pub mod SampleLaws

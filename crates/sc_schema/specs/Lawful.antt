@@ -1,5 +1,5 @@
--- What holds of each schema: what it lists ascends, what it names is declared, ancestors of ancestors are ancestors, and
--- shapes and contexts are record types.
+-- What holds of each schema: what it lists ascends, what it names is declared, ancestors of ancestors are ancestors, shapes
+-- and contexts are record types, and no type is larger than a type may be.
 use Rattle.std.specs.Prelude.{◌≡◌, ℕ, List, [], map, unwrap_or, Contains, false, IsSome, IfSome, ⊤}
 use Rattle.std.specs.List.{AllByRecursion}
 use Rattle.std.specs.List.Sorted.{IsStrictlySortedBy}
@@ -13,6 +13,7 @@ use Rattle.sc_schema.specs.declared.ty.Ty.TheVariants.{Record}
 use Rattle.sc_schema.specs.declared.declarations.EntityType.{EntityType}
 use Rattle.sc_schema.specs.declared.declarations.Action.{Action}
 use Rattle.sc_schema.specs.Declarations.{Declarations, entity_types, action_uids, entity_type, action, is_action_type, ancestor_types, action_ancestors}
+use Rattle.sc_schema.specs.Sizes.{IsSmall}
 
 -- names in ascending order, each once
 abbrev pub AreAscending : List (List ℕ) → Type 0
@@ -25,28 +26,40 @@ IsEntityType s name = IsSome (entity_type s name)
 abbrev pub names_of_fields : List (List ℕ × Presence × Ty) → List (List ℕ)
 names_of_fields = map (λ (f : List ℕ × Presence × Ty). f.0)
 
--- a type, but for the types inside it: the entity type that it names is declared, and its fields ascend
+-- a type, but for the types inside it: the entity type that it names is one of these, and its fields ascend
+abbrev pub IsLevelOver : (List ℕ → Type 0) → Ty-F Ty → Type 0
+IsLevelOver known t.True = ⊥
+IsLevelOver known t.False = ⊥
+IsLevelOver known t.Bool = ⊤
+IsLevelOver known t.Long = ⊤
+IsLevelOver known t.String = ⊤
+IsLevelOver known t.Decimal = ⊤
+IsLevelOver known t.Ip = ⊤
+IsLevelOver known (t.Entity name) = known name
+IsLevelOver known (t.Set member) = ⊤
+IsLevelOver known (t.Record fields) = AreAscending (names_of_fields fields) × AllByRecursion IsUtf8 (names_of_fields fields)
+
+-- a type over these entity types
+abbrev pub IsTypeOver : (List ℕ → Type 0) → Ty → Type 0
+IsTypeOver known = every-Ty (IsLevelOver known)
+
+-- a record type over these entity types
+pub record IsRecordTypeOver (known : List ℕ → Type 0) (type : Ty) : Type 0 where
+  pub fields : List (List ℕ × Presence × Ty)
+  pub record_type : type ≡ Record fields
+  pub proper : IsTypeOver known type
+
+-- the same over the entity types that a schema declares
 abbrev pub IsTypeLevel : Declarations → Ty-F Ty → Type 0
-IsTypeLevel s t.True = ⊥
-IsTypeLevel s t.False = ⊥
-IsTypeLevel s t.Bool = ⊤
-IsTypeLevel s t.Long = ⊤
-IsTypeLevel s t.String = ⊤
-IsTypeLevel s t.Decimal = ⊤
-IsTypeLevel s t.Ip = ⊤
-IsTypeLevel s (t.Entity name) = IsEntityType s name
-IsTypeLevel s (t.Set member) = ⊤
-IsTypeLevel s (t.Record fields) = AreAscending (names_of_fields fields) × AllByRecursion IsUtf8 (names_of_fields fields)
+IsTypeLevel s = IsLevelOver (IsEntityType s)
 
 -- a type that a schema may write
 abbrev pub IsTypeOf : Declarations → Ty → Type 0
-IsTypeOf s = every-Ty (IsTypeLevel s)
+IsTypeOf s = IsTypeOver (IsEntityType s)
 
 -- a record type that a schema may write
-pub record IsRecordTypeOf (s : Declarations) (type : Ty) : Type 0 where
-  pub fields : List (List ℕ × Presence × Ty)
-  pub record_type : type ≡ Record fields
-  pub proper : IsTypeOf s type
+abbrev pub IsRecordTypeOf : Declarations → Ty → Type 0
+IsRecordTypeOf s = IsRecordTypeOver (IsEntityType s)
 
 -- names of declared entity types, in ascending order, each once
 pub record AreEntityTypes (s : Declarations) (names : List (List ℕ)) : Type 0 where
@@ -63,7 +76,9 @@ pub record IsLawfulType (s : Declarations) (t : EntityType) : Type 0 where
   pub above : AreEntityTypes s t.ancestors
   pub closed : AllByRecursion (IsTypeWithin s t.ancestors) t.ancestors
   pub shape_type : IsRecordTypeOf s t.shape
+  pub shape_size : IsSmall t.shape
   pub tag_type : IfSome t.tags (IsTypeOf s)
+  pub tag_size : IfSome t.tags IsSmall
 
 -- the actions that an ancestor is in are among these
 abbrev pub IsActionWithin : Declarations → List Uid → Uid → Type 0
@@ -79,6 +94,7 @@ pub record IsLawfulAction (s : Declarations) (a : Action) : Type 0 where
   pub principal_types : AreEntityTypes s a.principals
   pub resource_types : AreEntityTypes s a.resources
   pub context_type : IsRecordTypeOf s a.context
+  pub context_size : IsSmall a.context
 
 -- what holds of each schema
 pub record IsLawful (s : Declarations) : Type 0 where

@@ -1,5 +1,4 @@
 pub mod Declarations
 pub mod Indices
 pub mod Lawful
-pub mod Plain
-pub mod Samples
+pub mod Sizes

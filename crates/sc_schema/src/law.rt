@@ -1,12 +1,13 @@
 //! Laws of what is listed and what is looked up.
-ghost use Rattle.std.specs.Prelude.{◌≡◌, ℕ, List, ◌↔◌, Some, Contains};
+ghost use Rattle.std.specs.Prelude.{◌≡◌, ◌≤◌, ℕ, List, length, ◌↔◌, Some, Contains, IfSome};
 ghost use Rattle.std.specs.List.Sorted.{IsStrictlySortedBy};
 ghost use Rattle.sc_names.specs.declared.uid.Uid.{Uid as AnyUid};
+ghost use Rattle.sc_schema.specs.declared.ty.Ty.{Ty as AnyTy};
 ghost use Rattle.sc_schema.specs.declared.declarations.EntityType.{EntityType as AnyType};
 ghost use Rattle.sc_schema.specs.declared.declarations.Action.{Action as AnyAction};
-ghost use Rattle.sc_schema.specs.Declarations.{Declarations, environments, env_cmp, in_order, entity_type, action};
+ghost use Rattle.sc_schema.specs.Declarations.{Declarations, environments, env_cmp, in_order, entity_type, action, attrs_of, tags_of, context_of};
 ghost use Rattle.sc_schema.specs.Lawful.{IsLawful, AreAscending};
-ghost use Rattle.sc_schema.specs.Plain.{IsPlain, HasOneEnvironment, PlainLookups};
+ghost use Rattle.sc_schema.specs.Sizes.{levels, nodes, StandsAt, standing, IsSmall};
 
 /// Names in ascending order are just the names given, and ascend; the environments of a schema
 /// ascend, so each comes once.
@@ -25,10 +26,13 @@ pub fn lookup_laws()
     ensures action_declared { (s : Declarations) (u : AnyUid) (a : AnyAction) → action s u ≡ Some a → Contains s.actions a × (u ≡ a.uid) }
 {}
 
-/// Plain declarations make a schema, which has one environment, and declares nothing of the entities
-/// of the types in it.
-pub fn plain_laws()
-    ensures lawful { (s : Declarations) → IsPlain s → IsLawful s }
-    ensures one { (s : Declarations) → IsPlain s → HasOneEnvironment s }
-    ensures lookups { (s : Declarations) (h : IsPlain s) → PlainLookups s h }
+/// The levels of a type are the lowest level at which a type stands in it, and its nodes are all types
+/// that stand in it. Each type that is looked up in a schema has at most 32 levels and 4,096 nodes.
+pub fn size_laws()
+    ensures no_lower { (whole : AnyTy) (n : ℕ) (u : AnyTy) → StandsAt whole n u → n ≤ levels whole }
+    ensures lowest { (whole : AnyTy) → (u : AnyTy) × StandsAt whole (levels whole) u }
+    ensures all_nodes { (n : ℕ) (u : AnyTy) → levels u ≤ n → nodes u ≡ length (standing n u) }
+    ensures attributes { (s : Declarations) (name : List ℕ) → IsLawful s → IfSome (attrs_of s name) IsSmall }
+    ensures tags { (s : Declarations) (name : List ℕ) → IsLawful s → IfSome (tags_of s name) IsSmall }
+    ensures context { (s : Declarations) (u : AnyUid) → IsLawful s → IfSome (context_of s u) IsSmall }
 {}

@@ -9,7 +9,7 @@ mod schema;
 mod ty;
 
 pub use declarations::{Action, EntityType, Env};
-pub use law::{lookup_laws, order_laws, plain_laws};
+pub use law::{lookup_laws, order_laws, size_laws};
 pub use schema::{
     Schema, action_ancestors, actions, ancestor_types, attrs_of, context_of, entity_types,
     environments, is_action_type, tags_of,

@@ -17,7 +17,8 @@ use std::alloc::{AllocError, Global};
 use std::marker::Model;
 
 /// A schema: its entity types, ascending by name, and its actions, ascending by uid. What its
-/// types and actions name is declared, and ancestors of ancestors are ancestors.
+/// types and actions name is declared, ancestors of ancestors are ancestors, and no type of it has more
+/// than 32 levels or 4,096 nodes.
 #[derive(Drop)]
 pub struct Schema {
     types: Seq<EntityType>,

@@ -17,6 +17,7 @@ use Rattle.sc_names.specs.Uids.{text_cmp, uid_cmp}
 use Rattle.sc_names.proofs.UidLaws.{uid_cmp_total}
 use Rattle.sc_schema.specs.Declarations.{Declarations, uid_eq, entity_type, action, is_action_type, ancestor_types, action_ancestors}
 use Rattle.sc_schema.specs.Lawful.{AreEntityTypes, IsEntityType, IsTypeWithin, IsActionWithin, IsLawfulType, IsLawfulAction, IsLawful, IsRecordTypeOf, IsTypeOf}
+use Rattle.sc_schema.specs.Sizes.{IsSmall}
 use Rattle.sc_schema.specs.declared.declarations.Action.{Action}
 use Rattle.sc_schema.specs.declared.declarations.EntityType.{EntityType}
 use Rattle.sc_schema.specs.declared.ty.Ty.{Ty}
@@ -141,8 +142,10 @@ module _ (x : ExpandedSchema) (s : Declarations) (e : IsExpanded x) (made : IsSc
         no_action = no_action t.name named;
         above = record { ascending = d.2.ancestors.ascending; declared = all_of_elements (IsEntityType s) t.ancestors (λ b has. type_known b (above_name ((d.2.ancestors.members b).0 has))) };
         closed = all_of_elements (IsTypeWithin s t.ancestors) t.ancestors (type_closed d.0.name t.ancestors d.2.ancestors);
-        shape_type = subst (IsRecordTypeOf s) (sym d.2.shape) (record_type_of (expanded_names x) s type_known d.0.shape known.shape_type);
-        tag_type = subst (λ (o : Option Ty). IfSome o (IsTypeOf s)) (sym d.2.tags) (tags_of (expanded_names x) s type_known d.0.tags known.tag_type);
+        shape_type = subst (IsRecordTypeOf s) (sym d.2.shape) (record_type_of (Contains (expanded_names x)) (IsEntityType s) type_known d.0.shape known.shape_type);
+        shape_size = subst IsSmall (sym d.2.shape) known.shape_size;
+        tag_type = subst (λ (o : Option Ty). IfSome o (IsTypeOf s)) (sym d.2.tags) (tags_of (Contains (expanded_names x)) (IsEntityType s) type_known d.0.tags known.tag_type);
+        tag_size = subst (λ (o : Option Ty). IfSome o IsSmall) (sym d.2.tags) known.tag_size;
       }
 
   -- ---- actions
@@ -170,7 +173,8 @@ module _ (x : ExpandedSchema) (s : Declarations) (e : IsExpanded x) (made : IsSc
         acyclic = λ has. acyclic d.0.uid ((d.2.ancestors.members d.0.uid).0 (subst (λ (u : Uid). Contains a.ancestors u) d.2.uid has));
         principal_types = types_known d.0.principals a.principals known.principal_types d.2.principals;
         resource_types = types_known d.0.resources a.resources known.resource_types d.2.resources;
-        context_type = subst (IsRecordTypeOf s) (sym d.2.context) (record_type_of (expanded_names x) s type_known d.0.context known.context_type);
+        context_type = subst (IsRecordTypeOf s) (sym d.2.context) (record_type_of (Contains (expanded_names x)) (IsEntityType s) type_known d.0.context known.context_type);
+        context_size = subst IsSmall (sym d.2.context) known.context_size;
       }
 
 pub schema_lawful : (x : ExpandedSchema) (s : Declarations) → IsExpanded x → NoCycle (action_links x.actions) → IsSchemaOf x s → IsLawful s

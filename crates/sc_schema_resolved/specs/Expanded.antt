@@ -1,15 +1,13 @@
 -- What holds of each schema whose common types are written out: what it names is declared, each declaration has a name of
--- its own, and shapes and contexts are record types.
-use Rattle.std.specs.Prelude.{◌≡◌, ℕ, List, map, Contains, false, IfSome, ⊤}
+-- its own, shapes and contexts are record types, and no type is larger than a type may be.
+use Rattle.std.specs.Prelude.{◌≡◌, ℕ, List, map, Contains, false, IfSome}
 use Rattle.std.specs.List.{AllByRecursion, list_any, IsDistinct}
 use Rattle.std.specs.Str.{IsUtf8, bytes_eq}
 use Rattle.sc_names.specs.declared.uid.Uid.{Uid}
-use Rattle.sc_schema.specs.declared.ty.Presence.{Presence}
-use Rattle.sc_schema.specs.declared.ty.Ty.{Ty, Ty-F, every-Ty}
-use Rattle.sc_schema.specs.declared.ty.Ty.TheOpen as t
-use Rattle.sc_schema.specs.declared.ty.Ty.TheVariants.{Record}
+use Rattle.sc_schema.specs.declared.ty.Ty.{Ty}
 use Rattle.sc_schema.specs.Declarations.{uid_eq}
-use Rattle.sc_schema.specs.Lawful.{AreAscending, names_of_fields}
+use Rattle.sc_schema.specs.Lawful.{IsTypeOver, IsRecordTypeOver}
+use Rattle.sc_schema.specs.Sizes.{IsSmall}
 use Rattle.sc_schema_resolved.specs.declared.expanded.ExpandedAction.{ExpandedAction}
 use Rattle.sc_schema_resolved.specs.declared.expanded.ExpandedEntityType.{ExpandedEntityType}
 use Rattle.sc_schema_resolved.specs.declared.expanded.ExpandedSchema.{ExpandedSchema}
@@ -21,34 +19,21 @@ expanded_names x = map (λ (e : ExpandedEntityType). e.name) x.entity_types
 abbrev pub expanded_uids : ExpandedSchema → List Uid
 expanded_uids x = map (λ (a : ExpandedAction). a.uid) x.actions
 
--- a type, but for the types inside it: the entity type that it names is one of these, and its fields ascend
-abbrev pub IsLevelOver : List (List ℕ) → Ty-F Ty → Type 0
-IsLevelOver names t.True = ⊥
-IsLevelOver names t.False = ⊥
-IsLevelOver names t.Bool = ⊤
-IsLevelOver names t.Long = ⊤
-IsLevelOver names t.String = ⊤
-IsLevelOver names t.Decimal = ⊤
-IsLevelOver names t.Ip = ⊤
-IsLevelOver names (t.Entity name) = Contains names name
-IsLevelOver names (t.Set member) = ⊤
-IsLevelOver names (t.Record fields) = AreAscending (names_of_fields fields) × AllByRecursion IsUtf8 (names_of_fields fields)
-
 -- a type over entity types of these names
-abbrev pub IsTypeOver : List (List ℕ) → Ty → Type 0
-IsTypeOver names = every-Ty (IsLevelOver names)
+abbrev pub IsTypeAmong : List (List ℕ) → Ty → Type 0
+IsTypeAmong names = IsTypeOver (Contains names)
 
 -- a record type over entity types of these names
-pub record IsRecordTypeOver (names : List (List ℕ)) (type : Ty) : Type 0 where
-  pub fields : List (List ℕ × Presence × Ty)
-  pub record_type : type ≡ Record fields
-  pub proper : IsTypeOver names type
+abbrev pub IsRecordTypeAmong : List (List ℕ) → Ty → Type 0
+IsRecordTypeAmong names = IsRecordTypeOver (Contains names)
 
 pub record IsExpandedEntityType (x : ExpandedSchema) (e : ExpandedEntityType) : Type 0 where
   pub text : IsUtf8 e.name
   pub above : AreDeclared (expanded_names x) e.parents
-  pub shape_type : IsRecordTypeOver (expanded_names x) e.shape
-  pub tag_type : IfSome e.tags (IsTypeOver (expanded_names x))
+  pub shape_type : IsRecordTypeAmong (expanded_names x) e.shape
+  pub shape_size : IsSmall e.shape
+  pub tag_type : IfSome e.tags (IsTypeAmong (expanded_names x))
+  pub tag_size : IfSome e.tags IsSmall
 
 pub record IsExpandedAction (x : ExpandedSchema) (a : ExpandedAction) : Type 0 where
   pub type_text : IsUtf8 a.uid.type_name
@@ -56,7 +41,8 @@ pub record IsExpandedAction (x : ExpandedSchema) (a : ExpandedAction) : Type 0 w
   pub above : AllByRecursion (Contains (expanded_uids x)) a.parents
   pub principal_types : AreDeclared (expanded_names x) a.principals
   pub resource_types : AreDeclared (expanded_names x) a.resources
-  pub context_type : IsRecordTypeOver (expanded_names x) a.context
+  pub context_type : IsRecordTypeAmong (expanded_names x) a.context
+  pub context_size : IsSmall a.context
 
 -- each name is declared, and each declaration has a name of its own, which is no type of actions
 pub record IsExpanded (x : ExpandedSchema) : Type 0 where

@@ -3,7 +3,7 @@ use sc_lists::Text;
 use sc_names::{Name, Uid, put_uid};
 use sc_schema::{
     Schema, Ty, action_ancestors, actions, ancestor_types, attrs_of, context_of, entity_types,
-    environments, is_action_type, lookup_laws, order_laws, plain_laws, tags_of,
+    environments, is_action_type, lookup_laws, order_laws, tags_of,
 };
 use sc_schema_json::read_schema;
 use std::alloc::{AllocError, Global};
@@ -173,7 +173,6 @@ fn counts(alloc: Global, text: &str) -> Option<(usize, usize)> {
 fn all_are_declared(rt: HostRuntime) {
     lookup_laws();
     order_laws();
-    plain_laws();
     assert!(rt; counts(rt.alloc(), SAMPLE) == Some((3, 2)));
     assert!(rt; counts(rt.alloc(), CHAINS) == Some((4, 3)));
 }

@@ -128,8 +128,8 @@ module _ (j : Judge) where
   abbrev pub HasRecordContext : ResolvedAction → Type 0
   HasRecordContext a = optional_fault j RecordType a.context ≡ None
 
-  abbrev pub HasRecordShape : ResolvedEntityType → Type 0
-  HasRecordShape e = optional_fault j RecordType e.shape ≡ None
+  abbrev pub HasShapeAndTags : ResolvedEntityType → Type 0
+  HasShapeAndTags e = (optional_fault j RecordType e.shape ≡ None) × (optional_fault j AnyType e.tags ≡ None)
 
   contexts_none : (xs : List ResolvedAction) → first (action_fault j) xs ≡ None → AllByRecursion HasRecordContext xs
   contexts_none [] h = tt
@@ -137,16 +137,16 @@ module _ (j : Judge) where
       let parts = or_none (action_fault j a) (first (action_fault j) xs) h in
       (inside_none (codes "context") _ (inside_none (codes "appliesTo") _ (inside_none a.uid.id _ parts.0)), contexts_none xs parts.1)
 
-  shapes_none : (xs : List ResolvedEntityType) → first (entity_type_fault j) xs ≡ None → AllByRecursion HasRecordShape xs
+  shapes_none : (xs : List ResolvedEntityType) → first (entity_type_fault j) xs ≡ None → AllByRecursion HasShapeAndTags xs
   shapes_none [] h = tt
   shapes_none (e ∷ xs) h =
       let parts = or_none (entity_type_fault j e) (first (entity_type_fault j) xs) h in
       let here = or_none (inside (codes "shape") (optional_fault j RecordType e.shape)) (inside (codes "tags") (optional_fault j AnyType e.tags)) (inside_none e.key _ parts.0) in
-      (inside_none (codes "shape") _ here.0, shapes_none xs parts.1)
+      ((inside_none (codes "shape") _ here.0, inside_none (codes "tags") _ here.1), shapes_none xs parts.1)
 
   pub record AreRecords (actions : List ResolvedAction) (types : List ResolvedEntityType) : Type 0 where
     pub contexts : AllByRecursion HasRecordContext actions
-    pub shapes : AllByRecursion HasRecordShape types
+    pub shapes : AllByRecursion HasShapeAndTags types
 
   namespace_none : (n : ResolvedNamespace) → namespace_fault j n ≡ None → AreRecords n.actions n.entity_types
   namespace_none n h =
@@ -165,7 +165,7 @@ module _ (j : Judge) where
       let rest = namespaces_none ns parts.1 in
       record {
         contexts = all_append HasRecordContext n.actions (flat_map (λ (m : ResolvedNamespace). m.actions) ns) here.contexts rest.contexts;
-        shapes = all_append HasRecordShape n.entity_types (flat_map (λ (m : ResolvedNamespace). m.entity_types) ns) here.shapes rest.shapes;
+        shapes = all_append HasShapeAndTags n.entity_types (flat_map (λ (m : ResolvedNamespace). m.entity_types) ns) here.shapes rest.shapes;
       }
 
   pub no_fault_records : (s : ResolvedSchema) → first_fault j s ≡ None → AreRecords (actions s) (entity_types s)

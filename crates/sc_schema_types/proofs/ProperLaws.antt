@@ -7,12 +7,12 @@ use Rattle.sc_lists.proofs.ListLaws.{contains_first}
 use Rattle.sc_schema.proofs.EveryTypeLaws.{every_Bool, every_Long, every_String, every_Decimal, every_Ip, every_Entity, every_Set, every_Record}
 use Rattle.sc_schema.specs.declared.ty.Presence.{Presence}
 use Rattle.sc_schema.specs.declared.ty.Ty.{Ty}
-use Rattle.sc_schema.specs.Lawful.{AreAscending, names_of_fields}
+use Rattle.sc_schema.specs.Lawful.{AreAscending, names_of_fields, IsLevelOver}
 use Rattle.sc_schema_resolved.specs.declared.resolved_type.ResolvedType.{ResolvedType, ResolvedType-F, roll-ResolvedType, map-ResolvedType, ind-ResolvedType}
 use Rattle.sc_schema_resolved.specs.declared.resolved_type.ResolvedType.TheOpen as r
 use Rattle.sc_schema_resolved.specs.declared.schema.ResolvedSchema.{ResolvedSchema}
 use Rattle.sc_schema_resolved.specs.Resolved.{entity_names, field_names, IsResolvedLevel, IsResolvedType}
-use Rattle.sc_schema_resolved.specs.Expanded.{IsLevelOver, IsTypeOver}
+use Rattle.sc_schema_resolved.specs.Expanded.{IsTypeAmong}
 use Rattle.sc_schema_types.specs.References.{Names, names_in, names_step}
 use Rattle.sc_schema_types.specs.Expansions.{Meaning, expanded, expand_step}
 use Rattle.sc_schema_types.proofs.AgreeLaws.{names-roll, expanded-roll}
@@ -26,7 +26,7 @@ same_names m (a ∷ fields) = ap (λ (ns : List (List ℕ)). a.0 ∷ ns) (same_n
 
 module _ (s : ResolvedSchema) (m : Meaning) where
   abbrev IsOver : Ty → Type 0
-  IsOver = IsTypeOver (entity_names s)
+  IsOver = IsTypeAmong (entity_names s)
 
   -- common types of these names stand for proper types
   pub record AreOver (names : Names) : Type 0 where
@@ -59,17 +59,17 @@ module _ (s : ResolvedSchema) (m : Meaning) where
   proper_record es h over =
       let names : field_names (forget_fields es) ≡ names_of_fields (fields_of m (forget_fields es)) = same_names m (forget_fields es) in
       let level = at_level (IsResolvedLevel s) (r.Record (forget_fields es)) h in
-      every_Record (IsLevelOver (entity_names s)) (fields_of m (forget_fields es)) (subst AreAscending names level.0, subst (AllByRecursion IsUtf8) names level.1)
+      every_Record (IsLevelOver (Contains (entity_names s))) (fields_of m (forget_fields es)) (subst AreAscending names level.0, subst (AllByRecursion IsUtf8) names level.1)
       (proper_fields es (in_Record (IsResolvedLevel s) (forget_fields es) h) over)
 
   proper_step : (y : ResolvedType-F Known) → IsResolvedType s (roll-ResolvedType (forget y)) → AreOver (names_step (map-ResolvedType ResolvedType Names names_in (forget y))) → IsOver (expand_step m (map-ResolvedType ResolvedType Ty (expanded m) (forget y)))
-  proper_step r.Boolean h over = every_Bool (IsLevelOver (entity_names s)) tt
-  proper_step r.Long h over = every_Long (IsLevelOver (entity_names s)) tt
-  proper_step r.String h over = every_String (IsLevelOver (entity_names s)) tt
-  proper_step r.Decimal h over = every_Decimal (IsLevelOver (entity_names s)) tt
-  proper_step r.Ip h over = every_Ip (IsLevelOver (entity_names s)) tt
-  proper_step (r.Entity name) h over = every_Entity (IsLevelOver (entity_names s)) name (at_level (IsResolvedLevel s) (r.Entity name) h)
-  proper_step (r.Set e) h over = every_Set (IsLevelOver (entity_names s)) (expanded m e.0) tt (e.1 (in_Set (IsResolvedLevel s) e.0 h) over)
+  proper_step r.Boolean h over = every_Bool (IsLevelOver (Contains (entity_names s))) tt
+  proper_step r.Long h over = every_Long (IsLevelOver (Contains (entity_names s))) tt
+  proper_step r.String h over = every_String (IsLevelOver (Contains (entity_names s))) tt
+  proper_step r.Decimal h over = every_Decimal (IsLevelOver (Contains (entity_names s))) tt
+  proper_step r.Ip h over = every_Ip (IsLevelOver (Contains (entity_names s))) tt
+  proper_step (r.Entity name) h over = every_Entity (IsLevelOver (Contains (entity_names s))) name (at_level (IsResolvedLevel s) (r.Entity name) h)
+  proper_step (r.Set e) h over = every_Set (IsLevelOver (Contains (entity_names s))) (expanded m e.0) tt (e.1 (in_Set (IsResolvedLevel s) e.0 h) over)
   proper_step (r.Record es) h over = proper_record es h over
   proper_step (r.Common name) h over = over.over name (contains_first name [])
 

@@ -1,8 +1,8 @@
 -- An outline tells what decides whether a type may stand where it does.
-use Rattle.std.proofs.Common.{◌≡◌, ◌+◌, ℕ, List, [], ◌∷◌, map, max, min, Bool, true, false, nat_lt, refl, sym, ap, ◌∙◌, subst, arith, sum_by}
+use Rattle.std.proofs.Common.{◌≡◌, ◌+◌, ◌||◌, ℕ, List, [], ◌∷◌, map, max, min, Bool, true, false, cond, Option, Some, None, nat_lt, refl, sym, ap, ◌∙◌, subst, arith, sum_by}
 use Rattle.std.specs.List.{fold}
 use Rattle.std.specs.Cmp.{both_ways}
-use Rattle.std.proofs.lemmas.Bool.{ltb-true, lt-ltb}
+use Rattle.std.proofs.lemmas.Bool.{ltb-true, ltb-false, lt-ltb, or_parts}
 use Rattle.std.proofs.lemmas.List.Sums.{sum_by-cons}
 use Rattle.sc_schema.specs.declared.ty.Presence.{Presence}
 use Rattle.sc_schema.specs.declared.ty.Ty.{Ty, Ty-F, roll-Ty, map-Ty, ind-Ty, fold-roll-Ty, out-roll-Ty}
@@ -10,21 +10,17 @@ use Rattle.sc_schema.specs.declared.ty.Ty.TheOpen as t
 use Rattle.sc_schema_types.specs.declared.outline.Outline.{Outline}
 use Rattle.sc_schema_types.specs.declared.wanted.Wanted.{Wanted}
 use Rattle.sc_schema_types.specs.declared.wanted.Wanted.TheVariants.{AnyType, RecordType}
-use Rattle.sc_schema_types.specs.Faults.{type_fault}
-use Rattle.sc_schema_types.specs.Sizes.{deepest, levels_step, levels, nodes_step, nodes, max_levels, max_nodes, is_record_level, is_record}
+use Rattle.sc_schema_syntax.specs.declared.fault.SchemaFault.{SchemaFault}
+use Rattle.sc_schema_syntax.specs.declared.fault.SchemaFault.TheVariants.{NotRecord, TypeTooLarge}
+use Rattle.sc_schema_types.specs.Faults.{size_fault, type_fault}
+use Rattle.sc_schema.specs.Sizes.{deepest, levels_step, levels, nodes_step, nodes, max_levels, max_nodes, IsSmall}
+use Rattle.sc_schema.proofs.SizesLaws.{levels-roll, nodes-roll}
+use Rattle.sc_schema_types.specs.Sizes.{is_too_large, is_record_level, is_record}
 use Rattle.sc_schema_types.specs.Tables.{around, beside, outline_step, outline, outline_fault}
 
 pub outline-roll : (x : Ty-F Ty) → outline (roll-Ty x) ≡ outline_step (map-Ty Ty Outline outline x)
 unfolding outline
 outline-roll x = fold-roll-Ty Outline outline_step x
-
-levels-roll : (x : Ty-F Ty) → levels (roll-Ty x) ≡ levels_step (map-Ty Ty ℕ levels x)
-unfolding levels
-levels-roll x = fold-roll-Ty ℕ levels_step x
-
-nodes-roll : (x : Ty-F Ty) → nodes (roll-Ty x) ≡ nodes_step (map-Ty Ty ℕ nodes x)
-unfolding nodes
-nodes-roll x = fold-roll-Ty ℕ nodes_step x
 
 -- an outline by whether a type is a record type, its levels and its nodes
 abbrev pub bounded : Bool → ℕ → ℕ → Outline
@@ -104,3 +100,22 @@ fault_bounded RecordType u = rw (up_to_bound max_levels (levels u), up_to_bound 
 
 pub fault_by_outline : (wanted : Wanted) (u : Ty) → outline_fault wanted (outline u) ≡ type_fault wanted u
 fault_by_outline wanted u = ap (outline_fault wanted) (outline_bounded u) ∙ fault_bounded wanted u
+
+-- ---- a type without a fault
+
+small : (u : Ty) → is_too_large u ≡ false → IsSmall u
+small u h =
+    let parts = or_parts (nat_lt max_levels (levels u)) (nat_lt max_nodes (nodes u)) h in
+    record { depth = ltb-false max_levels (levels u) parts.0; size = ltb-false max_nodes (nodes u) parts.1 }
+
+small_by_test : (b : Bool) → cond b (Some (TypeTooLarge [])) None ≡ None → b ≡ false
+small_by_test true h = absurd cc
+small_by_test false h = refl
+
+fault_by_test : (b : Bool) (o : Option SchemaFault) (fault : SchemaFault) → cond b o (Some fault) ≡ None → o ≡ None
+fault_by_test true o fault h = h
+fault_by_test false o fault h = absurd cc
+
+pub small_without_fault : (wanted : Wanted) (u : Ty) → type_fault wanted u ≡ None → IsSmall u
+small_without_fault AnyType u h = small u (small_by_test (is_too_large u) h)
+small_without_fault RecordType u h = small u (small_by_test (is_too_large u) (fault_by_test (is_record u) (size_fault u) (NotRecord []) h))

@@ -1,7 +1,6 @@
 -- Laws of orders, expansions and faults.
 use Rattle.std.proofs.Common.{◌≡◌, ◌≢◌, ◌⊎◌, ℕ, List, [], ◌∷◌, ◌++◌, map, false, Option, Some, None, option_map, Contains, refl, sym, ap, ◌∙◌, inl, inr, subst, IsSome}
 use Rattle.std.specs.List.{AllByRecursion, IsDistinct, flat_map, list_any}
-use Rattle.std.specs.List.Sorted.{IsStrictlySortedBy}
 use Rattle.std.specs.Option.{IfSome}
 use Rattle.std.specs.Str.{bytes_eq}
 use Rattle.std.specs.declared.cmp.Ordering.{Ordering}
@@ -11,10 +10,11 @@ use Rattle.std.proofs.lemmas.List.{map-append}
 use Rattle.std.proofs.lemmas.Map.Lookups.{exact_bytes}
 use Rattle.sc_names.specs.Uids.{text_cmp}
 use Rattle.sc_names.specs.declared.uid.Uid.{Uid}
-use Rattle.sc_schema.proofs.EveryTypeLaws.{every_Record}
+use Rattle.sc_schema.proofs.LawfulLaws.{no_fields_over}
 use Rattle.sc_schema.proofs.OrderLaws.{below_from_above}
+use Rattle.sc_schema.proofs.SizesLaws.{no_fields_small}
 use Rattle.sc_schema.specs.Declarations.{uid_eq}
-use Rattle.sc_schema.specs.Lawful.{AreAscending}
+use Rattle.sc_schema.specs.Sizes.{IsSmall}
 use Rattle.sc_schema.specs.declared.ty.Ty.{Ty}
 use Rattle.sc_schema_resolved.specs.declared.action.ResolvedAction.{ResolvedAction}
 use Rattle.sc_schema_resolved.specs.declared.entity_type.ResolvedEntityType.{ResolvedEntityType}
@@ -24,10 +24,10 @@ use Rattle.sc_schema_resolved.specs.declared.expanded.ExpandedSchema.{ExpandedSc
 use Rattle.sc_schema_resolved.specs.declared.namespace.ResolvedNamespace.{ResolvedNamespace}
 use Rattle.sc_schema_resolved.specs.declared.resolved_type.ResolvedType.{ResolvedType}
 use Rattle.sc_schema_resolved.specs.declared.schema.ResolvedSchema.{ResolvedSchema}
-use Rattle.sc_schema_resolved.specs.Expanded.{expanded_names, expanded_uids, IsLevelOver, IsTypeOver, IsRecordTypeOver, IsExpandedEntityType, IsExpandedAction, IsExpanded}
+use Rattle.sc_schema_resolved.specs.Expanded.{expanded_names, expanded_uids, IsTypeAmong, IsRecordTypeAmong, IsExpandedEntityType, IsExpandedAction, IsExpanded}
 use Rattle.sc_schema_resolved.specs.Resolved.{entity_types, actions, entity_names, action_uids, AreDeclared, IsResolvedType, IsResolvedEntityType, IsResolvedAction, IsResolved}
 use Rattle.sc_schema_syntax.specs.declared.fault.SchemaFault.{SchemaFault}
-use Rattle.sc_schema_types.specs.declared.wanted.Wanted.TheVariants.{RecordType}
+use Rattle.sc_schema_types.specs.declared.wanted.Wanted.TheVariants.{AnyType, RecordType}
 use Rattle.sc_schema_types.specs.References.{Names, Graph, references, body_of, Reaches}
 use Rattle.sc_schema_types.specs.Orders.{IsOrder, IsLeastCycle}
 use Rattle.sc_schema_types.specs.Expansions.{Meaning, expanded, IsMeaning}
@@ -36,9 +36,10 @@ use Rattle.sc_schema_types.specs.Tables.{meaning_by}
 use Rattle.sc_schema_types.specs.Types.{record_type, expanded_action, expanded_entity_type, expanded_schema, IsExpansion, HasTypeFault, IsSettled, KeepsParents}
 use Rattle.sc_schema_types.proofs.CyclesLaws.{leads_declared}
 use Rattle.sc_schema_types.proofs.DeclaredLaws.{body_in_order}
-use Rattle.sc_schema_types.proofs.FaultsLaws.{AreTypes, faults_same, HasRecordContext, HasRecordShape, AreRecords, no_fault_records, record_without_fault}
+use Rattle.sc_schema_types.proofs.FaultsLaws.{AreTypes, faults_same, HasRecordContext, HasShapeAndTags, AreRecords, no_fault_records, record_without_fault}
 use Rattle.sc_schema_types.proofs.LeadsLaws.{none_circles}
 use Rattle.sc_schema_types.proofs.MembersLaws.{all_weaker}
+use Rattle.sc_schema_types.proofs.SizesLaws.{small_without_fault}
 use Rattle.sc_schema_types.proofs.UniqueLaws.{order_means, one_type, proper_type}
 
 -- ---- cycles
@@ -188,35 +189,41 @@ settled s resolved = record {
 
 -- ---- what an expansion names is declared
 
-nothing_ascends : AreAscending []
-unfolding IsStrictlySortedBy
-nothing_ascends = tt
-
 module _ (s : ResolvedSchema) (resolved : IsResolved s) (order : Names) (ordered : IsOrder s order) (m : Meaning) (means : IsMeaning (body_of s) m) where
-  proper : (type : ResolvedType) → IsResolvedType s type → IsTypeOver (entity_names s) (expanded m type)
+  proper : (type : ResolvedType) → IsResolvedType s type → IsTypeAmong (entity_names s) (expanded m type)
   proper = proper_type s resolved order ordered m means
 
-  proper_record_type : (o : Option ResolvedType) → IfSome o (IsResolvedType s) → optional_fault (fault_of m) RecordType o ≡ None → IsRecordTypeOver (entity_names s) (record_type m o)
-  proper_record_type None h none = record { fields = []; record_type = refl; proper = every_Record (IsLevelOver (entity_names s)) [] (nothing_ascends, tt) tt }
+  proper_record_type : (o : Option ResolvedType) → IfSome o (IsResolvedType s) → optional_fault (fault_of m) RecordType o ≡ None → IsRecordTypeAmong (entity_names s) (record_type m o)
+  proper_record_type None h none = no_fields_over (Contains (entity_names s))
   proper_record_type (Some type) h none =
       let p = record_without_fault (expanded m type) none in
       record { fields = p.0; record_type = p.1; proper = proper type h }
 
-  proper_tags : (o : Option ResolvedType) → IfSome o (IsResolvedType s) → IfSome (option_map (expanded m) o) (IsTypeOver (entity_names s))
+  proper_tags : (o : Option ResolvedType) → IfSome o (IsResolvedType s) → IfSome (option_map (expanded m) o) (IsTypeAmong (entity_names s))
   proper_tags None h = tt
   proper_tags (Some type) h = proper type h
+
+  small_record_type : (o : Option ResolvedType) → optional_fault (fault_of m) RecordType o ≡ None → IsSmall (record_type m o)
+  small_record_type None none = no_fields_small
+  small_record_type (Some type) none = small_without_fault RecordType (expanded m type) none
+
+  small_tags : (o : Option ResolvedType) → optional_fault (fault_of m) AnyType o ≡ None → IfSome (option_map (expanded m) o) IsSmall
+  small_tags None none = tt
+  small_tags (Some type) none = small_without_fault AnyType (expanded m type) none
 
   abbrev x : ExpandedSchema
   x = listed m s
 
-  proper_entity : (e : ResolvedEntityType) → IsResolvedEntityType s e → HasRecordShape (fault_of m) e → IsExpandedEntityType x (expanded_entity_type m e)
+  proper_entity : (e : ResolvedEntityType) → IsResolvedEntityType s e → HasShapeAndTags (fault_of m) e → IsExpandedEntityType x (expanded_entity_type m e)
   proper_entity e h none =
       let names : entity_names s ≡ expanded_names x = sym (listed_names m s) in
       record {
         text = h.text;
         above = subst (λ (ns : Names). AreDeclared ns e.parents) names h.above;
-        shape_type = subst (λ (ns : Names). IsRecordTypeOver ns (record_type m e.shape)) names (proper_record_type e.shape h.shape_type none);
-        tag_type = subst (λ (ns : Names). IfSome (option_map (expanded m) e.tags) (IsTypeOver ns)) names (proper_tags e.tags h.tag_type);
+        shape_type = subst (λ (ns : Names). IsRecordTypeAmong ns (record_type m e.shape)) names (proper_record_type e.shape h.shape_type none.0);
+        shape_size = small_record_type e.shape none.0;
+        tag_type = subst (λ (ns : Names). IfSome (option_map (expanded m) e.tags) (IsTypeAmong ns)) names (proper_tags e.tags h.tag_type);
+        tag_size = small_tags e.tags none.1;
       }
 
   proper_action : (a : ResolvedAction) → IsResolvedAction s a → HasRecordContext (fault_of m) a → IsExpandedAction x (expanded_action m a)
@@ -229,7 +236,8 @@ module _ (s : ResolvedSchema) (resolved : IsResolved s) (order : Names) (ordered
         above = subst (λ (us : List Uid). AllByRecursion (Contains us) a.parents) uids h.above;
         principal_types = subst (λ (ns : Names). AreDeclared ns a.principals) names h.principal_types;
         resource_types = subst (λ (ns : Names). AreDeclared ns a.resources) names h.resource_types;
-        context_type = subst (λ (ns : Names). IsRecordTypeOver ns (record_type m a.context)) names (proper_record_type a.context h.context_type none);
+        context_type = subst (λ (ns : Names). IsRecordTypeAmong ns (record_type m a.context)) names (proper_record_type a.context h.context_type none);
+        context_size = small_record_type a.context none;
       }
 
   abbrev AreNoActions : List Uid → Names → Type 0
@@ -244,7 +252,7 @@ module _ (s : ResolvedSchema) (resolved : IsResolved s) (order : Names) (ordered
         actions_distinct = subst (IsDistinct uid_eq) uids resolved.actions_distinct;
         no_action = subst (λ (us : List Uid). AreNoActions us (expanded_names x)) uids (subst (AreNoActions (action_uids s)) names resolved.no_action);
         each_type = all_mapped (expanded_entity_type m) (IsExpandedEntityType x) (entity_types s)
-            (all_both (IsResolvedEntityType s) (HasRecordShape (fault_of m)) (λ (e : ResolvedEntityType). IsExpandedEntityType x (expanded_entity_type m e)) proper_entity (entity_types s) resolved.each_entity records.shapes);
+            (all_both (IsResolvedEntityType s) (HasShapeAndTags (fault_of m)) (λ (e : ResolvedEntityType). IsExpandedEntityType x (expanded_entity_type m e)) proper_entity (entity_types s) resolved.each_entity records.shapes);
         each_action = all_mapped (expanded_action m) (IsExpandedAction x) (actions s)
             (all_both (IsResolvedAction s) (HasRecordContext (fault_of m)) (λ (a : ResolvedAction). IsExpandedAction x (expanded_action m a)) proper_action (actions s) resolved.each_action records.contexts);
       }

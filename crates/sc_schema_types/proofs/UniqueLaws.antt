@@ -3,7 +3,7 @@ use Rattle.std.proofs.Common.{◌≡◌, ℕ, List, Some, Contains, sym, ◌∙�
 use Rattle.sc_schema_resolved.specs.declared.resolved_type.ResolvedType.{ResolvedType}
 use Rattle.sc_schema_resolved.specs.declared.schema.ResolvedSchema.{ResolvedSchema}
 use Rattle.sc_schema_resolved.specs.Resolved.{common_types, common_names, entity_names, IsResolvedType, IsResolved}
-use Rattle.sc_schema_resolved.specs.Expanded.{IsTypeOver}
+use Rattle.sc_schema_resolved.specs.Expanded.{IsTypeAmong}
 use Rattle.sc_schema_types.specs.References.{Names, body_of, references, names_in}
 use Rattle.sc_schema_types.specs.Orders.{IsOrder}
 use Rattle.sc_schema_types.specs.Expansions.{Meaning, expanded, IsMeaning}
@@ -47,10 +47,10 @@ module _ (s : ResolvedSchema) (resolved : IsResolved s) (order : Names) (ordered
     pub one_type : (type : ResolvedType) → IsResolvedType s type → expanded m type ≡ expanded n type
     one_type type h = same_expanded m n type (record { same = λ q has. same_meaning q (names_declared s type h q has) })
 
-  proper_meaning : (q : List ℕ) → Contains (common_names s) q → IsTypeOver (entity_names s) (m q)
-  proper_meaning = each_common s resolved order ordered (λ q. IsTypeOver (entity_names s) (m q))
-      (λ q body is h before. subst (IsTypeOver (entity_names s)) (sym (means q body is)) (proper_expanded s m body h (record { over = before })))
+  proper_meaning : (q : List ℕ) → Contains (common_names s) q → IsTypeAmong (entity_names s) (m q)
+  proper_meaning = each_common s resolved order ordered (λ q. IsTypeAmong (entity_names s) (m q))
+      (λ q body is h before. subst (IsTypeAmong (entity_names s)) (sym (means q body is)) (proper_expanded s m body h (record { over = before })))
 
   -- and that is a proper type
-  pub proper_type : (type : ResolvedType) → IsResolvedType s type → IsTypeOver (entity_names s) (expanded m type)
+  pub proper_type : (type : ResolvedType) → IsResolvedType s type → IsTypeAmong (entity_names s) (expanded m type)
   proper_type type h = proper_expanded s m type h (record { over = λ q has. proper_meaning q (names_declared s type h q has) })

@@ -18,7 +18,7 @@ use Rattle.sc_schema_types.specs.declared.outline.Outline.{Outline}
 use Rattle.sc_schema_types.specs.declared.wanted.Wanted.{Wanted}
 use Rattle.sc_schema_types.specs.declared.wanted.Wanted.TheVariants.{AnyType, RecordType}
 use Rattle.sc_schema_types.specs.References.{Names, Bodies}
-use Rattle.sc_schema_types.specs.Sizes.{max_levels, max_nodes}
+use Rattle.sc_schema.specs.Sizes.{max_levels, max_nodes}
 use Rattle.sc_schema_types.specs.Expansions.{Meaning, expanded}
 use Rattle.sc_schema_types.specs.Faults.{Judge}
 

@@ -1,15 +1,10 @@
 -- Terms that are made of terms of the fragment of Booleans are of the fragment.
-use Rattle.std.proofs.Common.{◌≡◌, ℕ, List, [], ◌∷◌, map, length, All, Bool, true, false, not, Option, Some, None, Contains, refl, ap, sym, subst, ◌∙◌}
-use Rattle.std.specs.List.{list_all}
+use Rattle.std.proofs.Common.{◌≡◌, ℕ, List, length, All, Bool, true, false, not, Option, Some, None, ap, sym, subst, ◌∙◌}
 use Rattle.std.specs.Ordering.{is_gt}
-use Rattle.sc_schema.specs.declared.ty.Ty.{Ty, out-Ty, out-roll-Ty}
-use Rattle.sc_schema.specs.declared.ty.Ty.TheOpen as ty
-use Rattle.sc_schema.specs.declared.ty.Ty.TheVariants.{Bool as bool_type, rolls-Bool, rolls-Record}
-use Rattle.sc_schema.specs.Plain.{bool_field, bool_record}
+use Rattle.sc_schema.specs.declared.ty.Ty.{Ty}
 use Rattle.sc_sorts.specs.declared.sort.Sort.{Sort}
 use Rattle.sc_sorts.specs.declared.sort.Sort.TheVariants as sort
 use Rattle.sc_sorts.specs.OfTypes.{sort_of}
-use Rattle.sc_sorts.specs.Plain.{is_bool_field, plain_in, plain_fields}
 use Rattle.sc_terms.specs.declared.node.Leaf.TheVariants.{Context}
 use Rattle.sc_terms.specs.declared.node.BinaryOp.TheVariants.{And, Or, Equal}
 use Rattle.sc_terms.specs.declared.node.Node.{Node}
@@ -18,7 +13,7 @@ use Rattle.sc_terms.specs.Tables.{tree, StandsFor}
 use Rattle.sc_terms.specs.Order.{tree_cmp, tree_eq}
 use Rattle.sc_terms.specs.Folds.{constant, is_literal, both, truth_term, not_term, and_by, and_term, or_by, or_term, equation, other_equal, equal_by, equal_term, field_term}
 use Rattle.sc_terms.specs.Joined.{all_of, any_of}
-use Rattle.sc_terms.specs.Booleans.{IsBoolean, of_truth, of_attribute, of_not, of_two, attribute_term, names_of}
+use Rattle.sc_terms.specs.Booleans.{IsBoolean, of_truth, of_attribute, of_not, of_two, attribute_term}
 use Rattle.sc_terms.proofs.JoinedKeeps.{joined_keeps}
 
 module _ (context : Option Ty) where
@@ -87,24 +82,6 @@ module _ (context : Option Ty) where
   any_boolean ts h = joined_keeps Is or_term (truth_term false) (of_truth false) or_boolean (length ts) ts h
 
 -- ---- attributes
-
-out_bool : out-Ty bool_type ≡ ty.Bool
-out_bool = ap out-Ty (sym rolls-Bool) ∙ out-roll-Ty ty.Bool
-
-all_bools : (names : List (List ℕ)) → list_all is_bool_field (map bool_field names) ≡ true
-all_bools [] = refl
-all_bools (x ∷ names) = rw out_bool (all_bools names)
-
-pub plain_bools : (names : List (List ℕ)) → plain_fields (bool_record names) ≡ Some (map bool_field names)
-plain_bools names = ap plain_in (ap out-Ty (sym (rolls-Record (map bool_field names))) ∙ out-roll-Ty (ty.Record (map bool_field names))) ∙ rw (all_bools names) refl
-
-names_again : (names : List (List ℕ)) → names ≡ names_of (map bool_field names)
-names_again [] = refl
-names_again (x ∷ names) = ap (λ (ns : List (List ℕ)). x ∷ ns) (names_again names)
-
--- an attribute of a context of required truth values
-pub record_attribute : (names : List (List ℕ)) (name : List ℕ) → Contains names name → IsBoolean (Some (bool_record names)) (attribute_term (bool_record names) name)
-record_attribute names name h = of_attribute (bool_record names) (map bool_field names) name refl (plain_bools names) (subst (λ (ns : List (List ℕ)). Contains ns name) (names_again names) h)
 
 -- the field of a number that stands for the context
 pub field_attribute : (type : Ty) (ys zs : List Node) (c n : ℕ) (s : Sort) (name : List ℕ) → IsBoolean (Some type) (attribute_term type name) → s ≡ sort_of type → StandsFor ys c (leaf (Context s))
