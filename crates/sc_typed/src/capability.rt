@@ -4,7 +4,7 @@ ghost use Rattle.sc_typed.specs.Capabilities.{bare, attribute_of, tag_of, same, 
 
 use crate::bare::bare;
 use sc_ast::{Expr, try_clone};
-use sc_lists::{Seq, Text};
+use sc_lists::{Boxed, Seq, Text};
 use std::alloc::{AllocError, Global};
 
 /// What an object is known to have.
@@ -30,9 +30,10 @@ pub struct Capability {
 pub fn attribute_of(alloc: Global, object: &Expr, name: &Text) -> Result<Capability, AllocError>
     ensures { IfOk result (λ c. c ≡ attribute_of object.now name.now) }
 {
+    let name = name.try_clone(alloc)?;
     Ok(Capability {
         object: bare(alloc, object)?,
-        key: Key::Attribute(name.try_clone(alloc)?),
+        key: Key::Attribute(name),
     })
 }
 
@@ -40,9 +41,10 @@ pub fn attribute_of(alloc: Global, object: &Expr, name: &Text) -> Result<Capabil
 pub fn tag_of(alloc: Global, object: &Expr, key: &Expr) -> Result<Capability, AllocError>
     ensures { IfOk result (λ c. c ≡ tag_of object.now key.now) }
 {
+    let key = Boxed::new(alloc, bare(alloc, key)?)?;
     Ok(Capability {
         object: bare(alloc, object)?,
-        key: Key::Tag(bare(alloc, key)?),
+        key: Key::Tag(key.into_inner()),
     })
 }
 
@@ -133,9 +135,10 @@ fn put_copies(
 fn copy_of(alloc: Global, capability: &Capability) -> Result<Capability, AllocError>
     ensures { IfOk result (λ copy. copy ≡ capability.now) }
 {
+    let key = Boxed::new(alloc, copy_of_key(alloc, &capability.key)?)?;
     Ok(Capability {
         object: try_clone(alloc, &capability.object)?,
-        key: copy_of_key(alloc, &capability.key)?,
+        key: key.into_inner(),
     })
 }
 

@@ -158,10 +158,11 @@ fn join_fields(
         if !is_alike(field, other) {
             return Ok(None);
         }
+        let name = other.0.try_clone(alloc)?;
         let Some(ty) = join(alloc, &field.2, &other.2)? else {
             return Ok(None);
         };
-        joined.push((other.0.try_clone(alloc)?, other.1, ty))?;
+        joined.push((name, other.1, ty))?;
     }
     if fields.len() < others.len() {
         return Ok(None);
