@@ -17,23 +17,21 @@ use Rattle.std.proofs.lemmas.Map.Lookups.{CmpEqualImpliesEq}
 use Rattle.std.proofs.lemmas.Map.Views.{tells_apart}
 use Rattle.sc_lists.proofs.ListLaws.{contains_first, contains_rest, contains_split, contains_nothing}
 
--- ---- the elements of a list are its first and those of the rest
-
 -- ---- at an order
 
 module _ {K : Type 0} {R : K → K → Ordering} (o : IsTotalOrder R) (exact : CmpEqualImpliesEq R) where
-  not_below : (u : K) → R u u ≡ Less → ⊥
+  pub not_below : (u : K) → R u u ≡ Less → ⊥
   not_below u h =
       let turned : Less ≡ Greater = sym h ∙ o.antisymm u u ∙ ap ordering_reverse h in
       cc
 
-  both_below : (x y : K) → R x y ≡ Less → R y x ≡ Less → ⊥
+  pub both_below : (x y : K) → R x y ≡ Less → R y x ≡ Less → ⊥
   both_below x y h k =
       let turned : Less ≡ Greater = sym h ∙ o.antisymm x y ∙ ap ordering_reverse k in
       cc
 
   -- the first is below the rest
-  first_below : (x : K) (xs : List K) (u : K) → IsStrictlySortedBy R (x ∷ xs) → Contains xs u → R x u ≡ Less
+  pub first_below : (x : K) (xs : List K) (u : K) → IsStrictlySortedBy R (x ∷ xs) → Contains xs u → R x u ≡ Less
   first_below x xs u a has = All-contains (λ y. R x y ≡ Less) xs u (All-from_recursion (λ y. R x y ≡ Less) xs (sorted_head R x xs a)) has
 
   one_first : (x y : K) (xs ys : List K) → IsStrictlySortedBy R (x ∷ xs) → IsStrictlySortedBy R (y ∷ ys) → Contains (y ∷ ys) x → Contains (x ∷ xs) y → x ≡ y

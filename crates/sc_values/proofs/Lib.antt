@@ -6,3 +6,4 @@ pub mod OutLaws
 pub mod ProperLaws
 pub mod RecLaws
 pub mod SetLaws
+pub mod WalkLaws

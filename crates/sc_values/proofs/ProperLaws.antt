@@ -59,9 +59,6 @@ set_parts members = (
 pub proper_Set : (v : Value) (members : List Value) (b : Bool) → v ≡ value.Set members → (IsTrue b ↔ (IsStrictlySortedBy value_cmp members × All IsProper members)) → IsTrue b ↔ IsProper v
 proper_Set v members b is test = tests_value v (value.Set members) b is (set_parts members) test
 
-pub proper_Record : (v : Value) (fields : Fields) (b : Bool) → v ≡ value.Record fields → (IsTrue b ↔ IsProperRecord fields) → IsTrue b ↔ IsProper v
-proper_Record v fields b is test = subst (λ (z : Value). IsTrue b ↔ IsProper z) (sym is) test
-
 -- each name is a text
 names_are_texts : (fields : Fields) → AllByRecursion IsUtf8 (keys_of fields) ↔ AllByRecursion HasTextName fields
 unfolding HasTextName

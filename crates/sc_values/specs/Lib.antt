@@ -3,3 +3,4 @@ pub mod Sets
 pub mod Records
 pub mod Repeats
 pub mod Proper
+pub mod Walks

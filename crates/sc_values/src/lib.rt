@@ -8,6 +8,7 @@ mod proper;
 mod records;
 mod sets;
 mod value;
+mod walks;
 
 pub use clone::{clone_rec, clone_set, try_clone};
 pub use duplicate_key::DuplicateKey;

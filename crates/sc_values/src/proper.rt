@@ -81,7 +81,8 @@ fn has_proper_values(fields: &Rec) -> bool
 }
 
 #[tactic(auto, unfolding(crate::specs::Order::value_cmp))]
-fn ascends(members: &Set) -> bool
+/// Whether the members stand in the order of values, each once.
+pub(crate) fn ascends(members: &Set) -> bool
     ensures { IsTrue result ↔ IsStrictlySortedBy value_cmp members.now }
 {
     members::ascending(members.as_slice())
