@@ -9,10 +9,11 @@ use Rattle.sc_ast.specs.Literals.{literals}
 use Rattle.sc_names.specs.declared.uid.Uid.{Uid}
 use Rattle.sc_schema.specs.Declarations.{Declarations, action_uids}
 use Rattle.sc_world.specs.declared.world.World.{World}
-use Rattle.sc_world.specs.Named.{request_uids}
+use Rattle.sc_world.specs.Least.{wanted}
+use Rattle.sc_world.specs.Named.{request_uids, uids_in_entry}
 use Rattle.sc_world.specs.WellFormed.{IsStored}
 use Rattle.sc_world_breaks.specs.declared.breaks.Break.{Break}
-use Rattle.sc_world_breaks.specs.Breaks.{uids_in_entry, wanted, IsFirstBreak, in_request, in_entity, missing, nowhere}
+use Rattle.sc_world_breaks.specs.Breaks.{IsFirstBreak, in_request, in_entity, missing, nowhere}
 
 each_of : (P : Uid → Type 0) (us : List Uid) → ((u : Uid) → Contains us u → P u) → AllByRecursion P us
 each_of P [] f = tt

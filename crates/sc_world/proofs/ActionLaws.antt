@@ -1,17 +1,14 @@
 -- What is stored of an entity, against what a declared action stores.
-use Rattle.std.proofs.Common.{◌≡◌, ◌↔◌, List, [], Bool, true, false, Option, Some, None, All, Contains, IsTrue, refl, sym, ap, ◌∙◌}
-use Rattle.std.specs.List.{AllByRecursion}
+use Rattle.std.proofs.Common.{◌≡◌, ◌↔◌, List, [], Bool, true, false, Option, Some, None, IsTrue, refl, sym, ap, ◌∙◌}
 use Rattle.std.specs.Prelude.{option_map}
-use Rattle.std.proofs.lemmas.List.Elements.{All-from_recursion, recursion_from_All}
 use Rattle.sc_names.specs.declared.uid.Uid.{Uid}
 use Rattle.sc_schema.specs.declared.declarations.Action.{Action}
 use Rattle.sc_schema.specs.Declarations.{Declarations, action, action_ancestors, is_action_type}
 use Rattle.sc_schema.specs.Lawful.{IsLawful}
 use Rattle.sc_schema.proofs.LookupLaws.{action_found, action_declared}
 use Rattle.sc_world.specs.declared.entity.EntityData.{EntityData}
-use Rattle.sc_world.specs.WellFormed.{Entry, action_data, IsAction, IsStored}
-use Rattle.sc_world.specs.Tests.{IsStoredAction, HasActionData, IsActionStored}
-use Rattle.sc_world.specs.Stores.{Entities}
+use Rattle.sc_world.specs.WellFormed.{Entry, action_data, IsAction}
+use Rattle.sc_world.specs.Tests.{IsStoredAction, HasActionData}
 
 pub action_tested : (s : Declarations) (u : Uid) (e : EntityData) (t b : Bool) → t ≡ is_action_type s u.type_name → t ≡ true
     → (IsTrue b ↔ IsStoredAction s (u, e)) → IsTrue b ↔ IsAction s (u, e)
@@ -64,13 +61,3 @@ undeclared_tested s u e lawful is = (
   λ h. absurd cc,
   λ stored. absurd (none_found (action s u) stored.0 (found_stored s u e lawful stored) is),
 )
-
--- ---- the declared actions
-
-pub each_action : (es : Entities) (actions : List Action) → All (IsActionStored es) actions → AllByRecursion (λ (a : Action). IsStored es a.uid) actions
-unfolding IsActionStored
-each_action es actions all = recursion_from_All (IsActionStored es) actions all
-
-pub all_actions : (es : Entities) (actions : List Action) → AllByRecursion (λ (a : Action). IsStored es a.uid) actions → All (IsActionStored es) actions
-unfolding IsActionStored
-all_actions es actions each = All-from_recursion (IsActionStored es) actions each

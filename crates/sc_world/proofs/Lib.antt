@@ -2,8 +2,9 @@ pub mod StoreLaws
 pub mod ConformsLaws
 mod ActionLaws
 mod AncestorLaws
-mod NamedLaws
-mod PartLaws
+mod LeastLaws
+pub mod BrokenLaws
+pub mod PartLaws
 pub mod TestLaws
 mod UidsLaws
 mod DefaultLaws
@@ -12,6 +13,6 @@ mod RequiredLaws
 mod DefaultTypeLaws
 mod FillLaws
 mod DeclaredLaws
-mod NamesLaws
-mod ReachedLaws
-mod DefaultWorldLaws
+mod DefaultEntityLaws
+mod NamedWithLaws
+mod GivenWorldLaws

@@ -1,11 +1,10 @@
 -- What a test tells: of each element of a list, and of texts and uids that are equal.
-use Rattle.std.proofs.Common.{◌≡◌, ◌↔◌, ◌&&◌, ℕ, List, [], ◌∷◌, length, get_or, Bool, true, false, Result, Ok, Err, is_ok, All, Contains, IsTrue, refl, sym, ap, subst, ◌∙◌}
+use Rattle.std.proofs.Common.{◌≡◌, ◌↔◌, ◌&&◌, ℕ, List, [], ◌∷◌, length, get_or, Bool, true, Result, Ok, Err, is_ok, All, Contains, IsTrue, refl, sym, ap, subst, ◌∙◌}
 use Rattle.std.specs.Cmp.{IsTotalOrder}
 use Rattle.std.specs.List.{AllByRecursion}
 use Rattle.std.specs.List.Sorted.{IsStrictlySortedBy, IsSearchInRange, IsBinarySearchResult}
 use Rattle.std.specs.Str.{bytes_eq}
 use Rattle.std.specs.declared.cmp.Ordering.{Ordering}
-use Rattle.std.specs.declared.cmp.Ordering.TheVariants.{Less, Equal, Greater}
 use Rattle.std.specs.Ordering.{is_eq, eq_by_cmp}
 use Rattle.std.specs.Cmp.Lexicographic.{pointwise}
 use Rattle.std.proofs.lemmas.Cmp.{tied_itself}
@@ -34,9 +33,9 @@ pub one_text : (b : Bool) (x y : List ℕ) → b ≡ bytes_eq x y → IsTrue b �
 one_text b x y is = (λ h. (bytes_eq-Decides x y).0 (sym is ∙ h), λ same. is ∙ (bytes_eq-Decides x y).1 same)
 
 pub one_uid : (r : Bool) (o : Ordering) (a b : Uid) → r ≡ is_eq o → o ≡ uid_cmp a b → IsTrue r ↔ a ≡ b
-one_uid r o a b is level = (
-  λ h. uid_cmp_level a b (sym level ∙ is_eq_true o (sym is ∙ h)),
-  λ same. is ∙ ap is_eq (level ∙ ap (uid_cmp a) (sym same) ∙ tied_itself uid_cmp_total a),
+one_uid r o a b is tied = (
+  λ h. uid_cmp_level a b (sym tied ∙ is_eq_true o (sym is ∙ h)),
+  λ same. is ∙ ap is_eq (tied ∙ ap (uid_cmp a) (sym same) ∙ tied_itself uid_cmp_total a),
 )
 
 -- the derived `==`
@@ -74,9 +73,9 @@ one_list b xs ys is = (
 -- the place that was found, or that there is none
 searched : {K : Type 0} {R : K → K → Ordering} (o : IsTotalOrder R) → CmpEqualImpliesEq R → (ks : List K) (k : K) (r : Result ℕ ℕ) → IsStrictlySortedBy R ks → IsSearchInRange r (length ks) → IsBinarySearchResult (λ j. R j k) ks r
     → IsTrue (is_ok r) ↔ Contains ks k
-searched o level ks k (Ok i) sorted within search = (λ h. (i, within, level (get_or ks i k) k (search k)), λ h. refl)
-searched o level ks k (Err i) sorted within search = (λ h. absurd cc, λ has. absurd (absent o ks k i sorted search has))
+searched o tied ks k (Ok i) sorted within search = (λ h. (i, within, tied (get_or ks i k) k (search k)), λ h. refl)
+searched o tied ks k (Err i) sorted within search = (λ h. absurd cc, λ has. absurd (absent o ks k i sorted search has))
 
 pub found_among : {K : Type 0} {R : K → K → Ordering} (o : IsTotalOrder R) → CmpEqualImpliesEq R → (ks : List K) (k : K) (r : Result ℕ ℕ) (b : Bool) → b ≡ is_ok r → IsStrictlySortedBy R ks
     → IsSearchInRange r (length ks) → IsBinarySearchResult (λ j. R j k) ks r → IsTrue b ↔ Contains ks k
-found_among o level ks k r b is sorted within search = subst (λ c. IsTrue c ↔ Contains ks k) (sym is) (searched o level ks k r sorted within search)
+found_among o tied ks k r b is sorted within search = subst (λ c. IsTrue c ↔ Contains ks k) (sym is) (searched o tied ks k r sorted within search)

@@ -5,4 +5,6 @@ pub mod Sound
 pub mod Tests
 pub mod Defaults
 pub mod Named
+pub mod Given
+pub mod Least
 pub mod Filling

@@ -1,5 +1,5 @@
 -- Which entities have to be stored, where each is as it is by default.
-use Rattle.std.specs.Prelude.{◌≡◌, ◌↔◌, ℕ, List, [], ◌∷◌, flat_map, Contains, IsTrue, IsSome}
+use Rattle.std.specs.Prelude.{◌≡◌, ◌↔◌, ◌++◌, ℕ, List, [], ◌∷◌, flat_map, Contains, IsTrue, IsSome}
 use Rattle.std.specs.List.{AllByRecursion}
 use Rattle.sc_names.specs.declared.uid.Uid.{Uid}
 use Rattle.sc_schema.specs.declared.declarations.Env.{Env}
@@ -8,6 +8,7 @@ use Rattle.sc_values.specs.declared.value.Value.{Value, Value-F, fold-Value}
 use Rattle.sc_values.specs.declared.value.Value.TheOpen as v
 use Rattle.sc_values.specs.declared.value.Value.TheVariants.{Record}
 use Rattle.sc_values.specs.Proper.{IsProperRecord}
+use Rattle.sc_world.specs.declared.entity.EntityData.{EntityData}
 use Rattle.sc_world.specs.declared.world.Request.{Request}
 use Rattle.sc_world.specs.Stores.{Entities}
 use Rattle.sc_world.specs.WellFormed.{Entry, IsStored, IsRequestOf}
@@ -27,6 +28,13 @@ uids_in = fold-Value (List Uid) uids_step
 -- the entities that a request names
 abbrev pub request_uids : Request → List Uid
 request_uids r = r.principal ∷ r.action ∷ r.resource ∷ uids_in (Record r.context)
+
+-- the entities that what is stored of one names
+abbrev pub uids_in_data : EntityData → List Uid
+uids_in_data e = uids_in (Record e.attrs) ++ (uids_in (Record e.tags) ++ e.ancestors)
+
+abbrev pub uids_in_entry : Entry → List Uid
+uids_in_entry x = uids_in_data x.1
 
 -- the entities that an entity's attributes name by default
 abbrev pub attribute_uids : Declarations → Uid → List Uid

@@ -28,6 +28,13 @@ pub record IsProperEntry (x : Entry) : Type 0 where
   pub ancestors : IsStrictlySortedBy uid_cmp x.1.ancestors
   pub ancestor_texts : AllByRecursion IsUidText x.1.ancestors
 
+-- a request is made of values
+pub record IsProperRequest (r : Request) : Type 0 where
+  pub principal : IsUidText r.principal
+  pub action : IsUidText r.action
+  pub resource : IsUidText r.resource
+  pub context : IsProperRecord r.context
+
 -- a world is a request and a finite map from uids to entities, all made of values
 pub record IsProperWorld (w : World) : Type 0 where
   pub principal : IsUidText w.request.principal

@@ -1,14 +1,13 @@
 //! Stored actions: exactly the declared ones, with their declared ancestors and nothing else.
-ghost use Rattle.std.specs.Prelude.{◌↔◌, All, IsTrue};
-ghost use Rattle.sc_world.specs.Tests.{IsStoredAction, HasActionData, IsActionStored};
+ghost use Rattle.std.specs.Prelude.{◌↔◌, IsTrue};
+ghost use Rattle.sc_world.specs.Tests.{IsStoredAction, HasActionData};
 ghost use Rattle.sc_world.specs.WellFormed.{IsAction};
 
 use crate::attributes::is_empty;
 use crate::entity::EntityData;
-use crate::store::Store;
-use crate::uids::{are_same, is_stored};
+use crate::uids::are_same;
 use sc_names::Uid;
-use sc_schema::{Action, Schema, action_ancestors, is_action_type};
+use sc_schema::{Schema, action_ancestors, is_action_type};
 
 /// Whether an entity of an action's type is a declared action, as it is declared.
 pub(crate) fn is_action(s: &Schema, uid: &Uid, entity: &EntityData) -> bool
@@ -39,20 +38,4 @@ fn has_action_data(ancestors: &[Uid], entity: &EntityData) -> bool
     let same = are_same(entity.ancestors.as_slice(), ancestors);
     let tags = is_empty(&entity.tags);
     attrs && same && tags
-}
-
-/// Whether each declared action is stored.
-pub(crate) fn has_actions(s: &Schema, store: &Store) -> bool
-    ensures { IsTrue result ↔ All (IsActionStored store.now) s.now.actions }
-{
-    s.declared_actions()
-        .iter()
-        .all(|action| is_action_stored(store, action))
-}
-
-#[tactic(auto, unfolding(crate::specs::Tests::IsActionStored))]
-fn is_action_stored(store: &Store, action: &Action) -> bool
-    ensures { IsTrue result ↔ IsActionStored store.now action.now }
-{
-    is_stored(store, &action.uid)
 }

@@ -1,21 +1,19 @@
 //! The worlds in which everything is as it is by default.
-ghost use Rattle.std.specs.Prelude.{◌≡◌, ◌++◌, Contains, IfOk, OnOk};
+ghost use Rattle.std.specs.Prelude.{◌≡◌, Contains, IfOk};
 ghost use Rattle.std.specs.List.{AllByRecursion};
 ghost use Rattle.sc_schema.specs.declared.declarations.Env.{Env as AnyEnv};
 ghost use Rattle.sc_schema.specs.Declarations as schema;
 ghost use Rattle.sc_world.specs.Defaults as defaults;
-ghost use Rattle.sc_world.specs.Filling.{first_uids};
-ghost use Rattle.sc_world.specs.Named.{AreDefaults, StoresNamed, IsDeclared, IsRequestAmong, request_uids};
+ghost use Rattle.sc_world.specs.Named.{AreDefaults, StoresNamed, IsDeclared, IsRequestAmong};
 ghost use Rattle.sc_world.specs.WellFormed.{IsWellFormed};
 
 use crate::default_entity::fields_of;
 use crate::default_value::default_uid;
-use crate::filling::filled;
-use crate::named::put_in_record;
+use crate::given_worlds::world_with;
+use crate::store::Store;
 use crate::world::{Request, World};
-use sc_lists::Seq;
-use sc_names::{Lits, Uid};
-use sc_schema::{Env, Schema, actions, context_of};
+use sc_names::Lits;
+use sc_schema::{Env, Schema, context_of};
 use sc_values::Rec;
 use std::alloc::{AllocError, Global};
 
@@ -33,44 +31,8 @@ pub fn world_for(
     ensures well_formed { (env : AnyEnv) → IsRequestAmong s.now env request lits.now → IfOk result (IsWellFormed s.now env lits.now) }
 {
     s.laws();
-    let uids = first_uids(alloc, s, &request, lits)?;
-    let store = filled(alloc, s, uids)?;
-    let _ascending = store.entities();
-    Ok(World { request, store })
-}
-
-/// What is stored first: the declared actions, what the request names, and the literals.
-fn first_uids(
-    alloc: Global,
-    s: &Schema,
-    request: &Request,
-    lits: &Lits,
-) -> Result<Seq<Uid>, AllocError>
-    ensures { IfOk result (λ us. us ≡ first_uids s.now request.now lits.now) }
-{
-    let mut uids = Seq::new(alloc);
-    put_all(alloc, &mut uids, actions(s))?;
-    put_request(alloc, &mut uids, request)?;
-    put_all(alloc, &mut uids, lits.as_slice())?;
-    Ok(uids)
-}
-
-fn put_all(alloc: Global, uids: &mut Seq<Uid>, some: &[Uid]) -> Result<(), AllocError>
-    ensures { OnOk result (uids.new ≡ uids.old ++ some.now) }
-{
-    for uid in some {
-        uids.push(uid.try_clone(alloc)?)?;
-    }
-    Ok(())
-}
-
-fn put_request(alloc: Global, uids: &mut Seq<Uid>, request: &Request) -> Result<(), AllocError>
-    ensures { OnOk result (uids.new ≡ uids.old ++ request_uids request.now) }
-{
-    uids.push(request.principal.try_clone(alloc)?)?;
-    uids.push(request.action.try_clone(alloc)?)?;
-    uids.push(request.resource.try_clone(alloc)?)?;
-    put_in_record(alloc, uids, &request.context)
+    let nothing = Store::new(alloc);
+    world_with(alloc, s, request, nothing, lits)
 }
 
 /// The world of an environment in which everything is as it is by default: the principal and the

@@ -1,29 +1,38 @@
-//! Stores what a list of uids leads to: each as it is by default, with what its attributes name.
-ghost use Rattle.std.specs.Prelude.{◌≡◌, ◌↔◌, ◌<◌, ◌++◌, get_or, length, IfOk, OnOk};
+//! Stores all that is named: what is given as it stands, and each other entity as it is by default.
+ghost use Rattle.std.specs.Prelude.{◌≡◌, ◌<◌, ◌++◌, get_or, length, IfOk, OnOk};
 ghost use Rattle.sc_names.specs.declared.uid.Uid.{Uid as AnyUid};
 ghost use Rattle.sc_values.specs.Proper.{IsUidText};
-ghost use Rattle.sc_world.specs.Filling.{IsReached, IsStep, HaveTexts};
+ghost use Rattle.sc_world.specs.Filling.{IsStep, HaveTexts};
 ghost use Rattle.sc_world.specs.Defaults as defaults;
-ghost use Rattle.sc_world.specs.Named.{AreDefaults, attribute_uids};
+ghost use Rattle.sc_world.specs.Given.{AreAsGiven, StoresNamedWith};
+ghost use Rattle.sc_world.specs.Named.{uids_in_data};
 ghost use Rattle.sc_world.specs.Stores.{with_entity};
-ghost use Rattle.sc_world.specs.WellFormed.{IsStored};
 
 use crate::default_entity::default_data;
-use crate::named::put_in_record;
+use crate::first_uids::first_uids;
+use crate::named::put_in_entity;
 use crate::store::Store;
 use crate::uids::is_stored;
+use crate::world::Request;
 use sc_lists::Seq;
-use sc_names::Uid;
+use sc_names::{Lits, Uid};
 use sc_schema::Schema;
 use std::alloc::{AllocError, Global};
 
-/// The store of the entities of a list, and of those that the attributes of a stored one name.
-pub(crate) fn filled(alloc: Global, s: &Schema, mut uids: Seq<Uid>) -> Result<Store, AllocError>
-    ensures texts { IfOk result HaveTexts }
-    ensures defaults { IfOk result (AreDefaults s.now) }
-    ensures exact { IfOk result (λ es. (u : AnyUid) → IsStored es u ↔ IsReached s.now uids u) }
+/// The store of what is given and of all else that is named.
+pub(crate) fn filled(
+    alloc: Global,
+    s: &Schema,
+    given: Store,
+    request: &Request,
+    lits: &Lits,
+) -> Result<Store, AllocError>
+    ensures texts { IfOk result (λ es. HaveTexts given → HaveTexts es) }
+    ensures value { IfOk result (AreAsGiven s.now given) }
+    ensures exact { IfOk result (StoresNamedWith s.now given request.now lits.now) }
 {
-    let mut store = Store::new(alloc);
+    let mut uids = first_uids(alloc, s, &given, request, lits)?;
+    let mut store = given;
     let mut done = 0;
     while done < uids.len() {
         fill_at(alloc, s, &mut uids, &mut store, done)?;
@@ -32,8 +41,8 @@ pub(crate) fn filled(alloc: Global, s: &Schema, mut uids: Seq<Uid>) -> Result<St
     Ok(store)
 }
 
-/// Stores the entity at a place of the list where it isn't stored yet, and puts what its attributes
-/// name at the list's end.
+/// Stores the entity at a place of the list where it isn't stored yet, and puts what it names at the
+/// list's end.
 fn fill_at(
     alloc: Global,
     s: &Schema,
@@ -60,12 +69,12 @@ fn fill_with(
     uid: Uid,
 ) -> Result<(), AllocError>
     ensures text { IsUidText uid }
-    ensures uids { OnOk result (uids.new ≡ uids.old ++ attribute_uids s.now uid) }
+    ensures uids { OnOk result (uids.new ≡ uids.old ++ uids_in_data (defaults.default_data s.now uid)) }
     ensures store { OnOk result (store.new ≡ with_entity uid (defaults.default_data s.now uid) store.old) }
 {
     has_texts(&uid);
     let entity = default_data(alloc, s, &uid)?;
-    put_in_record(alloc, uids, &entity.attrs)?;
+    put_in_entity(alloc, uids, &entity)?;
     store.insert(uid, entity)
 }
 

@@ -2,8 +2,9 @@
 ghost use Rattle.std.specs.Prelude.{◌≡◌, ◌++◌, ℕ, List, flat_map, OnOk};
 ghost use Rattle.sc_values.specs.declared.value.Value.{Value as AnyValue};
 ghost use Rattle.sc_values.specs.declared.value.Value.TheVariants.{Record};
-ghost use Rattle.sc_world.specs.Named.{uids_in};
+ghost use Rattle.sc_world.specs.Named.{uids_in, uids_in_data};
 
+use crate::entity::EntityData;
 use sc_lists::Seq;
 use sc_names::Uid;
 use sc_values::{Rec, Set, Value};
@@ -59,4 +60,27 @@ pub(crate) fn put_in_record(
     ensures { OnOk result (uids.new ≡ uids.old ++ uids_in (Record fields.now)) }
 {
     put_fields(alloc, uids, fields)
+}
+
+/// Puts the entities that a stored one names at the end of a list.
+pub(crate) fn put_in_entity(
+    alloc: Global,
+    uids: &mut Seq<Uid>,
+    entity: &EntityData,
+) -> Result<(), AllocError>
+    ensures { OnOk result (uids.new ≡ uids.old ++ uids_in_data entity.now) }
+{
+    put_in_record(alloc, uids, &entity.attrs)?;
+    put_in_record(alloc, uids, &entity.tags)?;
+    put_all(alloc, uids, entity.ancestors.as_slice())
+}
+
+/// Puts uids at the end of a list.
+pub(crate) fn put_all(alloc: Global, uids: &mut Seq<Uid>, some: &[Uid]) -> Result<(), AllocError>
+    ensures { OnOk result (uids.new ≡ uids.old ++ some.now) }
+{
+    for uid in some {
+        uids.push(uid.try_clone(alloc)?)?;
+    }
+    Ok(())
 }

@@ -4,8 +4,8 @@ ghost use Rattle.std.specs.Prelude.{◌↔◌, All, IsTrue};
 ghost use Rattle.std.specs.List.Sorted.{IsStrictlySortedBy};
 ghost use Rattle.sc_names.specs.Uids.{uid_cmp};
 ghost use Rattle.sc_values.specs.Proper.{IsUidText};
-ghost use Rattle.sc_world.specs.Tests.{Holds, IsProperRequest};
-ghost use Rattle.sc_world.specs.WellFormed.{IsProperEntry};
+ghost use Rattle.sc_world.specs.Tests.{Holds};
+ghost use Rattle.sc_world.specs.WellFormed.{IsProperEntry, IsProperRequest};
 
 use crate::entity::EntityData;
 use crate::world::Request;

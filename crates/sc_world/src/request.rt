@@ -1,8 +1,9 @@
 //! Whether a request is one of an environment.
-ghost use Rattle.std.specs.Prelude.{◌≡◌, ◌↔◌, IsTrue, IsSomeAnd};
+ghost use Rattle.std.specs.Prelude.{◌↔◌, IsTrue, IsSomeAnd};
 ghost use Rattle.sc_schema.specs.Declarations.{context_of};
 ghost use Rattle.sc_values.specs.declared.value.Value.TheVariants.{Record};
 ghost use Rattle.sc_world.specs.Conforms as of_type;
+ghost use Rattle.sc_world.specs.Tests.{IsEnvironmentOf};
 ghost use Rattle.sc_world.specs.WellFormed.{IsRequestOf};
 
 use crate::conformance::record_conforms;
@@ -13,14 +14,22 @@ use sc_schema::{Env, Schema, context_of};
 use sc_values::Rec;
 
 /// Whether a request has the environment's types and action, and a context of the action's type.
-pub(crate) fn is_request_of(s: &Schema, env: &Env, r: &Request) -> bool
+pub fn is_request_of(s: &Schema, env: &Env, r: &Request) -> bool
     ensures { IsTrue result ↔ IsRequestOf s.now env.now r.now }
+{
+    if !is_environment_of(r, env) {
+        return false;
+    }
+    is_context_of(s, &env.action, &r.context)
+}
+
+fn is_environment_of(r: &Request, env: &Env) -> bool
+    ensures { IsTrue result ↔ IsEnvironmentOf r.now env.now }
 {
     let principal = is_named(&r.principal, &env.principal);
     let action = is_same(&r.action, &env.action);
     let resource = is_named(&r.resource, &env.resource);
-    let context = is_context_of(s, &env.action, &r.context);
-    principal && action && resource && context
+    principal && action && resource
 }
 
 fn is_context_of(s: &Schema, action: &Uid, context: &Rec) -> bool

@@ -15,7 +15,7 @@ use sc_schema::Schema;
 /// values, of a declared type with that type's attributes and tags, below ancestors of allowed types
 /// and all of theirs but not below itself, and as it is declared if it is an action. Whether the
 /// entities that it names are stored isn't asked.
-pub fn is_sound_entry(s: &Schema, store: &Store, uid: &Uid, entity: &EntityData) -> bool
+pub(crate) fn is_sound_entry(s: &Schema, store: &Store, uid: &Uid, entity: &EntityData) -> bool
     ensures { IsTrue result ↔ IsSoundEntry s.now store.now (uid.now, entity.now) }
 {
     if !is_proper_entry(uid, entity) {

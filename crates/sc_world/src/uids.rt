@@ -62,17 +62,3 @@ pub(crate) fn is_stored(store: &Store, uid: &Uid) -> bool
 {
     store.get(uid).is_some()
 }
-
-/// Whether each of some entities is stored.
-pub(crate) fn are_stored(store: &Store, uids: &[Uid]) -> bool
-    ensures { IsTrue result ↔ All (Holds (IsStored store.now)) uids.now }
-{
-    uids.iter().all(|uid| holds_stored(store, uid))
-}
-
-#[tactic(auto, unfolding(crate::specs::Tests::Holds))]
-fn holds_stored(store: &Store, uid: &Uid) -> bool
-    ensures { IsTrue result ↔ Holds (IsStored store.now) uid.now }
-{
-    is_stored(store, uid)
-}

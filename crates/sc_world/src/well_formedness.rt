@@ -1,15 +1,16 @@
 //! Whether a world is well-formed.
 ghost use Rattle.std.specs.Prelude.{◌↔◌, Contains, IsTrue};
 ghost use Rattle.sc_schema.specs.Declarations.{environments};
-ghost use Rattle.sc_world.specs.Tests.{HasWellFormedParts};
+ghost use Rattle.sc_world.specs.Stores.{IsMap};
+ghost use Rattle.sc_world.specs.Sound.{AreSound};
+ghost use Rattle.sc_world.specs.Tests.{HasWellFormedParts, StoresWanted};
 ghost use Rattle.sc_world.specs.WellFormed.{IsWellFormed};
 
-use crate::actions::has_actions;
-use crate::closed::request_names_stored;
-use crate::entries::are_well_formed;
+use crate::broken::first_broken;
+use crate::missing::first_missing;
 use crate::proper::is_proper_request;
 use crate::request::is_request_of;
-use crate::uids::are_stored;
+use crate::store::Store;
 use crate::world::World;
 use sc_names::Lits;
 use sc_schema::{Env, Schema};
@@ -25,15 +26,25 @@ pub fn well_formed(s: &Schema, env: &Env, w: &World, lits: &Lits) -> bool
     has_well_formed_parts(s, env, w, lits)
 }
 
-#[tactic(auto, using(crate::proofs::TestLaws::each_from_all, crate::proofs::TestLaws::all_from_each, crate::proofs::ActionLaws::each_action, crate::proofs::ActionLaws::all_actions))]
 fn has_well_formed_parts(s: &Schema, env: &Env, w: &World, lits: &Lits) -> bool
     ensures { IsTrue result ↔ HasWellFormedParts s.now env.now lits.now w.now }
 {
     let proper = is_proper_request(&w.request);
     let request = is_request_of(s, env, &w.request);
-    let named = request_names_stored(&w.store, &w.request);
-    let entries = are_well_formed(s, &w.store);
-    let actions = has_actions(s, &w.store);
-    let written = are_stored(&w.store, lits.as_slice());
-    proper && request && named && entries && actions && written
+    let sound = are_sound(s, &w.store);
+    let stored = stores_wanted(s, w, lits);
+    proper && request && sound && stored
+}
+
+fn are_sound(s: &Schema, store: &Store) -> bool
+    ensures sound { IsTrue result ↔ AreSound s.now store.now }
+    ensures ascending { IsMap store.now }
+{
+    first_broken(s, store).is_none()
+}
+
+fn stores_wanted(s: &Schema, w: &World, lits: &Lits) -> bool
+    ensures { IsTrue result ↔ StoresWanted s.now lits.now w.now }
+{
+    first_missing(s, w, lits).is_none()
 }

@@ -1,5 +1,2 @@
 mod BreakLaws
-mod FirstLaws
-mod LeastLaws
 mod SoundLaws
-mod UidsLaws

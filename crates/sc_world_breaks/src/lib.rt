@@ -3,8 +3,6 @@
 #![tactic(auto)]
 
 mod breaks;
-mod missing;
 mod sound;
-mod uids;
 
 pub use breaks::{Break, break_laws, first_break};

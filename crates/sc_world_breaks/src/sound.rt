@@ -1,18 +1,13 @@
 //! Whether a request is as a well-formed world has it, whatever it names.
-ghost use Rattle.std.specs.Prelude.{◌↔◌, Contains, IsTrue, IsSomeAnd};
+ghost use Rattle.std.specs.Prelude.{◌↔◌, Contains, IsTrue};
 ghost use Rattle.sc_schema.specs.declared.declarations.Env.{Env as AnyEnv};
-ghost use Rattle.sc_schema.specs.Declarations.{context_of, environments};
-ghost use Rattle.sc_values.specs.declared.value.Value.TheVariants.{Record};
-ghost use Rattle.sc_world.specs.Conforms.{conforms};
+ghost use Rattle.sc_schema.specs.Declarations.{environments};
 ghost use Rattle.sc_world.specs.Tests.{Holds};
 ghost use Rattle.sc_world_breaks.specs.Breaks.{IsSoundRequest};
-ghost use Rattle.sc_world_breaks.specs.Tests.{IsEnvironmentOf, HasSoundParts};
+ghost use Rattle.sc_world_breaks.specs.Tests.{IsOneOf, HasSoundParts};
 
-use crate::uids::{is_named, is_same};
-use sc_names::Uid;
-use sc_schema::{Env, Schema, context_of, environments};
-use sc_values::Rec;
-use sc_world::{Request, is_proper_request, record_conforms};
+use sc_schema::{Env, Schema, environments};
+use sc_world::{Request, is_proper_request, is_request_of};
 
 /// Whether a request is made of values, and is one of an environment of the schema.
 pub(crate) fn is_sound_request(s: &Schema, r: &Request) -> bool
@@ -26,41 +21,19 @@ fn has_sound_parts(s: &Schema, r: &Request) -> bool
 {
     let proper = is_proper_request(r);
     let listed = has_environment(s, r);
-    let context = is_context_of(s, &r.action, &r.context);
-    proper && listed && context
+    proper && listed
 }
 
-/// Whether some environment has a request's types and its action.
+/// Whether a request is one of some environment.
 fn has_environment(s: &Schema, r: &Request) -> bool
-    ensures { IsTrue result ↔ ((env : AnyEnv) × Contains (environments s.now) env × Holds (IsEnvironmentOf r.now) env) }
+    ensures { IsTrue result ↔ ((env : AnyEnv) × Contains (environments s.now) env × Holds (IsOneOf s.now r.now) env) }
 {
-    environments(s)
-        .iter()
-        .any(|env| holds_environment_of(r, env))
+    environments(s).iter().any(|env| holds_for(s, r, env))
 }
 
 #[tactic(auto, unfolding(sc_world::specs::Tests::Holds))]
-fn holds_environment_of(r: &Request, env: &Env) -> bool
-    ensures { IsTrue result ↔ Holds (IsEnvironmentOf r.now) env.now }
+fn holds_for(s: &Schema, r: &Request, env: &Env) -> bool
+    ensures { IsTrue result ↔ Holds (IsOneOf s.now r.now) env.now }
 {
-    is_environment_of(r, env)
-}
-
-fn is_environment_of(r: &Request, env: &Env) -> bool
-    ensures { IsTrue result ↔ IsEnvironmentOf r.now env.now }
-{
-    let principal = is_named(&r.principal, &env.principal);
-    let action = is_same(&r.action, &env.action);
-    let resource = is_named(&r.resource, &env.resource);
-    principal && action && resource
-}
-
-/// Whether a context is one of an action.
-fn is_context_of(s: &Schema, action: &Uid, context: &Rec) -> bool
-    ensures { IsTrue result ↔ IsSomeAnd (context_of s.now action.now) (λ t. IsTrue (conforms t (Record context.now))) }
-{
-    match context_of(s, action) {
-        Some(ty) => record_conforms(context, ty),
-        None => false,
-    }
+    is_request_of(s, env, r)
 }

@@ -2,7 +2,7 @@
 ghost use Rattle.std.specs.Prelude.{◌≡◌, option_map, IfOk};
 ghost use Rattle.std.specs.List.{AllByRecursion};
 ghost use Rattle.serde_json.specs.View.{view};
-ghost use Rattle.sc_world.specs.Tests.{IsProperRequest};
+ghost use Rattle.sc_world.specs.WellFormed.{IsProperRequest};
 ghost use Rattle.sc_world.specs.WellFormed.{IsProperEntry, IsProperWorld};
 ghost use Rattle.sc_world_json.specs.Worlds.{entity_of, store_of, request_of, world_of};
 

@@ -1,12 +1,14 @@
-//! Worlds in which everything is as it is by default.
+//! Worlds in which everything is as it is by default, but for what is given.
 ghost use Rattle.std.specs.Prelude.{Contains};
 ghost use Rattle.sc_schema.specs.Declarations.{environments};
 
 use crate::samples::{literal, schema, uid};
 use sc_names::Lits;
 use sc_schema::{Env, Schema, environments};
-use sc_world::{Request, World, default_context, default_world, well_formed, world_for};
-use sc_world_json::world_text;
+use sc_world::{
+    Request, Store, World, default_context, default_world, well_formed, world_for, world_with,
+};
+use sc_world_json::{read_world, world_text};
 use std::alloc::{AllocError, Global};
 
 /// A document and a user, who views it.
@@ -21,11 +23,21 @@ const WITH_TEAM: &str =
 const OF_REQUEST: &str =
     r#"{"entities":[{"attrs":{},"parents":[],"tags":{},"uid":{"id":"view","type":"Action"}},{"attrs":{},"parents":[],"tags":{},"uid":{"id":"d","type":"Doc"}},{"attrs":{},"parents":[{"id":"view","type":"Action"}],"tags":{},"uid":{"id":"buy","type":"Shop::Action"}},{"attrs":{"level":0},"parents":[],"tags":{},"uid":{"id":"u","type":"User"}}],"request":{"action":{"id":"view","type":"Action"},"context":{"mfa":false},"principal":{"id":"u","type":"User"},"resource":{"id":"d","type":"Doc"}}}"#;
 
+/// A user `u`, who is in a team and has a friend.
+const GIVEN: &str =
+    r#"{"entities":[{"attrs":{"friends":[{"__entity":{"id":"v","type":"User"}}],"level":7},"parents":[{"id":"t","type":"Team"}],"tags":{"k":"x"},"uid":{"id":"u","type":"User"}}],"request":{"action":{"id":"view","type":"Action"},"context":{"mfa":false},"principal":{"id":"u","type":"User"},"resource":{"id":"d","type":"Doc"}}}"#;
+
+/// The same with what it names: a document, a team, another user and the declared actions.
+const WITH_GIVEN: &str =
+    r#"{"entities":[{"attrs":{},"parents":[],"tags":{},"uid":{"id":"view","type":"Action"}},{"attrs":{},"parents":[],"tags":{},"uid":{"id":"d","type":"Doc"}},{"attrs":{},"parents":[{"id":"view","type":"Action"}],"tags":{},"uid":{"id":"buy","type":"Shop::Action"}},{"attrs":{},"parents":[],"tags":{},"uid":{"id":"t","type":"Team"}},{"attrs":{"friends":[{"__entity":{"id":"v","type":"User"}}],"level":7},"parents":[{"id":"t","type":"Team"}],"tags":{"k":"x"},"uid":{"id":"u","type":"User"}},{"attrs":{"level":0},"parents":[],"tags":{},"uid":{"id":"v","type":"User"}}],"request":{"action":{"id":"view","type":"Action"},"context":{"mfa":false},"principal":{"id":"u","type":"User"},"resource":{"id":"d","type":"Doc"}}}"#;
+
 /// A call that makes a world.
 #[derive(Clone, Copy)]
 enum Call {
     Default,
     ForRequest,
+    WithNothing,
+    WithGiven,
 }
 
 /// A request of the user `u` to view the document `d`.
@@ -47,18 +59,35 @@ fn for_request(
     world_for(alloc, schema, request(alloc, schema, env)?, literals)
 }
 
-fn made(
+/// The world of the default request in which nothing is given.
+fn with_nothing(
     alloc: Global,
-    call: Call,
     schema: &Schema,
     env: &Env,
     literals: &Lits,
 ) -> Result<World, AllocError>
     requires { Contains (environments schema.now) env.now }
 {
+    let request = default_world(alloc, schema, env, literals)?.request;
+    world_with(alloc, schema, request, Store::new(alloc), literals)
+}
+
+/// The world in which what a text has is given.
+fn with_given(alloc: Global, schema: &Schema, literals: &Lits, text: &str) -> Option<World> {
+    match read_world(alloc, text.as_bytes()) {
+        Ok(world) => world_with(alloc, schema, world.request, world.store, literals).ok(),
+        Err(_) => None,
+    }
+}
+
+fn made(alloc: Global, call: Call, schema: &Schema, env: &Env, literals: &Lits) -> Option<World>
+    requires { Contains (environments schema.now) env.now }
+{
     match call {
-        Call::Default => default_world(alloc, schema, env, literals),
-        Call::ForRequest => for_request(alloc, schema, env, literals),
+        Call::Default => default_world(alloc, schema, env, literals).ok(),
+        Call::ForRequest => for_request(alloc, schema, env, literals).ok(),
+        Call::WithNothing => with_nothing(alloc, schema, env, literals).ok(),
+        Call::WithGiven => with_given(alloc, schema, literals, GIVEN),
     }
 }
 
@@ -93,8 +122,8 @@ fn makes_in(
     requires { Contains (environments schema.now) env.now }
 {
     match made(alloc, call, schema, env, literals) {
-        Ok(world) => has_text(alloc, schema, env, literals, &world, text),
-        Err(_) => false,
+        Some(world) => has_text(alloc, schema, env, literals, &world, text),
+        None => false,
     }
 }
 
@@ -132,4 +161,11 @@ fn worlds_by_default(rt: HostRuntime) {
     assert!(rt; makes_plainly(alloc, Call::Default, DEFAULT));
     assert!(rt; makes_plainly(alloc, Call::ForRequest, OF_REQUEST));
     assert!(rt; makes_with_team(alloc, WITH_TEAM));
+}
+
+#[test]
+fn worlds_with_given_entities(rt: HostRuntime) {
+    let alloc = rt.alloc();
+    assert!(rt; makes_plainly(alloc, Call::WithNothing, DEFAULT));
+    assert!(rt; makes_plainly(alloc, Call::WithGiven, WITH_GIVEN));
 }

@@ -209,7 +209,7 @@ pub(crate) fn schema(alloc: Global) -> Option<Schema> {
 }
 
 /// The world with another text in the place of a part of its text, if that is read.
-pub(crate) fn world_with(alloc: Global, part: &str, other: &str) -> Option<World> {
+pub(crate) fn changed_world(alloc: Global, part: &str, other: &str) -> Option<World> {
     match WORLD.replace(alloc, part, other) {
         Ok(text) => read_world(alloc, text.as_bytes()).ok(),
         Err(_) => None,

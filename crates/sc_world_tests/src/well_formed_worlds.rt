@@ -1,5 +1,5 @@
 //! Values of types, well-formed worlds, and what keeps worlds from being so.
-use crate::samples::{CHANGES, DOC, Told, WRITTEN, literal, schema, world_with};
+use crate::samples::{CHANGES, DOC, Told, WRITTEN, changed_world, literal, schema};
 use sc_names::{Lits, Uid};
 use sc_schema::{Schema, Ty, environments};
 use sc_values::Value;
@@ -73,7 +73,7 @@ fn is_told_by(
     (part, other): (&str, &str),
     told: Told,
 ) -> bool {
-    match world_with(alloc, part, other) {
+    match changed_world(alloc, part, other) {
         Some(world) => is_told(alloc, schema, &world, literals, told),
         None => false,
     }
@@ -133,7 +133,7 @@ fn fits_team(alloc: Global) -> bool {
     let user = r#""principal":{"id":"u","type":"User"}"#;
     let team = r#""principal":{"id":"t","type":"Team"}"#;
     match schema(alloc) {
-        Some(schema) => fits_user(&schema, world_with(alloc, user, team), &Lits::new(alloc)),
+        Some(schema) => fits_user(&schema, changed_world(alloc, user, team), &Lits::new(alloc)),
         None => true,
     }
 }

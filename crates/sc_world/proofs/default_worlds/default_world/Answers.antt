@@ -1,7 +1,7 @@
 use Rattle.std.proofs.Common.{◌≡◌, IfOk, sym, subst}
 use Rattle.sc_world.specs.declared.world.Request.{Request}
 use Rattle.sc_world.specs.Named.{StoresNamed, IsRequestAmong}
-use Rattle.sc_world.proofs.DefaultWorldLaws.{default_among}
+use Rattle.sc_world.proofs.DefaultEntityLaws.{default_among}
 use Rattle.sc_world.proofs.default_worlds.default_world.Goals as goal
 
 pub returns : goal.returns

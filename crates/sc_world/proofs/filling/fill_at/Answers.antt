@@ -13,4 +13,4 @@ both (Err e) P Q R p q f = tt
 pub returns : goal.returns
 returns c =
     both c.fill_with.result _ _ _ c.fill_with.ensures.uids c.fill_with.ensures.store
-    (λ uids store. added-at c.args.s.now c.args.uids.now _ _ c.args.store.now _ c.args.at _ _ c.as_slice.ensures c.index-as_slice-at.is c.requires c.in_ok-uid.ensures c.fill_with.ensures.text uids store)
+    (λ uids store. added-at c.args.s.now c.args.uids.now _ _ c.args.store.now _ c.args.at _ _ _ c.as_slice.ensures c.index-as_slice-at.is c.requires c.is_stored.ensures c.if-is_stored.false c.in_ok-uid.ensures c.fill_with.ensures.text uids store)

@@ -7,4 +7,4 @@ abbrev pub decreases-loop-done : goal.decreases-loop-done
 decreases-loop-done l = 2 ^ 64 - l.done
 
 abbrev pub invariant-loop-done : goal.invariant-loop-done
-invariant-loop-done l = IsFilled l.s l.initial.uids l.uids l.done l.store
+invariant-loop-done l = IsFilled l.s l.fn.given l.request l.lits l.uids l.done l.store
