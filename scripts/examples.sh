@@ -41,19 +41,19 @@ session() {
         /^\$ / { n++; print substr($0, 3) > (out "." n ".command"); printf "" > (out "." n ".wanted"); next }
         { print > (out "." n ".wanted") }
     ' "$1"
-    n=1
+    at=1
     status=0
-    while [ -f "$1.$n.command" ]; do
-        command=$(cat "$1.$n.command")
+    while [ -f "$1.$at.command" ]; do
+        command=$(cat "$1.$at.command")
         if [ "$command" = 'echo $?' ]; then
-            echo "$status" > "$1.$n.found"
+            echo "$status" > "$1.$at.found"
         else
             case $command in cedar_symcc*) command="$program${command#cedar_symcc}" ;; esac
-            (cd "$folder" && eval "$command") > "$1.$n.found" 2> /dev/null
+            (cd "$folder" && eval "$command") > "$1.$at.found" 2> /dev/null
             status=$?
         fi
-        compare "$1.$n.wanted" "$1.$n.found" "$(cat "$1.$n.command")"
-        n=$((n + 1))
+        compare "$1.$at.wanted" "$1.$at.found" "$(cat "$1.$at.command")"
+        at=$((at + 1))
     done
 }
 
