@@ -10,7 +10,6 @@ pub mod RunLaws
 pub mod SpanLaws
 pub mod SpellingLaws
 pub mod StringLaws
-pub mod TestLaws
 pub mod UnescapingLaws
 pub mod UniqueLaws
 pub mod WorkedRows

@@ -14,7 +14,7 @@ use Rattle.sc_lists.proofs.BoolLaws.{and_second, and_first}
 use Rattle.sc_lexer.specs.declared.piece.Piece.{Piece}
 use Rattle.sc_lexer.specs.declared.piece.Piece.TheVariants.{Char, Star}
 use Rattle.sc_lexer.specs.Escapes.{is_letter, IsEscape, letter, star, ascii, code, IsSpelled, ends, plain, escape, ascii_of, braced_of, scalar_of, escape_of}
-use Rattle.sc_lexer.specs.Pieces.{Means, of_letter, of_star, of_ascii, of_code, Spells, nothing, character, wildcard, escaped, inside, pieces_after, pieces_of}
+use Rattle.sc_lexer.specs.Pieces.{Means, of_letter, of_star, of_ascii, of_code, Spells, nothing, character, wildcard, escaped, quoted, pieces_after, pieces_of}
 use Rattle.sc_lexer.specs.declared.token.Kind.TheVariants.{Str}
 use Rattle.sc_lexer.specs.Tokens.{closes, is_string, kind_of}
 use Rattle.sc_lexer.proofs.FrontLaws.{ends_ascii}
@@ -195,42 +195,50 @@ spelled_inner {like} u (escape e r k s) h =
 
 -- what a string token stands for
 
-inside_utf8 : (t : List ℕ) → kind_of t ≡ Some Str → 2 ≤ length t → get_or t 0 0 ≡ 34 → IsUtf8 t → IsUtf8 (inside t)
-inside_utf8 t h l q u =
+quoted_utf8 : (t : List ℕ) → kind_of t ≡ Some Str → 2 ≤ length t → get_or t 0 0 ≡ 34 → IsUtf8 t → IsUtf8 (quoted t)
+quoted_utf8 t h l q u =
     let first : IsCharBoundary t 1 = IsCharBoundary-after_ascii t 0 u (omega arith) (omega arith) in
     let last : IsCharBoundary t (length t - 1) = IsCharBoundary-before_ascii t (length t - 1) (omega arith) (ends_ascii t Str h).last in
     let size : length t - 1 - 1 ≡ length t - 2 = omega arith in
     subst (λ (n : ℕ). IsUtf8 (take n (drop 1 t))) size (IsUtf8-between t 1 (length t - 1) u (omega arith) first last)
 
-inside_spelled : {like : Bool} (t : List ℕ) → is_string t ≡ true → IsSpelled like t → IsSpelled like (inside t)
-inside_spelled [] h s = cc
-inside_spelled {like} (c ∷ u) h s =
+quoted_spelled : {like : Bool} (t : List ℕ) → is_string t ≡ true → IsSpelled like t → IsSpelled like (quoted t)
+quoted_spelled [] h s = cc
+quoted_spelled {like} (c ∷ u) h s =
     let quote : c ≡ 34 = eqb-true c 34 (and_first (c == 34) (closes u) h) in
     let inner = spelled_inner u (spelled_tail c u s refl (omega arith)) (and_second (c == 34) (closes u) h) in
     let size : length (c ∷ u) - 2 ≡ length u - 1 = omega arith in
     subst (λ (n : ℕ). IsSpelled like (take n u)) (sym size) inner
 
-some_inside : (t : List ℕ) → is_string t ≡ true → (2 ≤ length t) × (get_or t 0 0 ≡ 34)
-some_inside [] h = cc
-some_inside (c ∷ u) h =
+some_quoted : (t : List ℕ) → is_string t ≡ true → (2 ≤ length t) × (get_or t 0 0 ≡ 34)
+some_quoted [] h = cc
+some_quoted (c ∷ u) h =
     let end = closes_last u (and_second (c == 34) (closes u) h) in
     (omega (arith, end.0), eqb-true c 34 (and_first (c == 34) (closes u) h))
 
-pub Spells_string : {like : Bool} (t : List ℕ) → kind_of t ≡ Some Str → IsUtf8 t → IsSpelled like t → Spells (chars (inside t)) (pieces_of t)
+pub Spells_string : {like : Bool} (t : List ℕ) → kind_of t ≡ Some Str → IsUtf8 t → IsSpelled like t → Spells (chars (quoted t)) (pieces_of t)
 unfolding pieces_of
 Spells_string t h u s =
     let is = is_string-kind t h in
-    let some = some_inside t is in
-    let utf8 = inside_utf8 t h some.0 some.1 u in
-    let bytes = subst (IsSpelled true) (sym (encodes-chars (inside t) utf8)) (spelled_pattern (inside t) (inside_spelled t is s)) in
-    let all = spell (length (chars (inside t))) (chars (inside t)) (omega arith) (scalars-chars (inside t) utf8) bytes in
-    let given : pieces_after 0 (chars (inside t)) ≡ all.pieces = Spells_given (chars (inside t)) all.pieces all.spelled in
-    rw (is_utf8-from_IsUtf8 (inside t) utf8, given) all.spelled
+    let some = some_quoted t is in
+    let utf8 = quoted_utf8 t h some.0 some.1 u in
+    let bytes = subst (IsSpelled true) (sym (encodes-chars (quoted t) utf8)) (spelled_pattern (quoted t) (quoted_spelled t is s)) in
+    let all = spell (length (chars (quoted t))) (chars (quoted t)) (omega arith) (scalars-chars (quoted t) utf8) bytes in
+    let given : pieces_after 0 (chars (quoted t)) ≡ all.pieces = Spells_given (chars (quoted t)) all.pieces all.spelled in
+    rw (is_utf8-from_IsUtf8 (quoted t) utf8, given) all.spelled
 
 -- the clause of a call
-pub pieces_spelled : (bytes : List ℕ) (r : Result (List Piece) AllocError) → IfOk r (λ ps. ps ≡ pieces_of bytes) → (told : List Piece) → IsUtf8 (inside bytes) → Spells (chars (inside bytes)) told → IfOk r (λ ps. ps ≡ told)
+pub pieces_spelled : (bytes : List ℕ) (r : Result (List Piece) AllocError) → IfOk r (λ ps. ps ≡ pieces_of bytes) → (told : List Piece) → IsUtf8 (quoted bytes) → Spells (chars (quoted bytes)) told → IfOk r (λ ps. ps ≡ told)
 unfolding pieces_of
 pieces_spelled bytes (Ok ps) h told u s =
-    let all : pieces_of bytes ≡ told = rw is_utf8-from_IsUtf8 (Spells_given (chars (inside bytes)) told s) in
+    let all : pieces_of bytes ≡ told = rw is_utf8-from_IsUtf8 (Spells_given (chars (quoted bytes)) told s) in
     h ∙ all
 pieces_spelled bytes (Err error) h told u s = tt
+
+-- ---- a string stands for one text
+
+pub some_spelling : (like : Bool) (t : List ℕ) → kind_of t ≡ Some Str → IsUtf8 t → IsSpelled like t → (ps : List Piece) × Spells (chars (quoted t)) ps
+some_spelling like t k u s = (pieces_of t, Spells_string {like = like} t k u s)
+
+pub one_spelling : (cs : List ℕ) (ps qs : List Piece) → Spells cs ps → Spells cs qs → ps ≡ qs
+one_spelling cs ps qs p q = sym (Spells_given cs ps p) ∙ Spells_given cs qs q

@@ -1,9 +1,7 @@
 -- The longest run of bytes in front that pass a test.
-use Rattle.std.proofs.Common.{◌≡◌, ℕ, ◌≤◌, List, [], ◌∷◌, length, take, Bool, true, false, cond, refl, sym, ◌∙◌, ap}
-use Rattle.std.specs.List.{list_all, take_while}
+use Rattle.std.proofs.Common.{◌≡◌, ℕ, ◌≤◌, List, length, take, Bool, sym, ◌∙◌, ap}
+use Rattle.std.specs.List.{take_while}
 use Rattle.std.proofs.lemmas.List.{take-take}
-use Rattle.std.proofs.lemmas.List.Sums.{take_while-cons, prefix_len-le-length}
-use Rattle.std.proofs.lemmas.List.Folds.{length-prefix_len}
 use Rattle.sc_lists.proofs.TextLaws.{take_while_front}
 
 pub take-take_while : (p : ℕ → Bool) (n : ℕ) (cs : List ℕ) → n ≤ length (take_while p cs) → take n (take_while p cs) ≡ take n cs

@@ -14,7 +14,7 @@ use Rattle.sc_lexer.specs.Blanks.{Skips, none, space, comment}
 use Rattle.sc_lexer.specs.Tokens.{kind_of}
 use Rattle.sc_lexer.specs.Reading.{Reads, HasEscapes, ends, no_token, bad_escape, some_token, token_of, before, Lexes, ill_formed, text}
 use Rattle.sc_lexer.specs.Spans.{text_of, AreTokens}
-use Rattle.sc_lexer.specs.Pieces.{Spells, inside, pieces_of}
+use Rattle.sc_lexer.specs.Pieces.{Spells, quoted, pieces_of}
 use Rattle.sc_lexer.proofs.BlankLaws.{length-Skips, IsUtf8-Skips}
 use Rattle.sc_lexer.proofs.FrontLaws.{ends_ascii, token_boundary}
 use Rattle.sc_lexer.proofs.MeaningLaws.{Spells_string}
@@ -37,7 +37,7 @@ pub record IsToken (bytes : List ℕ) (t : Token) : Type 0 where
   pub some : t.span.start < t.span.end
   pub within : t.span.end ≤ length bytes
   pub kind : kind_of (text_of bytes t) ≡ Some t.kind
-  pub string : t.kind ≡ Str → Spells (chars (inside (text_of bytes t))) (pieces_of (text_of bytes t))
+  pub string : t.kind ≡ Str → Spells (chars (quoted (text_of bytes t))) (pieces_of (text_of bytes t))
 
 -- tokens of a file from a place on, in order
 TokensFrom : List ℕ → ℕ → List Token → Type 0
@@ -60,7 +60,7 @@ IsToken-token_of bytes front t rest kind e k u has =
       some = omega arith;
       within = omega arith;
       kind = ap kind_of is ∙ k;
-      string = λ s. subst (λ bs. Spells (chars (inside bs)) (pieces_of bs)) (sym is) (Spells_string t (k ∙ ap Some s) u (has s));
+      string = λ s. subst (λ bs. Spells (chars (quoted bs)) (pieces_of bs)) (sym is) (Spells_string t (k ∙ ap Some s) u (has s));
     }
 
 before_ok : (t : Token) (r : Result (List Token) LexFault) (ts : List Token) → before t r ≡ Ok ts → (us : List Token) × (r ≡ Ok us) × (ts ≡ t ∷ us)

@@ -15,7 +15,7 @@ use Rattle.sc_lexer.specs.declared.piece.Piece.TheVariants.{Char, Star, EscapedS
 use Rattle.sc_lexer.specs.declared.piece.Escape.{Escape}
 use Rattle.sc_lexer.specs.Escapes.{is_letter, IsEscape, letter, star, ascii, code, escape_of}
 use Rattle.sc_lexer.specs.Parts.{allows}
-use Rattle.sc_lexer.specs.Pieces.{inside, pieces_after, pieces_of, piece_char}
+use Rattle.sc_lexer.specs.Pieces.{quoted, pieces_after, pieces_of, piece_char}
 use Rattle.sc_lexer.proofs.SpellingLaws.{IsMeant-escape, Begins-escape}
 
 -- escapes are ASCII
@@ -124,7 +124,7 @@ pub pieces_none : (cs : List ℕ) → cs ≡ [] → pieces_after 0 cs ≡ []
 unfolding pieces_after
 pieces_none cs e = rw e refl
 
-pub pieces_ok : (bytes t : List ℕ) (r : Result (List Piece) AllocError) → t ≡ inside bytes → IsUtf8 (inside bytes) → IfOk r (λ ps. ps ≡ pieces_after 0 (chars t)) → IfOk r (λ ps. ps ≡ pieces_of bytes)
+pub pieces_ok : (bytes t : List ℕ) (r : Result (List Piece) AllocError) → t ≡ quoted bytes → IsUtf8 (quoted bytes) → IfOk r (λ ps. ps ≡ pieces_after 0 (chars t)) → IfOk r (λ ps. ps ≡ pieces_of bytes)
 unfolding pieces_of
 pieces_ok bytes t (Ok ps) e u h = rw is_utf8-from_IsUtf8 (h ∙ ap (λ bs. pieces_after 0 (chars bs)) e)
 pieces_ok bytes t (Err error) e u h = tt
@@ -135,9 +135,9 @@ no_text bs h = elim (is_utf8 bs) as (λ b. is_utf8 bs ≡ b → b ≡ false) [
   | false ↦ λ e. refl
 ] refl
 
-pub pieces_empty : (bytes : List ℕ) → (IsUtf8 (inside bytes) → ⊥) → [] ≡ pieces_of bytes
+pub pieces_empty : (bytes : List ℕ) → (IsUtf8 (quoted bytes) → ⊥) → [] ≡ pieces_of bytes
 unfolding pieces_of
-pieces_empty bytes h = rw (no_text (inside bytes) h) refl
+pieces_empty bytes h = rw (no_text (quoted bytes) h) refl
 
 -- one more piece of a string
 pub string_more : (ps : List Piece) (i : ℕ) (d : Piece) → i < length ps → encode_utf8_all (map piece_char (take (i + 1) ps)) ≡ encode_utf8_all (map piece_char (take i ps)) ++ encode_utf8 (piece_char (get_or ps i d))

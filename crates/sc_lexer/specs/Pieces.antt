@@ -24,8 +24,8 @@ pub data Spells : List ℕ → List Piece → Type 0 where
   escaped : (e cs : List ℕ) (p : Piece) (ps : List Piece) → IsEscape true e → Means e p → Spells cs ps → Spells (92 ∷ (e ++ cs)) (p ∷ ps)
 
 -- the bytes between the quotes of a string
-abbrev pub inside : List ℕ → List ℕ
-inside text = take (length text - 2) (drop 1 text)
+abbrev pub quoted : List ℕ → List ℕ
+quoted text = take (length text - 2) (drop 1 text)
 
 -- what an escape stands for; a backslash that begins none, of which no token has one, stands for itself
 abbrev pub escape_piece : Option Escape → Piece
@@ -47,7 +47,7 @@ pieces_after zero (c ∷ cs) =
 
 -- what a string stands for in a pattern, by its text with the quotes; bytes that are no text stand for nothing
 unfoldable pub pieces_of : List ℕ → List Piece
-pieces_of text = if is_utf8 (inside text) then pieces_after 0 (chars (inside text)) else []
+pieces_of text = if is_utf8 (quoted text) then pieces_after 0 (chars (quoted text)) else []
 
 -- the character that a piece is in a string that is no pattern
 abbrev pub piece_char : Piece → ℕ

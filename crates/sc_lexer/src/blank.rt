@@ -1,5 +1,5 @@
 //! White space and comments.
-ghost use Rattle.std.specs.Prelude.{◌≡◌, ℕ, List, ◌<◌, ◌≤◌, length, drop, true, codes, eqb};
+ghost use Rattle.std.specs.Prelude.{◌≡◌, ◌<◌, ◌≤◌, length, drop, true, codes, eqb};
 ghost use Rattle.std.specs.List.{take_while, starts_with};
 ghost use Rattle.sc_lexer.specs.Blanks.{ends_line, stays_in_line, BeginsNoSpace, Skips, Leads};
 

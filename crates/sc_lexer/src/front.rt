@@ -1,8 +1,7 @@
 //! The longest token that begins some bytes.
-ghost use Rattle.std.specs.Prelude.{◌≡◌, ◌≢◌, ℕ, List, ◌<◌, ◌≤◌, length, get_or, take, drop, true, false, IfSome, IfNone};
-ghost use Rattle.std.specs.List.{take_while};
+ghost use Rattle.std.specs.Prelude.{◌≡◌, ◌≢◌, ◌<◌, length, get_or, false, IfSome, IfNone};
 ghost use Rattle.std.specs.Char.{is_ascii_digit};
-ghost use Rattle.sc_names.specs.Names.{begins_word, goes_on_word};
+ghost use Rattle.sc_names.specs.Names.{begins_word};
 ghost use Rattle.sc_lexer.specs.Tokens.{BeginsNoToken};
 ghost use Rattle.sc_lexer.specs.Fronts.{IsFront, long_sign};
 

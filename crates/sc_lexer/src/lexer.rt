@@ -1,5 +1,5 @@
 //! The tokens of a file.
-ghost use Rattle.std.specs.Prelude.{◌≡◌, ◌+◌, ◌-◌, ◌<◌, ◌≤◌, ◌^◌, List, Result, length, take, drop, false, IfOk, IfErr, Ok, Err, codes};
+ghost use Rattle.std.specs.Prelude.{◌≡◌, ◌+◌, ◌-◌, ◌<◌, ◌^◌, List, Result, length, false, IfOk, IfErr, Ok, Err, codes};
 ghost use Rattle.std.specs.Str.{bytes_eq};
 ghost use Rattle.sc_lists.specs.Told.{Gives};
 ghost use Rattle.sc_lexer.specs.declared.token.Token.{Token as AnyToken};

@@ -5,6 +5,7 @@
 mod blank;
 mod escape;
 mod front;
+mod laws;
 mod length;
 mod lexer;
 mod piece;
@@ -16,6 +17,7 @@ mod tests;
 mod token;
 mod unescaping;
 
+pub use laws::spelling_laws;
 pub use lexer::{text, tokens};
 pub use piece::Piece;
 pub use token::{Kind, LexFault, Span, Token};

@@ -1,5 +1,5 @@
 //! Signs.
-ghost use Rattle.std.specs.Prelude.{◌≡◌, ℕ};
+ghost use Rattle.std.specs.Prelude.{◌≡◌};
 ghost use Rattle.sc_lexer.specs.Tokens.{one_sign, two_sign};
 
 use crate::token::Kind;

@@ -1,5 +1,5 @@
 //! The parts of a string, and its first backslash that begins no escape.
-ghost use Rattle.std.specs.Prelude.{◌≡◌, ◌+◌, ◌-◌, ◌<◌, ◌≤◌, length, take, drop, IfSome, IfNone};
+ghost use Rattle.std.specs.Prelude.{◌≡◌, ◌+◌, ◌-◌, ◌<◌, length, take, drop, IfSome, IfNone};
 ghost use Rattle.sc_lexer.specs.Escapes.{IsSpelled, IsBadEscape};
 ghost use Rattle.sc_lexer.specs.Parts.{allows, IsPart, BeginsBadEscape};
 

@@ -1,5 +1,5 @@
 //! Where a string ends.
-ghost use Rattle.std.specs.Prelude.{◌≡◌, ℕ, List, ◌<◌, ◌≤◌, length, take, true, false, IfSome, IfNone};
+ghost use Rattle.std.specs.Prelude.{◌≡◌, ℕ, ◌<◌, ◌≤◌, length, take, true, false, IfSome, IfNone};
 ghost use Rattle.sc_lexer.specs.Tokens.{closes};
 
 /// How many bytes there are up to the closing quote of a string, and with it, from its first byte

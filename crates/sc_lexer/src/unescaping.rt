@@ -1,8 +1,8 @@
 //! What the text of a string token stands for.
-ghost use Rattle.std.specs.Prelude.{◌≡◌, ◌∷◌, [], ◌<◌, List, length, map, IfOk, MatchOption, IfSome, string_bytes};
-ghost use Rattle.std.specs.Str.{IsUtf8, chars, encode_utf8_all};
+ghost use Rattle.std.specs.Prelude.{◌≡◌, ◌∷◌, [], ◌<◌, List, IfOk, MatchOption};
+ghost use Rattle.std.specs.Str.{IsUtf8, chars};
 ghost use Rattle.sc_lexer.specs.declared.piece.Piece.{Piece as AnyPiece};
-ghost use Rattle.sc_lexer.specs.Pieces.{inside, Spells, pieces_after, pieces_of, piece_char, string_of};
+ghost use Rattle.sc_lexer.specs.Pieces.{quoted, Spells, pieces_after, pieces_of, piece_char, string_of};
 
 use crate::escape::escape;
 use crate::piece::Piece;
@@ -10,8 +10,8 @@ use sc_lists::{Seq, Text};
 use std::alloc::{AllocError, Global};
 
 /// The bytes between the quotes of a string.
-fn inside(text: &[u8]) -> &[u8]
-    ensures { result.now ≡ inside text.now }
+fn quoted(text: &[u8]) -> &[u8]
+    ensures { result.now ≡ quoted text.now }
 {
     if text.len() < 2 {
         return &[];
@@ -72,7 +72,7 @@ fn text_pieces(alloc: Global, text: &str) -> Result<Seq<Piece>, AllocError>
 fn read_pieces(alloc: Global, text: &[u8]) -> Result<Seq<Piece>, AllocError>
     ensures { IfOk result (λ ps. ps ≡ pieces_of text.now) }
 {
-    match std::str::from_utf8(inside(text)) {
+    match std::str::from_utf8(quoted(text)) {
         Ok(text) => text_pieces(alloc, text),
         Err(_) => Ok(Seq::new(alloc)),
     }
@@ -84,7 +84,7 @@ pub fn pieces(alloc: Global, text: &[u8]) -> Result<Seq<Piece>, AllocError>
     // They are those that the definition gives for the token's text.
     ensures value { IfOk result (λ ps. ps ≡ pieces_of text.now) }
     // What the characters between the quotes spell is given.
-    ensures spelled { (told : List AnyPiece) → IsUtf8 (inside text.now) → Spells (chars (inside text.now)) told → IfOk result (λ ps. ps ≡ told) }
+    ensures spelled { (told : List AnyPiece) → IsUtf8 (quoted text.now) → Spells (chars (quoted text.now)) told → IfOk result (λ ps. ps ≡ told) }
 {
     read_pieces(alloc, text)
 }

@@ -1,2 +1,0 @@
--- What tests say.
-use Rattle.std.proofs.Common.{◌≡◌, ◌&&◌, Bool, true, false, ◌⊎◌, inl, inr, refl}
