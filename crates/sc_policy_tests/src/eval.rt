@@ -162,6 +162,161 @@ fn texts_decimals_and_addresses(rt: HostRuntime) {
     }
 }
 
+/// Of the members of sets: operands are evaluated first, and then their kinds are asked for.
+const SETS: &[(&str, Given)] = &[
+    ("[1, 2, 3].containsAll([3, 1])", Truth(true)),
+    ("[1, 2, 3].containsAll([3])", Truth(true)),
+    ("[2, 3].containsAll([1, 3])", Truth(false)),
+    ("[3, 1].containsAll([1, 2, 3])", Truth(false)),
+    ("[1].containsAll([])", Truth(true)),
+    ("[].containsAll([])", Truth(true)),
+    ("[].containsAll([1])", Truth(false)),
+    ("[[1], \"a\"].containsAll([\"a\", [1, 1]])", Truth(true)),
+    ("[1, 3].containsAny([2, 3])", Truth(true)),
+    ("[1, 3].containsAny([2, 4])", Truth(false)),
+    ("[2].containsAny([1, 2])", Truth(true)),
+    ("[\"1\"].containsAny([1])", Truth(false)),
+    ("[].containsAny([])", Truth(false)),
+    ("[1].containsAny([])", Truth(false)),
+    ("[1].isEmpty()", Truth(false)),
+    ("[[]].isEmpty()", Truth(false)),
+    ("(1).containsAll([1])", Error(EvalError::TypeError)),
+    ("[1].containsAll(1)", Error(EvalError::TypeError)),
+    (
+        "(1).containsAll([9223372036854775807 + 1])",
+        Error(EvalError::Overflow),
+    ),
+    ("(1).containsAny([1])", Error(EvalError::TypeError)),
+    ("[1].containsAny(\"a\")", Error(EvalError::TypeError)),
+    (
+        "(1).containsAny([9223372036854775807 + 1])",
+        Error(EvalError::Overflow),
+    ),
+    ("(1).isEmpty()", Error(EvalError::TypeError)),
+    ("\"\".isEmpty()", Error(EvalError::TypeError)),
+    (
+        "[9223372036854775807 + 1].isEmpty()",
+        Error(EvalError::Overflow),
+    ),
+];
+
+#[test]
+fn members_of_sets(rt: HostRuntime) {
+    for &(body, given) in SETS {
+        assert!(rt; gives(rt.alloc(), body, given), "{body}");
+    }
+}
+
+/// Of signs and products.
+const SIGNS_AND_PRODUCTS: &[(&str, Given)] = &[
+    ("-(3) == 0 - 3", Truth(true)),
+    ("-(-3) == 3", Truth(true)),
+    ("-principal.age == -7", Truth(true)),
+    ("3 * -4 == -12", Truth(true)),
+    ("-3 * -4 == 12", Truth(true)),
+    ("0 * 9223372036854775807 == 0", Truth(true)),
+    ("2 * 3 * 4 == 24", Truth(true)),
+    (
+        "4611686018427387904 * -2 == -9223372036854775808",
+        Truth(true),
+    ),
+    ("-\"a\"", Error(EvalError::TypeError)),
+    ("-true", Error(EvalError::TypeError)),
+    ("-(9223372036854775807 + 1)", Error(EvalError::Overflow)),
+    ("4611686018427387904 * 2", Error(EvalError::Overflow)),
+    ("-9223372036854775808 * -1", Error(EvalError::Overflow)),
+    ("3037000500 * 3037000500", Error(EvalError::Overflow)),
+    ("\"a\" * 2", Error(EvalError::TypeError)),
+    ("2 * true", Error(EvalError::TypeError)),
+    (
+        "true * (9223372036854775807 + 1)",
+        Error(EvalError::Overflow),
+    ),
+    (
+        "(9223372036854775807 + 1) * true",
+        Error(EvalError::Overflow),
+    ),
+];
+
+#[test]
+fn signs_and_products(rt: HostRuntime) {
+    for &(body, given) in SIGNS_AND_PRODUCTS {
+        assert!(rt; gives(rt.alloc(), body, given), "{body}");
+    }
+}
+
+/// Of `has` with several names.
+const PATHS: &[(&str, Given)] = &[
+    ("{a: {b: {c: 1}}} has a.b.c", Truth(true)),
+    ("{a: {b: {d: 1}}} has a.b.c", Truth(false)),
+    ("{a: {}} has a.b.c", Truth(false)),
+    ("{b: 1} has a.b", Truth(false)),
+    ("{u: principal} has u.age", Truth(true)),
+    ("{u: principal} has u.name.a", Truth(false)),
+    ("{u: resource} has u.age", Truth(false)),
+    ("resource has age.a", Truth(false)),
+    ("{a: 1} has a.b", Error(EvalError::TypeError)),
+    ("{a: {b: []}} has a.b.c", Error(EvalError::TypeError)),
+    ("principal has age.a", Error(EvalError::TypeError)),
+    ("1 has a.b", Error(EvalError::TypeError)),
+    (
+        "(9223372036854775807 + 1) has a.b",
+        Error(EvalError::Overflow),
+    ),
+];
+
+#[test]
+fn several_names(rt: HostRuntime) {
+    for &(body, given) in PATHS {
+        assert!(rt; gives(rt.alloc(), body, given), "{body}");
+    }
+}
+
+/// Of `is .. in` and of `in`: where the type is another one, what stands behind `in` isn't evaluated, and
+/// each member of a set is asked to be an entity.
+const TYPES_AND_GROUPS: &[(&str, Given)] = &[
+    ("principal is User in principal", Truth(true)),
+    ("principal is User in action", Truth(false)),
+    ("principal is User in []", Truth(false)),
+    ("principal is User in [action, Team::\"t\"]", Truth(true)),
+    ("resource is Doc in resource", Truth(true)),
+    ("resource is Doc in Team::\"t\"", Truth(false)),
+    (
+        "principal is Team in (9223372036854775807 + 1)",
+        Truth(false),
+    ),
+    ("principal is Team in [1]", Truth(false)),
+    ("principal is User in 1", Error(EvalError::TypeError)),
+    (
+        "principal is User in [Team::\"t\", 1]",
+        Error(EvalError::TypeError),
+    ),
+    (
+        "principal is User in (9223372036854775807 + 1)",
+        Error(EvalError::Overflow),
+    ),
+    ("1 is User in principal", Error(EvalError::TypeError)),
+    (
+        "1 is User in (9223372036854775807 + 1)",
+        Error(EvalError::TypeError),
+    ),
+    (
+        "principal in [Team::\"t\", \"a\"]",
+        Error(EvalError::TypeError),
+    ),
+    ("resource in [principal, 1]", Error(EvalError::TypeError)),
+    ("principal in 1", Error(EvalError::TypeError)),
+    ("1 in [principal]", Error(EvalError::TypeError)),
+    ("1 in (9223372036854775807 + 1)", Error(EvalError::Overflow)),
+];
+
+#[test]
+fn types_and_groups(rt: HostRuntime) {
+    for &(body, given) in TYPES_AND_GROUPS {
+        assert!(rt; gives(rt.alloc(), body, given), "{body}");
+    }
+}
+
 /// Of what has no value.
 const ERRORS: &[(&str, Given)] = &[
     ("9223372036854775807 + 1", Error(EvalError::Overflow)),

@@ -176,17 +176,53 @@ fn relations(alloc: Global, first: &[i64], second: &[i64]) -> Result<(bool, bool
 }
 
 /// Two sets each, whether the first is among the second, and whether they meet.
-const RELATIONS: [(&[i64], &[i64], bool, bool); 4] = [
+const RELATIONS: &[(&[i64], &[i64], bool, bool)] = &[
     (&[2], &[3, 2], true, true),
     (&[3, 2], &[2], false, true),
     (&[], &[2], true, false),
     (&[3, 2], &[], false, false),
+    (&[], &[], true, false),
+    (&[1, 3], &[1, 2, 3, 4], true, true),
+    (&[1, 4], &[1, 2, 3], false, true),
+    (&[1, 3], &[2, 3], false, true),
+    (&[4], &[1, 2, 3], false, false),
+    (&[0, 2, 4], &[1, 3, 5], false, false),
+    (&[0, 2, 5], &[1, 3, 5], false, true),
 ];
 
 #[test]
 fn relations_of_sets(rt: HostRuntime) -> Result<(), Fail> {
-    for (first, second, among, meet) in RELATIONS {
+    for &(first, second, among, meet) in RELATIONS {
         assert_eq!(rt; relations(rt.alloc(), first, second)?, (among, meet));
+    }
+    Ok(())
+}
+
+/// The same of two lists in the order in which they are written.
+fn list_relations(
+    alloc: Global,
+    first: &[i64],
+    second: &[i64],
+) -> Result<(bool, bool), AllocError> {
+    let first = Seq::from_vec(longs(alloc, first)?);
+    let second = Seq::from_vec(longs(alloc, second)?);
+    Ok((subset(&first, &second), intersects(&first, &second)))
+}
+
+/// Two lists each that don't both ascend, whether each member of the first is one of the second, and
+/// whether they meet.
+const LIST_RELATIONS: &[(&[i64], &[i64], bool, bool)] = &[
+    (&[2, 1], &[1, 2], true, true),
+    (&[1, 2], &[2, 1], true, true),
+    (&[1, 1], &[1], true, true),
+    (&[3, 2], &[1, 2], false, true),
+    (&[3, 2], &[1, 4], false, false),
+];
+
+#[test]
+fn relations_of_lists_out_of_order(rt: HostRuntime) -> Result<(), Fail> {
+    for &(first, second, among, meet) in LIST_RELATIONS {
+        assert_eq!(rt; list_relations(rt.alloc(), first, second)?, (among, meet));
     }
     Ok(())
 }
