@@ -14,7 +14,7 @@ mod typing;
 
 pub use checking::check_types;
 pub use ill_typed::IllTyped;
-pub use laws::policy_laws;
+pub use laws::{name_laws, policy_laws, written_out_laws};
 pub use name_fault::{NameFault, NameKind};
 pub use names::check_names;
 pub use policy::type_policy;
