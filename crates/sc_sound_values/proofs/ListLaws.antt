@@ -2,8 +2,7 @@
 use Rattle.std.proofs.Common.{◌||◌, ◌⊎◌, inl, inr, List, [], ◌∷◌, ◌++◌, map, Bool, true, false, IsTrue, Contains, refl, sym, subst}
 use Rattle.std.specs.List.{AllByRecursion, list_all, list_any}
 use Rattle.std.proofs.lemmas.Bool.{or_cases, or_left, or_right, and_from}
-use Rattle.sc_lists.proofs.ListLaws.{contains_nothing, contains_rest, contains_first}
-use Rattle.sc_values.proofs.AscendingLaws as ascending
+use Rattle.sc_lists.proofs.ListLaws.{contains_nothing, contains_rest, contains_first, contains_split}
 
 module _ {X : Type 0} (P : X → Type 0) where
   pub split : (xs ys : List X) → AllByRecursion P (xs ++ ys) → AllByRecursion P xs × AllByRecursion P ys
@@ -28,7 +27,7 @@ module _ {X : Type 0} (P : X → Type 0) where
 
   pub contained : (xs : List X) (x : X) → AllByRecursion P xs → Contains xs x → P x
   contained [] x all has = absurd (contains_nothing x has)
-  contained (y ∷ ys) x all has = elim (ascending.split y ys x has) [
+  contained (y ∷ ys) x all has = elim (contains_split y ys x has) [
     | inl here ↦ subst P here all.0
     | inr later ↦ contained ys x all.1 later
   ]
@@ -41,7 +40,7 @@ module _ {X : Type 0} (P : X → Type 0) where
 
 pub any_contained : {X : Type 0} (test : X → Bool) (xs : List X) (x : X) → Contains xs x → IsTrue (test x) → IsTrue (list_any test xs)
 any_contained test [] x has h = absurd (contains_nothing x has)
-any_contained test (y ∷ ys) x has h = elim (ascending.split y ys x has) [
+any_contained test (y ∷ ys) x has h = elim (contains_split y ys x has) [
   | inl here ↦ or_left (test y) (list_any test ys) (subst (λ z. IsTrue (test z)) (sym here) h)
   | inr later ↦ or_right (test y) (list_any test ys) (any_contained test ys x later h)
 ]

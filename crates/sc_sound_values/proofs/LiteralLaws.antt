@@ -2,7 +2,7 @@
 use Rattle.std.proofs.Common.{◌≡◌, ◌↔◌, Bool, true, false, IsTrue, Ordering, Less, Equal, Greater, is_eq, refl, sym, ap, subst, ◌∙◌}
 use Rattle.std.proofs.lemmas.Cmp.{tied_itself}
 use Rattle.std.specs.Cmp.Lexicographic.{texts_ties}
-use Rattle.sc_lists.proofs.BoolLaws.{same_truth}
+use Rattle.sc_lists.proofs.BoolLaws.{same_truth as one_truth}
 use Rattle.sc_lists.proofs.OrderingLaws.{is_eq_true}
 use Rattle.sc_ast.specs.declared.literal.Literal.{Literal}
 use Rattle.sc_ast.specs.declared.literal.Literal.TheVariants as literal
@@ -34,7 +34,7 @@ same_uid-decides a b = uid-decides a b
 
 -- the two tests of uids are one
 pub same_uid-eq : (a b : Uid) → same_uid a b ≡ uid_eq a b
-same_uid-eq a b = same_truth (same_uid a b) (uid_eq a b) (uid-decides a b) (uid_eq-Decides a b)
+same_uid-eq a b = one_truth (same_uid a b) (uid_eq a b) (uid-decides a b) (uid_eq-Decides a b)
 
 -- ---- literals
 
