@@ -1,6 +1,6 @@
 #!/bin/sh
 # Runs every example of README.md and docs/CODES.md with the built program, and compares what it prints, byte by byte, and its status.
-# In these pages a block that begins with ```LANGUAGE NAME is the file NAME; one that begins with ```console is a session, in which
+# In these pages a block that begins with ```LANGUAGE NAME is the file NAME; one that begins with ```console is a transcript, in which
 # `cedar_symcc` is the program; a table behind <!-- examples: FRONT --> has a row an example: how the line ends that begins with FRONT,
 # what it means, and the file that gives it.
 # usage: scripts/examples.sh [PROGRAM]      build the program first: cd crates/cedar_symcc && rt run
@@ -13,12 +13,12 @@ case $program in /*) ;; *) program=$top/$program ;; esac
 room=$(mktemp -d)
 trap 'rm -rf "$room"' EXIT
 
-# Writes the blocks of a page: files as they stand, sessions as 1.session, 2.session, .., rows of tables as row files.
+# Writes the blocks of a page: files as they stand, transcripts as 1.transcript, 2.transcript, .., rows of tables as row files.
 blocks() {
     awk -v room="$2" '
         /^```/ && inside == "" {
             split(substr($0, 4), words, " ")
-            if (words[1] == "console") { sessions++; inside = "session"; target = room "/" sessions ".session" }
+            if (words[1] == "console") { transcripts++; inside = "transcript"; target = room "/" transcripts ".transcript" }
             else if (words[2] != "") { inside = "file"; target = room "/" words[2] }
             else { inside = "other"; target = "/dev/null" }
             printf "" > target
@@ -35,8 +35,8 @@ blocks() {
     ' "$1"
 }
 
-# Runs one session: each command, with what it is to print.
-session() {
+# Runs one transcript: each command, with what it is to print.
+transcript() {
     awk -v out="$1" '
         /^\$ / { n++; print substr($0, 3) > (out "." n ".command"); printf "" > (out "." n ".wanted"); next }
         { print > (out "." n ".wanted") }
@@ -95,8 +95,8 @@ for page in README.md docs/CODES.md; do
     mkdir "$folder"
     blocks "$page" "$folder"
     n=1
-    while [ -f "$folder/$n.session" ]; do
-        session "$folder/$n.session"
+    while [ -f "$folder/$n.transcript" ]; do
+        transcript "$folder/$n.transcript"
         n=$((n + 1))
     done
     if [ -f "$folder/rows" ]; then
