@@ -81,7 +81,8 @@ fn asked_of(alloc: Global, variable: Variable, scope: &Scope) -> Result<Option<E
 
 /// What a scope asks of the action, or none where it is bare.
 fn asked_of_action(alloc: Global, scope: &ActionScope) -> Result<Option<Expr>, AllocError>
-    ensures { IfOk result (λ o. Asks o (asked_of_action (Expr.Variable scope.now.place Variable.Action) scope.now.constraint)) }
+    ensures { IfOk result (λ o. Asks o (asked_of_action
+        (Expr.Variable scope.now.place Variable.Action) scope.now.constraint)) }
 {
     let x = Subject {
         place: scope.place,

@@ -50,7 +50,8 @@ fn magnitude(text: &str) -> Option<u64>
 
 /// How many ten-thousandths the digits behind a point stand for.
 fn ten_thousandths(fraction: &str) -> Option<u64>
-    ensures { SomeIff result (IsNumeral 10 fraction.now × (length fraction.now ≤ 4)) (digits_value 10 fraction.now * 10 ^ (4 - length fraction.now)) }
+    ensures { SomeIff result (IsNumeral 10 fraction.now
+        × (length fraction.now ≤ 4)) (digits_value 10 fraction.now * 10 ^ (4 - length fraction.now)) }
 {
     if fraction.len() > 4 {
         return None;
@@ -60,7 +61,8 @@ fn ten_thousandths(fraction: &str) -> Option<u64>
 
 /// The number that a text of digits alone stands for.
 fn number(digits: &str) -> Option<u64>
-    ensures { SomeIff result (IsNumeral 10 digits.now × (digits_value 10 digits.now < 2 ^ 64)) (digits_value 10 digits.now) }
+    ensures { SomeIff result (IsNumeral 10 digits.now
+        × (digits_value 10 digits.now < 2 ^ 64)) (digits_value 10 digits.now) }
 {
     if digits.starts_with('+') {
         return None;

@@ -12,10 +12,12 @@ ghost use Rattle.sc_world.specs.WellFormed.{IsWellFormed};
 
 /// Where policies write declared names alone, each uid that they write is declared.
 pub fn declared_laws()
-    ensures { (s : Declarations) (ps : List AnyPolicy) (u : AnyUid) → name_fault s ps ≡ None → Contains (literals ps) u → IsDeclared s u }
+    ensures { (s : Declarations) (ps : List AnyPolicy) (u : AnyUid) → name_fault s ps ≡ None → Contains (literals ps) u
+        → IsDeclared s u }
 {}
 
 /// A world that is well-formed for some uids is so for others that are all among them.
 pub fn literal_laws()
-    ensures { (s : Declarations) (env : AnyEnv) (us vs : List AnyUid) (w : AnyWorld) → ((u : AnyUid) → Contains us u → Contains vs u) → IsWellFormed s env vs w → IsWellFormed s env us w }
+    ensures { (s : Declarations) (env : AnyEnv) (us vs : List AnyUid) (w : AnyWorld)
+        → ((u : AnyUid) → Contains us u → Contains vs u) → IsWellFormed s env vs w → IsWellFormed s env us w }
 {}

@@ -161,7 +161,8 @@ pub(crate) fn follow(
     requires entities_in { AllByRecursion (λ m. m < length terms.old) entities.now }
     requires n_in { n < length terms.old }
     ensures within { IfOk result (λ v. AllByRecursion (λ m. m < length terms.new) v.items) }
-    ensures ok { IfOk result (λ v. stood terms.new v.items ≡ follow_of (tree terms.old n) ++ pairs_with terms.old entities.now n) }
+    ensures ok { IfOk result (λ v. stood terms.new v.items ≡ follow_of (tree terms.old n)
+        ++ pairs_with terms.old entities.now n) }
     ensures kept { Keeps terms.old terms.new }
 {
     let mut all = parts(alloc, terms, n)?;

@@ -21,15 +21,22 @@ use sc_terms::order_laws;
 /// truth value; the parts of a connective of truth values are closed too. Those that are truth values
 /// are so in each world, and have a literal of a listed atom, which is true where the term is.
 pub fn problem_laws()
-    ensures one { (env : AnyEnv) (goal : Tree) (ts us : List Tree) → AreClosed env goal ts → AreClosed env goal us → ts ≡ us }
+    ensures one { (env : AnyEnv) (goal : Tree) (ts us : List Tree) → AreClosed env goal ts → AreClosed env goal us → ts
+        ≡ us }
     ensures first { (p : Posed) → IsPosed p → numbered (atoms p) 1 ≡ Some (truth_term true) }
-    ensures back { (p : Posed) (t : Tree) → IsPosed p → Contains (closed_terms p) t → is_atom t ≡ true → numbered (atoms p) (atom_number p t) ≡ Some t }
-    ensures kinds { (p : Posed) (t : Tree) → IsPosed p → Contains (closed_terms p) t → IsOfGoal p.env (context_of p.schema p.env.action) t }
+    ensures back { (p : Posed) (t : Tree) → IsPosed p → Contains (closed_terms p) t → is_atom t ≡ true
+        → numbered (atoms p) (atom_number p t) ≡ Some t }
+    ensures kinds { (p : Posed) (t : Tree) → IsPosed p → Contains (closed_terms p) t
+        → IsOfGoal p.env (context_of p.schema p.env.action) t }
     ensures goal { (p : Posed) → IsPosed p → Contains (closed_terms p) (goal_term p) × (is_bool (goal_term p) ≡ true) }
-    ensures parts { (p : Posed) (o : AnyOp) (a b : Tree) → IsPosed p → Contains (closed_terms p) (two o a b) → (o ≡ Equal → is_bool a ≡ true) → HasBoolParts p a b }
-    ensures valued { (p : Posed) (t : Tree) (w : AnyWorld) → IsPosed p → Contains (closed_terms p) t → is_bool t ≡ true → IsWorldOf p w → val t w ≡ yes (is_true t w) }
-    ensures listed { (p : Posed) (t : Tree) → IsPosed p → Contains (closed_terms p) t → is_bool t ≡ true → IsListed (length (atoms p)) (literal_in p t) }
-    ensures literals { (p : Posed) (t : Tree) (w : AnyWorld) → IsPosed p → Contains (closed_terms p) t → is_bool t ≡ true → IsWorldOf p w → holds (truths p w) (literal_in p t) ≡ is_true t w }
+    ensures parts { (p : Posed) (o : AnyOp) (a b : Tree) → IsPosed p → Contains (closed_terms p) (two o a b)
+        → (o ≡ Equal → is_bool a ≡ true) → HasBoolParts p a b }
+    ensures valued { (p : Posed) (t : Tree) (w : AnyWorld) → IsPosed p → Contains (closed_terms p) t → is_bool t ≡ true
+        → IsWorldOf p w → val t w ≡ yes (is_true t w) }
+    ensures listed { (p : Posed) (t : Tree) → IsPosed p → Contains (closed_terms p) t → is_bool t ≡ true
+        → IsListed (length (atoms p)) (literal_in p t) }
+    ensures literals { (p : Posed) (t : Tree) (w : AnyWorld) → IsPosed p → Contains (closed_terms p) t → is_bool t
+        ≡ true → IsWorldOf p w → holds (truths p w) (literal_in p t) ≡ is_true t w }
 {
     order_laws();
 }

@@ -22,7 +22,8 @@ pub fn query<'a>(
     ensures question { IfOk result (λ q. q.question ≡ question) }
     ensures first { IfOk result (λ q. q.first ≡ first.now) }
     ensures against { IfOk result (λ q. q.against ≡ option_copied against.entry) }
-    ensures literals { IfOk result (λ q. (u : AnyUid) → Contains q.literals u ↔ (Contains (uids_of first.now) u ⊎ Contains (uids_of (unwrap_or (option_copied against.entry) [])) u)) }
+    ensures literals { IfOk result (λ q. (u : AnyUid) → Contains q.literals u
+        ↔ (Contains (uids_of first.now) u ⊎ Contains (uids_of (unwrap_or (option_copied against.entry) [])) u)) }
 {
     let literals = written(alloc, first, against)?;
     Ok(Query {
@@ -39,7 +40,8 @@ fn written(
     first: &PolicySet,
     against: Option<&PolicySet>,
 ) -> Result<Lits, AllocError>
-    ensures { IfOk result (λ lits. (u : AnyUid) → Contains lits u ↔ (Contains (uids_of first.now) u ⊎ Contains (uids_of (unwrap_or (option_copied against.entry) [])) u)) }
+    ensures { IfOk result (λ lits. (u : AnyUid) → Contains lits u
+        ↔ (Contains (uids_of first.now) u ⊎ Contains (uids_of (unwrap_or (option_copied against.entry) [])) u)) }
 {
     let of_first = literals(alloc, first.as_slice())?;
     match against {

@@ -23,7 +23,8 @@ pub(crate) fn compile_all(
     env: &Env,
 ) -> Result<Seq<CompiledPolicy>, AllocError>
     requires { IsSome (all_compiled schema.now env.now policies.now) }
-    ensures ok { IfOk result (λ compiled. all_compiled schema.now env.now policies.now ≡ Some (map (compiled_at terms.new) compiled)) }
+    ensures ok { IfOk result (λ compiled. all_compiled schema.now env.now policies.now
+        ≡ Some (map (compiled_at terms.new) compiled)) }
     ensures codes { IfOk result (λ compiled. AreCodes terms.new compiled) }
     ensures kept { Keeps terms.old terms.new }
 {

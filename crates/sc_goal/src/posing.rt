@@ -26,7 +26,8 @@ pub fn goal(
     env: &Env,
 ) -> Result<u64, AllocError>
     requires { IsSome (goal_term schema.now env.now query.now.question query.now.first (second query.now)) }
-    ensures ok { IfOk result (λ n. IfSome (goal_term schema.now env.now query.now.question query.now.first (second query.now)) (λ t. StandsFor terms.new n t)) }
+    ensures ok { IfOk result (λ n. IfSome (goal_term schema.now env.now query.now.question query.now.first
+        (second query.now)) (λ t. StandsFor terms.new n t)) }
     ensures kept { Keeps terms.old terms.new }
 {
     let policies = query.sets().0;
@@ -51,7 +52,8 @@ fn goal_of(
 ) -> Result<u64, AllocError>
     requires first_in { AreCodes terms.old first.now }
     requires second_in { AreCodes terms.old second.now }
-    ensures ok { IfOk result (λ n. StandsFor terms.new n (goal_of question (map (compiled_at terms.old) first.now) (map (compiled_at terms.old) second.now))) }
+    ensures ok { IfOk result (λ n. StandsFor terms.new n (goal_of question (map (compiled_at terms.old) first.now) (map
+        (compiled_at terms.old) second.now))) }
     ensures kept { Keeps terms.old terms.new }
 {
     match question {
@@ -83,7 +85,8 @@ fn allows_alone(
 ) -> Result<u64, AllocError>
     requires first_in { AreCodes terms.old first.now }
     requires second_in { AreCodes terms.old second.now }
-    ensures ok { IfOk result (λ n. StandsFor terms.new n (and_term (allow (map (compiled_at terms.old) first.now)) (not_term (allow (map (compiled_at terms.old) second.now))))) }
+    ensures ok { IfOk result (λ n. StandsFor terms.new n (and_term (allow (map (compiled_at terms.old) first.now))
+        (not_term (allow (map (compiled_at terms.old) second.now))))) }
     ensures kept { Keeps terms.old terms.new }
 {
     let allowed = allow_term(alloc, terms, first)?;
@@ -100,7 +103,8 @@ fn differ(
 ) -> Result<u64, AllocError>
     requires first_in { AreCodes terms.old first.now }
     requires second_in { AreCodes terms.old second.now }
-    ensures ok { IfOk result (λ n. StandsFor terms.new n (not_term (equal_term (allow (map (compiled_at terms.old) first.now)) (allow (map (compiled_at terms.old) second.now))))) }
+    ensures ok { IfOk result (λ n. StandsFor terms.new n (not_term (equal_term (allow (map
+        (compiled_at terms.old) first.now)) (allow (map (compiled_at terms.old) second.now))))) }
     ensures kept { Keeps terms.old terms.new }
 {
     let allowed = allow_term(alloc, terms, first)?;
@@ -118,7 +122,8 @@ fn both_allow(
 ) -> Result<u64, AllocError>
     requires first_in { AreCodes terms.old first.now }
     requires second_in { AreCodes terms.old second.now }
-    ensures ok { IfOk result (λ n. StandsFor terms.new n (and_term (allow (map (compiled_at terms.old) first.now)) (allow (map (compiled_at terms.old) second.now)))) }
+    ensures ok { IfOk result (λ n. StandsFor terms.new n (and_term (allow (map (compiled_at terms.old) first.now))
+        (allow (map (compiled_at terms.old) second.now)))) }
     ensures kept { Keeps terms.old terms.new }
 {
     let allowed = allow_term(alloc, terms, first)?;

@@ -63,7 +63,8 @@ pub fn read_groups(notation: Notation, text: &str) -> Option<Groups>
 /// Reads one group or more, which follow those that were read before.
 fn read_after(notation: Notation, text: &str, before: Groups) -> Option<Groups>
     ensures some { IfSome result (λ g. Adds notation text.now before.value before.count g.value g.count) }
-    ensures none { IfNone result ((numbers : List ℕ) → AreGroupsOf notation text.now numbers → 0 < length numbers → before.count + length numbers ≤ 8 → ⊥) }
+    ensures none { IfNone result ((numbers : List ℕ) → AreGroupsOf notation text.now numbers → 0 < length numbers
+        → before.count + length numbers ≤ 8 → ⊥) }
 {
     if before.count == 8 {
         return None;

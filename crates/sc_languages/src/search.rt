@@ -130,7 +130,8 @@ fn walk(
     requires text { IsText whole.now }
     requires entries { (e : Entry) → Has visited.old e → IsEntry items.now words.now e }
     ensures found { IfOk result (λ o. IfSome o (λ v. IsFound items.now words.now v.items)) }
-    ensures none { IfOk result (λ o. IfNone o (IsWalk items.now symbols.now words.now visited.old visited.new whole.now (length whole.now + 1))) }
+    ensures none { IfOk result (λ o. IfNone o (IsWalk items.now symbols.now words.now visited.old visited.new whole.now
+        (length whole.now + 1))) }
 {
     let mut marks = start(alloc, items)?;
     let mut word = Vec::new(alloc);
@@ -193,7 +194,8 @@ fn search(
     requires covers { Covers items.now words.now symbols.now }
     requires entries { AreEntries items.now symbols.now words.now words.now visited.old }
     ensures found { IfOk result (λ o. IfSome o (λ v. IsFound items.now words.now v.items)) }
-    ensures none { IfOk result (λ o. IfNone o ((text : List ℕ) → IsText text → obeys items.now text ≡ true → Has words.now text)) }
+    ensures none { IfOk result (λ o. IfNone o ((text : List ℕ) → IsText text → obeys items.now text ≡ true
+        → Has words.now text)) }
 {
     // What was met goes on to none of the texts that are not to be found.
     let others = Vec::new(alloc);
@@ -228,7 +230,8 @@ pub(crate) fn find(
     requires covers { Covers items.now words.now symbols.now }
     requires texts { (w : List ℕ) → Has words.now w → IsText w }
     ensures found { IfOk result (λ o. IfSome o (λ v. IsFound items.now words.now v.items)) }
-    ensures none { IfOk result (λ o. IfNone o ((text : List ℕ) → IsText text → obeys items.now text ≡ true → Has words.now text)) }
+    ensures none { IfOk result (λ o. IfNone o ((text : List ℕ) → IsText text → obeys items.now text ≡ true
+        → Has words.now text)) }
 {
     let mut visited = Visited::new(alloc);
     let empty = Vec::new(alloc);

@@ -75,7 +75,8 @@ fn other_at(letters: &[char], number: u32) -> Option<char>
 
 /// The first character of a range that isn't among some.
 fn other_within(letters: &[char], from: u32, to: u32) -> Option<char>
-    ensures { MatchOption result ((c : ℕ) → IsScalar c → from ≤ c → c < to → Has letters.now c) (λ c. ¬ (Has letters.now c)) }
+    ensures { MatchOption result ((c : ℕ) → IsScalar c → from ≤ c → c < to
+        → Has letters.now c) (λ c. ¬ (Has letters.now c)) }
 {
     for number in from..to {
         if let Some(c) = other_at(letters, number) {

@@ -20,8 +20,10 @@ pub fn no_keys(alloc: Global) -> BTreeSet<Text>
 
 /// Puts a name among the keys of a record; whether it wasn't there before.
 pub(crate) fn put_key(alloc: Global, names: &mut BTreeSet<Text>, name: &str) -> Result<bool, Stop>
-    ensures added { IfOk result (λ added. (fs : List (List ℕ × AnyExpr)) → AreKeys names.old fs → added ≡ not (has_key name.now fs)) }
-    ensures keys { OnOk result ((fs : List (List ℕ × AnyExpr)) (x : AnyExpr) → AreKeys names.old fs → AreKeys names.new (fs ++ (name.now, x) ∷ [])) }
+    ensures added { IfOk result (λ added. (fs : List (List ℕ × AnyExpr)) → AreKeys names.old fs → added
+        ≡ not (has_key name.now fs)) }
+    ensures keys { OnOk result ((fs : List (List ℕ × AnyExpr)) (x : AnyExpr) → AreKeys names.old fs
+        → AreKeys names.new (fs ++ (name.now, x) ∷ [])) }
     ensures err { IfErr result (λ stop. stop ≡ NoMemory) }
 {
     Ok(names.insert(Text::from_str(alloc, name)?)?)

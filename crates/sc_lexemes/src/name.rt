@@ -116,7 +116,8 @@ fn more_path(ts: &[Lexeme], cursor: &mut Cursor, so_far: String) -> Result<Strin
     requires { cursor.old.at ≤ length ts.now }
     ensures forward { cursor.old.at ≤ cursor.new.at }
     ensures within { cursor.new.at ≤ length ts.now }
-    ensures ok { IfOk result (λ t. ReadsMorePath ts.now cursor.old (string_bytes so_far) (read (string_bytes t) cursor.new)) }
+    ensures ok { IfOk result (λ t. ReadsMorePath ts.now cursor.old (string_bytes so_far) (read
+        (string_bytes t) cursor.new)) }
     ensures err { IfErr result (λ f. Halts (ReadsMorePath ts.now cursor.old (string_bytes so_far)) f cursor.new) }
 {
     let mut path = so_far;
@@ -204,9 +205,12 @@ pub fn key(
     requires { cursor.old.at ≤ length ts.now }
     ensures forward { cursor.old.at ≤ cursor.new.at }
     ensures within { cursor.new.at ≤ length ts.now }
-    ensures keys { IfOk result (λ w. (fs : List (List ℕ × AnyExpr)) (x : AnyExpr) → AreKeys names.old fs → AreKeys names.new (fs ++ (w, x) ∷ [])) }
-    ensures ok { IfOk result (λ w. (fs : List (List ℕ × AnyExpr)) → AreKeys names.old fs → ReadsKey ts.now cursor.old fs (read w cursor.new)) }
-    ensures err { IfErr result (λ f. (fs : List (List ℕ × AnyExpr)) → AreKeys names.old fs → Halts (ReadsKey ts.now cursor.old fs) f cursor.new) }
+    ensures keys { IfOk result (λ w. (fs : List (List ℕ × AnyExpr)) (x : AnyExpr) → AreKeys names.old fs
+        → AreKeys names.new (fs ++ (w, x) ∷ [])) }
+    ensures ok { IfOk result (λ w. (fs : List (List ℕ × AnyExpr)) → AreKeys names.old fs
+        → ReadsKey ts.now cursor.old fs (read w cursor.new)) }
+    ensures err { IfErr result (λ f. (fs : List (List ℕ × AnyExpr)) → AreKeys names.old fs
+        → Halts (ReadsKey ts.now cursor.old fs) f cursor.new) }
 {
     if let Some((_, word)) = ident_at(ts, cursor.at) {
         if !cursor.fits() {

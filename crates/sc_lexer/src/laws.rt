@@ -12,7 +12,8 @@ ghost use Rattle.sc_lexer.specs.Tokens.{kind_of};
 #[tactic(auto, using(crate::proofs::MeaningLaws::some_spelling, crate::proofs::MeaningLaws::one_spelling))]
 pub fn spelling_laws()
     // The characters between the quotes of a string in which each backslash begins an escape stand for something.
-    ensures some { (like : Bool) (text : List ℕ) → kind_of text ≡ Some Str → IsUtf8 text → IsSpelled like text → (ps : List Piece) × Spells (chars (quoted text)) ps }
+    ensures some { (like : Bool) (text : List ℕ) → kind_of text ≡ Some Str → IsUtf8 text → IsSpelled like text
+        → (ps : List Piece) × Spells (chars (quoted text)) ps }
     // And for nothing else.
     ensures one { (cs : List ℕ) (ps qs : List Piece) → Spells cs ps → Spells cs qs → ps ≡ qs }
 {}

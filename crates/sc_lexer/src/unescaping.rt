@@ -44,7 +44,8 @@ fn split_escape(text: &str) -> (Piece, &str)
 /// them.
 #[tactic(auto, using(crate::proofs::UnescapingLaws::pieces_star, crate::proofs::UnescapingLaws::pieces_plain, crate::proofs::UnescapingLaws::pieces_none))]
 fn split_piece(text: &str) -> Option<(Piece, &str)>
-    ensures { MatchOption result (pieces_after 0 (chars text.now) ≡ []) (λ x. pieces_after 0 (chars text.now) ≡ x.0 ∷ pieces_after 0 (chars x.1.now)) }
+    ensures { MatchOption result (pieces_after 0 (chars text.now) ≡ []) (λ x. pieces_after 0 (chars text.now)
+        ≡ x.0 ∷ pieces_after 0 (chars x.1.now)) }
 {
     let (first, rest) = split_char(text)?;
     match first {
@@ -84,7 +85,8 @@ pub fn pieces(alloc: Global, text: &[u8]) -> Result<Seq<Piece>, AllocError>
     // They are those that the definition gives for the token's text.
     ensures value { IfOk result (λ ps. ps ≡ pieces_of text.now) }
     // What the characters between the quotes spell is given.
-    ensures spelled { (told : List AnyPiece) → IsUtf8 (quoted text.now) → Spells (chars (quoted text.now)) told → IfOk result (λ ps. ps ≡ told) }
+    ensures spelled { (told : List AnyPiece) → IsUtf8 (quoted text.now) → Spells (chars (quoted text.now)) told
+        → IfOk result (λ ps. ps ≡ told) }
 {
     read_pieces(alloc, text)
 }

@@ -118,5 +118,6 @@ pub fn lits_union(alloc: Global, a: &Lits, b: &Lits) -> Result<Lits, AllocError>
 /// Sets of the same uids are equal.
 #[tactic(auto, using(crate::proofs::LitsLaws::one_list))]
 pub fn lits_laws()
-    ensures { (s t : List AnyUid) → IsStrictlySortedBy uid_cmp s → IsStrictlySortedBy uid_cmp t → ((u : AnyUid) → Contains s u ↔ Contains t u) → s ≡ t }
+    ensures { (s t : List AnyUid) → IsStrictlySortedBy uid_cmp s → IsStrictlySortedBy uid_cmp t
+        → ((u : AnyUid) → Contains s u ↔ Contains t u) → s ≡ t }
 {}

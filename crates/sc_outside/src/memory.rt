@@ -51,7 +51,8 @@ impl Files for MemFiles {
         ensures counts { Counts self.old.faults.count self.new.faults.count (result ≡ Err FileFault.Failed) }
 
         // It fails exactly where it is told to, or the name isn't there.
-        ensures fails { (result ≡ Err FileFault.Failed) ↔ ((Contains self.old.failing.items self.old.calls) ⊎ (content_in self.old.files name.now ≡ None)) }
+        ensures fails { (result ≡ Err FileFault.Failed)
+            ↔ ((Contains self.old.failing.items self.old.calls) ⊎ (content_in self.old.files name.now ≡ None)) }
         ensures counts_failure { CountsFailure self.old.faults.count self.new.faults.count (result ≡ Err FileFault.Failed) }
         ensures failing { self.new.failing ≡ self.old.failing }
         ensures calls { self.new.calls ≡ next_count self.old.calls }

@@ -71,7 +71,8 @@ fn index(
     requires within { cursor.old.at < length ts.now }
     ensures forward { cursor.old.at < cursor.new.at }
     ensures within { cursor.new.at ≤ length ts.now }
-    ensures ok { IfOk result (λ x. (o : Outcome AnyExpr) → ReadsAccesses ts.now cursor.new x o → ReadsAccesses ts.now cursor.old receiver o) }
+    ensures ok { IfOk result (λ x. (o : Outcome AnyExpr) → ReadsAccesses ts.now cursor.new x o
+        → ReadsAccesses ts.now cursor.old receiver o) }
     ensures err { IfErr result (λ f. Halts (ReadsAccesses ts.now cursor.old receiver) f cursor.new) }
 {
     *cursor = cursor.past();
@@ -97,7 +98,8 @@ fn dot(
     requires within { cursor.old.at < length ts.now }
     ensures forward { cursor.old.at < cursor.new.at }
     ensures within { cursor.new.at ≤ length ts.now }
-    ensures ok { IfOk result (λ x. (o : Outcome AnyExpr) → ReadsAccesses ts.now cursor.new x o → ReadsAccesses ts.now cursor.old receiver o) }
+    ensures ok { IfOk result (λ x. (o : Outcome AnyExpr) → ReadsAccesses ts.now cursor.new x o
+        → ReadsAccesses ts.now cursor.old receiver o) }
     ensures err { IfErr result (λ f. Halts (ReadsAccesses ts.now cursor.old receiver) f cursor.new) }
 {
     *cursor = cursor.past();

@@ -55,7 +55,8 @@ fn fault_of(stop: Stop, place: Place) -> PolicyFault
 /// The fault of a file at whose token of this number reading stops, or where its tokens end.
 #[tactic(auto, using(crate::proofs::ReadingLaws::reads_fault, crate::proofs::ReadingLaws::reads_end))]
 fn fault_at(ts: &[Lexeme], at: usize, stop: Stop) -> PolicyFault
-    ensures { (bytes : List ℕ) → AreLexemes bytes ts.now → ReadsPolicies ts.now 0 [] (halt stop at) → HasFault bytes result }
+    ensures { (bytes : List ℕ) → AreLexemes bytes ts.now → ReadsPolicies ts.now 0 [] (halt stop at)
+        → HasFault bytes result }
 {
     match ts.get(at) {
         Some(token) => fault_of(stop, token.place),
@@ -110,7 +111,8 @@ pub fn read_policies(alloc: Global, bytes: &[u8]) -> Result<PolicySet, Fault<Pol
 #[tactic(auto, using(crate::proofs::ReadingLaws::one_reading))]
 pub fn reading_laws()
     // It spells one list of policies, or has one first fault.
-    ensures one { (bytes : List ℕ) (a b : Result (List AnyPolicy) AnyFault) → IsReading bytes a → IsReading bytes b → a ≡ b }
+    ensures one { (bytes : List ℕ) (a b : Result (List AnyPolicy) AnyFault) → IsReading bytes a → IsReading bytes b → a
+        ≡ b }
     // A file that spells policies has no fault.
     ensures apart { (bytes : List ℕ) (ps : List AnyPolicy) (f : AnyFault) → Spells bytes ps → HasFault bytes f → ⊥ }
 {}

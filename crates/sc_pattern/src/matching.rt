@@ -39,7 +39,8 @@ fn split_wanted(parts: &[Part]) -> Option<(char, &[Part])>
 /// What is left of a pattern from its first star on, and of a text, after the characters before that
 /// star; or none where the text doesn't begin with these characters.
 fn after_run<'a>(pattern: &'a [Part], text: &'a str) -> Option<(&'a [Part], &'a str)>
-    ensures { MatchOption result (¬ (IsMatch pattern.now (chars text.now))) (λ x. IsAfterRun pattern.now (chars text.now) x.0.now (chars x.1.now)) }
+    ensures { MatchOption result (¬ (IsMatch pattern.now (chars text.now))) (λ x. IsAfterRun pattern.now
+        (chars text.now) x.0.now (chars x.1.now)) }
 {
     let mut parts = pattern;
     let mut rest = text;

@@ -20,10 +20,14 @@ pub fn order_laws()
 
 /// What is found by a name or a uid is declared under it, and each declaration is what is found.
 pub fn lookup_laws()
-    ensures type_found { (s : Declarations) (t : AnyType) → IsLawful s → Contains s.types t → entity_type s t.name ≡ Some t }
-    ensures type_declared { (s : Declarations) (name : List ℕ) (t : AnyType) → entity_type s name ≡ Some t → Contains s.types t × (name ≡ t.name) }
-    ensures action_found { (s : Declarations) (a : AnyAction) → IsLawful s → Contains s.actions a → action s a.uid ≡ Some a }
-    ensures action_declared { (s : Declarations) (u : AnyUid) (a : AnyAction) → action s u ≡ Some a → Contains s.actions a × (u ≡ a.uid) }
+    ensures type_found { (s : Declarations) (t : AnyType) → IsLawful s → Contains s.types t → entity_type s t.name
+        ≡ Some t }
+    ensures type_declared { (s : Declarations) (name : List ℕ) (t : AnyType) → entity_type s name ≡ Some t
+        → Contains s.types t × (name ≡ t.name) }
+    ensures action_found { (s : Declarations) (a : AnyAction) → IsLawful s → Contains s.actions a → action s a.uid
+        ≡ Some a }
+    ensures action_declared { (s : Declarations) (u : AnyUid) (a : AnyAction) → action s u ≡ Some a
+        → Contains s.actions a × (u ≡ a.uid) }
 {}
 
 /// The levels of a type are the lowest level at which a type stands in it, and its nodes are all types

@@ -94,7 +94,8 @@ fn put_type(
     table: &mut BTreeMap<Name, Ty>,
     name: &Name,
 ) -> Result<(), AllocError>
-    ensures { OnOk result (type_in table.new.entries ≡ with_body (body_in bodies.now.entries) expanded (type_in table.old.entries) name.now) }
+    ensures { OnOk result (type_in table.new.entries
+        ≡ with_body (body_in bodies.now.entries) expanded (type_in table.old.entries) name.now) }
 {
     let Some(body) = bodies.get(name) else {
         return Ok(());

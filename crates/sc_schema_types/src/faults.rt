@@ -105,7 +105,8 @@ fn common_types_fault(
     table: &BTreeMap<Name, Outline>,
     types: &[ResolvedCommonType],
 ) -> Result<Option<SchemaFault>, AllocError>
-    ensures { IfOk result (λ fault. fault ≡ first (common_type_fault (judged_by (outline_in table.now.entries))) types.now) }
+    ensures { IfOk result (λ fault. fault
+        ≡ first (common_type_fault (judged_by (outline_in table.now.entries))) types.now) }
 {
     for declared in types {
         if let Some(fault) = common_type_fault(alloc, table, declared)? {
@@ -135,7 +136,8 @@ fn entity_types_fault(
     table: &BTreeMap<Name, Outline>,
     types: &[ResolvedEntityType],
 ) -> Result<Option<SchemaFault>, AllocError>
-    ensures { IfOk result (λ fault. fault ≡ first (entity_type_fault (judged_by (outline_in table.now.entries))) types.now) }
+    ensures { IfOk result (λ fault. fault
+        ≡ first (entity_type_fault (judged_by (outline_in table.now.entries))) types.now) }
 {
     for declared in types {
         if let Some(fault) = entity_type_fault(alloc, table, declared)? {

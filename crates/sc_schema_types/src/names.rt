@@ -50,7 +50,8 @@ fn put_attributes(
     names: &mut Seq<Name>,
     attributes: &[(Text, Presence, ResolvedType)],
 ) -> Result<(), AllocError>
-    ensures { OnOk result (names.new ≡ names.old ++ flat_map (λ (a : List ℕ × AnyPresence × AnyType). names_in a.2) attributes.now) }
+    ensures { OnOk result (names.new ≡ names.old
+        ++ flat_map (λ (a : List ℕ × AnyPresence × AnyType). names_in a.2) attributes.now) }
 {
     for attribute in attributes {
         put_names(alloc, names, &attribute.2)?;

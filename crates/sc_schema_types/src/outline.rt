@@ -105,7 +105,8 @@ fn outline_of_all(
     table: &BTreeMap<Name, Outline>,
     attributes: &[(Text, Presence, ResolvedType)],
 ) -> Outline
-    ensures { result ≡ fold (λ o (a : List ℕ × AnyPresence × AnyType). beside o (outlined (outline_in table.now.entries) a.2)) nothing attributes.now }
+    ensures { result ≡ fold (λ o (a : List ℕ × AnyPresence
+        × AnyType). beside o (outlined (outline_in table.now.entries) a.2)) nothing attributes.now }
 {
     let mut all = Outline::nothing();
     for attribute in attributes {
@@ -146,7 +147,8 @@ fn put_outline(
     table: &mut BTreeMap<Name, Outline>,
     name: &Name,
 ) -> Result<(), AllocError>
-    ensures { OnOk result (outline_in table.new.entries ≡ with_body (body_in bodies.now.entries) outlined (outline_in table.old.entries) name.now) }
+    ensures { OnOk result (outline_in table.new.entries
+        ≡ with_body (body_in bodies.now.entries) outlined (outline_in table.old.entries) name.now) }
 {
     let Some(body) = bodies.get(name) else {
         return Ok(());

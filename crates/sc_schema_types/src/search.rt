@@ -103,7 +103,8 @@ fn go_on(
     search: &mut Search,
     step: Step,
 ) -> Result<Option<Name>, AllocError>
-    requires { IsSearch (body_in bodies.now.entries) search.old.order.items (search.old.path.items ++ step ∷ []) search.old.marks.entries }
+    requires { IsSearch (body_in bodies.now.entries) search.old.order.items (search.old.path.items
+        ++ step ∷ []) search.old.marks.entries }
     ensures { IfOk result (λ found. MatchOption found
         (GoesOn (body_in bodies.now.entries) search.old step search.new)
         (λ name. Reaches (references (body_in bodies.now.entries)) name name)) }
@@ -132,8 +133,10 @@ impl Search {
         name: &Name,
     ) -> Result<(), AllocError>
         ensures order { OnOk result (self.new.order.items ≡ self.old.order.items) }
-        ensures path { OnOk result (self.new.path.items ≡ self.old.path.items ++ opened (body_in bodies.now.entries) name.now ∷ []) }
-        ensures marks { OnOk result ((q : List ℕ) → mark_in self.new.marks.entries q ≡ marked_in self.old.marks.entries name.now Mark.Open q) }
+        ensures path { OnOk result (self.new.path.items ≡ self.old.path.items
+            ++ opened (body_in bodies.now.entries) name.now ∷ []) }
+        ensures marks { OnOk result ((q : List ℕ) → mark_in self.new.marks.entries q
+            ≡ marked_in self.old.marks.entries name.now Mark.Open q) }
     {
         self.path.push(Step {
             name: name.try_clone(alloc)?,
@@ -148,7 +151,8 @@ impl Search {
     fn leave(&mut self, alloc: Global, name: Name) -> Result<(), AllocError>
         ensures order { OnOk result (self.new.order.items ≡ self.old.order.items ++ name ∷ []) }
         ensures path { OnOk result (self.new.path.items ≡ self.old.path.items) }
-        ensures marks { OnOk result ((q : List ℕ) → mark_in self.new.marks.entries q ≡ marked_in self.old.marks.entries name Mark.Placed q) }
+        ensures marks { OnOk result ((q : List ℕ) → mark_in self.new.marks.entries q
+            ≡ marked_in self.old.marks.entries name Mark.Placed q) }
     {
         self.order.push(name.try_clone(alloc)?)?;
         self.marks.insert(name, Mark::Placed)?;
@@ -169,8 +173,10 @@ fn is_marked(marks: &BTreeMap<Name, Mark>, name: &Name, mark: Mark) -> bool
 /// The next place of a name that isn't placed, or that of the end: all from the place given up to it
 /// are placed.
 fn skip_placed(marks: &BTreeMap<Name, Mark>, names: &[Name], from: usize) -> usize
-    ensures over { (k : ℕ) (d : List ℕ) → from ≤ k → k < result → mark_in marks.now.entries (slice_index_or names.now k d) ≡ Some Mark.Placed }
-    ensures stops { (name : List ℕ) → slice_get names.now result ≡ Some name → mark_in marks.now.entries name ≢ Some Mark.Placed }
+    ensures over { (k : ℕ) (d : List ℕ) → from ≤ k → k < result
+        → mark_in marks.now.entries (slice_index_or names.now k d) ≡ Some Mark.Placed }
+    ensures stops { (name : List ℕ) → slice_get names.now result ≡ Some name
+        → mark_in marks.now.entries name ≢ Some Mark.Placed }
 {
     let mut at = from;
     while let Some(name) = names.get(at) {

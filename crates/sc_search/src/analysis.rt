@@ -67,7 +67,8 @@ impl Trail {
     /// Meets a literal that is false.
     fn meet(&self, analysis: &mut Analysis, first: usize, lit: Lit) -> Result<(), AllocError>
         requires in_cells { lit.atom < length self.now.cells.items }
-        requires may_be_met { IsMet analysis.old.met.items lit ⊎ (true_before self.now.cells.items (length self.now.lits.items) (negation lit) ≡ true) }
+        requires may_be_met { IsMet analysis.old.met.items lit
+            ⊎ (true_before self.now.cells.items (length self.now.lits.items) (negation lit) ≡ true) }
         requires collected { IsCollected (length self.now.cells.items) self.now.cells.items first analysis.old.met.items analysis.old.lower.items }
         ensures collected { IfOk result (λ _. IsCollected (length self.now.cells.items) self.now.cells.items first analysis.new.met.items analysis.new.lower.items) }
         ensures more { IfOk result (λ _. MeetsMore analysis.old.met.items analysis.new.met.items) }
@@ -133,9 +134,11 @@ impl Trail {
         requires within { i < length self.now.lits.items }
         requires undecided { ¬ Contains self.now.levels.items i }
         requires collected { IsCollected (length self.now.cells.items) self.now.cells.items first analysis.old.met.items analysis.old.lower.items }
-        requires refutes { RefutesMet clauses.now self.now.cells.items (length self.now.lits.items) (i + 1) analysis.old.met.items analysis.old.hints.items }
+        requires refutes { RefutesMet clauses.now self.now.cells.items (length self.now.lits.items)
+            (i + 1) analysis.old.met.items analysis.old.hints.items }
         ensures collected { IfOk result (λ _. IsCollected (length self.now.cells.items) self.now.cells.items first analysis.new.met.items analysis.new.lower.items) }
-        ensures refutes { IfOk result (λ _. RefutesMet clauses.now self.now.cells.items (length self.now.lits.items) i analysis.new.met.items analysis.new.hints.items) }
+        ensures refutes { IfOk result (λ _. RefutesMet clauses.now self.now.cells.items
+            (length self.now.lits.items) i analysis.new.met.items analysis.new.hints.items) }
     {
         let lit = self.lits[i];
         if !analysis.met[lit.atom as usize] {
@@ -189,11 +192,13 @@ impl Trail {
         requires trail { HoldsTrail (length self.now.cells.items) clauses.now self.now }
         requires highest { IsHighest self.now.levels.items first }
         requires collected { IsCollected (length self.now.cells.items) self.now.cells.items first analysis.old.met.items analysis.old.lower.items }
-        requires refutes { RefutesMet clauses.now self.now.cells.items (length self.now.lits.items) (length self.now.lits.items) analysis.old.met.items analysis.old.hints.items }
+        requires refutes { RefutesMet clauses.now self.now.cells.items (length self.now.lits.items)
+            (length self.now.lits.items) analysis.old.met.items analysis.old.hints.items }
         ensures from { IfOk result (λ i. first ≤ i) }
         ensures within { IfOk result (λ i. i < length self.now.lits.items) }
         ensures collected { IfOk result (λ _. IsCollected (length self.now.cells.items) self.now.cells.items first analysis.new.met.items analysis.new.lower.items) }
-        ensures refutes { IfOk result (λ i. RefutesMet clauses.now self.now.cells.items (length self.now.lits.items) (i + 1) analysis.new.met.items analysis.new.hints.items) }
+        ensures refutes { IfOk result (λ i. RefutesMet clauses.now self.now.cells.items (length self.now.lits.items)
+            (i + 1) analysis.new.met.items analysis.new.hints.items) }
         ensures none { IfOk result (λ i. NoneMet self.now.lits.items analysis.new.met.items first i) }
     {
         let mut i = self.lits.len() - 1;
@@ -218,7 +223,8 @@ impl Trail {
         requires in_cells { AreInCells (length self.now.cells.items) clauses.now }
         requires falsified { IsFalsified clauses.now self.now.cells.items (length self.now.lits.items) conflict }
         ensures collected { IfOk result (λ w. IsCollected (length self.now.cells.items) self.now.cells.items first w.met.items w.lower.items) }
-        ensures refutes { IfOk result (λ w. RefutesMet clauses.now self.now.cells.items (length self.now.lits.items) (length self.now.lits.items) w.met.items w.hints.items) }
+        ensures refutes { IfOk result (λ w. RefutesMet clauses.now self.now.cells.items (length self.now.lits.items)
+            (length self.now.lits.items) w.met.items w.hints.items) }
     {
         let mut analysis = Analysis::new(alloc, self.cells.len())?;
         self.meet_all(&mut analysis, first, clauses[conflict].as_slice())?;
@@ -238,7 +244,8 @@ impl Trail {
         requires trail { HoldsTrail (length self.now.cells.items) clauses.now self.now }
         requires falsified { IsFalsified clauses.now self.now.cells.items (length self.now.lits.items) conflict }
         requires highest { IsHighest self.now.levels.items first }
-        ensures { IfOk result (λ r. IsResolvent clauses.now self.now.cells.items (length self.now.lits.items) first r.lower.items r.uip r.hints.items) }
+        ensures { IfOk result (λ r. IsResolvent clauses.now self.now.cells.items
+            (length self.now.lits.items) first r.lower.items r.uip r.hints.items) }
     {
         let mut analysis = self.begin(alloc, clauses, conflict, first)?;
         let place = self.walk(clauses, &mut analysis, first)?;

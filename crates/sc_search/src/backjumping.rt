@@ -36,10 +36,12 @@ impl Trail {
     pub fn backjump_level(&self, lower: &[Lit]) -> usize
         requires in_cells { All (λ m. m.atom < length self.now.cells.items) lower.now }
         requires some { 0 < length self.now.levels.items }
-        requires lower { AreBefore self.now.cells.items (slice_index_or self.now.levels.items (length self.now.levels.items - 1) 0) lower.now }
+        requires lower { AreBefore self.now.cells.items (slice_index_or self.now.levels.items
+            (length self.now.levels.items - 1) 0) lower.now }
         ensures within { result < length self.now.levels.items }
         ensures all { AreBefore self.now.cells.items (slice_index_or self.now.levels.items result 0) lower.now }
-        ensures least { 0 < result → ¬ AreBefore self.now.cells.items (slice_index_or self.now.levels.items (result - 1) 0) lower.now }
+        ensures least { 0 < result → ¬ AreBefore self.now.cells.items (slice_index_or self.now.levels.items
+            (result - 1) 0) lower.now }
     {
         let mut level = self.levels.len() - 1;
         'down: while level > 0 {
@@ -77,7 +79,8 @@ impl Trail {
     fn first_level_without_room(&self, clause: &[Lit]) -> usize
         requires in_cells { All (λ m. m.atom < length self.now.cells.items) clause.now }
         ensures within { result ≤ length self.now.levels.items }
-        ensures quiet { (k : ℕ) → k < result → IsQuiet (true_before self.now.cells.items (slice_index_or self.now.levels.items k 0)) clause.now }
+        ensures quiet { (k : ℕ) → k < result → IsQuiet (true_before self.now.cells.items
+            (slice_index_or self.now.levels.items k 0)) clause.now }
     {
         let mut level = 0;
         'up: while level < self.levels.len() {

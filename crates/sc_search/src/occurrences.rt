@@ -30,7 +30,8 @@ fn empty_lists(alloc: Global, count: usize) -> Result<Vec<Seq<usize>>, AllocErro
 /// Puts a place at the end of one of the lists.
 fn list_at(lists: &mut Vec<Seq<usize>>, atom: usize, place: usize) -> Result<(), AllocError>
     requires { atom < length lists.old.items }
-    ensures { IfOk result (λ _. lists.new.items ≡ slice_set lists.old.items atom (slice_index_or lists.old.items atom [] ++ place ∷ [])) }
+    ensures { IfOk result (λ _. lists.new.items
+        ≡ slice_set lists.old.items atom (slice_index_or lists.old.items atom [] ++ place ∷ [])) }
 {
     lists[atom].push(place)?;
     Ok(())

@@ -102,7 +102,8 @@ impl Trail {
         requires trail { HoldsTrail (length self.old.cells.items) clauses.now self.old }
         requires within { (i : ℕ) → Contains places.now i → i < length clauses.now }
         ensures goes_on { IfOk result (λ _. GoesOn (length self.old.cells.items) clauses.now self.old self.new) }
-        ensures visited { IfOk result (λ r. HasVisitedListed clauses.now places.now self.new (length self.old.lits.items) r) }
+        ensures visited { IfOk result (λ r. HasVisitedListed clauses.now places.now self.new
+            (length self.old.lits.items) r) }
     {
         for place in places {
             if self.visit(clauses, *place)? {

@@ -38,11 +38,14 @@ pub fn search<S: Source>(
     requires few_atoms { atoms < 10 ^ 18 }
     requires few_clauses { length clauses + budget < 10 ^ 18 }
     // The steps refute the clauses, and each but the last is a unit.
-    ensures refuted { IfOk result (λ f. IfRefuted (IsRefutation atoms (S.accepts source.now) (S.clause_of source.now) clauses budget) f) }
+    ensures refuted { IfOk result (λ f. IfRefuted (IsRefutation atoms (S.accepts source.now)
+        (S.clause_of source.now) clauses budget) f) }
     // The assignment is total, and falsifies neither a clause given nor one of the source.
-    ensures consistent { IfOk result (λ f. IfConsistent (IsConsistent atoms (S.accepts source.now) (S.clause_of source.now) clauses) f) }
+    ensures consistent { IfOk result (λ f. IfConsistent (IsConsistent atoms (S.accepts source.now)
+        (S.clause_of source.now) clauses) f) }
     // The steps are as many units as the budget, and one more is due: the search has made all literals of a clause false.
-    ensures spent { IfOk result (λ f. IfSpent (IsSpent atoms (S.accepts source.now) (S.clause_of source.now) clauses budget) f) }
+    ensures spent { IfOk result (λ f. IfSpent (IsSpent atoms (S.accepts source.now)
+        (S.clause_of source.now) clauses budget) f) }
 {
     let mut solver = Solver::new(alloc, atoms, clauses)?;
     'turns: loop {
@@ -67,7 +70,8 @@ impl Solver {
         requires some { 0 < length self.old.trail.cells.items }
         requires few_cells { length self.old.trail.cells.items ≤ 10 ^ 18 }
         requires few_clauses { length self.old.steps.items ≢ budget → length self.old.clauses.items < 10 ^ 18 }
-        ensures { IfOk result (λ t. IsTurn (length self.old.trail.cells.items - 1) (S.accepts source.now) (S.clause_of source.now) self.old.clauses.items self.old.steps.items budget self.new t) }
+        ensures { IfOk result (λ t. IsTurn (length self.old.trail.cells.items - 1) (S.accepts source.now)
+            (S.clause_of source.now) self.old.clauses.items self.old.steps.items budget self.new t) }
     {
         if let Some(conflict) = self.rest()? {
             return self.settle(alloc, conflict, budget);
@@ -90,8 +94,10 @@ impl Solver {
         requires some { 0 < length self.old.trail.cells.items }
         requires total { IsTotal self.old }
         requires accepted { S.accepts source.now instance ≡ true }
-        requires falsified { falsifies (map cell_value (drop 1 self.old.trail.cells.items)) (S.clause_of source.now instance) ≡ true }
-        ensures { IfOk result (λ t. IsTurn (length self.old.trail.cells.items - 1) (S.accepts source.now) (S.clause_of source.now) self.old.clauses.items self.old.steps.items budget self.new t) }
+        requires falsified { falsifies (map cell_value (drop 1 self.old.trail.cells.items))
+            (S.clause_of source.now instance) ≡ true }
+        ensures { IfOk result (λ t. IsTurn (length self.old.trail.cells.items - 1) (S.accepts source.now)
+            (S.clause_of source.now) self.old.clauses.items self.old.steps.items budget self.new t) }
     {
         if self.is_spent(budget) {
             return Ok(Turn::Spent);

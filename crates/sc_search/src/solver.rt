@@ -146,7 +146,8 @@ impl Solver {
     /// Logs the clause that a falsified one shows, goes back, and makes true what it gives.
     fn learn(&mut self, alloc: Global, conflict: usize) -> Result<(), AllocError>
         requires ready { IsReady (length self.old.trail.cells.items) self.old }
-        requires falsified { IsFalsified self.old.clauses.items self.old.trail.cells.items (length self.old.trail.lits.items) conflict }
+        requires falsified { IsFalsified self.old.clauses.items self.old.trail.cells.items
+            (length self.old.trail.lits.items) conflict }
         requires some { 0 < length self.old.trail.levels.items }
         requires few_cells { length self.old.trail.cells.items ≤ 10 ^ 18 }
         requires few_clauses { length self.old.clauses.items < 10 ^ 18 }
@@ -182,7 +183,8 @@ impl Solver {
     /// Logs the empty clause, which a falsified one shows.
     fn refute(&mut self, alloc: Global, conflict: usize) -> Result<(), AllocError>
         requires ready { IsReady (length self.old.trail.cells.items) self.old }
-        requires falsified { IsFalsified self.old.clauses.items self.old.trail.cells.items (length self.old.trail.lits.items) conflict }
+        requires falsified { IsFalsified self.old.clauses.items self.old.trail.cells.items
+            (length self.old.trail.lits.items) conflict }
         requires undecided { self.old.trail.levels.items ≡ [] }
         requires few_clauses { length self.old.clauses.items < 10 ^ 18 }
         ensures { IfOk result (λ _. HasRefuted self.old.clauses.items self.old.steps.items self.new) }
@@ -203,7 +205,8 @@ impl Solver {
         budget: u64,
     ) -> Result<Turn, AllocError>
         requires ready { IsReady (length self.old.trail.cells.items) self.old }
-        requires falsified { IsFalsified self.old.clauses.items self.old.trail.cells.items (length self.old.trail.lits.items) conflict }
+        requires falsified { IsFalsified self.old.clauses.items self.old.trail.cells.items
+            (length self.old.trail.lits.items) conflict }
         requires few_cells { length self.old.trail.cells.items ≤ 10 ^ 18 }
         requires few_clauses { length self.old.steps.items ≢ budget → length self.old.clauses.items < 10 ^ 18 }
         ensures { IfOk result (λ t. HasSettled (length self.old.trail.cells.items) self.old.clauses.items self.old.steps.items budget self.new t) }

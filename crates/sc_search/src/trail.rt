@@ -43,7 +43,8 @@ impl Trail {
     /// What is known of a literal.
     pub fn truth(&self, lit: Lit) -> Truth
         requires in_cells { lit.atom < length self.now.cells.items }
-        ensures { Agree self.now.cells.items self.now.lits.items → HasTruth self.now.cells.items (length self.now.lits.items) lit result }
+        ensures { Agree self.now.cells.items self.now.lits.items
+            → HasTruth self.now.cells.items (length self.now.lits.items) lit result }
     {
         truth_of(self.cells[lit.atom as usize], lit.negated)
     }
@@ -59,7 +60,8 @@ impl Trail {
     /// Makes a literal true that the clause at `reason` gives.
     pub fn imply(&mut self, lit: Lit, reason: usize) -> Result<(), AllocError>
         requires { lit.atom < length self.old.cells.items }
-        ensures cells { self.new.cells.items ≡ slice_set self.old.cells.items lit.atom (Cell.Implied lit.negated (length self.old.lits.items) reason) }
+        ensures cells { self.new.cells.items ≡ slice_set self.old.cells.items lit.atom (Cell.Implied lit.negated
+            (length self.old.lits.items) reason) }
         ensures lits { IfOk result (λ _. self.new.lits.items ≡ self.old.lits.items ++ lit ∷ []) }
         ensures levels { self.new.levels ≡ self.old.levels }
     {
@@ -75,9 +77,11 @@ impl Trail {
     /// Begins a level by making a literal true.
     pub fn decide(&mut self, lit: Lit) -> Result<(), AllocError>
         requires { lit.atom < length self.old.cells.items }
-        ensures cells { self.new.cells.items ≡ slice_set self.old.cells.items lit.atom (Cell.Decided lit.negated (length self.old.lits.items)) }
+        ensures cells { self.new.cells.items ≡ slice_set self.old.cells.items lit.atom (Cell.Decided lit.negated
+            (length self.old.lits.items)) }
         ensures lits { IfOk result (λ _. self.new.lits.items ≡ self.old.lits.items ++ lit ∷ []) }
-        ensures levels { IfOk result (λ _. self.new.levels.items ≡ self.old.levels.items ++ length self.old.lits.items ∷ []) }
+        ensures levels { IfOk result (λ _. self.new.levels.items ≡ self.old.levels.items
+            ++ length self.old.lits.items ∷ []) }
     {
         self.cells[lit.atom as usize] = Cell::Decided {
             negated: lit.negated,
@@ -110,7 +114,8 @@ impl Trail {
         ensures trail { HoldsTrail (length self.old.cells.items) clauses.now self.new }
         ensures levels { self.new.levels.items ≡ take level self.old.levels.items }
         ensures place { length self.new.lits.items ≡ slice_index_or self.old.levels.items level 0 }
-        ensures kept { (q : ℕ) → q ≤ slice_index_or self.old.levels.items level 0 → true_before self.new.cells.items q ≡ true_before self.old.cells.items q }
+        ensures kept { (q : ℕ) → q ≤ slice_index_or self.old.levels.items level 0 → true_before self.new.cells.items q
+            ≡ true_before self.old.cells.items q }
     {
         let place = self.levels[level];
         self.levels.truncate(level);

@@ -39,7 +39,9 @@ fn attribute_truth(
     name: &Text,
 ) -> Result<bool, AllocError>
     requires { IfSome context (λ n. n < length problem.now.nodes) }
-    ensures { (type : AnyTy) → IsFound problem.now.nodes (booleans.context_term type) context → IfOk result (λ b. b ≡ rebuilt.truth_at m.now (atom_number problem.now (booleans.attribute_term type name.now))) }
+    ensures { (type : AnyTy) → IsFound problem.now.nodes (booleans.context_term type) context
+        → IfOk result (λ b. b
+        ≡ rebuilt.truth_at m.now (atom_number problem.now (booleans.attribute_term type name.now))) }
 {
     problem.laws();
     order_laws();
@@ -72,7 +74,8 @@ fn assigned(
 
 /// The context of the world in which everything is as it is by default.
 fn default_context(alloc: Global, problem: &Problem<'_>) -> Result<Rec, AllocError>
-    ensures value { IfOk result (λ r. r ≡ default_fields problem.now.schema (type_of_context problem.now.schema problem.now.env.action)) }
+    ensures value { IfOk result (λ r. r ≡ default_fields problem.now.schema
+        (type_of_context problem.now.schema problem.now.env.action)) }
     ensures fits { IfOk result (IsContext problem.now.schema problem.now.env) }
 {
     problem.laws();
@@ -86,7 +89,8 @@ pub(crate) fn context_under(
     problem: &Problem<'_>,
     m: &Assignment,
 ) -> Result<Rec, AllocError>
-    ensures value { IfOk result (λ r. r ≡ rebuilt.context_of_type problem.now m.now (type_of_context problem.now.schema problem.now.env.action)) }
+    ensures value { IfOk result (λ r. r ≡ rebuilt.context_of_type problem.now m.now
+        (type_of_context problem.now.schema problem.now.env.action)) }
     ensures fits { IfOk result (IsContext problem.now.schema problem.now.env) }
 {
     let schema = problem.schema();

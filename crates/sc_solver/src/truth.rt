@@ -22,7 +22,8 @@ fn truth_at(m: &Assignment, atom: Atom) -> bool
 /// The value of a term that may be an atom, by its number in the table of terms, where it has one.
 pub(crate) fn truth_of(problem: &Problem<'_>, m: &Assignment, term: Option<u64>) -> bool
     requires { IfSome term (λ n. n < length problem.now.nodes) }
-    ensures { (t : Tree) → IsFound problem.now.nodes t term → is_opposite t ≡ false → result ≡ truth_at m.now (atom_number problem.now t) }
+    ensures { (t : Tree) → IsFound problem.now.nodes t term → is_opposite t ≡ false → result
+        ≡ truth_at m.now (atom_number problem.now t) }
 {
     problem.laws();
     order_laws();

@@ -35,7 +35,8 @@ pub fn bare_laws()
 /// What is among capabilities that hold holds.
 #[tactic(auto, using(crate::proofs::HoldingLaws::known_holds))]
 pub fn capability_laws()
-    ensures { (w : AnyWorld) (known : Capabilities) (c : AnyCapability) → is_known known c ≡ true → AllHold w known → Holds w c }
+    ensures { (w : AnyWorld) (known : Capabilities) (c : AnyCapability) → is_known known c ≡ true → AllHold w known
+        → Holds w c }
 {}
 
 /// In a well-formed world a value has no attribute that its type doesn't declare, each that its type

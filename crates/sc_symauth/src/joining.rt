@@ -39,7 +39,8 @@ fn any_satisfied_term(
     permitting: bool,
 ) -> Result<u64, AllocError>
     requires { AreCodes terms.old policies.now }
-    ensures ok { IfOk result (λ n. StandsFor terms.new n (any_satisfied (λ p. has_effect permitting p.effect) (map (compiled_at terms.old) policies.now))) }
+    ensures ok { IfOk result (λ n. StandsFor terms.new n (any_satisfied (λ p. has_effect permitting p.effect) (map
+        (compiled_at terms.old) policies.now))) }
     ensures kept { Keeps terms.old terms.new }
 {
     let codes = codes_of(alloc, policies, permitting)?;
@@ -53,7 +54,9 @@ fn codes_of(
     policies: &[CompiledPolicy],
     permitting: bool,
 ) -> Result<Seq<Opt>, AllocError>
-    ensures { IfOk result (λ codes. codes ≡ map (λ (p : AnyCompiled). p.code) (filter (λ (p : AnyCompiled). has_effect permitting p.effect) policies.now)) }
+    ensures { IfOk result (λ codes. codes
+        ≡ map (λ (p : AnyCompiled). p.code) (filter (λ
+        (p : AnyCompiled). has_effect permitting p.effect) policies.now)) }
 {
     let mut codes = Seq::new(alloc);
     for policy in policies {
@@ -77,7 +80,8 @@ fn has_effect(permitting: bool, effect: Effect) -> bool
 /// Whether each condition has a value and is true.
 fn satisfied_terms(alloc: Global, terms: &mut Terms, codes: &[Opt]) -> Result<Seq<u64>, AllocError>
     requires { All (λ (o : AnyOpt). IsCode terms.old o) codes.now }
-    ensures ok { IfOk result (λ ns. StandForAll terms.new ns (map (λ (o : AnyOpt). satisfied (code_at terms.old o)) codes.now)) }
+    ensures ok { IfOk result (λ ns. StandForAll terms.new ns (map (λ (o : AnyOpt). satisfied
+        (code_at terms.old o)) codes.now)) }
     ensures kept { Keeps terms.old terms.new }
 {
     let mut numbers = Seq::new(alloc);
@@ -110,7 +114,8 @@ fn error_terms(
     policies: &[CompiledPolicy],
 ) -> Result<Seq<u64>, AllocError>
     requires { AreCodes terms.old policies.now }
-    ensures ok { IfOk result (λ ns. StandForAll terms.new ns (map (λ (p : AnyCompiled). error (code_at terms.old p.code)) policies.now)) }
+    ensures ok { IfOk result (λ ns. StandForAll terms.new ns (map (λ (p : AnyCompiled). error
+        (code_at terms.old p.code)) policies.now)) }
     ensures kept { Keeps terms.old terms.new }
 {
     let mut numbers = Seq::new(alloc);

@@ -16,10 +16,13 @@ use sc_terms::{truth_laws, value_laws};
 /// In a world in which compiled policies agree with policies, their terms are true where these are
 /// satisfied, where they err, and where they allow, and false where not.
 pub fn standing_laws()
-    ensures satisfied { (w : AnyWorld) (c : Code) (o : Outcome) → Agrees w c o → IsTruth o → val (satisfied c) w ≡ yes (is_true o) }
+    ensures satisfied { (w : AnyWorld) (c : Code) (o : Outcome) → Agrees w c o → IsTruth o → val (satisfied c) w
+        ≡ yes (is_true o) }
     ensures error { (w : AnyWorld) (c : Code) (o : Outcome) → Agrees w c o → val (error c) w ≡ yes (is_err o) }
-    ensures allow { (w : AnyWorld) (cs : List Compiled) (ps : List AnyPolicy) → AllZip (Represents w) cs ps → val (allow cs) w ≡ yes (allows w ps) }
-    ensures any_error { (w : AnyWorld) (cs : List Compiled) (ps : List AnyPolicy) → AllZip (Represents w) cs ps → val (any_error cs) w ≡ yes (list_any (errs w) ps) }
+    ensures allow { (w : AnyWorld) (cs : List Compiled) (ps : List AnyPolicy) → AllZip (Represents w) cs ps
+        → val (allow cs) w ≡ yes (allows w ps) }
+    ensures any_error { (w : AnyWorld) (cs : List Compiled) (ps : List AnyPolicy) → AllZip (Represents w) cs ps
+        → val (any_error cs) w ≡ yes (list_any (errs w) ps) }
 {
     value_laws();
     truth_laws();

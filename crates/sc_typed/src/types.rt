@@ -130,7 +130,8 @@ fn join_record(
     fields: &[(Text, Presence, Ty)],
     b: &Ty,
 ) -> Result<Option<Ty>, AllocError>
-    ensures { IfOk result (λ o. o ≡ option_and_then (λ gs. option_map Ty.Record (join_fields (joining fields.now) gs)) (record_fields b.now)) }
+    ensures { IfOk result (λ o. o ≡ option_and_then (λ gs. option_map Ty.Record (join_fields (joining fields.now) gs))
+        (record_fields b.now)) }
 {
     let Some(others) = record_fields(b) else {
         return Ok(None);

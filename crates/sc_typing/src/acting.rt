@@ -72,7 +72,8 @@ fn acting_choice(
     a: &Boxed<Expr>,
     b: &Boxed<Expr>,
 ) -> Result<Expr, AllocError>
-    ensures { IfOk result (λ copy. copy ≡ Expr.If place (acting action.now c.now) (acting action.now a.now) (acting action.now b.now)) }
+    ensures { IfOk result (λ copy. copy
+        ≡ Expr.If place (acting action.now c.now) (acting action.now a.now) (acting action.now b.now)) }
 {
     Ok(Expr::If(
         place,
@@ -149,7 +150,8 @@ fn acting_is_in(
     in_place: Place,
     b: &Boxed<Expr>,
 ) -> Result<Expr, AllocError>
-    ensures { IfOk result (λ copy. copy ≡ Expr.IsIn place (acting action.now a.now) type_name.now in_place (acting action.now b.now)) }
+    ensures { IfOk result (λ copy. copy
+        ≡ Expr.IsIn place (acting action.now a.now) type_name.now in_place (acting action.now b.now)) }
 {
     Ok(Expr::IsIn(
         place,

@@ -63,7 +63,8 @@ fn type_under(
     given: &[Capability],
     expr: &Expr,
 ) -> Result<Typed, Fault<TypeFault>>
-    ensures { Gives result (typing setting.now.schema.now setting.now.env.now expr.now (setting.now.known.now ++ given.now)) }
+    ensures { Gives result (typing setting.now.schema.now setting.now.env.now expr.now (setting.now.known.now
+        ++ given.now)) }
 {
     if given.is_empty() {
         return type_expr(setting, expr);
@@ -86,7 +87,8 @@ fn choose(
     a: &Expr,
     b: &Expr,
 ) -> Result<Typed, Fault<TypeFault>>
-    ensures { Gives result (choice place (seen setting.now c.now) (seen setting.now a.now) (seen setting.now b.now) setting.now.known.now) }
+    ensures { Gives result (choice place (seen setting.now c.now) (seen setting.now a.now)
+        (seen setting.now b.now) setting.now.known.now) }
 {
     let x = type_expr(setting, c)?;
     if is_true(x.expr.get()) {
@@ -200,7 +202,8 @@ fn type_binary(
     a: &Expr,
     b: &Expr,
 ) -> Result<Typed, Fault<TypeFault>>
-    ensures { Gives result (operated setting.now.schema.now place operator (seen setting.now a.now) (seen setting.now b.now) setting.now.known.now) }
+    ensures { Gives result (operated setting.now.schema.now place operator (seen setting.now a.now)
+        (seen setting.now b.now) setting.now.known.now) }
 {
     match operator {
         BinaryOperator::In => type_in(setting, place, a, b),
@@ -216,7 +219,8 @@ fn type_operands(
     a: &Expr,
     b: &Expr,
 ) -> Result<Typed, Fault<TypeFault>>
-    ensures { Gives result (computed setting.now.schema.now place operator (seen setting.now a.now) (seen setting.now b.now) setting.now.known.now) }
+    ensures { Gives result (computed setting.now.schema.now place operator (seen setting.now a.now)
+        (seen setting.now b.now) setting.now.known.now) }
 {
     let x = type_expr(setting, a)?;
     let y = type_expr(setting, b)?;
@@ -230,7 +234,8 @@ fn type_in(
     a: &Expr,
     b: &Expr,
 ) -> Result<Typed, Fault<TypeFault>>
-    ensures { Gives result (contained setting.now.schema.now place (seen setting.now a.now) (seen setting.now b.now) setting.now.known.now) }
+    ensures { Gives result (contained setting.now.schema.now place (seen setting.now a.now)
+        (seen setting.now b.now) setting.now.known.now) }
 {
     let x = type_expr(setting, a)?;
     let right = type_right(setting, a, b, x.expr.get())?;
@@ -303,7 +308,8 @@ fn type_is_in(
     a: &Expr,
     b: &Expr,
 ) -> Result<Typed, Fault<TypeFault>>
-    ensures { Gives result (tested_in setting.now.schema.now place type_name.now in_place (seen setting.now a.now) (seen setting.now b.now) setting.now.known.now) }
+    ensures { Gives result (tested_in setting.now.schema.now place type_name.now in_place (seen setting.now a.now)
+        (seen setting.now b.now) setting.now.known.now) }
 {
     let x = type_expr(setting, a)?;
     if is_of(x.expr.get(), type_name)? {
@@ -323,7 +329,8 @@ fn type_among(
     x: Typed,
     b: &Expr,
 ) -> Result<Typed, Fault<TypeFault>>
-    ensures { Gives result (tested_among setting.now.schema.now place type_name.now in_place a.now x.expr (seen setting.now b.now) setting.now.known.now) }
+    ensures { Gives result (tested_among setting.now.schema.now place type_name.now in_place a.now x.expr
+        (seen setting.now b.now) setting.now.known.now) }
 {
     let right = type_right(setting, a, b, x.expr.get())?;
     Ok(is_in(
@@ -394,7 +401,8 @@ fn type_record(
     place: Place,
     fields: &[(Text, Expr)],
 ) -> Result<Typed, Fault<TypeFault>>
-    ensures { Gives result (record_literal place (map (λ (f : List ℕ × AnyExpr). (f.0, seen setting.now f.1)) fields.now) setting.now.known.now) }
+    ensures { Gives result (record_literal place (map (λ (f : List ℕ × AnyExpr).
+        (f.0, seen setting.now f.1)) fields.now) setting.now.known.now) }
 {
     let typed = type_fields(setting, fields)?;
     Ok(record_of(setting.alloc, place, typed)?)
@@ -407,7 +415,8 @@ fn type_fields(
     setting: &Setting<'_>,
     fields: &[(Text, Expr)],
 ) -> Result<Seq<(Text, TypedExpr)>, Fault<TypeFault>>
-    ensures { Gives result (fields_typed (map (λ (f : List ℕ × AnyExpr). (f.0, seen setting.now f.1)) fields.now) setting.now.known.now) }
+    ensures { Gives result (fields_typed (map (λ (f : List ℕ × AnyExpr).
+        (f.0, seen setting.now f.1)) fields.now) setting.now.known.now) }
 {
     let mut typed = Seq::new(setting.alloc);
     for field in fields {

@@ -71,7 +71,8 @@ pub fn variable(
     place: Place,
     variable: Variable,
 ) -> Result<Typed, AllocError>
-    ensures { IfOk result (λ x. x ≡ made (TypedExpr.Variable place (variable_type setting.now.schema.now setting.now.env.now variable) variable) []) }
+    ensures { IfOk result (λ x. x ≡ made (TypedExpr.Variable place
+        (variable_type setting.now.schema.now setting.now.env.now variable) variable) []) }
 {
     let ty = variable_type(setting, variable)?;
     let expr = Boxed::new(setting.alloc, TypedExpr::Variable(place, ty, variable))?;
@@ -106,7 +107,8 @@ fn leaves_typed(alloc: Global, expr: &Expr) -> Result<TypedExpr, AllocError>
 }
 
 fn leaf_set(alloc: Global, place: Place, members: &[Expr]) -> Result<TypedExpr, AllocError>
-    ensures { IfOk result (λ x. x ≡ TypedExpr.Set place (Ty.Set (first_type (map leaf members.now))) (map leaf members.now)) }
+    ensures { IfOk result (λ x. x ≡ TypedExpr.Set place (Ty.Set (first_type (map leaf members.now)))
+        (map leaf members.now)) }
 {
     let typed = all_leaves(alloc, members)?;
     let member = Boxed::new(alloc, first_type(alloc, typed.as_slice())?)?;

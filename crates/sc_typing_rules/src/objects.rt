@@ -73,7 +73,8 @@ fn may_read(
     a: &Expr,
     name: &Text,
 ) -> Result<bool, AllocError>
-    ensures { IfOk result (λ may. may ≡ (is_required field.now || is_known setting.now.known.now (attribute_of a.now name.now))) }
+    ensures { IfOk result (λ may. may
+        ≡ (is_required field.now || is_known setting.now.known.now (attribute_of a.now name.now))) }
 {
     if is_required(field) {
         return Ok(true);
@@ -139,7 +140,8 @@ fn path_of(
     a: &Expr,
     x: &TypedExpr,
 ) -> Result<Path, Fault<TypeFault>>
-    ensures { Gives result (along setting.now.schema.now place setting.now.known.now (subject a.now x.now) no_names names.now) }
+    ensures { Gives result (along setting.now.schema.now place setting.now.known.now
+        (subject a.now x.now) no_names names.now) }
 {
     let ty = copy_of_ty(setting.alloc, x)?;
     let object = Boxed::new(setting.alloc, bare(setting.alloc, a)?)?;
@@ -158,7 +160,9 @@ fn along(
     ty: &Ty,
     path: &mut Path,
 ) -> Result<(), Fault<TypeFault>>
-    ensures { Gives (result_map_both (λ _. path.new) (λ e. e) result) (along setting.now.schema.now place setting.now.known.now (record { object = object; at = at; type = ty.now }) path.old names.now) }
+    ensures { Gives (result_map_both (λ _. path.new) (λ e. e) result)
+        (along setting.now.schema.now place setting.now.known.now
+        (record { object = object; at = at; type = ty.now }) path.old names.now) }
 {
     let mut ty = ty;
     for (i, name) in names.iter().enumerate() {
@@ -273,7 +277,14 @@ fn hold(alloc: Global, path: &mut Path, ty: &Ty, name: &Text) -> Result<(), Allo
 
 /// Puts a name that may be there or not, what holds where it is there being given already.
 fn maybe_hold(alloc: Global, path: &mut Path, ty: &Ty, name: &Text) -> Result<(), AllocError>
-    ensures { OnOk result (path.new ≡ record { steps = path.old.steps ++ step name.now ty.now Ty.Bool ∷ []; found = Ty.Bool; given = path.old.given; skipped = [] }) }
+    ensures { OnOk result (path.new
+        ≡ record {
+          steps = path.old.steps
+              ++ step name.now ty.now Ty.Bool ∷ [];
+          found = Ty.Bool;
+          given = path.old.given;
+          skipped = [];
+        }) }
 {
     path.steps.push(step(alloc, name, ty, Ty::Bool)?)?;
     path.found = Ty::Bool;

@@ -109,7 +109,8 @@ pub fn is_not(
     x: Boxed<TypedExpr>,
     b: &Expr,
 ) -> Result<Typed, AllocError>
-    ensures { IfOk result (λ t. t ≡ made (TypedExpr.IsIn place Ty.False x type_name.now in_place (TypedExpr.Skipped b.now)) []) }
+    ensures { IfOk result (λ t. t ≡ made (TypedExpr.IsIn place Ty.False x type_name.now in_place
+        (TypedExpr.Skipped b.now)) []) }
 {
     let other = skipped(alloc, b)?;
     let name = type_name.try_clone(alloc)?;

@@ -13,7 +13,8 @@ use sc_values::{Rec, Value};
 
 /// Whether an entity's attributes and tags and the types of its ancestors are as its type has them.
 pub(crate) fn is_typed(s: &Schema, uid: &Uid, entity: &EntityData) -> bool
-    ensures { IsTrue result ↔ (HasAttributes s.now (uid.now, entity.now) × HasTags s.now (uid.now, entity.now) × HasAncestorTypes s.now (uid.now, entity.now)) }
+    ensures { IsTrue result ↔ (HasAttributes s.now (uid.now, entity.now) × HasTags s.now (uid.now, entity.now)
+        × HasAncestorTypes s.now (uid.now, entity.now)) }
 {
     let attributes = has_attributes(s, uid, entity);
     let tags = has_tags(s, uid, entity);

@@ -90,7 +90,8 @@ fn fits(attributes: &Attributes, fields: &Rec) -> bool
 
 #[cycle(conforms)]
 fn attributes_pass(attributes: &Attributes, fields: &Rec) -> bool
-    ensures { result ≡ list_all (λ (a : List ℕ × AnyPresence × AnyTy). of_type.passes a.1 (of_type.conforms a.2) (field a.0 fields.now)) attributes.now }
+    ensures { result ≡ list_all (λ (a : List ℕ × AnyPresence
+        × AnyTy). of_type.passes a.1 (of_type.conforms a.2) (field a.0 fields.now)) attributes.now }
 {
     for attribute in attributes.as_slice() {
         if !passes(
@@ -124,7 +125,8 @@ fn may_lack(presence: Presence) -> bool
 }
 
 fn are_declared(attributes: &Attributes, fields: &Rec) -> bool
-    ensures { result ≡ list_all (λ (f : List ℕ × AnyValue). list_any (λ (a : List ℕ × AnyPresence × AnyTy). bytes_eq f.0 a.0) attributes.now) fields.now }
+    ensures { result ≡ list_all (λ (f : List ℕ
+        × AnyValue). list_any (λ (a : List ℕ × AnyPresence × AnyTy). bytes_eq f.0 a.0) attributes.now) fields.now }
 {
     fields
         .as_slice()

@@ -47,7 +47,8 @@ pub(crate) fn default_fields(
     s: &Schema,
     attributes: &Attributes,
 ) -> Result<Rec, AllocError>
-    ensures { IfOk result (λ r. r ≡ flat_map (λ (a : List ℕ × AnyPresence × AnyTy). default_field a.1 a.0 (default_value s.now a.2)) attributes.now) }
+    ensures { IfOk result (λ r. r ≡ flat_map (λ (a : List ℕ × AnyPresence
+        × AnyTy). default_field a.1 a.0 (default_value s.now a.2)) attributes.now) }
 {
     let mut fields = Seq::new(alloc);
     for attribute in attributes.as_slice() {
@@ -63,7 +64,8 @@ fn put_field(
     attribute: &(Text, Presence, Ty),
     fields: &mut Rec,
 ) -> Result<(), AllocError>
-    ensures { OnOk result (fields.new ≡ fields.old ++ default_field attribute.now.1 attribute.now.0 (default_value s.now attribute.now.2)) }
+    ensures { OnOk result (fields.new ≡ fields.old
+        ++ default_field attribute.now.1 attribute.now.0 (default_value s.now attribute.now.2)) }
 {
     match attribute.1 {
         Presence::Required => {

@@ -28,7 +28,8 @@ pub fn world_for(
     ensures request { IfOk result (λ w. w.request ≡ request) }
     ensures value { IfOk result (λ w. AreDefaults s.now w.store) }
     ensures exact { IfOk result (λ w. StoresNamed s.now request lits.now w.store) }
-    ensures well_formed { (env : AnyEnv) → IsRequestAmong s.now env request lits.now → IfOk result (IsWellFormed s.now env lits.now) }
+    ensures well_formed { (env : AnyEnv) → IsRequestAmong s.now env request lits.now
+        → IfOk result (IsWellFormed s.now env lits.now) }
 {
     s.laws();
     let nothing = Store::new(alloc);

@@ -27,7 +27,8 @@ pub fn world_with(
     ensures request { IfOk result (λ w. w.request ≡ request) }
     ensures value { IfOk result (λ w. AreAsGiven s.now given w.store) }
     ensures exact { IfOk result (λ w. StoresNamedWith s.now given request lits.now w.store) }
-    ensures well_formed { (env : AnyEnv) → IsRequestAmong s.now env request lits.now → AreSound s.now given → IfOk result (IsWellFormed s.now env lits.now) }
+    ensures well_formed { (env : AnyEnv) → IsRequestAmong s.now env request lits.now → AreSound s.now given
+        → IfOk result (IsWellFormed s.now env lits.now) }
 {
     s.laws();
     let store = filled(alloc, s, given, &request, lits)?;

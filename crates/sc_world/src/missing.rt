@@ -22,7 +22,8 @@ use std::cmp::Ordering;
 /// The least entity that a world has to store and doesn't: one that its request or a stored entity
 /// names, a literal or a declared action.
 pub fn first_missing<'w>(s: &'w Schema, w: &'w World, lits: &'w Lits) -> Option<&'w Uid>
-    ensures { MatchOption result (AllByRecursion (IsStored w.now.store) (wanted s.now lits.now w.now)) (λ uid. IsLeast (IsMissing s.now lits.now w.now) uid.now) }
+    ensures { MatchOption result (AllByRecursion (IsStored w.now.store) (wanted s.now lits.now w.now)) (λ uid. IsLeast
+        (IsMissing s.now lits.now w.now) uid.now) }
 {
     least_wanted(s, w, lits)
 }
@@ -46,7 +47,8 @@ fn least_in_request<'w>(store: &Store, r: &'w Request) -> Option<&'w Uid>
 }
 
 fn least_in_entities<'w>(store: &'w Store, so_far: Option<&'w Uid>) -> Option<&'w Uid>
-    ensures { option_copied result ≡ least_missing store.now (option_copied so_far.entry) (flat_map uids_in_entry store.now) }
+    ensures { option_copied result ≡ least_missing store.now (option_copied so_far.entry)
+        (flat_map uids_in_entry store.now) }
 {
     let mut least = so_far;
     for (_, entity) in store.entities().iter() {

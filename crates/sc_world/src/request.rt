@@ -33,7 +33,8 @@ fn is_environment_of(r: &Request, env: &Env) -> bool
 }
 
 fn is_context_of(s: &Schema, action: &Uid, context: &Rec) -> bool
-    ensures { IsTrue result ↔ IsSomeAnd (context_of s.now action.now) (λ t. IsTrue (of_type.conforms t (Record context.now))) }
+    ensures { IsTrue result ↔ IsSomeAnd (context_of s.now action.now) (λ t. IsTrue (of_type.conforms t
+        (Record context.now))) }
 {
     match context_of(s, action) {
         Some(ty) => record_conforms(context, ty),

@@ -55,7 +55,8 @@ fn missing_break(
     w: &World,
     lits: &Lits,
 ) -> Result<Option<Break>, AllocError>
-    ensures { IfOk result (λ found. IsSoundRequest s.now w.now.request → AreSound s.now w.now.store → IsFirstBreak s.now lits.now w.now found) }
+    ensures { IfOk result (λ found. IsSoundRequest s.now w.now.request → AreSound s.now w.now.store
+        → IsFirstBreak s.now lits.now w.now found) }
 {
     match first_missing(s, w, lits) {
         Some(uid) => Ok(Some(Break::Missing(uid.try_clone(alloc)?))),
