@@ -4,6 +4,7 @@ use Rattle.std.proofs.lemmas.Int.{ints}
 use Rattle.std.proofs.lemmas.Bool.{false≢true}
 use Rattle.std.specs.Prelude.{int_lt}
 use Rattle.std.specs.Int.{Width, w64}
+use Rattle.sc_lists.proofs.NumberLaws.{int_lt_decides}
 use mir.Val.{hbits}
 use Rattle.sc_lists.proofs.BoolLaws.{same_truth}
 use Rattle.sc_bits.specs.Bits.{digit, number, bit64, of_bits}
@@ -62,15 +63,8 @@ order_rebuilt w a b l h =
 pub low_of : (n : ℕ) (a b : ℕ → Bool) → IsLow n a b (low a b)
 low_of n a b = record { start = low-zero a b; next = λ i l. low-suc a b i }
 
-lt_decides : (a b : ℤ) → IsTrue (int_lt a b) ↔ (a <ℤ b)
-lt_decides a b = (λ t. omega (arith, ints), λ h. by_test (int_lt a b) refl h)
-  where
-    by_test : (t : Bool) → int_lt a b ≡ t → a <ℤ b → IsTrue (int_lt a b)
-    by_test true e h = e
-    by_test false e h = absurd (omega (arith, ints))
-
 pub slt_is : (a b : ℤ) → SFits w64 a → SFits w64 b → slt (bit64 a) (bit64 b) ≡ int_lt a b
-slt_is a b f g = same_truth {P = a <ℤ b} _ _ (signed_below-bits w64 a b f g) (lt_decides a b)
+slt_is a b f g = same_truth {P = a <ℤ b} _ _ (signed_below-bits w64 a b f g) (int_lt_decides a b)
 
 pub slt_rebuilt : (a b l : ℕ → Bool) → IsLow 63 a b l → is_below (b 63) (a 63) (l 63) ≡ int_lt (of_bits w64 a) (of_bits w64 b)
-slt_rebuilt a b l h = same_truth {P = of_bits w64 a <ℤ of_bits w64 b} _ _ (order_rebuilt w64 a b l h) (lt_decides (of_bits w64 a) (of_bits w64 b))
+slt_rebuilt a b l h = same_truth {P = of_bits w64 a <ℤ of_bits w64 b} _ _ (order_rebuilt w64 a b l h) (int_lt_decides (of_bits w64 a) (of_bits w64 b))

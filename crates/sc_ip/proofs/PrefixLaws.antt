@@ -11,7 +11,7 @@ use Rattle.sc_ip.specs.IpText.{IsAddressText, with_prefix, IsIpText, alone, pref
 use Rattle.sc_ip.proofs.GroupLaws.{Lacks, lacks_from_index, same_cut, no_cut}
 use Rattle.sc_ip.proofs.AddressLaws.{address_lacks_slash, address_only}
 
-width-le : (a : Ip) → width_of a ≤ 128
+pub width-le : (a : Ip) → width_of a ≤ 128
 width-le (V4 address prefix) = lit≤ tt
 width-le (V6 address prefix) = lit≤ tt
 

@@ -13,6 +13,7 @@ use Rattle.std.proofs.lemmas.List.Splits.{slice_split_none, slice_split_at, leng
 use Rattle.std.proofs.lemmas.List.Elements.{All-nil, All-cons}
 use Rattle.std.proofs.lemmas.Bool.{eq-eqb, eqb-true, lt-ltb, ltb-true, le-leb, leb-true, and_parts, and_from}
 use Rattle.std.proofs.lemmas.Option.{cond_some}
+use Rattle.sc_ip.proofs.PrefixLaws.{width-le}
 use Rattle.sc_lists.proofs.NumberLaws.{eqb_false}
 use Rattle.sc_lists.proofs.OptionLaws.{option_map_some, option_and_then_some}
 use Rattle.sc_ip.specs.declared.ip.Ip.{Ip}
@@ -268,10 +269,6 @@ slash_to (b ∷ bs) p e = by_test (eqb b 47) refl e (λ q i. slash_to bs q i)
         let m = option_map_some (λ (q : List ℕ × List ℕ). (b ∷ q.0, q.1)) (cut_at_slash bs) p e in
         let P : List ℕ × List ℕ → Type 0 = λ q. b ∷ bs ≡ q.0 ++ (47 ∷ q.1) in
         subst P m.2 (ap (λ l. b ∷ l) (rest m.0 m.1))
-
-width-le : (a : Ip) → width_of a ≤ 128
-width-le (V4 address prefix) = lit≤ tt
-width-le (V6 address prefix) = lit≤ tt
 
 ip_found : (text : List ℕ) (a : Ip) → IsIpText text a → ip_of text ≡ Some a
 unfolding ip_of

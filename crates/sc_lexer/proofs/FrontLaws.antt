@@ -10,6 +10,7 @@ use Rattle.std.proofs.lemmas.List.{take-append-drop, get_or_append_left}
 use Rattle.std.proofs.Math.Seq.{take-append_seam}
 use Rattle.std.proofs.lemmas.List.Sums.{take_while-cons}
 use Rattle.std.proofs.lemmas.Bool.{cases_Bool}
+use Rattle.sc_names.proofs.PartsLaws.{goes_on}
 use Rattle.sc_lists.proofs.BoolLaws.{and_second, and_first}
 use Rattle.sc_lists.proofs.TextLaws.{take_while_within, take_while_front, take_while_passes}
 use Rattle.sc_lists.proofs.ListLaws.{rest_is}
@@ -40,9 +41,6 @@ word_no_digit a h = grind (arith, nat_tests)
 
 word_no_quote : (a : ℕ) → begins_word a ≡ true → (a == 34) ≡ false
 word_no_quote a h = grind (arith, nat_tests)
-
-word_goes_on : (a : ℕ) → begins_word a ≡ true → goes_on_word a ≡ true
-word_goes_on a h = grind (arith, nat_tests)
 
 digit_no_one : (a : ℕ) → is_ascii_digit a ≡ true → one_sign a ≡ None
 unfolding one_sign
@@ -122,7 +120,7 @@ run p kind a cs h k = record {
 
 pub IsFront_word : (bytes : List ℕ) (n : ℕ) → begins_word (get_or bytes 0 0) ≡ true → 0 < length bytes → n ≡ length (take_while goes_on_word bytes) → IsFront bytes Word n
 IsFront_word [] n h some e = absurd (omega arith)
-IsFront_word (a ∷ cs) n h some e = rw e (run goes_on_word Word a cs (word_goes_on a h) (λ u. kind-word a u h))
+IsFront_word (a ∷ cs) n h some e = rw e (run goes_on_word Word a cs (goes_on a h) (λ u. kind-word a u h))
 
 pub IsFront_number : (bytes : List ℕ) (n : ℕ) → begins_word (get_or bytes 0 0) ≡ false → is_ascii_digit (get_or bytes 0 0) ≡ true → 0 < length bytes → n ≡ length (take_while is_ascii_digit bytes) → IsFront bytes Number n
 IsFront_number [] n h d some e = absurd (omega arith)
@@ -291,16 +289,16 @@ all_small p [] i f h l = absurd (omega arith)
 all_small p (c ∷ cs) zero f h l = f c (and_first (p c) (list_all p cs) h)
 all_small p (c ∷ cs) (suc i) f h l = all_small p cs i f (and_second (p c) (list_all p cs) h) (omega arith)
 
-word_small : (c : ℕ) → goes_on_word c ≡ true → c < 128
+pub word_small : (c : ℕ) → goes_on_word c ≡ true → c < 128
 word_small c h = grind (arith, nat_tests)
 
-digit_small : (c : ℕ) → is_ascii_digit c ≡ true → c < 128
+pub digit_small : (c : ℕ) → is_ascii_digit c ≡ true → c < 128
 digit_small c h = grind (arith, nat_tests)
 
 EndsAscii-word : (t : List ℕ) → is_word t ≡ true → EndsAscii t
 EndsAscii-word [] h = cc
 EndsAscii-word (c ∷ cs) h =
-    let all : list_all goes_on_word (c ∷ cs) ≡ true = rw (word_goes_on c (and_first (begins_word c) (list_all goes_on_word cs) h)) (and_second (begins_word c) (list_all goes_on_word cs) h) in
+    let all : list_all goes_on_word (c ∷ cs) ≡ true = rw (goes_on c (and_first (begins_word c) (list_all goes_on_word cs) h)) (and_second (begins_word c) (list_all goes_on_word cs) h) in
     record { some = omega arith; last = all_small goes_on_word (c ∷ cs) (length (c ∷ cs) - 1) word_small all (omega arith) }
 
 EndsAscii-number : (t : List ℕ) → is_number t ≡ true → EndsAscii t

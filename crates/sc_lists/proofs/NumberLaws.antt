@@ -1,7 +1,8 @@
 -- Tests of numbers.
-use Rattle.std.proofs.Common.{◌≡◌, ◌≢◌, ℕ, Bool, true, false, eqb, nat_eq, refl, arith}
+use Rattle.std.proofs.Common.{◌≡◌, ◌≢◌, ℕ, Bool, true, false, eqb, nat_eq, refl, arith, ℤ, ◌<ℤ◌, ◌↔◌, IsTrue, int_lt}
 use Rattle.std.proofs.lemmas.Bool.{eqb-true}
 use Rattle.std.proofs.lemmas.Bool.Decides.{nat_tests}
+use Rattle.std.proofs.lemmas.Int.{ints}
 
 pub nat_eq_true : (a b : ℕ) → nat_eq a b ≡ true → a ≡ b
 nat_eq_true a b h = grind (arith, nat_tests)
@@ -11,3 +12,6 @@ eqb_false a b h = by (eqb a b) refl where
   by : (t : Bool) → eqb a b ≡ t → eqb a b ≡ false
   by false e = e
   by true e = absurd (h (eqb-true a b e))
+
+pub int_lt_decides : (m n : ℤ) → IsTrue (int_lt m n) ↔ (m <ℤ n)
+int_lt_decides m n = (λ t. grind (arith, ints), λ t. grind (arith, ints))

@@ -2,7 +2,7 @@
 use Rattle.std.proofs.Common.{◌≡◌, ◌≢◌, ℕ, Bool, true, false, Ordering, Less, Equal, Greater, is_eq, refl, arith}
 use Rattle.std.proofs.lemmas.Bool.Decides.{nat_tests}
 use Rattle.std.specs.BTreeMap.{is_at}
-use Rattle.std.specs.Ordering.{nat_cmp, ordering_then, is_gt}
+use Rattle.std.specs.Ordering.{nat_cmp, ordering_then, is_gt, is_lt}
 
 pub is_eq_true : (o : Ordering) → is_eq o ≡ true → o ≡ Equal
 is_eq_true Less h = absurd cc
@@ -28,3 +28,8 @@ is_at_itself n = grind (arith, nat_tests)
 
 pub is_at_same : (n m : ℕ) → is_at (nat_cmp n) m ≡ true → m ≡ n
 is_at_same n m h = grind (arith, nat_tests)
+
+pub is_lt_true : (o : Ordering) → is_lt o ≡ true → o ≡ Less
+is_lt_true Less h = refl
+is_lt_true Equal h = absurd cc
+is_lt_true Greater h = absurd cc

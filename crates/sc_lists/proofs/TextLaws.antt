@@ -1,11 +1,14 @@
 -- Texts that are the same byte by byte, and the bytes that pass a test from the front on.
-use Rattle.std.proofs.Common.{◌≡◌, ◌≢◌, ◌≤◌, ℕ, List, [], ◌∷◌, length, take, drop, Bool, true, false, cond, refl, sym, ◌∙◌, arith}
+use Rattle.std.proofs.Common.{◌≡◌, ◌≢◌, ◌≤◌, ℕ, List, [], ◌∷◌, length, take, drop, Bool, true, false, cond, refl, sym, ◌∙◌, arith, ◌<◌, get_or, append-nil, inl, inr}
 use Rattle.std.specs.Cmp.{both_ways}
 use Rattle.std.specs.List.{list_all, take_while}
 use Rattle.std.specs.Str.{bytes_eq}
 use Rattle.std.proofs.lemmas.List.Folds.{length-prefix_len}
 use Rattle.std.proofs.lemmas.List.Sums.{take_while-cons, prefix_len-le-length}
 use Rattle.std.proofs.lemmas.Slice.Eq.{bytes_eq-Decides}
+use Rattle.std.specs.Char.{encode_utf8}
+use Rattle.std.proofs.lemmas.Bool.{cases_lt}
+use Rattle.std.proofs.lemmas.Str.{inside_one}
 
 pub bytes_eq_swap : (a b : List ℕ) → bytes_eq a b ≡ bytes_eq b a
 bytes_eq_swap a b =
@@ -43,3 +46,10 @@ take_while_stops p (c ∷ cs) =
 
 pub take_while_within : (p : ℕ → Bool) (cs : List ℕ) → length (take_while p cs) ≤ length cs
 take_while_within p cs = rw (length-prefix_len p cs) (prefix_len-le-length p cs)
+
+-- each byte of a character that is no single byte is high
+pub high_byte : (c k : ℕ) → 128 ≤ c → k < length (encode_utf8 c) → 128 ≤ get_or (encode_utf8 c) k 0
+high_byte c k high within = elim (cases_lt (get_or (encode_utf8 c) k 0) 128) [
+  | inl less ↦ absurd (let same : c ≡ get_or (encode_utf8 c) k 0 = inside_one c [] (encode_utf8 c) k (sym (append-nil (encode_utf8 c))) within less in omega arith)
+  | inr above ↦ above
+]

@@ -8,6 +8,7 @@ use Rattle.std.proofs.lemmas.Bool.Decides.{nat_tests, eqb_tells}
 use Rattle.std.proofs.lemmas.Grind.{flat_map-append}
 use Rattle.std.proofs.lemmas.Str.{encode_ascii, encodes-append, inside_one, digit_value-digit_char}
 use Rattle.std.proofs.lemmas.List.{append_cancel_right}
+use Rattle.sc_lists.proofs.TextLaws.{high_byte}
 use Rattle.sc_names.specs.declared.uid.Uid.{Uid}
 use Rattle.sc_names.specs.Escapes.{hex, escaped, escaped_text, uid_text}
 
@@ -21,12 +22,6 @@ escaped_text-high [] h = refl
 escaped_text-high (b ∷ bs) h =
     let high : 128 ≤ b = h 0 (omega arith) in
     rw (escaped-plain b (omega arith) (omega arith) (omega arith) (omega arith), escaped_text-high bs (λ k within. h (suc k) (omega arith))) refl
-
-high_byte : (c k : ℕ) → 128 ≤ c → k < length (encode_utf8 c) → 128 ≤ get_or (encode_utf8 c) k 0
-high_byte c k high within = elim (cases_lt (get_or (encode_utf8 c) k 0) 128) [
-  | inl less ↦ absurd (let same : c ≡ get_or (encode_utf8 c) k 0 = inside_one c [] (encode_utf8 c) k (sym (append-nil (encode_utf8 c))) within less in omega arith)
-  | inr above ↦ above
-]
 
 pub escaped_text_plain : (c : ℕ) → 32 ≤ c → c ≢ 34 → c ≢ 92 → c ≢ 127 → escaped_text (encode_utf8 c) ≡ encode_utf8 c
 escaped_text_plain c low quote backslash delete = elim (cases_lt c 128) [

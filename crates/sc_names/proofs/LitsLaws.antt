@@ -24,10 +24,10 @@ use Rattle.sc_names.proofs.UidLaws.{uid_cmp_total, uid_cmp_level}
 uid_eq : Uid → Uid → Bool
 uid_eq = ghosts.eq
 
-ties : (a b : Uid) → ghosts.eq a b ≡ eq_by_cmp uid_cmp a b
+pub ties : (a b : Uid) → ghosts.eq a b ≡ eq_by_cmp uid_cmp a b
 ties a b = matches_eq-law a b
 
-same : (a b : Uid) → ghosts.eq a b ≡ true → a ≡ b
+pub same : (a b : Uid) → ghosts.eq a b ≡ true → a ≡ b
 same a b h = tells_apart uid_cmp_level a b (sym (ties a b) ∙ h)
 
 pub ascending : (xs ys : List Uid) → IsSorted uid_cmp xs → IsFiltered (DiffersFromLast ghosts.eq) [] xs ys → IsStrictlySortedBy uid_cmp ys

@@ -45,7 +45,7 @@ one_of_more : (d a b u : Bool) → ((a || b) || u) ≡ true → (((d || a) || b)
 one_of_more true a b u h = refl
 one_of_more false a b u h = h
 
-goes_on : (c : ℕ) → begins_word c ≡ true → goes_on_word c ≡ true
+pub goes_on : (c : ℕ) → begins_word c ≡ true → goes_on_word c ≡ true
 goes_on c h = one_of_more (is_in_range 48 57 c) (is_in_range 65 90 c) (is_in_range 97 122 c) (c == 95) h
 
 word_goes_on : (w : List ℕ) → is_ident w ≡ true → list_all goes_on_word w ≡ true

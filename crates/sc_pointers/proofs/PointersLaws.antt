@@ -6,6 +6,7 @@ use Rattle.std.proofs.lemmas.Bool.{cases_lt}
 use Rattle.std.proofs.lemmas.Bool.Decides.{nat_tests}
 use Rattle.std.proofs.lemmas.Grind.{flat_map-append}
 use Rattle.std.proofs.lemmas.Str.{encode_ascii, encodes-append, inside_one}
+use Rattle.sc_lists.proofs.TextLaws.{high_byte}
 use Rattle.sc_pointers.specs.Pointers.{escaped, escaped_key}
 
 -- a byte that stands for itself
@@ -18,13 +19,6 @@ escaped_key-high [] h = refl
 escaped_key-high (b ∷ bs) h =
     let high : 128 ≤ b = h 0 (omega arith) in
     rw (escaped-plain b (omega arith) (omega arith), escaped_key-high bs (λ k within. h (suc k) (omega arith))) refl
-
--- each byte of a character that is no single byte is high
-pub high_byte : (c k : ℕ) → 128 ≤ c → k < length (encode_utf8 c) → 128 ≤ get_or (encode_utf8 c) k 0
-high_byte c k high within = elim (cases_lt (get_or (encode_utf8 c) k 0) 128) [
-  | inl less ↦ absurd (let same : c ≡ get_or (encode_utf8 c) k 0 = inside_one c [] (encode_utf8 c) k (sym (append-nil (encode_utf8 c))) within less in omega arith)
-  | inr above ↦ above
-]
 
 -- a character that stands for itself
 pub escaped_key_plain : (c : ℕ) → c ≢ 126 → c ≢ 47 → escaped_key (encode_utf8 c) ≡ encode_utf8 c

@@ -8,6 +8,7 @@ use Rattle.std.specs.Str.{IsUtf8}
 use Rattle.std.specs.declared.cmp.Ordering.{Ordering}
 use Rattle.std.specs.declared.cmp.Ordering.TheVariants.{Less, Equal, Greater}
 use Rattle.std.proofs.lemmas.Str.{IsUtf8-from_ascii}
+use Rattle.sc_lists.proofs.OrderingLaws.{is_lt_true}
 use Rattle.sc_names.specs.Uids.{text_cmp, uid_cmp}
 use Rattle.sc_schema.specs.declared.ty.Ty.TheVariants.{Record}
 use Rattle.sc_schema.specs.Declarations.{Declarations}
@@ -30,16 +31,11 @@ abbrev strictly_sorted : {K : Type 0} → (K → K → Ordering) → List K → 
 strictly_sorted R [] = true
 strictly_sorted R (k ∷ ks) = list_all (λ j. is_lt (R k j)) ks && strictly_sorted R ks
 
-below : (o : Ordering) → is_lt o ≡ true → o ≡ Less
-below Less h = refl
-below Equal h = absurd cc
-below Greater h = absurd cc
-
 all_below : {K : Type 0} (R : K → K → Ordering) (k : K) (ks : List K) → list_all (λ j. is_lt (R k j)) ks ≡ true → AllByRecursion (λ j. R k j ≡ Less) ks
 all_below R k [] h = tt
 all_below R k (j ∷ js) h =
     let parts = and_parts (is_lt (R k j)) (list_all (λ i. is_lt (R k i)) js) h in
-    (below (R k j) parts.0, all_below R k js parts.1)
+    (is_lt_true (R k j) parts.0, all_below R k js parts.1)
 
 pub sorted : {K : Type 0} (R : K → K → Ordering) (ks : List K) → strictly_sorted R ks ≡ true → IsStrictlySortedBy R ks
 unfolding IsStrictlySortedBy

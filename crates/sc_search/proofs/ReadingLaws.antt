@@ -3,6 +3,7 @@ use Rattle.std.proofs.Common.{◌≡◌, ◌≢◌, inl, inr, ⊎_elim, ℕ, ◌
 use Rattle.std.specs.List.{Contains}
 use Rattle.std.proofs.lemmas.List.{get_or-take, length-take-le, take_more}
 use Rattle.std.proofs.lemmas.List.Elements.{Contains-append_left, Contains-push, Contains-push_cases}
+use Rattle.sc_clauses.proofs.LitLaws.{bool_eq-true}
 use Rattle.sc_clauses.specs.Clauses.{negation, Clause, bool_eq}
 use Rattle.sc_clauses.specs.declared.lit.Lit.{Lit}
 use Rattle.sc_search.proofs.CellLaws.{at-before}
@@ -15,11 +16,6 @@ use Rattle.sc_search.specs.declared.cell.Cell.TheVariants.{Free, Decided, Implie
 pub at-end : (cells : List Cell) (trail : List Lit) → Agree cells trail → (l : Lit) (i : ℕ) → HasPlace cells l i → true_before cells (length trail) l ≡ true
 at-end cells trail h l i at = at-before cells l i (length trail) at (h.on_trail l i at).0
 
-sign-same : (n s : Bool) → bool_eq n s ≡ true → n ≡ s
-sign-same true s e = sym e
-sign-same false true e = absurd cc
-sign-same false false e = refl
-
 sign-differs : (n s : Bool) → bool_eq n s ≡ false → n ≡ not s
 sign-differs true s e = rw e refl
 sign-differs false true e = refl
@@ -27,7 +23,7 @@ sign-differs false false e = absurd cc
 
 signed-holds : (cells : List Cell) (trail : List Lit) (l : Lit) → Agree cells trail → (n : Bool) (q : ℕ) → ((s : Bool) → n ≡ s → set_at (cell_of cells l) s q) → (b : Bool) → bool_eq n l.negated ≡ b
     → HasTruth cells (length trail) l (signed b)
-signed-holds cells trail l h n q at true e = at-end cells trail h l q (at l.negated (sign-same _ _ e))
+signed-holds cells trail l h n q at true e = at-end cells trail h l q (at l.negated (bool_eq-true _ _ e))
 signed-holds cells trail l h n q at false e = at-end cells trail h (negation l) q (at (not l.negated) (sign-differs _ _ e))
 
 truth-by : (cells : List Cell) (trail : List Lit) (l : Lit) → Agree cells trail → (c : Cell) → cell_of cells l ≡ c → HasTruth cells (length trail) l (truth_of c l.negated)

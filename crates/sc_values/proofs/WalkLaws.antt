@@ -10,17 +10,13 @@ use Rattle.std.proofs.lemmas.Cmp.{tied_itself}
 use Rattle.std.proofs.lemmas.Map.Keys.{sorted_tail}
 use Rattle.std.proofs.lemmas.Map.Lookups.{CmpEqualImpliesEq}
 use Rattle.sc_lists.proofs.ListLaws.{contains_first, contains_rest, contains_split, contains_nothing}
-use Rattle.sc_lists.proofs.OrderingLaws.{is_eq_true}
+use Rattle.sc_lists.proofs.OrderingLaws.{is_eq_true, is_lt_true}
 use Rattle.sc_values.specs.declared.value.Value.{Value}
 use Rattle.sc_values.specs.Order.{value_cmp}
 use Rattle.sc_values.specs.Sets.{IsSubset, Meets}
 use Rattle.sc_values.specs.Walks.{from, starts_with, meets_all, meets_one}
 use Rattle.sc_values.proofs.AscendingLaws.{not_below, both_below, first_below}
 use Rattle.sc_values.proofs.OrderLaws.{value_cmp_total, value_cmp_exact}
-
-is_lt_true : (o : Ordering) → is_lt o ≡ true → o ≡ Less
-is_lt_true Less h = refl
-is_lt_true o h = absurd cc
 
 module _ {K : Type 0} {R : K → K → Ordering} (o : IsTotalOrder R) (exact : CmpEqualImpliesEq R) where
   -- ---- members that are passed

@@ -49,27 +49,27 @@ declared_type s name u lawful declared named =
 
 -- ---- records as look-ups see them
 
-abbrev Field : Type 0
+abbrev pub Field : Type 0
 Field = List ℕ × Value
 
 -- each field is found by its name
-abbrev Gets : Fields → Fields → Type 0
+abbrev pub Gets : Fields → Fields → Type 0
 Gets whole fs = AllByRecursion (λ (f : Field). field f.0 whole ≡ Some f.1) fs
 
 skip_at : (name other : List ℕ) (x o : Option Value) (b : Bool) → bytes_eq name other ≡ b → (name ≡ other → ⊥) → cond b x o ≡ o
 skip_at name other x o true e apart = absurd (apart ((bytes_eq-Decides name other).0 e))
 skip_at name other x o false e apart = refl
 
-skip : (name other : List ℕ) (x o : Option Value) → (name ≡ other → ⊥) → cond (bytes_eq name other) x o ≡ o
+pub skip : (name other : List ℕ) (x o : Option Value) → (name ≡ other → ⊥) → cond (bytes_eq name other) x o ≡ o
 skip name other x o apart = skip_at name other x o (bytes_eq name other) refl apart
 
-gets_later : (f : Field) (whole fs : Fields) → AllByRecursion (λ y. text_cmp f.0 y ≡ Less) (keys_of fs) → Gets whole fs → Gets (f ∷ whole) fs
+pub gets_later : (f : Field) (whole fs : Fields) → AllByRecursion (λ y. text_cmp f.0 y ≡ Less) (keys_of fs) → Gets whole fs → Gets (f ∷ whole) fs
 gets_later f whole [] below g = tt
 gets_later f whole (x ∷ fs) below g =
     let apart = λ (same : x.0 ≡ f.0). less≢equal (sym below.0 ∙ (ap (text_cmp f.0) same ∙ tied_itself nat_list_cmp_total f.0)) in
     (skip x.0 f.0 (Some f.1) (field x.0 whole) apart ∙ g.0, gets_later f whole fs below.1 g.1)
 
-gets_itself : (fs : Fields) → IsStrictlySortedBy text_cmp (keys_of fs) → Gets fs fs
+pub gets_itself : (fs : Fields) → IsStrictlySortedBy text_cmp (keys_of fs) → Gets fs fs
 unfolding IsStrictlySortedBy
 gets_itself [] ascending = tt
 gets_itself (f ∷ fs) ascending = (rw ((bytes_eq-Decides f.0 f.0).1 refl) refl, gets_later f fs fs ascending.0 (gets_itself fs ascending.1))

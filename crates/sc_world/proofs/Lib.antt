@@ -12,7 +12,7 @@ mod TypeLaws
 mod RequiredLaws
 mod DefaultTypeLaws
 mod FillLaws
-mod DeclaredLaws
+pub mod DeclaredLaws
 mod DefaultEntityLaws
 mod NamedWithLaws
 mod GivenWorldLaws

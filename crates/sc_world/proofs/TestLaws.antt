@@ -12,6 +12,7 @@ use Rattle.std.proofs.lemmas.List.Elements.{All-from_recursion, recursion_from_A
 use Rattle.std.proofs.lemmas.Map.Lookups.{CmpEqualImpliesEq}
 use Rattle.std.proofs.lemmas.Slice.Eq.{bytes_eq-Decides}
 use Rattle.std.proofs.lemmas.Bool.{and_parts}
+use Rattle.sc_names.proofs.LitsLaws.{ties, same}
 use Rattle.sc_lists.proofs.OrderingLaws.{is_eq_true}
 use Rattle.sc_names.specs.declared.uid.Uid.{Uid}
 use Rattle.sc_names.specs.contracts.uid.UidPartialEq.TheImpl.{ghosts}
@@ -38,13 +39,6 @@ one_uid r o a b is tied = (
   λ same. is ∙ ap is_eq (tied ∙ ap (uid_cmp a) (sym same) ∙ tied_itself uid_cmp_total a),
 )
 
--- the derived `==`
-ties : (a b : Uid) → ghosts.eq a b ≡ eq_by_cmp uid_cmp a b
-ties a b = matches_eq-law a b
-
-same_uid : (a b : Uid) → ghosts.eq a b ≡ true → a ≡ b
-same_uid a b h = uid_cmp_level a b (is_eq_true (uid_cmp a b) (sym (ties a b) ∙ h))
-
 itself : (a : Uid) → ghosts.eq a a ≡ true
 itself a = ties a a ∙ ap is_eq (tied_itself uid_cmp_total a)
 
@@ -54,7 +48,7 @@ same_uids [] (y ∷ ys) h = cc
 same_uids (x ∷ xs) [] h = cc
 same_uids (x ∷ xs) (y ∷ ys) h =
     let parts = and_parts (ghosts.eq x y) (pointwise ghosts.eq xs ys) h in
-    let first : x ≡ y = same_uid x y parts.0 in
+    let first : x ≡ y = same x y parts.0 in
     let rest : xs ≡ ys = same_uids xs ys parts.1 in
     cc
 
