@@ -4,11 +4,15 @@
 #![tactic(auto)]
 
 #[cfg(test)]
+mod answers;
+#[cfg(test)]
 mod constructs;
 #[cfg(test)]
 mod names;
 #[cfg(test)]
 mod policies;
+#[cfg(test)]
+mod rules;
 #[cfg(test)]
 mod samples;
 #[cfg(test)]

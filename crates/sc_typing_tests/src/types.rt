@@ -1,81 +1,9 @@
 //! The types of bodies where a user views a document, and the first rules that they break.
-use crate::samples::{at, sample, schema};
-use sc_ast::{Policy, PolicySet};
-use sc_lists::Fault;
-use sc_schema::{Env, Schema, environments};
-use sc_typed::kinds::{is_false, is_true};
-use sc_typing::{TypeFault, TypeRule, TypedExpr, type_of, type_policy};
-use std::alloc::{AllocError, Global};
+use crate::answers::Answer::{self, Always, Breaks, Either};
+use crate::answers::typed;
+use crate::samples::at;
+use sc_typing::{TypeFault, TypeRule};
 use std::test::Fail;
-
-/// What typing answers of a body.
-#[derive(Clone, Copy, PartialEq, Eq)]
-enum Answer {
-    /// It is always this.
-    Always(bool),
-    /// It may be true or false.
-    Either,
-    /// It breaks a rule, at the place of this byte.
-    Breaks(TypeRule, u64),
-}
-
-use Answer::{Always, Breaks, Either};
-
-/// What a condition with its types may be.
-fn truth_of(condition: &TypedExpr) -> Answer {
-    match type_of(condition) {
-        Some(ty) if is_true(ty) => Always(true),
-        Some(ty) if is_false(ty) => Always(false),
-        _ => Either,
-    }
-}
-
-/// What the condition of a policy may be in an environment.
-fn truth_in(
-    alloc: Global,
-    schema: &Schema,
-    env: &Env,
-    policy: &Policy,
-) -> Result<Answer, Fault<TypeFault>> {
-    let condition = type_policy(alloc, schema, env, policy)?;
-    Ok(truth_of(&condition))
-}
-
-/// What typing answers of a policy in an environment.
-fn answer_of(
-    alloc: Global,
-    schema: &Schema,
-    env: &Env,
-    policy: &Policy,
-) -> Result<Answer, AllocError> {
-    match truth_in(alloc, schema, env, policy) {
-        Ok(answer) => Ok(answer),
-        Err(Fault::Told(fault)) => Ok(Breaks(fault.rule, fault.at.offset)),
-        Err(Fault::NoMemory) => Err(AllocError),
-    }
-}
-
-/// What typing answers of the first of some policies where a user views a document.
-fn first_answer(
-    alloc: Global,
-    schema: &Schema,
-    policies: &PolicySet,
-) -> Result<Answer, AllocError> {
-    let Some(env) = environments(schema).get(2) else {
-        return Err(AllocError);
-    };
-    match policies.get(0) {
-        Some(policy) => answer_of(alloc, schema, env, policy),
-        None => Err(AllocError),
-    }
-}
-
-/// What typing answers of a policy with this body.
-fn typed(alloc: Global, body: &str) -> Result<Answer, AllocError> {
-    let schema = schema(alloc)?;
-    let policies = sample(alloc, body)?;
-    first_answer(alloc, &schema, &policies)
-}
 
 /// Truth values.
 const LOGIC: [(&str, Answer); 10] = [
@@ -187,7 +115,7 @@ const OPERANDS: [(&str, Answer); 5] = [
 #[test]
 fn truth_values(rt: HostRuntime) -> Result<(), Fail> {
     for (body, expected) in LOGIC {
-        assert!(rt; typed(rt.alloc(), body)? == expected, "{body}");
+        assert!(rt; typed(rt.alloc(), body)?.0 == expected, "{body}");
     }
     Ok(())
 }
@@ -195,7 +123,7 @@ fn truth_values(rt: HostRuntime) -> Result<(), Fail> {
 #[test]
 fn sets_and_records(rt: HostRuntime) -> Result<(), Fail> {
     for (body, expected) in JOINED {
-        assert!(rt; typed(rt.alloc(), body)? == expected, "{body}");
+        assert!(rt; typed(rt.alloc(), body)?.0 == expected, "{body}");
     }
     Ok(())
 }
@@ -203,7 +131,7 @@ fn sets_and_records(rt: HostRuntime) -> Result<(), Fail> {
 #[test]
 fn entities_and_actions(rt: HostRuntime) -> Result<(), Fail> {
     for (body, expected) in ENTITIES {
-        assert!(rt; typed(rt.alloc(), body)? == expected, "{body}");
+        assert!(rt; typed(rt.alloc(), body)?.0 == expected, "{body}");
     }
     Ok(())
 }
@@ -211,7 +139,7 @@ fn entities_and_actions(rt: HostRuntime) -> Result<(), Fail> {
 #[test]
 fn what_is_known(rt: HostRuntime) -> Result<(), Fail> {
     for (body, expected) in KNOWN {
-        assert!(rt; typed(rt.alloc(), body)? == expected, "{body}");
+        assert!(rt; typed(rt.alloc(), body)?.0 == expected, "{body}");
     }
     Ok(())
 }
@@ -219,7 +147,7 @@ fn what_is_known(rt: HostRuntime) -> Result<(), Fail> {
 #[test]
 fn operands(rt: HostRuntime) -> Result<(), Fail> {
     for (body, expected) in OPERANDS {
-        assert!(rt; typed(rt.alloc(), body)? == expected, "{body}");
+        assert!(rt; typed(rt.alloc(), body)?.0 == expected, "{body}");
     }
     Ok(())
 }
