@@ -1,16 +1,21 @@
 -- Files, and what they say or the faults that they have.
-use Rattle.std.proofs.Common.{◌≡◌, [], ◌∷◌, Some, None, true, codes, refl}
+use Rattle.std.proofs.Common.{◌≡◌, arith, [], ◌∷◌, Some, None, true, codes, refl}
 use lib.Utf8.{encode}
 use Rattle.serde_json.specs.Data.{Data, boolean, string, array, object, no_items, no_members, member}
 use Rattle.serde_json.proofs.OnLiterals.{serde_json_on_literals}
+use Rattle.sc_json_views.specs.Steps.{to_member, to_item, pointer, first_member}
+use Rattle.sc_json_views.specs.Trees.{no_tree, in_tree}
 use Rattle.sc_names.specs.Paths.{parts}
 use Rattle.sc_schema_syntax.specs.declared.fault.SchemaFault.TheVariants.{NotJson, BadShape, BadName}
 use Rattle.sc_schema_syntax.specs.declared.written_schema.WrittenSchema.{WrittenSchema}
 use Rattle.sc_schema_syntax.specs.declared.written_type.WrittenType.TheVariants as type
 use Rattle.sc_pointers.specs.Pointers.{escaped}
 use Rattle.sc_schema_syntax.specs.Faults.{value_fault}
+use Rattle.sc_schema_syntax.specs.declared.form.Form.TheVariants.{Object}
+use Rattle.sc_schema_syntax.specs.declared.level.Level.TheVariants.{Schema}
+use Rattle.sc_schema_syntax.specs.Places.{Kind, bad_name as of_name, bad_shape, misshapen, in_member, misnamed, in_value, SchemaFaultAt, IsBefore, name_first, outside, earlier, further}
 use Rattle.sc_schema_syntax.specs.Written.{type_of}
-use Rattle.sc_schema_syntax.specs.Syntax.{Spells, HasFault, no_tree, in_tree}
+use Rattle.sc_schema_syntax.specs.Syntax.{Spells, HasFault}
 
 -- an object that isn't closed
 unclosed : HasFault (codes "{") NotJson
@@ -68,5 +73,42 @@ spelled = record {
   d = set_type;
   tree = record { text = (codes "{\"N\":{\"commonTypes\":{\"T\":{\"type\":\"Set\",\"element\":{\"type\":\"U\"}}}}}", (refl, refl)); tree = refl };
   no_fault = refl;
-  schema = refl;
+  meant = refl;
 }
+
+-- ---- places of faults
+
+named_list : Data
+named_list = object (member (codes "a/~") (array no_items) no_members)
+
+-- the namespace has a name that can't be declared, and is no object
+misnamed_namespace : SchemaFaultAt named_list of_name (to_member (codes "a/~") ∷ [])
+unfolding named_list parts
+misnamed_namespace =
+    in_member (Object Schema) Schema (member (codes "a/~") (array no_items) no_members) (codes "a/~") (array no_items) of_name [] refl
+    (first_member (codes "a/~") (array no_items) no_members) (misnamed Schema (codes "a/~") (array no_items) refl)
+
+misshapen_namespace : SchemaFaultAt named_list bad_shape (to_member (codes "a/~") ∷ [])
+unfolding named_list parts
+misshapen_namespace =
+    in_member (Object Schema) Schema (member (codes "a/~") (array no_items) no_members) (codes "a/~") (array no_items) bad_shape [] refl
+    (first_member (codes "a/~") (array no_items) no_members) (in_value Schema (codes "a/~") _ (array no_items) bad_shape [] refl (misshapen _ (array no_items) refl))
+
+-- the name comes first
+name_before_value : IsBefore of_name (to_member (codes "a/~") ∷ []) bad_shape (to_member (codes "a/~") ∷ [])
+name_before_value = further of_name bad_shape (to_member (codes "a/~")) [] [] name_first
+
+-- capitals before small letters, item 2 before item 10, and an object before what is in it
+capitals_first : (k l : Kind) → IsBefore k (to_member (codes "Z") ∷ to_member (codes "a") ∷ []) l (to_member (codes "a") ∷ [])
+capitals_first k l = earlier k l (to_member (codes "Z")) (to_member (codes "a")) (to_member (codes "a") ∷ []) [] refl
+
+by_number : (k l : Kind) → IsBefore k (to_item 2 ∷ []) l (to_item 10 ∷ [])
+by_number k l = earlier k l (to_item 2) (to_item 10) [] [] (omega arith)
+
+object_first : (k l : Kind) → IsBefore k [] l (to_member (codes "a") ∷ [])
+object_first k l = outside k l (to_member (codes "a")) []
+
+-- slashes and tildes are escaped
+escaped_pointer : pointer (to_member (codes "a/~") ∷ to_member [] ∷ []) ≡ codes "/a~1~0/"
+unfolding escaped
+escaped_pointer = refl

@@ -2,10 +2,8 @@ pub mod DepthLaws
 pub mod EveryWrittenLaws
 mod Examples
 pub mod FaultsLaws
-mod StringsLaws
+pub mod FormedLaws
+pub mod PlacesLaws
 pub mod SyntaxLaws
-mod TokensLaws
-mod TreeLaws
-pub mod ViewLaws
 pub mod WellWrittenLaws
 pub mod WrittenLaws

@@ -1,35 +1,16 @@
--- A file spells one schema at most, has one fault at most, and not both.
-use Rattle.std.proofs.Common.{◌≡◌, ◌∙◌, sym, ap, ℕ, List, Some, None}
-use Rattle.serde_json.specs.Data.{Data}
-use Rattle.sc_schema_syntax.specs.declared.fault.SchemaFault.{SchemaFault}
-use Rattle.sc_schema_syntax.specs.declared.written_schema.WrittenSchema.{WrittenSchema}
+-- A file spells just one schema or has just one fault, and not both.
+use Rattle.std.proofs.Common.{ℕ, List}
+use Rattle.sc_json_views.proofs.TreesLaws.{one_value, one_fault, not_both, either}
+use Rattle.sc_schema_syntax.specs.declared.fault.SchemaFault.TheVariants.{NotJson}
 use Rattle.sc_schema_syntax.specs.Faults.{first_fault}
 use Rattle.sc_schema_syntax.specs.Written.{schema_of}
-use Rattle.sc_schema_syntax.specs.Syntax.{HasTree, Spells, HasFault, no_tree, in_tree, IsSettled}
-
-one_tree : (bytes : List ℕ) (c d : Data) → HasTree bytes c → HasTree bytes d → c ≡ d
-one_tree bytes c d a b =
-    let both : Some c ≡ Some d = sym a.tree ∙ b.tree in
-    cc
-
-one_schema : (bytes : List ℕ) (v w : WrittenSchema) → Spells bytes v → Spells bytes w → v ≡ w
-one_schema bytes v w a b = a.schema ∙ (ap schema_of (one_tree bytes a.d b.d a.tree b.tree) ∙ sym b.schema)
-
-one_fault : (bytes : List ℕ) (a b : SchemaFault) → HasFault bytes a → HasFault bytes b → a ≡ b
-one_fault bytes a b (no_tree h) (no_tree k) = cc
-one_fault bytes a b (no_tree h) (in_tree d fault tree first) = absurd (h d tree)
-one_fault bytes a b (in_tree d fault tree first) (no_tree h) = absurd (h d tree)
-one_fault bytes a b (in_tree c f left first) (in_tree d g right second) =
-    let same : first_fault c ≡ first_fault d = ap first_fault (one_tree bytes c d left right) in
-    let both : Some f ≡ Some g = sym first ∙ (same ∙ second) in
-    cc
-
-not_both : (bytes : List ℕ) (w : WrittenSchema) (a : SchemaFault) → Spells bytes w → ¬ HasFault bytes a
-not_both bytes w a s (no_tree h) = h s.d s.tree
-not_both bytes w a s (in_tree d fault tree first) =
-    let same : first_fault s.d ≡ first_fault d = ap first_fault (one_tree bytes s.d d s.tree tree) in
-    let both : Some fault ≡ None = sym first ∙ (sym same ∙ s.no_fault) in
-    cc
+use Rattle.sc_schema_syntax.specs.Syntax.{IsSettled}
 
 pub settled : (bytes : List ℕ) → IsSettled bytes
-settled bytes = record { one_schema = one_schema bytes; one_fault = one_fault bytes; not_both = not_both bytes }
+settled bytes =
+    record {
+      one_schema = one_value first_fault schema_of bytes;
+      one_fault = one_fault NotJson first_fault bytes;
+      not_both = not_both NotJson first_fault schema_of bytes;
+      either = either NotJson first_fault schema_of bytes;
+    }

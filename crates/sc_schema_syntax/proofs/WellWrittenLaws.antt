@@ -32,7 +32,8 @@ use Rattle.sc_schema_syntax.specs.WellWritten.{AreNames, attribute_names, IsWrit
 use Rattle.sc_schema_syntax.proofs.FaultsLaws.{no_fault_either, no_fault_under}
 use Rattle.sc_schema_syntax.proofs.WrittenLaws.{get_member-first}
 use Rattle.sc_schema_syntax.proofs.EveryWrittenLaws.{Attributes, every_Boolean, every_Long, every_String, every_Set, every_Record, every_Entity, every_Extension, every_EntityOrCommon, every_Common}
-use Rattle.sc_schema_syntax.proofs.TreeLaws.{keys, IsTidyObject, IsTidy, AreTidyMembers, tree_tidy}
+use Rattle.sc_json_views.specs.Trees.{keys, IsTidyObject, IsTidy, AreTidyMembers}
+use Rattle.sc_json_views.proofs.TidyTreeLaws.{tree_tidy}
 
 -- ---- names of members that may have any name
 
@@ -289,4 +290,4 @@ written-schema (object members) t e = record {
 }
 
 pub well_written : (bytes : List ℕ) (w : WrittenSchema) → Spells bytes w → IsWritten w
-well_written bytes w s = subst IsWritten (sym s.schema) (written-schema s.d (tree_tidy bytes s.d s.tree) s.no_fault)
+well_written bytes w s = subst IsWritten (sym s.meant) (written-schema s.d (tree_tidy bytes s.d s.tree) s.no_fault)

@@ -1,5 +1,7 @@
 pub mod Faults
+pub mod Formed
 pub mod Forms
+pub mod Places
 pub mod Pointers
 pub mod Syntax
 pub mod TypeWords

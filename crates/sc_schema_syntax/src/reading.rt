@@ -1,7 +1,8 @@
 //! Reads the syntax of a schema file.
 ghost use Rattle.std.specs.Prelude.{IfOk, IfErr};
 ghost use Rattle.serde_json.specs.View.{view};
-ghost use Rattle.sc_schema_syntax.specs.Syntax.{HasTree, Spells, Refuses};
+ghost use Rattle.sc_json_views.specs.Trees.{HasTree};
+ghost use Rattle.sc_schema_syntax.specs.Syntax.{Spells, Refuses};
 
 use crate::building::schema_of;
 use crate::checking::first_fault;

@@ -3,6 +3,8 @@ pub mod EntityFaultsLaws
 pub mod FaultsLaws
 pub mod InOrderLaws
 pub mod MembersLaws
+pub mod NestLaws
+pub mod NestWorlds
 pub mod PlainLaws
 pub mod ProperLaws
 pub mod ReadValues
@@ -14,7 +16,6 @@ pub mod TidyLaws
 pub mod TidyWorlds
 pub mod TypedLaws
 pub mod UniqueWorlds
-pub mod ViewLaws
 pub mod WholeLaws
 pub mod WholeWorlds
 pub mod WorldsLaws

@@ -175,5 +175,5 @@ world_reads_back w h = record {
   d = world_data w;
   tree = tree_of_text (world_data w) (whole-world w h.proper) (tidy-world w h.proper) h.nests;
   no_fault = world_no_fault w h.proper h.plain;
-  world = sym (world_said w h.proper h.plain);
+  meant = sym (world_said w h.proper h.plain);
 }

@@ -17,7 +17,7 @@ use Rattle.sc_world.specs.Stores.{Entities, with_entity, IsMap}
 use Rattle.sc_world.specs.WellFormed.{Entry, IsProperEntry}
 use Rattle.sc_world_json.specs.Reading.{SpellsWorld}
 use Rattle.sc_world_json.specs.Worlds.{elements, elements_of, entity_of, store_with}
-use Rattle.sc_world_json.proofs.FaultsLaws.{items_next}
+use Rattle.sc_json_views.proofs.WalkLaws.{items_next}
 
 -- ---- one more entity
 
@@ -61,4 +61,4 @@ ascending-store_with es (x ∷ xs) ascending = ascending-store_with (with_entity
 pub stored : (bytes : List ℕ) (w : World) → SpellsWorld bytes w → IsMap w.store
 stored bytes w h =
     let entities = map entity_of (elements_of (get (codes "entities") h.d)) in
-    subst (λ (x : World). IsMap x.store) (sym h.world) (ascending-store_with [] entities (no_pair_ascends {K = Uid} {V = EntityData} uid_cmp [] refl))
+    subst (λ (x : World). IsMap x.store) (sym h.meant) (ascending-store_with [] entities (no_pair_ascends {K = Uid} {V = EntityData} uid_cmp [] refl))

@@ -23,12 +23,8 @@ use Rattle.serde_json.specs.Read.{number_of, of_json, of_items, of_members, max_
 use Rattle.serde_json.specs.Written.{number_text, outline, items_outline, members_outline, comma_if, compact_text, items_text, members_text}
 use Rattle.serde_json.proofs.Texts.{print-outline}
 use Rattle.sc_names.specs.Uids.{text_cmp}
-use Rattle.sc_world_json.specs.Reading.{HasTree}
+use Rattle.sc_json_views.specs.Trees.{HasTree, keys}
 use Rattle.sc_world_json.proofs.WholeLaws.{IsWholeNumber, IsWhole, AreWhole, HaveWhole, number_of-integer, numbers}
-
-abbrev pub names_of : Members → List (List ℕ)
-names_of no_members = []
-names_of (member key d ms) = key ∷ names_of ms
 
 abbrev mutual
   pub IsTidy : Data → Type 0
@@ -37,7 +33,7 @@ abbrev mutual
   IsTidy (number n) = ⊤
   IsTidy (string s) = IsUtf8 s
   IsTidy (array ds) = AreTidy ds
-  IsTidy (object ms) = IsStrictlySortedBy text_cmp (names_of ms) × HaveTidy ms
+  IsTidy (object ms) = IsStrictlySortedBy text_cmp (keys ms) × HaveTidy ms
 
   pub AreTidy : Items → Type 0
   AreTidy no_items = ⊤
@@ -118,12 +114,12 @@ joined-one : (found : Members) (key : List ℕ) (d : Data) (ms : Members) → jo
 joined-one no_members key d ms = refl
 joined-one (member l e found) key d ms = ap (member l e) (joined-one found key d ms)
 
-below_later : (name : List ℕ) (found : Members) (key : List ℕ) (d : Data) (ms : Members) → AllByRecursion (λ y. text_cmp name y ≡ Less) (names_of (joined found (member key d ms))) → text_cmp name key ≡ Less
+below_later : (name : List ℕ) (found : Members) (key : List ℕ) (d : Data) (ms : Members) → AllByRecursion (λ y. text_cmp name y ≡ Less) (keys (joined found (member key d ms))) → text_cmp name key ≡ Less
 below_later name no_members key d ms h = h.0
 below_later name (member l e found) key d ms h = below_later name found key d ms h.1
 
 -- a name above those before it goes last
-put_last : (found : Members) (key : List ℕ) (d : Data) (ms : Members) → IsStrictlySortedBy text_cmp (names_of (joined found (member key d ms))) → put key d found ≡ joined found (member key d no_members)
+put_last : (found : Members) (key : List ℕ) (d : Data) (ms : Members) → IsStrictlySortedBy text_cmp (keys (joined found (member key d ms))) → put key d found ≡ joined found (member key d no_members)
 unfolding IsStrictlySortedBy
 put_last no_members key d ms h = refl
 put_last (member l e found) key d ms h =
@@ -143,11 +139,11 @@ mutual
   reads-items no_items h t = refl
   reads-items (item d ds) h t = rw (reads d h.0 t.0, reads-items ds h.1 t.1) refl
 
-  reads-members : (ms found : Members) → HaveWhole ms → HaveTidy ms → IsStrictlySortedBy text_cmp (names_of (joined found ms)) → of_members (members_outline ms) found ≡ Some (joined found ms)
+  reads-members : (ms found : Members) → HaveWhole ms → HaveTidy ms → IsStrictlySortedBy text_cmp (keys (joined found ms)) → of_members (members_outline ms) found ≡ Some (joined found ms)
   reads-members no_members found h t sorted = ap Some (sym (joined-none found))
   reads-members (member key d ms) found h t sorted =
       let next : put key d found ≡ joined found (member key d no_members) = put_last found key d ms sorted in
-      let later = subst (λ (ns : Members). IsStrictlySortedBy text_cmp (names_of ns)) (sym (joined-one found key d ms)) sorted in
+      let later = subst (λ (ns : Members). IsStrictlySortedBy text_cmp (keys ns)) (sym (joined-one found key d ms)) sorted in
       rw (reads d h.0 t.1, next) (reads-members ms (joined found (member key d no_members)) h.1 t.2 later ∙ ap Some (joined-one found key d ms))
 
 -- ---- the text is that of the tree

@@ -23,7 +23,8 @@ use Rattle.sc_world_json.specs.Text.{value_step, value_data, fields_data, uid_da
 use Rattle.sc_world_json.proofs.AsciiLaws.{decimal_low, ip_low}
 use Rattle.sc_world_json.proofs.ProperLaws.{held, proper_members, proper_fields}
 use Rattle.sc_world_json.proofs.TextLaws.{Field, value_data-Record}
-use Rattle.sc_world_json.proofs.TidyLaws.{names_of, IsTidy, AreTidy, HaveTidy}
+use Rattle.sc_json_views.specs.Trees.{keys}
+use Rattle.sc_world_json.proofs.TidyLaws.{IsTidy, AreTidy, HaveTidy}
 
 -- ---- objects of fixed form
 
@@ -64,7 +65,7 @@ fields : (ks : List (List ℕ × Known)) → AllByRecursion (λ (f : Field). IsP
 fields [] h t = tt
 fields (k ∷ ks) h t = (t.0, k.1.1 h.0, fields ks h.1 t.1)
 
-names-fields : (fs : List Field) → names_of (fields_data fs) ≡ keys_of fs
+names-fields : (fs : List Field) → keys (fields_data fs) ≡ keys_of fs
 names-fields [] = refl
 names-fields (f ∷ fs) = ap (λ (ns : List (List ℕ)). f.0 ∷ ns) (names-fields fs)
 

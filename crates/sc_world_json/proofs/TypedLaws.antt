@@ -1,17 +1,12 @@
 -- A proper value of a type is determined by its JSON.
-use Rattle.std.proofs.Common.{◌≡◌, ℕ, List, [], ◌∷◌, map, Bool, true, false, cond, Option, Some, Less, Equal, bytes_eq, ◌&&◌, ◌||◌, IsTrue, ℤ, pos, negsuc, refl, sym, ap, ◌∙◌, subst}
-use Rattle.std.proofs.lemmas.Cmp.{nat_list_cmp_total, tied_itself}
+use Rattle.std.proofs.Common.{◌≡◌, ℕ, List, [], ◌∷◌, map, Bool, true, false, Some, bytes_eq, ◌||◌, IsTrue, ℤ, pos, negsuc, refl, sym, ap, ◌∙◌, subst}
 use Rattle.std.proofs.lemmas.Slice.Eq.{bytes_eq-Decides}
 use Rattle.std.specs.List.{AllByRecursion, list_all, list_any}
-use Rattle.std.specs.List.Sorted.{IsStrictlySortedBy}
-use Rattle.std.specs.Map.{keys_of}
 use Rattle.std.proofs.lemmas.Bool.{and_parts}
-use Rattle.sc_lists.proofs.OrderingLaws.{less≢equal}
 use Rattle.serde_json.specs.Data.{Data}
 use Rattle.serde_json.specs.Find.{of_integer}
 use Rattle.serde_json.specs.View.{items_of}
 use Rattle.sc_names.specs.declared.uid.Uid.{Uid}
-use Rattle.sc_names.specs.Uids.{text_cmp}
 use Rattle.sc_decimal.specs.DecimalText.{IsDecimalText, decimal_text}
 use Rattle.sc_decimal.proofs.DecimalLaws.{decimal_only}
 use Rattle.sc_decimal.proofs.WrittenLaws.{text_reads}
@@ -27,7 +22,8 @@ use Rattle.sc_values.specs.declared.value.Value.TheOpen as v
 use Rattle.sc_values.specs.declared.value.Value.TheVariants.{rolls-Set, rolls-Record}
 use Rattle.sc_values.specs.Proper.{IsProper}
 use Rattle.sc_values.specs.Records.{Fields, field}
-use Rattle.sc_world.specs.Conforms.{Test, Shape, is_bool, is_truth, is_long, is_string, is_decimal, is_ip, is_entity_of, is_set_of, is_record_of, passes, conforms_step, conforms}
+use Rattle.sc_world.specs.Conforms.{Test, Shape, is_bool, is_truth, is_long, is_string, is_decimal, is_ip, is_entity_of, is_set_of, is_record_of, passes, conforms_step, conforms, shape_of}
+use Rattle.sc_world.proofs.DeclaredLaws.{Gets, gets_itself}
 use Rattle.sc_world_json.specs.Text.{value_step, value_data, fields_data, uid_data}
 use Rattle.sc_world_json.proofs.ProperLaws.{held, proper_members, proper_fields, ascending_fields}
 use Rattle.sc_world_json.proofs.TextLaws.{Field}
@@ -51,10 +47,10 @@ integer-same (negsuc m) (negsuc n) e = cc
 
 -- ---- the data of a layer
 
-abbrev layer_data : Value-F Value → Data
+abbrev pub layer_data : Value-F Value → Data
 layer_data a = value_step (map-Value Value Data value_data a)
 
-data_at : (x : Value) (a : Value-F Value) → out-Value x ≡ a → value_data x ≡ layer_data a
+pub data_at : (x : Value) (a : Value-F Value) → out-Value x ≡ a → value_data x ≡ layer_data a
 unfolding value_data
 data_at x a e = fold_out-Value Data value_step x ∙ ap layer_data e
 
@@ -80,7 +76,7 @@ bool-same (v.Bool c) _ p q h k e = absurd cc
 bool-same _ b p q h k e = absurd cc
 
 -- a truth value is a truth value
-truth-bool : (c : Bool) (a : Value-F Value) → IsTrue (is_truth c a) → IsTrue (is_bool a)
+pub truth-bool : (c : Bool) (a : Value-F Value) → IsTrue (is_truth c a) → IsTrue (is_bool a)
 truth-bool true (v.Bool b) h = refl
 truth-bool true _ h = absurd cc
 truth-bool false (v.Bool b) h = refl
@@ -143,26 +139,13 @@ set-same test d _ b p q h k e = absurd cc
 
 -- ---- records
 
--- each field is found by its name
-abbrev Gets : Fields → Fields → Type 0
-Gets whole fs = AllByRecursion (λ (f : Field). field f.0 whole ≡ Some f.1) fs
+-- the fields that are there are of the types
+abbrev pub AllPass : Shape → Fields → Type 0
+AllPass shape fs = IsTrue (list_all (λ (a : List ℕ × Presence × Test). passes a.1 a.2 (field a.0 fs)) shape)
 
-skip : (name other : List ℕ) (x o : Option Value) → (name ≡ other → ⊥) → cond (bytes_eq name other) x o ≡ o
-skip name other x o apart = at (bytes_eq name other) refl where
-  at : (b : Bool) → bytes_eq name other ≡ b → cond b x o ≡ o
-  at true e = absurd (apart ((bytes_eq-Decides name other).0 e))
-  at false e = refl
-
-gets_later : (f : Field) (whole fs : Fields) → AllByRecursion (λ y. text_cmp f.0 y ≡ Less) (keys_of fs) → Gets whole fs → Gets (f ∷ whole) fs
-gets_later f whole [] below g = tt
-gets_later f whole (x ∷ fs) below g =
-    let apart = λ (same : x.0 ≡ f.0). less≢equal (sym below.0 ∙ (ap (text_cmp f.0) same ∙ tied_itself nat_list_cmp_total f.0)) in
-    (skip x.0 f.0 (Some f.1) (field x.0 whole) apart ∙ g.0, gets_later f whole fs below.1 g.1)
-
-gets_itself : (fs : Fields) → IsStrictlySortedBy text_cmp (keys_of fs) → Gets fs fs
-unfolding IsStrictlySortedBy
-gets_itself [] ascending = tt
-gets_itself (f ∷ fs) ascending = (rw ((bytes_eq-Decides f.0 f.0).1 refl) refl, gets_later f fs fs ascending.0 (gets_itself fs ascending.1))
+-- the type declares the name
+abbrev pub is_declared : Shape → List ℕ → Bool
+is_declared shape name = list_any (λ (a : List ℕ × Presence × Test). bytes_eq name a.0) shape
 
 abbrev Known : Type 0
 Known = (t : Ty) × Determined (conforms t)
@@ -171,17 +154,9 @@ abbrev KnownAttributes : Type 0
 KnownAttributes = List (List ℕ × Presence × Known)
 
 abbrev tests : KnownAttributes → Shape
-tests ks = map (λ (a : List ℕ × Presence × Ty). (a.0, a.1, conforms a.2)) (map (λ (a : List ℕ × Presence × Known). (a.0, a.1, a.2.0)) ks)
+tests ks = shape_of (map (λ (a : List ℕ × Presence × Known). (a.0, a.1, a.2.0)) ks)
 
--- the fields that are there are of the types
-abbrev AllPass : KnownAttributes → Fields → Type 0
-AllPass ks fs = IsTrue (list_all (λ (a : List ℕ × Presence × Test). passes a.1 a.2 (field a.0 fs)) (tests ks))
-
--- the type declares the name
-abbrev is_declared : KnownAttributes → List ℕ → Bool
-is_declared ks name = list_any (λ (a : List ℕ × Presence × Test). bytes_eq name a.0) (tests ks)
-
-attribute-same : (ks : KnownAttributes) (fs gs : Fields) (name : List ℕ) (x y : Value) → IsTrue (is_declared ks name) → AllPass ks fs → AllPass ks gs → field name fs ≡ Some x → field name gs ≡ Some y
+attribute-same : (ks : KnownAttributes) (fs gs : Fields) (name : List ℕ) (x y : Value) → IsTrue (is_declared (tests ks) name) → AllPass (tests ks) fs → AllPass (tests ks) gs → field name fs ≡ Some x → field name gs ≡ Some y
     → IsProper x → IsProper y → value_data x ≡ value_data y → x ≡ y
 attribute-same [] fs gs name x y d h k f g p q e = absurd cc
 attribute-same (a ∷ ks) fs gs name x y d h k f g p q e =
@@ -191,11 +166,11 @@ attribute-same (a ∷ ks) fs gs name x y d h k f g p q e =
           let here = subst (λ o. IsTrue (passes a.1 (conforms a.2.0) o)) (ap (λ n. field n fs) (sym same) ∙ f) (and_parts _ _ h).0 in
           let there = subst (λ o. IsTrue (passes a.1 (conforms a.2.0) o)) (ap (λ n. field n gs) (sym same) ∙ g) (and_parts _ _ k).0 in
           a.2.1 x y p q here there e
-      | false ↦ λ is. attribute-same ks fs gs name x y (subst (λ b. IsTrue (b || is_declared ks name)) is d) (and_parts _ _ h).1 (and_parts _ _ k).1 f g p q e
+      | false ↦ λ is. attribute-same ks fs gs name x y (subst (λ b. IsTrue (b || is_declared (tests ks) name)) is d) (and_parts _ _ h).1 (and_parts _ _ k).1 f g p q e
     ] refl
 
-fields-same : (ks : KnownAttributes) (whole other : Fields) → AllPass ks whole → AllPass ks other → (fs gs : Fields) → Gets whole fs → Gets other gs
-    → IsTrue (list_all (λ (f : Field). is_declared ks f.0) fs) → AllByRecursion (λ (f : Field). IsProper f.1) fs → AllByRecursion (λ (f : Field). IsProper f.1) gs → fields_data fs ≡ fields_data gs → fs ≡ gs
+fields-same : (ks : KnownAttributes) (whole other : Fields) → AllPass (tests ks) whole → AllPass (tests ks) other → (fs gs : Fields) → Gets whole fs → Gets other gs
+    → IsTrue (list_all (λ (f : Field). is_declared (tests ks) f.0) fs) → AllByRecursion (λ (f : Field). IsProper f.1) fs → AllByRecursion (λ (f : Field). IsProper f.1) gs → fields_data fs ≡ fields_data gs → fs ≡ gs
 fields-same ks whole other h k [] [] f g d p q e = refl
 fields-same ks whole other h k [] (y ∷ gs) f g d p q e = absurd cc
 fields-same ks whole other h k (x ∷ fs) [] f g d p q e = absurd cc

@@ -44,7 +44,8 @@ fn is_world(value: &Json) -> bool
 
 /// The first fault of what stands at the member `request`.
 fn fault_at_request(alloc: Global, value: &Json) -> Result<Option<WorldFault>, AllocError>
-    ensures { IfOk result (λ fault. fault ≡ fault_at (codes "request") (value_fault (Form.Object Level.Request)) (view value.now)) }
+    ensures { IfOk result (λ fault. fault
+        ≡ fault_at (codes "request") (value_fault (Form.Object Level.Request)) (view value.now)) }
 {
     let Some(request) = value.get("request") else {
         return Ok(None);

@@ -23,7 +23,7 @@ mod values;
 mod worlds;
 
 pub use fault::WorldFault;
-pub use law::{reading_laws, text_is_unique};
+pub use law::{nesting_laws, reading_laws, text_is_unique};
 pub use plain::plain_keys;
 pub use reading::read_world;
 pub use worlds::{world_text, world_value};

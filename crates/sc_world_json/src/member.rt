@@ -15,7 +15,8 @@ pub(crate) fn member<'m>(members: &'m Map<String, Json>, name: &str) -> Option<&
 
 /// The value at a name, where the value around, if any, is an object that has such a member.
 pub(crate) fn value_at<'v>(value: Option<&'v Json>, name: &str) -> Option<&'v Json>
-    ensures { option_map (λ v. view v.now) result ≡ option_and_then (get name.now) (option_map (λ v. view v.now) value.entry) }
+    ensures { option_map (λ v. view v.now) result
+        ≡ option_and_then (get name.now) (option_map (λ v. view v.now) value.entry) }
 {
     match value {
         Some(value) => value.get(name),

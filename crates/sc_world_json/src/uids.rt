@@ -38,7 +38,8 @@ pub(crate) fn uids_of(alloc: Global, value: Option<&Json>) -> Result<Seq<Uid>, A
 
 /// The uids in a list, in its order.
 fn listed_uids(alloc: Global, value: Option<&Json>) -> Result<Vec<Uid>, AllocError>
-    ensures value { IfOk result (λ uids. uids.items ≡ map (λ d. uid_of (Some d)) (elements_of (option_map (λ v. view v.now) value.entry))) }
+    ensures value { IfOk result (λ uids. uids.items
+        ≡ map (λ d. uid_of (Some d)) (elements_of (option_map (λ v. view v.now) value.entry))) }
     ensures texts { IfOk result (λ uids. AllByRecursion IsUidText uids.items) }
 {
     let mut uids = Vec::new(alloc);

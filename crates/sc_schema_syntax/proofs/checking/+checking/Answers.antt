@@ -4,8 +4,9 @@ use Rattle.serde_json.specs.View.{view}
 use Rattle.sc_schema_syntax.specs.Pointers.{under}
 use Rattle.sc_schema_syntax.specs.Forms.{admits_text}
 use Rattle.sc_schema_syntax.specs.Faults.{shape_fault, value_fault, member_fault}
-use Rattle.sc_schema_syntax.proofs.FaultsLaws.{fault_of_item, no_fault_of_item, no_items_left, fault_of_member, no_fault_of_member}
-use Rattle.sc_schema_syntax.proofs.ViewLaws.{view_null, view_truth, view_number, view_text}
+use Rattle.sc_json_views.proofs.WalkLaws.{fault_of_item, no_fault_of_item, no_items_left, fault_of_member, no_fault_of_member}
+use Rattle.sc_schema_syntax.proofs.FaultsLaws.{items_walk, members_walk}
+use Rattle.sc_json_views.proofs.ViewLaws.{view_null, view_truth, view_number, view_text}
 use Rattle.sc_schema_syntax.proofs.checking.+checking.Goals as goal
 
 pub value_fault-returns-in-Null : goal.value_fault-returns-in-Null
@@ -55,7 +56,7 @@ items_fault-returns-in-Some t c =
     let here = subst (λ vs. x ≡ get_or vs n x) all c.item-item.is in
     let key : c.as_str.result.now ≡ decimal n = search rules in
     ap Some (c.in_ok-under.ensures ∙ ap (λ k. under k c.in-Some.fault) key)
-    ∙ fault_of_item c.args.form c.args.items.now.items n x c.in-Some.fault here (omega (arith, ap length all)) c.loop-number.invariant (sym c.in-Some.is ∙ c.in_ok-fault.ensures)
+    ∙ fault_of_item (items_walk c.args.form) c.args.items.now.items n x c.in-Some.fault here (omega (arith, ap length all)) c.loop-number.invariant (sym c.in-Some.is ∙ c.in_ok-fault.ensures)
 
 pub items_fault-loop-number-preserved : goal.items_fault-loop-number-preserved
 items_fault-loop-number-preserved t c =
@@ -63,12 +64,12 @@ items_fault-loop-number-preserved t c =
     let all = c.deref-item-items.ensures.value in
     let x = c.item-item.result in
     let here = subst (λ vs. x ≡ get_or vs n x) all c.item-item.is in
-    no_fault_of_item c.args.form c.args.items.now.items n x here (omega (arith, ap length all)) c.loop-number.invariant (sym c.in_default.is ∙ c.in_ok-fault.ensures)
+    no_fault_of_item (items_walk c.args.form) c.args.items.now.items n x here (omega (arith, ap length all)) c.loop-number.invariant (sym c.in_default.is ∙ c.in_ok-fault.ensures)
 
 pub items_fault-returns : goal.items_fault-returns
 items_fault-returns t c =
     let all = c.deref-item-items.ensures.value in
-    no_items_left c.args.form c.args.items.now.items c.loop-number.number-counter (omega (arith, ap length all)) c.loop-number.invariant
+    no_items_left (items_walk c.args.form) c.args.items.now.items c.loop-number.number-counter (omega (arith, ap length all)) c.loop-number.invariant
 
 pub members_fault-returns-in-Some-2 : goal.members_fault-returns-in-Some-2
 members_fault-returns-in-Some-2 t c =
@@ -77,7 +78,7 @@ members_fault-returns-in-Some-2 t c =
     let again : c.as_str-in-Some-2.result.now ≡ string_bytes c.in-Some.name.now = c.as_str-in-Some-2.ensures.value in
     let told = sym c.in-Some-2.is ∙ (c.in_ok-fault.ensures ∙ ap (λ k. member_fault c.args.level k (view c.in-Some.value.now)) key) in
     ap Some (c.in_ok-under.ensures ∙ ap (λ k. under k c.in-Some-2.fault) again)
-    ∙ fault_of_member c.args.level (string_bytes c.in-Some.name.now) (view c.in-Some.value.now) _ _ c.in-Some-2.fault rest told
+    ∙ fault_of_member (members_walk c.args.level) (string_bytes c.in-Some.name.now) (view c.in-Some.value.now) _ _ c.in-Some-2.fault rest told
 
 pub members_fault-loop-name-preserved : goal.members_fault-loop-name-preserved
 members_fault-loop-name-preserved t c =
@@ -87,7 +88,7 @@ members_fault-loop-name-preserved t c =
     record {
       goes_on = tt;
       ends = tt;
-      rest = no_fault_of_member c.args.level (string_bytes c.in-Some.name.now) (view c.in-Some.value.now) _ _ rest told;
+      rest = no_fault_of_member (members_walk c.args.level) (string_bytes c.in-Some.name.now) (view c.in-Some.value.now) _ _ rest told;
     }
 
 pub members_fault-returns : goal.members_fault-returns

@@ -10,7 +10,7 @@ use Rattle.json.specs.Text.{content, plain}
 use Rattle.json.specs.Word.{head, ends_word, after_number, number_before, is_operator, is_space, word}
 use Rattle.json.specs.Lex.{Lexeme, token, comma, colon, Class, quote, backslash, operator, space, other, class, operator_lexeme, string_token, Mode, between, in_word, in_string, in_escape, lex_byte, lex}
 use Rattle.json.specs.Lex.{Place, fresh, after_value, after_comma, after_key, begins_colon, may_begin, may_close, if_allowed, place_token, punctuate, tokens}
-use Rattle.sc_schema_syntax.proofs.StringsLaws.{IfText, string_text}
+use Rattle.sc_json_views.proofs.StringsLaws.{IfText, string_text}
 
 -- the string or key that a token is, is UTF-8
 abbrev pub HasText : Token → Type 0

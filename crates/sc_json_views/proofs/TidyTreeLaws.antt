@@ -12,39 +12,12 @@ use Rattle.json.specs.Lex.{tokens}
 use Rattle.json.specs.Json as json
 use Rattle.json.specs.Tree.{json_tokens, items_tokens, members_tokens}
 use Rattle.json.proofs.Unique.Spelling.{value-json_tokens_back}
-use Rattle.serde_json.specs.Data.{Data, null, boolean, number, string, array, object, Items, no_items, item, Members, no_members, member, put}
+use Rattle.serde_json.specs.Data.{Data, number, array, object, item, Members, no_members, member, put}
 use Rattle.serde_json.specs.Read.{number_of, of_json, of_items, of_members, max_depth}
 use Rattle.sc_lists.proofs.OrderedLaws.{ascending-insert_key}
 use Rattle.sc_names.specs.Uids.{text_cmp}
-use Rattle.sc_schema_syntax.specs.Syntax.{HasTree}
-use Rattle.sc_schema_syntax.proofs.TokensLaws.{HaveTexts, tokens_texts}
-
--- the names of members
-abbrev pub keys : Members → List (List ℕ)
-keys no_members = []
-keys (member key value members) = key ∷ keys members
-
--- what holds of each object of a tree, its members set aside
-pub record IsTidyObject (members : Members) : Type 0 where
-  pub ascending : IsStrictlySortedBy text_cmp (keys members)
-  pub texts : AllByRecursion IsUtf8 (keys members)
-
-abbrev mutual
-  pub IsTidy : Data → Type 0
-  IsTidy null = ⊤
-  IsTidy (boolean truth) = ⊤
-  IsTidy (number n) = ⊤
-  IsTidy (string text) = ⊤
-  IsTidy (array items) = AreTidyItems items
-  IsTidy (object members) = IsTidyObject members × AreTidyMembers members
-
-  pub AreTidyItems : Items → Type 0
-  AreTidyItems no_items = ⊤
-  AreTidyItems (item value items) = IsTidy value × AreTidyItems items
-
-  pub AreTidyMembers : Members → Type 0
-  AreTidyMembers no_members = ⊤
-  AreTidyMembers (member key value members) = IsTidy value × AreTidyMembers members
+use Rattle.sc_json_views.specs.Trees.{HasTree, keys, IsTidyObject, IsTidy, AreTidyItems, AreTidyMembers}
+use Rattle.sc_json_views.proofs.TokensLaws.{HaveTexts, tokens_texts}
 
 -- ---- one more member
 
