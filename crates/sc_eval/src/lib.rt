@@ -8,6 +8,7 @@ mod entities;
 mod error;
 mod evaluation;
 mod kinds;
+mod laws;
 mod leaves;
 mod logic;
 mod operators;
@@ -17,3 +18,4 @@ mod texts;
 
 pub use error::EvalError;
 pub use evaluation::evaluate;
+pub use laws::{collection_laws, eval_laws};

@@ -1,0 +1,12 @@
+use Rattle.sc_eval.proofs.EntitiesLaws.{has_each-is, is_in-and}
+use Rattle.sc_eval.proofs.ProperLaws.{eval-proper}
+use Rattle.sc_eval.proofs.laws.eval_laws.Goals as goal
+
+pub returns-clause-has : goal.returns-clause-has
+returns-clause-has c = has_each-is
+
+pub returns-clause-is_in : goal.returns-clause-is_in
+returns-clause-is_in c = is_in-and
+
+pub returns-clause-proper : goal.returns-clause-proper
+returns-clause-proper c = λ w x world constants. eval-proper w world x constants
