@@ -13,3 +13,4 @@ pub use authorisation::authorise;
 pub use decision::Decision;
 pub use laws::{decision_laws, place_laws, policy_laws};
 pub use response::Response;
+pub use standing::Standing;
