@@ -18,4 +18,4 @@ mod texts;
 
 pub use error::EvalError;
 pub use evaluation::evaluate;
-pub use laws::{collection_laws, eval_laws};
+pub use laws::{collection_laws, construct_laws, eval_laws};
