@@ -24,8 +24,10 @@ pub(crate) struct Tally {
 impl Tally {
     /// Counts the policy at a place.
     fn count(&mut self, place: usize, effect: Effect, standing: Standing) -> Result<(), AllocError>
-        ensures permits { OnOk result (self.new.permits ≡ self.old.permits ++ listed (permits effect && is_satisfied standing) place) }
-        ensures forbids { OnOk result (self.new.forbids ≡ self.old.forbids ++ listed (not (permits effect) && is_satisfied standing) place) }
+        ensures permits { OnOk result (self.new.permits ≡ self.old.permits
+            ++ listed (permits effect && is_satisfied standing) place) }
+        ensures forbids { OnOk result (self.new.forbids ≡ self.old.forbids
+            ++ listed (not (permits effect) && is_satisfied standing) place) }
         ensures erring { OnOk result (self.new.erring ≡ self.old.erring ++ listed (has_erred standing) place) }
         ensures standings { OnOk result (self.new.standings ≡ self.old.standings ++ standing ∷ []) }
     {
@@ -35,8 +37,10 @@ impl Tally {
 
     /// Lists the place of a policy by how it stands.
     fn list(&mut self, place: usize, effect: Effect, standing: Standing) -> Result<(), AllocError>
-        ensures permits { OnOk result (self.new.permits ≡ self.old.permits ++ listed (permits effect && is_satisfied standing) place) }
-        ensures forbids { OnOk result (self.new.forbids ≡ self.old.forbids ++ listed (not (permits effect) && is_satisfied standing) place) }
+        ensures permits { OnOk result (self.new.permits ≡ self.old.permits
+            ++ listed (permits effect && is_satisfied standing) place) }
+        ensures forbids { OnOk result (self.new.forbids ≡ self.old.forbids
+            ++ listed (not (permits effect) && is_satisfied standing) place) }
         ensures erring { OnOk result (self.new.erring ≡ self.old.erring ++ listed (has_erred standing) place) }
         ensures standings { self.new.standings ≡ self.old.standings }
     {
