@@ -1,4 +1,5 @@
-//! Evaluation of expressions in a world.
+//! Evaluation of expressions: `evaluate` gives exactly the value or the error of an expression in a
+//! world. The laws say what its definitions come to.
 #![tactic(auto)]
 
 mod addresses;
