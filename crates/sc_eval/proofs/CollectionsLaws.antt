@@ -1,5 +1,5 @@
 -- Values that are one, members, and the sets and records that lists of values make.
-use Rattle.std.proofs.Common.{◌≡◌, ◌||◌, ◌↔◌, inl, inr, ℕ, List, [], ◌∷◌, ◌++◌, reverse, Bool, true, false, cond, Option, Some, None, IsTrue, Contains, fold, refl, sym, ap, subst, ◌∙◌}
+use Rattle.std.proofs.Common.{◌≡◌, ◌||◌, ◌↔◌, inl, inr, ℕ, List, [], ◌∷◌, ◌++◌, reverse, Bool, true, false, cond, Option, Some, None, is_some, IsTrue, Contains, fold, refl, sym, ap, subst, ◌∙◌}
 use Rattle.std.specs.List.Sorted.{IsStrictlySortedBy}
 use Rattle.std.specs.Ordering.{is_eq}
 use Rattle.std.specs.Option.{option_or}
@@ -9,13 +9,14 @@ use Rattle.std.specs.BTreeSet.{insert_key}
 use Rattle.std.specs.Map.{keys_of, lookup}
 use Rattle.std.specs.List.{list_any, list_all}
 use Rattle.std.proofs.Math.Path.{fun_ext}
-use Rattle.std.proofs.lemmas.Cmp.{nat_list_cmp_total}
+use Rattle.std.proofs.lemmas.Cmp.{nat_list_cmp_total, nat_list_eq_equiv}
+use Rattle.std.proofs.lemmas.Map.Views.{Contains-keys_from_lookup, IsSome-lookup_from_Contains}
 use Rattle.std.proofs.lemmas.Map.Text.{is_eq-slice_cmp}
 use Rattle.std.proofs.lemmas.Slice.Eq.{bytes_eq-Decides}
 use Rattle.std.proofs.lemmas.List.{reverse-append}
 use Rattle.std.proofs.lemmas.Bool.{or_cases, or_left, or_right, and_from, and_parts}
 use Rattle.sc_lists.proofs.ListLaws.{contains_nothing, contains_split, contains_rest, contains_first}
-use Rattle.sc_lists.proofs.BoolLaws.{or_assoc, same_truth}
+use Rattle.sc_lists.proofs.BoolLaws.{or_false, or_assoc, same_truth}
 use Rattle.sc_lists.proofs.OrderingLaws.{is_eq_true}
 use Rattle.sc_lists.proofs.OrderedLaws.{none_ascends, no_pair_ascends, is_in-insert_key, ascending-insert_key, ascending-insert_entry, value_at-insert_entry, value_at-insert_entry_other}
 use Rattle.sc_lists.specs.Ordered.{value_at}
@@ -100,10 +101,6 @@ with_all-ascends set (x ∷ xs) h = with_all-ascends (insert_key value_cmp set x
 
 is_member-with_all : (set values : List Value) (y : Value) → is_member (with_all set values) y ≡ (is_member set y || is_member values y)
 is_member-with_all set [] y = sym (or_false (is_member set y))
-  where
-    or_false : (b : Bool) → (b || false) ≡ b
-    or_false true = refl
-    or_false false = refl
 is_member-with_all set (x ∷ xs) y =
     is_member-with_all (insert_key value_cmp set x) xs y
     ∙ ap (λ b. b || is_member xs y) (is_in-insert_key value_cmp_total set x y)
@@ -178,3 +175,35 @@ or_none (Some x) = refl
 -- each name has its last value
 pub fields_of-field : (pairs : Fields) (name : List ℕ) → field name (fields_of pairs) ≡ field name (reverse pairs)
 fields_of-field pairs name = fold-field [] pairs name ∙ or_none (field name (reverse pairs))
+
+-- whether there is a field doesn't depend on the order
+some_in-reverse : (pairs : Fields) (name : List ℕ) → is_some (field name (reverse pairs)) ≡ is_some (field name pairs)
+some_in-reverse [] name = refl
+some_in-reverse (f ∷ fs) name =
+    ap is_some (ap (field name) (reverse-append (f ∷ []) fs) ∙ lookup-append (bytes_eq name) (reverse fs) (f ∷ []))
+    ∙ behind (field name (reverse fs)) (bytes_eq name f.0)
+    ∙ ap (λ b. bytes_eq name f.0 || b) (some_in-reverse fs name)
+    ∙ sym (before (bytes_eq name f.0) (field name fs))
+  where
+    behind : (o : Option Value) (b : Bool) → is_some (option_or o (cond b (Some f.1) None)) ≡ (b || is_some o)
+    behind None true = refl
+    behind None false = refl
+    behind (Some x) true = refl
+    behind (Some x) false = refl
+
+    before : (b : Bool) (o : Option Value) → is_some (cond b (Some f.1) o) ≡ (b || is_some o)
+    before true o = refl
+    before false o = refl
+
+-- the names are those of the pairs
+pub fields_of-names : (pairs : Fields) (name : List ℕ) → Contains (keys_of (fields_of pairs)) name ↔ Contains (keys_of pairs) name
+fields_of-names pairs name = (
+  λ has. Contains-keys_from_lookup exact name pairs (sym same ∙ IsSome-lookup_from_Contains nat_list_eq_equiv name (fields_of pairs) has),
+  λ has. Contains-keys_from_lookup exact name (fields_of pairs) (same ∙ IsSome-lookup_from_Contains nat_list_eq_equiv name pairs has),
+)
+  where
+    exact : (x y : List ℕ) → bytes_eq x y ≡ true → x ≡ y
+    exact x y = (bytes_eq-Decides x y).0
+
+    same : is_some (field name (fields_of pairs)) ≡ is_some (field name pairs)
+    same = ap is_some (fields_of-field pairs name) ∙ some_in-reverse pairs name

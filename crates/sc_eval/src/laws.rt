@@ -78,6 +78,8 @@ pub fn collection_laws()
     ensures member { (members : List AnyValue) (x : AnyValue) → IsTrue (is_member members x) ↔ Contains members x }
     ensures set { (members : List AnyValue) → IsSetOf members (members_of members) }
     ensures ascending { (pairs : Fields) → IsStrictlySortedBy text_cmp (keys_of (fields_of pairs)) }
+    ensures names { (pairs : Fields) (name : List ℕ) →
+        Contains (keys_of (fields_of pairs)) name ↔ Contains (keys_of pairs) name }
     ensures fields { (pairs : Fields) (name : List ℕ) →
         field name (fields_of pairs) ≡ field name (reverse pairs) }
 {}
