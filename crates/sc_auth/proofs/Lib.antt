@@ -1,3 +1,4 @@
 pub mod DecisionsLaws
 pub mod PlacesLaws
 pub mod Examples
+pub mod StandingsLaws

@@ -1,7 +1,7 @@
 -- The places of policies that pass a test.
-use Rattle.std.proofs.Common.{◌≡◌, ℕ, ◌+◌, ◌<◌, List, [], ◌∷◌, ◌++◌, length, take, get_or, Bool, true, false, ◌&&◌, ◌||◌, not, Ok, Err, is_err, if◌then◌else◌, refl, sym, ap, ◌∙◌, arith, add-zero, zero-add}
+use Rattle.std.proofs.Common.{◌≡◌, ℕ, ◌+◌, ◌<◌, List, [], ◌∷◌, ◌++◌, length, take, get_or, map, Bool, true, false, ◌&&◌, ◌||◌, not, Ok, Err, is_err, if◌then◌else◌, refl, sym, ap, ◌∙◌, arith, add-zero, zero-add}
 use Rattle.std.specs.List.{list_any}
-use Rattle.std.proofs.lemmas.List.{take_more, length-take-le}
+use Rattle.std.proofs.lemmas.List.{take_more, length-take-le, map-append}
 use Rattle.sc_ast.specs.declared.policy.Policy.{Policy}
 use Rattle.sc_ast.specs.Conditions.{condition}
 use Rattle.sc_values.specs.declared.value.Value.{out-Value}
@@ -97,3 +97,9 @@ pub erring_more : (w : World) (ps : List Policy) (i : ℕ) (p : Policy) (s : Sta
     → old ≡ places (errs w) (take i ps) → new ≡ old ++ listed (has_erred s) i → new ≡ places (errs w) (take (i + 1) ps)
 erring_more w ps i p s old new within is stands =
     more (errs w) ps i p (has_erred s) old new within is (ap has_erred stands ∙ has_erred-standing_of w p)
+
+pub standings_more : (w : World) (ps : List Policy) (i : ℕ) (p : Policy) (s : Standing) (old new : List Standing) → i < length ps → p ≡ get_or ps i p → s ≡ standing_of w p
+    → old ≡ map (standing_of w) (take i ps) → new ≡ old ++ s ∷ [] → new ≡ map (standing_of w) (take (i + 1) ps)
+standings_more w ps i p s old new within is stands before after =
+    after ∙ ap (λ ss. ss ++ s ∷ []) before ∙ ap (λ z. map (standing_of w) (take i ps) ++ z ∷ []) stands
+    ∙ sym (ap (map (standing_of w)) (take_more ps i p within ∙ ap (λ q. take i ps ++ q ∷ []) (sym is)) ∙ map-append (standing_of w) (take i ps) (p ∷ []))

@@ -1,4 +1,4 @@
--- How one policy stands in a world, and what is counted of it. No public promise speaks of it.
+-- How one policy stands in a world, and what is counted of it.
 use Rattle.std.specs.Prelude.{ℕ, List, [], ◌∷◌, Bool, true, false, if◌then◌else◌, Ok, Err}
 use Rattle.sc_ast.specs.declared.policy.Policy.{Policy}
 use Rattle.sc_ast.specs.Conditions.{condition}
@@ -12,10 +12,12 @@ use Rattle.sc_auth.specs.Decisions.{true_in}
 
 abbrev pub standing_in : Outcome → Standing
 standing_in (Ok x) = if true_in (out-Value x) then Satisfied else Unsatisfied
-standing_in (Err e) = Errs
+standing_in (Err e) = Errs e
 
 abbrev pub standing_of : World → Policy → Standing
 standing_of w p = standing_in (eval (condition p) w)
+
+-- ---- for private clauses
 
 -- the place, where it is to be listed
 abbrev pub listed : Bool → ℕ → List ℕ
@@ -25,12 +27,12 @@ listed false n = []
 abbrev pub is_satisfied : Standing → Bool
 is_satisfied Satisfied = true
 is_satisfied Unsatisfied = false
-is_satisfied Errs = false
+is_satisfied (Errs e) = false
 
 abbrev pub has_erred : Standing → Bool
 has_erred Satisfied = false
 has_erred Unsatisfied = false
-has_erred Errs = true
+has_erred (Errs e) = true
 
 abbrev pub is_some : List ℕ → Bool
 is_some [] = false

@@ -1,5 +1,5 @@
-//! What policies decide in a world: `authorise` gives exactly the decision of a policy set, and which
-//! policies it rests on.
+//! What policies decide in a world: `authorise` gives exactly the decision of a policy set, which
+//! policies it rests on, and how each policy stands.
 #![tactic(auto)]
 
 mod authorisation;
@@ -11,5 +11,6 @@ mod tally;
 
 pub use authorisation::authorise;
 pub use decision::Decision;
-pub use laws::{decision_laws, place_laws, policy_laws};
+pub use laws::{decision_laws, place_laws, policy_laws, standings_laws};
 pub use response::Response;
+pub use standing::Standing;

@@ -1,5 +1,6 @@
 //! Responses to requests.
 use crate::decision::Decision;
+use crate::standing::Standing;
 use sc_lists::Seq;
 
 /// What a policy set answers to a request. Policies are named by their places in the set, counted
@@ -12,4 +13,6 @@ pub struct Response {
     pub determining: Seq<usize>,
     /// The policies whose conditions have no value.
     pub erroring: Seq<usize>,
+    /// How each policy stands, in the order of the set.
+    pub standings: Seq<Standing>,
 }

@@ -3,7 +3,7 @@ ghost use Rattle.std.specs.Prelude.{◌≡◌, IfOk};
 ghost use Rattle.sc_auth.specs.Standings.{standing_of};
 
 use sc_ast::{Policy, condition};
-use sc_eval::evaluate;
+use sc_eval::{EvalError, evaluate};
 use sc_lists::Fault;
 use sc_values::Value;
 use sc_world::World;
@@ -11,13 +11,13 @@ use std::alloc::{AllocError, Global};
 
 /// How a policy stands in a world.
 #[derive(Clone, Copy, Debug, PartialEq, Eq)]
-pub(crate) enum Standing {
+pub enum Standing {
     /// Its condition is true.
     Satisfied,
     /// Its condition isn't true.
     Unsatisfied,
-    /// Its condition has no value.
-    Errs,
+    /// Its condition has no value, for this reason.
+    Errs(EvalError),
 }
 
 /// How a policy stands in a world.
@@ -32,7 +32,7 @@ pub(crate) fn standing_of(
     match evaluate(alloc, &condition, world) {
         Ok(Value::Bool(true)) => Ok(Standing::Satisfied),
         Ok(_) => Ok(Standing::Unsatisfied),
-        Err(Fault::Told(_)) => Ok(Standing::Errs),
+        Err(Fault::Told(error)) => Ok(Standing::Errs(error)),
         Err(Fault::NoMemory) => Err(AllocError),
     }
 }

@@ -16,6 +16,7 @@ use Rattle.sc_eval.specs.declared.error.EvalError.{EvalError}
 use Rattle.sc_eval.specs.Outcomes.{Outcome, ◌>>=◌, bool_in, decide, of_bool}
 use Rattle.sc_eval.specs.Entities.{or_missing, attr_of, access_in, access, has_attr, has_in, has, has_path, is_of, is_in}
 use Rattle.sc_eval.specs.Eval.{eval}
+use Rattle.sc_eval.specs.Written.{and_has, has_each}
 use Rattle.sc_eval.proofs.EvalLaws.{eval_And, eval_Has, eval_Is, eval_IsIn, eval_Binary, eval_Access}
 
 -- ---- Bools that are asked for
@@ -80,6 +81,60 @@ has_path-and place x a b names w =
         path_on (has a w y) (access a w y) (has_path (b ∷ names) w)
         ∙ ap (λ r. r >>= λ p. if p then decide (access a w y >>= has_path (b ∷ names) w >>= of_bool) of_bool else of_bool false) (sym (has_path-one a w y))
         ∙ sym (decided (has_path (a ∷ []) w y) (λ p. if p then decide (access a w y >>= has_path (b ∷ names) w >>= of_bool) of_bool else of_bool false))
+
+-- `(p && a) && b` is `p && (a && b)`
+again : (o : Outcome) (f : Bool → Outcome) → decide (decide o of_bool) f ≡ decide o f
+again (Err e) f = refl
+again (Ok x) f = decided (bool_in (out-Value x)) f
+
+abbrev asked_then : Outcome → Bool → Outcome
+asked_then o q = if q then decide o of_bool else of_bool false
+
+then_asked : (o : Outcome) (r : Result Bool EvalError) → (r >>= asked_then o) ≡ decide (r >>= asked_then o) of_bool
+then_asked o (Err e) = refl
+then_asked o (Ok true) = sym (again o of_bool)
+then_asked o (Ok false) = sym (decided (Ok false) of_bool)
+
+and_asked : (a b : Outcome) → decide a (asked_then b) ≡ decide (decide a (asked_then b)) of_bool
+and_asked (Err e) b = refl
+and_asked (Ok x) b = then_asked b (bool_in (out-Value x))
+
+grouped : (r : Result Bool EvalError) (a b : Outcome) → decide (r >>= asked_then a) (asked_then b) ≡ (r >>= asked_then (decide a (asked_then b)))
+grouped (Err e) a b = refl
+grouped (Ok true) a b = again a (asked_then b) ∙ and_asked a b
+grouped (Ok false) a b = decided (Ok false) (asked_then b)
+
+both_grouped : (p a b : Outcome) → decide (decide p (asked_then a)) (asked_then b) ≡ decide p (asked_then (decide a (asked_then b)))
+both_grouped (Err e) a b = refl
+both_grouped (Ok x) a b = grouped (bool_in (out-Value x)) a b
+
+and_grouped : (place : Place) (p a b : Expr) (w : World) → eval (expr.And place (expr.And place p a) b) w ≡ eval (expr.And place p (expr.And place a b)) w
+and_grouped place p a b w =
+    eval_And place (expr.And place p a) b w
+    ∙ ap (λ o. decide o (λ q. if q then decide (eval b w) of_bool else of_bool false)) (eval_And place p a w)
+    ∙ both_grouped (eval p w) (eval a w) (eval b w)
+    ∙ sym (eval_And place p (expr.And place a b) w
+    ∙ ap (λ o. decide (eval p w) (λ q. if q then decide o of_bool else of_bool false)) (eval_And place a b w))
+
+-- what stands behind `front &&`
+under_and : (place : Place) (front a b : Expr) (w : World) → eval a w ≡ eval b w → eval (expr.And place front a) w ≡ eval (expr.And place front b) w
+under_and place front a b w same =
+    eval_And place front a w ∙ ap (λ o. decide (eval front w) (λ q. if q then decide o of_bool else of_bool false)) same ∙ sym (eval_And place front b w)
+
+and_has-is : (place : Place) (front x : Expr) (name : List ℕ) (names : List (List ℕ)) (w : World)
+    → eval (and_has place front x (name ∷ names)) w ≡ eval (expr.And place front (expr.Has place x (name ∷ names))) w
+and_has-is place front x name [] w = refl
+and_has-is place front x a (b ∷ names) w =
+    and_has-is place (expr.And place front (expr.Has place x (a ∷ []))) (expr.Access place x a) b names w
+    ∙ and_grouped place front (expr.Has place x (a ∷ [])) (expr.Has place (expr.Access place x a) (b ∷ names)) w
+    ∙ under_and place front (expr.And place (expr.Has place x (a ∷ [])) (expr.Has place (expr.Access place x a) (b ∷ names))) (expr.Has place x (a ∷ b ∷ names)) w
+    (sym (has_path-and place x a b names w))
+
+-- `x has a.b.c` stands for `x has a && x.a has b && x.a.b has c`
+pub has_each-is : (place : Place) (x : Expr) (name : List ℕ) (names : List (List ℕ)) (w : World) → eval (expr.Has place x (name ∷ names)) w ≡ eval (has_each place x name names) w
+has_each-is place x a [] w = refl
+has_each-is place x a (b ∷ names) w =
+    has_path-and place x a b names w ∙ sym (and_has-is place (expr.Has place x (a ∷ [])) (expr.Access place x a) b names w)
 
 -- ---- a type and an entity
 

@@ -26,6 +26,7 @@ use Rattle.sc_eval.specs.Outcomes.{Outcome, ◌>>=◌, of_bool}
 use Rattle.sc_eval.specs.Collections.{members_of}
 use Rattle.sc_eval.specs.Operators.{binary, unary, is_like}
 use Rattle.sc_eval.specs.Eval.{eval}
+use Rattle.sc_eval.specs.Written.{has_each}
 use Rattle.sc_eval.proofs.EvalLaws.{eval_Binary, eval_Unary, eval_Literal}
 
 abbrev at : Place
@@ -180,3 +181,14 @@ user id = value.Entity (record { type_name = codes "User"; id = id })
 -- an entity is in a set that has it, stored or not; but each member has to be an entity
 in-set : (w : World) → binary In w (user (codes "a")) (value.Set (user (codes "b") ∷ value.Long (pos 1) ∷ [])) ≡ Err TypeError
 in-set w = rw (out_Entity (record { type_name = codes "User"; id = codes "a" }), out_Set (user (codes "b") ∷ value.Long (pos 1) ∷ []), out_Entity (record { type_name = codes "User"; id = codes "b" }), out_Long (pos 1)) refl
+
+-- ---- what is written
+
+-- `x has a.b.c` is `x has a && x.a has b && x.a.b has c`
+has-three : (x : Expr) (a b c : List ℕ)
+    → has_each at x a (b ∷ c ∷ [])
+    ≡ expr.And at (expr.And at (expr.Has at x (a ∷ [])) (expr.Has at (expr.Access at x a) (b ∷ []))) (expr.Has at (expr.Access at (expr.Access at x a) b) (c ∷ []))
+has-three x a b c = refl
+
+has-one : (x : Expr) (a : List ℕ) → has_each at x a [] ≡ expr.Has at x (a ∷ [])
+has-one x a = refl

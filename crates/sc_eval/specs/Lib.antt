@@ -3,3 +3,4 @@ pub mod Entities
 pub mod Collections
 pub mod Operators
 pub mod Eval
+pub mod Written

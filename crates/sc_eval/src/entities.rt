@@ -96,7 +96,8 @@ pub(crate) fn get_tag(
 }
 
 fn tag<'a>(world: &'a World, x: &Value, y: &Value) -> Result<&'a Value, EvalError>
-    ensures { result_map_both (λ z. z.now) (λ e. e) result ≡ tagged x.now y.now (λ u key. tag_of key (stored u world.now.store)) }
+    ensures { result_map_both (λ z. z.now) (λ e. e) result
+        ≡ tagged x.now y.now (λ u key. tag_of key (stored u world.now.store)) }
 {
     let uid = entity_in(x)?;
     let key = text_in(y)?;

@@ -1,4 +1,5 @@
-//! Evaluation of expressions in a world.
+//! Evaluation of expressions: `evaluate` gives exactly the value or the error of an expression in a
+//! world. The laws say what its definitions come to.
 #![tactic(auto)]
 
 mod addresses;
@@ -8,6 +9,7 @@ mod entities;
 mod error;
 mod evaluation;
 mod kinds;
+mod laws;
 mod leaves;
 mod logic;
 mod operators;
@@ -17,3 +19,4 @@ mod texts;
 
 pub use error::EvalError;
 pub use evaluation::evaluate;
+pub use laws::{collection_laws, construct_laws, eval_laws};

@@ -1,1 +1,2 @@
 mod BreakLaws
+pub mod LineLaws

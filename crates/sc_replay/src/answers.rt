@@ -1,15 +1,12 @@
-//! The lines of policies: what each one's condition comes to in a world.
+//! The lines of policies: how each one stands in a world.
 ghost use Rattle.std.specs.Prelude.{◌≡◌, ◌++◌, codes, string_bytes, IfOk, OnOk};
-ghost use Rattle.sc_ast.specs.Conditions.{condition};
-ghost use Rattle.sc_eval.specs.Eval.{eval};
-ghost use Rattle.sc_replay.specs.Reports.{error_name, answer_text, policy_line, policy_lines};
+ghost use Rattle.sc_replay.specs.Reports.{error_name};
+ghost use Rattle.sc_replay.specs.Lines.{standing_text, standing_line, standing_lines};
 
 use itoa::Buffer;
-use sc_ast::{Policy, condition};
-use sc_eval::{EvalError, evaluate};
-use sc_lists::{Fault, Seq, Text};
-use sc_values::Value;
-use sc_world::World;
+use sc_auth::Standing;
+use sc_eval::EvalError;
+use sc_lists::{Seq, Text};
 use std::alloc::{AllocError, Global};
 
 fn error_name(error: EvalError) -> &'static str
@@ -32,54 +29,41 @@ fn put_error(line: &mut String, error: EvalError) -> Result<(), AllocError>
     line.push_str(error_name(error))
 }
 
-/// Puts what a policy answers at the end of its line.
-fn put_answer(
-    alloc: Global,
-    line: &mut String,
-    policy: &Policy,
-    world: &World,
-) -> Result<(), AllocError>
-    ensures { OnOk result (string_bytes line.new ≡ string_bytes line.old ++ answer_text (eval (condition policy.now) world.now)) }
+/// Puts how a policy stands at the end of its line.
+fn put_standing(line: &mut String, standing: Standing) -> Result<(), AllocError>
+    ensures { OnOk result (string_bytes line.new ≡ string_bytes line.old ++ standing_text standing) }
 {
-    let condition = condition(alloc, policy)?;
-    match evaluate(alloc, &condition, world) {
-        Ok(Value::Bool(true)) => line.push_str("satisfied"),
-        Ok(_) => line.push_str("not satisfied"),
-        Err(Fault::Told(error)) => put_error(line, error),
-        Err(Fault::NoMemory) => Err(AllocError),
+    match standing {
+        Standing::Satisfied => line.push_str("satisfied"),
+        Standing::Unsatisfied => line.push_str("not satisfied"),
+        Standing::Errs(error) => put_error(line, error),
     }
 }
 
 /// The line of the policy at a place, with its newline.
-#[tactic(auto, unfolding(crate::specs::Reports::policy_line))]
-fn policy_line(
-    alloc: Global,
-    place: usize,
-    policy: &Policy,
-    world: &World,
-) -> Result<Text, AllocError>
-    ensures { IfOk result (λ line. line ≡ policy_line world.now place policy.now) }
+#[tactic(auto, unfolding(crate::specs::Lines::standing_line))]
+fn policy_line(alloc: Global, place: usize, standing: Standing) -> Result<Text, AllocError>
+    ensures { IfOk result (λ line. line ≡ standing_line place standing) }
 {
     let mut line = String::from_str(alloc, "policy")?;
     let mut buffer = Buffer::new();
     line.push_str(buffer.format(place))?;
     line.push_str(" ")?;
-    put_answer(alloc, &mut line, policy, world)?;
+    put_standing(&mut line, standing)?;
     line.push_str("\n")?;
     Ok(Text::from_string(line))
 }
 
-/// Puts the lines of policies behind others, in their order.
+/// Puts the lines of policies, which stand so, behind others, in their order.
 pub(crate) fn put_policies(
     alloc: Global,
     lines: &mut Seq<Text>,
-    policies: &[Policy],
-    world: &World,
+    standings: &[Standing],
 ) -> Result<(), AllocError>
-    ensures { OnOk result (lines.new ≡ lines.old ++ policy_lines world.now 0 policies.now) }
+    ensures { OnOk result (lines.new ≡ lines.old ++ standing_lines 0 standings.now) }
 {
-    for (place, policy) in policies.iter().enumerate() {
-        lines.push(policy_line(alloc, place, policy, world)?)?;
+    for (place, standing) in standings.iter().enumerate() {
+        lines.push(policy_line(alloc, place, *standing)?)?;
     }
     Ok(())
 }

@@ -39,6 +39,7 @@ impl Report {
 }
 
 /// The lines of a report on a world and on what keeps it from being well-formed.
+#[tactic(auto, using(crate::proofs::LineLaws::report_is))]
 fn lines_of(
     alloc: Global,
     found: &Option<Break>,
@@ -47,10 +48,10 @@ fn lines_of(
 ) -> Result<Seq<Text>, AllocError>
     ensures { IfOk result (λ lines. lines ≡ report_lines found.now world.now policies.now) }
 {
+    let response = authorise(alloc, policies, world)?;
     let mut lines = Seq::new(alloc);
     lines.push(world_line(alloc, found)?)?;
-    put_policies(alloc, &mut lines, policies.as_slice(), world)?;
-    let response = authorise(alloc, policies, world)?;
+    put_policies(alloc, &mut lines, response.standings.as_slice())?;
     lines.push(decision_line(alloc, response.decision)?)?;
     Ok(lines)
 }

@@ -1,5 +1,6 @@
-use Rattle.std.proofs.Common.{◌≡◌, take}
+use Rattle.std.proofs.Common.{◌≡◌, map, take}
 use Rattle.sc_auth.specs.Decisions.{places, is_permitting, is_forbidding, errs}
+use Rattle.sc_auth.specs.Standings.{standing_of}
 use Rattle.sc_auth.proofs.tally.tally_of.Given as goal
 
 abbrev pub invariant-loop-place : goal.invariant-loop-place
@@ -7,4 +8,5 @@ invariant-loop-place l = record {
   permits : l.tally.permits ≡ places (is_permitting l.world) (take l.place l.policies);
   forbids : l.tally.forbids ≡ places (is_forbidding l.world) (take l.place l.policies);
   erring : l.tally.erring ≡ places (errs l.world) (take l.place l.policies);
+  standings : l.tally.standings ≡ map (standing_of l.world) (take l.place l.policies);
 }
