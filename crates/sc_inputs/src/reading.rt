@@ -1,9 +1,9 @@
 //! Reads what a command names.
-ghost use Rattle.std.specs.Prelude.{◌≡◌, ◌≤◌, ℕ, List, IfOk, IfErr, option_map};
+ghost use Rattle.std.specs.Prelude.{◌≡◌, ◌<◌, ◌≤◌, ℕ, List, IfOk, IfErr, option_map};
 ghost use Rattle.sc_outside.specs.Counts.{Rose};
 ghost use Rattle.sc_command.specs.CommandLine.{words_view};
 ghost use Rattle.sc_inputs.specs.Serving.{Serves, served_view};
-ghost use Rattle.sc_inputs.specs.Readings.{FailsWith, ReadsInputs, ReadsRest, RefusesAnalysis, IsRead};
+ghost use Rattle.sc_inputs.specs.Readings.{FailsWith, ReadsInputs, ReadsRest, RefusesAnalysis, IsRead, IsUnread};
 ghost use Rattle.sc_inputs.specs.Refusals.{AreServed, HasAgainst, HasPolicies, IsRefusal, ReadsSchema};
 
 use crate::checks::check_question;
@@ -33,6 +33,7 @@ fn checked_sets<F: Files>(
     ensures served { IfOk result (λ sets. AreServed schema.now sets.0 sets.1) }
     ensures fails { IfErr result (FailsWith (RefusesAnalysis (F.content files.old) policies.now (option_map (λ n. n.now) against.entry) (Rose (F.faults files.old) (F.faults files.new)) schema.now)) }
     ensures later { F.faults files.old ≤ F.faults files.new }
+    ensures told { F.faults files.old < F.faults files.new → IsUnread result }
 {
     match sets_of(alloc, files, policies, against) {
         Ok((policies, others)) => match check_question(alloc, schema, &policies, others.as_ref()) {
@@ -61,6 +62,7 @@ fn analysis_of<F: Files>(
     ensures served { IfOk result (λ i. AreServed schema i.policies i.against) }
     ensures fails { IfErr result (FailsWith (RefusesAnalysis (F.content files.old) command.now.policies.now (option_map (λ n. n.now) against.entry) (Rose (F.faults files.old) (F.faults files.new)) schema)) }
     ensures later { F.faults files.old ≤ F.faults files.new }
+    ensures told { F.faults files.old < F.faults files.new → IsUnread result }
 {
     match checked_sets(alloc, files, command.policies, against, &schema) {
         Ok((policies, others)) => Ok(Analysis {
@@ -84,6 +86,7 @@ fn with_schema<F: Files>(
     ensures reads { IfOk result (ReadsRest (F.content files.old) (served_view command.now) schema) }
     ensures fails { IfErr result (λ fault. (words : List (List ℕ)) → Serves words (served_view command.now) → ReadsSchema (F.content files.old) (served_view command.now) schema → FailsWith (IsRefusal (F.content files.old) words (Rose (F.faults files.old) (F.faults files.new))) fault) }
     ensures later { F.faults files.old ≤ F.faults files.new }
+    ensures told { F.faults files.old < F.faults files.new → IsUnread result }
 {
     match command.task {
         Task::Ask(question, against, budget) => {
@@ -108,6 +111,7 @@ fn with_command<F: Files>(
     ensures reads { IfOk result (ReadsInputs (F.content files.old) (served_view command.now)) }
     ensures fails { IfErr result (λ fault. (words : List (List ℕ)) → Serves words (served_view command.now) → FailsWith (IsRefusal (F.content files.old) words (Rose (F.faults files.old) (F.faults files.new))) fault) }
     ensures later { F.faults files.old ≤ F.faults files.new }
+    ensures told { F.faults files.old < F.faults files.new → IsUnread result }
 {
     match content_of(alloc, files, command.schema, FileName::Schema) {
         Ok(bytes) => match schema_in(alloc, &bytes) {
@@ -127,6 +131,7 @@ pub fn inputs_of<F: Files>(
     ensures reads { IfOk result (IsRead (F.content files.old) (words_view words.now)) }
     ensures fails { IfErr result (FailsWith (IsRefusal (F.content files.old) (words_view words.now) (Rose (F.faults files.old) (F.faults files.new)))) }
     ensures later { F.faults files.old ≤ F.faults files.new }
+    ensures told { F.faults files.old < F.faults files.new → IsUnread result }
 {
     match served_by(alloc, words) {
         Ok(Some(command)) => with_command(alloc, files, &command),

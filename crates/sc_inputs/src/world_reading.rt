@@ -1,8 +1,8 @@
 //! Reads the policies and the world that a command replays.
-ghost use Rattle.std.specs.Prelude.{◌≡◌, ◌≤◌, ℕ, List, None, IfOk, IfErr, OnOk};
+ghost use Rattle.std.specs.Prelude.{◌≡◌, ◌<◌, ◌≤◌, ℕ, List, None, IfOk, IfErr, OnOk};
 ghost use Rattle.sc_outside.specs.Counts.{Rose};
 ghost use Rattle.sc_typing.specs.Names.{name_fault};
-ghost use Rattle.sc_inputs.specs.Readings.{FailsWith, ReadsScene, RefusesScene};
+ghost use Rattle.sc_inputs.specs.Readings.{FailsWith, ReadsScene, RefusesScene, IsUnread};
 ghost use Rattle.sc_inputs.specs.Refusals.{HasPolicies, HasWorld, RefusesWorld};
 
 use crate::checks::check_declared;
@@ -22,6 +22,7 @@ fn world_of<F: Files>(alloc: Global, files: &mut F, name: &str) -> Result<World,
     ensures reads { IfOk result (HasWorld (F.content files.old) name.now) }
     ensures fails { IfErr result (FailsWith (RefusesWorld (F.content files.old) name.now (Rose (F.faults files.old) (F.faults files.new)))) }
     ensures later { F.faults files.old ≤ F.faults files.new }
+    ensures told { F.faults files.old < F.faults files.new → IsUnread result }
 {
     match content_of(alloc, files, name, FileName::World) {
         Ok(bytes) => world_in(alloc, &bytes),
@@ -41,6 +42,7 @@ fn world_for<F: Files>(
     ensures names { OnOk result (name_fault schema.now policies.now ≡ None) }
     ensures fails { IfErr result (λ fault. (file : List ℕ) → HasPolicies (F.content files.old) file policies.now → FailsWith (RefusesScene (F.content files.old) file name.now (Rose (F.faults files.old) (F.faults files.new)) schema.now) fault) }
     ensures later { F.faults files.old ≤ F.faults files.new }
+    ensures told { F.faults files.old < F.faults files.new → IsUnread result }
 {
     match world_of(alloc, files, name) {
         Ok(world) => match check_declared(schema, policies, Side::Policies) {
@@ -64,6 +66,7 @@ fn parts_of<F: Files>(
     ensures names { IfOk result (λ parts. name_fault schema.now parts.0 ≡ None) }
     ensures fails { IfErr result (FailsWith (RefusesScene (F.content files.old) policies.now world.now (Rose (F.faults files.old) (F.faults files.new)) schema.now)) }
     ensures later { F.faults files.old ≤ F.faults files.new }
+    ensures told { F.faults files.old < F.faults files.new → IsUnread result }
 {
     match policies_of(alloc, files, policies, Side::Policies) {
         Ok(policies) => match world_for(alloc, files, world, schema, &policies) {
@@ -85,6 +88,7 @@ pub fn scene_of<F: Files>(
     ensures reads { IfOk result (ReadsScene (F.content files.old) policies.now world.now schema) }
     ensures fails { IfErr result (FailsWith (RefusesScene (F.content files.old) policies.now world.now (Rose (F.faults files.old) (F.faults files.new)) schema)) }
     ensures later { F.faults files.old ≤ F.faults files.new }
+    ensures told { F.faults files.old < F.faults files.new → IsUnread result }
 {
     match parts_of(alloc, files, policies, world, &schema) {
         Ok((policies, world)) => Ok(Scene {
