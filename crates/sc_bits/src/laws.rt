@@ -37,11 +37,13 @@ pub fn plain_laws()
 
 /// The bits of a wrapped sum, and when the exact one leaves 64 bits.
 pub fn sum_laws()
-    ensures bits { (a b : ℤ) (i : ℕ) → i < 64 → bit64 (int_wrap w64 (a +ℤ b)) i ≡ odd (bit64 a i) (bit64 b i) (carry_of_sum a b i) }
+    ensures bits { (a b : ℤ) (i : ℕ) → i < 64 → bit64 (int_wrap w64 (a +ℤ b)) i
+        ≡ odd (bit64 a i) (bit64 b i) (carry_of_sum a b i) }
     ensures overflow { (a b : ℤ) → FitsSigned w64 a → FitsSigned w64 b
         → sum_overflows (bit64 a 63) (bit64 b 63) (bit64 (int_wrap w64 (a +ℤ b)) 63) ≡ leaves64 (a +ℤ b) }
     ensures carries { (first : Bool) (n : ℕ) (a b : ℕ → Bool) → IsAdder first n a b (carry first a b) (added first a b) }
-    ensures rebuilt { (a b c r : ℕ → Bool) → IsAdder false 64 a b c r → of_bits64 r ≡ int_wrap w64 (of_bits64 a +ℤ of_bits64 b) }
+    ensures rebuilt { (a b c r : ℕ → Bool) → IsAdder false 64 a b c r → of_bits64 r
+        ≡ int_wrap w64 (of_bits64 a +ℤ of_bits64 b) }
     ensures rebuilt_overflow { (a b c r : ℕ → Bool) → IsAdder false 64 a b c r
         → sum_overflows (a 63) (b 63) (r 63) ≡ leaves64 (of_bits64 a +ℤ of_bits64 b) }
 {}
@@ -62,7 +64,8 @@ pub fn difference_laws()
 pub fn order_laws()
     ensures order { (a b : ℤ) → FitsSigned w64 a → FitsSigned w64 b → slt (bit64 a) (bit64 b) ≡ int_lt a b }
     ensures steps { (n : ℕ) (a b : ℕ → Bool) → IsLow n a b (low a b) }
-    ensures rebuilt { (a b l : ℕ → Bool) → IsLow 63 a b l → is_below (b 63) (a 63) (l 63) ≡ int_lt (of_bits64 a) (of_bits64 b) }
+    ensures rebuilt { (a b l : ℕ → Bool) → IsLow 63 a b l → is_below (b 63) (a 63) (l 63)
+        ≡ int_lt (of_bits64 a) (of_bits64 b) }
 {}
 
 /// The last row of partial products is the exact product in 128 bits, its lowest 64 bits are those of the wrapped one, and

@@ -15,9 +15,12 @@ use crate::construct::Construct;
 #[tactic(auto, using(crate::proofs::OrderLaws::place_first, crate::proofs::OrderLaws::has_first, crate::proofs::OrderLaws::type_last, crate::proofs::OrderLaws::least_among, crate::proofs::OrderLaws::none_before, crate::proofs::OrderLaws::none_found))]
 pub fn telling_laws()
     ensures place { (a b : AnyFound) → a.place.offset < b.place.offset → is_before a b ≡ true }
-    ensures has_first { (place : AnyPlace) → is_before (found place Construct.Has) (found place Construct.Attribute) ≡ true }
-    ensures type_last { (place : AnyPlace) (c : AnyConstruct) → is_before (found place Construct.«Type») (found place c) ≡ false }
+    ensures has_first { (place : AnyPlace) → is_before (found place Construct.Has) (found place Construct.Attribute)
+        ≡ true }
+    ensures type_last { (place : AnyPlace) (c : AnyConstruct) → is_before (found place Construct.«Type») (found place c)
+        ≡ false }
     ensures among { (xs : List AnyFound) (x : AnyFound) → least xs ≡ Some x → Contains xs x }
-    ensures least { (xs : List AnyFound) (x : AnyFound) → least xs ≡ Some x → AllByRecursion (λ y. is_before y x ≡ false) xs }
+    ensures least { (xs : List AnyFound) (x : AnyFound) → least xs ≡ Some x
+        → AllByRecursion (λ y. is_before y x ≡ false) xs }
     ensures none { (xs : List AnyFound) → least xs ≡ None → xs ≡ [] }
 {}

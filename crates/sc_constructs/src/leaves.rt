@@ -44,7 +44,8 @@ pub(crate) fn in_entity(
     typed: &TypedExpr,
     so_far: Option<Found>,
 ) -> Option<Found>
-    ensures { result ≡ least_of so_far (of_read_literal entity.now.place (Entity entity.now.uid) (out-TypedExpr typed.now)) }
+    ensures { result ≡ least_of so_far (of_read_literal entity.now.place (Entity entity.now.uid)
+        (out-TypedExpr typed.now)) }
 {
     match typed {
         TypedExpr::Literal(_, _, _) => with(so_far, entity.place, Construct::Entity),

@@ -102,7 +102,8 @@ fn in_compared(
     typed: &TypedExpr,
     so_far: Option<Found>,
 ) -> Option<Found>
-    ensures { result ≡ least_of so_far (of_operated place operator (of_read x.place x.variable) (of_entity l.now) (out-TypedExpr typed.now)) }
+    ensures { result ≡ least_of so_far (of_operated place operator (of_read x.place x.variable) (of_entity l.now)
+        (out-TypedExpr typed.now)) }
 {
     match typed {
         TypedExpr::Binary(_, _, _, a, b) => {
@@ -137,7 +138,8 @@ fn in_tested_in(
     typed: &TypedExpr,
     so_far: Option<Found>,
 ) -> Option<Found>
-    ensures { result ≡ least_of so_far (of_tested_in place in_place (of_read x.place x.variable) (of_entity l.now) (out-TypedExpr typed.now)) }
+    ensures { result ≡ least_of so_far (of_tested_in place in_place (of_read x.place x.variable) (of_entity l.now)
+        (out-TypedExpr typed.now)) }
 {
     match typed {
         TypedExpr::IsIn(_, _, a, _, _, b) => {
@@ -192,7 +194,8 @@ fn in_any(
     typed: &TypedExpr,
     so_far: Option<Found>,
 ) -> Option<Found>
-    ensures { result ≡ least_of so_far (of_operated place BinaryOperator.In (of_read x.place x.variable) (of_set bracket (map of_entity ls.now)) (out-TypedExpr typed.now)) }
+    ensures { result ≡ least_of so_far (of_operated place BinaryOperator.In (of_read x.place x.variable)
+        (of_set bracket (map of_entity ls.now)) (out-TypedExpr typed.now)) }
 {
     match typed {
         TypedExpr::Binary(_, _, _, a, b) => {

@@ -25,7 +25,8 @@ pub fn least_construct(policy: &Policy, condition: &TypedExpr) -> Option<Found>
 
 /// The two sides of `&&`.
 fn sides(typed: &TypedExpr) -> Option<(&TypedExpr, &TypedExpr)>
-    ensures { MatchOption result (sides (out-TypedExpr typed.now) ≡ None) (λ p. sides (out-TypedExpr typed.now) ≡ Some (p.0.now, p.1.now)) }
+    ensures { MatchOption result (sides (out-TypedExpr typed.now) ≡ None) (λ p. sides (out-TypedExpr typed.now)
+        ≡ Some (p.0.now, p.1.now)) }
 {
     match typed {
         TypedExpr::And(_, _, x, y) => Some((x.get(), y.get())),

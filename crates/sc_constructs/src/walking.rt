@@ -46,7 +46,8 @@ pub(crate) fn in_expr(expr: &Expr, typed: &TypedExpr, so_far: Option<Found>) -> 
 #[cycle(walking)]
 #[tactic(auto, using(crate::proofs::LeastLaws::least_append))]
 fn in_two(a: &Expr, b: &Expr, x: &TypedExpr, y: &TypedExpr, so_far: Option<Found>) -> Option<Found>
-    ensures { result ≡ least_of so_far (constructs_in a.now (out-TypedExpr x.now) ++ constructs_in b.now (out-TypedExpr y.now)) }
+    ensures { result ≡ least_of so_far (constructs_in a.now (out-TypedExpr x.now)
+        ++ constructs_in b.now (out-TypedExpr y.now)) }
 {
     let so_far = in_expr(a, x, so_far);
     in_expr(b, y, so_far)
@@ -62,7 +63,8 @@ fn in_if(
     typed: &TypedExpr,
     so_far: Option<Found>,
 ) -> Option<Found>
-    ensures { result ≡ least_of so_far (of_if place (constructs_in c.now) (constructs_in a.now) (constructs_in b.now) (out-TypedExpr typed.now)) }
+    ensures { result ≡ least_of so_far (of_if place (constructs_in c.now) (constructs_in a.now) (constructs_in b.now)
+        (out-TypedExpr typed.now)) }
 {
     match typed {
         TypedExpr::If(_, _, x, y, z) => {
@@ -103,7 +105,8 @@ fn in_operated(
     typed: &TypedExpr,
     so_far: Option<Found>,
 ) -> Option<Found>
-    ensures { result ≡ least_of so_far (of_operated place operator (constructs_in a.now) (constructs_in b.now) (out-TypedExpr typed.now)) }
+    ensures { result ≡ least_of so_far (of_operated place operator (constructs_in a.now) (constructs_in b.now)
+        (out-TypedExpr typed.now)) }
 {
     match typed {
         TypedExpr::Binary(_, _, _, x, y) => {
@@ -156,7 +159,8 @@ fn in_tested_in(
     typed: &TypedExpr,
     so_far: Option<Found>,
 ) -> Option<Found>
-    ensures { result ≡ least_of so_far (of_tested_in place in_place (constructs_in a.now) (constructs_in b.now) (out-TypedExpr typed.now)) }
+    ensures { result ≡ least_of so_far (of_tested_in place in_place (constructs_in a.now) (constructs_in b.now)
+        (out-TypedExpr typed.now)) }
 {
     match typed {
         TypedExpr::IsIn(_, _, x, _, _, y) => {
@@ -254,7 +258,8 @@ fn in_record(
     typed: &TypedExpr,
     so_far: Option<Found>,
 ) -> Option<Found>
-    ensures { result ≡ least_of so_far (of_record place (map (λ (f : List ℕ × AnyExpr). (f.0, constructs_in f.1)) fields.now) (out-TypedExpr typed.now)) }
+    ensures { result ≡ least_of so_far (of_record place (map (λ (f : List ℕ × AnyExpr).
+        (f.0, constructs_in f.1)) fields.now) (out-TypedExpr typed.now)) }
 {
     match typed {
         TypedExpr::Record(_, _, ys) => {
@@ -276,7 +281,8 @@ fn in_fields(
     typed: &[(Text, TypedExpr)],
     so_far: Option<Found>,
 ) -> Option<Found>
-    ensures { result ≡ least_of so_far (of_fields (map (λ (f : List ℕ × AnyExpr). (f.0, constructs_in f.1)) fields.now) typed.now) }
+    ensures { result ≡ least_of so_far (of_fields (map (λ (f : List ℕ × AnyExpr).
+        (f.0, constructs_in f.1)) fields.now) typed.now) }
 {
     let mut least = so_far;
     let mut left = typed;

@@ -31,7 +31,8 @@ fn checked_sets<F: Files>(
     ensures first { IfOk result (λ sets. HasPolicies (F.content files.old) policies.now sets.0) }
     ensures second { IfOk result (λ sets. HasAgainst (F.content files.old) (option_map (λ n. n.now) against.entry) sets.1) }
     ensures served { IfOk result (λ sets. AreServed schema.now sets.0 sets.1) }
-    ensures fails { IfErr result (FailsWith (RefusesAnalysis (F.content files.old) policies.now (option_map (λ n. n.now) against.entry) (Rose (F.faults files.old) (F.faults files.new)) schema.now)) }
+    ensures fails { IfErr result (FailsWith (RefusesAnalysis (F.content files.old) policies.now (option_map
+        (λ n. n.now) against.entry) (Rose (F.faults files.old) (F.faults files.new)) schema.now)) }
     ensures later { F.faults files.old ≤ F.faults files.new }
     ensures told { F.faults files.old < F.faults files.new → IsUnread result }
 {
@@ -60,7 +61,8 @@ fn analysis_of<F: Files>(
     ensures first { IfOk result (λ i. HasPolicies (F.content files.old) command.now.policies.now i.policies) }
     ensures second { IfOk result (λ i. HasAgainst (F.content files.old) (option_map (λ n. n.now) against.entry) i.against) }
     ensures served { IfOk result (λ i. AreServed schema i.policies i.against) }
-    ensures fails { IfErr result (FailsWith (RefusesAnalysis (F.content files.old) command.now.policies.now (option_map (λ n. n.now) against.entry) (Rose (F.faults files.old) (F.faults files.new)) schema)) }
+    ensures fails { IfErr result (FailsWith (RefusesAnalysis (F.content files.old) command.now.policies.now (option_map
+        (λ n. n.now) against.entry) (Rose (F.faults files.old) (F.faults files.new)) schema)) }
     ensures later { F.faults files.old ≤ F.faults files.new }
     ensures told { F.faults files.old < F.faults files.new → IsUnread result }
 {
@@ -84,7 +86,9 @@ fn with_schema<F: Files>(
     schema: Schema,
 ) -> Result<Inputs, Fault<Refusal>>
     ensures reads { IfOk result (ReadsRest (F.content files.old) (served_view command.now) schema) }
-    ensures fails { IfErr result (λ fault. (words : List (List ℕ)) → Serves words (served_view command.now) → ReadsSchema (F.content files.old) (served_view command.now) schema → FailsWith (IsRefusal (F.content files.old) words (Rose (F.faults files.old) (F.faults files.new))) fault) }
+    ensures fails { IfErr result (λ fault. (words : List (List ℕ)) → Serves words (served_view command.now)
+        → ReadsSchema (F.content files.old) (served_view command.now) schema
+        → FailsWith (IsRefusal (F.content files.old) words (Rose (F.faults files.old) (F.faults files.new))) fault) }
     ensures later { F.faults files.old ≤ F.faults files.new }
     ensures told { F.faults files.old < F.faults files.new → IsUnread result }
 {
@@ -109,7 +113,8 @@ fn with_command<F: Files>(
     command: &Served<'_>,
 ) -> Result<Inputs, Fault<Refusal>>
     ensures reads { IfOk result (ReadsInputs (F.content files.old) (served_view command.now)) }
-    ensures fails { IfErr result (λ fault. (words : List (List ℕ)) → Serves words (served_view command.now) → FailsWith (IsRefusal (F.content files.old) words (Rose (F.faults files.old) (F.faults files.new))) fault) }
+    ensures fails { IfErr result (λ fault. (words : List (List ℕ)) → Serves words (served_view command.now)
+        → FailsWith (IsRefusal (F.content files.old) words (Rose (F.faults files.old) (F.faults files.new))) fault) }
     ensures later { F.faults files.old ≤ F.faults files.new }
     ensures told { F.faults files.old < F.faults files.new → IsUnread result }
 {
@@ -129,7 +134,8 @@ pub fn inputs_of<F: Files>(
     files: &mut F,
 ) -> Result<Inputs, Fault<Refusal>>
     ensures reads { IfOk result (IsRead (F.content files.old) (words_view words.now)) }
-    ensures fails { IfErr result (FailsWith (IsRefusal (F.content files.old) (words_view words.now) (Rose (F.faults files.old) (F.faults files.new)))) }
+    ensures fails { IfErr result (FailsWith (IsRefusal (F.content files.old) (words_view words.now) (Rose
+        (F.faults files.old) (F.faults files.new)))) }
     ensures later { F.faults files.old ≤ F.faults files.new }
     ensures told { F.faults files.old < F.faults files.new → IsUnread result }
 {

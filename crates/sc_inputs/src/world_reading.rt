@@ -20,7 +20,8 @@ use std::alloc::Global;
 /// The world of a file.
 fn world_of<F: Files>(alloc: Global, files: &mut F, name: &str) -> Result<World, Fault<Refusal>>
     ensures reads { IfOk result (HasWorld (F.content files.old) name.now) }
-    ensures fails { IfErr result (FailsWith (RefusesWorld (F.content files.old) name.now (Rose (F.faults files.old) (F.faults files.new)))) }
+    ensures fails { IfErr result (FailsWith (RefusesWorld (F.content files.old) name.now (Rose (F.faults files.old)
+        (F.faults files.new)))) }
     ensures later { F.faults files.old ≤ F.faults files.new }
     ensures told { F.faults files.old < F.faults files.new → IsUnread result }
 {
@@ -40,7 +41,9 @@ fn world_for<F: Files>(
 ) -> Result<World, Fault<Refusal>>
     ensures reads { IfOk result (HasWorld (F.content files.old) name.now) }
     ensures names { OnOk result (name_fault schema.now policies.now ≡ None) }
-    ensures fails { IfErr result (λ fault. (file : List ℕ) → HasPolicies (F.content files.old) file policies.now → FailsWith (RefusesScene (F.content files.old) file name.now (Rose (F.faults files.old) (F.faults files.new)) schema.now) fault) }
+    ensures fails { IfErr result (λ fault. (file : List ℕ) → HasPolicies (F.content files.old) file policies.now
+        → FailsWith (RefusesScene (F.content files.old) file name.now (Rose (F.faults files.old)
+        (F.faults files.new)) schema.now) fault) }
     ensures later { F.faults files.old ≤ F.faults files.new }
     ensures told { F.faults files.old < F.faults files.new → IsUnread result }
 {
@@ -64,7 +67,8 @@ fn parts_of<F: Files>(
     ensures policies { IfOk result (λ parts. HasPolicies (F.content files.old) policies.now parts.0) }
     ensures world { IfOk result (λ parts. HasWorld (F.content files.old) world.now parts.1) }
     ensures names { IfOk result (λ parts. name_fault schema.now parts.0 ≡ None) }
-    ensures fails { IfErr result (FailsWith (RefusesScene (F.content files.old) policies.now world.now (Rose (F.faults files.old) (F.faults files.new)) schema.now)) }
+    ensures fails { IfErr result (FailsWith (RefusesScene (F.content files.old) policies.now world.now (Rose
+        (F.faults files.old) (F.faults files.new)) schema.now)) }
     ensures later { F.faults files.old ≤ F.faults files.new }
     ensures told { F.faults files.old < F.faults files.new → IsUnread result }
 {
@@ -86,7 +90,8 @@ pub fn scene_of<F: Files>(
     schema: Schema,
 ) -> Result<Scene, Fault<Refusal>>
     ensures reads { IfOk result (ReadsScene (F.content files.old) policies.now world.now schema) }
-    ensures fails { IfErr result (FailsWith (RefusesScene (F.content files.old) policies.now world.now (Rose (F.faults files.old) (F.faults files.new)) schema)) }
+    ensures fails { IfErr result (FailsWith (RefusesScene (F.content files.old) policies.now world.now (Rose
+        (F.faults files.old) (F.faults files.new)) schema)) }
     ensures later { F.faults files.old ≤ F.faults files.new }
     ensures told { F.faults files.old < F.faults files.new → IsUnread result }
 {

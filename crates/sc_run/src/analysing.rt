@@ -41,7 +41,8 @@ fn problem_of<'a>(
 ) -> Result<Problem<'a>, Fault<OverLimit>>
     requires environment { Contains (environments schema.now) env.now }
     requires served { AreServed schema.now query.now.first query.now.against }
-    ensures ok { IfOk result (λ p. (t : Tree) → IsGoalOf schema.now env.now query.now t → IsProblemOf schema.now env.now query.now.literals t p) }
+    ensures ok { IfOk result (λ p. (t : Tree) → IsGoalOf schema.now env.now query.now t
+        → IsProblemOf schema.now env.now query.now.literals t p) }
     ensures err { IfErr result (λ fault. (t : Tree) → IsGoalOf schema.now env.now query.now t → IsRefused env.now t fault) }
 {
     goal_laws();

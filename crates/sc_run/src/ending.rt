@@ -17,7 +17,8 @@ pub fn exit_code<F: Files, O: Sink>(
     files: &mut F,
     out: &mut O,
 ) -> ExitCode
-    ensures { (logs : List (List AnyStep)) × Promises (run_of F.Files O.Sink files.old files.new out.old out.new words.now (exit_status result)) logs }
+    ensures { (logs : List (List AnyStep))
+        × Promises (run_of F.Files O.Sink files.old files.new out.old out.new words.now (exit_status result)) logs }
 {
     ExitCode::from(run(alloc, words, files, out).code)
 }

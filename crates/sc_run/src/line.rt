@@ -24,7 +24,8 @@ fn put_counterexample(alloc: Global, out: &mut Vec<u8>, world: &World) -> Result
 }
 
 fn put_unknown(out: &mut Vec<u8>, budget: u64) -> Result<(), AllocError>
-    ensures { OnOk result (out.new.items ≡ out.old.items ++ (codes "unknown after " ++ (decimal budget ++ codes " units"))) }
+    ensures { OnOk result (out.new.items ≡ out.old.items
+        ++ (codes "unknown after " ++ (decimal budget ++ codes " units"))) }
 {
     put(out, b"unknown after ")?;
     put_number(out, budget)?;

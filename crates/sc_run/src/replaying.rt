@@ -11,7 +11,8 @@ use std::alloc::Global;
 
 /// Puts out lines, one after another.
 fn put_lines<O: Sink>(lines: &[Text], out: &mut O) -> Result<(), SinkFault>
-    ensures puts { PutsLines lines.now (O.written out.old) (O.written out.new) (Rose (O.faults out.old) (O.faults out.new)) result }
+    ensures puts { PutsLines lines.now (O.written out.old) (O.written out.new) (Rose (O.faults out.old)
+        (O.faults out.new)) result }
     ensures later { O.faults out.old ≤ O.faults out.new }
     ensures told { O.faults out.old < O.faults out.new → result ≡ Err SinkFault.Failed }
 {
@@ -27,7 +28,8 @@ fn put_lines<O: Sink>(lines: &[Text], out: &mut O) -> Result<(), SinkFault>
 /// Tells whether the world of a scene is well-formed, what each policy answers in it, and what the
 /// policies decide. Gives the status.
 pub fn replay<O: Sink>(alloc: Global, scene: &Scene, out: &mut O) -> u8
-    ensures replays { Replayed scene.now (O.written out.old) (O.written out.new) (Rose (O.faults out.old) (O.faults out.new)) result }
+    ensures replays { Replayed scene.now (O.written out.old) (O.written out.new) (Rose (O.faults out.old)
+        (O.faults out.new)) result }
     ensures told { O.faults out.old < O.faults out.new → result ≡ 21 }
 {
     let Ok(report) = report_of(alloc, &scene.schema, &scene.policies, &scene.world) else {

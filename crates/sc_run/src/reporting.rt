@@ -25,7 +25,8 @@ fn put_spent<O: Sink>(
     text: &[u8],
     out: &mut O,
 ) -> Result<(), SinkFault>
-    ensures puts { PutsCounted tally.old tally.new false true (log ∷ []) (O.written out.old) (O.written out.new) text.now (Rose (O.faults out.old) (O.faults out.new)) result }
+    ensures puts { PutsCounted tally.old tally.new false true (log ∷ []) (O.written out.old)
+        (O.written out.new) text.now (Rose (O.faults out.old) (O.faults out.new)) result }
     ensures later { O.faults out.old ≤ O.faults out.new }
     ensures told { O.faults out.old < O.faults out.new → result ≡ Err SinkFault.Failed }
 {
@@ -51,7 +52,9 @@ fn put_answer<O: Sink>(
     text: &[u8],
     out: &mut O,
 ) -> Result<(), SinkFault>
-    ensures puts { PutsCounted tally.old tally.new (is_counterexample (verdict_view 0 answer)) (is_open (verdict_view 0 answer)) (log_of (verdict_view 0 answer)) (O.written out.old) (O.written out.new) text.now (Rose (O.faults out.old) (O.faults out.new)) result }
+    ensures puts { PutsCounted tally.old tally.new (is_counterexample (verdict_view 0 answer)) (is_open
+        (verdict_view 0 answer)) (log_of (verdict_view 0 answer)) (O.written out.old) (O.written out.new) text.now
+        (Rose (O.faults out.old) (O.faults out.new)) result }
     ensures later { O.faults out.old ≤ O.faults out.new }
     ensures told { O.faults out.old < O.faults out.new → result ≡ Err SinkFault.Failed }
 {
@@ -65,7 +68,8 @@ fn put_answer<O: Sink>(
 
 /// Puts out the line of a counterexample.
 fn put_counterexample<O: Sink>(tally: &mut Tally, text: &[u8], out: &mut O) -> Result<(), SinkFault>
-    ensures puts { PutsCounted tally.old tally.new true false [] (O.written out.old) (O.written out.new) text.now (Rose (O.faults out.old) (O.faults out.new)) result }
+    ensures puts { PutsCounted tally.old tally.new true false [] (O.written out.old) (O.written out.new) text.now (Rose
+        (O.faults out.old) (O.faults out.new)) result }
     ensures later { O.faults out.old ≤ O.faults out.new }
     ensures told { O.faults out.old < O.faults out.new → result ≡ Err SinkFault.Failed }
 {
@@ -80,7 +84,8 @@ fn put_counterexample<O: Sink>(tally: &mut Tally, text: &[u8], out: &mut O) -> R
 
 /// Puts out the line of an environment that is too large.
 fn put_open<O: Sink>(tally: &mut Tally, text: &[u8], out: &mut O) -> Result<(), SinkFault>
-    ensures puts { PutsCounted tally.old tally.new false true [] (O.written out.old) (O.written out.new) text.now (Rose (O.faults out.old) (O.faults out.new)) result }
+    ensures puts { PutsCounted tally.old tally.new false true [] (O.written out.old) (O.written out.new) text.now (Rose
+        (O.faults out.old) (O.faults out.new)) result }
     ensures later { O.faults out.old ≤ O.faults out.new }
     ensures told { O.faults out.old < O.faults out.new → result ≡ Err SinkFault.Failed }
 {
@@ -105,7 +110,8 @@ fn report_env<O: Sink>(
     requires environment { Contains (environments inputs.now.schema) env.now }
     requires asked { IsQueryOf inputs.now query.now }
     requires allowed { MayBeAsked inputs.now }
-    ensures reports { ReportsEnv (asked_in inputs.now) env.now tally.old tally.new (O.written out.old) (O.written out.new) (Rose (O.faults out.old) (O.faults out.new)) result }
+    ensures reports { ReportsEnv (asked_in inputs.now) env.now tally.old tally.new (O.written out.old)
+        (O.written out.new) (Rose (O.faults out.old) (O.faults out.new)) result }
     ensures later { O.faults out.old ≤ O.faults out.new }
     ensures told { O.faults out.old < O.faults out.new → result ≡ Err SinkFault.Failed }
 {
@@ -131,7 +137,8 @@ fn report_all<O: Sink>(
     requires asked { IsQueryOf inputs.now query.now }
     requires allowed { MayBeAsked inputs.now }
     requires nothing { IsFresh tally.old }
-    ensures reports { ReportsAll (asked_in inputs.now) envs.now tally.new (O.written out.old) (O.written out.new) (Rose (O.faults out.old) (O.faults out.new)) result }
+    ensures reports { ReportsAll (asked_in inputs.now) envs.now tally.new (O.written out.old) (O.written out.new) (Rose
+        (O.faults out.old) (O.faults out.new)) result }
     ensures later { O.faults out.old ≤ O.faults out.new }
     ensures told { O.faults out.old < O.faults out.new → result ≡ Err SinkFault.Failed }
 {
@@ -157,7 +164,8 @@ fn status_after(tally: &Tally, outcome: Result<(), SinkFault>) -> u8
 
 /// The line of a schema without environments.
 fn report_none<O: Sink>(out: &mut O) -> u8
-    ensures reports { ReportsNone (O.written out.old) (O.written out.new) (Rose (O.faults out.old) (O.faults out.new)) result }
+    ensures reports { ReportsNone (O.written out.old) (O.written out.new) (Rose (O.faults out.old)
+        (O.faults out.new)) result }
     ensures later { O.faults out.old ≤ O.faults out.new }
     ensures told { O.faults out.old < O.faults out.new → result ≡ 21 }
 {
@@ -180,7 +188,8 @@ fn report_some<O: Sink>(
     requires some { envs.now ≢ [] }
     requires asked { IsQueryOf inputs.now query.now }
     requires allowed { MayBeAsked inputs.now }
-    ensures reports { Reported (asked_in inputs.now) (O.written out.old) (O.written out.new) (Rose (O.faults out.old) (O.faults out.new)) result.code result.spent.items }
+    ensures reports { Reported (asked_in inputs.now) (O.written out.old) (O.written out.new) (Rose (O.faults out.old)
+        (O.faults out.new)) result.code result.spent.items }
     ensures told { O.faults out.old < O.faults out.new → result.code ≡ 21 }
 {
     let mut tally = Tally::new(alloc);
@@ -194,7 +203,8 @@ fn report_some<O: Sink>(
 /// Reports on each environment of the schema.
 pub fn report<O: Sink>(alloc: Global, inputs: &Analysis, out: &mut O) -> Status
     requires { MayBeAsked inputs.now }
-    ensures reports { Reported (asked_in inputs.now) (O.written out.old) (O.written out.new) (Rose (O.faults out.old) (O.faults out.new)) result.code result.spent.items }
+    ensures reports { Reported (asked_in inputs.now) (O.written out.old) (O.written out.new) (Rose (O.faults out.old)
+        (O.faults out.new)) result.code result.spent.items }
     ensures told { O.faults out.old < O.faults out.new → result.code ≡ 21 }
 {
     let envs = environments(&inputs.schema);

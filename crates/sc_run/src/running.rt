@@ -18,7 +18,8 @@ use std::alloc::Global;
 
 /// Puts out the line of a refusal. Gives the status.
 fn refuse<O: Sink>(alloc: Global, refusal: &Refusal, out: &mut O) -> u8
-    ensures refuses { Refuses (refusal_view refusal.now) (O.written out.old) (O.written out.new) (Rose (O.faults out.old) (O.faults out.new)) result }
+    ensures refuses { Refuses (refusal_view refusal.now) (O.written out.old) (O.written out.new) (Rose
+        (O.faults out.old) (O.faults out.new)) result }
     ensures told { O.faults out.old < O.faults out.new → result ≡ 21 }
 {
     let Ok(text) = text_of(alloc, refusal) else {

@@ -38,7 +38,8 @@ pub fn default_of(alloc: Global, sort: &Sort) -> Result<Value, AllocError>
 /// The fields that a record may not lack, each with its sort's default.
 #[cycle(defaults)]
 fn default_fields(alloc: Global, fields: &Seq<(Text, Sort)>) -> Result<Rec, AllocError>
-    ensures { IfOk result (λ r. r ≡ flat_map (λ (f : List ℕ × AnySort). default_field f.0 (is_option f.1) (default_of f.1)) fields.now) }
+    ensures { IfOk result (λ r. r ≡ flat_map (λ (f : List ℕ
+        × AnySort). default_field f.0 (is_option f.1) (default_of f.1)) fields.now) }
 {
     let mut defaults = Seq::new(alloc);
     for field in fields.as_slice() {
@@ -49,7 +50,8 @@ fn default_fields(alloc: Global, fields: &Seq<(Text, Sort)>) -> Result<Rec, Allo
 
 #[cycle(defaults)]
 fn put_field(alloc: Global, field: &(Text, Sort), defaults: &mut Rec) -> Result<(), AllocError>
-    ensures { OnOk result (defaults.new ≡ defaults.old ++ default_field field.now.0 (is_option field.now.1) (default_of field.now.1)) }
+    ensures { OnOk result (defaults.new ≡ defaults.old
+        ++ default_field field.now.0 (is_option field.now.1) (default_of field.now.1)) }
 {
     if is_option(&field.1) {
         return Ok(());

@@ -29,7 +29,8 @@ pub fn is_plain(ty: &Ty) -> bool
 
 /// The fields, where each is a required truth value.
 fn only_bools(fields: &[(Text, Presence, Ty)]) -> Option<&[(Text, Presence, Ty)]>
-    ensures { option_map (λ fields. fields.now) result ≡ (if list_all is_bool_field fields.now then Some fields.now else None) }
+    ensures { option_map (λ fields. fields.now) result
+        ≡ (if list_all is_bool_field fields.now then Some fields.now else None) }
 {
     if are_bools(fields) {
         Some(fields)

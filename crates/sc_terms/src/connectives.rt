@@ -29,7 +29,8 @@ impl Terms {
         requires a_in { a < length self.old }
         requires b_in { b < length self.old }
         ensures ok { IfOk result (λ n. StandsFor self.new n (and_term (tree self.old a) (tree self.old b))) }
-        ensures value { IfOk result (λ n. HasValue self.new n (λ w. and_value (val (tree self.old a) w) (val (tree self.old b) w))) }
+        ensures value { IfOk result (λ n. HasValue self.new n (λ w. and_value (val (tree self.old a) w) (val
+            (tree self.old b) w))) }
         ensures kept { Keeps self.old self.new }
         ensures grows { length self.new ≤ length self.old + 1 }
         ensures err { OnErr result (self.new ≡ self.old) }
@@ -42,7 +43,8 @@ impl Terms {
         requires a_in { a < length self.old }
         requires b_in { b < length self.old }
         ensures ok { IfOk result (λ n. StandsFor self.new n (or_term (tree self.old a) (tree self.old b))) }
-        ensures value { IfOk result (λ n. HasValue self.new n (λ w. or_value (val (tree self.old a) w) (val (tree self.old b) w))) }
+        ensures value { IfOk result (λ n. HasValue self.new n (λ w. or_value (val (tree self.old a) w) (val
+            (tree self.old b) w))) }
         ensures kept { Keeps self.old self.new }
         ensures grows { length self.new ≤ length self.old + 1 }
         ensures err { OnErr result (self.new ≡ self.old) }
@@ -55,7 +57,8 @@ impl Terms {
         requires a_in { a < length self.old }
         requires b_in { b < length self.old }
         ensures ok { IfOk result (λ n. StandsFor self.new n (equal_term (tree self.old a) (tree self.old b))) }
-        ensures value { IfOk result (λ n. HasValue self.new n (λ w. equal_value (val (tree self.old a) w) (val (tree self.old b) w))) }
+        ensures value { IfOk result (λ n. HasValue self.new n (λ w. equal_value (val (tree self.old a) w) (val
+            (tree self.old b) w))) }
         ensures kept { Keeps self.old self.new }
         ensures grows { length self.new ≤ length self.old + 1 }
         ensures err { OnErr result (self.new ≡ self.old) }
@@ -68,8 +71,10 @@ impl Terms {
         requires c_in { c < length self.old }
         requires a_in { a < length self.old }
         requires b_in { b < length self.old }
-        ensures ok { IfOk result (λ n. StandsFor self.new n (choice_term (tree self.old c) (tree self.old a) (tree self.old b))) }
-        ensures value { IfOk result (λ n. HasValue self.new n (λ w. choice_value (val (tree self.old c) w) (val (tree self.old a) w) (val (tree self.old b) w))) }
+        ensures ok { IfOk result (λ n. StandsFor self.new n (choice_term (tree self.old c) (tree self.old a)
+            (tree self.old b))) }
+        ensures value { IfOk result (λ n. HasValue self.new n (λ w. choice_value (val (tree self.old c) w) (val
+            (tree self.old a) w) (val (tree self.old b) w))) }
         ensures kept { Keeps self.old self.new }
         ensures grows { length self.new ≤ length self.old + 1 }
         ensures err { OnErr result (self.new ≡ self.old) }

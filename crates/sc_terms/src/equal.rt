@@ -32,7 +32,8 @@ impl Terms {
     fn equation(&mut self, a: u64, b: u64) -> Result<u64, AllocError>
         requires a_in { a < length self.old }
         requires b_in { b < length self.old }
-        ensures ok { IfOk result (λ n. StandsFor self.new n (other_equal (tree_eq (tree self.old a) (tree self.old b)) (both (literal_is (tree self.old a)) (literal_is (tree self.old b))) (tree self.old a) (tree self.old b))) }
+        ensures ok { IfOk result (λ n. StandsFor self.new n (other_equal (tree_eq (tree self.old a) (tree self.old b))
+            (both (literal_is (tree self.old a)) (literal_is (tree self.old b))) (tree self.old a) (tree self.old b))) }
         ensures kept { Keeps self.old self.new }
         ensures grows { length self.new ≤ length self.old + 1 }
         ensures err { OnErr result (self.new ≡ self.old) }

@@ -88,7 +88,8 @@ impl Terms {
         requires c_in { c < length self.old }
         requires a_in { a < length self.old }
         requires b_in { b < length self.old }
-        ensures ok { IfOk result (λ n. StandsFor self.new n (choice_term (tree self.old c) (tree self.old a) (tree self.old b))) }
+        ensures ok { IfOk result (λ n. StandsFor self.new n (choice_term (tree self.old c) (tree self.old a)
+            (tree self.old b))) }
         ensures kept { Keeps self.old self.new }
         ensures grows { length self.new ≤ length self.old + 1 }
         ensures err { OnErr result (self.new ≡ self.old) }

@@ -71,7 +71,8 @@ fn push_two(
     requires left_in { left < length problem.now.nodes }
     requires right_in { right < length problem.now.nodes }
     requires two { tree problem.now.nodes term ≡ two op (tree problem.now.nodes left) (tree problem.now.nodes right) }
-    ensures { OnOk result (clauses.new.items ≡ clauses.old.items ++ definition (literal_in problem.now) (tree problem.now.nodes term)) }
+    ensures { OnOk result (clauses.new.items ≡ clauses.old.items
+        ++ definition (literal_in problem.now) (tree problem.now.nodes term)) }
 {
     if !is_connective(problem, op, left) {
         return Ok(());
@@ -88,7 +89,8 @@ fn push_definition(
     clauses: &mut Vec<Clause>,
 ) -> Result<(), AllocError>
     requires { term < length problem.now.nodes }
-    ensures { OnOk result (clauses.new.items ≡ clauses.old.items ++ definition (literal_in problem.now) (tree problem.now.nodes term)) }
+    ensures { OnOk result (clauses.new.items ≡ clauses.old.items
+        ++ definition (literal_in problem.now) (tree problem.now.nodes term)) }
 {
     match problem.terms().node(term) {
         Node::Leaf(Leaf::Literal(Literal::Bool(true))) => {

@@ -38,7 +38,8 @@ fn is_empty(rule: &Text) -> bool
 fn first_falsified(m: &Assignment, clauses: &[Clause]) -> Option<u64>
     ensures listed { IfSome result (λ n. is_before_last clauses.now n ≡ true) }
     ensures falsified { IfSome result (λ n. falsified m.now (slice_index_or clauses.now (n - 1) []) ≡ true) }
-    ensures none { result ≡ None → (n : ℕ) → is_before_last clauses.now n ≡ true → falsified m.now (slice_index_or clauses.now (n - 1) []) ≡ false }
+    ensures none { result ≡ None → (n : ℕ) → is_before_last clauses.now n ≡ true
+        → falsified m.now (slice_index_or clauses.now (n - 1) []) ≡ false }
 {
     for n in 1..clauses.len() {
         if falsifies(m, &clauses[n - 1]) {

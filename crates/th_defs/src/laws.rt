@@ -12,5 +12,6 @@ ghost use Rattle.sc_footprint.specs.Truths.{IsTrueIn, Satisfies};
 /// each of them is true.
 pub fn defining_laws()
     ensures lawful { (p : Posed) (c : AnyClause) → IsPosed p → Contains (defining p) c → IsClauseOf p c }
-    ensures holds { (p : Posed) (w : AnyWorld) (c : AnyClause) → IsPosed p → Satisfies p w → Contains (defining p) c → IsTrueIn p w c }
+    ensures holds { (p : Posed) (w : AnyWorld) (c : AnyClause) → IsPosed p → Satisfies p w → Contains (defining p) c
+        → IsTrueIn p w c }
 {}

@@ -69,7 +69,8 @@ fn push_row(
     v: bool,
     clauses: &mut Vec<Clause>,
 ) -> Result<(), AllocError>
-    ensures { OnOk result (clauses.new.items ≡ clauses.old.items ++ kept (row_of (truth_of connective.now.op) connective.now.whole connective.now.left connective.now.right u v)) }
+    ensures { OnOk result (clauses.new.items ≡ clauses.old.items
+        ++ kept (row_of (truth_of connective.now.op) connective.now.whole connective.now.left connective.now.right u v)) }
 {
     let clause = row(alloc, connective, u, v)?;
     if is_tautology(clause.as_slice()) {
@@ -86,7 +87,8 @@ pub(crate) fn push_table(
     connective: &Connective,
     clauses: &mut Vec<Clause>,
 ) -> Result<(), AllocError>
-    ensures { OnOk result (clauses.new.items ≡ clauses.old.items ++ table (truth_of connective.now.op) connective.now.whole connective.now.left connective.now.right) }
+    ensures { OnOk result (clauses.new.items ≡ clauses.old.items
+        ++ table (truth_of connective.now.op) connective.now.whole connective.now.left connective.now.right) }
 {
     push_row(alloc, connective, false, false, clauses)?;
     push_row(alloc, connective, false, true, clauses)?;
