@@ -1,25 +1,8 @@
 //! The symbolic analyser of Cedar policies.
 #![tactic(auto)]
 
-mod analysing;
-mod line;
-#[cfg(test)]
-mod outside_tests;
-#[cfg(test)]
-mod question_tests;
-#[cfg(test)]
-mod refusal_tests;
-#[cfg(test)]
-mod replay_tests;
-mod replaying;
-mod reporting;
-mod running;
-mod status;
-mod tally;
-#[cfg(test)]
-mod tests;
-
 use sc_outside::{RealFiles, RealSink};
+use sc_run::exit_code;
 use std::alloc::AllocError;
 use std::env;
 use std::io::ErrorKind;
@@ -31,7 +14,7 @@ fn main(rt: HostRuntime) -> ExitCode {
     };
     let mut files = RealFiles::new(&rt);
     let mut out = RealSink::new(&rt);
-    ExitCode::from(running::run(rt.alloc(), &words, &mut files, &mut out).code)
+    exit_code(rt.alloc(), &words, &mut files, &mut out)
 }
 
 /// The words of the command line behind the program's name. Where one is no UTF-8 text there are

@@ -12,6 +12,7 @@ use Rattle.sc_checker.specs.Refutations.{is_nil}
 use Rattle.sc_footprint.specs.Problems.{Posed, atoms}
 use Rattle.sc_footprint.specs.Definitions.{defining}
 use Rattle.sc_checker.specs.Verdicts.{Rules, added, Adds, no_step, first_step, IsRejected, adds_none, not_empty, next, verdict_from, verdict}
+use Rattle.sc_checker.proofs.VerdictLaws.{nil_is}
 
 -- whether the last clause is empty; where there is none, whether the one before was
 abbrev last_is_empty : Bool → List Clause → Bool
@@ -27,13 +28,9 @@ ends_empty was (c ∷ before) = ends_empty (is_nil c) before
 ends_open : (clauses : List Clause) → last_is_empty false clauses ≡ false → (before : List Clause) → clauses ≢ before ++ [] ∷ []
 ends_open clauses e before is = true≢false (sym (ends_empty false before) ∙ (ap (last_is_empty false) (sym is) ∙ e))
 
-nil_clause : (c : Clause) → is_nil c ≡ true → c ≡ []
-nil_clause [] e = refl
-nil_clause (l ∷ c) e = absurd (true≢false (sym e))
-
 -- the clauses before a last one that is empty
 before_last : (c : Clause) (cs : List Clause) → last_is_empty (is_nil c) cs ≡ true → (before : List Clause) × (c ∷ cs ≡ before ++ [] ∷ [])
-before_last c [] e = ([], ap (λ (d : Clause). d ∷ []) (nil_clause c e))
+before_last c [] e = ([], ap (λ (d : Clause). d ∷ []) (nil_is c e))
 before_last c (d ∷ cs) e = let (before, is) = before_last d cs e in (c ∷ before, ap (λ (ds : List Clause). c ∷ ds) is)
 
 open_by : (clauses : List Clause) (b : Bool) → last_is_empty false clauses ≡ b → ((before : List Clause) → clauses ≢ before ++ [] ∷ []) → b ≡ false

@@ -67,7 +67,7 @@ data Ends (rules : Rules) (n : ℕ) (clauses : List Clause) (is_empty : Bool) (s
   ends_at_once : is_empty ≡ true → steps ≡ [] → Ends rules n clauses is_empty steps
   ends_later : (before : List Clause) → Adds rules n clauses steps (before ++ [] ∷ []) → Ends rules n clauses is_empty steps
 
-nil_is : (c : Clause) → is_nil c ≡ true → c ≡ []
+pub nil_is : (c : Clause) → is_nil c ≡ true → c ≡ []
 nil_is [] e = refl
 nil_is (l ∷ c) e = absurd (true≢false (sym e))
 

@@ -62,7 +62,8 @@ fn instance_clause<T: Theory>(
 fn is_shown(known: &mut Known, number: u64, clauses: &[Clause], learned: &Learned) -> bool
     requires later { known.old.step < number }
     requires listed { IsTrue (are_listed (length known.old.marks.items) clauses.now) }
-    ensures shown { result ≡ is_clause (length known.old.marks.items) learned.now.clause && refutes clauses.now (negated learned.now.clause) learned.now.hints }
+    ensures shown { result ≡ is_clause (length known.old.marks.items) learned.now.clause
+        && refutes clauses.now (negated learned.now.clause) learned.now.hints }
     ensures count { length known.new.marks.items ≡ length known.old.marks.items }
     ensures number { known.new.step ≡ number }
 {
@@ -113,7 +114,8 @@ fn added<T: Theory>(
 ) -> Result<Clause, Fault<Reason>>
     requires later { known.old.step < number }
     requires listed { IsTrue (are_listed (length known.old.marks.items) clauses.now) }
-    ensures added { Gives result (added (rules_at T.has_instance T.clause_of rules.now problem.now) (length known.old.marks.items) clauses.now step.now) }
+    ensures added { Gives result (added (rules_at T.has_instance T.clause_of rules.now problem.now)
+        (length known.old.marks.items) clauses.now step.now) }
     ensures count { length known.new.marks.items ≡ length known.old.marks.items }
     ensures number { known.new.step ≤ number }
 {
@@ -132,7 +134,8 @@ fn verdict_of<T: Theory>(
     steps: &[Step],
 ) -> Result<Verdict, AllocError>
     requires { IsTrue (are_listed (length (atoms problem.now)) defining.items) }
-    ensures { IfOk result (λ v. v ≡ verdict_from (rules_at T.has_instance T.clause_of rules.now problem.now) (length (atoms problem.now)) defining.items 0 false steps.now) }
+    ensures { IfOk result (λ v. v ≡ verdict_from (rules_at T.has_instance T.clause_of rules.now problem.now) (length
+        (atoms problem.now)) defining.items 0 false steps.now) }
 {
     // The clauses of the rules have literals of listed atoms, since this is a problem of a goal.
     problem.laws();
@@ -177,9 +180,11 @@ pub fn check<T: Theory>(
     // The verdict is exact: which step is the first at fault, and why.
     ensures exact { IfOk result (λ v. v ≡ verdict (rules_at T.has_instance T.clause_of rules.now problem.now) problem.now log.now) }
     // The logs that refute the goal are those that are accepted.
-    ensures accepted { IfOk result (λ v. (v ≡ Verdict.Refuted) ↔ IsAccepted (rules_at T.has_instance T.clause_of rules.now problem.now) problem.now log.now) }
+    ensures accepted { IfOk result (λ v. (v ≡ Verdict.Refuted)
+        ↔ IsAccepted (rules_at T.has_instance T.clause_of rules.now problem.now) problem.now log.now) }
     // A log is rejected at its least step at fault, for what that step lacks.
-    ensures rejected { IfOk result (λ v. (number : ℕ) (reason : Reason) → (v ≡ Verdict.Rejected number reason) ↔ IsRejected (rules_at T.has_instance T.clause_of rules.now problem.now) problem.now log.now number reason) }
+    ensures rejected { IfOk result (λ v. (number : ℕ) (reason : Reason) → (v ≡ Verdict.Rejected number reason)
+        ↔ IsRejected (rules_at T.has_instance T.clause_of rules.now problem.now) problem.now log.now number reason) }
     // Where the log refutes the goal, it is true in no well-formed world.
     ensures sound { IfOk result (λ v. v ≡ Verdict.Refuted → IsUnsatisfiable problem.now) }
 {

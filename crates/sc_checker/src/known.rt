@@ -65,7 +65,8 @@ impl Known {
     pub(crate) fn insert(&mut self, lit: Lit)
         requires listed { IsTrue (is_listed (length self.old.marks.items) lit) }
         requires consistent { marked self.old.step self.old.marks.items (negation lit) ≡ false }
-        ensures known { marked self.new.step self.new.marks.items ≡ with_lit (marked self.old.step self.old.marks.items) lit }
+        ensures known { marked self.new.step self.new.marks.items
+            ≡ with_lit (marked self.old.step self.old.marks.items) lit }
         ensures count { length self.new.marks.items ≡ length self.old.marks.items }
         ensures number { self.new.step ≡ self.old.step }
     {

@@ -57,7 +57,9 @@ fn instance_of(alloc: Global, words: &[&[u8]]) -> Result<Option<Instance>, Alloc
 
 /// The words before a last word `0`.
 fn before_last_zero<'w, 'b>(words: &'w [&'b [u8]]) -> Option<&'w [&'b [u8]]>
-    ensures { MatchOption result ((before : List (List ℕ)) → ¬ (map (λ w. w.now) words.now ≡ before ++ zero_text ∷ [])) (λ r. map (λ w. w.now) words.now ≡ map (λ w. w.now) r.now ++ zero_text ∷ []) }
+    ensures { MatchOption result ((before : List (List ℕ))
+        → ¬ (map (λ w. w.now) words.now ≡ before ++ zero_text ∷ [])) (λ r. map (λ w. w.now) words.now
+        ≡ map (λ w. w.now) r.now ++ zero_text ∷ []) }
 {
     match words {
         [before @ .., last] if is_same(last, b"0") => Some(before),
@@ -83,7 +85,9 @@ fn ended_hints_of(alloc: Global, words: &[&[u8]]) -> Result<Option<Seq<u64>>, Al
 
 /// The words before the first `0`, and those after it.
 fn around_first_zero<'w, 'b>(words: &'w [&'b [u8]]) -> Option<(&'w [&'b [u8]], &'w [&'b [u8]])>
-    ensures { MatchOption result (IsTrue (has_no_zero (map (λ w. w.now) words.now))) (λ p. (map (λ w. w.now) words.now ≡ map (λ w. w.now) p.0.now ++ zero_text ∷ map (λ w. w.now) p.1.now) × IsTrue (has_no_zero (map (λ w. w.now) p.0.now))) }
+    ensures { MatchOption result (IsTrue (has_no_zero (map (λ w. w.now) words.now))) (λ p. (map (λ w. w.now) words.now
+        ≡ map (λ w. w.now) p.0.now ++ zero_text ∷ map (λ w. w.now) p.1.now)
+        × IsTrue (has_no_zero (map (λ w. w.now) p.0.now))) }
 {
     for (i, word) in words.iter().enumerate() {
         if is_same(word, b"0") {

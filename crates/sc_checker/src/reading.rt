@@ -22,7 +22,8 @@ pub struct Malformed {
 
 /// The first line, without the newline that ends it, and what follows.
 fn cut_line(bytes: &[u8]) -> Option<(&[u8], &[u8])>
-    ensures { MatchOption result (IsTrue (has_no_newline bytes.now)) (λ p. (bytes.now ≡ p.0.now ++ 10 ∷ p.1.now) × IsTrue (has_no_newline p.0.now)) }
+    ensures { MatchOption result (IsTrue (has_no_newline bytes.now)) (λ p. (bytes.now ≡ p.0.now ++ 10 ∷ p.1.now)
+        × IsTrue (has_no_newline p.0.now)) }
 {
     for (i, byte) in bytes.iter().enumerate() {
         if *byte == b'\n' {
@@ -34,7 +35,8 @@ fn cut_line(bytes: &[u8]) -> Option<(&[u8], &[u8])>
 
 /// The step of the first line, and what follows that line.
 fn next_step(alloc: Global, bytes: &[u8]) -> Result<Option<(Step, &[u8])>, AllocError>
-    ensures { IfOk result (λ o. MatchOption o ((s : Step) → IsTrue (is_writable s) → ¬ BeginsWith bytes.now s) (λ p. IsTrue (is_writable p.0) × (bytes.now ≡ step_line p.0 ++ 10 ∷ p.1.now))) }
+    ensures { IfOk result (λ o. MatchOption o ((s : Step) → IsTrue (is_writable s)
+        → ¬ BeginsWith bytes.now s) (λ p. IsTrue (is_writable p.0) × (bytes.now ≡ step_line p.0 ++ 10 ∷ p.1.now))) }
 {
     let Some((line, rest)) = cut_line(bytes) else {
         return Ok(None);
@@ -66,7 +68,8 @@ fn read_steps(alloc: Global, bytes: &[u8]) -> Result<Seq<Step>, Fault<Malformed>
 
 /// What follows the line `log 1`.
 fn after_first_line(bytes: &[u8]) -> Option<&[u8]>
-    ensures { MatchOption result ((rest : List ℕ) → ¬ (bytes.now ≡ first_line ++ rest)) (λ r. bytes.now ≡ first_line ++ r.now) }
+    ensures { MatchOption result ((rest : List ℕ) → ¬ (bytes.now ≡ first_line ++ rest)) (λ r. bytes.now ≡ first_line
+        ++ r.now) }
 {
     bytes.strip_prefix(b"log 1\n")
 }

@@ -69,7 +69,8 @@ fn is_listed(count: usize, lit: Lit) -> bool
 
 /// Whether a literal is of a listed atom, and isn't known to be true.
 fn is_free(known: &Known, lit: Lit) -> bool
-    ensures { result ≡ (is_listed (length known.now.marks.items) lit && not (marked known.now.step known.now.marks.items lit)) }
+    ensures { result ≡ (is_listed (length known.now.marks.items) lit
+        && not (marked known.now.step known.now.marks.items lit)) }
 {
     let listed = is_listed(known.marks.len(), lit);
     listed && !known.contains(lit)

@@ -74,7 +74,8 @@ fn write_hints(text: &mut String, hints: &[u64]) -> Result<(), AllocError>
 
 #[tactic(auto, using(crate::proofs::TextLaws::instance_written))]
 fn write_instance(text: &mut String, instance: &Instance) -> Result<(), AllocError>
-    ensures { OnOk result (string_bytes text.new ≡ string_bytes text.old ++ join_with_byte 32 ((116 ∷ []) ∷ instance_words instance.now)) }
+    ensures { OnOk result (string_bytes text.new ≡ string_bytes text.old
+        ++ join_with_byte 32 ((116 ∷ []) ∷ instance_words instance.now)) }
 {
     text.push_str("t ")?;
     text.push_str(instance.rule.as_str())?;
@@ -83,7 +84,8 @@ fn write_instance(text: &mut String, instance: &Instance) -> Result<(), AllocErr
 
 #[tactic(auto, using(crate::proofs::TextLaws::learned_written))]
 fn write_learned(text: &mut String, learned: &Learned) -> Result<(), AllocError>
-    ensures { OnOk result (string_bytes text.new ≡ string_bytes text.old ++ join_with_byte 32 ((108 ∷ []) ∷ learned_words learned.now)) }
+    ensures { OnOk result (string_bytes text.new ≡ string_bytes text.old
+        ++ join_with_byte 32 ((108 ∷ []) ∷ learned_words learned.now)) }
 {
     text.push_str("l")?;
     write_lits(text, learned.clause.as_slice())?;

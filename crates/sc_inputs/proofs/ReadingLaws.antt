@@ -4,7 +4,6 @@ use Rattle.std.proofs.Math.Path.{fun_ext}
 use Rattle.sc_lists.specs.declared.fault.Fault.{Fault}
 use Rattle.sc_lists.specs.declared.fault.Fault.TheVariants.{Told, NoMemory}
 use Rattle.sc_ast.specs.declared.policy.Policy.{Policy}
-use Rattle.sc_outside.specs.Counts.{Rose}
 use Rattle.sc_parser.specs.Spelling.{Spells}
 use Rattle.sc_question.specs.declared.question.Question.{Question}
 use Rattle.sc_schema.specs.Declarations.{Declarations}
@@ -37,15 +36,7 @@ policies_so content name side rose bytes told a h = subst (RefusesPolicies conte
 pub world_so : (content : Content) (name : List ℕ) (rose : Type 0) (bytes : List ℕ) → IsContent content name bytes → (a : spec.Refusal) → IsNoWorld bytes a → RefusesWorld content name rose a
 world_so content name rose bytes told a h = subst (RefusesWorld content name rose) (sym h.1) (world_faulty h.0 bytes told h.2)
 
--- ---- a count that rose later rose, and what files hold stays
-
--- a count that rose since it was read once rose since it was read before
-pub rose_before : (before mid now : ℕ) → before ≤ mid → Rose mid now → Rose before now
-rose_before before mid now h r = omega (arith, h, r)
-
--- a count that had risen has risen
-pub rose_after : (before mid now : ℕ) → mid ≤ now → Rose before mid → Rose before now
-rose_after before mid now h r = omega (arith, h, r)
+-- ---- a count that rose later rose
 
 module _ {risen rose : Type 0} (since : risen → rose) where
   pub file_rises : (content : Content) (name : List ℕ) (file : File) (a : spec.Refusal) → RefusesFile content name risen file a → RefusesFile content name rose file a

@@ -23,6 +23,7 @@ use Rattle.sc_inputs.specs.declared.inputs.Inputs.{Inputs}
 use Rattle.sc_inputs.specs.declared.inputs.Inputs.TheVariants.{Asked, Replayed}
 use Rattle.sc_inputs.specs.declared.inputs.Scene.{Scene}
 use Rattle.sc_inputs.specs.declared.refusal.Refusal.{Refusal}
+use Rattle.sc_inputs.specs.declared.refusal.Refusal.TheVariants.{ReadFault}
 
 -- ---- a command whose files are read
 
@@ -46,6 +47,16 @@ pub record ReadsWorld (content : spec.Content) (words : List (List ℕ)) (s : De
 abbrev pub FailsWith : (spec.Refusal → Type 0) → Fault Refusal → Type 0
 FailsWith P (Told r) = P (refusal_view r)
 FailsWith P NoMemory = ⊤
+
+-- a file couldn't be read
+abbrev pub IsReadFault : Fault Refusal → Type 0
+IsReadFault (Told (ReadFault file)) = ⊤
+IsReadFault _ = ⊥
+
+-- it is answered so
+abbrev pub IsUnread : {T : Type 0} → Result T (Fault Refusal) → Type 0
+IsUnread (Ok x) = ⊥
+IsUnread (Err fault) = IsReadFault fault
 
 -- a check for a fault: there is none, or it is refused, or memory runs out
 abbrev pub Checks : {F : Type 0} → Option F → (F → spec.Refusal) → Result (Unit {0}) (Fault Refusal) → Type 0

@@ -68,7 +68,8 @@ fn declared(
     policies: &PolicySet,
     against: Option<&PolicySet>,
 ) -> Result<(), Fault<Refusal>>
-    ensures { Checks (names_fault schema.now policies.now (option_map (λ ps. ps.now) against.entry)) (λ x. unknown_name x.0 x.1) result }
+    ensures { Checks (names_fault schema.now policies.now (option_map (λ ps. ps.now) against.entry))
+        (λ x. unknown_name x.0 x.1) result }
 {
     match check_declared(schema, policies, Side::Policies) {
         Ok(()) => match against {
@@ -86,7 +87,8 @@ fn typed(
     policies: &PolicySet,
     against: Option<&PolicySet>,
 ) -> Result<(), Fault<Refusal>>
-    ensures { Checks (types_fault schema.now policies.now (option_map (λ ps. ps.now) against.entry)) (λ x. ill_typed x.0 x.1) result }
+    ensures { Checks (types_fault schema.now policies.now (option_map (λ ps. ps.now) against.entry))
+        (λ x. ill_typed x.0 x.1) result }
 {
     match check_typed(alloc, schema, policies, Side::Policies) {
         Ok(()) => match against {
@@ -104,7 +106,8 @@ fn supported(
     policies: &PolicySet,
     against: Option<&PolicySet>,
 ) -> Result<(), Fault<Refusal>>
-    ensures { Checks (constructs_fault schema.now policies.now (option_map (λ ps. ps.now) against.entry)) (λ x. unsupported x.0 x.1) result }
+    ensures { Checks (constructs_fault schema.now policies.now (option_map (λ ps. ps.now) against.entry))
+        (λ x. unsupported x.0 x.1) result }
 {
     match check_constructs(alloc, schema, policies, Side::Policies) {
         Ok(()) => match against {
@@ -124,7 +127,8 @@ pub fn check_question(
     against: Option<&PolicySet>,
 ) -> Result<(), Fault<Refusal>>
     ensures ok { OnOk result (AreServed schema.now policies.now (option_map (λ ps. ps.now) against.entry)) }
-    ensures fails { IfErr result (FailsWith (RefusesQuestion schema.now policies.now (option_map (λ ps. ps.now) against.entry))) }
+    ensures fails { IfErr result (FailsWith (RefusesQuestion schema.now policies.now (option_map
+        (λ ps. ps.now) against.entry))) }
 {
     match declared(schema, policies, against) {
         Ok(()) => match typed(alloc, schema, policies, against) {

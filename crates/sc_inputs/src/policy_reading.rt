@@ -1,8 +1,8 @@
 //! Reads the policy files of a command.
-ghost use Rattle.std.specs.Prelude.{◌≡◌, ◌≤◌, ℕ, List, IfOk, IfErr, option_map};
+ghost use Rattle.std.specs.Prelude.{◌≡◌, ◌<◌, ◌≤◌, ℕ, List, IfOk, IfErr, option_map};
 ghost use Rattle.sc_outside.specs.Counts.{Rose};
 ghost use Rattle.sc_ast.specs.declared.policy.Policy.{Policy as AnyPolicy};
-ghost use Rattle.sc_inputs.specs.Readings.{FailsWith, RefusesSets};
+ghost use Rattle.sc_inputs.specs.Readings.{FailsWith, RefusesSets, IsUnread};
 ghost use Rattle.sc_inputs.specs.Refusals.{HasPolicies, HasAgainst, RefusesPolicies};
 ghost use Rattle.sc_inputs.specs.View.{side_view};
 
@@ -21,9 +21,11 @@ pub fn policies_of<F: Files>(
     side: Side,
 ) -> Result<PolicySet, Fault<Refusal>>
     ensures reads { IfOk result (λ policies. HasPolicies (F.content files.old) name.now policies) }
-    ensures fails { IfErr result (FailsWith (RefusesPolicies (F.content files.old) name.now (side_view side) (Rose (F.faults files.old) (F.faults files.new)))) }
+    ensures fails { IfErr result (FailsWith (RefusesPolicies (F.content files.old) name.now (side_view side) (Rose
+        (F.faults files.old) (F.faults files.new)))) }
     ensures keeps { (other : List ℕ) → F.content files.new other ≡ F.content files.old other }
     ensures later { F.faults files.old ≤ F.faults files.new }
+    ensures told { F.faults files.old < F.faults files.new → IsUnread result }
 {
     match content_of(alloc, files, name, FileName::Policies(side)) {
         Ok(bytes) => policies_in(alloc, &bytes, side),
@@ -38,8 +40,12 @@ fn others_of<F: Files>(
     name: Option<&str>,
 ) -> Result<Option<PolicySet>, Fault<Refusal>>
     ensures reads { IfOk result (HasAgainst (F.content files.old) (option_map (λ n. n.now) name.entry)) }
-    ensures fails { IfErr result (λ fault. (file : List ℕ) (ps : List AnyPolicy) → HasPolicies (F.content files.old) file ps → FailsWith (RefusesSets (F.content files.old) file (option_map (λ n. n.now) name.entry) (Rose (F.faults files.old) (F.faults files.new))) fault) }
+    ensures fails { IfErr result (λ fault. (file : List ℕ) (ps : List AnyPolicy)
+        → HasPolicies (F.content files.old) file ps
+        → FailsWith (RefusesSets (F.content files.old) file (option_map (λ n. n.now) name.entry) (Rose
+        (F.faults files.old) (F.faults files.new))) fault) }
     ensures later { F.faults files.old ≤ F.faults files.new }
+    ensures told { F.faults files.old < F.faults files.new → IsUnread result }
 {
     match name {
         None => Ok(None),
@@ -59,8 +65,10 @@ pub fn sets_of<F: Files>(
 ) -> Result<(PolicySet, Option<PolicySet>), Fault<Refusal>>
     ensures first { IfOk result (λ sets. HasPolicies (F.content files.old) policies.now sets.0) }
     ensures second { IfOk result (λ sets. HasAgainst (F.content files.old) (option_map (λ n. n.now) against.entry) sets.1) }
-    ensures fails { IfErr result (FailsWith (RefusesSets (F.content files.old) policies.now (option_map (λ n. n.now) against.entry) (Rose (F.faults files.old) (F.faults files.new)))) }
+    ensures fails { IfErr result (FailsWith (RefusesSets (F.content files.old) policies.now (option_map
+        (λ n. n.now) against.entry) (Rose (F.faults files.old) (F.faults files.new)))) }
     ensures later { F.faults files.old ≤ F.faults files.new }
+    ensures told { F.faults files.old < F.faults files.new → IsUnread result }
 {
     match policies_of(alloc, files, policies, Side::Policies) {
         Ok(policies) => match others_of(alloc, files, against) {

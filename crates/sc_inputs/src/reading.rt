@@ -1,9 +1,9 @@
 //! Reads what a command names.
-ghost use Rattle.std.specs.Prelude.{◌≡◌, ◌≤◌, ℕ, List, IfOk, IfErr, option_map};
+ghost use Rattle.std.specs.Prelude.{◌≡◌, ◌<◌, ◌≤◌, ℕ, List, IfOk, IfErr, option_map};
 ghost use Rattle.sc_outside.specs.Counts.{Rose};
 ghost use Rattle.sc_command.specs.CommandLine.{words_view};
 ghost use Rattle.sc_inputs.specs.Serving.{Serves, served_view};
-ghost use Rattle.sc_inputs.specs.Readings.{FailsWith, ReadsInputs, ReadsRest, RefusesAnalysis, IsRead};
+ghost use Rattle.sc_inputs.specs.Readings.{FailsWith, ReadsInputs, ReadsRest, RefusesAnalysis, IsRead, IsUnread};
 ghost use Rattle.sc_inputs.specs.Refusals.{AreServed, HasAgainst, HasPolicies, IsRefusal, ReadsSchema};
 
 use crate::checks::check_question;
@@ -31,8 +31,10 @@ fn checked_sets<F: Files>(
     ensures first { IfOk result (λ sets. HasPolicies (F.content files.old) policies.now sets.0) }
     ensures second { IfOk result (λ sets. HasAgainst (F.content files.old) (option_map (λ n. n.now) against.entry) sets.1) }
     ensures served { IfOk result (λ sets. AreServed schema.now sets.0 sets.1) }
-    ensures fails { IfErr result (FailsWith (RefusesAnalysis (F.content files.old) policies.now (option_map (λ n. n.now) against.entry) (Rose (F.faults files.old) (F.faults files.new)) schema.now)) }
+    ensures fails { IfErr result (FailsWith (RefusesAnalysis (F.content files.old) policies.now (option_map
+        (λ n. n.now) against.entry) (Rose (F.faults files.old) (F.faults files.new)) schema.now)) }
     ensures later { F.faults files.old ≤ F.faults files.new }
+    ensures told { F.faults files.old < F.faults files.new → IsUnread result }
 {
     match sets_of(alloc, files, policies, against) {
         Ok((policies, others)) => match check_question(alloc, schema, &policies, others.as_ref()) {
@@ -59,8 +61,10 @@ fn analysis_of<F: Files>(
     ensures first { IfOk result (λ i. HasPolicies (F.content files.old) command.now.policies.now i.policies) }
     ensures second { IfOk result (λ i. HasAgainst (F.content files.old) (option_map (λ n. n.now) against.entry) i.against) }
     ensures served { IfOk result (λ i. AreServed schema i.policies i.against) }
-    ensures fails { IfErr result (FailsWith (RefusesAnalysis (F.content files.old) command.now.policies.now (option_map (λ n. n.now) against.entry) (Rose (F.faults files.old) (F.faults files.new)) schema)) }
+    ensures fails { IfErr result (FailsWith (RefusesAnalysis (F.content files.old) command.now.policies.now (option_map
+        (λ n. n.now) against.entry) (Rose (F.faults files.old) (F.faults files.new)) schema)) }
     ensures later { F.faults files.old ≤ F.faults files.new }
+    ensures told { F.faults files.old < F.faults files.new → IsUnread result }
 {
     match checked_sets(alloc, files, command.policies, against, &schema) {
         Ok((policies, others)) => Ok(Analysis {
@@ -82,8 +86,11 @@ fn with_schema<F: Files>(
     schema: Schema,
 ) -> Result<Inputs, Fault<Refusal>>
     ensures reads { IfOk result (ReadsRest (F.content files.old) (served_view command.now) schema) }
-    ensures fails { IfErr result (λ fault. (words : List (List ℕ)) → Serves words (served_view command.now) → ReadsSchema (F.content files.old) (served_view command.now) schema → FailsWith (IsRefusal (F.content files.old) words (Rose (F.faults files.old) (F.faults files.new))) fault) }
+    ensures fails { IfErr result (λ fault. (words : List (List ℕ)) → Serves words (served_view command.now)
+        → ReadsSchema (F.content files.old) (served_view command.now) schema
+        → FailsWith (IsRefusal (F.content files.old) words (Rose (F.faults files.old) (F.faults files.new))) fault) }
     ensures later { F.faults files.old ≤ F.faults files.new }
+    ensures told { F.faults files.old < F.faults files.new → IsUnread result }
 {
     match command.task {
         Task::Ask(question, against, budget) => {
@@ -106,8 +113,10 @@ fn with_command<F: Files>(
     command: &Served<'_>,
 ) -> Result<Inputs, Fault<Refusal>>
     ensures reads { IfOk result (ReadsInputs (F.content files.old) (served_view command.now)) }
-    ensures fails { IfErr result (λ fault. (words : List (List ℕ)) → Serves words (served_view command.now) → FailsWith (IsRefusal (F.content files.old) words (Rose (F.faults files.old) (F.faults files.new))) fault) }
+    ensures fails { IfErr result (λ fault. (words : List (List ℕ)) → Serves words (served_view command.now)
+        → FailsWith (IsRefusal (F.content files.old) words (Rose (F.faults files.old) (F.faults files.new))) fault) }
     ensures later { F.faults files.old ≤ F.faults files.new }
+    ensures told { F.faults files.old < F.faults files.new → IsUnread result }
 {
     match content_of(alloc, files, command.schema, FileName::Schema) {
         Ok(bytes) => match schema_in(alloc, &bytes) {
@@ -125,8 +134,10 @@ pub fn inputs_of<F: Files>(
     files: &mut F,
 ) -> Result<Inputs, Fault<Refusal>>
     ensures reads { IfOk result (IsRead (F.content files.old) (words_view words.now)) }
-    ensures fails { IfErr result (FailsWith (IsRefusal (F.content files.old) (words_view words.now) (Rose (F.faults files.old) (F.faults files.new)))) }
+    ensures fails { IfErr result (FailsWith (IsRefusal (F.content files.old) (words_view words.now) (Rose
+        (F.faults files.old) (F.faults files.new)))) }
     ensures later { F.faults files.old ≤ F.faults files.new }
+    ensures told { F.faults files.old < F.faults files.new → IsUnread result }
 {
     match served_by(alloc, words) {
         Ok(Some(command)) => with_command(alloc, files, &command),

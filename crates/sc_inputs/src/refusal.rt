@@ -102,7 +102,8 @@ fn put_error(out: &mut Vec<u8>, number: &[u8], file: FileName) -> Result<(), All
 }
 
 fn put_schema_text(alloc: Global, out: &mut Vec<u8>, fault: &SchemaFault) -> Result<(), AllocError>
-    ensures { OnOk result (out.new.items ≡ out.old.items ++ (codes "error 12 " ++ schema_fault_text fault.now ++ codes "\n")) }
+    ensures { OnOk result (out.new.items ≡ out.old.items
+        ++ (codes "error 12 " ++ schema_fault_text fault.now ++ codes "\n")) }
 {
     put(out, b"error 12 ")?;
     put_schema_fault(alloc, out, fault)?;
@@ -110,7 +111,8 @@ fn put_schema_text(alloc: Global, out: &mut Vec<u8>, fault: &SchemaFault) -> Res
 }
 
 fn put_world_text(alloc: Global, out: &mut Vec<u8>, fault: &WorldFault) -> Result<(), AllocError>
-    ensures { OnOk result (out.new.items ≡ out.old.items ++ (codes "error 17 " ++ world_fault_text fault.now ++ codes "\n")) }
+    ensures { OnOk result (out.new.items ≡ out.old.items
+        ++ (codes "error 17 " ++ world_fault_text fault.now ++ codes "\n")) }
 {
     put(out, b"error 17 ")?;
     put_world_fault(alloc, out, fault)?;
@@ -127,7 +129,8 @@ fn put_side(out: &mut Vec<u8>, number: &[u8], side: Side) -> Result<(), AllocErr
 }
 
 fn put_policy_text(out: &mut Vec<u8>, side: Side, fault: PolicyFault) -> Result<(), AllocError>
-    ensures { OnOk result (out.new.items ≡ out.old.items ++ on_side (codes "error 11 ") (side_view side) (fault_text fault)) }
+    ensures { OnOk result (out.new.items ≡ out.old.items
+        ++ on_side (codes "error 11 ") (side_view side) (fault_text fault)) }
 {
     put_side(out, b"error 11 ", side)?;
     put_fault(out, fault)?;
@@ -135,7 +138,8 @@ fn put_policy_text(out: &mut Vec<u8>, side: Side, fault: PolicyFault) -> Result<
 }
 
 fn put_unknown_name(out: &mut Vec<u8>, side: Side, fault: &NameFault) -> Result<(), AllocError>
-    ensures { OnOk result (out.new.items ≡ out.old.items ++ on_side (codes "error 13 ") (side_view side) (name_fault_text fault.now)) }
+    ensures { OnOk result (out.new.items ≡ out.old.items
+        ++ on_side (codes "error 13 ") (side_view side) (name_fault_text fault.now)) }
 {
     put_side(out, b"error 13 ", side)?;
     put_name_fault(out, fault)?;
@@ -148,7 +152,8 @@ fn put_ill_typed(
     side: Side,
     fault: &IllTyped,
 ) -> Result<(), AllocError>
-    ensures { OnOk result (out.new.items ≡ out.old.items ++ on_side (codes "error 13 ") (side_view side) (type_fault_text fault.now)) }
+    ensures { OnOk result (out.new.items ≡ out.old.items
+        ++ on_side (codes "error 13 ") (side_view side) (type_fault_text fault.now)) }
 {
     put_side(out, b"error 13 ", side)?;
     put_type_fault(alloc, out, fault)?;
@@ -156,7 +161,8 @@ fn put_ill_typed(
 }
 
 fn put_unsupported(out: &mut Vec<u8>, side: Side, found: Unsupported) -> Result<(), AllocError>
-    ensures { OnOk result (out.new.items ≡ out.old.items ++ on_side (codes "error 15 ") (side_view side) (construct_text found)) }
+    ensures { OnOk result (out.new.items ≡ out.old.items
+        ++ on_side (codes "error 15 ") (side_view side) (construct_text found)) }
 {
     put_side(out, b"error 15 ", side)?;
     put_construct(out, found)?;

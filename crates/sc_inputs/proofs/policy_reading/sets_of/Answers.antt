@@ -2,7 +2,8 @@ use Rattle.std.proofs.Common.{option_map, Bor, List, ℕ}
 use Rattle.sc_outside.specs.Counts.{Rose}
 use Rattle.sc_inputs.specs.Readings.{RefusesSets, by_first}
 use Rattle.sc_inputs.specs.Refusals.{RefusesPolicies, policies_side}
-use Rattle.sc_inputs.proofs.ReadingLaws.{sets_later, against_later, rose_before, fails_so}
+use Rattle.sc_outside.proofs.CountLaws.{rose_before, stands, told_later}
+use Rattle.sc_inputs.proofs.ReadingLaws.{sets_later, against_later, fails_so}
 use Rattle.sc_inputs.proofs.policy_reading.sets_of.Goals as goal
 
 pub returns-in-Ok-others_of-clause-second : goal.returns-in-Ok-others_of-clause-second
@@ -20,3 +21,13 @@ returns-in-Err-clause-fails g c =
     let content = g.F.Files.content c.args.files.now in
     let rose = Rose (g.F.Files.faults c.args.files.now) (g.F.Files.faults c.policies_of.new.files) in
     fails_so (RefusesPolicies content c.args.policies.now policies_side rose) (RefusesSets content c.args.policies.now (option_map (λ (n : Bor (List ℕ)). n.now) c.args.against) rose) (λ a h. by_first a h) c.in-Err.fault c.in-Err.ensures.fails
+
+pub returns-in-Ok-others_of-clause-told : goal.returns-in-Ok-others_of-clause-told
+returns-in-Ok-others_of-clause-told g c =
+    told_later (g.F.Files.faults c.args.files.now) (g.F.Files.faults c.policies_of.new.files) (g.F.Files.faults c.others_of.new.files)
+    (stands (g.F.Files.faults c.args.files.now) (g.F.Files.faults c.policies_of.new.files) c.in-Ok.ensures.later c.in-Ok.ensures.told) c.in-Ok-others_of.ensures.told
+
+pub returns-in-Err-others_of-clause-told : goal.returns-in-Err-others_of-clause-told
+returns-in-Err-others_of-clause-told g c =
+    told_later (g.F.Files.faults c.args.files.now) (g.F.Files.faults c.policies_of.new.files) (g.F.Files.faults c.others_of.new.files)
+    (stands (g.F.Files.faults c.args.files.now) (g.F.Files.faults c.policies_of.new.files) c.in-Ok.ensures.later c.in-Ok.ensures.told) c.in-Err-others_of.ensures.told

@@ -4,7 +4,8 @@ use Rattle.sc_schema_json.specs.Spelling.{Spells}
 use Rattle.sc_inputs.specs.Readings.{FailsWith, IsNoSchema}
 use Rattle.sc_inputs.specs.Refusals.{IsRefusal, of_schema, RefusesFile, schema_file, schema_unread}
 use Rattle.sc_inputs.specs.Serving.{served_view}
-use Rattle.sc_inputs.proofs.ReadingLaws.{inputs_later, rest_fails, rose_before, schema_so, fails_so}
+use Rattle.sc_outside.proofs.CountLaws.{rose_before, stands, told_later}
+use Rattle.sc_inputs.proofs.ReadingLaws.{inputs_later, rest_fails, schema_so, fails_so}
 use Rattle.sc_inputs.proofs.reading.with_command.Goals as goal
 
 pub returns-in-Ok-schema_in-clause-reads : goal.returns-in-Ok-schema_in-clause-reads
@@ -41,3 +42,12 @@ returns-clause-fails g c =
     let content = g.F.Files.content c.args.files.now in
     let rose = Rose (g.F.Files.faults c.args.files.now) (g.F.Files.faults c.content_of.new.files) in
     fails_so (RefusesFile content c.args.command.now.schema.now rose schema_file) (IsRefusal content words rose) (λ a h. of_schema a (served_view c.args.command.now) serves (schema_unread a h)) c.in-Err.fault c.in-Err.ensures.fails
+
+pub returns-in-Ok-schema_in-clause-told : goal.returns-in-Ok-schema_in-clause-told
+returns-in-Ok-schema_in-clause-told g c =
+    told_later (g.F.Files.faults c.args.files.now) (g.F.Files.faults c.content_of.new.files) (g.F.Files.faults c.with_schema.new.files)
+    (stands (g.F.Files.faults c.args.files.now) (g.F.Files.faults c.content_of.new.files) c.in-Ok.ensures.later c.in-Ok.ensures.told) c.with_schema.ensures.told
+
+pub returns-in-Ok-clause-told : goal.returns-in-Ok-clause-told
+returns-in-Ok-clause-told g c =
+    λ up. absurd (c.in-Ok.ensures.told up)

@@ -1,7 +1,8 @@
 use Rattle.sc_outside.specs.Counts.{Rose}
 use Rattle.sc_inputs.specs.Readings.{RefusesScene, by_policies}
 use Rattle.sc_inputs.specs.Refusals.{RefusesPolicies, policies_side}
-use Rattle.sc_inputs.proofs.ReadingLaws.{scene_later, world_later, rose_before, fails_so}
+use Rattle.sc_outside.proofs.CountLaws.{rose_before, stands, told_later}
+use Rattle.sc_inputs.proofs.ReadingLaws.{scene_later, world_later, fails_so}
 use Rattle.sc_inputs.proofs.world_reading.parts_of.Goals as goal
 
 pub returns-in-Ok-world_for-clause-world : goal.returns-in-Ok-world_for-clause-world
@@ -20,3 +21,13 @@ returns-in-Err-clause-fails g c =
     let rose = Rose (g.F.Files.faults c.args.files.now) (g.F.Files.faults c.policies_of.new.files) in
     fails_so (RefusesPolicies content c.args.policies.now policies_side rose) (RefusesScene content c.args.policies.now c.args.world.now rose c.args.schema.now) (λ a h. by_policies a h)
     c.in-Err.fault c.in-Err.ensures.fails
+
+pub returns-in-Ok-world_for-clause-told : goal.returns-in-Ok-world_for-clause-told
+returns-in-Ok-world_for-clause-told g c =
+    told_later (g.F.Files.faults c.args.files.now) (g.F.Files.faults c.policies_of.new.files) (g.F.Files.faults c.world_for.new.files)
+    (stands (g.F.Files.faults c.args.files.now) (g.F.Files.faults c.policies_of.new.files) c.in-Ok.ensures.later c.in-Ok.ensures.told) c.in-Ok-world_for.ensures.told
+
+pub returns-in-Err-world_for-clause-told : goal.returns-in-Err-world_for-clause-told
+returns-in-Err-world_for-clause-told g c =
+    told_later (g.F.Files.faults c.args.files.now) (g.F.Files.faults c.policies_of.new.files) (g.F.Files.faults c.world_for.new.files)
+    (stands (g.F.Files.faults c.args.files.now) (g.F.Files.faults c.policies_of.new.files) c.in-Ok.ensures.later c.in-Ok.ensures.told) c.in-Err-world_for.ensures.told

@@ -1,6 +1,0 @@
-pub mod Reports
-pub mod Progress
-pub mod Replays
-pub mod Runs
-pub mod View
-pub mod Analyses

@@ -1,0 +1,512 @@
+-- What a run's end tells.
+use Rattle.std.proofs.Common.{◌≡◌, ◌≤◌, ◌<◌, ◌==◌, ◌||◌, ◌↔◌, ◌++◌, ℕ, zero, suc, List, [], ◌∷◌, map, Bool, true, false, Option, Some, None, Contains, refl, sym, ap, ◌∙◌, subst, arith, ⊎_elim, inl, inr, ◌⊎◌}
+use Rattle.std.specs.Bool.{⊤}
+use Rattle.std.specs.List.{AllByRecursion}
+use Rattle.std.proofs.lemmas.Bool.{or_cases}
+use Rattle.sc_lists.proofs.BoolLaws.{or_first, or_second}
+use Rattle.sc_replay.specs.Reports as outcome
+use Rattle.sc_schema.specs.declared.declarations.Env.{Env}
+use Rattle.sc_schema.specs.Declarations.{Declarations, environments}
+use Rattle.sc_ast.specs.Literals.{literals}
+use Rattle.sc_ast.specs.declared.policy.Policy.{Policy}
+use Rattle.sc_clauses.specs.declared.step.Step.{Step}
+use Rattle.sc_names.specs.declared.uid.Uid.{Uid}
+use Rattle.sc_question.specs.declared.question.Question.{Question}
+use Rattle.sc_world.specs.declared.world.World.{World}
+use Rattle.sc_world.specs.Stores.{IsMap}
+use Rattle.sc_world.specs.WellFormed.{IsWellFormed}
+use Rattle.sc_world_breaks.specs.Breaks.{IsFirstBreak}
+use Rattle.sc_world_breaks.specs.declared.breaks.Break.{Break}
+use Rattle.sc_world_json.specs.Reading as world
+use Rattle.sc_inputs.specs.Serving.{Command, Serves}
+use Rattle.sc_inputs.proofs.ServingLaws.{same_task, not_both_tasks}
+use Rattle.sc_inputs.specs.Readings.{ReadsAll, ReadsWorld, IsReadFault}
+use Rattle.sc_inputs.specs.View.{refusal_view}
+use Rattle.sc_inputs.specs.declared.refusal.Refusal as answer
+use Rattle.sc_inputs.specs.declared.refusal.Refusal.TheVariants as refusal
+use Rattle.sc_lists.specs.declared.fault.Fault.TheVariants.{Told}
+use Rattle.sc_inputs.specs.Refusals.{Refusal, Side, policies_side, against_side, usage, schema_text, policy_text, world_text, unknown_name, ill_typed, unsupported, read_fault, too_long, IsRefusal, no_command, of_schema, of_policies, of_against, of_world, of_names, of_question, RefusesQuestion, unread, long, RefusesSchema, schema_unread, schema_faulty, RefusesPolicies, policies_unread, RefusesWorld, world_unread, world_faulty, code_of, ReadsSchema, ReachesQuestion, ReachesWorld}
+use Rattle.sc_inputs.specs.Refusals as spec
+use Rattle.sc_run.specs.Progress.{Reported, whole, cut, cut_none, stopped}
+use Rattle.sc_run.specs.Replays.{Replayed, told_whole, told_front, told_first, untold}
+use Rattle.sc_outside.specs.Writes.{appended}
+use Rattle.sc_run.specs.Reports.{Asked, IsReport, report_text, Line, Verdict, holds, counterexample, unknown, over_limit, IsLine, AlwaysHas, Violates, IsUndecided, is_counterexample, is_open, has_counterexample, has_open, status_by, status_of, log_of, logs_of}
+use Rattle.sc_run.specs.Runs.{Run, HasRisen, Ends, refused, refusal_cut, reported, replayed, no_memory, asked, scene, Refuses, MustBe, Reports, AllHold, Tells, IsWell, AllWell, AsksQuestion, ReplaysWorld, SomeFails, SomeOpen, IsLogged, IsBroken, ReachesAgainst, TooLong, schema_long, policies_long, against_long, world_long, IsUnsupported, IsFaulty, policies_faulty, against_faulty, IsFaultySchema, IsFaultyWorld, IsUntyped, undeclared, untyped}
+
+pub refusal-ends : (r : Run) (spent : List (List Step)) (a : Refusal) (n : ℕ) → IsRefusal r.content r.words (HasRisen r.reads) a → Refuses a r.before r.after (HasRisen r.writes) n → r.code ≡ n → spent ≡ [] → Ends r spent
+refusal-ends r spent a n h e is none =
+    ⊎_elim (λ w. refused a h (is ∙ w.0) w.1 none) (λ s. ⊎_elim (λ f. refusal_cut a f.2.0 h f.0 (is ∙ f.1) f.2.1 none) (λ m. no_memory (is ∙ m.0) m.1 none) s) e
+
+pub replay-ends : (r : Run) (spent : List (List Step)) (s : Declarations) (ps : List Policy) (w : World) (n : ℕ) → ReadsWorld r.content r.words s ps w → Replayed (scene s ps w) r.before r.after (HasRisen r.writes) n → r.code ≡ n → spent ≡ [] → Ends r spent
+replay-ends r spent s ps w n reads h is none = replayed s ps w reads (subst (λ (k : ℕ). Replayed (scene s ps w) r.before r.after (HasRisen r.writes) k) (sym is) h) none
+
+-- a refusal ends with its status, unless the write failed or memory ran out
+pub refused-must : (a : Refusal) (old new : Option (List ℕ)) (rose : Type 0) (n : ℕ) → Refuses a old new rose n → MustBe (code_of a) n
+refused-must a old new rose n h = ⊎_elim (λ w. inl w.0) (λ s. ⊎_elim (λ f. inr (inl f.1)) (λ m. inr (inr m.0)) s) h
+
+-- the status of a file that couldn't be read
+unread-code : (r : answer.Refusal) → IsReadFault (Told r) → code_of (refusal_view r) ≡ 20
+unread-code refusal.Usage h = absurd h
+unread-code (refusal.SchemaText f) h = absurd h
+unread-code (refusal.PolicyText s f) h = absurd h
+unread-code (refusal.WorldText f) h = absurd h
+unread-code (refusal.UnknownName s f) h = absurd h
+unread-code (refusal.IllTyped s f) h = absurd h
+unread-code (refusal.Unsupported s f) h = absurd h
+unread-code (refusal.ReadFault f) h = refl
+unread-code (refusal.TooLong f) h = absurd h
+
+pub unread-must : (r : answer.Refusal) (old new : Option (List ℕ)) (rose : Type 0) (n code : ℕ) → IsReadFault (Told r) → Refuses (refusal_view r) old new rose n → code ≡ n → MustBe 20 code
+unread-must r old new rose n code h refuses is =
+    subst (λ (k : ℕ). MustBe 20 k) (sym is) (subst (λ (k : ℕ). MustBe k n) (unread-code r h) (refused-must (refusal_view r) old new rose n refuses))
+
+-- ---- statuses
+
+none-found : (a b : Bool) → status_by a b ≡ 0 → (a ≡ false) × (b ≡ false)
+none-found true b e = absurd (omega arith)
+none-found false true e = absurd (omega arith)
+none-found false false e = (refl, refl)
+
+some-found : (a b : Bool) → status_by a b ≡ 1 → a ≡ true
+some-found true b e = refl
+some-found false true e = absurd (omega arith)
+some-found false false e = absurd (omega arith)
+
+open-found : (a b : Bool) → status_by a b ≡ 2 → (a ≡ false) × (b ≡ true)
+open-found true b e = absurd (omega arith)
+open-found false true e = (refl, refl)
+open-found false false e = absurd (omega arith)
+
+status-three : (a b : Bool) → status_by a b ≤ 2
+status-three true b = omega arith
+status-three false true = omega arith
+status-three false false = omega arith
+
+-- a whole report ends with 0, 1 or 2
+pub status-code : (lines : List Line) (code : ℕ) → code ≡ status_of lines → code ≤ 2
+status-code lines code c = let most = status-three (has_counterexample lines) (has_open lines) in omega (arith, c, most)
+
+-- the status of a refusal is none of those that a report ends with
+record IsOfRefusal (n : ℕ) : Type 0 where
+  pub least : 10 ≤ n
+  pub most : n < 30
+  pub no_write : n ≡ 21 → ⊥
+
+refusal-code : (a : Refusal) → IsOfRefusal (code_of a)
+refusal-code usage = record { least = omega arith; most = omega arith; no_write = λ e. absurd (omega (arith, e)) }
+refusal-code (schema_text f) = record { least = omega arith; most = omega arith; no_write = λ e. absurd (omega (arith, e)) }
+refusal-code (policy_text side f) = record { least = omega arith; most = omega arith; no_write = λ e. absurd (omega (arith, e)) }
+refusal-code (world_text f) = record { least = omega arith; most = omega arith; no_write = λ e. absurd (omega (arith, e)) }
+refusal-code (unknown_name side f) = record { least = omega arith; most = omega arith; no_write = λ e. absurd (omega (arith, e)) }
+refusal-code (ill_typed side f) = record { least = omega arith; most = omega arith; no_write = λ e. absurd (omega (arith, e)) }
+refusal-code (unsupported side u) = record { least = omega arith; most = omega arith; no_write = λ e. absurd (omega (arith, e)) }
+refusal-code (read_fault f) = record { least = omega arith; most = omega arith; no_write = λ e. absurd (omega (arith, e)) }
+refusal-code (too_long f) = record { least = omega arith; most = omega arith; no_write = λ e. absurd (omega (arith, e)) }
+
+-- ---- whole reports
+
+line-holds : (q : Asked) (env : Env) (v : Verdict) → is_counterexample v ≡ false → is_open v ≡ false → IsLine q (record { env = env; verdict = v }) → AlwaysHas q env
+line-holds q env holds e o t = t.0
+line-holds q env (counterexample w) e o t = absurd cc
+line-holds q env (unknown units log) e o t = absurd cc
+line-holds q env over_limit e o t = absurd cc
+
+lines-hold : (q : Asked) (lines : List Line) → has_counterexample lines ≡ false → has_open lines ≡ false → AllByRecursion (IsLine q) lines → (env : Env) → Contains (map (λ (l : Line). l.env) lines) env → AlwaysHas q env
+lines-hold q [] e o t env (k, h, s) = absurd (omega arith)
+lines-hold q (l ∷ lines) e o t env (zero, h, s) = subst (AlwaysHas q) s (line-holds q l.env l.verdict (or_first _ _ e) (or_first _ _ o) t.0)
+lines-hold q (l ∷ lines) e o t env (suc k, h, s) =
+    lines-hold q lines (or_second (is_counterexample l.verdict) _ e) (or_second (is_open l.verdict) _ o) t.1 env (k, omega arith, s)
+
+record Printed (q : Asked) (lines : List Line) : Type 0 where
+  pub env : Env
+  pub world : World
+  pub printed : Contains lines (record { env = env; verdict = counterexample world })
+  pub violates : Violates q env world
+
+line-fails : (q : Asked) (l : Line) (lines : List Line) (v : Verdict) → l.verdict ≡ v → is_counterexample v ≡ true → IsLine q l → Printed q (l ∷ lines)
+line-fails q l lines holds s e t = absurd cc
+line-fails q l lines (unknown units log) s e t = absurd cc
+line-fails q l lines over_limit s e t = absurd cc
+line-fails q l lines (counterexample w) s e t =
+    let with_verdict : Verdict → Line = λ v. record { env = l.env; verdict = v } in
+    let same : l ≡ record { env = l.env; verdict = counterexample w } = ap with_verdict s in
+    record { env = l.env; world = w; printed = (0, omega arith, same); violates = (subst (IsLine q) same t).0 }
+
+printed-later : (q : Asked) (l : Line) (lines : List Line) → Printed q lines → Printed q (l ∷ lines)
+printed-later q l lines p = record { env = p.env; world = p.world; printed = (suc p.printed.0, omega (arith, p.printed.1), p.printed.2); violates = p.violates }
+
+lines-fail : (q : Asked) (lines : List Line) → has_counterexample lines ≡ true → AllByRecursion (IsLine q) lines → Printed q lines
+lines-fail q [] e t = absurd cc
+lines-fail q (l ∷ lines) e t =
+    ⊎_elim (λ (h : is_counterexample l.verdict ≡ true). line-fails q l lines l.verdict refl h t.0) (λ h. printed-later q l lines (lines-fail q lines h t.1)) (or_cases (is_counterexample l.verdict) (has_counterexample lines) e)
+
+-- ---- the logs of a report
+
+-- a log of the budget's units, of the problem of one of these environments
+record Logged (q : Asked) (envs : List Env) (log : List Step) : Type 0 where
+  pub env : Env
+  pub listed : Contains envs env
+  pub undecided : IsUndecided q env q.budget log
+
+abbrev envs_of : List Line → List Env
+envs_of lines = map (λ (l : Line). l.env) lines
+
+logged-later : (q : Asked) (l : Line) (lines : List Line) (log : List Step) → Logged q (envs_of lines) log → Logged q (envs_of (l ∷ lines)) log
+logged-later q l lines log x = record { env = x.env; listed = (suc x.listed.0, omega (arith, x.listed.1), x.listed.2); undecided = x.undecided }
+
+logged-here : (q : Asked) (l : Line) (lines : List Line) (v : Verdict) (log : List Step) → l.verdict ≡ v → IsLine q l → Contains (log_of v ++ logs_of lines) log → (Contains (logs_of lines) log → Logged q (envs_of lines) log)
+    → Logged q (envs_of (l ∷ lines)) log
+logged-here q l lines holds log at t among later = logged-later q l lines log (later among)
+logged-here q l lines (counterexample w) log at t among later = logged-later q l lines log (later among)
+logged-here q l lines over_limit log at t among later = logged-later q l lines log (later among)
+logged-here q l lines (unknown units first) log at t (zero, h, is) later =
+    let with_verdict : Verdict → Line = λ v. record { env = l.env; verdict = v } in
+    let same : l ≡ record { env = l.env; verdict = unknown units first } = ap with_verdict at in
+    let claim = subst (IsLine q) same t in
+    record { env = l.env; listed = (0, omega arith, refl); undecided = subst (IsUndecided q l.env q.budget) is (subst (λ n. IsUndecided q l.env n first) claim.0 claim.1) }
+logged-here q l lines (unknown units first) log at t (suc k, h, is) later = logged-later q l lines log (later (k, omega arith, is))
+
+logged-in : (q : Asked) (lines : List Line) (log : List Step) → AllByRecursion (IsLine q) lines → Contains (logs_of lines) log → Logged q (envs_of lines) log
+logged-in q [] log t (k, h, is) = absurd (omega arith)
+logged-in q (l ∷ lines) log t among = logged-here q l lines l.verdict log refl t.0 among (λ later. logged-in q lines log t.1 later)
+
+front-true : (q : Asked) (lines more : List Line) → AllByRecursion (IsLine q) (lines ++ more) → AllByRecursion (IsLine q) lines
+front-true q [] more t = tt
+front-true q (l ∷ lines) more t = (t.0, front-true q lines more t.1)
+
+front-listed : (es rest : List Env) (env : Env) → Contains es env → Contains (es ++ rest) env
+front-listed [] rest env (k, h, is) = absurd (omega arith)
+front-listed (e ∷ es) rest env (zero, h, is) = (0, omega arith, is)
+front-listed (e ∷ es) rest env (suc k, h, is) = let later = front-listed es rest env (k, omega arith, is) in (suc later.0, omega (arith, later.1), later.2)
+
+envs-front : (lines more : List Line) → envs_of (lines ++ more) ≡ envs_of lines ++ envs_of more
+envs-front [] more = refl
+envs-front (l ∷ lines) more = ap (λ es. l.env ∷ es) (envs-front lines more)
+
+logged-among : (q : Asked) (es envs : List Env) (log : List Step) → es ≡ envs → Logged q es log → Logged q envs log
+logged-among q es envs log is x = subst (λ us. Logged q us log) is x
+
+logged-before : (q : Asked) (es rest envs : List Env) (log : List Step) → es ++ rest ≡ envs → Logged q es log → Logged q envs log
+logged-before q es rest envs log is x = logged-among q (es ++ rest) envs log is (record { env = x.env; listed = front-listed es rest x.env x.listed; undecided = x.undecided })
+
+among-logs : (q : Asked) (lines : List Line) (spent : List (List Step)) (log : List Step) → spent ≡ logs_of lines → AllByRecursion (IsLine q) lines → Contains spent log → Logged q (envs_of lines) log
+among-logs q lines spent log is t among = logged-in q lines log t (subst (λ logs. Contains logs log) is among)
+
+none-spent : (spent : List (List Step)) (log : List Step) → spent ≡ [] → Contains spent log → ⊥
+none-spent spent log is among = let none = subst (λ logs. Contains logs log) is among in omega (arith, none.1)
+
+logged-reported : (q : Asked) (old new : Option (List ℕ)) (rose : Type 0) (code : ℕ) (spent : List (List Step)) (log : List Step) → Reported q old new rose code spent → Contains spent log → Logged q (environments q.schema) log
+logged-reported q old new rose code spent log (whole lines report c text logs) among = logged-among q (envs_of lines) (environments q.schema) log report.in_order (among-logs q lines spent log logs report.lines_true among)
+logged-reported q old new rose code spent log (cut lines next n front risen c text logs) among =
+    let here = among-logs q lines spent log logs (front-true q lines (next ∷ []) front.lines_true) among in
+    logged-before q (envs_of (lines ++ next ∷ [])) front.rest (environments q.schema) log front.in_order
+    (logged-before q (envs_of lines) (envs_of (next ∷ [])) (envs_of (lines ++ next ∷ [])) log (sym (envs-front lines (next ∷ []))) here)
+logged-reported q old new rose code spent log (cut_none n none risen c text logs) among = absurd (none-spent spent log logs among)
+logged-reported q old new rose code spent log (stopped lines front c text logs) among =
+    logged-before q (envs_of lines) front.rest (environments q.schema) log front.in_order (among-logs q lines spent log logs front.lines_true among)
+
+-- each log is of an environment of the question
+pub logged : (r : Run) (spent : List (List Step)) → Ends r spent → (log : List Step) → Contains spent log → IsLogged r log
+logged r spent (refused a h c t none) log among = absurd (none-spent spent log none among)
+logged r spent (refusal_cut a n h rose c t none) log among = absurd (none-spent spent log none among)
+logged r spent (reported s question first against budget reads report) log among =
+    let x = logged-reported (asked s question first against budget) r.before r.after (HasRisen r.writes) r.code spent log report among in
+    record { schema = s; question = question; first = first; against = against; budget = budget; reads = reads; env = x.env; listed = x.listed; undecided = x.undecided }
+logged r spent (replayed s ps w reads report none) log among = absurd (none-spent spent log none among)
+logged r spent (no_memory c t none) log among = absurd (none-spent spent log none among)
+
+-- ---- what a status of a report tells
+
+-- nothing keeps a world from being well-formed exactly where it is well-formed
+abbrev pub Nowhere : Type 0
+Nowhere = (s : Declarations) (us : List Uid) (w : World) → IsMap w.store → IsFirstBreak s us w None ↔ ((env : Env) × Contains (environments s) env × IsWellFormed s env us w)
+
+-- in a world that bytes spell each uid is stored once
+abbrev pub Stored : Type 0
+Stored = (bytes : List ℕ) (w : World) → world.SpellsWorld bytes w → IsMap w.store
+
+-- with a status below 10 a report is whole
+record Whole (q : Asked) (old new : Option (List ℕ)) (code : ℕ) : Type 0 where
+  pub lines : List Line
+  pub report : IsReport q (environments q.schema) lines
+  pub is : code ≡ status_of lines
+  pub text : new ≡ appended old (report_text lines)
+
+whole-reported : (q : Asked) (old new : Option (List ℕ)) (rose : Type 0) (code : ℕ) (spent : List (List Step)) → Reported q old new rose code spent → code < 10 → Whole q old new code
+whole-reported q old new rose code spent (whole lines report c text logs) e = record { lines = lines; report = report; is = c; text = text }
+whole-reported q old new rose code spent (cut lines next n front risen c text logs) e = absurd (omega (arith, c, e))
+whole-reported q old new rose code spent (cut_none n none risen c text logs) e = absurd (omega (arith, c, e))
+whole-reported q old new rose code spent (stopped lines front c text logs) e = absurd (omega (arith, c, e))
+
+module _ (r : Run) (spent : List (List Step)) where
+  reports-of : (s : Declarations) (question : Question) (first : List Policy) (against : Option (List Policy)) (budget : ℕ) → ReadsAll r.content r.words s question first against budget
+      → Whole (asked s question first against budget) r.before r.after r.code → Reports r
+  reports-of s question first against budget reads x =
+      record { schema = s; question = question; first = first; against = against; budget = budget; reads = reads; lines = x.lines; report = x.report; text = x.text }
+
+  hold-reported : (s : Declarations) (question : Question) (first : List Policy) (against : Option (List Policy)) (budget : ℕ) → ReadsAll r.content r.words s question first against budget
+      → Reported (asked s question first against budget) r.before r.after (HasRisen r.writes) r.code spent → r.code ≡ 0 → AllHold r
+  unfolding reports-of
+  hold-reported s question first against budget reads report e =
+      let q = asked s question first against budget in
+      let x = whole-reported q r.before r.after (HasRisen r.writes) r.code spent report (omega (arith, e)) in
+      let none = none-found (has_counterexample x.lines) (has_open x.lines) (sym x.is ∙ e) in
+      record {
+        told = reports-of s question first against budget reads x;
+        always = λ env h. lines-hold q x.lines none.0 none.1 x.report.lines_true env (subst (λ es. Contains es env) (sym x.report.in_order) h);
+      }
+
+  well-replayed : (s : Declarations) (ps : List Policy) (w : World) → ReadsWorld r.content r.words s ps w → Replayed (scene s ps w) r.before r.after (HasRisen r.writes) r.code → r.code ≡ 0 → Tells r None
+  well-replayed s ps w reads (told_whole None finds c text) e = record { schema = s; policies = ps; world = w; reads = reads; first = finds; text = text }
+  well-replayed s ps w reads (told_whole (Some b) finds c text) e = absurd (omega (arith, c, e))
+  well-replayed s ps w reads (told_front found lines next rest n finds order rose c text) e = absurd (omega (arith, c, e))
+  well-replayed s ps w reads (told_first found lines rest finds order c text) e = absurd (omega (arith, c, e))
+  well-replayed s ps w reads (untold c text) e = absurd (omega (arith, c, e))
+
+  is-well : Nowhere → Stored → Tells r None → IsWell r
+  is-well nowhere stored t =
+      let x = (nowhere t.schema (literals t.policies) t.world (stored t.reads.spelled.bytes t.world t.reads.spelled.spelled)).0 t.first in
+      record { told = t; env = x.0; listed = x.1; well_formed = x.2 }
+
+  pub all-well : Nowhere → Stored → Ends r spent → r.code ≡ 0 → AllWell r
+  all-well nowhere stored (refused a h c t none) e = absurd (let is = refusal-code a in omega (arith, is.least, c, e))
+  all-well nowhere stored (refusal_cut a n h rose c t none) e = absurd (omega (arith, c, e))
+  all-well nowhere stored (reported s question first against budget reads report) e = inl (hold-reported s question first against budget reads report e)
+  all-well nowhere stored (replayed s ps w reads report none) e = inr (is-well nowhere stored (well-replayed s ps w reads report e))
+  all-well nowhere stored (no_memory c t none) e = absurd (omega (arith, c, e))
+
+  not-replayed : AsksQuestion r → IsWell r → ⊥
+  not-replayed x w =
+      let reaches = w.told.reads.reaches in
+      not_both_tasks x.command.task x.question x.name x.budget w.told.reads.name x.task (same_task r.words x.command reaches.command x.commands reaches.commands ∙ reaches.task)
+
+  not-asked : ReplaysWorld r → AllHold r → ⊥
+  not-asked x h =
+      let reaches = h.told.reads.reaches in
+      not_both_tasks reaches.command.task h.told.question reaches.name h.told.budget x.name reaches.task (same_task r.words reaches.command x.command reaches.commands x.commands ∙ x.task)
+
+  pub all-hold : Nowhere → Stored → Ends r spent → AsksQuestion r → r.code ≡ 0 → AllHold r
+  all-hold nowhere stored ends x e = ⊎_elim (λ (h : AllHold r). h) (λ (w : IsWell r). absurd (not-replayed x w)) (all-well nowhere stored ends e)
+
+  pub well-formed : Nowhere → Stored → Ends r spent → ReplaysWorld r → r.code ≡ 0 → IsWell r
+  well-formed nowhere stored ends x e = ⊎_elim (λ (h : AllHold r). absurd (not-asked x h)) (λ (w : IsWell r). w) (all-well nowhere stored ends e)
+
+  broken-replayed : (s : Declarations) (ps : List Policy) (w : World) → ReadsWorld r.content r.words s ps w → Replayed (scene s ps w) r.before r.after (HasRisen r.writes) r.code → r.code ≡ 3 → IsBroken r
+  broken-replayed s ps w reads (told_whole None finds c text) e = absurd (omega (arith, c, e))
+  broken-replayed s ps w reads (told_whole (Some b) finds c text) e = (b, record { schema = s; policies = ps; world = w; reads = reads; first = finds; text = text })
+  broken-replayed s ps w reads (told_front found lines next rest n finds order rose c text) e = absurd (omega (arith, c, e))
+  broken-replayed s ps w reads (told_first found lines rest finds order c text) e = absurd (omega (arith, c, e))
+  broken-replayed s ps w reads (untold c text) e = absurd (omega (arith, c, e))
+
+  not-three : (q : Asked) → Reported q r.before r.after (HasRisen r.writes) r.code spent → r.code ≡ 3 → ⊥
+  not-three q report e =
+      let x = whole-reported q r.before r.after (HasRisen r.writes) r.code spent report (omega (arith, e)) in
+      let most = status-code x.lines r.code x.is in omega (arith, most, e)
+
+  pub is-broken : Ends r spent → r.code ≡ 3 → IsBroken r
+  is-broken (refused a h c t none) e = absurd (let is = refusal-code a in omega (arith, is.least, c, e))
+  is-broken (refusal_cut a n h rose c t none) e = absurd (omega (arith, c, e))
+  is-broken (reported s question first against budget reads report) e = absurd (not-three (asked s question first against budget) report e)
+  is-broken (replayed s ps w reads report none) e = broken-replayed s ps w reads report e
+  is-broken (no_memory c t none) e = absurd (omega (arith, c, e))
+
+  fail-reported : (s : Declarations) (question : Question) (first : List Policy) (against : Option (List Policy)) (budget : ℕ) → ReadsAll r.content r.words s question first against budget
+      → Reported (asked s question first against budget) r.before r.after (HasRisen r.writes) r.code spent → r.code ≡ 1 → SomeFails r
+  unfolding reports-of
+  fail-reported s question first against budget reads report e =
+      let q = asked s question first against budget in
+      let x = whole-reported q r.before r.after (HasRisen r.writes) r.code spent report (omega (arith, e)) in
+      let p = lines-fail q x.lines (some-found (has_counterexample x.lines) (has_open x.lines) (sym x.is ∙ e)) x.report.lines_true in
+      record { told = reports-of s question first against budget reads x; env = p.env; world = p.world; printed = p.printed; violates = p.violates }
+
+  open-reported : (s : Declarations) (question : Question) (first : List Policy) (against : Option (List Policy)) (budget : ℕ) → ReadsAll r.content r.words s question first against budget
+      → Reported (asked s question first against budget) r.before r.after (HasRisen r.writes) r.code spent → r.code ≡ 2 → SomeOpen r
+  unfolding reports-of
+  open-reported s question first against budget reads report e =
+      let x = whole-reported (asked s question first against budget) r.before r.after (HasRisen r.writes) r.code spent report (omega (arith, e)) in
+      let found = open-found (has_counterexample x.lines) (has_open x.lines) (sym x.is ∙ e) in
+      record { told = reports-of s question first against budget reads x; none_fails = found.0; some_open = found.1 }
+
+-- ---- reports on worlds
+
+replay-two : (found : Option Break) (code : ℕ) → code ≡ outcome.status_of found → (code ≡ 0) ⊎ (code ≡ 3)
+replay-two None code c = inl c
+replay-two (Some b) code c = inr c
+
+-- with another status than 0 and 3 memory ran out, or the write failed
+replayed-other : (s : Declarations) (ps : List Policy) (w : World) (old new : Option (List ℕ)) (rose : Type 0) (code : ℕ) → Replayed (scene s ps w) old new rose code
+    → (code ≡ 0 → ⊥) → (code ≡ 3 → ⊥) → (code ≡ 30) ⊎ ((code ≡ 21) × rose)
+replayed-other s ps w old new rose code (told_whole found finds c text) f g = absurd (⊎_elim f g (replay-two found code c))
+replayed-other s ps w old new rose code (told_front found lines next rest n finds order risen c text) f g = inr (c, risen)
+replayed-other s ps w old new rose code (told_first found lines rest finds order c text) f g = inl c
+replayed-other s ps w old new rose code (untold c text) f g = inl c
+
+module _ (r : Run) (spent : List (List Step)) where
+  not-between : (s : Declarations) (ps : List Policy) (w : World) → Replayed (scene s ps w) r.before r.after (HasRisen r.writes) r.code → 1 ≤ r.code → r.code ≤ 2 → ⊥
+  not-between s ps w report least most =
+      ⊎_elim (λ (h : r.code ≡ 30). omega (arith, h, most)) (λ (h : (r.code ≡ 21) × (HasRisen r.writes)). omega (arith, h.0, most))
+      (replayed-other s ps w r.before r.after (HasRisen r.writes) r.code report (λ h. omega (arith, h, least)) (λ h. omega (arith, h, most)))
+
+  pub some-fails : Ends r spent → r.code ≡ 1 → SomeFails r
+  some-fails (refused a h c t none) e = absurd (let is = refusal-code a in omega (arith, is.least, c, e))
+  some-fails (refusal_cut a n h rose c t none) e = absurd (omega (arith, c, e))
+  some-fails (reported s question first against budget reads report) e = fail-reported r spent s question first against budget reads report e
+  some-fails (replayed s ps w reads report none) e = absurd (not-between s ps w report (omega (arith, e)) (omega (arith, e)))
+  some-fails (no_memory c t none) e = absurd (omega (arith, c, e))
+
+  pub some-open : Ends r spent → r.code ≡ 2 → SomeOpen r
+  some-open (refused a h c t none) e = absurd (let is = refusal-code a in omega (arith, is.least, c, e))
+  some-open (refusal_cut a n h rose c t none) e = absurd (omega (arith, c, e))
+  some-open (reported s question first against budget reads report) e = open-reported r spent s question first against budget reads report e
+  some-open (replayed s ps w reads report none) e = absurd (not-between s ps w report (omega (arith, e)) (omega (arith, e)))
+  some-open (no_memory c t none) e = absurd (omega (arith, c, e))
+
+-- ---- the refusal that a status tells
+
+record RefusedAs (r : Run) (n : ℕ) : Type 0 where
+  pub refusal : Refusal
+  pub is : IsRefusal r.content r.words (HasRisen r.reads) refusal
+  pub code : code_of refusal ≡ n
+
+reported-high : (q : Asked) (old new : Option (List ℕ)) (rose : Type 0) (code : ℕ) (spent : List (List Step)) → Reported q old new rose code spent → 10 ≤ code → (code ≡ 21 → ⊥) → (code ≡ 30 → ⊥) → ⊥
+reported-high q old new rose code spent (whole lines report c text logs) e f g = let most = status-code lines code c in omega (arith, most, e)
+reported-high q old new rose code spent (cut lines next n front risen c text logs) e f g = f c
+reported-high q old new rose code spent (cut_none n none risen c text logs) e f g = f c
+reported-high q old new rose code spent (stopped lines front c text logs) e f g = g c
+
+replayed-high : (s : Declarations) (ps : List Policy) (w : World) (old new : Option (List ℕ)) (rose : Type 0) (code : ℕ) → Replayed (scene s ps w) old new rose code → 10 ≤ code → (code ≡ 21 → ⊥) → (code ≡ 30 → ⊥) → ⊥
+replayed-high s ps w old new rose code report e f g =
+    ⊎_elim (λ (h : code ≡ 30). g h) (λ (h : (code ≡ 21) × rose). f h.0)
+    (replayed-other s ps w old new rose code report (λ h. omega (arith, h, e)) (λ h. omega (arith, h, e)))
+
+by-code : (r : Run) (spent : List (List Step)) (n : ℕ) → Ends r spent → r.code ≡ n → 10 ≤ n → (n ≡ 21 → ⊥) → (n ≡ 30 → ⊥) → RefusedAs r n
+by-code r spent n (refused a h c t none) e l f g = record { refusal = a; is = h; code = sym c ∙ e }
+by-code r spent n (refusal_cut a k h rose c t none) e l f g = absurd (f (sym e ∙ c))
+by-code r spent n (reported s question first against budget reads report) e l f g =
+    absurd (reported-high (asked s question first against budget) r.before r.after (HasRisen r.writes) r.code spent report (omega (arith, e, l)) (λ h. f (sym e ∙ h)) (λ h. g (sym e ∙ h)))
+by-code r spent n (replayed s ps w reads report none) e l f g =
+    absurd (replayed-high s ps w r.before r.after (HasRisen r.writes) r.code report (omega (arith, e, l)) (λ h. f (sym e ∙ h)) (λ h. g (sym e ∙ h)))
+by-code r spent n (no_memory c t none) e l f g = absurd (g (sym e ∙ c))
+
+-- what a refusal tells of the run
+abbrev CauseOf : Run → Refusal → Type 0
+CauseOf r usage = (c : Command) → Serves r.words c → ⊥
+CauseOf r (schema_text f) = IsFaultySchema r
+CauseOf r (policy_text side f) = IsFaulty r
+CauseOf r (world_text f) = IsFaultyWorld r
+CauseOf r (unknown_name side f) = IsUntyped r
+CauseOf r (ill_typed side f) = IsUntyped r
+CauseOf r (unsupported side u) = IsUnsupported r
+CauseOf r (read_fault f) = (HasRisen r.reads)
+CauseOf r (too_long f) = TooLong r
+
+schema-cause : (r : Run) (c : Command) → Serves r.words c → (a : Refusal) → RefusesSchema r.content c (HasRisen r.reads) a → CauseOf r a
+schema-cause r c h _ (schema_unread _ (unread rose)) = rose
+schema-cause r c h _ (schema_unread _ (long is)) = schema_long c h is
+schema-cause r c h _ (schema_faulty f bytes is has) = record { command = c; commands = h; bytes = bytes; told = is; fault = f; has = has }
+
+policies-cause : (r : Run) (c : Command) (s : Declarations) → Serves r.words c → ReadsSchema r.content c s → (a : Refusal) → RefusesPolicies r.content c.policies policies_side (HasRisen r.reads) a → CauseOf r a
+policies-cause r c s h reads _ (policies_unread _ (unread rose)) = rose
+policies-cause r c s h reads _ (policies_unread _ (long is)) = policies_long c h s reads is
+policies-cause r c s h reads _ (spec.policies_faulty f bytes is has) = policies_faulty c h s reads bytes is f has
+
+against-cause : (r : Run) (name : List ℕ) → ReachesAgainst r.content r.words name → (a : Refusal) → RefusesPolicies r.content name against_side (HasRisen r.reads) a → CauseOf r a
+against-cause r name reaches _ (policies_unread _ (unread rose)) = rose
+against-cause r name reaches _ (policies_unread _ (long is)) = against_long name reaches is
+against-cause r name reaches _ (spec.policies_faulty f bytes is has) = against_faulty name reaches bytes is f has
+
+world-cause : (r : Run) (s : Declarations) (ps : List Policy) (name : List ℕ) → ReachesWorld r.content r.words s ps name → (a : Refusal) → RefusesWorld r.content name (HasRisen r.reads) a → CauseOf r a
+world-cause r s ps name reaches _ (world_unread _ (unread rose)) = rose
+world-cause r s ps name reaches _ (world_unread _ (long is)) = world_long s ps name reaches is
+world-cause r s ps name reaches _ (world_faulty f bytes is has) = record { schema = s; policies = ps; name = name; reaches = reaches; bytes = bytes; told = is; fault = f; has = has }
+
+question-cause : (r : Run) (s : Declarations) (question : Question) (first : List Policy) (against : Option (List Policy)) (budget : ℕ) → ReachesQuestion r.content r.words s question first against budget
+    → (a : Refusal) → RefusesQuestion s first against a → CauseOf r a
+question-cause r s question first against budget reaches _ (spec.undeclared side f is) =
+    inr (record { schema = s; question = question; first = first; against = against; budget = budget; reaches = reaches; ill_typed = undeclared side f is })
+question-cause r s question first against budget reaches _ (spec.untyped side f declared is) =
+    inr (record { schema = s; question = question; first = first; against = against; budget = budget; reaches = reaches; ill_typed = untyped side f declared is })
+question-cause r s question first against budget reaches _ (spec.has_construct side u declared typed is) =
+    record { schema = s; question = question; first = first; against = against; budget = budget; reaches = reaches; declared = declared; typed = typed; side = side; construct = u; is = is }
+
+cause-of : (r : Run) (a : Refusal) → IsRefusal r.content r.words (HasRisen r.reads) a → CauseOf r a
+cause-of r _ (no_command none) = none
+cause-of r _ (of_schema a c h i) = schema-cause r c h a i
+cause-of r _ (of_policies a c s h reads i) = policies-cause r c s h reads a i
+cause-of r _ (of_against a c s question name budget first h task reads has i) =
+    against-cause r name (record { command = c; commands = h; question = question; budget = budget; task = task; schema = s; reads = reads; first = first; policies = has }) a i
+cause-of r _ (of_world a s ps name reaches i) = world-cause r s ps name reaches a i
+cause-of r _ (of_names f s ps name w reaches has is) = inl (record { schema = s; policies = ps; name = name; world = w; reaches = reaches; has = has; fault = f; is = is })
+cause-of r _ (of_question a s question first against budget reaches i) = question-cause r s question first against budget reaches a i
+
+-- what a status tells of the run, where it is that of a refusal
+abbrev either : Bool → Type 0 → Type 0 → Type 0
+either true A B = A
+either false A B = B
+
+abbrev Cause : Run → ℕ → Type 0
+Cause r n =
+    either (n == 10) ((c : Command) → Serves r.words c → ⊥)
+    (either (n == 12) (IsFaultySchema r)
+    (either (n == 11) (IsFaulty r)
+    (either (n == 17) (IsFaultyWorld r)
+    (either (n == 13) (IsUntyped r)
+    (either (n == 20) (HasRisen r.reads)
+    (either (n == 22) (TooLong r)
+    (either (n == 15) (IsUnsupported r) ⊤)))))))
+
+cause-at : (r : Run) (a : Refusal) → CauseOf r a → Cause r (code_of a)
+cause-at r usage h = h
+cause-at r (schema_text f) h = h
+cause-at r (policy_text side f) h = h
+cause-at r (world_text f) h = h
+cause-at r (unknown_name side f) h = h
+cause-at r (ill_typed side f) h = h
+cause-at r (unsupported side u) h = h
+cause-at r (read_fault f) h = h
+cause-at r (too_long f) h = h
+
+told-by : (r : Run) (spent : List (List Step)) (n : ℕ) → Ends r spent → r.code ≡ n → 10 ≤ n → (n ≡ 21 → ⊥) → (n ≡ 30 → ⊥) → Cause r n
+told-by r spent n ends e l f g = let w = by-code r spent n ends e l f g in subst (Cause r) w.code (cause-at r w.refusal (cause-of r w.refusal w.is))
+
+pub no-command : (r : Run) (spent : List (List Step)) → Ends r spent → r.code ≡ 10 → (c : Command) → Serves r.words c → ⊥
+no-command r spent ends e = told-by r spent 10 ends e (omega arith) (λ h. omega (arith, h)) (λ h. omega (arith, h))
+
+pub read-rose : (r : Run) (spent : List (List Step)) → Ends r spent → r.code ≡ 20 → HasRisen r.reads
+read-rose r spent ends e = told-by r spent 20 ends e (omega arith) (λ h. omega (arith, h)) (λ h. omega (arith, h))
+
+pub is-too-long : (r : Run) (spent : List (List Step)) → Ends r spent → r.code ≡ 22 → TooLong r
+is-too-long r spent ends e = told-by r spent 22 ends e (omega arith) (λ h. omega (arith, h)) (λ h. omega (arith, h))
+
+pub is-unsupported : (r : Run) (spent : List (List Step)) → Ends r spent → r.code ≡ 15 → IsUnsupported r
+is-unsupported r spent ends e = told-by r spent 15 ends e (omega arith) (λ h. omega (arith, h)) (λ h. omega (arith, h))
+
+pub is-faulty : (r : Run) (spent : List (List Step)) → Ends r spent → r.code ≡ 11 → IsFaulty r
+is-faulty r spent ends e = told-by r spent 11 ends e (omega arith) (λ h. omega (arith, h)) (λ h. omega (arith, h))
+
+pub is-faulty-schema : (r : Run) (spent : List (List Step)) → Ends r spent → r.code ≡ 12 → IsFaultySchema r
+is-faulty-schema r spent ends e = told-by r spent 12 ends e (omega arith) (λ h. omega (arith, h)) (λ h. omega (arith, h))
+
+pub is-faulty-world : (r : Run) (spent : List (List Step)) → Ends r spent → r.code ≡ 17 → IsFaultyWorld r
+is-faulty-world r spent ends e = told-by r spent 17 ends e (omega arith) (λ h. omega (arith, h)) (λ h. omega (arith, h))
+
+pub is-untyped : (r : Run) (spent : List (List Step)) → Ends r spent → r.code ≡ 13 → IsUntyped r
+is-untyped r spent ends e = told-by r spent 13 ends e (omega arith) (λ h. omega (arith, h)) (λ h. omega (arith, h))
+
+reported-rose : (q : Asked) (old new : Option (List ℕ)) (rose : Type 0) (code : ℕ) (spent : List (List Step)) → Reported q old new rose code spent → code ≡ 21 → rose
+reported-rose q old new rose code spent (whole lines report c text logs) e = absurd (let most = status-code lines code c in omega (arith, most, e))
+reported-rose q old new rose code spent (cut lines next n front risen c text logs) e = risen
+reported-rose q old new rose code spent (cut_none n none risen c text logs) e = risen
+reported-rose q old new rose code spent (stopped lines front c text logs) e = absurd (omega (arith, c, e))
+
+replayed-rose : (s : Declarations) (ps : List Policy) (w : World) (old new : Option (List ℕ)) (rose : Type 0) (code : ℕ) → Replayed (scene s ps w) old new rose code → code ≡ 21 → rose
+replayed-rose s ps w old new rose code report e =
+    ⊎_elim (λ (h : code ≡ 30). absurd (omega (arith, h, e))) (λ (h : (code ≡ 21) × rose). h.1)
+    (replayed-other s ps w old new rose code report (λ h. omega (arith, h, e)) (λ h. omega (arith, h, e)))
+
+pub write-rose : (r : Run) (spent : List (List Step)) → Ends r spent → r.code ≡ 21 → HasRisen r.writes
+write-rose r spent (refused a h c t none) e = absurd (let is = refusal-code a in is.no_write (sym c ∙ e))
+write-rose r spent (refusal_cut a k h rose c t none) e = rose
+write-rose r spent (reported s question first against budget reads report) e = reported-rose (asked s question first against budget) r.before r.after (HasRisen r.writes) r.code spent report e
+write-rose r spent (replayed s ps w reads report none) e = replayed-rose s ps w r.before r.after (HasRisen r.writes) r.code report e
+write-rose r spent (no_memory c t none) e = absurd (omega (arith, c, e))

@@ -1,0 +1,40 @@
+use Rattle.sc_run.proofs.StatusLaws.{all-well, all-hold, well-formed, some-fails, some-open, logged, is-broken, no-command, is-faulty-schema, is-faulty, is-faulty-world, is-untyped, read-rose, write-rose, is-too-long, is-unsupported}
+use Rattle.sc_run.proofs.DeterminedLaws.{complete, complete-replay, unusable, schema-is-long, schema-is-faulty, policies-are-long, policies-are-unsupported, against-is-long, against-is-faulty, policies-are-faulty, world-is-long, world-is-faulty, names-are-unknown, policies-are-untyped}
+use Rattle.sc_run.proofs.running.run.Goals as goal
+
+pub returns : goal.returns
+returns g c = record {
+  ends = c.ends.ensures.ends;
+  holds = all-well _ _ c.break_laws.ensures.nowhere c.reading_laws.ensures.stored c.ends.ensures.ends;
+  always = λ x e. all-hold _ _ c.break_laws.ensures.nowhere c.reading_laws.ensures.stored c.ends.ensures.ends x e;
+  well_formed = λ x e. well-formed _ _ c.break_laws.ensures.nowhere c.reading_laws.ensures.stored c.ends.ensures.ends x e;
+  counterexample = some-fails _ _ c.ends.ensures.ends;
+  undecided = some-open _ _ c.ends.ensures.ends;
+  spent = logged _ _ c.ends.ensures.ends;
+  replayed = is-broken _ _ c.ends.ensures.ends;
+  complete = λ x f h. complete _ _ c.spelling_laws.ensures c.ends.ensures.ends x f h;
+  complete_replay = λ x f h. complete-replay _ _ c.spelling_laws.ensures c.reading_laws.ensures.settled c.ends.ensures.ends x f h;
+  unusable = λ x. unusable _ _ c.ends.ensures.ends x;
+  usage = no-command _ _ c.ends.ensures.ends;
+  schema_is_long = λ x f. schema-is-long _ _ c.ends.ensures.ends x f;
+  schema_is_faulty = λ x f. schema-is-faulty _ _ c.ends.ensures.ends x f;
+  policies_are_long = λ x f. policies-are-long _ _ c.spelling_laws.ensures c.ends.ensures.ends x f;
+  policies_are_faulty = λ x f. policies-are-faulty _ _ c.spelling_laws.ensures c.ends.ensures.ends x f;
+  against_is_long = λ x f. against-is-long _ _ c.spelling_laws.ensures c.ends.ensures.ends x f;
+  against_is_faulty = λ x f. against-is-faulty _ _ c.spelling_laws.ensures c.ends.ensures.ends x f;
+  world_is_long = λ x f. world-is-long _ _ c.spelling_laws.ensures c.ends.ensures.ends x f;
+  world_is_faulty = λ x f. world-is-faulty _ _ c.spelling_laws.ensures c.ends.ensures.ends x f;
+  names_are_unknown = λ x f. names-are-unknown _ _ c.spelling_laws.ensures c.reading_laws.ensures.settled c.ends.ensures.ends x f;
+  policies_are_untyped = λ x f. policies-are-untyped _ _ c.spelling_laws.ensures c.ends.ensures.ends x f;
+  policies_are_unsupported = λ x f. policies-are-unsupported _ _ c.spelling_laws.ensures c.ends.ensures.ends x f;
+  read_told = c.ends.ensures.read_told;
+  write_told = c.ends.ensures.write_told;
+  policy_fault = is-faulty _ _ c.ends.ensures.ends;
+  schema_fault = is-faulty-schema _ _ c.ends.ensures.ends;
+  untyped = is-untyped _ _ c.ends.ensures.ends;
+  unsupported = is-unsupported _ _ c.ends.ensures.ends;
+  world_fault = is-faulty-world _ _ c.ends.ensures.ends;
+  read_fault = read-rose _ _ c.ends.ensures.ends;
+  write_fault = write-rose _ _ c.ends.ensures.ends;
+  too_long = is-too-long _ _ c.ends.ensures.ends;
+}

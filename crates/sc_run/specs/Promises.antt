@@ -1,0 +1,68 @@
+-- What is promised of each run.
+use Rattle.std.specs.Prelude.{◌≡◌, ℕ, List}
+use Rattle.std.specs.List.{Contains}
+use Rattle.sc_clauses.specs.declared.step.Step.{Step}
+use Rattle.sc_inputs.specs.Serving.{Command, Serves}
+use Rattle.sc_run.specs.Runs.{Run, HasRisen, WentUp, Ends, AllWell, AllHold, AsksQuestion, ReplaysWorld, IsWell, SomeFails, SomeOpen, IsLogged, IsBroken, IsReadable, IsWhole, IsReplayable, IsReplayed, MustBe, TooLong, IsUnsupported, SchemaIsLong, SchemaIsFaulty, PoliciesAreLong, PoliciesAreUnsupported, PoliciesAreFaulty, AgainstIsLong, AgainstIsFaulty, PoliciesAreUntyped, WorldIsLong, WorldIsFaulty, NamesAreUnknown, IsFaulty, IsFaultySchema, IsFaultyWorld, IsUntyped}
+
+-- no read failed, and no write did
+abbrev pub AllRead : Run → Type 0
+AllRead r = ¬ HasRisen r.reads
+
+abbrev pub AllWritten : Run → Type 0
+AllWritten r = ¬ HasRisen r.writes
+
+-- The logs are those that the run answers with.
+pub record Promises (r : Run) (logs : List (List Step)) : Type 0 where
+  -- How it ends, whatever comes: what is written, and the status.
+  pub ends : Ends r logs
+  -- 0 comes only where each environment is reported to hold: each of its well-formed worlds has the property; or where a world is
+  -- replayed that is well-formed for an environment of the schema.
+  pub holds : r.code ≡ 0 → AllWell r
+  -- Of a question 0 says that each well-formed world of each environment has the property.
+  pub always : AsksQuestion r → r.code ≡ 0 → AllHold r
+  -- Of a replay 0 says that the world is well-formed.
+  pub well_formed : ReplaysWorld r → r.code ≡ 0 → IsWell r
+  -- 1 comes only where a line prints a counterexample: a well-formed world of its environment that lacks the property.
+  pub counterexample : r.code ≡ 1 → SomeFails r
+  -- 2 comes only where no line prints a counterexample and some line says `unknown` or `over limit`.
+  pub undecided : r.code ≡ 2 → SomeOpen r
+  -- Each log is of an environment that is reported as unknown: as many units as the budget, each lawful, new and true, and one more
+  -- step is due.
+  pub spent : (log : List Step) → Contains logs log → IsLogged r log
+  -- 3 comes only where a world is replayed, and its report tells what keeps it from being well-formed, first of all.
+  pub replayed : r.code ≡ 3 → IsBroken r
+  -- Where all files of a question are told, short enough and spelled, the policies are declared, typed and of supported constructs, and
+  -- no read or write failed, a whole report is written or memory ran out.
+  pub complete : IsReadable r → AllRead r → AllWritten r → IsWhole r.code
+  -- Where all files of a replay are so, and the policies write declared names alone, the whole report on the world is written, and the
+  -- status says whether the world is well-formed; or memory ran out.
+  pub complete_replay : (x : IsReplayable r) → AllRead r → AllWritten r → IsReplayed r x
+  -- Words that are no command that is served are refused, and nothing else is refused so.
+  pub unusable : ((c : Command) → Serves r.words c → ⊥) → MustBe 10 r.code
+  pub usage : r.code ≡ 10 → (c : Command) → Serves r.words c → ⊥
+  -- Files that are too long or spell nothing are refused, and so are policies that write undeclared names, are ill-typed or have
+  -- unsupported constructs, where no read failed.
+  pub schema_is_long : SchemaIsLong r → AllRead r → MustBe 22 r.code
+  pub schema_is_faulty : SchemaIsFaulty r → AllRead r → MustBe 12 r.code
+  pub policies_are_long : PoliciesAreLong r → AllRead r → MustBe 22 r.code
+  pub policies_are_faulty : PoliciesAreFaulty r → AllRead r → MustBe 11 r.code
+  pub against_is_long : AgainstIsLong r → AllRead r → MustBe 22 r.code
+  pub against_is_faulty : AgainstIsFaulty r → AllRead r → MustBe 11 r.code
+  pub world_is_long : WorldIsLong r → AllRead r → MustBe 22 r.code
+  pub world_is_faulty : WorldIsFaulty r → AllRead r → MustBe 17 r.code
+  pub names_are_unknown : NamesAreUnknown r → AllRead r → MustBe 13 r.code
+  pub policies_are_untyped : PoliciesAreUntyped r → AllRead r → MustBe 13 r.code
+  pub policies_are_unsupported : PoliciesAreUnsupported r → AllRead r → MustBe 15 r.code
+  -- A failure is told: no read or write that failed is passed over.
+  pub read_told : WentUp r.reads → MustBe 20 r.code
+  pub write_told : WentUp r.writes → r.code ≡ 21
+  -- The cause of each status.
+  pub policy_fault : r.code ≡ 11 → IsFaulty r
+  pub schema_fault : r.code ≡ 12 → IsFaultySchema r
+  pub untyped : r.code ≡ 13 → IsUntyped r
+  pub unsupported : r.code ≡ 15 → IsUnsupported r
+  pub world_fault : r.code ≡ 17 → IsFaultyWorld r
+  pub read_fault : r.code ≡ 20 → HasRisen r.reads
+  pub write_fault : r.code ≡ 21 → HasRisen r.writes
+  pub too_long : r.code ≡ 22 → TooLong r

@@ -1,0 +1,410 @@
+-- How a run ends.
+use Rattle.std.specs.Prelude.{◌≡◌, ◌≢◌, ◌≤◌, ◌<◌, ◌⊎◌, ℕ, List, [], true, false, Option, Some, None, length, take, unwrap_or, String}
+use Rattle.std.specs.Global.{Global}
+use Rattle.std.specs.List.{Contains}
+use Rattle.sc_outside.specs.Counts.{Rose}
+use Rattle.sc_outside.specs.Writes.{appended}
+use Rattle.sc_outside.specs.declared.traits.Files as files
+use Rattle.sc_outside.specs.declared.traits.Sink as sink
+use Rattle.sc_command.specs.CommandLine.{words_view}
+use Rattle.sc_ast.specs.declared.policy.Policy.{Policy}
+use Rattle.sc_ast.specs.Literals.{literals}
+use Rattle.sc_question.specs.declared.question.Question.{Question}
+use Rattle.sc_clauses.specs.declared.step.Step.{Step}
+use Rattle.sc_replay.specs.Reports.{status_of}
+use Rattle.sc_schema.specs.declared.declarations.Env.{Env}
+use Rattle.sc_schema.specs.Declarations.{Declarations, environments}
+use Rattle.sc_schema_json.specs.Spelling as schema_file
+use Rattle.sc_schema_syntax.specs.declared.fault.SchemaFault.{SchemaFault}
+use Rattle.sc_parser.specs.declared.fault.PolicyFault.{PolicyFault}
+use Rattle.sc_parser.specs.Spelling.{Spells, HasFault}
+use Rattle.sc_typing.specs.declared.ill_typed.IllTyped.{IllTyped}
+use Rattle.sc_typing.specs.declared.name_fault.NameFault.{NameFault}
+use Rattle.sc_constructs.specs.declared.unsupported.Unsupported.{Unsupported}
+use Rattle.sc_typing.specs.Names.{name_fault}
+use Rattle.sc_world.specs.declared.world.World.{World}
+use Rattle.sc_world.specs.WellFormed.{IsWellFormed}
+use Rattle.sc_world_breaks.specs.declared.breaks.Break.{Break}
+use Rattle.sc_world_json.specs.declared.fault.WorldFault.{WorldFault}
+use Rattle.sc_world_json.specs.Reading as world_file
+use Rattle.sc_inputs.specs.Serving.{Command, Serves, asking, replaying}
+use Rattle.sc_inputs.specs.Readings.{ReadsAll, ReadsWorld}
+use Rattle.sc_run.specs.Progress.{Reported}
+use Rattle.sc_run.specs.Replays.{Finds, Replayed, lines_of, text_of}
+use Rattle.sc_inputs.specs.Refusals.{Refusal, Side, IsRefusal, code_of, refusal_text, Content, IsContent, IsTooLong, ReadsSchema, HasPolicies, HasWorld, ReachesQuestion, ReachesWorld, names_fault, types_fault, constructs_fault, AreServed, limit}
+use Rattle.sc_run.specs.Reports.{Asked, Line, counterexample, IsReport, AlwaysHas, Violates, IsUndecided, has_counterexample, has_open, report_text}
+use Rattle.sc_inputs.specs.declared.inputs.Scene.{Scene}
+
+-- a count of faults, before a run and after it
+pub record Change : Type 0 where
+  pub before : ℕ
+  pub now : ℕ
+
+-- there was a fault: the count went up, or stands at its last value
+abbrev pub HasRisen : Change → Type 0
+HasRisen c = Rose c.before c.now
+
+abbrev pub WentUp : Change → Type 0
+WentUp c = c.before < c.now
+
+-- What a run sees and does: what the files hold, the words, the counts of read faults and of write faults, what was written
+-- before it and is written after it, and the status.
+pub record Run : Type 0 where
+  pub content : Content
+  pub words : List (List ℕ)
+  pub reads : Change
+  pub writes : Change
+  pub before : Option (List ℕ)
+  pub after : Option (List ℕ)
+  pub code : ℕ
+
+-- a run over files and a sink, each before it and after it
+abbrev pub run_of : {F O : Type 0} → files.Ghosts F → sink.Ghosts O → F → F → O → O → List (String Global) → ℕ → Run
+run_of source out files files' written written' words code = record {
+  content = source.content files;
+  words = words_view words;
+  reads = record { before = source.faults files; now = source.faults files' };
+  writes = record { before = out.faults written; now = out.faults written' };
+  before = out.written written;
+  after = out.written written';
+  code = code;
+}
+
+-- what is asked under a schema of one or two policy sets, within a budget
+abbrev pub asked : Declarations → Question → List Policy → Option (List Policy) → ℕ → Asked
+asked s question first against budget = record { schema = s; question = question; first = first; second = unwrap_or against []; budget = budget }
+
+-- what is replayed
+abbrev pub scene : Declarations → List Policy → World → Scene
+scene s ps w = record { schema = s; policies = ps; world = w }
+
+-- a refusal's line is written whole, or a front of it; or the report is written, as far as it came; or memory ran out
+-- before anything was written. The logs are those that a report counts, and none otherwise.
+pub data Ends (r : Run) (spent : List (List Step)) : Type 0 where
+  refused : (a : Refusal) → IsRefusal r.content r.words (HasRisen r.reads) a → r.code ≡ code_of a → r.after ≡ appended r.before (refusal_text a) → spent ≡ [] → Ends r spent
+  refusal_cut : (a : Refusal) (n : ℕ) → IsRefusal r.content r.words (HasRisen r.reads) a → HasRisen r.writes → r.code ≡ 21 → r.after ≡ appended r.before (take n (refusal_text a)) → spent ≡ [] → Ends r spent
+  reported : (s : Declarations) (question : Question) (first : List Policy) (against : Option (List Policy)) (budget : ℕ) → ReadsAll r.content r.words s question first against budget
+      → Reported (asked s question first against budget) r.before r.after (HasRisen r.writes) r.code spent → Ends r spent
+  replayed : (s : Declarations) (ps : List Policy) (w : World) → ReadsWorld r.content r.words s ps w → Replayed (scene s ps w) r.before r.after (HasRisen r.writes) r.code → spent ≡ [] → Ends r spent
+  no_memory : r.code ≡ 30 → r.after ≡ r.before → spent ≡ [] → Ends r spent
+
+-- what the words ask, and a whole report on it that is written
+pub record Reports (r : Run) : Type 0 where
+  pub schema : Declarations
+  pub question : Question
+  pub first : List Policy
+  pub against : Option (List Policy)
+  pub budget : ℕ
+  pub reads : ReadsAll r.content r.words schema question first against budget
+  pub lines : List Line
+  pub report : IsReport (asked schema question first against budget) (environments schema) lines
+  pub text : r.after ≡ appended r.before (report_text lines)
+
+abbrev pub asked_by : {r : Run} → Reports r → Asked
+asked_by x = asked x.schema x.question x.first x.against x.budget
+
+-- each environment is reported to hold: every well-formed world of it has the property
+pub record AllHold (r : Run) : Type 0 where
+  pub told : Reports r
+  pub always : (env : Env) → Contains (environments told.schema) env → AlwaysHas (asked_by told) env
+
+-- a line prints a world, which is a well-formed one of the line's environment and lacks the property
+pub record SomeFails (r : Run) : Type 0 where
+  pub told : Reports r
+  pub env : Env
+  pub world : World
+  pub printed : Contains told.lines (record { env = env; verdict = counterexample world })
+  pub violates : Violates (asked_by told) env world
+
+-- no line is a counterexample, and some line tells of its environment neither that nor that it holds
+pub record SomeOpen (r : Run) : Type 0 where
+  pub told : Reports r
+  pub none_fails : has_counterexample told.lines ≡ false
+  pub some_open : has_open told.lines ≡ true
+
+-- a log of just as many units as the budget, of the problem of one of the environments
+pub record IsLogged (r : Run) (log : List Step) : Type 0 where
+  pub schema : Declarations
+  pub question : Question
+  pub first : List Policy
+  pub against : Option (List Policy)
+  pub budget : ℕ
+  pub reads : ReadsAll r.content r.words schema question first against budget
+  pub env : Env
+  pub listed : Contains (environments schema) env
+  pub undecided : IsUndecided (asked schema question first against budget) env budget log
+
+-- a whole report on a world is written, and what it finds first is this, or nothing
+pub record Tells (r : Run) (found : Option Break) : Type 0 where
+  pub schema : Declarations
+  pub policies : List Policy
+  pub world : World
+  pub reads : ReadsWorld r.content r.words schema policies world
+  pub first : Finds (scene schema policies world) found
+  pub text : r.after ≡ appended r.before (text_of (lines_of (scene schema policies world) found))
+
+-- a whole report tells that nothing keeps a world from being well-formed, and the world is well-formed for an environment of
+-- the schema and the uids that the policies write
+pub record IsWell (r : Run) : Type 0 where
+  pub told : Tells r None
+  pub env : Env
+  pub listed : Contains (environments told.schema) env
+  pub well_formed : IsWellFormed told.schema env (literals told.policies) told.world
+
+-- the words are a command to ask a question
+pub record AsksQuestion (r : Run) : Type 0 where
+  pub command : Command
+  pub commands : Serves r.words command
+  pub question : Question
+  pub name : Option (List ℕ)
+  pub budget : ℕ
+  pub task : command.task ≡ asking question name budget
+
+-- the words are a command to replay a world
+pub record ReplaysWorld (r : Run) : Type 0 where
+  pub command : Command
+  pub commands : Serves r.words command
+  pub name : List ℕ
+  pub task : command.task ≡ replaying name
+
+-- status 0: a question's property holds in each environment, or a world is replayed that is well-formed
+abbrev pub AllWell : Run → Type 0
+AllWell r = AllHold r ⊎ IsWell r
+
+-- status 3: a world is replayed that isn't well-formed
+abbrev pub IsBroken : Run → Type 0
+IsBroken r = (b : Break) × Tells r (Some b)
+
+-- the words are a command whose schema file is told
+pub record SchemaTold (r : Run) : Type 0 where
+  pub command : Command
+  pub commands : Serves r.words command
+  pub bytes : List ℕ
+  pub told : r.content command.schema ≡ Some bytes
+
+-- and spells a schema, and the policy file is told too
+pub record PoliciesTold (r : Run) : Type 0 where
+  pub command : Command
+  pub commands : Serves r.words command
+  pub schema_bytes : List ℕ
+  pub schema_told : r.content command.schema ≡ Some schema_bytes
+  pub schema_short : length schema_bytes ≤ limit
+  pub schema : Declarations
+  pub spelled : schema_file.Spells schema_bytes schema
+  pub bytes : List ℕ
+  pub told : r.content command.policies ≡ Some bytes
+
+-- a question is asked, and its policy file spells policies
+pub record QuestionSpelled (r : Run) : Type 0 where
+  pub before : PoliciesTold r
+  pub short : length before.bytes ≤ limit
+  pub question : Question
+  pub name : Option (List ℕ)
+  pub budget : ℕ
+  pub task : before.command.task ≡ asking question name budget
+  pub policies : List Policy
+  pub spelled : Spells before.bytes policies
+
+-- the file of this name, where there is one, is told and short enough, and spells the policies
+pub data AgainstTold (content : Content) : Option (List ℕ) → Option (List Policy) → Type 0 where
+  no_file : AgainstTold content None None
+  told_file : (name bytes : List ℕ) (ps : List Policy) → content name ≡ Some bytes → length bytes ≤ limit → Spells bytes ps → AgainstTold content (Some name) (Some ps)
+
+-- all policy files of a question are told, short enough and spelled
+pub record AllSpelled (r : Run) : Type 0 where
+  pub before : QuestionSpelled r
+  pub others : Option (List Policy)
+  pub against : AgainstTold r.content before.name others
+
+-- the words are a command to ask a question, its files are told and short enough, they spell a schema and policies, and the policies
+-- write declared names alone, are typed in each environment, and have supported constructs alone
+abbrev pub IsReadable : Run → Type 0
+IsReadable r = (t : AllSpelled r) × AreServed t.before.before.schema t.before.policies t.others
+
+-- one of the statuses of a whole report, or want of memory
+abbrev pub IsWhole : ℕ → Type 0
+IsWhole code = (code ≡ 0) ⊎ ((code ≡ 1) ⊎ ((code ≡ 2) ⊎ (code ≡ 30)))
+
+-- this status, unless the write failed or memory ran out
+abbrev pub MustBe : ℕ → ℕ → Type 0
+MustBe n code = (code ≡ n) ⊎ ((code ≡ 21) ⊎ (code ≡ 30))
+
+-- the words are a command to compare two sets of policies, the second in the file of this name, and the files before that are read
+pub record ReachesAgainst (content : Content) (words : List (List ℕ)) (name : List ℕ) : Type 0 where
+  pub command : Command
+  pub commands : Serves words command
+  pub question : Question
+  pub budget : ℕ
+  pub task : command.task ≡ asking question (Some name) budget
+  pub schema : Declarations
+  pub reads : ReadsSchema content command schema
+  pub first : List Policy
+  pub policies : HasPolicies content command.policies first
+
+-- a file of the command is told and longer than its limit, and the files before it are read
+pub data TooLong (r : Run) : Type 0 where
+  schema_long : (c : Command) → Serves r.words c → IsTooLong r.content c.schema → TooLong r
+  policies_long : (c : Command) → Serves r.words c → (s : Declarations) → ReadsSchema r.content c s → IsTooLong r.content c.policies → TooLong r
+  against_long : (name : List ℕ) → ReachesAgainst r.content r.words name → IsTooLong r.content name → TooLong r
+  world_long : (s : Declarations) (ps : List Policy) (name : List ℕ) → ReachesWorld r.content r.words s ps name → IsTooLong r.content name → TooLong r
+
+-- a question is asked of policies that write declared names alone and are typed, and one has a construct that isn't supported: that of
+-- the first such policy, in the first environment in which it has one, at the least place, is told
+pub record IsUnsupported (r : Run) : Type 0 where
+  pub schema : Declarations
+  pub question : Question
+  pub first : List Policy
+  pub against : Option (List Policy)
+  pub budget : ℕ
+  pub reaches : ReachesQuestion r.content r.words schema question first against budget
+  pub declared : names_fault schema first against ≡ None
+  pub typed : types_fault schema first against ≡ None
+  pub side : Side
+  pub construct : Unsupported
+  pub is : constructs_fault schema first against ≡ Some (side, construct)
+
+-- the schema file of the command spells no schema, and its first fault is told
+pub record IsFaultySchema (r : Run) : Type 0 where
+  pub command : Command
+  pub commands : Serves r.words command
+  pub bytes : List ℕ
+  pub told : IsContent r.content command.schema bytes
+  pub fault : SchemaFault
+  pub has : schema_file.HasFault bytes fault
+
+-- a policy file of the command spells no policies, its first fault is told, and the files before it are read
+pub data IsFaulty (r : Run) : Type 0 where
+  policies_faulty : (c : Command) → Serves r.words c → (s : Declarations) → ReadsSchema r.content c s → (bytes : List ℕ) → IsContent r.content c.policies bytes → (f : PolicyFault) → HasFault bytes f → IsFaulty r
+  against_faulty : (name : List ℕ) → ReachesAgainst r.content r.words name → (bytes : List ℕ) → IsContent r.content name bytes → (f : PolicyFault) → HasFault bytes f → IsFaulty r
+
+-- the world file of the command spells no world, its first fault is told, and the files before it are read
+pub record IsFaultyWorld (r : Run) : Type 0 where
+  pub schema : Declarations
+  pub policies : List Policy
+  pub name : List ℕ
+  pub reaches : ReachesWorld r.content r.words schema policies name
+  pub bytes : List ℕ
+  pub told : IsContent r.content name bytes
+  pub fault : WorldFault
+  pub has : world_file.HasFault bytes fault
+
+-- the policies of a replay write a name that isn't declared, the first one is told, and all files are read
+pub record HasUnknownName (r : Run) : Type 0 where
+  pub schema : Declarations
+  pub policies : List Policy
+  pub name : List ℕ
+  pub world : World
+  pub reaches : ReachesWorld r.content r.words schema policies name
+  pub has : HasWorld r.content name world
+  pub fault : NameFault
+  pub is : name_fault schema policies ≡ Some fault
+
+-- all files of a question are read, and its policies write a name that isn't declared, or one of them has no type in an environment:
+-- the first one, of the first set that has one, is told
+pub data IsIllTyped (s : Declarations) (first : List Policy) (against : Option (List Policy)) : Type 0 where
+  undeclared : (side : Side) (f : NameFault) → names_fault s first against ≡ Some (side, f) → IsIllTyped s first against
+  untyped : (side : Side) (f : IllTyped) → names_fault s first against ≡ None → types_fault s first against ≡ Some (side, f) → IsIllTyped s first against
+
+pub record IsUntypedQuestion (r : Run) : Type 0 where
+  pub schema : Declarations
+  pub question : Question
+  pub first : List Policy
+  pub against : Option (List Policy)
+  pub budget : ℕ
+  pub reaches : ReachesQuestion r.content r.words schema question first against budget
+  pub ill_typed : IsIllTyped schema first against
+
+-- status 13: an undeclared name, or a policy without a type
+abbrev pub IsUntyped : Run → Type 0
+IsUntyped r = HasUnknownName r ⊎ IsUntypedQuestion r
+
+-- the words are a command to replay a world whose files are told, and the first two spell a schema and policies
+pub record WorldTold (r : Run) : Type 0 where
+  pub command : Command
+  pub commands : Serves r.words command
+  pub name : List ℕ
+  pub task : command.task ≡ replaying name
+  pub schema_bytes : List ℕ
+  pub policy_bytes : List ℕ
+  pub bytes : List ℕ
+  pub schema_told : r.content command.schema ≡ Some schema_bytes
+  pub policies_told : r.content command.policies ≡ Some policy_bytes
+  pub told : r.content name ≡ Some bytes
+  pub schema_short : length schema_bytes ≤ limit
+  pub policies_short : length policy_bytes ≤ limit
+  pub schema : Declarations
+  pub policies : List Policy
+  pub schema_spelled : schema_file.Spells schema_bytes schema
+  pub policies_spelled : Spells policy_bytes policies
+
+abbrev pub SchemaIsLong : Run → Type 0
+SchemaIsLong r = (t : SchemaTold r) × (limit < length t.bytes)
+
+abbrev pub SchemaIsFaulty : Run → Type 0
+SchemaIsFaulty r = (t : SchemaTold r) × (length t.bytes ≤ limit) × ((s : Declarations) → schema_file.Spells t.bytes s → ⊥)
+
+abbrev pub PoliciesAreLong : Run → Type 0
+PoliciesAreLong r = (t : PoliciesTold r) × (limit < length t.bytes)
+
+abbrev pub PoliciesAreFaulty : Run → Type 0
+PoliciesAreFaulty r = (t : PoliciesTold r) × (length t.bytes ≤ limit) × ((ps : List Policy) → Spells t.bytes ps → ⊥)
+
+abbrev pub WorldIsLong : Run → Type 0
+WorldIsLong r = (t : WorldTold r) × (limit < length t.bytes)
+
+abbrev pub WorldIsFaulty : Run → Type 0
+WorldIsFaulty r = (t : WorldTold r) × (length t.bytes ≤ limit) × ((w : World) → world_file.SpellsWorld t.bytes w → ⊥)
+
+-- its world file spells a world
+pub record WorldSpelled (r : Run) : Type 0 where
+  pub before : WorldTold r
+  pub short : length before.bytes ≤ limit
+  pub world : World
+  pub spelled : world_file.SpellsWorld before.bytes world
+
+-- a second policy file is told where the question takes two sets
+pub record AgainstNamed (r : Run) : Type 0 where
+  pub before : QuestionSpelled r
+  pub file : List ℕ
+  pub named : before.name ≡ Some file
+  pub bytes : List ℕ
+  pub told : r.content file ≡ Some bytes
+
+abbrev pub AgainstIsLong : Run → Type 0
+AgainstIsLong r = (t : AgainstNamed r) × (limit < length t.bytes)
+
+abbrev pub AgainstIsFaulty : Run → Type 0
+AgainstIsFaulty r = (t : AgainstNamed r) × (length t.bytes ≤ limit) × ((ps : List Policy) → Spells t.bytes ps → ⊥)
+
+-- all files are read, and the policies write a name that isn't declared
+abbrev pub NamesAreUnknown : Run → Type 0
+NamesAreUnknown r =
+    ((t : WorldSpelled r) × ((f : NameFault) × (name_fault t.before.schema t.before.policies ≡ Some f)))
+    ⊎ ((t : AllSpelled r) × (names_fault t.before.before.schema t.before.policies t.others ≢ None))
+
+-- a question is asked of policies that write declared names alone, and one of them isn't typed
+abbrev pub PoliciesAreUntyped : Run → Type 0
+PoliciesAreUntyped r =
+    (t : AllSpelled r) × (names_fault t.before.before.schema t.before.policies t.others ≡ None) × (types_fault t.before.before.schema t.before.policies t.others ≢ None)
+
+-- a question is asked of policies that are typed, and one of them has a construct that isn't supported
+abbrev pub PoliciesAreUnsupported : Run → Type 0
+PoliciesAreUnsupported r =
+    (t : AllSpelled r) × (names_fault t.before.before.schema t.before.policies t.others ≡ None) × (types_fault t.before.before.schema t.before.policies t.others ≡ None)
+    × (constructs_fault t.before.before.schema t.before.policies t.others ≢ None)
+
+abbrev pub IsReplayable : Run → Type 0
+IsReplayable r = (t : WorldSpelled r) × (name_fault t.before.schema t.before.policies ≡ None)
+
+-- the whole report on the world is written, and the status says whether it is well-formed; or memory ran out
+abbrev pub IsReplayed : (r : Run) → IsReplayable r → Type 0
+IsReplayed r x =
+    ((found : Option Break) × Finds (scene x.0.before.schema x.0.before.policies x.0.world) found × (r.code ≡ status_of found)
+    × (r.after ≡ appended r.before (text_of (lines_of (scene x.0.before.schema x.0.before.policies x.0.world) found))))
+    ⊎ (r.code ≡ 30)
+
+-- how a refusal ends: its line is written whole, or a front of it, or memory runs out and nothing is written
+abbrev pub Refuses : Refusal → Option (List ℕ) → Option (List ℕ) → Type 0 → ℕ → Type 0
+Refuses a old new rose code =
+    ((code ≡ code_of a) × (new ≡ appended old (refusal_text a)))
+    ⊎ ((rose × (code ≡ 21) × ((n : ℕ) × (new ≡ appended old (take n (refusal_text a))))) ⊎ ((code ≡ 30) × (new ≡ old)))

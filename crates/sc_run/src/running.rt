@@ -1,0 +1,59 @@
+//! The top call.
+ghost use Rattle.std.specs.Prelude.{◌≡◌, ◌<◌};
+ghost use Rattle.sc_outside.specs.Counts.{Rose};
+ghost use Rattle.sc_inputs.specs.View.{refusal_view};
+ghost use Rattle.sc_run.specs.Promises.{Promises};
+ghost use Rattle.sc_run.specs.Runs.{Ends, MustBe, Refuses, run_of};
+
+use crate::replaying::replay;
+use crate::reporting::report;
+use crate::status::Status;
+use sc_inputs::{Inputs, Refusal, code, inputs_of, text_of};
+use sc_lists::Fault;
+use sc_outside::{Files, Sink, SinkFault};
+use sc_schema_json::spelling_laws;
+use sc_world_breaks::break_laws;
+use sc_world_json::reading_laws;
+use std::alloc::Global;
+
+/// Puts out the line of a refusal. Gives the status.
+fn refuse<O: Sink>(alloc: Global, refusal: &Refusal, out: &mut O) -> u8
+    ensures refuses { Refuses (refusal_view refusal.now) (O.written out.old) (O.written out.new) (Rose
+        (O.faults out.old) (O.faults out.new)) result }
+    ensures told { O.faults out.old < O.faults out.new → result ≡ 21 }
+{
+    let Ok(text) = text_of(alloc, refusal) else {
+        return 30;
+    };
+    match out.write(&text) {
+        Ok(()) => code(refusal),
+        Err(SinkFault::Failed) => 21,
+        Err(SinkFault::NoMemory) => 30,
+    }
+}
+
+/// Reads what the words name, and does it.
+fn ends<F: Files, O: Sink>(alloc: Global, words: &[String], files: &mut F, out: &mut O) -> Status
+    ensures ends { Ends (run_of F.Files O.Sink files.old files.new out.old out.new words.now result.code) result.spent.items }
+    ensures read_told { F.faults files.old < F.faults files.new → MustBe 20 result.code }
+    ensures write_told { O.faults out.old < O.faults out.new → result.code ≡ 21 }
+{
+    match inputs_of(alloc, words, files) {
+        Ok(Inputs::Asked(analysis)) => report(alloc, &analysis, out),
+        Ok(Inputs::Replayed(scene)) => Status::without_logs(alloc, replay(alloc, &scene, out)),
+        Err(Fault::Told(refusal)) => Status::without_logs(alloc, refuse(alloc, &refusal, out)),
+        Err(Fault::NoMemory) => Status::without_logs(alloc, 30),
+    }
+}
+
+/// Does all that the program does: the words are its arguments, its files are read from one source, and what it reports
+/// goes to one sink. Each line is written as soon as it is known. The answer has the status and the log of each
+/// environment that is unknown. `specs/Promises.antt` says what is promised of each run.
+pub fn run<F: Files, O: Sink>(alloc: Global, words: &[String], files: &mut F, out: &mut O) -> Status
+    ensures { Promises (run_of F.Files O.Sink files.old files.new out.old out.new words.now result.code) result.spent.items }
+{
+    spelling_laws();
+    reading_laws();
+    break_laws();
+    ends(alloc, words, files, out)
+}
