@@ -1,2 +1,4 @@
 pub mod Reaching
+pub mod Graphs
 pub mod Searches
+pub mod Paths

@@ -17,10 +17,11 @@ use Rattle.std.specs.declared.cmp.Ordering.{Ordering}
 use Rattle.std.specs.declared.cmp.Ordering.TheVariants.{Less}
 use Rattle.sc_lists.proofs.ListLaws.{contains_place}
 use Rattle.sc_lists.proofs.OptionLaws.{same_some}
-use Rattle.sc_graphs.specs.Reaching.{has, successors, Reaches, step, on}
+use Rattle.sc_graphs.specs.Reaching.{Reaches, step, on}
+use Rattle.sc_graphs.specs.Graphs.{has, successors, Follows}
 use Rattle.sc_schema.proofs.OrderLaws.{not_below}
 use Rattle.sc_schema.proofs.PlaceLaws.{all_at}
-use Rattle.sc_schema_hierarchy.specs.Above.{Links, IsParent, IsAbove, parent, further, NamesKeys}
+use Rattle.sc_schema_hierarchy.specs.Above.{Links, IsParent, IsAbove, NamesKeys}
 use Rattle.sc_schema_hierarchy.specs.Graphs.{IsGraphOf, parents_at}
 
 -- ---- places of links and of keys
@@ -42,7 +43,7 @@ contains_at : {X : Type 0} (xs : List X) (x : X) → Contains xs x → (i : ℕ)
 contains_at xs x has = (has.0, slice_get-get_or xs has.0 x has.1 ∙ ap Some has.2)
 
 -- two places of one key are one
-one_place : {K : Type 0} {R : K → K → Ordering} (o : IsTotalOrder R) (keys : List K) (i j : ℕ) (k : K) → IsStrictlySortedBy R keys → slice_get keys i ≡ Some k → slice_get keys j ≡ Some k → i ≡ j
+pub one_place : {K : Type 0} {R : K → K → Ordering} (o : IsTotalOrder R) (keys : List K) (i j : ℕ) (k : K) → IsStrictlySortedBy R keys → slice_get keys i ≡ Some k → slice_get keys j ≡ Some k → i ≡ j
 one_place {K} {R} o keys i j k sorted a b = elim (cases_lt i j) [
   | inl less ↦ absurd (apart i j less a b)
   | inr more ↦ other (eq-or-lt_of_le more)
@@ -71,15 +72,15 @@ module _ {K : Type 0} {links : Links K} {graph : List (List ℕ)} (g : IsGraphOf
         },
       )
 
-  pub reached_above : {i j : ℕ} → Reaches graph i j → (k : K) (above : List K) → slice_get links i ≡ Some (k, above) → (key : K) × (slice_get (keys_of links) j ≡ Some key) × IsAbove links k key
+  pub reached_above : {i j : ℕ} → Reaches (Follows graph) i j → (k : K) (above : List K) → slice_get links i ≡ Some (k, above) → (key : K) × (slice_get (keys_of links) j ≡ Some key) × IsAbove links k key
   reached_above (step i j e) k above h =
       let next = followed i j k above h e in
-      (next.0, next.1, parent k next.0 next.2)
+      (next.0, next.1, step k next.0 next.2)
   reached_above (on i m j e r) k above h =
       let next = followed i m k above h e in
       let there = link_there links m next.0 next.1 in
       let last = reached_above r next.0 there.0 there.1 in
-      (last.0, last.1, further k next.0 last.0 next.2 last.2)
+      (last.0, last.1, on k next.0 last.0 next.2 last.2)
 
   module _ {R : K → K → Ordering} (o : IsTotalOrder R) (sorted : IsStrictlySortedBy R (keys_of links)) (declared : NamesKeys links) where
     follows : (i : ℕ) (k b : K) (above : List K) → slice_get links i ≡ Some (k, above) → IsParent links k b → (n : ℕ) × (slice_get (keys_of links) n ≡ Some b) × (has (successors graph i) n ≡ true)
@@ -92,11 +93,11 @@ module _ {K : Type 0} {links : Links K} {graph : List (List ℕ)} (g : IsGraphOf
         let key : Contains (keys_of links) b = all_at (Contains (keys_of links)) p.above at.0 b known at.1 in
         (g.each i).complete b (subst (λ (ks : List K). Contains ks b) (sym (parents_there links i k p.above here)) p.parent) key
 
-    pub above_reached : {k c : K} → IsAbove links k c → (i : ℕ) (above : List K) → slice_get links i ≡ Some (k, above) → (j : ℕ) × (slice_get (keys_of links) j ≡ Some c) × Reaches graph i j
-    above_reached (parent k b p) i above h =
+    pub above_reached : {k c : K} → IsAbove links k c → (i : ℕ) (above : List K) → slice_get links i ≡ Some (k, above) → (j : ℕ) × (slice_get (keys_of links) j ≡ Some c) × Reaches (Follows graph) i j
+    above_reached (step k b p) i above h =
         let next = follows i k b above h p in
         (next.0, next.1, step i next.0 next.2)
-    above_reached (further k b c p r) i above h =
+    above_reached (on k b c p r) i above h =
         let next = follows i k b above h p in
         let there = link_there links next.0 b next.1 in
         let last = above_reached r next.0 there.0 there.1 in
@@ -107,13 +108,13 @@ length_keys [] = refl
 length_keys (l ∷ ls) = ap suc (length_keys ls)
 
 -- what is reached is a place of a link
-reached_within : {K : Type 0} {links : Links K} {graph : List (List ℕ)} → IsGraphOf links graph → {i n : ℕ} → Reaches graph i n → n < length links
+pub reached_within : {K : Type 0} {links : Links K} {graph : List (List ℕ)} → IsGraphOf links graph → {i n : ℕ} → Reaches (Follows graph) i n → n < length links
 reached_within {K} {links} g (step i n e) =
     let named = (g.each i).sound n e in
     subst (λ m. n < m) (length_keys links) (slice_get_within (keys_of links) n named.key named.there)
 reached_within g (on i m n e r) = reached_within g r
 
-all_within : {K : Type 0} {links : Links K} {graph : List (List ℕ)} → IsGraphOf links graph → (i : ℕ) (places : List ℕ) → ((n : ℕ) → has places n ≡ true → Reaches graph i n) → AllByRecursion (λ n. n < length links) places
+all_within : {K : Type 0} {links : Links K} {graph : List (List ℕ)} → IsGraphOf links graph → (i : ℕ) (places : List ℕ) → ((n : ℕ) → has places n ≡ true → Reaches (Follows graph) i n) → AllByRecursion (λ n. n < length links) places
 all_within g i [] reached = tt
 all_within {K} {links} g i (p ∷ ps) reached =
     (reached_within g (reached p (first (level_itself p))), all_within g i ps (λ n h. reached n (later (is_at (nat_cmp n) p) (has ps n) h))) where
@@ -127,5 +128,5 @@ all_within {K} {links} g i (p ∷ ps) reached =
       level_itself : (n : ℕ) → is_at (nat_cmp n) n ≡ true
       level_itself n = grind (arith, nat_tests)
 
-pub places_within : {K : Type 0} (links : Links K) (graph : List (List ℕ)) (i : ℕ) (places : List ℕ) → IsGraphOf links graph → ((n : ℕ) → IsTrue (has places n) ↔ Reaches graph i n) → All (λ n. n < length links) places
+pub places_within : {K : Type 0} (links : Links K) (graph : List (List ℕ)) (i : ℕ) (places : List ℕ) → IsGraphOf links graph → ((n : ℕ) → IsTrue (has places n) ↔ Reaches (Follows graph) i n) → All (λ n. n < length links) places
 places_within links graph i places g reached = All-from_recursion (λ n. n < length links) places (all_within g i places (λ n h. (reached n).0 h))

@@ -14,7 +14,7 @@ use Rattle.std.specs.Ordering.{nat_cmp}
 use Rattle.sc_lists.proofs.ListLaws.{contains_nothing}
 use Rattle.sc_lists.proofs.BoolLaws.{true_or_false}
 use Rattle.sc_lists.proofs.OrderingLaws.{is_at_same, is_at_itself}
-use Rattle.sc_graphs.specs.Reaching.{has}
+use Rattle.sc_graphs.specs.Graphs.{has}
 use Rattle.sc_schema_hierarchy.specs.Above.{Links}
 use Rattle.sc_schema_hierarchy.specs.Graphs.{NamesPlace, ArePlaces, IsGraphOf, parents_at}
 use Rattle.sc_schema_hierarchy.proofs.MemberLaws.{contains_more, contains_last, split_last}

@@ -15,7 +15,8 @@ use Rattle.std.proofs.lemmas.Bool.{or_left, or_right, or_cases}
 use Rattle.sc_lists.proofs.ListLaws.{contains_nothing, contains_split, contains_rest, contains_first}
 use Rattle.sc_lists.proofs.OptionLaws.{same_some}
 use Rattle.sc_lists.proofs.OrderingLaws.{is_at_itself, is_at_same}
-use Rattle.sc_graphs.specs.Reaching.{has, Reaches}
+use Rattle.sc_graphs.specs.Reaching.{Reaches}
+use Rattle.sc_graphs.specs.Graphs.{has, Follows}
 use Rattle.sc_schema_hierarchy.specs.Above.{Links, IsAbove, AreAbove, NamesKeys}
 use Rattle.sc_schema_hierarchy.specs.Graphs.{IsGraphOf}
 use Rattle.sc_schema_hierarchy.proofs.AboveLaws.{reached_above, above_reached, key_there}
@@ -82,7 +83,7 @@ module _ {K : Type 0} (R : K → K → Ordering) (all : List K) (sorted : IsStri
 
 pub all_above : {K : Type 0} {R : K → K → Ordering} (o : IsTotalOrder R) (links : Links K) (graph : List (List ℕ)) (i : ℕ) (places : List ℕ) (ks : List K) (key : K) (above : List K)
     → IsStrictlySortedBy R (keys_of links) → NamesKeys links → IsGraphOf links graph
-    → ((n : ℕ) → IsTrue (has places n) ↔ Reaches graph i n) → IsStrictlySortedBy nat_cmp places → ArePicked (keys_of links) places ks
+    → ((n : ℕ) → IsTrue (has places n) ↔ Reaches (Follows graph) i n) → IsStrictlySortedBy nat_cmp places → ArePicked (keys_of links) places ks
     → slice_get links i ≡ Some (key, above) → AreAbove R links key ks
 all_above {K} {R} o links graph i places ks key above sorted declared g reached ascending picked h =
     record {
@@ -94,7 +95,7 @@ all_above {K} {R} o links graph i places ks key above sorted declared g reached 
           let last = reached_above g ((reached found.0).0 found.1) key above h in
           subst (λ (x : K). IsAbove links key x) (same_some (sym last.1 ∙ found.2)) last.2
 
-      back : (b : K) → (j : ℕ) × (slice_get (keys_of links) j ≡ Some b) × Reaches graph i j → Contains ks b
+      back : (b : K) → (j : ℕ) × (slice_get (keys_of links) j ≡ Some b) × Reaches (Follows graph) i j → Contains ks b
       back b found = picked_key (keys_of links) ks places found.0 b picked ((reached found.0).1 found.2) found.1
 
 map_last : {K : Type 0} (xs : List K) (x : K) → map Some (xs ++ x ∷ []) ≡ map Some xs ++ Some x ∷ []

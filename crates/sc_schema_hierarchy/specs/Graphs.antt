@@ -3,7 +3,7 @@ use Rattle.std.specs.Prelude.{◌≡◌, ℕ, List, [], Some, true, length, get_
 use Rattle.std.specs.List.{slice_get}
 use Rattle.std.specs.Map.{keys_of}
 use Rattle.std.specs.Option.{option_map_or}
-use Rattle.sc_graphs.specs.Reaching.{has}
+use Rattle.sc_graphs.specs.Graphs.{has}
 use Rattle.sc_schema_hierarchy.specs.Above.{Links}
 
 -- the keys directly above the one at place i
