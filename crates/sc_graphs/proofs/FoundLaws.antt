@@ -1,6 +1,6 @@
 -- What a search for cycles begins with, and what it has found where it ends.
-use Rattle.std.proofs.Common.{◌≡◌, ◌≢◌, ◌⊎◌, ◌<◌, ◌≤◌, ◌+◌, ◌*◌, ◌^◌, ◌↔◌, ℕ, zero, suc, List, [], ◌∷◌, ◌++◌, Bool, true, false, Option, Some, None, IfOk, IfSome, IfNone, length, get_or, refl, sym, ap, subst, ◌∙◌, inl, inr, arith, Contains}
-use Rattle.std.proofs.lemmas.Bool.{cases_lt, cases_eq}
+use Rattle.std.proofs.Common.{◌≡◌, ◌≢◌, ◌<◌, ◌≤◌, ◌+◌, ◌↔◌, ℕ, List, [], ◌∷◌, ◌++◌, Bool, true, false, Option, Some, None, IfSome, IfNone, length, refl, sym, ap, subst, ◌∙◌, inl, inr, arith, Contains}
+use Rattle.std.proofs.lemmas.Bool.{cases_lt}
 use Rattle.std.proofs.lemmas.Bool.Decides.{nat_tests}
 use Rattle.std.proofs.lemmas.List.{get_or_append_left, get_or_push, length_push}
 use Rattle.std.proofs.Math.ListN.{get_or-eq_default}
@@ -11,8 +11,8 @@ use Rattle.sc_graphs.specs.declared.path.Mark.{Mark}
 use Rattle.sc_graphs.specs.declared.path.Mark.TheVariants.{New, OnPath, Left}
 use Rattle.sc_graphs.specs.declared.path.Part.{Part}
 use Rattle.sc_graphs.specs.Reaching.{Reaches, step, on, NoCycle, IsLeastCycle}
-use Rattle.sc_graphs.specs.Graphs.{has, successors, Follows}
-use Rattle.sc_graphs.specs.Paths.{mark_in, node_at, AreParts, none, IsPending, IsSearch, nothing, Goes}
+use Rattle.sc_graphs.specs.Graphs.{has, Follows}
+use Rattle.sc_graphs.specs.Paths.{mark_in, node_at, none, IsSearch, nothing, Goes}
 use Rattle.sc_graphs.proofs.PartLaws.{parts_none}
 use Rattle.sc_graphs.proofs.PathLaws.{left_not_new, on_not_new, left_not_on, same_left, known}
 

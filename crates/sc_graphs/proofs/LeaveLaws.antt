@@ -1,22 +1,19 @@
 -- A part of the path is left; and what a search has found where it ends.
-use Rattle.std.proofs.Common.{◌≡◌, ◌≢◌, ◌⊎◌, ◌<◌, ◌≤◌, ◌+◌, ◌-◌, ◌*◌, ◌^◌, ◌↔◌, ◌&&◌, ℕ, zero, suc, List, [], ◌∷◌, ◌++◌, Bool, true, false, cond, Option, Some, None, Result, Ok, Err, IfOk, IfSome, IfNone, length, take, set, get_or, nat_le, nat_lt, refl, sym, ap, subst, ◌∙◌, inl, inr, arith, Contains}
+use Rattle.std.proofs.Common.{◌≡◌, ◌≢◌, ◌⊎◌, ◌<◌, ◌≤◌, ◌+◌, ◌↔◌, ◌&&◌, ℕ, zero, suc, List, [], ◌∷◌, ◌++◌, Bool, true, false, cond, length, take, set, get_or, nat_le, nat_lt, refl, sym, ap, subst, ◌∙◌, inl, inr, arith, Contains}
 use Rattle.std.proofs.lemmas.Bool.{cases_lt, cases_eq}
 use Rattle.std.proofs.lemmas.Bool.Decides.{nat_tests}
-use Rattle.std.proofs.lemmas.List.{get_or-take, length-take-le, get_or-set_same, get_or-set_other}
+use Rattle.std.proofs.lemmas.List.{get_or-take, length-take-le, get_or-set_same, get_or-set_other, get_or_default}
 use Rattle.std.proofs.lemmas.List.Elements.{Contains-push, Contains-append_left}
 use Rattle.std.proofs.Math.ListN.{get_or-eq_default}
-use Rattle.std.specs.Ordering.{nat_cmp}
-use Rattle.std.specs.declared.cmp.Ordering.TheVariants.{Less}
-use Rattle.sc_lists.proofs.ListLaws.{contains_nothing}
 use Rattle.sc_graphs.specs.declared.path.Mark.{Mark}
 use Rattle.sc_graphs.specs.declared.path.Mark.TheVariants.{New, OnPath, Left}
 use Rattle.sc_graphs.specs.declared.path.Part.{Part}
-use Rattle.sc_graphs.specs.Reaching.{Reaches, step, on, NoCycle, IsLeastCycle}
-use Rattle.sc_graphs.specs.Graphs.{has, successors, Follows}
-use Rattle.sc_graphs.specs.Paths.{mark_in, node_at, Leads, AreOn, IsMarked, IsPart, AreParts, none, IsPassed, is_left, is_on, Waits, bound, IsPending, IsSearch, nothing, left_from, Goes, unmet}
-use Rattle.sc_graphs.proofs.PartLaws.{parts_pop, parts_none, parts_same}
+use Rattle.sc_graphs.specs.Reaching.{Reaches, step, on}
+use Rattle.sc_graphs.specs.Graphs.{Follows}
+use Rattle.sc_graphs.specs.Paths.{mark_in, node_at, Leads, AreOn, IsMarked, IsPart, AreParts, IsPassed, is_left, is_on, Waits, bound, IsPending, IsSearch, nothing, left_from, Goes, unmet}
+use Rattle.sc_graphs.proofs.PartLaws.{parts_pop, parts_same}
 use Rattle.sc_graphs.proofs.ReachesLaws.{further}
-use Rattle.sc_graphs.proofs.PathLaws.{left_not_new, on_not_new, left_not_on, same_left, same_on, known}
+use Rattle.sc_graphs.proofs.PathLaws.{left_not_new, on_not_new, left_not_on, same_left, known}
 
 -- ---- marks as a part is left
 
@@ -60,6 +57,18 @@ left_more f e c (OnPath t) other = elim (cases_lt t f) [
     | inl same ↦ absurd (other (ap OnPath (sym same)))
     | inr apart ↦ left_behind f (e + 1) t c (OnPath t) refl (omega (arith, later, apart)) ∙ sym (left_behind f e t c (OnPath t) refl later)
   ]
+
+-- places past the path mark nothing
+pub left_past : (f e g : ℕ) (c : Bool) (m : Mark) → e ≤ g → ((t : ℕ) → m ≡ OnPath t → t < e) → left_from f g c m ≡ left_from f e c m
+left_past f e g c New more within = refl
+left_past f e g c (Left b) more within = refl
+left_past f e g c (OnPath t) more within = elim (cases_lt t f) [
+  | inl less ↦ left_before f g t c (OnPath t) refl less ∙ sym (left_before f e t c (OnPath t) refl less)
+  | inr above ↦ left_inside f g t c (OnPath t) refl above (let inside : t < e = within t refl in omega (arith, inside, more)) ∙ sym (left_inside f e t c (OnPath t) refl above (within t refl))
+]
+
+pub node_read : (path : List ℕ) (place n : ℕ) → place < length path → n ≡ get_or path place n → n ≡ node_at path place
+node_read path place n within is = is ∙ get_or_default path place n 0 within
 
 marked_within : (marks : List Mark) (n t : ℕ) → mark_in marks n ≡ OnPath t → n < length marks
 marked_within marks n t is = elim (cases_lt n (length marks)) [

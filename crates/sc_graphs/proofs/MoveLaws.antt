@@ -1,6 +1,6 @@
 -- The steps of a search for cycles, as its calls tell them.
-use Rattle.std.proofs.Common.{◌≡◌, ◌≢◌, ◌<◌, ◌≤◌, ◌+◌, ◌-◌, ℕ, List, [], ◌∷◌, ◌++◌, Bool, true, false, ◌⊎◌, cond, length, take, set, get_or, nat_eq, refl, sym, ap, subst, ◌∙◌, inl, inr, arith, Contains, Vec, Global}
-use Rattle.std.proofs.lemmas.Bool.{cases_lt, cases_eq}
+use Rattle.std.proofs.Common.{◌≡◌, ◌≢◌, ◌<◌, ◌≤◌, ◌+◌, ◌-◌, ℕ, List, [], ◌∷◌, ◌++◌, Bool, true, false, ◌⊎◌, cond, length, take, set, nat_eq, refl, sym, ap, subst, ◌∙◌, inl, inr, arith, Vec, Global}
+use Rattle.std.proofs.lemmas.Bool.{cases_eq}
 use Rattle.std.proofs.lemmas.Bool.Decides.{nat_tests}
 use Rattle.std.proofs.lemmas.List.{get_or-set_same, get_or-set_other, length_push}
 use Rattle.sc_graphs.specs.declared.path.Mark.{Mark}
@@ -9,7 +9,7 @@ use Rattle.sc_graphs.specs.declared.path.Part.{Part}
 use Rattle.sc_graphs.specs.declared.path.Search.{Search}
 use Rattle.sc_graphs.specs.Reaching.{Reaches}
 use Rattle.sc_graphs.specs.Graphs.{successors, Follows}
-use Rattle.sc_graphs.specs.Paths.{mark_in, node_at, AreParts, IsPassed, Waits, bound, IsPending, IsSearch, nothing, Stands, StandsAt, entered, left_from, IsJoined, Goes}
+use Rattle.sc_graphs.specs.Paths.{mark_in, node_at, AreParts, IsPassed, Waits, bound, IsSearch, nothing, Stands, StandsAt, entered, left_from, IsJoined, Goes}
 use Rattle.sc_graphs.proofs.PartLaws.{parts_none}
 use Rattle.sc_graphs.proofs.PathLaws.{on_not_new, taken, all_reach, passes_left, enters, joins, by_eq}
 use Rattle.sc_graphs.proofs.LeaveLaws.{leaves, new_within}

@@ -1,5 +1,5 @@
 -- The parts of a path.
-use Rattle.std.proofs.Common.{◌≡◌, ◌⊎◌, ◌<◌, ◌≤◌, ◌+◌, ℕ, List, [], ◌∷◌, ◌++◌, Bool, true, false, length, get_or, refl, sym, ap, subst, ◌∙◌, inl, inr, arith, Contains}
+use Rattle.std.proofs.Common.{◌≡◌, ◌⊎◌, ◌<◌, ◌≤◌, ℕ, List, [], ◌∷◌, ◌++◌, get_or, refl, sym, subst, ◌∙◌, inl, inr, arith, Contains}
 use Rattle.std.proofs.lemmas.Bool.{cases_lt}
 use Rattle.std.proofs.lemmas.List.{same_from_push}
 use Rattle.std.proofs.lemmas.List.Elements.{Contains-push, Contains-push_cases, Contains-append_left}
@@ -7,7 +7,7 @@ use Rattle.sc_lists.proofs.ListLaws.{contains_nothing}
 use Rattle.sc_graphs.specs.declared.path.Part.{Part}
 use Rattle.sc_graphs.specs.Reaching.{Reaches}
 use Rattle.sc_graphs.specs.Graphs.{Follows}
-use Rattle.sc_graphs.specs.Paths.{node_at, Leads, IsPart, AreParts, none, more, IsJoining, IsJoined}
+use Rattle.sc_graphs.specs.Paths.{node_at, Leads, IsPart, AreParts, none, more, IsJoining}
 
 no_push : {X : Type 0} (xs : List X) (x : X) → xs ++ x ∷ [] ≡ [] → ⊥
 no_push [] x h = absurd cc

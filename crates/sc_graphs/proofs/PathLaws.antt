@@ -1,17 +1,16 @@
 -- What a search for cycles keeps at each of its steps.
-use Rattle.std.proofs.Common.{◌≡◌, ◌≢◌, ◌⊎◌, ◌<◌, ◌≤◌, ◌+◌, ◌-◌, ◌↔◌, ◌||◌, ◌&&◌, ℕ, List, [], ◌∷◌, ◌++◌, Bool, true, false, cond, length, take, get_or, nat_eq, nat_le, nat_lt, refl, sym, ap, subst, ◌∙◌, inl, inr, arith, Contains}
+use Rattle.std.proofs.Common.{◌≡◌, ◌≢◌, ◌⊎◌, ◌<◌, ◌≤◌, ◌+◌, ◌-◌, ◌↔◌, ℕ, List, [], ◌∷◌, ◌++◌, Bool, true, false, cond, length, get_or, nat_eq, refl, sym, ap, subst, ◌∙◌, inl, inr, arith, Contains}
 use Rattle.std.proofs.lemmas.Bool.{cases_lt, cases_eq}
 use Rattle.std.proofs.lemmas.Bool.Decides.{nat_tests}
-use Rattle.std.proofs.lemmas.List.{get_or_append_left, get_or_push, get_or-take, get_or-append_right, length_push, length-append, length-take-le}
+use Rattle.std.proofs.lemmas.List.{get_or_append_left, get_or_push, get_or-append_right, length_push, length-append}
 use Rattle.std.proofs.lemmas.List.Elements.{Contains-push, Contains-push_cases, Contains-append_left}
-use Rattle.sc_lists.proofs.ListLaws.{contains_nothing}
 use Rattle.sc_graphs.specs.declared.path.Mark.{Mark}
 use Rattle.sc_graphs.specs.declared.path.Mark.TheVariants.{New, OnPath, Left}
 use Rattle.sc_graphs.specs.declared.path.Part.{Part}
-use Rattle.sc_graphs.specs.Reaching.{Reaches, step, on}
-use Rattle.sc_graphs.specs.Graphs.{has, successors, Follows}
-use Rattle.sc_graphs.specs.Paths.{mark_in, node_at, Leads, AreOn, IsMarked, IsPart, AreParts, none, IsPassed, is_left, is_on, Waits, bound, IsPending, IsSearch, nothing, entered, left_from, IsJoining, IsJoined, Goes}
-use Rattle.sc_graphs.proofs.PartLaws.{parts_pop, parts_none, parts_push, parts_below, parts_same}
+use Rattle.sc_graphs.specs.Reaching.{Reaches, step}
+use Rattle.sc_graphs.specs.Graphs.{successors, Follows}
+use Rattle.sc_graphs.specs.Paths.{mark_in, node_at, Leads, AreOn, IsMarked, IsPart, AreParts, IsPassed, is_left, is_on, Waits, bound, IsPending, IsSearch, nothing, entered, IsJoined}
+use Rattle.sc_graphs.proofs.PartLaws.{parts_pop, parts_push, parts_below, parts_same}
 use Rattle.sc_graphs.proofs.ReachesLaws.{further, led, leads_on}
 use Rattle.sc_graphs.proofs.SearchLaws.{stands, has_one}
 

@@ -1,4 +1,4 @@
-use Rattle.std.proofs.Common.{◌≡◌, ◌≤◌, length, rules}
+use Rattle.std.proofs.Common.{◌≤◌, length, rules}
 use Rattle.sc_graphs.proofs.FoundLaws.{left_next, left_all, some_told, none_told}
 use Rattle.sc_graphs.proofs.cycles.least_cycle.Goals as goal
 

@@ -1,4 +1,4 @@
-use Rattle.std.proofs.Common.{◌≡◌, ◌≢◌, length, sym, ◌∙◌, rules}
+use Rattle.std.proofs.Common.{◌≡◌, ◌≢◌, length, rules}
 use Rattle.sc_graphs.specs.declared.path.Mark.TheVariants.{New}
 use Rattle.sc_graphs.specs.Paths.{mark_in}
 use Rattle.sc_graphs.proofs.FoundLaws.{met_is_left}

@@ -1,4 +1,4 @@
-use Rattle.std.proofs.Common.{◌≡◌, ◌≢◌}
+use Rattle.std.proofs.Common.{◌≢◌}
 use Rattle.sc_graphs.specs.declared.path.Mark.TheVariants.{New}
 use Rattle.sc_graphs.specs.Paths.{Stands, Goes, mark_in, steps_left}
 use Rattle.sc_graphs.proofs.path.Search.follow.Given as goal

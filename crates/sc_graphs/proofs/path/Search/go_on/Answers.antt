@@ -1,4 +1,4 @@
-use Rattle.std.proofs.Common.{◌≡◌, ◌<◌, ◌≤◌, ℕ, length, sym, subst, ◌∙◌, rules, Vec, Global}
+use Rattle.std.proofs.Common.{◌<◌, ◌≤◌, ℕ, length, sym, subst, ◌∙◌, rules, Vec, Global}
 use Rattle.sc_graphs.specs.declared.path.Mark.{Mark}
 use Rattle.sc_graphs.specs.Paths.{IsSearch, nothing}
 use Rattle.sc_graphs.proofs.MoveLaws.{goes_back, goes_past, goes_in, goes_round}
