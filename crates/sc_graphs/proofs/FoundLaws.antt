@@ -1,11 +1,9 @@
 -- What a search for cycles begins with, and what it has found where it ends.
 use Rattle.std.proofs.Common.{◌≡◌, ◌≢◌, ◌<◌, ◌≤◌, ◌+◌, ◌↔◌, ℕ, List, [], ◌∷◌, ◌++◌, Bool, true, false, Option, Some, None, IfSome, IfNone, length, refl, sym, ap, subst, ◌∙◌, inl, inr, arith, Contains}
 use Rattle.std.proofs.lemmas.Bool.{cases_lt}
-use Rattle.std.proofs.lemmas.Bool.Decides.{nat_tests}
 use Rattle.std.proofs.lemmas.List.{get_or_append_left, get_or_push, length_push}
 use Rattle.std.proofs.Math.ListN.{get_or-eq_default}
 use Rattle.std.specs.Ordering.{nat_cmp}
-use Rattle.std.specs.declared.cmp.Ordering.TheVariants.{Less}
 use Rattle.sc_lists.proofs.ListLaws.{contains_nothing}
 use Rattle.sc_graphs.specs.declared.path.Mark.{Mark}
 use Rattle.sc_graphs.specs.declared.path.Mark.TheVariants.{New, OnPath, Left}
@@ -14,6 +12,7 @@ use Rattle.sc_graphs.specs.Reaching.{Reaches, step, on, NoCycle, IsLeastCycle}
 use Rattle.sc_graphs.specs.Graphs.{has, Follows}
 use Rattle.sc_graphs.specs.Paths.{mark_in, node_at, none, IsSearch, nothing, Goes}
 use Rattle.sc_graphs.proofs.PartLaws.{parts_none}
+use Rattle.sc_graphs.proofs.PlacesLaws.{less_places}
 use Rattle.sc_graphs.proofs.PathLaws.{left_not_new, on_not_new, left_not_on, same_left, known}
 
 -- as many nodes, none of which was met
@@ -36,7 +35,7 @@ all_new_next marks count h = record {
 no_successors : (graph : List (List ℕ)) (n m : ℕ) → length graph ≤ n → Follows graph n m → ⊥
 no_successors graph n m past leads = (let no : false ≡ true = ap (λ (ns : List ℕ). has ns m) (sym (get_or-eq_default graph [] past)) ∙ leads in absurd cc)
 
-no_cycle_past : (graph : List (List ℕ)) (n m : ℕ) → length graph ≤ n → Reaches (Follows graph) n m → ⊥
+pub no_cycle_past : (graph : List (List ℕ)) (n m : ℕ) → length graph ≤ n → Reaches (Follows graph) n m → ⊥
 no_cycle_past graph n m past (step _ _ h) = no_successors graph n m past h
 no_cycle_past graph n m past (on _ k _ h r) = no_successors graph n k past h
 
@@ -94,14 +93,11 @@ cyclic_left {graph} {marks} s all n r = elim (cases_lt n (length graph)) [
   | inr past ↦ absurd (no_cycle_past graph n n past r)
 ]
 
-less_from : (n m : ℕ) → nat_cmp n m ≡ Less → n < m
-less_from n m h = grind (arith, nat_tests)
-
 pub least_found : {graph : List (List ℕ)} {marks : List Mark} {path : List ℕ} {parts : List Part} {waiting : List ℕ} → IsSearch graph marks path parts waiting nothing → LeftBefore marks (length graph)
     → (n : ℕ) → (mark_in marks n ≡ Left true) × ((k : ℕ) → k < n → mark_in marks k ≢ Left true) → IsLeastCycle nat_cmp (Follows graph) n
 least_found s all n h = record {
   cycle = (s.nodes.settled n true h.0).0 refl;
-  least = λ other r less. h.1 other (less_from other n less) (cyclic_left s all other r);
+  least = λ other r less. h.1 other (less_places other n less) (cyclic_left s all other r);
 }
 
 pub some_found : {graph : List (List ℕ)} {marks : List Mark} {path : List ℕ} {parts : List Part} {waiting : List ℕ} → IsSearch graph marks path parts waiting nothing → LeftBefore marks (length graph)

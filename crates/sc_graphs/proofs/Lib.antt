@@ -1,7 +1,9 @@
 mod FoundLaws
+pub mod KeyLaws
 mod LeaveLaws
 mod MoveLaws
 mod PartLaws
 mod PathLaws
+pub mod PlacesLaws
 pub mod ReachesLaws
 mod SearchLaws

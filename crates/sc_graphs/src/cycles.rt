@@ -31,7 +31,8 @@ pub fn least_cycle(alloc: Global, graph: &[Seq<usize>]) -> Result<Option<usize>,
 
 /// The first node that was left and lies on a cycle.
 fn first_cyclic(marks: &[Mark]) -> Option<usize>
-    ensures found { IfSome result (λ n. (mark_in marks.now n ≡ Left true) × ((k : ℕ) → k < n → mark_in marks.now k ≢ Left true)) }
+    ensures found { IfSome result (λ n. (mark_in marks.now n ≡ Left true)
+        × ((k : ℕ) → k < n → mark_in marks.now k ≢ Left true)) }
     ensures none { IfNone result ((n : ℕ) → mark_in marks.now n ≢ Left true) }
 {
     for node in 0..marks.len() {
@@ -126,10 +127,12 @@ impl Search {
     fn enter(&mut self, graph: &[Seq<usize>], node: usize) -> Result<(), AllocError>
         requires { mark_in self.old.marks.items node ≡ New }
         ensures path { OnOk result (self.new.path.items ≡ self.old.path.items ++ node ∷ []) }
-        ensures parts { OnOk result (self.new.parts.items ≡ self.old.parts.items ++ entered self.old.path.items self.old.waiting.items ∷ []) }
+        ensures parts { OnOk result (self.new.parts.items ≡ self.old.parts.items
+            ++ entered self.old.path.items self.old.waiting.items ∷ []) }
         ensures waiting { OnOk result (self.new.waiting.items ≡ self.old.waiting.items ++ successors graph.now node) }
         ensures count { OnOk result (suc (unmet self.new.marks.items) ≡ unmet self.old.marks.items) }
-        ensures marks { OnOk result ((n : ℕ) → mark_in self.new.marks.items n ≡ if nat_eq node n then OnPath (length self.old.path.items) else mark_in self.old.marks.items n) }
+        ensures marks { OnOk result ((n : ℕ) → mark_in self.new.marks.items n
+            ≡ if nat_eq node n then OnPath (length self.old.path.items) else mark_in self.old.marks.items n) }
     {
         self.parts.push(Part {
             first: self.path.len(),
@@ -147,7 +150,8 @@ impl Search {
     /// Leaves the last part of the path, behind which nothing waits.
     fn leave(&mut self, part: Part)
         requires { AreOn self.old.marks.items self.old.path.items }
-        ensures marks { (n : ℕ) → mark_in self.new.marks.items n ≡ left_from part.first (length self.old.path.items) part.cyclic (mark_in self.old.marks.items n) }
+        ensures marks { (n : ℕ) → mark_in self.new.marks.items n
+            ≡ left_from part.first (length self.old.path.items) part.cyclic (mark_in self.old.marks.items n) }
         ensures path { self.new.path.items ≡ take part.first self.old.path.items }
         ensures parts { self.new.parts ≡ self.old.parts }
         ensures waiting { self.new.waiting ≡ self.old.waiting }
