@@ -32,10 +32,10 @@ all_new_next marks count h = record {
   ];
 }
 
-no_successors : (graph : List (List ℕ)) (n m : ℕ) → length graph ≤ n → Follows graph n m → ⊥
+pub no_successors : (graph : List (List ℕ)) (n m : ℕ) → length graph ≤ n → Follows graph n m → ⊥
 no_successors graph n m past leads = (let no : false ≡ true = ap (λ (ns : List ℕ). has ns m) (sym (get_or-eq_default graph [] past)) ∙ leads in absurd cc)
 
-pub no_cycle_past : (graph : List (List ℕ)) (n m : ℕ) → length graph ≤ n → Reaches (Follows graph) n m → ⊥
+no_cycle_past : (graph : List (List ℕ)) (n m : ℕ) → length graph ≤ n → Reaches (Follows graph) n m → ⊥
 no_cycle_past graph n m past (step _ _ h) = no_successors graph n m past h
 no_cycle_past graph n m past (on _ k _ h r) = no_successors graph n k past h
 

@@ -1,5 +1,5 @@
 -- What is reached by places is reached by keys.
-use Rattle.std.proofs.Common.{◌≡◌, ◌⊎◌, ◌<◌, ◌≤◌, ℕ, zero, suc, List, [], ◌∷◌, Some, length, get_or, refl, sym, ap, subst, ◌∙◌, inl, inr, arith, Contains}
+use Rattle.std.proofs.Common.{◌≡◌, ◌⊎◌, ◌<◌, ℕ, List, Some, get_or, sym, ap, subst, ◌∙◌, inl, inr, Contains}
 use Rattle.std.proofs.Math.Nat.{eq-or-lt_of_le}
 use Rattle.std.proofs.lemmas.Bool.{cases_lt}
 use Rattle.std.proofs.lemmas.Cmp.{tied_itself}
@@ -16,15 +16,9 @@ use Rattle.sc_lists.proofs.OrderingLaws.{less≢equal}
 use Rattle.sc_graphs.specs.Reaching.{Reaches, step, on, NoCycle, IsLeastCycle}
 use Rattle.sc_graphs.specs.Graphs.{Follows}
 use Rattle.sc_graphs.specs.Keys.{IsOfKeys}
-use Rattle.sc_graphs.proofs.FoundLaws.{no_cycle_past}
 use Rattle.sc_graphs.proofs.PlacesLaws.{places_less}
 
 -- ---- keys at places
-
-pub key_at : {K : Type 0} (keys : List K) (i : ℕ) → i < length keys → (k : K) × (slice_get keys i ≡ Some k)
-key_at [] i h = absurd (omega (arith, h))
-key_at (k ∷ ks) zero h = (k, refl)
-key_at (k ∷ ks) (suc i) h = key_at ks i (omega (arith, h))
 
 pub place_of : {K : Type 0} (keys : List K) (k : K) → Contains keys k → (i : ℕ) × (slice_get keys i ≡ Some k)
 place_of keys k has = (has.0, slice_get-get_or keys has.0 k has.1 ∙ ap Some has.2)
@@ -83,13 +77,6 @@ module _ {K : Type 0} {keys : List K} {follows : K → K → Type 0} {graph : Li
       let next = g.complete i a m at h (begins r) in
       let last = to_places r key next.0 next.1 in
       (last.0, last.1, on i next.0 last.0 next.2 last.2)
-
-  pub within_keys : {i n : ℕ} → Reaches (Follows graph) i n → n < length keys
-  unfolding to_keys
-  within_keys {i} {n} r = elim (cases_lt i (length graph)) [
-    | inl less ↦ (let at = key_at keys i (let s : length graph ≤ length keys = g.size in omega (arith, less, s)) in let last = to_keys r at.0 at.1 in slice_get_within keys n last.0 last.1)
-    | inr past ↦ absurd (no_cycle_past graph i n past r)
-  ]
 
   -- ---- cycles
 

@@ -1,4 +1,5 @@
 mod FoundLaws
+pub mod GraphLaws
 pub mod KeyLaws
 mod LeaveLaws
 mod MoveLaws
