@@ -4,13 +4,14 @@ use Rattle.std.proofs.Math.Nat.{eq-or-lt_of_le}
 use Rattle.std.proofs.lemmas.Bool.{cases_lt}
 use Rattle.std.proofs.lemmas.Cmp.{tied_itself}
 use Rattle.std.proofs.lemmas.Map.Keys.{Less-from_sorted}
+use Rattle.std.proofs.lemmas.Map.Lookups.{CmpEqualImpliesEq}
 use Rattle.std.proofs.lemmas.Option.{slice_get_within, get_or_from_slice_get, slice_get-get_or}
 use Rattle.std.specs.Cmp.{IsTotalOrder}
 use Rattle.std.specs.List.{slice_get}
 use Rattle.std.specs.List.Sorted.{IsStrictlySortedBy}
 use Rattle.std.specs.Ordering.{nat_cmp, ordering_reverse}
 use Rattle.std.specs.declared.cmp.Ordering.{Ordering}
-use Rattle.std.specs.declared.cmp.Ordering.TheVariants.{Less, Greater}
+use Rattle.std.specs.declared.cmp.Ordering.TheVariants.{Less, Equal, Greater}
 use Rattle.sc_lists.proofs.OptionLaws.{same_some}
 use Rattle.sc_lists.proofs.OrderingLaws.{less≢equal}
 use Rattle.sc_graphs.specs.Reaching.{Reaches, step, on, NoCycle, IsLeastCycle}
@@ -98,3 +99,11 @@ module _ {K : Type 0} {keys : List K} {follows : K → K → Type 0} {graph : Li
     pub no_key_cycle : NoCycle (Follows graph) → NoCycle follows
     unfolding begins round
     no_key_cycle none = λ k r. (let p = place_of keys k (begins r) in none p.0 (round p.0 k p.1 r))
+
+-- one key at most is the least that reaches itself
+pub one_least : {K : Type 0} {R : K → K → Ordering} (o : IsTotalOrder R) → CmpEqualImpliesEq R → {follows : K → K → Type 0} (a b : K) → IsLeastCycle R follows a → IsLeastCycle R follows b → a ≡ b
+one_least {K} {R} o exact a b h k = level (R a b) refl where
+  level : (r : Ordering) → R a b ≡ r → a ≡ b
+  level Less is = absurd (k.least a h.cycle is)
+  level Equal is = exact a b is
+  level Greater is = absurd (h.least b k.cycle (o.antisymm b a ∙ ap ordering_reverse is))

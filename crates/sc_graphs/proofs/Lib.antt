@@ -3,6 +3,7 @@ pub mod GraphLaws
 pub mod KeyLaws
 mod LeaveLaws
 mod MoveLaws
+pub mod OrderLaws
 mod PartLaws
 mod PathLaws
 pub mod PlacesLaws

@@ -3,10 +3,9 @@ use Rattle.std.proofs.Common.{◌≡◌, List, [], ◌∷◌, map, refl, sym, ap
 use Rattle.std.specs.List.{AllByRecursion}
 use Rattle.std.specs.Map.{keys_of}
 use Rattle.std.specs.declared.cmp.Ordering.{Ordering}
-use Rattle.std.proofs.lemmas.List.Elements.{All-contains, All-from_recursion}
 use Rattle.std.proofs.lemmas.List.Sorted.{Contains-permutation, IsPermutation-map, IsPermutation-sym}
 use Rattle.sc_lists.proofs.ListLaws.{all_element, all_of_elements, contains_nothing, contains_split, contains_rest, contains_first}
-use Rattle.sc_graphs.specs.Reaching.{Reaches, step, on}
+use Rattle.sc_graphs.specs.Reaching.{step, on}
 use Rattle.sc_schema_hierarchy.specs.Above.{Links, IsParent, IsAbove, AreAbove, NamesKeys}
 
 -- ---- elements of lists

@@ -56,7 +56,7 @@ fn put_links(
 }
 
 /// The least key that stands above itself: the one at the least place on a cycle, since keys ascend.
-#[tactic(auto, using(crate::proofs::CycleLaws::place_within, crate::proofs::CycleLaws::least_at_place, crate::proofs::CycleLaws::none_at_places))]
+#[tactic(auto, using(crate::proofs::CycleLaws::place_within, crate::proofs::CycleLaws::none_at_places))]
 fn least_above_itself<K: Key>(alloc: Global, links: &[(K, Seq<K>)]) -> Result<Option<K>, AllocError>
     requires ascending { IsStrictlySortedBy K.order (keys_of links.now) }
     requires declared { NamesKeys links.now }
