@@ -6,8 +6,10 @@ use Rattle.std.specs.BTreeMap.{is_at}
 use Rattle.std.specs.BTreeSet.{BTreeSet}
 use Rattle.std.specs.Ordering.{nat_cmp}
 use Rattle.std.proofs.lemmas.Bool.{or_cases, or_left, or_right}
-use Rattle.sc_graphs.specs.Reaching.{has, successors, Reaches, step, on}
+use Rattle.sc_graphs.specs.Reaching.{Reaches, step, on}
+use Rattle.sc_graphs.specs.Graphs.{has, successors, Follows}
 use Rattle.sc_graphs.specs.Searches.{IsListed, IsSearched}
+use Rattle.sc_graphs.proofs.ReachesLaws.{then_one}
 
 -- these nodes were put on the list
 pub record IsVisited (found : BTreeSet ℕ) (old nodes order : List ℕ) : Type 0 where
@@ -17,7 +19,7 @@ pub record IsVisited (found : BTreeSet ℕ) (old nodes order : List ℕ) : Type 
   pub members : (n : ℕ) → has order n ≡ (has old n || has nodes n)
 
 -- where on a list a number stands
-abbrev Stands : List ℕ → ℕ → Type 0
+abbrev pub Stands : List ℕ → ℕ → Type 0
 Stands ns n = (k : ℕ) × (k < length ns) × (get_or ns k 0 ≡ n)
 
 level_same : (n m : ℕ) → is_at (nat_cmp n) m ≡ true → n ≡ m
@@ -29,24 +31,20 @@ level_itself n m h = grind (arith, nat_tests)
 stands_next : (m : ℕ) (ns : List ℕ) (n : ℕ) → Stands ns n → Stands (m ∷ ns) n
 stands_next m ns n s = (suc s.0, omega (arith), s.2)
 
-stands : (ns : List ℕ) (n : ℕ) → has ns n ≡ true → Stands ns n
+pub stands : (ns : List ℕ) (n : ℕ) → has ns n ≡ true → Stands ns n
 stands [] n h = absurd cc
 stands (m ∷ ns) n h = look (is_at (nat_cmp n) m) (level_same n m) h (stands ns n) where
   look : (b : Bool) → (b ≡ true → n ≡ m) → (b || has ns n) ≡ true → (has ns n ≡ true → Stands ns n) → Stands (m ∷ ns) n
   look true same found rest = (zero, omega (arith), sym (same refl))
   look false same found rest = stands_next m ns n (rest found)
 
-has_one : (ns : List ℕ) (k : ℕ) → k < length ns → has ns (get_or ns k 0) ≡ true
+pub has_one : (ns : List ℕ) (k : ℕ) → k < length ns → has ns (get_or ns k 0) ≡ true
 has_one [] k h = absurd (omega (arith))
 has_one (m ∷ ns) zero h = ap (λ (b : Bool). b || has ns m) (level_itself m m refl)
 has_one (m ∷ ns) (suc k) h = later (is_at (nat_cmp (get_or ns k 0)) m) (has ns (get_or ns k 0)) (has_one ns k (omega (arith))) where
   later : (b c : Bool) → c ≡ true → (b || c) ≡ true
   later true c e = refl
   later false c e = e
-
-then_one : {graph : List (List ℕ)} {a b : ℕ} (c : ℕ) → Reaches graph a b → has (successors graph b) c ≡ true → Reaches graph a c
-then_one c (step a b h) e = on a b c h (step b c e)
-then_one d (on a b c h r) e = on a b d h (then_one d r e)
 
 pub searched_first : (graph : List (List ℕ)) (start : ℕ) (order : List ℕ) → ((n : ℕ) → has order n ≡ (has [] n || has (successors graph start) n)) → IsSearched graph start order 0
 searched_first graph start order members =
@@ -66,7 +64,7 @@ searched_next graph start old order at s below kept members =
       begun = λ n h. members n ∙ or_left (has old n) _ (s.begun n h);
       closed = λ k n less h. closed_at k n (is_less k less) h;
     } where
-      from : {n : ℕ} → (has old n ≡ true) ⊎ (has (successors graph (get_or old at 0)) n ≡ true) → (m : ℕ) → Reaches graph start n
+      from : {n : ℕ} → (has old n ≡ true) ⊎ (has (successors graph (get_or old at 0)) n ≡ true) → (m : ℕ) → Reaches (Follows graph) start n
       from {n} (inl h) m = s.sound n h
       from {n} (inr h) m = then_one n (s.sound (get_or old at 0) (has_one old at below)) h
 
@@ -79,7 +77,7 @@ searched_next graph start old order at s below kept members =
 
 -- what is reached from a node of the list is on it, once it is closed
 closed_under : {graph : List (List ℕ)} {start : ℕ} {order : List ℕ} → IsSearched graph start order (length order)
-    → {a c : ℕ} → Reaches graph a c → has order a ≡ true → has order c ≡ true
+    → {a c : ℕ} → Reaches (Follows graph) a c → has order a ≡ true → has order c ≡ true
 closed_under {graph} {start} {order} s (step a b h) e = one (stands order a e) where
   one : Stands order a → has order b ≡ true
   one t = s.closed t.0 b t.1 (subst (λ m. has (successors graph m) b ≡ true) (sym t.2) h)
@@ -87,7 +85,7 @@ closed_under {graph} {start} {order} s (on a b c h r) e = closed_under s r (one 
   one : Stands order a → has order b ≡ true
   one t = s.closed t.0 b t.1 (subst (λ m. has (successors graph m) b ≡ true) (sym t.2) h)
 
-found_all : {graph : List (List ℕ)} {start : ℕ} {order : List ℕ} → IsSearched graph start order (length order) → {c : ℕ} → Reaches graph start c → has order c ≡ true
+found_all : {graph : List (List ℕ)} {start : ℕ} {order : List ℕ} → IsSearched graph start order (length order) → {c : ℕ} → Reaches (Follows graph) start c → has order c ≡ true
 found_all s (step a b h) = s.begun b h
 found_all s (on a b c h r) = closed_under s r (s.begun b h)
 
@@ -95,6 +93,6 @@ shortened : {graph : List (List ℕ)} {start : ℕ} {order : List ℕ} {at : ℕ
 shortened s end = record { sound = s.sound; begun = s.begun; closed = λ k n below h. s.closed k n (omega (arith)) h }
 
 pub searched_last : (graph : List (List ℕ)) (start : ℕ) (found nodes order : List ℕ) (at : ℕ) → IsSearched graph start order at → length order ≤ at
-    → ((n : ℕ) → has found n ≡ has order n) → nodes ≡ found → (n : ℕ) → IsTrue (has nodes n) ↔ Reaches graph start n
+    → ((n : ℕ) → has found n ≡ has order n) → nodes ≡ found → (n : ℕ) → IsTrue (has nodes n) ↔ Reaches (Follows graph) start n
 searched_last graph start found nodes order at s end listed same n =
     (λ h. s.sound n (sym (listed n) ∙ (ap (λ ns. has ns n) (sym same) ∙ h)), λ r. ap (λ ns. has ns n) same ∙ (listed n ∙ found_all (shortened s end) r))

@@ -1,2 +1,5 @@
 pub mod Reaching
+pub mod Graphs
+pub mod Keys
 pub mod Searches
+pub mod Paths

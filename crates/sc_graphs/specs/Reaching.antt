@@ -1,18 +1,18 @@
--- What can be reached in a graph. A graph is a list: at place n it has the nodes that follow node n.
-use Rattle.std.specs.Prelude.{ℕ, List, [], Bool, IsTrue, get_or}
-use Rattle.std.specs.BTreeMap.{is_at}
-use Rattle.std.specs.List.{list_any}
-use Rattle.std.specs.Ordering.{nat_cmp}
+-- What is reached, whatever follows what: keys of any kind, or the numbers of a graph's nodes.
+use Rattle.std.specs.Prelude.{◌≢◌}
+use Rattle.std.specs.declared.cmp.Ordering.{Ordering}
+use Rattle.std.specs.declared.cmp.Ordering.TheVariants.{Less}
 
--- whether a number is on a list
-abbrev pub has : List ℕ → ℕ → Bool
-has ns n = list_any (is_at (nat_cmp n)) ns
+-- from a key one gets to those that follow it, and to those that one gets to from these
+pub data Reaches {K : Type 0} (follows : K → K → Type 0) : K → K → Type 0 where
+  step : (a b : K) → follows a b → Reaches follows a b
+  on : (a b c : K) → follows a b → Reaches follows b c → Reaches follows a c
 
--- the nodes that follow a node; none where the graph doesn't list the node
-abbrev pub successors : List (List ℕ) → ℕ → List ℕ
-successors graph n = get_or graph n []
+-- no key reaches itself
+abbrev pub NoCycle : {K : Type 0} → (K → K → Type 0) → Type 0
+NoCycle {K} follows = (k : K) → ¬ Reaches follows k k
 
--- from a node one gets to those that follow it, and to those that one gets to from these
-pub data Reaches (graph : List (List ℕ)) : ℕ → ℕ → Type 0 where
-  step : (a b : ℕ) → IsTrue (has (successors graph a) b) → Reaches graph a b
-  on : (a b c : ℕ) → IsTrue (has (successors graph a) b) → Reaches graph b c → Reaches graph a c
+-- the least key that reaches itself
+pub record IsLeastCycle {K : Type 0} (cmp : K → K → Ordering) (follows : K → K → Type 0) (k : K) : Type 0 where
+  pub cycle : Reaches follows k k
+  pub least : (other : K) → Reaches follows other other → cmp other k ≢ Less

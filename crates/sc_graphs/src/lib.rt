@@ -1,8 +1,12 @@
-//! Finite graphs whose nodes are numbers: what can be reached from a node.
+//! Finite graphs whose nodes are numbers: what can be reached from a node, and the least node that
+//! lies on a cycle.
 #![tactic(auto)]
 
+mod cycles;
+mod path;
 mod reaching;
 #[cfg(test)]
 mod tests;
 
+pub use cycles::least_cycle;
 pub use reaching::reachable;

@@ -2,7 +2,8 @@
 ghost use Rattle.std.specs.Prelude.{◌≡◌, ◌≤◌, ◌<◌, ◌||◌, ◌↔◌, ℕ, ◌∷◌, [], IsTrue, IfOk, OnOk, length, get_or};
 ghost use Rattle.std.specs.List.Sorted.{IsStrictlySortedBy};
 ghost use Rattle.std.specs.Ordering.{nat_cmp};
-ghost use Rattle.sc_graphs.specs.Reaching.{has, successors, Reaches};
+ghost use Rattle.sc_graphs.specs.Reaching.{Reaches};
+ghost use Rattle.sc_graphs.specs.Graphs.{has, successors, Follows};
 ghost use Rattle.sc_graphs.specs.Searches.{IsListed};
 
 use sc_lists::Seq;
@@ -10,7 +11,7 @@ use std::alloc::{AllocError, Global};
 use std::collections::BTreeSet;
 
 /// The nodes that follow a node; none where the graph doesn't list it.
-fn successors(graph: &[Seq<usize>], node: usize) -> &[usize]
+pub(crate) fn successors(graph: &[Seq<usize>], node: usize) -> &[usize]
     ensures { result.now ≡ successors graph.now node }
 {
     match graph.get(node) {
@@ -59,7 +60,7 @@ pub fn reachable(
     graph: &[Seq<usize>],
     start: usize,
 ) -> Result<Seq<usize>, AllocError>
-    ensures members { IfOk result (λ nodes. (n : ℕ) → IsTrue (has nodes n) ↔ Reaches graph.now start n) }
+    ensures members { IfOk result (λ nodes. (n : ℕ) → IsTrue (has nodes n) ↔ Reaches (Follows graph.now) start n) }
     ensures ascending { IfOk result (λ nodes. IsStrictlySortedBy nat_cmp nodes) }
 {
     let mut found = BTreeSet::new(alloc);

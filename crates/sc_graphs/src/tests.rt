@@ -1,7 +1,7 @@
 //! Tests of what can be reached.
 #![tactic(auto)]
 
-use crate::reachable;
+use crate::{least_cycle, reachable};
 use sc_lists::Seq;
 use std::alloc::{AllocError, Global};
 use std::test::Fail;
@@ -51,5 +51,37 @@ fn a_node_that_the_graph_does_not_list_reaches_none(rt: HostRuntime) -> Result<(
     let alloc = rt.alloc();
     assert!(rt; reaches(alloc, 9, &[])?);
     assert!(rt; reaches(alloc, 2, &[])?);
+    Ok(())
+}
+
+/// Whether this is the least node of the graph on a cycle.
+fn has_least(alloc: Global, lists: &[&[usize]], least: Option<usize>) -> Result<bool, AllocError> {
+    let mut graph = Seq::new(alloc);
+    for list in lists {
+        graph.push(nodes(alloc, list)?)?;
+    }
+    Ok(least_cycle(alloc, graph.as_slice())? == least)
+}
+
+/// Graphs, each with its least node on a cycle.
+const LEAST: &[(&[&[usize]], Option<usize>)] = &[
+    (&[], None),
+    (&[&[1], &[2], &[]], None),
+    (&[&[1, 2], &[2], &[7]], None),
+    (&[&[0]], Some(0)),
+    (&[&[1], &[2], &[1]], Some(1)),
+    (&[&[2], &[2], &[3], &[2]], Some(2)),
+    (&[&[3], &[0], &[1], &[2]], Some(0)),
+    (&[&[1], &[4], &[0, 3], &[2], &[5], &[]], Some(2)),
+    (&[&[], &[2], &[0], &[4], &[1, 3]], Some(3)),
+    (&[&[1], &[2, 3], &[0], &[3]], Some(0)),
+];
+
+#[test]
+fn a_node_between_cycles_lies_on_none(rt: HostRuntime) -> Result<(), Fail> {
+    let alloc = rt.alloc();
+    for &(lists, least) in LEAST {
+        assert!(rt; has_least(alloc, lists, least)?);
+    }
     Ok(())
 }

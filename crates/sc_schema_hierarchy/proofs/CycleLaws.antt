@@ -1,86 +1,43 @@
 -- The least key that stands above itself.
-use Rattle.std.proofs.Common.{◌≡◌, ◌↔◌, ◌⊎◌, ◌<◌, ◌≤◌, ◌+◌, ℕ, List, Some, length, get_or, refl, sym, ap, subst, ◌∙◌, inl, inr, arith, Contains, IsPermutation, IsTrue, Bool, true, false, Result, Ok, Err, Option, None, IfOk, IfSome, IfNone}
-use Rattle.std.proofs.Math.Nat.{eq-or-lt_of_le}
-use Rattle.std.proofs.lemmas.Bool.{cases_lt}
+use Rattle.std.proofs.Common.{◌≡◌, ◌<◌, ℕ, List, Some, length, get_or, refl, sym, ap, subst, ◌∙◌, IsPermutation, Result, Ok, Err, Option, None, IfOk, IfSome, IfNone}
 use Rattle.std.proofs.lemmas.List.Sorted.{Contains-permutation, IsPermutation-sym}
-use Rattle.std.proofs.lemmas.Map.Keys.{Less-from_sorted}
-use Rattle.std.proofs.lemmas.Option.{slice_get_within, get_or_from_slice_get, slice_get-get_or, slice_get_read}
+use Rattle.std.proofs.lemmas.Option.{slice_get_read}
 use Rattle.std.specs.Cmp.{IsTotalOrder}
 use Rattle.std.specs.List.{IsDistinct, slice_get}
 use Rattle.std.specs.List.Sorted.{IsStrictlySortedBy}
 use Rattle.std.specs.Map.{keys_of}
 use Rattle.std.specs.declared.cmp.Ordering.{Ordering}
-use Rattle.std.specs.declared.cmp.Ordering.TheVariants.{Less}
+use Rattle.std.specs.Ordering.{nat_cmp}
+use Rattle.sc_graphs.specs.Reaching as reaching
+use Rattle.sc_graphs.specs.Graphs.{Follows}
+use Rattle.sc_graphs.proofs.GraphLaws.{reached_within}
+use Rattle.sc_graphs.proofs.KeyLaws.{least_key, no_key_cycle}
 use Rattle.sc_lists.proofs.ListLaws.{all_element}
-use Rattle.sc_lists.proofs.OptionLaws.{same_some}
 use Rattle.sc_schema.specs.Declarations.{uid_eq}
-use Rattle.sc_schema.proofs.OrderLaws.{not_below, both_below}
 use Rattle.sc_schema_resolved.specs.Resolved.{IsResolved, IsResolvedAction, actions}
 use Rattle.sc_schema_resolved.specs.declared.action.ResolvedAction.{ResolvedAction}
 use Rattle.sc_schema_resolved.specs.declared.schema.ResolvedSchema.{ResolvedSchema}
-use Rattle.sc_schema_hierarchy.specs.Above.{Links, IsAbove, NamesKeys, NoCycle, IsLeastCycle}
+use Rattle.sc_schema_hierarchy.specs.Above.{Links, NamesKeys, NoCycle, IsLeastCycle}
 use Rattle.sc_schema_hierarchy.specs.Schemas.{resolved_links}
-use Rattle.sc_schema_hierarchy.proofs.AboveLaws.{key_there}
-use Rattle.sc_schema_hierarchy.proofs.LinksLaws.{above_within, below_link, keys_of_links, links_named}
+use Rattle.sc_schema_hierarchy.specs.Graphs.{IsGraphOf}
+use Rattle.sc_schema_hierarchy.proofs.AboveLaws.{key_there, length_keys, of_keys}
+use Rattle.sc_schema_hierarchy.proofs.LinksLaws.{above_within, keys_of_links, links_named}
 
--- none of the first n keys stands above itself
-abbrev pub NoneBefore : {K : Type 0} → Links K → ℕ → Type 0
-NoneBefore {K} links n = (i : ℕ) (key : K) (above : List K) → i < n → slice_get links i ≡ Some (key, above) → IsAbove links key key → ⊥
+-- ---- what is found by places
 
-pub none_first : {K : Type 0} (links : Links K) → NoneBefore links 0
-none_first links = λ i key above within h is. absurd (omega (arith, within))
+pub place_within : {K : Type 0} (links : Links K) (graph : List (List ℕ)) (n : ℕ) → IsGraphOf links graph → reaching.IsLeastCycle nat_cmp (Follows graph) n → n < length links
+place_within links graph n g least = subst (λ m. n < m) (length_keys links) (reached_within g least.cycle)
 
-none_next : {K : Type 0} (links : Links K) (n : ℕ) → NoneBefore links n → ((key : K) (above : List K) → slice_get links n ≡ Some (key, above) → IsAbove links key key → ⊥) → NoneBefore links (n + 1)
-none_next {K} links n before here = λ i key above within h is. at i key above (eq-or-lt_of_le (omega (arith, within))) h is where
-  at : (i : ℕ) (key : K) (above : List K) → (i ≡ n) ⊎ (i < n) → slice_get links i ≡ Some (key, above) → IsAbove links key key → ⊥
-  at i key above (inl same) h is = here key above (ap (slice_get links) (sym same) ∙ h) is
-  at i key above (inr less) h is = before i key above less h is
-
-placed : {X : Type 0} (xs : List X) (x : X) → Contains xs x → (i : ℕ) × (i < length xs) × (slice_get xs i ≡ Some x)
-placed xs x has = (has.0, has.1, slice_get-get_or xs has.0 x has.1 ∙ ap Some has.2)
-
-pub none_last : {K : Type 0} (links : Links K) (n : ℕ) → length links ≤ n → NoneBefore links n → NoCycle links
-none_last links n whole before = λ k is.
-    let l = below_link is in
-    let at = placed links (k, l.0) l.1 in
-    before at.0 k l.0 (omega (arith, at.1, whole)) at.2 is
-
-least_found : {K : Type 0} {R : K → K → Ordering} (o : IsTotalOrder R) (links : Links K) (n : ℕ) (key : K) (above : List K)
-    → IsStrictlySortedBy R (keys_of links) → NoneBefore links n → slice_get links n ≡ Some (key, above) → IsAbove links key key → IsLeastCycle R links key
-least_found {K} {R} o links n key above sorted before here is =
-    record {
-      above = is;
-      least = λ other cycle less. (let l = below_link cycle in let at = placed links (other, l.0) l.1 in no_less at.0 other l.0 at.2 cycle less (cases_lt at.0 n));
-    } where
-      later : (i : ℕ) (other : K) (beside : List K) → slice_get links i ≡ Some (other, beside) → n < i → R key other ≡ Less
-      later i other beside h after =
-          let first : slice_get (keys_of links) n ≡ Some key = key_there links n (key, above) here in
-          let second : slice_get (keys_of links) i ≡ Some other = key_there links i (other, beside) h in
-          let under : R (get_or (keys_of links) n key) (get_or (keys_of links) i key) ≡ Less = Less-from_sorted R (keys_of links) n i key sorted after (slice_get_within (keys_of links) i other second) in
-          subst (λ (y : K). R key y ≡ Less) (get_or_from_slice_get (keys_of links) i other key second)
-          (subst (λ (y : K). R y (get_or (keys_of links) i key) ≡ Less) (get_or_from_slice_get (keys_of links) n key key first) under)
-
-      no_less : (i : ℕ) (other : K) (beside : List K) → slice_get links i ≡ Some (other, beside) → IsAbove links other other → R other key ≡ Less → (i < n) ⊎ (n ≤ i) → ⊥
-      no_less i other beside h cycle less (inl earlier) = before i other beside earlier h cycle
-      no_less i other beside h cycle less (inr more) = elim (eq-or-lt_of_le more) [
-        | inl same ↦
-            let one : (key, beside) ≡ (other, beside) = ap (λ (l : K × List K). (l.0, beside)) (same_some (sym here ∙ (ap (slice_get links) same ∙ h))) in
-            not_below o key (subst (λ (y : K). R y key ≡ Less) (sym (ap (λ (l : K × List K). l.0) one)) less)
-        | inr after ↦ both_below o other key less (later i other beside h after)
-      ]
-
--- the key at a place stands above itself where the test says so, and else not
-
-pub least_there : {K : Type 0} {R : K → K → Ordering} (o : IsTotalOrder R) (links : Links K) (n : ℕ) (l : K × List K) (k : K) (b : Bool) → IsStrictlySortedBy R (keys_of links) → NoneBefore links n
-    → n < length links → l ≡ get_or links n l → k ≡ (get_or links n l).0 → b ≡ true
-    → ((key : K) (above : List K) → slice_get links n ≡ Some (key, above) → IsTrue b ↔ IsAbove links key key) → IsLeastCycle R links k
-least_there {K} {R} o links n l k b sorted before within is copy holds told =
-    let there : slice_get links n ≡ Some (l.0, l.1) = slice_get_read links (length links) n l refl within is in
+pub least_at_place : {K : Type 0} {R : K → K → Ordering} (o : IsTotalOrder R) (links : Links K) (graph : List (List ℕ)) (n : ℕ) (l : K × List K) (k : K) → IsGraphOf links graph
+    → IsStrictlySortedBy R (keys_of links) → reaching.IsLeastCycle nat_cmp (Follows graph) n → l ≡ get_or links n l → k ≡ (get_or links n l).0 → IsLeastCycle R links k
+least_at_place {K} {R} o links graph n l k g sorted least is copy =
+    let there : slice_get links n ≡ Some (l.0, l.1) = slice_get_read links (length links) n l refl (place_within links graph n g least) is in
     let same : l.0 ≡ k = ap (λ (m : K × List K). m.0) is ∙ sym copy in
-    subst (IsLeastCycle R links) same (least_found o links n l.0 l.1 sorted before there ((told l.0 l.1 there).0 holds))
+    subst (IsLeastCycle R links) same (least_key (of_keys g o sorted) o sorted n l.0 least (key_there links n l there))
 
-pub none_there : {K : Type 0} (links : Links K) (n : ℕ) (b : Bool) → NoneBefore links n → b ≡ false → ((key : K) (above : List K) → slice_get links n ≡ Some (key, above) → IsTrue b ↔ IsAbove links key key) → NoneBefore links (n + 1)
-none_there links n b before fails told = none_next links n before (λ key above h is. (let holds : b ≡ true = (told key above h).1 is in let never : false ≡ true = sym fails ∙ holds in cc))
+pub none_at_places : {K : Type 0} {R : K → K → Ordering} (o : IsTotalOrder R) (links : Links K) (graph : List (List ℕ)) → IsGraphOf links graph → IsStrictlySortedBy R (keys_of links)
+    → reaching.NoCycle (Follows graph) → NoCycle links
+none_at_places o links graph g sorted none = no_key_cycle (of_keys g o sorted) o sorted none
 
 -- ---- the same links in another order
 
@@ -90,7 +47,7 @@ no_cycle_permuted links others permutation none = λ k is. none k (above_within 
 least_permuted : {K : Type 0} (R : K → K → Ordering) (links others : Links K) (k : K) → IsPermutation links others → IsLeastCycle R others k → IsLeastCycle R links k
 least_permuted R links others k permutation least =
     record {
-      above = above_within others links (λ l. Contains-permutation others links l (IsPermutation-sym links others permutation)) least.above;
+      cycle = above_within others links (λ l. Contains-permutation others links l (IsPermutation-sym links others permutation)) least.cycle;
       least = λ other is. least.least other (above_within links others (λ l. Contains-permutation links others l permutation) is);
     }
 

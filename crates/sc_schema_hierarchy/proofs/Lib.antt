@@ -4,7 +4,6 @@ mod CountLaws
 mod CycleLaws
 mod GraphLaws
 mod LinksLaws
-mod MemberLaws
 mod OneLaws
 mod PickedLaws
 mod PlaceLaws

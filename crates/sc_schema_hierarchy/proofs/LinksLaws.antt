@@ -3,10 +3,10 @@ use Rattle.std.proofs.Common.{◌≡◌, List, [], ◌∷◌, map, refl, sym, ap
 use Rattle.std.specs.List.{AllByRecursion}
 use Rattle.std.specs.Map.{keys_of}
 use Rattle.std.specs.declared.cmp.Ordering.{Ordering}
-use Rattle.std.proofs.lemmas.List.Elements.{All-contains, All-from_recursion}
 use Rattle.std.proofs.lemmas.List.Sorted.{Contains-permutation, IsPermutation-map, IsPermutation-sym}
 use Rattle.sc_lists.proofs.ListLaws.{all_element, all_of_elements, contains_nothing, contains_split, contains_rest, contains_first}
-use Rattle.sc_schema_hierarchy.specs.Above.{Links, IsParent, IsAbove, parent, further, AreAbove, NamesKeys}
+use Rattle.sc_graphs.specs.Reaching.{step, on}
+use Rattle.sc_schema_hierarchy.specs.Above.{Links, IsParent, IsAbove, AreAbove, NamesKeys}
 
 -- ---- elements of lists
 
@@ -22,8 +22,8 @@ contains_from_map {X} {Y} f (x ∷ xs) y has = elim (contains_split (f x) (map f
 -- ---- the same links, the same above
 
 pub above_within : {K : Type 0} (links others : Links K) → ((l : K × List K) → Contains links l → Contains others l) → {a b : K} → IsAbove links a b → IsAbove others a b
-above_within links others has (parent a b p) = parent a b (record { above = p.above; listed = has (a, p.above) p.listed; parent = p.parent })
-above_within links others has (further a b c p r) = further a b c (record { above = p.above; listed = has (a, p.above) p.listed; parent = p.parent }) (above_within links others has r)
+above_within links others has (step a b p) = step a b (record { above = p.above; listed = has (a, p.above) p.listed; parent = p.parent })
+above_within links others has (on a b c p r) = on a b c (record { above = p.above; listed = has (a, p.above) p.listed; parent = p.parent }) (above_within links others has r)
 
 pub are_above_permuted : {K : Type 0} (R : K → K → Ordering) (links others : Links K) (a : K) (ks : List K) → IsPermutation links others → AreAbove R others a ks → AreAbove R links a ks
 are_above_permuted R links others a ks permutation above =
@@ -45,8 +45,8 @@ named_permuted {K} links others permutation named =
 -- ---- chains
 
 pub above_above : {K : Type 0} {links : Links K} {a b : K} (c : K) → IsAbove links a b → IsAbove links b c → IsAbove links a c
-above_above c (parent a b p) r = further a b c p r
-above_above c (further a b d p q) r = further a b c p (above_above c q r)
+above_above c (step a b p) r = on a b c p r
+above_above c (on a b d p q) r = on a b c p (above_above c q r)
 
 -- what stands above a key, and what something stands above, is a key
 
@@ -55,12 +55,12 @@ parent_key {K} {links} {a} {b} named p =
     all_element (Contains (keys_of links)) p.above b (all_element (λ (l : K × List K). AllByRecursion (Contains (keys_of links)) l.1) links (a, p.above) named p.listed) p.parent
 
 pub above_key : {K : Type 0} {links : Links K} {a b : K} → NamesKeys links → IsAbove links a b → Contains (keys_of links) b
-above_key named (parent a b p) = parent_key named p
-above_key named (further a b c p r) = above_key named r
+above_key named (step a b p) = parent_key named p
+above_key named (on a b c p r) = above_key named r
 
 pub below_link : {K : Type 0} {links : Links K} {a b : K} → IsAbove links a b → (above : List K) × Contains links (a, above)
-below_link (parent a b p) = (p.above, p.listed)
-below_link (further a b c p r) = (p.above, p.listed)
+below_link (step a b p) = (p.above, p.listed)
+below_link (on a b c p r) = (p.above, p.listed)
 
 -- ---- the links of declarations
 

@@ -1,8 +1,6 @@
 -- The keys at places.
-use Rattle.std.proofs.Common.{◌≡◌, ◌⊎◌, ◌<◌, ◌||◌, ◌↔◌, ℕ, List, [], ◌∷◌, ◌++◌, Bool, true, false, Option, Some, map, length, get_or, refl, sym, ap, subst, ◌∙◌, inl, inr, arith, Contains, IsTrue}
-use Rattle.std.proofs.lemmas.Bool.Decides.{nat_tests}
-use Rattle.std.proofs.lemmas.Map.Keys.{Less-from_sorted}
-use Rattle.std.proofs.lemmas.Option.{slice_get_within, get_or_from_slice_get, slice_get_read}
+use Rattle.std.proofs.Common.{◌≡◌, ◌⊎◌, ◌<◌, ◌↔◌, ℕ, List, [], ◌∷◌, ◌++◌, true, Option, Some, map, length, get_or, refl, sym, ap, subst, ◌∙◌, inl, inr, Contains, IsTrue}
+use Rattle.std.proofs.lemmas.Option.{slice_get_read}
 use Rattle.std.specs.BTreeMap.{is_at}
 use Rattle.std.specs.Cmp.{IsTotalOrder}
 use Rattle.std.specs.List.{AllByRecursion, slice_get}
@@ -15,13 +13,15 @@ use Rattle.std.proofs.lemmas.Bool.{or_left, or_right, or_cases}
 use Rattle.sc_lists.proofs.ListLaws.{contains_nothing, contains_split, contains_rest, contains_first}
 use Rattle.sc_lists.proofs.OptionLaws.{same_some}
 use Rattle.sc_lists.proofs.OrderingLaws.{is_at_itself, is_at_same}
-use Rattle.sc_graphs.specs.Reaching.{has, Reaches}
-use Rattle.sc_schema_hierarchy.specs.Above.{Links, IsAbove, AreAbove, NamesKeys}
+use Rattle.sc_graphs.specs.Reaching.{Reaches}
+use Rattle.sc_graphs.specs.Graphs.{has, Follows}
+use Rattle.sc_graphs.specs.Keys.{IsOfKeys}
+use Rattle.sc_graphs.proofs.KeyLaws.{keys_ascend, to_keys, to_places}
+use Rattle.sc_graphs.proofs.PlacesLaws.{less_places}
+use Rattle.sc_schema_hierarchy.specs.Above.{Links, IsParent, IsAbove, AreAbove, NamesKeys}
 use Rattle.sc_schema_hierarchy.specs.Graphs.{IsGraphOf}
-use Rattle.sc_schema_hierarchy.proofs.AboveLaws.{reached_above, above_reached, key_there}
-
-less_from : (n m : ℕ) → nat_cmp n m ≡ Less → n < m
-less_from n m h = grind (arith, nat_tests)
+use Rattle.sc_schema_hierarchy.proofs.AboveLaws.{of_keys, key_there}
+use Rattle.sc_schema_hierarchy.proofs.LinksLaws.{above_key}
 
 -- these are the keys at the places
 abbrev pub ArePicked : {K : Type 0} → List K → List ℕ → List K → Type 0
@@ -66,10 +66,7 @@ module _ {K : Type 0} (R : K → K → Ordering) (all : List K) (sorted : IsStri
   below_each k p (x ∷ xs) (q ∷ qs) h e less =
       let first : Some x ≡ slice_get all q = cc in
       let rest : ArePicked all qs xs = cc in
-      let under : R (get_or all p k) (get_or all q k) ≡ Less = Less-from_sorted R all p q k sorted (less_from p q less.0) (slice_get_within all q x (sym first)) in (
-        subst (λ (y : K). R k y ≡ Less) (get_or_from_slice_get all q x k (sym first)) (subst (λ (y : K). R y (get_or all q k) ≡ Less) (get_or_from_slice_get all p k k h) under),
-        below_each k p xs qs h rest less.1,
-      )
+      (keys_ascend R all sorted p q k x h (sym first) (less_places p q less.0), below_each k p xs qs h rest less.1)
 
   picked_ascend : (ks : List K) (places : List ℕ) → ArePicked all places ks → IsStrictlySortedBy nat_cmp places → IsStrictlySortedBy R ks
   unfolding IsStrictlySortedBy
@@ -82,19 +79,25 @@ module _ {K : Type 0} (R : K → K → Ordering) (all : List K) (sorted : IsStri
 
 pub all_above : {K : Type 0} {R : K → K → Ordering} (o : IsTotalOrder R) (links : Links K) (graph : List (List ℕ)) (i : ℕ) (places : List ℕ) (ks : List K) (key : K) (above : List K)
     → IsStrictlySortedBy R (keys_of links) → NamesKeys links → IsGraphOf links graph
-    → ((n : ℕ) → IsTrue (has places n) ↔ Reaches graph i n) → IsStrictlySortedBy nat_cmp places → ArePicked (keys_of links) places ks
+    → ((n : ℕ) → IsTrue (has places n) ↔ Reaches (Follows graph) i n) → IsStrictlySortedBy nat_cmp places → ArePicked (keys_of links) places ks
     → slice_get links i ≡ Some (key, above) → AreAbove R links key ks
 all_above {K} {R} o links graph i places ks key above sorted declared g reached ascending picked h =
     record {
       ascending = picked_ascend R (keys_of links) sorted ks places picked ascending;
-      members = λ b. (λ c. forth b (picked_place (keys_of links) ks places b picked c), λ a. back b (above_reached g o sorted declared a i above h));
+      members = λ b. (λ c. forth b (picked_place (keys_of links) ks places b picked c), λ a. back b (to_places keyed a (above_key declared a) i here));
     } where
+      keyed : IsOfKeys (keys_of links) (IsParent links) graph
+      keyed = of_keys g o sorted
+
+      here : slice_get (keys_of links) i ≡ Some key
+      here = key_there links i (key, above) h
+
       forth : (b : K) → (p : ℕ) × (has places p ≡ true) × (slice_get (keys_of links) p ≡ Some b) → IsAbove links key b
       forth b found =
-          let last = reached_above g ((reached found.0).0 found.1) key above h in
+          let last = to_keys keyed ((reached found.0).0 found.1) key here in
           subst (λ (x : K). IsAbove links key x) (same_some (sym last.1 ∙ found.2)) last.2
 
-      back : (b : K) → (j : ℕ) × (slice_get (keys_of links) j ≡ Some b) × Reaches graph i j → Contains ks b
+      back : (b : K) → (j : ℕ) × (slice_get (keys_of links) j ≡ Some b) × Reaches (Follows graph) i j → Contains ks b
       back b found = picked_key (keys_of links) ks places found.0 b picked ((reached found.0).1 found.2) found.1
 
 map_last : {K : Type 0} (xs : List K) (x : K) → map Some (xs ++ x ∷ []) ≡ map Some xs ++ Some x ∷ []

@@ -1,5 +1,5 @@
 -- The schema of declarations is lawful.
-use Rattle.std.proofs.Common.{◌≡◌, ◌||◌, ℕ, List, [], ◌∷◌, Bool, true, false, map, Option, Some, IsSome, IfSome, refl, sym, ap, subst, ◌∙◌, inl, inr, Contains, find, unwrap_or}
+use Rattle.std.proofs.Common.{◌≡◌, ℕ, List, [], ◌∷◌, Bool, false, map, Option, Some, IsSome, IfSome, refl, sym, ap, subst, ◌∙◌, inl, inr, Contains, find, unwrap_or}
 use Rattle.std.specs.Bool.{Decides}
 use Rattle.std.specs.Cmp.{IsTotalOrder}
 use Rattle.std.specs.List.{AllByRecursion, list_any, slice_get}

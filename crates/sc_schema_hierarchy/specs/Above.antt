@@ -1,10 +1,10 @@
 -- What stands above what.
-use Rattle.std.specs.Prelude.{◌≢◌, ◌↔◌, List, Contains}
+use Rattle.std.specs.Prelude.{◌↔◌, List, Contains}
 use Rattle.std.specs.List.{AllByRecursion}
 use Rattle.std.specs.List.Sorted.{IsStrictlySortedBy}
 use Rattle.std.specs.Map.{keys_of}
 use Rattle.std.specs.declared.cmp.Ordering.{Ordering}
-use Rattle.std.specs.declared.cmp.Ordering.TheVariants.{Less}
+use Rattle.sc_graphs.specs.Reaching as reaching
 
 -- keys, each with those that stand directly above it
 abbrev pub Links : Type 0 → Type 0
@@ -17,9 +17,8 @@ pub record IsParent {K : Type 0} (links : Links K) (a b : K) : Type 0 where
   pub parent : Contains above b
 
 -- b stands above a: directly, or above one that stands directly above a
-pub data IsAbove {K : Type 0} (links : Links K) : K → K → Type 0 where
-  parent : (a b : K) → IsParent links a b → IsAbove links a b
-  further : (a b c : K) → IsParent links a b → IsAbove links b c → IsAbove links a c
+abbrev pub IsAbove : {K : Type 0} → Links K → K → K → Type 0
+IsAbove {K} links = reaching.Reaches (IsParent links)
 
 -- just those that stand above a, in ascending order, each once
 pub record AreAbove {K : Type 0} (cmp : K → K → Ordering) (links : Links K) (a : K) (ks : List K) : Type 0 where
@@ -32,9 +31,8 @@ NamesKeys {K} links = AllByRecursion (λ (l : K × List K). AllByRecursion (Cont
 
 -- no key stands above itself
 abbrev pub NoCycle : {K : Type 0} → Links K → Type 0
-NoCycle {K} links = (k : K) → IsAbove links k k → ⊥
+NoCycle {K} links = reaching.NoCycle (IsParent links)
 
 -- the least key that stands above itself
-pub record IsLeastCycle {K : Type 0} (cmp : K → K → Ordering) (links : Links K) (k : K) : Type 0 where
-  pub above : IsAbove links k k
-  pub least : (other : K) → IsAbove links other other → cmp other k ≢ Less
+abbrev pub IsLeastCycle : {K : Type 0} → (K → K → Ordering) → Links K → K → Type 0
+IsLeastCycle {K} cmp links = reaching.IsLeastCycle cmp (IsParent links)

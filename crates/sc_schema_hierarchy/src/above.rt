@@ -52,7 +52,8 @@ pub(crate) fn keys_above<K: Key>(
     requires ascending { IsStrictlySortedBy K.order (keys_of links.now) }
     requires declared { NamesKeys links.now }
     requires graph { IsGraphOf links.now graph.now }
-    ensures { IfOk result (λ keys. (key : K) (above : List K) → slice_get links.now at ≡ Some (key, above) → AreAbove K.order links.now key keys) }
+    ensures { IfOk result (λ keys. (key : K) (above : List K) → slice_get links.now at ≡ Some (key, above)
+        → AreAbove K.order links.now key keys) }
 {
     let places = reachable(alloc, graph, at)?;
     let keys = keys_at(alloc, links, &places)?;

@@ -1,18 +1,16 @@
 //! The least action that stands above itself.
-ghost use Rattle.std.specs.Prelude.{◌≡◌, ◌↔◌, ◌<◌, ◌++◌, List, Some, length, IsTrue, IfOk, OnOk, IfSome, IfNone};
-ghost use Rattle.std.specs.List.{slice_get};
+ghost use Rattle.std.specs.Prelude.{◌≡◌, ◌++◌, IfOk, OnOk, IfSome, IfNone};
 ghost use Rattle.std.specs.List.Sorted.{IsStrictlySortedBy};
 ghost use Rattle.std.specs.Map.{keys_of};
 ghost use Rattle.sc_names.specs.Uids.{uid_cmp};
 ghost use Rattle.sc_schema_resolved.specs.Resolved.{IsResolved, actions};
-ghost use Rattle.sc_schema_hierarchy.specs.Above.{IsAbove, NamesKeys, NoCycle, IsLeastCycle};
-ghost use Rattle.sc_schema_hierarchy.specs.Graphs.{IsGraphOf};
+ghost use Rattle.sc_schema_hierarchy.specs.Above.{NamesKeys, NoCycle, IsLeastCycle};
 ghost use Rattle.sc_schema_hierarchy.specs.Schemas.{resolved_links};
 
-use crate::above::keys_above;
 use crate::graph::graph_of;
 use crate::key::{Key, copies};
 use crate::sorting::links_in_order;
+use sc_graphs::least_cycle as least_place;
 use sc_lists::Seq;
 use sc_names::Uid;
 use sc_schema_resolved::{ResolvedAction, ResolvedSchema};
@@ -57,7 +55,8 @@ fn put_links(
     Ok(())
 }
 
-/// The least key that stands above itself.
+/// The least key that stands above itself: the one at the least place on a cycle, since keys ascend.
+#[tactic(auto, using(crate::proofs::CycleLaws::place_within, crate::proofs::CycleLaws::none_at_places))]
 fn least_above_itself<K: Key>(alloc: Global, links: &[(K, Seq<K>)]) -> Result<Option<K>, AllocError>
     requires ascending { IsStrictlySortedBy K.order (keys_of links.now) }
     requires declared { NamesKeys links.now }
@@ -65,27 +64,8 @@ fn least_above_itself<K: Key>(alloc: Global, links: &[(K, Seq<K>)]) -> Result<Op
     ensures none { IfOk result (λ r. IfNone r (NoCycle links.now)) }
 {
     let graph = graph_of(alloc, links)?;
-    for at in 0..links.len() {
-        if stands_above_itself(alloc, links, graph.as_slice(), at)? {
-            return Ok(Some(links[at].0.copy(alloc)?));
-        }
+    match least_place(alloc, graph.as_slice())? {
+        Some(at) => Ok(Some(links[at].0.copy(alloc)?)),
+        None => Ok(None),
     }
-    Ok(None)
-}
-
-/// Whether the key at a place stands above itself.
-fn stands_above_itself<K: Key>(
-    alloc: Global,
-    links: &[(K, Seq<K>)],
-    graph: &[Seq<usize>],
-    at: usize,
-) -> Result<bool, AllocError>
-    requires ascending { IsStrictlySortedBy K.order (keys_of links.now) }
-    requires declared { NamesKeys links.now }
-    requires graph { IsGraphOf links.now graph.now }
-    requires within { at < length links.now }
-    ensures { IfOk result (λ is. (key : K) (above : List K) → slice_get links.now at ≡ Some (key, above) → IsTrue is ↔ IsAbove links.now key key) }
-{
-    let keys = keys_above(alloc, links, graph, at)?;
-    Ok(K::is_in(keys.as_slice(), &links[at].0))
 }

@@ -2,14 +2,15 @@
 ghost use Rattle.std.specs.Prelude.{◌≡◌, ◌++◌, ◌∷◌, [], ℕ, List, IfOk, OnOk};
 ghost use Rattle.std.specs.List.Sorted.{IsStrictlySortedBy};
 ghost use Rattle.std.specs.Map.{keys_of};
-ghost use Rattle.sc_schema_hierarchy.specs.Graphs.{ArePlaces, IsGraphOf};
+ghost use Rattle.sc_graphs.specs.Keys.{ArePlaces};
+ghost use Rattle.sc_schema_hierarchy.specs.Graphs.{IsGraphOf};
 
 use crate::key::Key;
 use sc_lists::Seq;
 use std::alloc::{AllocError, Global};
 
 /// The places of keys among all keys.
-#[tactic(auto, using(crate::proofs::GraphLaws::places_first))]
+#[tactic(auto, using(sc_graphs::proofs::PlacesLaws::places_first))]
 fn places_of<K: Key>(
     alloc: Global,
     all: &[(K, Seq<K>)],
@@ -26,14 +27,15 @@ fn places_of<K: Key>(
 }
 
 /// Puts the place of a key behind others, if it is one of all keys.
-#[tactic(auto, using(crate::proofs::GraphLaws::one_place, crate::proofs::GraphLaws::no_place))]
+#[tactic(auto, using(sc_graphs::proofs::PlacesLaws::place_put, sc_graphs::proofs::PlacesLaws::place_left))]
 fn put_place<K: Key>(
     places: &mut Seq<usize>,
     all: &[(K, Seq<K>)],
     key: &K,
 ) -> Result<(), AllocError>
     requires { IsStrictlySortedBy K.order (keys_of all.now) }
-    ensures { OnOk result ((ks : List K) → ArePlaces (keys_of all.now) ks places.old → ArePlaces (keys_of all.now) (ks ++ key.now ∷ []) places.new) }
+    ensures { OnOk result ((ks : List K) → ArePlaces (keys_of all.now) ks places.old
+        → ArePlaces (keys_of all.now) (ks ++ key.now ∷ []) places.new) }
 {
     match K::place(all, key) {
         Some(place) => {
@@ -45,7 +47,7 @@ fn put_place<K: Key>(
 }
 
 /// The graph of what stands directly above each key.
-#[tactic(auto, using(crate::proofs::GraphLaws::graph_first, crate::proofs::GraphLaws::graph_next, crate::proofs::GraphLaws::graph_last))]
+#[tactic(auto, using(sc_graphs::proofs::GraphLaws::graph_first, sc_graphs::proofs::GraphLaws::graph_next, sc_graphs::proofs::GraphLaws::graph_last))]
 pub(crate) fn graph_of<K: Key>(
     alloc: Global,
     links: &[(K, Seq<K>)],

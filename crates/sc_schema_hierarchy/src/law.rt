@@ -10,5 +10,6 @@ ghost use Rattle.sc_schema_hierarchy.specs.Schemas.{action_links, IsSchemaOf};
 /// What a file declares makes one schema, and a lawful one.
 pub fn schema_laws()
     ensures one { (x : AnyExpanded) (s t : Declarations) → IsSchemaOf x s → IsSchemaOf x t → s ≡ t }
-    ensures lawful { (x : AnyExpanded) (s : Declarations) → IsExpanded x → NoCycle (action_links x.actions) → IsSchemaOf x s → IsLawful s }
+    ensures lawful { (x : AnyExpanded) (s : Declarations) → IsExpanded x → NoCycle (action_links x.actions)
+        → IsSchemaOf x s → IsLawful s }
 {}

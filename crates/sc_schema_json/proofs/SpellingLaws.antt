@@ -24,7 +24,7 @@ use Rattle.sc_schema_json.specs.Spelling.{links_of, IsOrdered, IsAcyclic, Means,
 
 -- the least of those on cycles is one
 one_least : (links : Links Uid) (a b : Uid) → IsLeastCycle uid_cmp links a → IsLeastCycle uid_cmp links b → a ≡ b
-one_least links a b h k = level (uid_cmp a b) refl (k.least a h.above) (h.least b k.above) where
+one_least links a b h k = level (uid_cmp a b) refl (k.least a h.cycle) (h.least b k.cycle) where
   level : (o : Ordering) → uid_cmp a b ≡ o → uid_cmp a b ≢ Less → uid_cmp b a ≢ Less → a ≡ b
   level Less is below above = absurd (below is)
   level Equal is below above = uid_cmp_level a b is

@@ -1,6 +1,6 @@
 use Rattle.std.proofs.Common.{take}
 use Rattle.std.specs.Map.{keys_of}
-use Rattle.sc_schema_hierarchy.specs.Graphs.{ArePlaces}
+use Rattle.sc_graphs.specs.Keys.{ArePlaces}
 use Rattle.sc_schema_hierarchy.proofs.graph.places_of.Given as goal
 
 abbrev pub invariant-loop-key : goal.invariant-loop-key
