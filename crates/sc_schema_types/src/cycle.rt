@@ -18,7 +18,7 @@ use std::collections::BTreeMap;
 
 /// The least of the names that reaches itself, where one does: the one at the least place on a cycle,
 /// since names ascend.
-#[tactic(auto, using(crate::proofs::CyclesLaws::cycle_within, crate::proofs::CyclesLaws::cycle_at, crate::proofs::CyclesLaws::cycle_somewhere))]
+#[tactic(auto, using(crate::proofs::CyclesLaws::cycle_within, crate::proofs::CyclesLaws::cycle_somewhere))]
 pub(crate) fn least_cycle(
     alloc: Global,
     bodies: &BTreeMap<Name, &ResolvedType>,
