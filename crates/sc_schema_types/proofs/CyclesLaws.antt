@@ -1,6 +1,5 @@
 -- What is found of a common type that reaches itself.
-use Rattle.std.proofs.Common.{◌≡◌, ◌<◌, ℕ, List, [], length, get_or, Option, Some, None, true, Contains, IsSome, option_map, unwrap_or, refl, sym, ap, ◌∙◌, subst}
-use Rattle.std.specs.List.{slice_get}
+use Rattle.std.proofs.Common.{◌≡◌, ◌<◌, ℕ, List, [], length, get_or, Option, Some, None, true, Contains, IsSome, option_map, unwrap_or, refl, sym, subst}
 use Rattle.std.specs.List.Sorted.{IsStrictlySortedBy}
 use Rattle.std.specs.Option.{is_some}
 use Rattle.std.specs.Ordering.{nat_cmp}
@@ -47,8 +46,9 @@ module _ (bodies : Bodies) (names : Names) (all : (name : List ℕ) → IsSome (
 
 -- ---- the same in the words of the calls
 
-pub cycle_within : (names : Names) (graph : List (List ℕ)) (next : ℕ → Names) (n : ℕ) → HasPlaces names next graph (length names) → reaching.IsLeastCycle nat_cmp (Follows graph) n → n < length names
-cycle_within names graph next n g least = reached_within g least.cycle
+pub cycle_within : (bodies : Bodies) (names : Names) (graph : List (List ℕ)) (n : ℕ) → HasPlaces names (named_at bodies names) graph (length names)
+    → reaching.IsLeastCycle nat_cmp (Follows graph) n → n < length names
+cycle_within bodies names graph n g least = reached_within g least.cycle
 
 pub cycle_at : (bodies : Bodies) (names : Names) (graph : List (List ℕ)) (n : ℕ) (name copy : List ℕ) → ((q : List ℕ) → IsSome (bodies q) → Contains names q)
     → HasPlaces names (named_at bodies names) graph (length names) → IsStrictlySortedBy text_cmp names → reaching.IsLeastCycle nat_cmp (Follows graph) n → name ≡ get_or names n name → copy ≡ name

@@ -1,5 +1,5 @@
 //! The least common type that reaches itself.
-ghost use Rattle.std.specs.Prelude.{◌≡◌, ◌∷◌, ◌++◌, [], ℕ, List, Some, length, slice_get, Contains, IsSome, IfSome, IfNone, IfOk, OnOk};
+ghost use Rattle.std.specs.Prelude.{◌≡◌, ◌∷◌, ◌++◌, [], ℕ, List, Some, length, slice_get, get_or, Contains, IsSome, IfSome, IfNone, IfOk, OnOk};
 ghost use Rattle.std.specs.List.Sorted.{IsStrictlySortedBy};
 ghost use Rattle.sc_names.specs.Uids.{text_cmp};
 ghost use Rattle.sc_graphs.specs.Keys.{ArePlaces, HasPlaces};
@@ -18,7 +18,7 @@ use std::collections::BTreeMap;
 
 /// The least of the names that reaches itself, where one does: the one at the least place on a cycle,
 /// since names ascend.
-#[tactic(auto, using(crate::proofs::CyclesLaws::cycle_within, crate::proofs::CyclesLaws::cycle_somewhere))]
+#[tactic(auto, using(crate::proofs::CyclesLaws::cycle_somewhere))]
 pub(crate) fn least_cycle(
     alloc: Global,
     bodies: &BTreeMap<Name, &ResolvedType>,
@@ -32,8 +32,18 @@ pub(crate) fn least_cycle(
 {
     let graph = graph_of(alloc, bodies, names)?;
     match least_place(alloc, graph.as_slice())? {
-        Some(at) => names[at].try_clone(alloc),
+        Some(at) => name_at(alloc, names, at, met),
         None => Ok(met),
+    }
+}
+
+/// The name at a place among names, or another one where there is none.
+fn name_at(alloc: Global, names: &[Name], at: usize, other: Name) -> Result<Name, AllocError>
+    ensures { IfOk result (λ name. name ≡ get_or names.now at other) }
+{
+    match names.get(at) {
+        Some(name) => name.try_clone(alloc),
+        None => Ok(other),
     }
 }
 
