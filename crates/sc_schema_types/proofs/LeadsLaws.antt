@@ -2,9 +2,10 @@
 use Rattle.std.proofs.Common.{◌<◌, ◌+◌, ℕ, zero, suc, List, [], length, take, get_or, Contains, min, sym, ◌∙◌, subst, arith, length-take}
 use Rattle.std.proofs.lemmas.List.{get_or-take, get_or_default}
 use Rattle.std.proofs.lemmas.List.Elements.{All-contains, Contains-get_or}
-use Rattle.sc_schema_types.specs.References.{Names, Graph, Reaches, at_once, through}
+use Rattle.sc_graphs.specs.Reaching.{step as at_once, on as through}
+use Rattle.sc_graphs.proofs.ReachesLaws.{then_one}
+use Rattle.sc_schema_types.specs.References.{Names, Graph, Reaches}
 use Rattle.sc_schema_types.specs.Orders.{LeadsBack}
-use Rattle.sc_schema_types.proofs.ReachesLaws.{then_one}
 
 -- what holds of the names before a place holds of each name in the list as far as there
 at_earlier : (P : List ℕ → Type 0) (order : Names) (k : ℕ) (r : List ℕ) → ((j : ℕ) → j < k → j < length order → P (get_or order j [])) → Contains (take k order) r → P r
@@ -31,8 +32,8 @@ module _ (graph : Graph) (order : Names) (h : LeadsBack graph order) where
 
   not_round : (q : List ℕ) → ((r : List ℕ) → Contains (graph q) r → Circles r) → Circles q
   unfolding Circles
-  not_round q none (at_once leads) = none q leads (at_once leads)
-  not_round q none (through m leads r) = none m leads (then_one graph m r leads)
+  not_round q none (at_once _ _ leads) = none q leads (at_once q q leads)
+  not_round q none (through _ m _ leads r) = none m leads (then_one m r leads)
 
   -- no name in it reaches itself
   pub none_circles : (q : List ℕ) → Contains order q → Reaches graph q q → ⊥

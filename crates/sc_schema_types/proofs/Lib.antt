@@ -1,4 +1,5 @@
 pub mod AgreeLaws
+pub mod ArrangedLaws
 pub mod BodiesLaws
 pub mod CyclesLaws
 pub mod DeclaredLaws
@@ -6,7 +7,6 @@ pub mod EveryLaws
 pub mod ExpandedLaws
 pub mod ExpansionLaws
 pub mod FaultsLaws
-pub mod GrowthLaws
 pub mod LeadsLaws
 pub mod MeaningLaws
 pub mod MembersLaws

@@ -1,15 +1,11 @@
 -- What leads to what.
 use Rattle.std.proofs.Common.{◌≡◌, ◌⊎◌, ℕ, List, [], ◌∷◌, ◌++◌, Contains, inl, inr, subst}
 use Rattle.sc_lists.proofs.ListLaws.{contains_nothing, contains_split, contains_first}
-use Rattle.sc_schema_types.specs.References.{Names, Graph, Reaches, at_once, through}
+use Rattle.sc_graphs.specs.Reaching.{step, on}
+use Rattle.sc_schema_types.specs.References.{Names, Graph, Reaches}
 use Rattle.sc_schema_types.specs.Searches.{IsPath}
 
 module _ (graph : Graph) where
-  -- one step further
-  pub then_one : {a b : List ℕ} (c : List ℕ) → Reaches graph a b → Contains (graph b) c → Reaches graph a c
-  then_one {a} {b} c (at_once h) e = through b h (at_once e)
-  then_one c (through m h r) e = through m h (then_one c r e)
-
   pub path_push : (front : Names) (a b : List ℕ) → IsPath graph (front ++ a ∷ []) → Contains (graph a) b → IsPath graph ((front ++ a ∷ []) ++ b ∷ [])
   unfolding IsPath
   path_push [] a b h e = (e, tt)
@@ -32,9 +28,9 @@ module _ (graph : Graph) where
   path_reach [] a q h found = absurd (contains_nothing q found)
   path_reach (x ∷ []) a q h found = pick (contains_split x [] q found) where
     pick : (x ≡ q) ⊎ Contains [] q → Reaches graph q a
-    pick (inl is) = subst (λ (y : List ℕ). Reaches graph y a) is (at_once h.0)
+    pick (inl is) = subst (λ (y : List ℕ). Reaches graph y a) is (step x a h.0)
     pick (inr none) = absurd (contains_nothing q none)
   path_reach (x ∷ y ∷ front) a q h found = pick (contains_split x (y ∷ front) q found) (path_reach (y ∷ front) a y h.1 (contains_first y front)) (path_reach (y ∷ front) a q h.1) where
     pick : (x ≡ q) ⊎ Contains (y ∷ front) q → Reaches graph y a → (Contains (y ∷ front) q → Reaches graph q a) → Reaches graph q a
-    pick (inl is) r f = subst (λ (z : List ℕ). Reaches graph z a) is (through y h.0 r)
+    pick (inl is) r f = subst (λ (z : List ℕ). Reaches graph z a) is (on x y a h.0 r)
     pick (inr later) r f = f later

@@ -13,12 +13,14 @@ use Rattle.sc_schema_types.specs.declared.search.Mark.{Mark}
 use Rattle.sc_schema_types.specs.declared.search.Mark.TheVariants.{Open, Placed}
 use Rattle.sc_schema_types.specs.declared.search.Step.{Step}
 use Rattle.sc_schema_types.specs.declared.search.Search.{Search}
-use Rattle.sc_schema_types.specs.References.{Names, Bodies, Graph, Reaches, at_once, references}
+use Rattle.sc_schema_types.specs.References.{Names, Bodies, Graph, Reaches, references}
 use Rattle.sc_schema_types.specs.Orders.{LeadsBack}
 use Rattle.sc_schema_types.specs.Searches.{Marks, mark_in, marked_in, names_on, IsPath, IsStep, AreMarks, IsOnce, IsSearch, IsRested, opened, IsKnown, GoesOn}
 use Rattle.sc_schema_types.proofs.MembersLaws.{all_push, all_front, all_weaker}
 use Rattle.sc_schema_types.proofs.OnceLaws.{once_opened, once_left, once_first, no_mark}
-use Rattle.sc_schema_types.proofs.ReachesLaws.{then_one, path_push, path_pop, path_one, path_reach}
+use Rattle.sc_graphs.specs.Reaching.{step as at_once}
+use Rattle.sc_graphs.proofs.ReachesLaws.{then_one}
+use Rattle.sc_schema_types.proofs.ReachesLaws.{path_push, path_pop, path_one, path_reach}
 use Rattle.sc_schema_types.proofs.TextsLaws.{at_same, same_at}
 
 -- ---- the order
@@ -129,8 +131,8 @@ module _ (bodies : Bodies) where
       → mark_in marks q ≡ Some Open → Contains (references bodies step.name) q → Reaches (references bodies) q q
   closes order path marks step q h is_open leads = pick (Contains-push_cases (names_on path) step.name q (subst (λ (ns : Names). Contains ns q) (names_push path step) (h.marked.open_ones q is_open))) where
     pick : Contains (names_on path) q ⊎ (step.name ≡ q) → Reaches (references bodies) q q
-    pick (inl found) = then_one (references bodies) q (path_reach (references bodies) (names_on path) step.name q (subst (IsPath (references bodies)) (names_push path step) h.linked) found) leads
-    pick (inr is) = at_once (subst (λ (a : List ℕ). Contains (references bodies a) q) is leads)
+    pick (inl found) = then_one q (path_reach (references bodies) (names_on path) step.name q (subst (IsPath (references bodies)) (names_push path step) h.linked) found) leads
+    pick (inr is) = at_once q q (subst (λ (a : List ℕ). Contains (references bodies a) q) is leads)
 
 -- ---- what is known stays known
 

@@ -1,5 +1,5 @@
 -- Names by their bytes: one that a look-up finds is the one that is looked for.
-use Rattle.std.proofs.Common.{◌≡◌, ◌≢◌, ◌⊎◌, ℕ, List, [], ◌∷◌, Bool, true, false, Contains, refl, sym, ◌∙◌, inl, inr, subst}
+use Rattle.std.proofs.Common.{◌≡◌, ◌⊎◌, ℕ, List, [], ◌∷◌, Bool, true, false, Contains, refl, sym, ◌∙◌, inl, inr, subst}
 use Rattle.std.specs.BTreeMap.{is_at}
 use Rattle.std.specs.Cmp.{both_ways}
 use Rattle.std.specs.Str.{bytes_eq}
@@ -34,11 +34,3 @@ has_or_not (y ∷ names) x = here (bytes_eq y x) refl (has_or_not names x) where
   here true same rest = inl (subst (Contains (y ∷ names)) (bytes_eq_true y x same) (contains_first y names))
   here false other (inl has) = inl (contains_rest y names x has)
   here false other (inr none) = inr (λ has. not_first y names x other none (contains_split y names x has))
-
--- ---- a test of two texts
-
-pub tested_same : (a b x y : List ℕ) → a ≡ x → b ≡ y → true ≡ bytes_eq a b → x ≡ y
-tested_same a b x y first second same = sym first ∙ bytes_eq_true a b (sym same) ∙ second
-
-pub tested_other : (a b x y : List ℕ) → a ≡ x → b ≡ y → false ≡ bytes_eq a b → x ≢ y
-tested_other a b x y first second other is = absurd (let both : true ≡ false = sym (bytes_same a b (first ∙ is ∙ sym second)) ∙ sym other in cc)

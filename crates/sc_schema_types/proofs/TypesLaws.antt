@@ -1,17 +1,14 @@
 -- Laws of orders, expansions and faults.
-use Rattle.std.proofs.Common.{◌≡◌, ◌≢◌, ◌⊎◌, ℕ, List, [], ◌∷◌, ◌++◌, map, false, Option, Some, None, option_map, Contains, refl, sym, ap, ◌∙◌, inl, inr, subst, IsSome}
+use Rattle.std.proofs.Common.{◌≡◌, ◌⊎◌, ℕ, List, [], ◌∷◌, ◌++◌, map, false, Option, Some, None, option_map, Contains, refl, sym, ap, ◌∙◌, inl, inr, subst, IsSome}
 use Rattle.std.specs.List.{AllByRecursion, IsDistinct, flat_map, list_any}
 use Rattle.std.specs.Option.{IfSome}
 use Rattle.std.specs.Str.{bytes_eq}
-use Rattle.std.specs.declared.cmp.Ordering.{Ordering}
-use Rattle.std.specs.declared.cmp.Ordering.TheVariants.{Less, Equal, Greater}
 use Rattle.std.proofs.lemmas.Cmp.{nat_list_cmp_total}
 use Rattle.std.proofs.lemmas.List.{map-append}
 use Rattle.std.proofs.lemmas.Map.Lookups.{exact_bytes}
-use Rattle.sc_names.specs.Uids.{text_cmp}
 use Rattle.sc_names.specs.declared.uid.Uid.{Uid}
 use Rattle.sc_schema.proofs.LawfulLaws.{no_fields_over}
-use Rattle.sc_schema.proofs.OrderLaws.{below_from_above}
+use Rattle.sc_graphs.proofs.KeyLaws.{one_least}
 use Rattle.sc_schema.proofs.SizesLaws.{no_fields_small}
 use Rattle.sc_schema.specs.Declarations.{uid_eq}
 use Rattle.sc_schema.specs.Sizes.{IsSmall}
@@ -28,12 +25,13 @@ use Rattle.sc_schema_resolved.specs.Expanded.{expanded_names, expanded_uids, IsT
 use Rattle.sc_schema_resolved.specs.Resolved.{entity_types, actions, entity_names, action_uids, AreDeclared, IsResolvedType, IsResolvedEntityType, IsResolvedAction, IsResolved}
 use Rattle.sc_schema_syntax.specs.declared.fault.SchemaFault.{SchemaFault}
 use Rattle.sc_schema_types.specs.declared.wanted.Wanted.TheVariants.{AnyType, RecordType}
-use Rattle.sc_schema_types.specs.References.{Names, Graph, references, body_of, Reaches}
-use Rattle.sc_schema_types.specs.Orders.{IsOrder, IsLeastCycle}
+use Rattle.sc_schema_types.specs.References.{Names, references, body_of, Reaches}
+use Rattle.sc_schema_types.specs.Orders.{IsOrder}
 use Rattle.sc_schema_types.specs.Expansions.{Meaning, expanded, IsMeaning}
 use Rattle.sc_schema_types.specs.Faults.{type_fault, fault_of, optional_fault, first_fault}
 use Rattle.sc_schema_types.specs.Tables.{meaning_by}
 use Rattle.sc_schema_types.specs.Types.{record_type, expanded_action, expanded_entity_type, expanded_schema, IsExpansion, HasTypeFault, IsSettled, KeepsParents}
+use Rattle.sc_schema_types.proofs.ArrangedLaws.{order_or_cycle}
 use Rattle.sc_schema_types.proofs.CyclesLaws.{leads_declared}
 use Rattle.sc_schema_types.proofs.DeclaredLaws.{body_in_order}
 use Rattle.sc_schema_types.proofs.FaultsLaws.{AreTypes, faults_same, HasRecordContext, HasShapeAndTags, AreRecords, no_fault_records, record_without_fault}
@@ -43,15 +41,6 @@ use Rattle.sc_schema_types.proofs.SizesLaws.{small_without_fault}
 use Rattle.sc_schema_types.proofs.UniqueLaws.{order_means, one_type, proper_type}
 
 -- ---- cycles
-
-level_same : (a b : List ℕ) (r : Ordering) → text_cmp a b ≡ r → r ≢ Less → text_cmp b a ≢ Less → a ≡ b
-level_same a b Less is not_less not_above = absurd (not_less refl)
-level_same a b Equal is not_less not_above = exact_bytes a b is
-level_same a b Greater is not_less not_above = absurd (not_above (below_from_above nat_list_cmp_total a b is))
-
--- one name at most is the least that reaches itself
-pub one_least : (graph : Graph) (a b : List ℕ) → IsLeastCycle graph a → IsLeastCycle graph b → a ≡ b
-one_least graph a b h k = level_same a b (text_cmp a b) refl (k.least a h.cycle) (h.least b k.cycle)
 
 pub order_no_cycle : (s : ResolvedSchema) (order : Names) (a : List ℕ) → IsOrder s order → ¬ Reaches (references (body_of s)) a a
 order_no_cycle s order a h r = none_circles (references (body_of s)) order h.leads_back a (in_order (body_of s a) refl (leads_declared (body_of s) r)) r where
@@ -178,7 +167,8 @@ ends s order ordered m means (Some fault) is = inr (fault, record { order = orde
 
 pub settled : (s : ResolvedSchema) → IsResolved s → IsSettled s
 settled s resolved = record {
-  one_cycle = one_least (references (body_of s));
+  order_or_cycle = order_or_cycle s resolved;
+  one_cycle = one_least nat_list_cmp_total exact_bytes;
   no_cycle = λ order a h. order_no_cycle s order a h;
   meaning = λ order h. (meaning_by (body_of s) order, order_means s order h);
   either = λ order h. ends s order h (meaning_by (body_of s) order) (order_means s order h) (first_fault (fault_of (meaning_by (body_of s) order)) s) refl;

@@ -1,7 +1,7 @@
 pub mod Expansions
 pub mod Faults
 pub mod Orders
-pub mod Reached
+pub mod Places
 pub mod References
 pub mod Searches
 pub mod Sizes

@@ -1,7 +1,6 @@
 -- Whether the common types of a schema can be put in order, and which one can't.
-use Rattle.std.specs.Prelude.{◌≢◌, ℕ, List, [], take, slice_index_or, Contains, All, EachIndex, ⊤}
+use Rattle.std.specs.Prelude.{ℕ, List, [], take, slice_index_or, Contains, All, EachIndex, ⊤}
 use Rattle.std.specs.List.{AllByRecursion}
-use Rattle.std.specs.declared.cmp.Ordering.TheVariants.{Less}
 use Rattle.sc_lists.specs.declared.fault.Fault.{Fault}
 use Rattle.sc_lists.specs.declared.fault.Fault.TheVariants.{Told, NoMemory}
 use Rattle.sc_names.specs.Uids.{text_cmp}
@@ -10,7 +9,8 @@ use Rattle.sc_schema_resolved.specs.declared.schema.ResolvedSchema.{ResolvedSche
 use Rattle.sc_schema_resolved.specs.Resolved.{common_types}
 use Rattle.sc_schema_syntax.specs.declared.fault.SchemaFault.{SchemaFault}
 use Rattle.sc_schema_syntax.specs.declared.fault.SchemaFault.TheVariants.{TypeCycle}
-use Rattle.sc_schema_types.specs.References.{Names, Graph, Reaches, references, body_of}
+use Rattle.sc_graphs.specs.Reaching as reaching
+use Rattle.sc_schema_types.specs.References.{Names, Graph, LeadsTo, references, body_of}
 
 -- each name leads to earlier ones alone
 abbrev pub LeadsBack : Graph → Names → Type 0
@@ -22,9 +22,8 @@ pub record IsOrder (s : ResolvedSchema) (order : Names) : Type 0 where
   pub leads_back : LeadsBack (references (body_of s)) order
 
 -- the least name that reaches itself
-pub record IsLeastCycle (graph : Graph) (name : List ℕ) : Type 0 where
-  pub cycle : Reaches graph name name
-  pub least : (other : List ℕ) → Reaches graph other other → text_cmp other name ≢ Less
+abbrev pub IsLeastCycle : Graph → List ℕ → Type 0
+IsLeastCycle graph = reaching.IsLeastCycle text_cmp (LeadsTo graph)
 
 -- the least common type of a schema that reaches itself
 abbrev pub IsTypeCycle : ResolvedSchema → List ℕ → Type 0

@@ -8,6 +8,7 @@ use Rattle.sc_schema_resolved.specs.declared.resolved_type.ResolvedType.{Resolve
 use Rattle.sc_schema_resolved.specs.declared.resolved_type.ResolvedType.TheOpen as r
 use Rattle.sc_schema_resolved.specs.declared.schema.ResolvedSchema.{ResolvedSchema}
 use Rattle.sc_schema_resolved.specs.Resolved.{common_types}
+use Rattle.sc_graphs.specs.Reaching as reaching
 
 abbrev pub Names : Type 0
 Names = List (List ℕ)
@@ -46,7 +47,10 @@ Graph = List ℕ → Names
 abbrev pub references : Bodies → Graph
 references bodies name = unwrap_or (option_map names_in (bodies name)) []
 
+-- the body of a names b
+abbrev pub LeadsTo : Graph → List ℕ → List ℕ → Type 0
+LeadsTo graph a b = Contains (graph a) b
+
 -- a common type reaches those that its body names, and those that these reach
-pub data Reaches (graph : Graph) : List ℕ → List ℕ → Type 0 where
-  at_once : {a b : List ℕ} → Contains (graph a) b → Reaches graph a b
-  through : {a b : List ℕ} (m : List ℕ) → Contains (graph a) m → Reaches graph m b → Reaches graph a b
+abbrev pub Reaches : Graph → List ℕ → List ℕ → Type 0
+Reaches graph = reaching.Reaches (LeadsTo graph)

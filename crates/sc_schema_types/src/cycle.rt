@@ -1,20 +1,24 @@
 //! The least common type that reaches itself.
-ghost use Rattle.std.specs.Prelude.{◌≡◌, ℕ, List, [], ◌∷◌, Contains, IsSome, IsTrue, ◌↔◌, IfOk, OnOk};
+ghost use Rattle.std.specs.Prelude.{◌≡◌, ◌∷◌, ◌++◌, [], ℕ, List, Some, length, slice_get, get_or, Contains, IsSome, IfSome, IfNone, IfOk, OnOk};
 ghost use Rattle.std.specs.List.Sorted.{IsStrictlySortedBy};
 ghost use Rattle.sc_names.specs.Uids.{text_cmp};
+ghost use Rattle.sc_graphs.specs.Keys.{ArePlaces, HasPlaces};
 ghost use Rattle.sc_schema_types.specs.References.{Reaches, references};
 ghost use Rattle.sc_schema_types.specs.Orders.{IsLeastCycle};
-ghost use Rattle.sc_schema_types.specs.Reached.{AreSeen, Grows};
+ghost use Rattle.sc_schema_types.specs.Places.{named_at};
 ghost use Rattle.sc_schema_types.specs.Tables.{body_in};
 
 use crate::bodies::references;
+use sc_graphs::least_cycle as least_place;
+use sc_lists::Seq;
 use sc_names::Name;
 use sc_schema_resolved::ResolvedType;
 use std::alloc::{AllocError, Global};
-use std::collections::{BTreeMap, BTreeSet};
+use std::collections::BTreeMap;
 
-/// The least of the names that reaches itself, where one does. Each name is looked at by a search of
-/// its own, so the cost is quadratic; it is met only where a schema is refused.
+/// The least of the names that reaches itself, where one does: the one at the least place on a cycle,
+/// since names ascend.
+#[tactic(auto, using(crate::proofs::CyclesLaws::cycle_somewhere))]
 pub(crate) fn least_cycle(
     alloc: Global,
     bodies: &BTreeMap<Name, &ResolvedType>,
@@ -26,81 +30,79 @@ pub(crate) fn least_cycle(
     requires met { Reaches (references (body_in bodies.now.entries)) met met }
     ensures { IfOk result (IsLeastCycle (references (body_in bodies.now.entries))) }
 {
-    for name in names {
-        if reaches_itself(alloc, bodies, name)? {
-            return name.try_clone(alloc);
-        }
+    let graph = graph_of(alloc, bodies, names)?;
+    match least_place(alloc, graph.as_slice())? {
+        Some(at) => name_at(alloc, names, at, met),
+        None => Ok(met),
     }
-    Ok(met)
 }
 
-/// Whether a common type reaches itself.
-fn reaches_itself(
+/// The name at a place among names, or another one where there is none.
+fn name_at(alloc: Global, names: &[Name], at: usize, other: Name) -> Result<Name, AllocError>
+    ensures { IfOk result (λ name. name ≡ get_or names.now at other) }
+{
+    match names.get(at) {
+        Some(name) => name.try_clone(alloc),
+        None => Ok(other),
+    }
+}
+
+/// The graph of what the bodies of common types name, by the places of all names, which ascend.
+#[tactic(auto, using(sc_graphs::proofs::GraphLaws::graph_first, sc_graphs::proofs::GraphLaws::graph_last))]
+fn graph_of(
     alloc: Global,
     bodies: &BTreeMap<Name, &ResolvedType>,
-    name: &Name,
-) -> Result<bool, AllocError>
-    ensures { IfOk result (λ found. IsTrue found ↔ Reaches (references (body_in bodies.now.entries)) name.now name.now) }
+    names: &[Name],
+) -> Result<Seq<Seq<usize>>, AllocError>
+    requires { IsStrictlySortedBy text_cmp names.now }
+    ensures { IfOk result (λ graph. HasPlaces names.now (named_at (body_in bodies.now.entries) names.now) graph
+        (length names.now)) }
 {
-    let mut reached = Reached::new(alloc);
-    let first = references(alloc, bodies, name)?;
-    reached.put_all(alloc, first.as_slice())?;
-    let mut at = 0;
-    while let Some(next) = reached.names.get(at) {
-        if next.as_str() == name.as_str() {
-            return Ok(true);
-        }
-        let following = references(alloc, bodies, next)?;
-        reached.put_all(alloc, following.as_slice())?;
-        at += 1;
+    let mut graph = Seq::new(alloc);
+    for name in names {
+        let following = references(alloc, bodies, name)?;
+        graph.push(places_of(alloc, names, following.as_slice())?)?;
     }
-    Ok(false)
+    Ok(graph)
 }
 
-/// Names that are reached from one, in the order in which they were met, each once.
-#[derive(Drop)]
-pub(crate) struct Reached {
-    /// The names.
-    pub names: Vec<Name>,
-    /// The same names, to look one up.
-    pub seen: BTreeSet<Name>,
+/// The places of names among all names, which ascend.
+#[tactic(auto, using(sc_graphs::proofs::PlacesLaws::places_first))]
+fn places_of(alloc: Global, all: &[Name], names: &[Name]) -> Result<Seq<usize>, AllocError>
+    requires { IsStrictlySortedBy text_cmp all.now }
+    ensures { IfOk result (λ places. ArePlaces all.now names.now places) }
+{
+    let mut places = Seq::new(alloc);
+    for name in names {
+        put_place(&mut places, all, name)?;
+    }
+    Ok(places)
 }
 
-impl Reached {
-    /// No names.
-    fn new(alloc: Global) -> Reached
-        ensures names { result.names.items ≡ [] }
-        ensures seen { AreSeen result }
-    {
-        Reached {
-            names: Vec::new(alloc),
-            seen: BTreeSet::new(alloc),
+/// Puts the place of a name behind others, if it is one of all names.
+#[tactic(auto, using(sc_graphs::proofs::PlacesLaws::place_put, sc_graphs::proofs::PlacesLaws::place_left))]
+fn put_place(places: &mut Seq<usize>, all: &[Name], name: &Name) -> Result<(), AllocError>
+    requires { IsStrictlySortedBy text_cmp all.now }
+    ensures { OnOk result ((ns : List (List ℕ)) → ArePlaces all.now ns places.old
+        → ArePlaces all.now (ns ++ name.now ∷ []) places.new) }
+{
+    match place(all, name) {
+        Some(at) => {
+            places.push(at)?;
+            Ok(())
         }
+        None => Ok(()),
     }
+}
 
-    /// Puts names at the end that aren't there.
-    fn put_all(&mut self, alloc: Global, names: &[Name]) -> Result<(), AllocError>
-        requires { AreSeen self.old }
-        ensures seen { OnOk result (AreSeen self.new) }
-        ensures grows { OnOk result (Grows self.old.names.items names.now self.new.names.items) }
-    {
-        for name in names {
-            self.put(alloc, name)?;
-        }
-        Ok(())
-    }
-
-    /// Puts a name at the end, unless it is there.
-    fn put(&mut self, alloc: Global, name: &Name) -> Result<(), AllocError>
-        requires { AreSeen self.old }
-        ensures seen { OnOk result (AreSeen self.new) }
-        ensures grows { OnOk result (Grows self.old.names.items (name.now ∷ []) self.new.names.items) }
-    {
-        if self.seen.contains(name) {
-            return Ok(());
-        }
-        self.seen.insert(name.try_clone(alloc)?)?;
-        self.names.push(name.try_clone(alloc)?)?;
-        Ok(())
+/// Where a name stands among names that ascend.
+fn place(all: &[Name], name: &Name) -> Option<usize>
+    requires { IsStrictlySortedBy text_cmp all.now }
+    ensures found { IfSome result (λ at. slice_get all.now at ≡ Some name.now) }
+    ensures none { IfNone result (¬ Contains all.now name.now) }
+{
+    match all.binary_search(name) {
+        Ok(at) => Some(at),
+        Err(_) => None,
     }
 }

@@ -5,8 +5,9 @@ ghost use Rattle.sc_schema_resolved.specs.Expanded.{IsExpanded};
 ghost use Rattle.sc_schema_resolved.specs.Resolved.{IsResolved};
 ghost use Rattle.sc_schema_types.specs.Types.{IsExpansion, IsSettled, KeepsParents};
 
-/// A schema whose common types have an order has none that reaches itself, and it has one expansion
-/// or one fault of its types, and not both. One common type at most is the least that reaches itself.
+/// The common types of a schema have an order, or one of them is the least that reaches itself. A
+/// schema whose common types have an order has none that reaches itself, and it has one expansion or
+/// one fault of its types, and not both. One common type at most is the least that reaches itself.
 /// What an expansion names is declared, and its shapes and contexts are record types. It has the
 /// entity types and actions of the schema, in the same order and with the same parents.
 pub fn type_laws()
