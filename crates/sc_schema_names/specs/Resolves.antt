@@ -1,5 +1,5 @@
 -- What a schema file says, its names looked up, or the first of them that nothing has.
-use Rattle.std.specs.Prelude.{◌≡◌, Some, None, ⊤}
+use Rattle.std.specs.Prelude.{◌≡◌, ◌⊎◌, Some, None, ⊤}
 use Rattle.sc_lists.specs.declared.fault.Fault.{Fault}
 use Rattle.sc_lists.specs.declared.fault.Fault.TheVariants.{Told, NoMemory}
 use Rattle.sc_schema_syntax.specs.declared.fault.SchemaFault.{SchemaFault}
@@ -23,11 +23,12 @@ abbrev pub Refuses : WrittenSchema → Fault SchemaFault → Type 0
 Refuses w (Told fault) = HasUnknown w fault
 Refuses w NoMemory = ⊤
 
--- what is written resolves to one schema at most, has one fault at most, and not both
+-- what is written resolves to just one schema or has just one fault, and not both
 pub record IsSettled (w : WrittenSchema) : Type 0 where
   pub one_schema : (s t : ResolvedSchema) → Resolves w s → Resolves w t → s ≡ t
   pub one_fault : (a b : SchemaFault) → HasUnknown w a → HasUnknown w b → a ≡ b
   pub not_both : (s : ResolvedSchema) (a : SchemaFault) → Resolves w s → ¬ HasUnknown w a
+  pub either : ((s : ResolvedSchema) × Resolves w s) ⊎ ((fault : SchemaFault) × HasUnknown w fault)
 
 -- the fault is that a type's name is unknown, or an action's
 abbrev pub IsOfName : SchemaFault → Type 0

@@ -171,7 +171,8 @@ fn any_type_fault(
     key: &str,
     written: &Option<WrittenType>,
 ) -> Result<Option<SchemaFault>, AllocError>
-    ensures { IfOk result (λ fault. fault ≡ inside key.now (any_type_fault (known declared.now) namespace.now written.now)) }
+    ensures { IfOk result (λ fault. fault
+        ≡ inside key.now (any_type_fault (known declared.now) namespace.now written.now)) }
 {
     match written {
         Some(written) => inside(alloc, key, type_fault(alloc, declared, namespace, written)?),

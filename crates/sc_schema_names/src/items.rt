@@ -34,7 +34,8 @@ pub(crate) fn items_fault<T: Item>(
     key: &str,
     items: &Seq<T>,
 ) -> Result<Option<SchemaFault>, AllocError>
-    ensures { IfOk result (λ found. found ≡ inside key.now (first_item (T.fault_of (known declared.now) namespace.now) 0 items.now)) }
+    ensures { IfOk result (λ found. found
+        ≡ inside key.now (first_item (T.fault_of (known declared.now) namespace.now) 0 items.now)) }
 {
     let fault = first_item(alloc, declared, namespace, items)?;
     inside(alloc, key, fault)

@@ -6,10 +6,10 @@ ghost use Rattle.sc_schema_resolved.specs.declared.schema.ResolvedSchema.{Resolv
 ghost use Rattle.sc_schema_resolved.specs.Resolved.{IsResolved};
 ghost use Rattle.sc_schema_names.specs.Resolves.{Resolves, HasUnknown, IsSettled, IsOfName};
 
-/// What is written resolves to one schema at most, has one fault at most, and not both; a fault is
-/// that the name of a type or of an action is unknown. What a well-written schema resolves to names
+/// What is written resolves to just one schema or has just one fault, and not both; a fault is that
+/// the name of a type or of an action is unknown. What a well-written schema resolves to names
 /// what it declares, and each of its declarations has a name of its own.
-#[tactic(auto, using(crate::proofs::ResolvesLaws::settled, crate::proofs::KindsLaws::of_name))]
+#[tactic(auto, using(crate::proofs::KindsLaws::of_name))]
 pub fn resolution_laws()
     ensures one { (w : AnySchema) → IsSettled w }
     ensures names { (w : AnySchema) → (fault : AnyFault) → HasUnknown w fault → IsOfName fault }

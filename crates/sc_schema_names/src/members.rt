@@ -39,7 +39,8 @@ pub(crate) fn members_fault<T: Declaration>(
     key: &str,
     members: &Seq<T>,
 ) -> Result<Option<SchemaFault>, AllocError>
-    ensures { IfOk result (λ found. found ≡ inside key.now (first_member T.key_of (T.fault_of (known declared.now) namespace.now) members.now)) }
+    ensures { IfOk result (λ found. found
+        ≡ inside key.now (first_member T.key_of (T.fault_of (known declared.now) namespace.now) members.now)) }
 {
     let fault = first_member(alloc, declared, namespace, members)?;
     inside(alloc, key, fault)
@@ -52,7 +53,8 @@ fn first_member<T: Declaration>(
     namespace: &str,
     members: &Seq<T>,
 ) -> Result<Option<SchemaFault>, AllocError>
-    ensures { IfOk result (λ found. found ≡ first_member T.key_of (T.fault_of (known declared.now) namespace.now) members.now) }
+    ensures { IfOk result (λ found. found
+        ≡ first_member T.key_of (T.fault_of (known declared.now) namespace.now) members.now) }
 {
     for member in members.as_slice() {
         if let Some(fault) = member.first_fault(alloc, declared, namespace)? {

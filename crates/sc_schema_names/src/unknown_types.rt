@@ -46,7 +46,8 @@ fn element_fault(
     namespace: &str,
     element: &WrittenType,
 ) -> Result<Option<SchemaFault>, AllocError>
-    ensures { IfOk result (λ fault. fault ≡ inside (codes "element") (type_fault (known declared.now) namespace.now element.now)) }
+    ensures { IfOk result (λ fault. fault
+        ≡ inside (codes "element") (type_fault (known declared.now) namespace.now element.now)) }
 {
     let fault = type_fault(alloc, declared, namespace, element)?;
     inside(alloc, "element", fault)
@@ -93,7 +94,8 @@ fn entity_fault(
     namespace: &str,
     name: &Text,
 ) -> Result<Option<SchemaFault>, AllocError>
-    ensures { IfOk result (λ fault. fault ≡ inside (codes "name") (entity_type_fault (known declared.now) namespace.now name.now)) }
+    ensures { IfOk result (λ fault. fault
+        ≡ inside (codes "name") (entity_type_fault (known declared.now) namespace.now name.now)) }
 {
     let fault = entity_type_fault(alloc, declared, namespace, name.as_str())?;
     inside(alloc, "name", fault)
@@ -121,7 +123,8 @@ fn any_fault(
     namespace: &str,
     name: &Text,
 ) -> Result<Option<SchemaFault>, AllocError>
-    ensures { IfOk result (λ fault. fault ≡ inside (codes "name") (no_type (type_named (known declared.now) namespace.now name.now))) }
+    ensures { IfOk result (λ fault. fault
+        ≡ inside (codes "name") (no_type (type_named (known declared.now) namespace.now name.now))) }
 {
     match type_named(alloc, declared, namespace, name.as_str())? {
         Some(_) => Ok(None),
@@ -136,7 +139,8 @@ fn common_fault(
     namespace: &str,
     name: &Text,
 ) -> Result<Option<SchemaFault>, AllocError>
-    ensures { IfOk result (λ fault. fault ≡ inside (codes "type") (no_type (common_type_named (known declared.now) namespace.now name.now))) }
+    ensures { IfOk result (λ fault. fault
+        ≡ inside (codes "type") (no_type (common_type_named (known declared.now) namespace.now name.now))) }
 {
     match common_type_named(alloc, declared, namespace, name.as_str())? {
         Some(_) => Ok(None),
