@@ -1,3 +1,10 @@
+pub mod AscendingLaws
 pub mod DescribingLaws
+pub mod EitherLaws
+pub mod GraphLaws
+pub mod LeadingLaws
+pub mod LinksLaws
+pub mod MadeLaws
 pub mod ReadingLaws
+pub mod ReferencesLaws
 pub mod SpellingLaws

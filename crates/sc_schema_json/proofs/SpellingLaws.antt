@@ -1,4 +1,4 @@
--- Bytes spell one schema at most, have one fault at most, and not both.
+-- Bytes spell just one schema or have just one fault, and not both.
 use Rattle.std.proofs.Common.{◌≡◌, ◌≢◌, ℕ, List, length, refl, ap, subst, ◌∙◌, arith}
 use Rattle.std.specs.Ordering.{ordering_reverse}
 use Rattle.std.specs.declared.cmp.Ordering.{Ordering}
@@ -21,6 +21,7 @@ use Rattle.sc_schema_types.specs.Types as types
 use Rattle.sc_schema_hierarchy.specs.Above.{Links, IsLeastCycle}
 use Rattle.sc_schema_hierarchy.specs.Schemas.{IsSchemaOf}
 use Rattle.sc_schema_json.specs.Spelling.{links_of, IsOrdered, IsAcyclic, Means, Describes, HasFaultOf, of_common_types, of_actions, of_types, of_environments, Declares, Spells, HasFault, of_form, of_names, of_schema, IsSettled}
+use Rattle.sc_schema_json.proofs.EitherLaws.{AreTypesExpanded, schema_or_fault}
 
 -- the least of those on cycles is one
 one_least : (links : Links Uid) (a b : Uid) → IsLeastCycle uid_cmp links a → IsLeastCycle uid_cmp links b → a ≡ b
@@ -94,7 +95,7 @@ AreNamesResolved = (w : WrittenSchema) (r : ResolvedSchema) → IsWritten w → 
 abbrev TypesSettled : Type 0
 TypesSettled = (r : ResolvedSchema) → IsResolved r → types.IsSettled r
 
-module _ (form : SyntaxSettled) (written : IsWellWritten) (resolution : NamesSettled) (resolves : AreNamesResolved) (typing : TypesSettled) (one : OneSchema) (bytes : List ℕ) where
+module _ (form : SyntaxSettled) (written : IsWellWritten) (resolution : NamesSettled) (resolves : AreNamesResolved) (typing : TypesSettled) (expands : AreTypesExpanded) (one : OneSchema) (bytes : List ℕ) where
   declares_resolved : (r : ResolvedSchema) → Declares bytes r → IsResolved r
   declares_resolved r h = resolves h.written r (written bytes h.written h.form) h.names
 
@@ -153,4 +154,5 @@ module _ (form : SyntaxSettled) (written : IsWellWritten) (resolution : NamesSet
       no_fault_of r (declares_settled r d) one s a (subst (λ (u : ResolvedSchema). Describes u s) same h.describes) k
 
   pub settled : IsSettled bytes
-  settled = record { one_schema = one_schema; one_fault = one_fault; not_both = not_both }
+  settled =
+      record { one_schema = one_schema; one_fault = one_fault; not_both = not_both; either = schema_or_fault bytes (form bytes) resolution declares_resolved typing expands }

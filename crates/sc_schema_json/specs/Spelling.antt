@@ -1,5 +1,5 @@
 -- Which bytes spell which schema, and which fault they have.
-use Rattle.std.specs.Prelude.{◌≡◌, ◌≤◌, ◌<◌, ℕ, List, length, ⊤}
+use Rattle.std.specs.Prelude.{◌≡◌, ◌⊎◌, ◌≤◌, ◌<◌, ℕ, List, length, ⊤}
 use Rattle.sc_lists.specs.declared.fault.Fault.{Fault}
 use Rattle.sc_lists.specs.declared.fault.Fault.TheVariants.{Told, NoMemory}
 use Rattle.sc_names.specs.declared.uid.Uid.{Uid}
@@ -83,8 +83,9 @@ abbrev pub RefusesOf : ResolvedSchema → Fault SchemaFault → Type 0
 RefusesOf r (Told fault) = HasFaultOf r fault
 RefusesOf r NoMemory = ⊤
 
--- bytes spell one schema at most, have one fault at most, and not both
+-- bytes spell just one schema or have just one fault, and not both
 pub record IsSettled (bytes : List ℕ) : Type 0 where
   pub one_schema : (s t : Declarations) → Spells bytes s → Spells bytes t → s ≡ t
   pub one_fault : (a b : SchemaFault) → HasFault bytes a → HasFault bytes b → a ≡ b
   pub not_both : (s : Declarations) (a : SchemaFault) → Spells bytes s → ¬ HasFault bytes a
+  pub either : ((s : Declarations) × Spells bytes s) ⊎ ((fault : SchemaFault) × HasFault bytes fault)

@@ -7,7 +7,7 @@ use sc_schema_names::resolution_laws;
 use sc_schema_syntax::syntax_laws;
 use sc_schema_types::type_laws;
 
-/// A file spells one schema at most, has one fault at most, and not both.
+/// Each file spells just one schema or has just one fault, and not both.
 pub fn spelling_laws()
     ensures { (bytes : List ℕ) → IsSettled bytes }
 {

@@ -1,0 +1,259 @@
+-- In a finite graph: what is led to, in ascending order; the least key that leads to itself; and an order in which each
+-- key leads to earlier ones alone.
+use Rattle.std.proofs.Common.{◌≡◌, ◌≢◌, ◌⊎◌, ◌↔◌, ◌<◌, ◌≤◌, ℕ, zero, suc, length, take, get_or, arith, length-take, List, [], ◌∷◌, map, Bool, true, false, ◌||◌, cond, Contains, inl, inr, refl, sym, ap, subst, ◌∙◌}
+use Rattle.std.specs.Bool.{Decides}
+use Rattle.std.specs.Cmp.{IsTotalOrder}
+use Rattle.std.specs.List.{All, AllByRecursion, filter, flat_map, list_any}
+use Rattle.std.specs.List.Sorted.{IsStrictlySortedBy}
+use Rattle.std.specs.Ordering.{ordering_reverse}
+use Rattle.std.specs.declared.cmp.Ordering.{Ordering}
+use Rattle.std.specs.declared.cmp.Ordering.TheVariants.{Less, Equal, Greater}
+use Rattle.std.proofs.Math.Nat.{eq-or-lt_of_le}
+use Rattle.std.proofs.lemmas.Bool.{cases_lt}
+use Rattle.std.proofs.lemmas.List.{get_or-take, get_or_default}
+use Rattle.std.proofs.lemmas.List.Elements.{Contains-get_or, Contains-append_left, Contains-append_right, Contains-append_cases}
+use Rattle.sc_lists.proofs.ListLaws.{all_element, all_of_elements, contains_nothing, contains_split, contains_rest, contains_first}
+use Rattle.sc_schema_json.proofs.LeadingLaws.{or_right, Leads, next, onwards, leads_on, goes, leads_decided}
+use Rattle.sc_schema_json.proofs.AscendingLaws.{Ascends, ascending_of, below_rest}
+
+-- ---- elements of lists
+
+module _ {X : Type 0} (p : X → Bool) where
+  pub contains_kept : (xs : List X) (x : X) → Contains xs x → p x ≡ true → Contains (filter p xs) x
+  contains_kept [] x has passes = absurd (contains_nothing x has)
+  contains_kept (y ∷ ys) x has passes = at (p y) refl (contains_split y ys x has) (λ later. contains_kept ys x later passes) where
+    at : (b : Bool) → p y ≡ b → (y ≡ x) ⊎ Contains ys x → (Contains ys x → Contains (filter p ys) x) → Contains (cond b (y ∷ filter p ys) (filter p ys)) x
+    at true e (inl same) rest = subst (λ (z : X). Contains (y ∷ filter p ys) z) same (contains_first y (filter p ys))
+    at true e (inr later) rest = contains_rest y (filter p ys) x (rest later)
+    at false e (inl same) rest = absurd (let no : true ≡ false = sym passes ∙ ap p (sym same) ∙ e in cc)
+    at false e (inr later) rest = rest later
+
+  pub kept_passes : (xs : List X) (x : X) → Contains (filter p xs) x → Contains xs x × (p x ≡ true)
+  kept_passes [] x has = absurd (contains_nothing x has)
+  kept_passes (y ∷ ys) x has = at (p y) refl has (kept_passes ys x) where
+    first : p y ≡ true → (y ≡ x) ⊎ Contains (filter p ys) x → (Contains (filter p ys) x → Contains ys x × (p x ≡ true)) → Contains (y ∷ ys) x × (p x ≡ true)
+    first e (inl same) rest = (subst (λ (z : X). Contains (y ∷ ys) z) same (contains_first y ys), ap p (sym same) ∙ e)
+    first e (inr later) rest = (contains_rest y ys x (rest later).0, (rest later).1)
+
+    at : (b : Bool) → p y ≡ b → Contains (cond b (y ∷ filter p ys) (filter p ys)) x → (Contains (filter p ys) x → Contains ys x × (p x ≡ true)) → Contains (y ∷ ys) x × (p x ≡ true)
+    at true e there rest = first e (contains_split y (filter p ys) x there) rest
+    at false e there rest = (contains_rest y ys x (rest there).0, (rest there).1)
+
+pub contains_joined : {X Y : Type 0} (f : X → List Y) (xs : List X) (x : X) (y : Y) → Contains xs x → Contains (f x) y → Contains (flat_map f xs) y
+contains_joined f [] x y has inside = absurd (contains_nothing x has)
+contains_joined {X} {Y} f (z ∷ zs) x y has inside = elim (contains_split z zs x has) [
+  | inl same ↦ Contains-append_left (f z) (flat_map f zs) y (subst (λ (w : X). Contains (f w) y) (sym same) inside)
+  | inr later ↦ Contains-append_right (f z) (flat_map f zs) y (contains_joined f zs x y later inside)
+]
+
+pub joined_from : {X Y : Type 0} (f : X → List Y) (xs : List X) (y : Y) → Contains (flat_map f xs) y → (x : X) × Contains xs x × Contains (f x) y
+joined_from f [] y has = absurd (contains_nothing y has)
+joined_from {X} {Y} f (z ∷ zs) y has = at (Contains-append_cases (f z) (flat_map f zs) y has) (joined_from f zs y) where
+  at : Contains (f z) y ⊎ Contains (flat_map f zs) y → (Contains (flat_map f zs) y → (x : X) × Contains zs x × Contains (f x) y) → (x : X) × Contains (z ∷ zs) x × Contains (f x) y
+  at (inl here) rest = (z, contains_first z zs, here)
+  at (inr later) rest = let found = rest later in (found.0, contains_rest z zs found.0 found.1, found.2)
+
+-- a test of elements tests whether one is on a list
+pub any_decided : {X : Type 0} (eq : X → X → Bool) (decides : (a b : X) → Decides (eq a b) (a ≡ b)) (xs : List X) (x : X) → Decides (list_any (eq x) xs) (Contains xs x)
+any_decided {X} eq decides xs x = (sound xs, complete xs) where
+  sound : (ys : List X) → list_any (eq x) ys ≡ true → Contains ys x
+  sound [] h = absurd (let no : false ≡ true = h in cc)
+  sound (y ∷ ys) h = at (eq x y) refl h (sound ys) where
+    at : (b : Bool) → eq x y ≡ b → (b || list_any (eq x) ys) ≡ true → (list_any (eq x) ys ≡ true → Contains ys x) → Contains (y ∷ ys) x
+    at true same h rest = subst (λ (z : X). Contains (y ∷ ys) z) (sym ((decides x y).0 same)) (contains_first y ys)
+    at false other h rest = contains_rest y ys x (rest h)
+
+  complete : (ys : List X) → Contains ys x → list_any (eq x) ys ≡ true
+  complete [] has = absurd (contains_nothing x has)
+  complete (y ∷ ys) has = at (contains_split y ys x has) (complete ys) where
+    at : (y ≡ x) ⊎ Contains ys x → (Contains ys x → list_any (eq x) ys ≡ true) → (eq x y || list_any (eq x) ys) ≡ true
+    at (inl same) rest = ap (λ b. b || list_any (eq x) ys) ((decides x y).1 (sym same))
+    at (inr later) rest = or_right (eq x y) (list_any (eq x) ys) (rest later)
+
+-- ---- graphs with the test of what leads to what
+
+module _ {K : Type 0} {R : K → K → Ordering} (o : IsTotalOrder R) (level : (x y : K) → R x y ≡ Equal → x ≡ y)
+    (graph : K → List K) (names : K → K → Bool) (named : (a b : K) → Decides (names a b) (Contains (graph a) b))
+    (keys : List K) (keyed : (a b : K) → Contains (graph a) b → Contains keys a) where
+  abbrev test : K → K → Bool
+  test = goes graph names named keys
+
+  tested : (a b : K) → Decides (test a b) (Leads graph a b)
+  tested = leads_decided graph names named keys keyed
+
+  ends : {a b : K} → Leads graph a b → Contains (flat_map graph keys) b
+  ends (next a b h) = contains_joined graph keys a b (keyed a b h) h
+  ends (onwards a m b h r) = ends r
+
+  in_order_of : (xs : List K) → Ascends R (λ k. k) (Contains xs)
+  in_order_of xs = ascending_of o (λ k. k) xs (λ x y has had tied. level x y tied)
+
+  -- ---- what a key leads to
+
+  pub led_to : (a : K) → Ascends R (λ k. k) (Leads graph a)
+  led_to a = of (in_order_of (filter (test a) (flat_map graph keys))) where
+    of : Ascends R (λ k. k) (Contains (filter (test a) (flat_map graph keys))) → Ascends R (λ k. k) (Leads graph a)
+    of all =
+        record {
+          list = all.list;
+          ascending = all.ascending;
+          members = λ b. (
+            λ has. (tested a b).0 (kept_passes (test a) (flat_map graph keys) b ((all.members b).0 has)).1,
+            λ is. (all.members b).1 (contains_kept (test a) (flat_map graph keys) b (ends is) ((tested a b).1 is)),
+          );
+        }
+
+  -- ---- the least key that leads to itself
+
+  pub record IsLeastRound (k : K) : Type 0 where
+    pub round : Leads graph k k
+    pub least : (other : K) → Leads graph other other → R other k ≢ Less
+
+  abbrev NoRound : Type 0
+  NoRound = (k : K) → Leads graph k k → ⊥
+
+  abbrev rounds : List K
+  rounds = filter (λ k. test k k) keys
+
+  starts : {a b : K} → Leads graph a b → Contains keys a
+  starts (next a b h) = keyed a b h
+  starts (onwards a m b h r) = keyed a m h
+
+  among_rounds : (k : K) → Leads graph k k → Contains rounds k
+  among_rounds k is = contains_kept (λ x. test x x) keys k (starts is) ((tested k k).1 is)
+
+  not_both_less : (x y : K) → R x y ≡ Less → R y x ≡ Less → ⊥
+  not_both_less x y h k = absurd (let turned : Less ≡ Greater = sym h ∙ o.antisymm x y ∙ ap ordering_reverse k in cc)
+
+  pub round_or_none : ((k : K) × IsLeastRound k) ⊎ NoRound
+  round_or_none = of (in_order_of rounds) where
+    by : (list : List K) → IsStrictlySortedBy R (map (λ (k : K). k) list) → ((k : K) → Contains list k ↔ Contains rounds k) → ((k : K) × IsLeastRound k) ⊎ NoRound
+    by [] ascending members = inr (λ k is. contains_nothing k ((members k).1 (among_rounds k is)))
+    by (x ∷ xs) ascending members =
+        inl (
+          x,
+          record {
+            round = (tested x x).0 (kept_passes (λ k. test k k) keys x ((members x).0 (contains_first x xs))).1;
+            least = λ other is less. elim (contains_split x xs other ((members other).1 (among_rounds other is))) [
+              | inl same ↦ not_both_less x x (subst (λ (z : K). R z x ≡ Less) (sym same) less) (subst (λ (z : K). R z x ≡ Less) (sym same) less)
+              | inr later ↦ not_both_less x other (below_rest o (λ k. k) x xs other ascending later) less
+            ];
+          },
+        )
+
+    of : Ascends R (λ k. k) (Contains rounds) → ((k : K) × IsLeastRound k) ⊎ NoRound
+    of all = by all.list all.ascending all.members
+
+  -- ---- an order
+
+  module _ (none : NoRound) where
+    -- none of them leads to a later one
+    LeadsOnlyBack : List K → Type 0
+    LeadsOnlyBack [] = Unit {0}
+    LeadsOnlyBack (x ∷ xs) = AllByRecursion (λ y. Leads graph x y → ⊥) xs × LeadsOnlyBack xs
+
+    abbrev Placing : K → List K → Type 0
+    Placing x ys = (zs : List K) × LeadsOnlyBack zs × ((k : K) → Contains zs k ↔ Contains (x ∷ ys) k)
+
+    place_before : (x y : K) (ys : List K) → Leads graph y x → LeadsOnlyBack (y ∷ ys) → LeadsOnlyBack (x ∷ y ∷ ys)
+    unfolding LeadsOnlyBack
+    place_before x y ys leads back = (
+      (
+        λ is. none x (leads_on x is leads),
+        all_of_elements (λ z. Leads graph x z → ⊥) ys (λ z has is. all_element (λ w. Leads graph y w → ⊥) ys z back.0 has (leads_on z leads is)),
+      ),
+      back,
+    )
+
+    place_after : (x y : K) (ys zs : List K) → (Leads graph y x → ⊥) → LeadsOnlyBack (y ∷ ys) → LeadsOnlyBack zs → ((k : K) → Contains zs k → Contains (x ∷ ys) k) → LeadsOnlyBack (y ∷ zs)
+    unfolding LeadsOnlyBack
+    place_after x y ys zs apart back rest from = (
+      all_of_elements (λ z. Leads graph y z → ⊥) zs (λ z has is. elim (contains_split x ys z (from z has)) [
+        | inl same ↦ apart (subst (λ (w : K). Leads graph y w) (sym same) is)
+        | inr later ↦ all_element (λ w. Leads graph y w → ⊥) ys z back.0 later is
+      ]),
+      rest,
+    )
+
+    swapped : (x y : K) (ys : List K) (k : K) → Contains (x ∷ y ∷ ys) k → Contains (y ∷ x ∷ ys) k
+    swapped x y ys k has = elim (contains_split x (y ∷ ys) k has) [
+      | inl same ↦ contains_rest y (x ∷ ys) k (subst (λ (w : K). Contains (x ∷ ys) w) same (contains_first x ys))
+      | inr later ↦ elim (contains_split y ys k later) [
+        | inl same ↦ subst (λ (w : K). Contains (y ∷ x ∷ ys) w) same (contains_first y (x ∷ ys))
+        | inr more ↦ contains_rest y (x ∷ ys) k (contains_rest x ys k more)
+      ]
+    ]
+
+    behind : (y : K) (xs zs : List K) (k : K) → (Contains xs k → Contains zs k) → Contains (y ∷ xs) k → Contains (y ∷ zs) k
+    behind y xs zs k f has = elim (contains_split y xs k has) [
+      | inl same ↦ subst (λ (w : K). Contains (y ∷ zs) w) same (contains_first y zs)
+      | inr later ↦ contains_rest y zs k (f later)
+    ]
+
+    place : (x : K) (ys : List K) → LeadsOnlyBack ys → Placing x ys
+    unfolding LeadsOnlyBack
+    place x [] back = (x ∷ [], (tt, tt), λ k. (λ has. has, λ has. has))
+    place x (y ∷ ys) back = at (test y x) refl (place x ys back.1) where
+      at : (b : Bool) → test y x ≡ b → Placing x ys → Placing x (y ∷ ys)
+      at true is rest = (x ∷ y ∷ ys, place_before x y ys ((tested y x).0 is) back, λ k. (λ has. has, λ has. has))
+      at false is rest = (
+        y ∷ rest.0,
+        place_after x y ys rest.0 (λ leads. (let yes : test y x ≡ true = (tested y x).1 leads in let no : true ≡ false = sym yes ∙ is in cc)) back rest.1 (λ k. (rest.2 k).0),
+        λ k. (λ has. swapped y x ys k (behind y rest.0 (x ∷ ys) k (rest.2 k).0 has), λ has. behind y (x ∷ ys) rest.0 k (rest.2 k).1 (swapped x y ys k has)),
+      )
+
+    placed_all : (xs : List K) → (order : List K) × LeadsOnlyBack order × ((k : K) → Contains order k ↔ Contains xs k)
+    unfolding LeadsOnlyBack
+    placed_all [] = ([], tt, λ k. (λ has. has, λ has. has))
+    placed_all (x ∷ xs) = of (placed_all xs) where
+      of : ((order : List K) × LeadsOnlyBack order × ((k : K) → Contains order k ↔ Contains xs k)) → (order : List K) × LeadsOnlyBack order × ((k : K) → Contains order k ↔ Contains (x ∷ xs) k)
+      of rest =
+          let all = place x rest.0 rest.1 in
+          (all.0, all.1, λ k. (λ has. behind x rest.0 xs k (rest.2 k).0 ((all.2 k).0 has), λ has. (all.2 k).1 (behind x xs rest.0 k (rest.2 k).1 has)))
+
+    -- ---- each key of the order names earlier ones alone
+
+    apart : (xs : List K) (i j : ℕ) (d : K) → LeadsOnlyBack xs → i < j → j < length xs → Leads graph (get_or xs i d) (get_or xs j d) → ⊥
+    unfolding LeadsOnlyBack
+    apart [] i j d back less within is = absurd (omega (arith, within))
+    apart (x ∷ xs) i zero d back less within is = absurd (omega (arith, less))
+    apart (x ∷ xs) zero (suc j) d back less within is = all_element (λ w. Leads graph x w → ⊥) xs (get_or xs j d) back.0 (Contains-get_or xs j d (omega (arith, within))) is
+    apart (x ∷ xs) (suc i) (suc j) d back less within is = apart xs i j d back.1 (omega (arith, less)) (omega (arith, within)) is
+
+    earlier : (order : List K) (i : ℕ) (d r : K) → LeadsOnlyBack order → i < length order → Contains (graph (get_or order i d)) r → Contains order r → Contains (take i order) r
+    earlier order i d r back within has (j, inside, is) = at (cases_lt j i) where
+      leads : Leads graph (get_or order i d) r
+      leads = next (get_or order i d) r has
+
+      before : j < i → Contains (take i order) r
+      before less = (j, subst (λ n. j < n) (sym (length-take i order)) (omega (arith, less, inside)), get_or-take i order j r less ∙ is)
+
+      later : (i ≡ j) ⊎ (i < j) → Contains (take i order) r
+      later (inl same) =
+          let here : get_or order i d ≡ r = ap (λ n. get_or order n d) same ∙ get_or_default order j d r inside ∙ is in
+          absurd (none r (subst (λ (z : K). Leads graph z r) here leads))
+      later (inr more) =
+          let there : get_or order j d ≡ r = get_or_default order j d r inside ∙ is in
+          absurd (apart order i j d back more inside (subst (λ (z : K). Leads graph (get_or order i d) z) (sym there) leads))
+
+      at : (j < i) ⊎ (i ≤ j) → Contains (take i order) r
+      at (inl less) = before less
+      at (inr not_less) = later (eq-or-lt_of_le not_less)
+
+    -- the keys in an order in which each leads to earlier ones alone
+    pub record Order : Type 0 where
+      pub list : List K
+      pub members : (k : K) → Contains list k ↔ Contains keys k
+      pub back : (i : ℕ) (d : K) → i < length list → All (Contains (take i list)) (graph (get_or list i d))
+
+    pub order_of : ((a b : K) → Contains (graph a) b → Contains keys b) → Order
+    order_of inside = of (placed_all keys) where
+      of : ((order : List K) × LeadsOnlyBack order × ((k : K) → Contains order k ↔ Contains keys k)) → Order
+      of found =
+          record {
+            list = found.0;
+            members = found.2;
+            back = λ i d within k e here. earlier found.0 i d (get_or (graph (get_or found.0 i d)) k e) found.1 within
+                (Contains-get_or (graph (get_or found.0 i d)) k e here)
+                ((found.2 (get_or (graph (get_or found.0 i d)) k e)).1 (inside (get_or found.0 i d) (get_or (graph (get_or found.0 i d)) k e) (Contains-get_or (graph (get_or found.0 i d)) k e here)));
+          }
