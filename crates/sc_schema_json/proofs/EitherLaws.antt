@@ -20,7 +20,6 @@ use Rattle.sc_schema_hierarchy.specs.Above.{NoCycle, IsLeastCycle}
 use Rattle.sc_schema_hierarchy.specs.Schemas.{IsSchemaOf}
 use Rattle.sc_schema_json.specs.Spelling.{max_environments, links_of, IsOrdered, IsAcyclic, Means, Describes, HasFaultOf, of_common_types, of_actions, of_types, of_environments, Declares, Spells, HasFault, of_form, of_names, of_schema}
 use Rattle.sc_schema_json.proofs.MadeLaws.{made_schema, action_cycle_or_none}
-use Rattle.sc_schema_json.proofs.ReferencesLaws.{order_or_cycle}
 
 -- what the call below promises of types that are written out
 abbrev pub AreTypesExpanded : Type 0
@@ -59,7 +58,7 @@ module _ (expands : AreTypesExpanded) (r : ResolvedSchema) (resolved : IsResolve
     at (inr none) = acyclic order is (record { types = types_ordered; actions = none })
 
   described : Described r
-  described = at (order_or_cycle r resolved) where
+  described = at settled.order_or_cycle where
     at : ((order : Names) × IsOrder r order) ⊎ ((name : List ℕ) × IsTypeCycle r name) → Described r
     at (inl found) = ordered found.0 found.1
     at (inr found) = inr (TypeCycle found.0, of_common_types (TypeCycle found.0) (cycle found.0 found.1))

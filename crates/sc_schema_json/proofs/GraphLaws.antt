@@ -1,19 +1,16 @@
--- In a finite graph: what is led to, in ascending order; the least key that leads to itself; and an order in which each
--- key leads to earlier ones alone.
-use Rattle.std.proofs.Common.{◌≡◌, ◌≢◌, ◌⊎◌, ◌↔◌, ◌<◌, ◌≤◌, ℕ, zero, suc, length, take, get_or, arith, length-take, List, [], ◌∷◌, map, Bool, true, false, ◌||◌, cond, Contains, inl, inr, refl, sym, ap, subst, ◌∙◌}
+-- In a finite graph: what is led to, in ascending order, and the least key that leads to itself.
+use Rattle.std.proofs.Common.{◌≡◌, ◌≢◌, ◌⊎◌, ◌↔◌, List, [], ◌∷◌, map, Bool, true, false, ◌||◌, cond, Contains, inl, inr, refl, sym, ap, subst, ◌∙◌}
 use Rattle.std.specs.Bool.{Decides}
 use Rattle.std.specs.Cmp.{IsTotalOrder}
-use Rattle.std.specs.List.{All, AllByRecursion, filter, flat_map, list_any}
+use Rattle.std.specs.List.{filter, flat_map, list_any}
 use Rattle.std.specs.List.Sorted.{IsStrictlySortedBy}
 use Rattle.std.specs.Ordering.{ordering_reverse}
 use Rattle.std.specs.declared.cmp.Ordering.{Ordering}
 use Rattle.std.specs.declared.cmp.Ordering.TheVariants.{Less, Equal, Greater}
-use Rattle.std.proofs.Math.Nat.{eq-or-lt_of_le}
-use Rattle.std.proofs.lemmas.Bool.{cases_lt}
-use Rattle.std.proofs.lemmas.List.{get_or-take, get_or_default}
-use Rattle.std.proofs.lemmas.List.Elements.{Contains-get_or, Contains-append_left, Contains-append_right, Contains-append_cases}
-use Rattle.sc_lists.proofs.ListLaws.{all_element, all_of_elements, contains_nothing, contains_split, contains_rest, contains_first}
-use Rattle.sc_schema_json.proofs.LeadingLaws.{or_right, Leads, next, onwards, leads_on, goes, leads_decided}
+use Rattle.std.proofs.lemmas.Bool.{or_right}
+use Rattle.std.proofs.lemmas.List.Elements.{Contains-append_left, Contains-append_right, Contains-append_cases}
+use Rattle.sc_lists.proofs.ListLaws.{contains_nothing, contains_split, contains_rest, contains_first}
+use Rattle.sc_schema_json.proofs.LeadingLaws.{Leads, next, onwards, goes, leads_decided}
 use Rattle.sc_schema_json.proofs.AscendingLaws.{Ascends, ascending_of, below_rest}
 
 -- ---- elements of lists
@@ -143,117 +140,3 @@ module _ {K : Type 0} {R : K → K → Ordering} (o : IsTotalOrder R) (level : (
 
     of : Ascends R (λ k. k) (Contains rounds) → ((k : K) × IsLeastRound k) ⊎ NoRound
     of all = by all.list all.ascending all.members
-
-  -- ---- an order
-
-  module _ (none : NoRound) where
-    -- none of them leads to a later one
-    LeadsOnlyBack : List K → Type 0
-    LeadsOnlyBack [] = Unit {0}
-    LeadsOnlyBack (x ∷ xs) = AllByRecursion (λ y. Leads graph x y → ⊥) xs × LeadsOnlyBack xs
-
-    abbrev Placing : K → List K → Type 0
-    Placing x ys = (zs : List K) × LeadsOnlyBack zs × ((k : K) → Contains zs k ↔ Contains (x ∷ ys) k)
-
-    place_before : (x y : K) (ys : List K) → Leads graph y x → LeadsOnlyBack (y ∷ ys) → LeadsOnlyBack (x ∷ y ∷ ys)
-    unfolding LeadsOnlyBack
-    place_before x y ys leads back = (
-      (
-        λ is. none x (leads_on x is leads),
-        all_of_elements (λ z. Leads graph x z → ⊥) ys (λ z has is. all_element (λ w. Leads graph y w → ⊥) ys z back.0 has (leads_on z leads is)),
-      ),
-      back,
-    )
-
-    place_after : (x y : K) (ys zs : List K) → (Leads graph y x → ⊥) → LeadsOnlyBack (y ∷ ys) → LeadsOnlyBack zs → ((k : K) → Contains zs k → Contains (x ∷ ys) k) → LeadsOnlyBack (y ∷ zs)
-    unfolding LeadsOnlyBack
-    place_after x y ys zs apart back rest from = (
-      all_of_elements (λ z. Leads graph y z → ⊥) zs (λ z has is. elim (contains_split x ys z (from z has)) [
-        | inl same ↦ apart (subst (λ (w : K). Leads graph y w) (sym same) is)
-        | inr later ↦ all_element (λ w. Leads graph y w → ⊥) ys z back.0 later is
-      ]),
-      rest,
-    )
-
-    swapped : (x y : K) (ys : List K) (k : K) → Contains (x ∷ y ∷ ys) k → Contains (y ∷ x ∷ ys) k
-    swapped x y ys k has = elim (contains_split x (y ∷ ys) k has) [
-      | inl same ↦ contains_rest y (x ∷ ys) k (subst (λ (w : K). Contains (x ∷ ys) w) same (contains_first x ys))
-      | inr later ↦ elim (contains_split y ys k later) [
-        | inl same ↦ subst (λ (w : K). Contains (y ∷ x ∷ ys) w) same (contains_first y (x ∷ ys))
-        | inr more ↦ contains_rest y (x ∷ ys) k (contains_rest x ys k more)
-      ]
-    ]
-
-    behind : (y : K) (xs zs : List K) (k : K) → (Contains xs k → Contains zs k) → Contains (y ∷ xs) k → Contains (y ∷ zs) k
-    behind y xs zs k f has = elim (contains_split y xs k has) [
-      | inl same ↦ subst (λ (w : K). Contains (y ∷ zs) w) same (contains_first y zs)
-      | inr later ↦ contains_rest y zs k (f later)
-    ]
-
-    place : (x : K) (ys : List K) → LeadsOnlyBack ys → Placing x ys
-    unfolding LeadsOnlyBack
-    place x [] back = (x ∷ [], (tt, tt), λ k. (λ has. has, λ has. has))
-    place x (y ∷ ys) back = at (test y x) refl (place x ys back.1) where
-      at : (b : Bool) → test y x ≡ b → Placing x ys → Placing x (y ∷ ys)
-      at true is rest = (x ∷ y ∷ ys, place_before x y ys ((tested y x).0 is) back, λ k. (λ has. has, λ has. has))
-      at false is rest = (
-        y ∷ rest.0,
-        place_after x y ys rest.0 (λ leads. (let yes : test y x ≡ true = (tested y x).1 leads in let no : true ≡ false = sym yes ∙ is in cc)) back rest.1 (λ k. (rest.2 k).0),
-        λ k. (λ has. swapped y x ys k (behind y rest.0 (x ∷ ys) k (rest.2 k).0 has), λ has. behind y (x ∷ ys) rest.0 k (rest.2 k).1 (swapped x y ys k has)),
-      )
-
-    placed_all : (xs : List K) → (order : List K) × LeadsOnlyBack order × ((k : K) → Contains order k ↔ Contains xs k)
-    unfolding LeadsOnlyBack
-    placed_all [] = ([], tt, λ k. (λ has. has, λ has. has))
-    placed_all (x ∷ xs) = of (placed_all xs) where
-      of : ((order : List K) × LeadsOnlyBack order × ((k : K) → Contains order k ↔ Contains xs k)) → (order : List K) × LeadsOnlyBack order × ((k : K) → Contains order k ↔ Contains (x ∷ xs) k)
-      of rest =
-          let all = place x rest.0 rest.1 in
-          (all.0, all.1, λ k. (λ has. behind x rest.0 xs k (rest.2 k).0 ((all.2 k).0 has), λ has. (all.2 k).1 (behind x xs rest.0 k (rest.2 k).1 has)))
-
-    -- ---- each key of the order names earlier ones alone
-
-    apart : (xs : List K) (i j : ℕ) (d : K) → LeadsOnlyBack xs → i < j → j < length xs → Leads graph (get_or xs i d) (get_or xs j d) → ⊥
-    unfolding LeadsOnlyBack
-    apart [] i j d back less within is = absurd (omega (arith, within))
-    apart (x ∷ xs) i zero d back less within is = absurd (omega (arith, less))
-    apart (x ∷ xs) zero (suc j) d back less within is = all_element (λ w. Leads graph x w → ⊥) xs (get_or xs j d) back.0 (Contains-get_or xs j d (omega (arith, within))) is
-    apart (x ∷ xs) (suc i) (suc j) d back less within is = apart xs i j d back.1 (omega (arith, less)) (omega (arith, within)) is
-
-    earlier : (order : List K) (i : ℕ) (d r : K) → LeadsOnlyBack order → i < length order → Contains (graph (get_or order i d)) r → Contains order r → Contains (take i order) r
-    earlier order i d r back within has (j, inside, is) = at (cases_lt j i) where
-      leads : Leads graph (get_or order i d) r
-      leads = next (get_or order i d) r has
-
-      before : j < i → Contains (take i order) r
-      before less = (j, subst (λ n. j < n) (sym (length-take i order)) (omega (arith, less, inside)), get_or-take i order j r less ∙ is)
-
-      later : (i ≡ j) ⊎ (i < j) → Contains (take i order) r
-      later (inl same) =
-          let here : get_or order i d ≡ r = ap (λ n. get_or order n d) same ∙ get_or_default order j d r inside ∙ is in
-          absurd (none r (subst (λ (z : K). Leads graph z r) here leads))
-      later (inr more) =
-          let there : get_or order j d ≡ r = get_or_default order j d r inside ∙ is in
-          absurd (apart order i j d back more inside (subst (λ (z : K). Leads graph (get_or order i d) z) (sym there) leads))
-
-      at : (j < i) ⊎ (i ≤ j) → Contains (take i order) r
-      at (inl less) = before less
-      at (inr not_less) = later (eq-or-lt_of_le not_less)
-
-    -- the keys in an order in which each leads to earlier ones alone
-    pub record Order : Type 0 where
-      pub list : List K
-      pub members : (k : K) → Contains list k ↔ Contains keys k
-      pub back : (i : ℕ) (d : K) → i < length list → All (Contains (take i list)) (graph (get_or list i d))
-
-    pub order_of : ((a b : K) → Contains (graph a) b → Contains keys b) → Order
-    order_of inside = of (placed_all keys) where
-      of : ((order : List K) × LeadsOnlyBack order × ((k : K) → Contains order k ↔ Contains keys k)) → Order
-      of found =
-          record {
-            list = found.0;
-            members = found.2;
-            back = λ i d within k e here. earlier found.0 i d (get_or (graph (get_or found.0 i d)) k e) found.1 within
-                (Contains-get_or (graph (get_or found.0 i d)) k e here)
-                ((found.2 (get_or (graph (get_or found.0 i d)) k e)).1 (inside (get_or found.0 i d) (get_or (graph (get_or found.0 i d)) k e) (Contains-get_or (graph (get_or found.0 i d)) k e here)));
-          }

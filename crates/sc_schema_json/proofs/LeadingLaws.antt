@@ -1,24 +1,9 @@
 -- What leads to what in a finite graph can be tested.
-use Rattle.std.proofs.Common.{◌≡◌, ◌⊎◌, List, [], ◌∷◌, Bool, true, false, ◌&&◌, ◌||◌, Contains, inl, inr, refl, sym, subst}
+use Rattle.std.proofs.Common.{◌≡◌, ◌⊎◌, List, [], ◌∷◌, Bool, true, ◌&&◌, ◌||◌, Contains, inl, inr, sym, subst}
 use Rattle.sc_lists.proofs.BoolLaws.{and_first, and_second}
 use Rattle.sc_lists.proofs.ListLaws.{contains_nothing, contains_split}
 use Rattle.std.specs.Bool.{Decides}
-
-or_cases : (a b : Bool) → (a || b) ≡ true → (a ≡ true) ⊎ (b ≡ true)
-or_cases true b h = inl refl
-or_cases false b h = inr h
-
-or_left : (a b : Bool) → a ≡ true → (a || b) ≡ true
-or_left true b h = refl
-or_left false b h = absurd cc
-
-pub or_right : (a b : Bool) → b ≡ true → (a || b) ≡ true
-or_right true b h = refl
-or_right false b h = h
-
-and_both : (a b : Bool) → a ≡ true → b ≡ true → (a && b) ≡ true
-and_both true b h k = k
-and_both false b h k = absurd cc
+use Rattle.std.proofs.lemmas.Bool.{or_cases, or_left, or_right, and_from}
 
 -- from a key one gets to those that it names, and to those that one gets to from these
 pub data Leads {K : Type 0} (graph : K → List K) : K → K → Type 0 where
@@ -37,7 +22,7 @@ module _ {K : Type 0} (graph : K → List K) (names : K → K → Bool) (named :
 
   by_way : (v : K) (vs : List K) (a b : K) → goes vs a v ≡ true → goes vs v b ≡ true → goes (v ∷ vs) a b ≡ true
   unfolding goes
-  by_way v vs a b h k = or_right (goes vs a b) (goes vs a v && goes vs v b) (and_both (goes vs a v) (goes vs v b) h k)
+  by_way v vs a b h k = or_right (goes vs a b) (goes vs a v && goes vs v b) (and_from (goes vs a v) (goes vs v b) h k)
 
   as_before : (v : K) (vs : List K) (a b : K) → goes vs a b ≡ true → goes (v ∷ vs) a b ≡ true
   unfolding goes

@@ -6,5 +6,4 @@ pub mod LeadingLaws
 pub mod LinksLaws
 pub mod MadeLaws
 pub mod ReadingLaws
-pub mod ReferencesLaws
 pub mod SpellingLaws

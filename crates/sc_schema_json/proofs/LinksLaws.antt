@@ -7,7 +7,8 @@ use Rattle.std.specs.List.Sorted.{IsStrictlySortedBy}
 use Rattle.std.specs.declared.cmp.Ordering.{Ordering}
 use Rattle.std.specs.declared.cmp.Ordering.TheVariants.{Equal}
 use Rattle.sc_lists.proofs.ListLaws.{contains_nothing, contains_map, map_itself}
-use Rattle.sc_schema_hierarchy.specs.Above.{Links, IsParent, IsAbove, parent, further, AreAbove, NoCycle, IsLeastCycle}
+use Rattle.sc_graphs.specs.Reaching.{step, on}
+use Rattle.sc_schema_hierarchy.specs.Above.{Links, IsParent, IsAbove, AreAbove, NoCycle, IsLeastCycle}
 use Rattle.sc_schema_json.proofs.AscendingLaws.{Ascends}
 use Rattle.sc_schema_json.proofs.LeadingLaws.{Leads, next, onwards}
 use Rattle.sc_schema_json.proofs.GraphLaws.{contains_joined, joined_from, any_decided, led_to, IsLeastRound, round_or_none}
@@ -36,12 +37,12 @@ module _ {K : Type 0} {R : K → K → Ordering} (o : IsTotalOrder R) (level : (
     from found = at found.0 found.1 (eq a found.0.0) refl found.2
 
   leads_above : {a b : K} → Leads graph a b → IsAbove links a b
-  leads_above (next a b h) = parent a b (parent_from a b h)
-  leads_above (onwards a m b h r) = further a m b (parent_from a m h) (leads_above r)
+  leads_above (next a b h) = step a b (parent_from a b h)
+  leads_above (onwards a m b h r) = on a m b (parent_from a m h) (leads_above r)
 
   above_leads : {a b : K} → IsAbove links a b → Leads graph a b
-  above_leads (parent a b p) = next a b (parents a b p)
-  above_leads (further a m b p r) = onwards a m b (parents a m p) (above_leads r)
+  above_leads (step a b p) = next a b (parents a b p)
+  above_leads (on a m b p r) = onwards a m b (parents a m p) (above_leads r)
 
   abbrev keys : List K
   keys = map (λ (l : K × List K). l.0) links
@@ -73,5 +74,5 @@ module _ {K : Type 0} {R : K → K → Ordering} (o : IsTotalOrder R) (level : (
   cycle_or_none = of (round_or_none o level graph names named keys keyed) where
     of : ((k : K) × IsLeastRound o level graph names named keys keyed k) ⊎ ((k : K) → Leads graph k k → ⊥) → ((k : K) × IsLeastCycle R links k) ⊎ NoCycle links
     of (inl found) =
-        inl (found.0, record { above = leads_above found.1.round; least = λ other is. found.1.least other (above_leads is) })
+        inl (found.0, record { cycle = leads_above found.1.round; least = λ other is. found.1.least other (above_leads is) })
     of (inr none) = inr (λ k is. none k (above_leads is))

@@ -45,7 +45,7 @@ module _ (r : ResolvedSchema) (settled : types.IsSettled r) (one : OneSchema) wh
   no_order_with fault (cycle name h) ordered = settled.no_cycle ordered.order name ordered.ordered h.cycle
 
   not_acyclic_with : (u : Uid) → IsLeastCycle uid_cmp (links_of r) u → ¬ IsAcyclic r
-  not_acyclic_with u h acyclic = acyclic.actions u h.above
+  not_acyclic_with u h acyclic = acyclic.actions u h.cycle
 
   -- common types that reach themselves have one fault, and what comes after them none
   one_cycle : (a b : SchemaFault) → HasTypeCycle r a → HasTypeCycle r b → a ≡ b
