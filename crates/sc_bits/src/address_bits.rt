@@ -7,21 +7,21 @@ use sc_ip::Ip;
 
 /// Bit `place` of an address: 0 says version 6, 1 to 128 are the prefix as a mask, and 129 to 256 the address from its
 /// highest bit.
-pub fn ip_bit(a: &Ip, place: u16) -> bool
+pub fn ip_bit(a: &Ip, place: u64) -> bool
     requires { place < 257 }
     ensures { result ≡ ip_bit a.now place }
 {
     if place == 0 {
         is_v6(a)
     } else if place <= 128 {
-        place - 1 < u16::from(prefix(a))
+        place - 1 < u64::from(prefix(a))
     } else {
         address_bit(a, place - 129)
     }
 }
 
 /// Bit j of the address from its highest one.
-fn address_bit(a: &Ip, j: u16) -> bool
+fn address_bit(a: &Ip, j: u64) -> bool
     ensures { result ≡ address_bit (block a.now) j }
 {
     j < width(a) && (number(a) >> (width(a) - 1 - j)) & 1 == 1
@@ -51,7 +51,7 @@ fn prefix(a: &Ip) -> u8
     }
 }
 
-fn width(a: &Ip) -> u16
+fn width(a: &Ip) -> u64
     ensures { result ≡ width_of (block a.now) }
 {
     match *a {

@@ -5,7 +5,7 @@ use Rattle.std.specs.List.{AllByRecursion}
 use Rattle.sc_lists.proofs.MemberLaws.{Has-left, Has-right, Has-append, Has-last, Has-push, Has-map, map-Has, Has-flat_map, flat_map-Has}
 use Rattle.sc_lists.specs.Members.{Has}
 use Rattle.sc_schema.specs.declared.declarations.Env.{Env}
-use Rattle.sc_terms.specs.declared.node.Node.{Node}
+use Rattle.sc_nodes.specs.declared.node.Node.{Node}
 use Rattle.sc_terms.specs.Trees.{Tree}
 use Rattle.sc_terms.specs.Tables.{tree, Keeps}
 use Rattle.sc_terms.specs.Order.{tree_cmp}

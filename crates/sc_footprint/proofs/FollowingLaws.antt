@@ -1,14 +1,14 @@
 -- Numbers that are made while the table grows.
 use Rattle.std.proofs.Common.{◌≡◌, ℕ, zero, suc, ◌+◌, ◌<◌, Bool, true, false, cond, List, [], ◌∷◌, ◌++◌, drop, get_or, length, Option, Some, None, is_some, refl, sym, ap, ◌∙◌, subst, arith}
-use Rattle.std.proofs.Common.{append_assoc}
+use Rattle.std.proofs.Common.{append_assoc, append-nil}
 use Rattle.std.proofs.lemmas.List.{map-append}
 use Rattle.std.specs.List.{AllByRecursion}
 use Rattle.sc_sorts.specs.declared.sort.Sort.{Sort}
-use Rattle.sc_terms.specs.declared.node.Node.{Node}
+use Rattle.sc_nodes.specs.declared.node.Node.{Node}
 use Rattle.sc_terms.specs.Trees.{Tree}
-use Rattle.sc_terms.specs.Tables.{tree, Keeps, StandsFor}
+use Rattle.sc_terms.specs.Tables.{Places, tree, node_parts, AreBelow, Keeps, StandsFor}
 use Rattle.sc_terms.specs.Folds.{field_term, equal_term}
-use Rattle.sc_footprint.specs.Closure.{parts, all_fields, entity_type, same_name, follow_pair}
+use Rattle.sc_footprint.specs.Closure.{parts, unlabelled, all_fields, entity_type, same_name, follow_pair}
 use Rattle.sc_footprint.specs.Following.{stood, is_entity, pairs_with, fields_from, IsMade}
 use Rattle.sc_footprint.proofs.MemberLaws.{within_later, within_append, within_push}
 
@@ -31,6 +31,26 @@ drop_next (y ∷ ys) (suc i) x h e = let f : suc i + 1 ≡ suc (i + 1) = omega a
 pub pair_later : (xs ys : List Node) → Keeps xs ys → (m n : ℕ) → m < length xs → n < length xs → follow_pair (tree ys m) (tree ys n) ≡ follow_pair (tree xs m) (tree xs n)
 pair_later xs ys e m n h k = ap (λ (t : Tree). follow_pair t (tree ys n)) (e.same m h) ∙ ap (λ (t : Tree). follow_pair (tree xs m) t) (e.same n k)
 
+-- ---- labelled parts, one after the other
+
+pub parts_below : (l : ℕ) (p : List ℕ × ℕ) (rest later : Places) → rest ≡ p ∷ later → AreBelow l rest → AreBelow l later
+parts_below l p rest later e h = let k = subst (AreBelow l) e h in k.1
+
+pub parts_within : (l : ℕ) (ns : List ℕ) (p : List ℕ × ℕ) (rest later : Places) → rest ≡ p ∷ later → AreBelow l rest → AllByRecursion (λ n. n < l) ns → AllByRecursion (λ n. n < l) (ns ++ p.1 ∷ [])
+parts_within l ns p rest later e h k = let below = subst (AreBelow l) e h in within_push l p.1 ns k below.0
+
+pub parts_more : (xs : List Node) (ns : List ℕ) (all : List Tree) (p : List ℕ × ℕ) (rest later : Places) → rest ≡ p ∷ later
+    → stood xs ns ++ unlabelled (node_parts xs rest) ≡ all → stood xs (ns ++ p.1 ∷ []) ++ unlabelled (node_parts xs later) ≡ all
+parts_more xs ns all p rest later e h =
+    ap (λ (l : List Tree). l ++ unlabelled (node_parts xs later)) (map-append (tree xs) ns (p.1 ∷ []))
+    ∙ append_assoc (stood xs ns) (tree xs p.1 ∷ []) (unlabelled (node_parts xs later))
+    ∙ ap (λ (ps : Places). stood xs ns ++ unlabelled (node_parts xs ps)) (sym e)
+    ∙ h
+
+pub parts_end : (xs : List Node) (ns : List ℕ) (all : List Tree) (rest : Places) → length rest ≡ 0 → stood xs ns ++ unlabelled (node_parts xs rest) ≡ all → stood xs ns ≡ all
+parts_end xs ns all [] e h = sym (append-nil (stood xs ns)) ∙ h
+parts_end xs ns all (p ∷ ps) e h = absurd (omega arith)
+
 -- one number more is made
 module _ (old mid new : List Node) (ns : List ℕ) (all : List Tree) where
   made_more : (m : ℕ) (x : Tree) (rest : List Tree) → IsMade old mid ns (x ∷ rest) all → Keeps mid new → StandsFor new m x → IsMade old new (ns ++ m ∷ []) rest all
@@ -42,11 +62,11 @@ module _ (old mid new : List Node) (ns : List ℕ) (all : List Tree) where
   }
 
   pub fields_more : (n i m : ℕ) (fields : List (List ℕ × Sort)) (f : List ℕ × Sort) → n < length old → i < length fields → f ≡ get_or fields i f
-      → IsMade old mid ns (fields_from old n (drop i fields)) all → Keeps mid new → StandsFor new m (field_term f.0 f.1 (tree mid n)) → IsMade old new (ns ++ m ∷ []) (fields_from old n (drop (i + 1) fields)) all
+      → IsMade old mid ns (fields_from old n (drop i fields)) all → Keeps mid new → StandsFor new m (field_term f.0 (tree mid n)) → IsMade old new (ns ++ m ∷ []) (fields_from old n (drop (i + 1) fields)) all
   fields_more n i m fields f h k e made kept s =
-      let next : fields_from old n (drop i fields) ≡ field_term f.0 f.1 (tree mid n) ∷ fields_from old n (drop (i + 1) fields) =
-      ap (fields_from old n) (drop_next fields i f k e) ∙ ap (λ (t : Tree). field_term f.0 f.1 t ∷ fields_from old n (drop (i + 1) fields)) (sym (made.kept.same n h)) in
-      made_more m (field_term f.0 f.1 (tree mid n)) (fields_from old n (drop (i + 1) fields)) (subst (λ (l : List Tree). IsMade old mid ns l all) next made) kept s
+      let next : fields_from old n (drop i fields) ≡ field_term f.0 (tree mid n) ∷ fields_from old n (drop (i + 1) fields) =
+      ap (fields_from old n) (drop_next fields i f k e) ∙ ap (λ (t : Tree). field_term f.0 t ∷ fields_from old n (drop (i + 1) fields)) (sym (made.kept.same n h)) in
+      made_more m (field_term f.0 (tree mid n)) (fields_from old n (drop (i + 1) fields)) (subst (λ (l : List Tree). IsMade old mid ns l all) next made) kept s
 
   -- what goes with two, given whether they are of one type
   module _ (n i e : ℕ) (es : List ℕ) (h : n < length old) (k : i < length es) (at : e ≡ get_or es i e) (below : e < length old) (made : IsMade old mid ns (pairs_with old (drop i es) n) all) where

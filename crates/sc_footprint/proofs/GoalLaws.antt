@@ -1,12 +1,14 @@
 -- What goes with a term of a goal, and with two, is of the goal.
-use Rattle.std.proofs.Common.{◌≡◌, ℕ, ◌&&◌, Bool, true, false, cond, ◌⊎◌, inl, inr, ⊎_elim, List, [], ◌∷◌, map, Option, Some, None, is_some, refl, sym, ap, ◌∙◌, subst}
+use Rattle.std.proofs.Common.{◌≡◌, ℕ, ◌&&◌, Bool, true, false, cond, ◌⊎◌, inl, inr, ⊎_elim, List, [], ◌∷◌, map, Option, Some, None, is_some, unwrap_or, refl, sym, ap, ◌∙◌, subst}
 use Rattle.std.proofs.lemmas.Cmp.{tied_itself}
 use Rattle.std.proofs.lemmas.Slice.Eq.{bytes_eq-Decides}
 use Rattle.std.specs.Cmp.{IsTotalOrder}
 use Rattle.std.specs.List.{list_all}
+use Rattle.std.specs.Map.{lookup}
 use Rattle.std.specs.Ordering.{is_eq, is_gt}
 use Rattle.std.specs.Str.{bytes_eq}
 use Rattle.std.specs.declared.cmp.Ordering.TheVariants.{Less}
+use Rattle.sc_lists.proofs.BoolLaws.{and_first, and_second}
 use Rattle.sc_lists.proofs.MemberLaws.{Has-append, Has-map, map-Has}
 use Rattle.sc_lists.specs.Members.{Has}
 use Rattle.sc_schema.specs.declared.declarations.Env.{Env}
@@ -20,15 +22,17 @@ use Rattle.sc_sorts.specs.declared.sort.Sort.{Sort, Sort-F, out-Sort}
 use Rattle.sc_sorts.specs.declared.sort.Sort.TheVariants as sort
 use Rattle.sc_sorts.specs.declared.sort.Sort.TheOpen as s
 use Rattle.sc_sorts.specs.OfTypes.{sort_of, sort_step, with_presence, field_sort}
+use Rattle.sc_sorts.specs.Inside.{fields_in as record_fields}
 use Rattle.sc_sorts.specs.Plain.{Field, plain_fields, plain_in, is_bool_field, is_bool, is_required}
 use Rattle.sc_sorts.proofs.OutLaws.{out_Bool, out_Entity, out_Record}
 use Rattle.sc_sorts.proofs.OfTypesLaws.{sort_of_Record}
-use Rattle.sc_terms.specs.declared.node.BinaryOp.TheVariants.{Equal}
+use Rattle.sc_nodes.specs.declared.node.BinaryOp.TheVariants as binary
+use Rattle.sc_nodes.specs.declared.node.BinaryOp.TheVariants.{Equal}
 use Rattle.sc_terms.specs.Trees.{Tree, two}
 use Rattle.sc_terms.specs.TreeSorts.{tree_sort}
 use Rattle.sc_terms.specs.Order.{tree_cmp, tree_eq}
 use Rattle.sc_terms.specs.Folds.{constant, equal_term, truth_term, field_term, equation}
-use Rattle.sc_terms.specs.Booleans.{IsBoolean, of_truth, of_attribute, of_not, of_two, context_term, attribute_term, names_of}
+use Rattle.sc_term_laws.specs.Booleans.{IsBoolean, of_truth, of_attribute, of_not, of_two, context_term, attribute_term, names_of}
 use Rattle.sc_footprint.specs.Closure.{principal_term, resource_term, parts, fields_in, all_fields, follow, entity_in, entity_type, same_name, follow_pair, Closed, of_true, of_goal, next, pair}
 use Rattle.sc_footprint.specs.Closure.{of_principal as begins_principal, of_resource as begins_resource}
 use Rattle.sc_footprint.specs.Following.{is_entity}
@@ -76,13 +80,39 @@ field_sort_is f h = by f.1 (is_bool (out-Ty f.2)) refl h
 
 -- ---- sorts
 
+pub context_sort : (type : Ty) (fields : List Field) → plain_fields type ≡ Some fields → out-Sort (tree_sort (context_term type)) ≡ s.Record (map field_sort fields)
+unfolding tree_sort
+context_sort type fields h = ap (λ (y : Ty). out-Sort (sort_of y)) (type_is type fields h) ∙ ap out-Sort (sort_of_Record fields) ∙ out_Record (map field_sort fields)
+
+-- each field is a truth value, and so is one that isn't there
+found_sort : (name : List ℕ) (fields : List Field) → list_all is_bool_field fields ≡ true → unwrap_or (lookup (bytes_eq name) (map field_sort fields)) sort.Bool ≡ sort.Bool
+found_sort name [] h = refl
+found_sort name (f ∷ fs) h =
+    let e : (field_sort f).1 ≡ sort.Bool = field_sort_is f (and_first (is_bool_field f) (list_all is_bool_field fs) h) in
+    let rest = found_sort name fs (and_second (is_bool_field f) (list_all is_bool_field fs) h) in
+    by (bytes_eq name f.0) e rest
+  where
+    by : (b : Bool) → (field_sort f).1 ≡ sort.Bool → unwrap_or (lookup (bytes_eq name) (map field_sort fs)) sort.Bool ≡ sort.Bool
+        → unwrap_or (cond b (Some (field_sort f).1) (lookup (bytes_eq name) (map field_sort fs))) sort.Bool ≡ sort.Bool
+    by true e k = e
+    by false e k = k
+
+pub attribute_sort : (type : Ty) (fields : List Field) (name : List ℕ) → plain_fields type ≡ Some fields → tree_sort (attribute_term type name) ≡ sort.Bool
+unfolding tree_sort field_term
+attribute_sort type fields name h =
+    ap (λ (y : Sort-F Sort). unwrap_or (lookup (bytes_eq name) (record_fields y)) sort.Bool) (context_sort type fields h)
+    ∙ found_sort name fields (plain_is (out-Ty type) fields h).1
+
 module _ (context : Option Ty) where
   pub boolean_sort : (x : Tree) → IsBoolean context x → out-Sort (tree_sort x) ≡ s.Bool
   unfolding tree_sort
   boolean_sort x (of_truth b) = out_Bool
-  boolean_sort x (of_attribute type fields name e f g) = out_Bool
+  boolean_sort x (of_attribute type fields name e f g) = ap out-Sort (attribute_sort type fields name f) ∙ out_Bool
   boolean_sort x (of_not a h) = out_Bool
-  boolean_sort x (of_two o a b h k) = out_Bool
+  boolean_sort x (of_two binary.And a b c h k) = out_Bool
+  boolean_sort x (of_two binary.Or a b c h k) = out_Bool
+  boolean_sort x (of_two binary.Equal a b c h k) = out_Bool
+  boolean_sort x (of_two _ a b c h k) = cc
 
 entity_sort : (x : Tree) (name : List ℕ) → tree_sort x ≡ sort.Entity name [] → out-Sort (tree_sort x) ≡ s.Entity name []
 entity_sort x name e = ap out-Sort e ∙ out_Entity name []
@@ -99,10 +129,6 @@ pub equation_sort : (a b : Tree) → out-Sort (tree_sort (two Equal a b)) ≡ s.
 unfolding tree_sort
 equation_sort a b = out_Bool
 
-pub context_sort : (type : Ty) (fields : List Field) → plain_fields type ≡ Some fields → out-Sort (tree_sort (context_term type)) ≡ s.Record (map field_sort fields)
-unfolding tree_sort
-context_sort type fields h = ap (λ (y : Ty). out-Sort (sort_of y)) (type_is type fields h) ∙ ap out-Sort (sort_of_Record fields) ∙ out_Record (map field_sort fields)
-
 no_field : (x y : Tree) → fields_in (out-Sort (tree_sort x)) x ≡ [] → Has (all_fields x) y → ⊥
 no_field x y e h = subst (λ (l : List Tree). Has l y) e h
 
@@ -116,24 +142,23 @@ entity_field x y name e h = no_field x y (ap (λ (z : Sort-F Sort). fields_in z 
 
 module _ (env : Env) (context : Option Ty) where
   of_part : (x y : Tree) → IsBoolean context x → Has (parts x) y → IsOfGoal env context y
+  unfolding field_term
   of_part x y (of_truth b) p = absurd p
   of_part x y (of_attribute type fields name e f g) (inl q) = subst (IsOfGoal env context) q (of_context type fields e f)
   of_part x y (of_attribute type fields name e f g) (inr q) = absurd q
   of_part x y (of_not a h) (inl q) = subst (IsOfGoal env context) q (of_boolean a h)
   of_part x y (of_not a h) (inr q) = absurd q
-  of_part x y (of_two o a b h k) (inl q) = subst (IsOfGoal env context) q (of_boolean a h)
-  of_part x y (of_two o a b h k) (inr (inl q)) = subst (IsOfGoal env context) q (of_boolean b k)
-  of_part x y (of_two o a b h k) (inr (inr q)) = absurd q
+  of_part x y (of_two o a b c h k) (inl q) = subst (IsOfGoal env context) q (of_boolean a h)
+  of_part x y (of_two o a b c h k) (inr (inl q)) = subst (IsOfGoal env context) q (of_boolean b k)
+  of_part x y (of_two o a b c h k) (inr (inr q)) = absurd q
 
   of_field : (type : Ty) (fields : List Field) (y : Tree) → context ≡ Some type → plain_fields type ≡ Some fields → Has (all_fields (context_term type)) y → IsOfGoal env context y
   of_field type fields y e f p =
-      let term : List ℕ × Sort → Tree = λ g. field_term g.0 g.1 (context_term type) in
+      let term : List ℕ × Sort → Tree = λ g. field_term g.0 (context_term type) in
       let q : Has (map term (map field_sort fields)) y = subst (λ (z : Sort-F Sort). Has (fields_in z (context_term type)) y) (context_sort type fields f) p in
       let r = map-Has term (map field_sort fields) y q in
       let u = map-Has field_sort fields r.0 r.1 in
-      let bool : (field_sort u.0).1 ≡ sort.Bool = field_sort_is u.0 (each_is fields u.0 (plain_is (out-Ty type) fields f).1 u.1) in
-      let term_is : attribute_term type u.0.0 ≡ y =
-      ap (λ (z : Sort). field_term u.0.0 z (context_term type)) (sym bool) ∙ ap term u.2 ∙ r.2 in
+      let term_is : attribute_term type u.0.0 ≡ y = ap term u.2 ∙ r.2 in
       subst (IsOfGoal env context) term_is
       (of_boolean (attribute_term type u.0.0) (of_attribute type fields u.0.0 e f (Contains-from_Has (names_of fields) u.0.0 (Has-map (λ (g : Field). g.0) fields u.0 u.1))))
 

@@ -6,7 +6,7 @@ use Rattle.std.specs.List.{AllByRecursion, position, position_or_len}
 use Rattle.std.specs.declared.cmp.Ordering.{Ordering}
 use Rattle.std.specs.declared.cmp.Ordering.TheVariants.{Less, Equal, Greater}
 use Rattle.std.specs.Ordering.{is_eq}
-use Rattle.sc_terms.specs.declared.node.Node.{Node}
+use Rattle.sc_nodes.specs.declared.node.Node.{Node}
 use Rattle.sc_terms.specs.Trees.{Tree}
 use Rattle.sc_terms.specs.Tables.{tree, IsTable}
 use Rattle.sc_terms.specs.Order.{tree_cmp, tree_eq}

@@ -6,15 +6,15 @@ use Rattle.std.proofs.lemmas.List.Kept.{IsStrictlySortedBy-filter}
 use Rattle.std.specs.Cmp.{IsTotalOrder}
 use Rattle.std.specs.List.Sorted.{IsStrictlySortedBy}
 use Rattle.std.specs.Ordering.{is_eq, is_lt}
-use Rattle.std.specs.declared.cmp.Ordering.{Ordering}
-use Rattle.std.specs.declared.cmp.Ordering.TheVariants.{Less, Equal, Greater}
+use Rattle.std.specs.declared.cmp.Ordering.TheVariants.{Less, Equal}
 use Rattle.sc_lists.specs.Members.{Has}
 use Rattle.sc_lists.proofs.OrderingLaws.{is_eq_true}
-use Rattle.sc_terms.specs.declared.node.Leaf.TheVariants as leafs
-use Rattle.sc_terms.specs.declared.node.Literal.TheVariants as literals
-use Rattle.sc_terms.specs.declared.node.UnaryOp.TheVariants as unary
-use Rattle.sc_terms.specs.declared.node.BinaryOp.TheVariants as binary
-use Rattle.sc_terms.specs.Trees.{Tree, leaf, one, two, choice}
+use Rattle.sc_nodes.specs.declared.node.Leaf.TheVariants as leafs
+use Rattle.sc_nodes.specs.declared.node.Literal.TheVariants as literals
+use Rattle.sc_nodes.specs.declared.node.UnaryOp.TheVariants as unary
+use Rattle.sc_nodes.specs.declared.node.BinaryOp.TheVariants as binary
+use Rattle.sc_nodes.specs.declared.node.ManyOp.TheVariants as manys
+use Rattle.sc_terms.specs.Trees.{Tree, leaf, one, two, choice, many}
 use Rattle.sc_terms.specs.Order.{tree_cmp, tree_eq}
 use Rattle.sc_terms.specs.Folds.{truth_term}
 use Rattle.sc_footprint.specs.Problems.{is_atom, atoms_among, numbered, number_among, one_more}
@@ -73,15 +73,48 @@ module _ (total : IsTotalOrder tree_cmp) where
   unfolding tree_cmp
   least (leaf (leafs.Literal (literals.Bool true))) h = let e : Equal ≡ Less = sym (tied_itself total (truth_term true)) ∙ h in let f : true ≡ false = ap is_eq e in cc
   least (leaf (leafs.Literal (literals.Bool false))) h = let f : true ≡ false = sym (ap is_lt h) in cc
+  least (leaf (leafs.Literal (literals.Long n))) h = let f : true ≡ false = sym (ap is_lt h) in cc
+  least (leaf (leafs.Literal (literals.String n))) h = let f : true ≡ false = sym (ap is_lt h) in cc
+  least (leaf (leafs.Literal (literals.Decimal n))) h = let f : true ≡ false = sym (ap is_lt h) in cc
+  least (leaf (leafs.Literal (literals.Ip n))) h = let f : true ≡ false = sym (ap is_lt h) in cc
+  least (leaf (leafs.Literal (literals.Entity u us))) h = let f : true ≡ false = sym (ap is_lt h) in cc
+  least (leaf (leafs.None s)) h = let f : true ≡ false = sym (ap is_lt h) in cc
   least (leaf (leafs.Principal s)) h = let f : true ≡ false = sym (ap is_lt h) in cc
   least (leaf (leafs.Resource s)) h = let f : true ≡ false = sym (ap is_lt h) in cc
   least (leaf (leafs.Context s)) h = let f : true ≡ false = sym (ap is_lt h) in cc
   least (one unary.Not a) h = let f : true ≡ false = sym (ap is_lt h) in cc
-  least (one (unary.Field name s) a) h = let f : true ≡ false = sym (ap is_lt h) in cc
+  least (one (unary.Bit i) a) h = let f : true ≡ false = sym (ap is_lt h) in cc
+  least (one (unary.CarryIn i) a) h = let f : true ≡ false = sym (ap is_lt h) in cc
+  least (one (unary.ProductRow i j) a) h = let f : true ≡ false = sym (ap is_lt h) in cc
+  least (one (unary.ProductCarry i j) a) h = let f : true ≡ false = sym (ap is_lt h) in cc
+  least (one (unary.Attributes s) a) h = let f : true ≡ false = sym (ap is_lt h) in cc
+  least (one (unary.Ancestors s) a) h = let f : true ≡ false = sym (ap is_lt h) in cc
+  least (one unary.Keys a) h = let f : true ≡ false = sym (ap is_lt h) in cc
+  least (one (unary.Field name) a) h = let f : true ≡ false = sym (ap is_lt h) in cc
+  least (one unary.Present a) h = let f : true ≡ false = sym (ap is_lt h) in cc
+  least (one unary.Held a) h = let f : true ≡ false = sym (ap is_lt h) in cc
+  least (one (unary.Like p) a) h = let f : true ≡ false = sym (ap is_lt h) in cc
   least (two binary.And a b) h = let f : true ≡ false = sym (ap is_lt h) in cc
   least (two binary.Or a b) h = let f : true ≡ false = sym (ap is_lt h) in cc
   least (two binary.Equal a b) h = let f : true ≡ false = sym (ap is_lt h) in cc
+  least (two binary.Add a b) h = let f : true ≡ false = sym (ap is_lt h) in cc
+  least (two binary.Subtract a b) h = let f : true ≡ false = sym (ap is_lt h) in cc
+  least (two binary.Multiply a b) h = let f : true ≡ false = sym (ap is_lt h) in cc
+  least (two binary.AddOverflows a b) h = let f : true ≡ false = sym (ap is_lt h) in cc
+  least (two binary.SubtractOverflows a b) h = let f : true ≡ false = sym (ap is_lt h) in cc
+  least (two binary.MultiplyOverflows a b) h = let f : true ≡ false = sym (ap is_lt h) in cc
+  least (two binary.Less a b) h = let f : true ≡ false = sym (ap is_lt h) in cc
+  least (two binary.InRange a b) h = let f : true ≡ false = sym (ap is_lt h) in cc
+  least (two (binary.Low i) a b) h = let f : true ≡ false = sym (ap is_lt h) in cc
+  least (two (binary.Tag s) a b) h = let f : true ≡ false = sym (ap is_lt h) in cc
+  least (two binary.Member a b) h = let f : true ≡ false = sym (ap is_lt h) in cc
+  least (two binary.Subset a b) h = let f : true ≡ false = sym (ap is_lt h) in cc
+  least (two binary.Common a b) h = let f : true ≡ false = sym (ap is_lt h) in cc
+  least (two binary.DifferencePick a b) h = let f : true ≡ false = sym (ap is_lt h) in cc
+  least (two binary.CommonPick a b) h = let f : true ≡ false = sym (ap is_lt h) in cc
   least (choice c a b) h = let f : true ≡ false = sym (ap is_lt h) in cc
+  least (many manys.Record ts) h = let f : true ≡ false = sym (ap is_lt h) in cc
+  least (many (manys.Set s) ts) h = let f : true ≡ false = sym (ap is_lt h) in cc
 
   first_is : (ts : List Tree) → IsStrictlySortedBy tree_cmp ts → Has ts (truth_term true) → numbered ts 1 ≡ Some (truth_term true)
   unfolding IsStrictlySortedBy

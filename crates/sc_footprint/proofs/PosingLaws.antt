@@ -13,11 +13,11 @@ use Rattle.sc_schema.specs.declared.declarations.Env.{Env}
 use Rattle.sc_schema.specs.Declarations.{Declarations, context_of, environments}
 use Rattle.sc_values.proofs.AscendingLaws.{one_list}
 use Rattle.sc_world.specs.Named.{IsDeclared}
-use Rattle.sc_terms.specs.declared.node.Node.{Node}
+use Rattle.sc_nodes.specs.declared.node.Node.{Node}
 use Rattle.sc_terms.specs.Trees.{Tree}
 use Rattle.sc_terms.specs.Tables.{tree, Keeps}
 use Rattle.sc_terms.specs.Order.{tree_cmp}
-use Rattle.sc_terms.specs.Booleans.{IsBoolean}
+use Rattle.sc_term_laws.specs.Booleans.{IsBoolean}
 use Rattle.sc_footprint.specs.Problems.{AreClosed, IsOverLimit, IsProblemOf, atoms_among, most_atoms, is_atom}
 use Rattle.sc_footprint.specs.Indices.{IsKept}
 use Rattle.sc_footprint.specs.Following.{stood, StandsForClosed}

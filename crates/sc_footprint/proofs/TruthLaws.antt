@@ -3,23 +3,22 @@ use Rattle.std.proofs.Common.{◌≡◌, ◌↔◌, ℕ, ◌<◌, ◌≤◌, Boo
 use Rattle.std.specs.Cmp.{IsTotalOrder}
 use Rattle.std.specs.declared.cmp.Ordering.TheVariants.{Equal as Level}
 use Rattle.sc_clauses.proofs.LitLaws.{holds_negation}
-use Rattle.sc_clauses.specs.declared.lit.Lit.{Lit}
-use Rattle.sc_clauses.specs.Clauses.{bool_eq, holds, positive, negation}
+use Rattle.sc_clauses.specs.Clauses.{bool_eq, holds, positive}
 use Rattle.sc_schema.specs.declared.declarations.Env.{Env}
 use Rattle.sc_schema.specs.declared.ty.Ty.{Ty}
 use Rattle.sc_schema.specs.Declarations.{context_of}
 use Rattle.sc_world.specs.declared.world.World.{World}
 use Rattle.sc_sorts.proofs.OutLaws.{out_Bool}
-use Rattle.sc_terms.specs.declared.node.Leaf.TheVariants as leafs
-use Rattle.sc_terms.specs.declared.node.Literal.TheVariants as literals
-use Rattle.sc_terms.specs.declared.node.UnaryOp.TheVariants as unary
-use Rattle.sc_terms.specs.declared.node.BinaryOp.{BinaryOp}
-use Rattle.sc_terms.specs.declared.node.BinaryOp.TheVariants as binary
-use Rattle.sc_terms.specs.Trees.{Tree, leaf, one, two, choice}
+use Rattle.sc_nodes.specs.declared.node.Leaf.TheVariants as leafs
+use Rattle.sc_nodes.specs.declared.node.Literal.TheVariants as literals
+use Rattle.sc_nodes.specs.declared.node.UnaryOp.TheVariants as unary
+use Rattle.sc_nodes.specs.declared.node.BinaryOp.{BinaryOp}
+use Rattle.sc_nodes.specs.declared.node.BinaryOp.TheVariants as binary
+use Rattle.sc_terms.specs.Trees.{Tree, leaf, one, two, choice, many}
 use Rattle.sc_terms.specs.TreeSorts.{tree_sort}
 use Rattle.sc_terms.specs.Order.{tree_cmp}
-use Rattle.sc_terms.specs.Folds.{truth_term}
-use Rattle.sc_terms.specs.Booleans.{IsBoolean, of_truth, of_attribute, of_not, of_two}
+use Rattle.sc_terms.specs.Folds.{truth_term, field_term}
+use Rattle.sc_term_laws.specs.Booleans.{IsBoolean, of_truth, of_attribute, of_not, of_two}
 use Rattle.sc_terms.specs.Values.{val, yes}
 use Rattle.sc_footprint.specs.Closure.{principal_term, follow, Closed, of_true, next}
 use Rattle.sc_footprint.specs.Problems.{Posed, IsPosed, closed_terms, goal_term, atoms, atom_number, is_atom, is_bool, is_bool_in, is_opposite, numbered, literal, literal_in}
@@ -34,10 +33,11 @@ use Rattle.sc_footprint.proofs.WorldLaws.{no_truth, goal_truth, valued, not_valu
 -- ---- what is negated
 
 negated_boolean : (context : Option Ty) (x a : Tree) → IsBoolean context x → x ≡ one unary.Not a → IsBoolean context a
+unfolding field_term
 negated_boolean context x a (of_truth b) e = cc
 negated_boolean context x a (of_attribute type fields name f g h) e = cc
 negated_boolean context x a (of_not b h) e = let f : b ≡ a = cc in subst (IsBoolean context) f h
-negated_boolean context x a (of_two o b c h k) e = cc
+negated_boolean context x a (of_two o b c d h k) e = cc
 
 negated_is : (env : Env) (context : Option Ty) (x a : Tree) → IsOfGoal env context x → x ≡ one unary.Not a → IsBoolean context a
 negated_is env context x a (of_boolean z h) e = negated_boolean context x a h e
@@ -49,10 +49,11 @@ negated_is env context x a (of_entities f) e = cc
 -- ---- the parts of a connective
 
 two_boolean : (context : Option Ty) (x : Tree) (o : BinaryOp) (a b : Tree) → IsBoolean context x → x ≡ two o a b → IsBoolean context a × IsBoolean context b
+unfolding field_term
 two_boolean context x o a b (of_truth c) e = cc
 two_boolean context x o a b (of_attribute type fields name f g h) e = cc
 two_boolean context x o a b (of_not c h) e = cc
-two_boolean context x o a b (of_two q c d h k) e =
+two_boolean context x o a b (of_two q c d connects h k) e =
     let f : c ≡ a = cc in
     let g : d ≡ b = cc in
     (subst (IsBoolean context) f h, subst (IsBoolean context) g k)
@@ -127,13 +128,30 @@ module _ (total : IsTotalOrder tree_cmp) (level : (a b : Tree) → tree_cmp a b 
   unfolding literal
   listed (leaf (leafs.Literal (literals.Bool true))) h k = listed_atom (truth_term true) h k refl
   listed (leaf (leafs.Literal (literals.Bool false))) h k = within_count (atoms p) 1 (truth_term true) first_atom
-  listed (leaf (leafs.Principal r)) h k = listed_atom (leaf (leafs.Principal r)) h k refl
-  listed (leaf (leafs.Resource r)) h k = listed_atom (leaf (leafs.Resource r)) h k refl
-  listed (leaf (leafs.Context r)) h k = listed_atom (leaf (leafs.Context r)) h k refl
+  listed (leaf (leafs.Literal (literals.Long n))) h k = listed_atom (leaf (leafs.Literal (literals.Long n))) h k refl
+  listed (leaf (leafs.Literal (literals.String n))) h k = listed_atom (leaf (leafs.Literal (literals.String n))) h k refl
+  listed (leaf (leafs.Literal (literals.Decimal n))) h k = listed_atom (leaf (leafs.Literal (literals.Decimal n))) h k refl
+  listed (leaf (leafs.Literal (literals.Ip n))) h k = listed_atom (leaf (leafs.Literal (literals.Ip n))) h k refl
+  listed (leaf (leafs.Literal (literals.Entity u us))) h k = listed_atom (leaf (leafs.Literal (literals.Entity u us))) h k refl
+  listed (leaf (leafs.None s)) h k = listed_atom (leaf (leafs.None s)) h k refl
+  listed (leaf (leafs.Principal s)) h k = listed_atom (leaf (leafs.Principal s)) h k refl
+  listed (leaf (leafs.Resource s)) h k = listed_atom (leaf (leafs.Resource s)) h k refl
+  listed (leaf (leafs.Context s)) h k = listed_atom (leaf (leafs.Context s)) h k refl
   listed (one unary.Not a) h k = listed a (negated_closed a h) (negated_sort a h)
-  listed (one (unary.Field name r) a) h k = listed_atom (one (unary.Field name r) a) h k refl
+  listed (one (unary.Bit i) a) h k = listed_atom (one (unary.Bit i) a) h k refl
+  listed (one (unary.CarryIn i) a) h k = listed_atom (one (unary.CarryIn i) a) h k refl
+  listed (one (unary.ProductRow i j) a) h k = listed_atom (one (unary.ProductRow i j) a) h k refl
+  listed (one (unary.ProductCarry i j) a) h k = listed_atom (one (unary.ProductCarry i j) a) h k refl
+  listed (one (unary.Attributes s) a) h k = listed_atom (one (unary.Attributes s) a) h k refl
+  listed (one (unary.Ancestors s) a) h k = listed_atom (one (unary.Ancestors s) a) h k refl
+  listed (one unary.Keys a) h k = listed_atom (one unary.Keys a) h k refl
+  listed (one (unary.Field name) a) h k = listed_atom (one (unary.Field name) a) h k refl
+  listed (one unary.Present a) h k = listed_atom (one unary.Present a) h k refl
+  listed (one unary.Held a) h k = listed_atom (one unary.Held a) h k refl
+  listed (one (unary.Like p) a) h k = listed_atom (one (unary.Like p) a) h k refl
   listed (two o a b) h k = listed_atom (two o a b) h k refl
   listed (choice c a b) h k = listed_atom (choice c a b) h k refl
+  listed (many o ts) h k = listed_atom (many o ts) h k refl
 
   -- true where the term is
   module _ (w : World) (world : IsWorldOf p w) where
@@ -148,14 +166,31 @@ module _ (total : IsTotalOrder tree_cmp) (level : (a b : Tree) → tree_cmp a b 
     true_literal (leaf (leafs.Literal (literals.Bool true))) h k = true_atom (truth_term true) h k refl
     true_literal (leaf (leafs.Literal (literals.Bool false))) h k =
         holds_negation (truths p w) (positive 1) ∙ ap not (holds_positive (truths p w) 1 ∙ ap (λ (x : Option Tree). is_true_at x w) first_atom ∙ constant_truth true w) ∙ sym (constant_truth false w)
-    true_literal (leaf (leafs.Principal r)) h k = true_atom (leaf (leafs.Principal r)) h k refl
-    true_literal (leaf (leafs.Resource r)) h k = true_atom (leaf (leafs.Resource r)) h k refl
-    true_literal (leaf (leafs.Context r)) h k = true_atom (leaf (leafs.Context r)) h k refl
+    true_literal (leaf (leafs.Literal (literals.Long n))) h k = true_atom (leaf (leafs.Literal (literals.Long n))) h k refl
+    true_literal (leaf (leafs.Literal (literals.String n))) h k = true_atom (leaf (leafs.Literal (literals.String n))) h k refl
+    true_literal (leaf (leafs.Literal (literals.Decimal n))) h k = true_atom (leaf (leafs.Literal (literals.Decimal n))) h k refl
+    true_literal (leaf (leafs.Literal (literals.Ip n))) h k = true_atom (leaf (leafs.Literal (literals.Ip n))) h k refl
+    true_literal (leaf (leafs.Literal (literals.Entity u us))) h k = true_atom (leaf (leafs.Literal (literals.Entity u us))) h k refl
+    true_literal (leaf (leafs.None s)) h k = true_atom (leaf (leafs.None s)) h k refl
+    true_literal (leaf (leafs.Principal s)) h k = true_atom (leaf (leafs.Principal s)) h k refl
+    true_literal (leaf (leafs.Resource s)) h k = true_atom (leaf (leafs.Resource s)) h k refl
+    true_literal (leaf (leafs.Context s)) h k = true_atom (leaf (leafs.Context s)) h k refl
     true_literal (one unary.Not a) h k =
         let inside = negated_closed a h in
         let bool = negated_sort a h in
         holds_negation (truths p w) (literal_in p a) ∙ ap not (true_literal a inside bool)
         ∙ sym (not_valued a w (goal_truth p.env (context_of p.schema p.env.action) w world.request.context a (kind_is a inside) bool))
-    true_literal (one (unary.Field name r) a) h k = true_atom (one (unary.Field name r) a) h k refl
+    true_literal (one (unary.Bit i) a) h k = true_atom (one (unary.Bit i) a) h k refl
+    true_literal (one (unary.CarryIn i) a) h k = true_atom (one (unary.CarryIn i) a) h k refl
+    true_literal (one (unary.ProductRow i j) a) h k = true_atom (one (unary.ProductRow i j) a) h k refl
+    true_literal (one (unary.ProductCarry i j) a) h k = true_atom (one (unary.ProductCarry i j) a) h k refl
+    true_literal (one (unary.Attributes s) a) h k = true_atom (one (unary.Attributes s) a) h k refl
+    true_literal (one (unary.Ancestors s) a) h k = true_atom (one (unary.Ancestors s) a) h k refl
+    true_literal (one unary.Keys a) h k = true_atom (one unary.Keys a) h k refl
+    true_literal (one (unary.Field name) a) h k = true_atom (one (unary.Field name) a) h k refl
+    true_literal (one unary.Present a) h k = true_atom (one unary.Present a) h k refl
+    true_literal (one unary.Held a) h k = true_atom (one unary.Held a) h k refl
+    true_literal (one (unary.Like p) a) h k = true_atom (one (unary.Like p) a) h k refl
     true_literal (two o a b) h k = true_atom (two o a b) h k refl
     true_literal (choice c a b) h k = true_atom (choice c a b) h k refl
+    true_literal (many o ts) h k = true_atom (many o ts) h k refl

@@ -1,5 +1,5 @@
 -- Truth values of a goal in a well-formed world.
-use Rattle.std.proofs.Common.{◌≡◌, ℕ, ◌&&◌, Bool, true, false, not, inl, inr, List, [], ◌∷◌, Option, Some, None, IsSomeAnd, IsTrue, unwrap_or, Contains, refl, sym, ap, ◌∙◌, subst}
+use Rattle.std.proofs.Common.{◌≡◌, ℕ, ◌&&◌, Bool, true, false, not, inl, inr, List, [], ◌∷◌, Option, Some, None, IsSomeAnd, IsTrue, Contains, refl, sym, ap, ◌∙◌, subst}
 use Rattle.std.specs.List.{list_all}
 use Rattle.sc_terms.proofs.FoldValues.{seen_yes, truth_yes}
 use Rattle.sc_lists.proofs.MemberLaws.{map-Has}
@@ -18,7 +18,7 @@ use Rattle.sc_values.specs.declared.value.Value.TheVariants as value
 use Rattle.sc_values.specs.declared.value.Value.TheVariants.{rolls-Bool as rolls_truth}
 use Rattle.sc_values.specs.declared.value.Value.TheOpen as v
 use Rattle.sc_values.specs.Records.{Fields, field}
-use Rattle.sc_values.proofs.OutLaws.{out_Bool, out_Entity, out_Record}
+use Rattle.sc_values.proofs.OutLaws.{out_Entity, out_Record}
 use Rattle.sc_world.specs.declared.world.World.{World}
 use Rattle.sc_world.specs.Conforms.{Test, conforms, conforms_step, passes, has_shape, shape_of, is_bool as is_truth_value}
 use Rattle.sc_world.proofs.ConformsLaws.{conforms_Record}
@@ -27,17 +27,18 @@ use Rattle.sc_sorts.specs.declared.sort.Sort.TheVariants as sort
 use Rattle.sc_sorts.specs.Defaults.{is_option, is_option_level}
 use Rattle.sc_sorts.specs.Plain.{Field, plain_fields, is_bool_field, is_bool, is_required}
 use Rattle.sc_sorts.proofs.OutLaws.{out_Bool as out_sort}
-use Rattle.sc_terms.specs.declared.node.UnaryOp.TheVariants as unary
-use Rattle.sc_terms.specs.declared.node.BinaryOp.TheVariants as binary
+use Rattle.sc_nodes.specs.declared.node.UnaryOp.TheVariants as unary
+use Rattle.sc_nodes.specs.declared.node.BinaryOp.TheVariants as binary
 use Rattle.sc_terms.specs.Trees.{Tree, one}
-use Rattle.sc_terms.specs.Folds.{truth_term}
-use Rattle.sc_terms.specs.Booleans.{IsBoolean, of_truth, of_attribute, of_not, of_two, attribute_term, names_of}
-use Rattle.sc_terms.specs.Values.{Val, it, yes, val, seen, bool_seen, truth, not_value, and_value, or_value, equal_value, val_eq, field_value, field_seen, fields, fields_seen}
+use Rattle.sc_terms.specs.TreeSorts.{tree_sort}
+use Rattle.sc_terms.specs.Folds.{truth_term, field_term}
+use Rattle.sc_term_laws.specs.Booleans.{IsBoolean, of_truth, of_attribute, of_not, of_two, attribute_term, names_of}
+use Rattle.sc_terms.specs.Values.{Val, it, yes, val, seen, bool_seen, truth, not_value, and_value, or_value, equal_value, val_eq, field_value, field_seen, record_in, fields_seen}
 use Rattle.sc_footprint.specs.Problems.{is_bool as truth_value, is_bool_in}
 use Rattle.sc_footprint.specs.Truths.{is_true}
 use Rattle.sc_footprint.specs.Kinds.{IsOfGoal, of_boolean, of_context, of_principal, of_resource, of_entities}
 use Rattle.sc_footprint.proofs.MemberLaws.{Has-from_Contains}
-use Rattle.sc_footprint.proofs.GoalLaws.{type_is, bool_is, each_is, plain_is, context_sort, principal_sort, resource_sort}
+use Rattle.sc_footprint.proofs.GoalLaws.{type_is, bool_is, each_is, plain_is, attribute_sort, context_sort, principal_sort, resource_sort}
 
 -- ---- truth values
 
@@ -127,7 +128,7 @@ field_is fs name context h k p =
 no_option : is_option sort.Bool ≡ false
 no_option = ap (is_option_level Sort) out_sort
 
-context_fields : (context : Fields) → fields (it (value.Record context)) ≡ context
+context_fields : (context : Fields) → record_in (it (value.Record context)) ≡ context
 context_fields context = ap fields_seen (out_Record context)
 
 attribute_truth : (name : List ℕ) (context : Fields) (b : Bool) → field name context ≡ Some (value.Bool b) → field_value name sort.Bool (it (value.Record context)) ≡ yes b
@@ -142,12 +143,12 @@ IsContextOf context w = IsSomeAnd context (λ type. IsTrue (conforms type (value
 
 attribute_is : (type : Ty) (fs : List Field) (name : List ℕ) (w : World) → plain_fields type ≡ Some fs → Contains (names_of fs) name → conforms type (value.Record w.request.context) ≡ true
     → IsTruth (val (attribute_term type name) w)
-unfolding val
+unfolding val field_term tree_sort
 attribute_is type fs name w plain named fits =
     let shaped : has_shape (shape_of fs) w.request.context ≡ true =
     sym (ap (λ (y : Ty). conforms y (value.Record w.request.context)) (type_is type fs plain) ∙ conforms_Record fs w.request.context) ∙ fits in
     let r = field_is fs name w.request.context (plain_is (out-Ty type) fs plain).1 shaped (Has-from_Contains (names_of fs) name named) in
-    (r.0, attribute_truth name w.request.context r.0 r.1)
+    (r.0, ap (λ (k : Sort). field_value name k (it (value.Record w.request.context))) (attribute_sort type fs name plain) ∙ attribute_truth name w.request.context r.0 r.1)
 
 pub boolean_truth : (context : Option Ty) (w : World) → IsContextOf context w → (x : Tree) → IsBoolean context x → IsTruth (val x w)
 unfolding val
@@ -155,9 +156,10 @@ boolean_truth context w fits x (of_truth b) = (b, refl)
 boolean_truth context w fits x (of_attribute type fs name e plain named) =
     attribute_is type fs name w plain named (subst (λ (o : Option Ty). IsContextOf o w) e fits)
 boolean_truth context w fits x (of_not a h) = not_truth (val a w) (boolean_truth context w fits a h)
-boolean_truth context w fits x (of_two binary.And a b h k) = and_truth (val a w) (val b w) (boolean_truth context w fits a h) (boolean_truth context w fits b k)
-boolean_truth context w fits x (of_two binary.Or a b h k) = or_truth (val a w) (val b w) (boolean_truth context w fits a h) (boolean_truth context w fits b k)
-boolean_truth context w fits x (of_two binary.Equal a b h k) = equal_truth (val a w) (val b w) (boolean_truth context w fits a h) (boolean_truth context w fits b k)
+boolean_truth context w fits x (of_two binary.And a b c h k) = and_truth (val a w) (val b w) (boolean_truth context w fits a h) (boolean_truth context w fits b k)
+boolean_truth context w fits x (of_two binary.Or a b c h k) = or_truth (val a w) (val b w) (boolean_truth context w fits a h) (boolean_truth context w fits b k)
+boolean_truth context w fits x (of_two binary.Equal a b c h k) = equal_truth (val a w) (val b w) (boolean_truth context w fits a h) (boolean_truth context w fits b k)
+boolean_truth context w fits x (of_two _ a b c h k) = cc
 
 -- ---- closed terms that are truth values
 

@@ -6,8 +6,8 @@ use Rattle.sc_schema.specs.declared.declarations.Env.{Env}
 use Rattle.sc_sorts.specs.declared.sort.Sort.{Sort, Sort-F, out-Sort}
 use Rattle.sc_sorts.specs.declared.sort.Sort.TheOpen as s
 use Rattle.sc_sorts.specs.declared.sort.Sort.TheVariants.{Entity}
-use Rattle.sc_terms.specs.declared.node.Leaf.TheVariants.{Principal, Resource}
-use Rattle.sc_terms.specs.Trees.{Tree, leaf, one, two, choice}
+use Rattle.sc_nodes.specs.declared.node.Leaf.TheVariants.{Principal, Resource}
+use Rattle.sc_terms.specs.Trees.{Tree, leaf, one, two, choice, many, Trees, Labelled, listed}
 use Rattle.sc_terms.specs.TreeSorts.{tree_sort}
 use Rattle.sc_terms.specs.Folds.{truth_term, equal_term, field_term}
 
@@ -21,14 +21,19 @@ resource_term env = leaf (Resource (Entity env.resource []))
 
 -- ---- the terms that go with a term: its parts, and of a record all its fields
 
+-- parts without their labels
+abbrev pub unlabelled : Trees → List Tree
+unlabelled ts = map (λ (p : Labelled). p.1) (listed ts)
+
 abbrev pub parts : Tree → List Tree
 parts (leaf l) = []
 parts (one o a) = a ∷ []
 parts (two o a b) = a ∷ b ∷ []
 parts (choice c a b) = c ∷ a ∷ b ∷ []
+parts (many o ts) = unlabelled ts
 
 abbrev pub fields_in : Sort-F Sort → Tree → List Tree
-fields_in (s.Record fields) x = map (λ (f : List ℕ × Sort). field_term f.0 f.1 x) fields
+fields_in (s.Record fields) x = map (λ (f : List ℕ × Sort). field_term f.0 x) fields
 fields_in _ x = []
 
 abbrev pub all_fields : Tree → List Tree

@@ -3,9 +3,9 @@ use Rattle.std.specs.Prelude.{◌&&◌, ◌||◌, Bool, true, false, not, List, 
 use Rattle.std.specs.List.{list_any}
 use Rattle.sc_clauses.specs.declared.lit.Lit.{Lit}
 use Rattle.sc_clauses.specs.Clauses.{Clause, bool_eq, negation, is_in}
-use Rattle.sc_terms.specs.declared.node.Leaf.TheVariants.{Literal}
-use Rattle.sc_terms.specs.declared.node.Literal.TheVariants.{Bool as bool}
-use Rattle.sc_terms.specs.declared.node.BinaryOp.TheVariants.{And, Or, Equal}
+use Rattle.sc_nodes.specs.declared.node.Leaf.TheVariants.{Literal}
+use Rattle.sc_nodes.specs.declared.node.Literal.TheVariants.{Bool as bool}
+use Rattle.sc_nodes.specs.declared.node.BinaryOp.TheVariants.{And, Or, Equal}
 use Rattle.sc_terms.specs.Trees.{Tree, leaf, two}
 use Rattle.sc_footprint.specs.Problems.{Posed, is_bool, atoms, literal_in, goal_literal}
 

@@ -1,11 +1,11 @@
 -- Numbers of a table on their way to the closed terms. No public promise speaks of it.
-use Rattle.std.specs.Prelude.{◌≡◌, ℕ, ◌<◌, Bool, true, false, List, [], ◌∷◌, ◌++◌, ◌⊎◌, map, flat_map, take, length, nat_eq, is_some}
+use Rattle.std.specs.Prelude.{◌≡◌, ℕ, ◌<◌, Bool, true, false, List, [], ◌∷◌, ◌++◌, map, flat_map, take, length, nat_eq, is_some}
 use Rattle.std.specs.List.{AllByRecursion}
 use Rattle.indexmap.specs.IndexSet.{insert_key}
 use Rattle.sc_lists.specs.Members.{Has}
 use Rattle.sc_schema.specs.declared.declarations.Env.{Env}
 use Rattle.sc_sorts.specs.declared.sort.Sort.{Sort}
-use Rattle.sc_terms.specs.declared.node.Node.{Node}
+use Rattle.sc_nodes.specs.declared.node.Node.{Node}
 use Rattle.sc_terms.specs.Trees.{Tree}
 use Rattle.sc_terms.specs.Tables.{tree, Keeps}
 use Rattle.sc_terms.specs.Folds.{truth_term, field_term}
@@ -47,7 +47,7 @@ pub record IsMade (old new : List Node) (ns : List ℕ) (to_come all : List Tree
 
 -- the fields of a term
 abbrev pub fields_from : List Node → ℕ → List (List ℕ × Sort) → List Tree
-fields_from xs n fields = map (λ (f : List ℕ × Sort). field_term f.0 f.1 (tree xs n)) fields
+fields_from xs n fields = map (λ (f : List ℕ × Sort). field_term f.0 (tree xs n)) fields
 
 -- numbers on their way to the closed terms: the first i have been followed, and es are the entities among those
 pub record IsClosing (env : Env) (goal : Tree) (xs : List Node) (ns es : List ℕ) (i : ℕ) : Type 0 where

@@ -3,9 +3,9 @@ use Rattle.std.specs.Prelude.{◌≡◌, true, List, Contains, Option, Some}
 use Rattle.sc_schema.specs.declared.declarations.Env.{Env}
 use Rattle.sc_schema.specs.declared.ty.Ty.{Ty}
 use Rattle.sc_sorts.specs.Plain.{Field, plain_fields}
-use Rattle.sc_terms.specs.declared.node.BinaryOp.TheVariants.{Equal}
+use Rattle.sc_nodes.specs.declared.node.BinaryOp.TheVariants.{Equal}
 use Rattle.sc_terms.specs.Trees.{Tree, two}
-use Rattle.sc_terms.specs.Booleans.{IsBoolean, context_term}
+use Rattle.sc_term_laws.specs.Booleans.{IsBoolean, context_term}
 use Rattle.sc_footprint.specs.Closure.{principal_term, resource_term}
 use Rattle.sc_footprint.specs.Problems.{Posed, closed_terms, is_bool}
 

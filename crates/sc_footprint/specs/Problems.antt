@@ -12,15 +12,15 @@ use Rattle.sc_clauses.specs.declared.lit.Lit.{Lit}
 use Rattle.sc_clauses.specs.Clauses.{positive, negation}
 use Rattle.sc_sorts.specs.declared.sort.Sort.{Sort, Sort-F, out-Sort}
 use Rattle.sc_sorts.specs.declared.sort.Sort.TheOpen as s
-use Rattle.sc_terms.specs.declared.node.Node.{Node}
-use Rattle.sc_terms.specs.declared.node.Leaf.TheVariants.{Literal}
-use Rattle.sc_terms.specs.declared.node.Literal.TheVariants.{Bool as bool}
-use Rattle.sc_terms.specs.declared.node.UnaryOp.TheVariants.{Not}
-use Rattle.sc_terms.specs.Trees.{Tree, leaf, one, two, choice}
+use Rattle.sc_nodes.specs.declared.node.Node.{Node}
+use Rattle.sc_nodes.specs.declared.node.Leaf.TheVariants.{Literal}
+use Rattle.sc_nodes.specs.declared.node.Literal.TheVariants.{Bool as bool}
+use Rattle.sc_nodes.specs.declared.node.UnaryOp.TheVariants.{Not}
+use Rattle.sc_terms.specs.Trees.{Tree, leaf, one, two, choice, many}
 use Rattle.sc_terms.specs.Tables.{tree}
 use Rattle.sc_terms.specs.TreeSorts.{tree_sort}
 use Rattle.sc_terms.specs.Order.{tree_cmp, tree_eq}
-use Rattle.sc_terms.specs.Booleans.{IsBoolean}
+use Rattle.sc_term_laws.specs.Booleans.{IsBoolean}
 use Rattle.sc_footprint.specs.Closure.{Closed}
 
 -- a goal, by its number in a table of terms, the closed terms by theirs, and the uids that are to be stored
@@ -119,6 +119,7 @@ literal number (one Not a) = negation (literal number a)
 literal number (one o a) = positive (number (one o a))
 literal number (two o a b) = positive (number (two o a b))
 literal number (choice c a b) = positive (number (choice c a b))
+literal number (many o ts) = positive (number (many o ts))
 
 abbrev pub literal_in : Posed → Tree → Lit
 literal_in p t = literal (atom_number p) t

@@ -13,7 +13,8 @@ use sc_lists::Seq;
 use sc_names::Name;
 use sc_schema::Env;
 use sc_sorts::Sort;
-use sc_terms::{Terms, order_laws};
+use sc_term_laws::order_laws;
+use sc_terms::Terms;
 use std::alloc::{AllocError, Global};
 
 /// The sort of the entities of a type.

@@ -4,7 +4,7 @@ ghost use Rattle.std.specs.List.{AllByRecursion};
 ghost use Rattle.sc_schema.specs.Declarations.{environments, context_of};
 ghost use Rattle.sc_world.specs.Named.{IsDeclared};
 ghost use Rattle.sc_terms.specs.Tables.{tree, Keeps};
-ghost use Rattle.sc_terms.specs.Booleans.{IsBoolean};
+ghost use Rattle.sc_term_laws.specs.Booleans.{IsBoolean};
 ghost use Rattle.sc_footprint.specs.Problems.{IsProblemOf, IsRefused};
 
 use crate::closed::closed_terms;
@@ -15,7 +15,8 @@ use crate::sorting::sort_by_term;
 use sc_lists::Fault;
 use sc_names::Lits;
 use sc_schema::{Env, Schema};
-use sc_terms::{Terms, order_laws};
+use sc_term_laws::order_laws;
+use sc_terms::Terms;
 use std::alloc::Global;
 
 /// The problem of a goal of the fragment of Booleans, in an environment of a schema, for declared

@@ -2,16 +2,32 @@
 ghost use Rattle.std.specs.Prelude.{◌≡◌, ◌<◌, ◌++◌, length, map, flat_map, option_map, IfOk, OnOk};
 ghost use Rattle.std.specs.List.{AllByRecursion};
 ghost use Rattle.std.specs.Option.{option_copied};
-ghost use Rattle.sc_terms.specs.Tables.{tree, Keeps, StandsFor};
+ghost use Rattle.sc_terms.specs.Tables.{tree, node_parts, AreBelow, Keeps, StandsFor};
 ghost use Rattle.sc_terms.specs.Folds.{field_term};
-ghost use Rattle.sc_footprint.specs.Closure.{parts as parts_of, all_fields as fields_of, follow as follow_of, entity_type as type_of, same_name};
+ghost use Rattle.sc_footprint.specs.Closure.{parts as parts_of, all_fields as fields_of, follow as follow_of, unlabelled, entity_type as type_of, same_name};
 ghost use Rattle.sc_footprint.specs.Following.{stood, noted, pairs_with, is_entity as entity};
 
 use sc_lists::Text;
 use sc_names::Name;
+use sc_nodes::Node;
 use sc_sorts::{Sort, try_clone};
-use sc_terms::{Node, Terms};
+use sc_terms::Terms;
 use std::alloc::{AllocError, Global};
+
+/// The numbers of labelled parts.
+fn labelled(alloc: Global, terms: &Terms, parts: &[(Text, u64)]) -> Result<Vec<u64>, AllocError>
+    requires { AreBelow (length terms.now) parts.now }
+    ensures within { IfOk result (λ v. AllByRecursion (λ m. m < length terms.now) v.items) }
+    ensures ok { IfOk result (λ v. stood terms.now v.items ≡ unlabelled (node_parts terms.now parts.now)) }
+{
+    let mut numbers = Vec::new(alloc);
+    let mut rest = parts;
+    while let Some((part, later)) = rest.split_first() {
+        numbers.push(part.1)?;
+        rest = later;
+    }
+    Ok(numbers)
+}
 
 /// The numbers of a term's parts.
 fn parts(alloc: Global, terms: &Terms, n: u64) -> Result<Vec<u64>, AllocError>
@@ -24,18 +40,18 @@ fn parts(alloc: Global, terms: &Terms, n: u64) -> Result<Vec<u64>, AllocError>
         Node::One(_, a) => Ok(vec![in alloc; *a]?),
         Node::Two(_, a, b) => Ok(vec![in alloc; *a, *b]?),
         Node::Choice(c, a, b) => Ok(vec![in alloc; *c, *a, *b]?),
+        Node::Many(_, parts) => labelled(alloc, terms, parts.as_slice()),
     }
 }
 
 /// The number of a field of a record, which is given by its name and its sort.
 fn field(alloc: Global, terms: &mut Terms, n: u64, field: &(Text, Sort)) -> Result<u64, AllocError>
     requires { n < length terms.old }
-    ensures ok { IfOk result (λ m. StandsFor terms.new m (field_term field.now.0 field.now.1 (tree terms.old n))) }
+    ensures ok { IfOk result (λ m. StandsFor terms.new m (field_term field.now.0 (tree terms.old n))) }
     ensures kept { Keeps terms.old terms.new }
 {
     let name = field.0.try_clone(alloc)?;
-    let sort = try_clone(alloc, &field.1)?;
-    terms.field(n, name, sort)
+    terms.field(n, name)
 }
 
 /// The numbers of these fields of a record.
@@ -47,7 +63,7 @@ fn each_field(
 ) -> Result<Vec<u64>, AllocError>
     requires { n < length terms.old }
     ensures within { IfOk result (λ v. AllByRecursion (λ m. m < length terms.new) v.items) }
-    ensures ok { IfOk result (λ v. stood terms.new v.items ≡ map (λ f. field_term f.0 f.1 (tree terms.old n)) fields.now) }
+    ensures ok { IfOk result (λ v. stood terms.new v.items ≡ map (λ f. field_term f.0 (tree terms.old n)) fields.now) }
     ensures kept { Keeps terms.old terms.new }
 {
     let mut numbers = Vec::new(alloc);
@@ -65,7 +81,7 @@ fn all_fields(alloc: Global, terms: &mut Terms, n: u64) -> Result<Vec<u64>, Allo
     ensures ok { IfOk result (λ v. stood terms.new v.items ≡ fields_of (tree terms.old n)) }
     ensures kept { Keeps terms.old terms.new }
 {
-    let sort = terms.sort(alloc, n)?;
+    let sort = try_clone(alloc, terms.sort(n))?;
     match &sort {
         Sort::Record(fields) => each_field(alloc, terms, n, fields.as_slice()),
         _ => Ok(Vec::new(alloc)),
@@ -77,8 +93,8 @@ fn entity_type(terms: &Terms, n: u64) -> Option<&Name>
     requires { n < length terms.now }
     ensures { option_copied result ≡ type_of (tree terms.now n) }
 {
-    match terms.held_sort(n) {
-        Some(Sort::Entity(name, _)) => Some(name),
+    match terms.sort(n) {
+        Sort::Entity(name, _) => Some(name),
         _ => None,
     }
 }

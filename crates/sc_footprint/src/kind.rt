@@ -3,8 +3,9 @@ ghost use Rattle.std.specs.Prelude.{◌≡◌, ◌<◌, length};
 ghost use Rattle.sc_terms.specs.Tables.{tree};
 ghost use Rattle.sc_footprint.specs.Problems.{is_opposite as opposite, is_bool as truth_value, is_atom as atom};
 
+use sc_nodes::{Leaf, Literal, Node, UnaryOp};
 use sc_sorts::Sort;
-use sc_terms::{Leaf, Literal, Node, Terms, UnaryOp};
+use sc_terms::Terms;
 
 /// Whether a term is `false` or a negation.
 pub(crate) fn is_opposite(terms: &Terms, n: u64) -> bool
@@ -23,10 +24,9 @@ pub(crate) fn is_bool(terms: &Terms, n: u64) -> bool
     requires { n < length terms.now }
     ensures { result ≡ truth_value (tree terms.now n) }
 {
-    match terms.held_sort(n) {
-        None => true,
-        Some(Sort::Bool) => true,
-        Some(_) => false,
+    match terms.sort(n) {
+        Sort::Bool => true,
+        _ => false,
     }
 }
 

@@ -4,8 +4,8 @@ ghost use Rattle.sc_clauses.specs.Clauses.{holds};
 ghost use Rattle.sc_schema.specs.declared.declarations.Env.{Env as AnyEnv};
 ghost use Rattle.sc_schema.specs.Declarations.{context_of};
 ghost use Rattle.sc_world.specs.declared.world.World.{World as AnyWorld};
-ghost use Rattle.sc_terms.specs.declared.node.BinaryOp.{BinaryOp as AnyOp};
-ghost use Rattle.sc_terms.specs.declared.node.BinaryOp.TheVariants.{Equal};
+ghost use Rattle.sc_nodes.specs.declared.node.BinaryOp.{BinaryOp as AnyOp};
+ghost use Rattle.sc_nodes.specs.declared.node.BinaryOp.TheVariants.{Equal};
 ghost use Rattle.sc_terms.specs.Trees.{Tree, two};
 ghost use Rattle.sc_terms.specs.Folds.{truth_term};
 ghost use Rattle.sc_terms.specs.Values.{val, yes};
@@ -14,7 +14,7 @@ ghost use Rattle.sc_footprint.specs.Truths.{is_true, truths, IsWorldOf};
 ghost use Rattle.sc_footprint.specs.Theories.{IsListed};
 ghost use Rattle.sc_footprint.specs.Kinds.{IsOfGoal, HasBoolParts};
 
-use sc_terms::order_laws;
+use sc_term_laws::order_laws;
 
 /// A goal has one list of closed terms. What holds of each problem: atom 1 is `true`, and the number
 /// of a listed atom is that of the atom. Its closed terms are of the goal, which is one of them and a

@@ -10,7 +10,8 @@ use indexmap::IndexSet;
 use sc_clauses::{Lit, negation};
 use sc_names::Lits;
 use sc_schema::{Env, Schema};
-use sc_terms::{Terms, order_laws};
+use sc_term_laws::order_laws;
+use sc_terms::Terms;
 use std::marker::Model;
 
 /// The problem whether some well-formed world of an environment makes a goal true. Its closed terms

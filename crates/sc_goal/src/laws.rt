@@ -13,7 +13,9 @@ ghost use Rattle.sc_eval.specs.Eval.{eval};
 ghost use Rattle.sc_auth.specs.Decisions.{allows};
 ghost use Rattle.sc_typing.specs.Checking.{type_fault};
 ghost use Rattle.sc_constructs.specs.First.{unsupported};
-ghost use Rattle.sc_terms.specs.Booleans.{IsBoolean};
+ghost use Rattle.sc_sorts.specs.declared.sort.Sort.TheVariants.{Bool};
+ghost use Rattle.sc_term_laws.specs.Booleans.{IsBoolean};
+ghost use Rattle.sc_term_laws.specs.Judging.{IsTermOf};
 ghost use Rattle.sc_terms.specs.Trees.{Tree};
 ghost use Rattle.sc_terms.specs.Values.{val, truth};
 ghost use Rattle.sc_goal.specs.Goals.{all_compiled, goal_term};
@@ -23,7 +25,7 @@ ghost use Rattle.sc_question.specs.declared.question.Question.TheVariants.{Never
 
 use sc_symauth::standing_laws;
 use sc_symeval::compile_laws;
-use sc_terms::value_laws;
+use sc_term_laws::{made_laws, value_laws};
 
 /// Which worlds have the property that a question asks about, of policy sets `a` and `b`.
 #[tactic(auto, using(crate::proofs::PropertiesLaws::never_errors_decides, crate::proofs::PropertiesLaws::denies_decides, crate::proofs::PropertiesLaws::implies_decides, crate::proofs::PropertiesLaws::equivalent_decides, crate::proofs::PropertiesLaws::disjoint_decides))]
@@ -46,15 +48,17 @@ pub fn property_laws()
 {}
 
 /// In each well-formed world of its environment, for literals that hold the uids of the sets, a goal is
-/// true exactly where the property fails. A goal is of the fragment of Booleans. Policies that are typed
-/// in all environments, and have no further constructs there, are compiled in each; and there is a goal
-/// where the policies of both sets are.
+/// true exactly where the property fails. A goal is a truth value among the environment's terms, and of
+/// the fragment of Booleans. Policies that are typed in all environments, and have no further constructs
+/// there, are compiled in each; and there is a goal where the policies of both sets are.
 pub fn goal_laws()
     ensures right { (s : Declarations) (env : AnyEnv) (lits : List AnyUid) (w : AnyWorld) (q : AnyQuestion) (a b : List AnyPolicy) (t : Tree) →
         IsLawful s → IsWellFormed s env lits w → ((u : AnyUid) → Contains (uids_of a) u → Contains lits u) → ((u : AnyUid) → Contains (uids_of b) u → Contains lits u) →
         goal_term s env q a b ≡ Some t → truth (val t w) ≡ not (has q a b w) }
     ensures boolean { (s : Declarations) (env : AnyEnv) (q : AnyQuestion) (a b : List AnyPolicy) (t : Tree) →
         goal_term s env q a b ≡ Some t → IsBoolean (context_of s env.action) t }
+    ensures term { (s : Declarations) (env : AnyEnv) (written : List AnyUid) (q : AnyQuestion) (a b : List AnyPolicy)
+        (t : Tree) → goal_term s env q a b ≡ Some t → IsTermOf s env written Bool t }
     ensures posed { (s : Declarations) (env : AnyEnv) (ps : List AnyPolicy) →
         type_fault s ps ≡ None → unsupported s ps ≡ None → Contains (environments s) env → IsSome (all_compiled s env ps) }
     ensures both { (s : Declarations) (env : AnyEnv) (q : AnyQuestion) (a b : List AnyPolicy) →
@@ -63,4 +67,5 @@ pub fn goal_laws()
     compile_laws();
     standing_laws();
     value_laws();
+    made_laws();
 }

@@ -3,7 +3,7 @@ use Rattle.std.proofs.Common.{◌≡◌, ◌≤◌, ◌||◌, ◌&&◌, ℕ, not
 use Rattle.sc_lists.proofs.BoolLaws.{true_or_false}
 use Rattle.sc_clauses.specs.Clauses.{Clause, bool_eq, holds}
 use Rattle.sc_clauses.specs.Assignments.{Assignment, value_of, is_false_at, is_false}
-use Rattle.sc_terms.specs.declared.node.BinaryOp.TheVariants.{And, Or, Equal}
+use Rattle.sc_nodes.specs.declared.node.BinaryOp.TheVariants.{And, Or, Equal}
 use Rattle.sc_terms.specs.Trees.{Tree, two}
 use Rattle.sc_terms.specs.Folds.{truth_term}
 use Rattle.sc_footprint.specs.Problems.{Posed, atoms, is_bool, literal_in, goal_literal}

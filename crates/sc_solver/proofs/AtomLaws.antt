@@ -8,8 +8,8 @@ use Rattle.std.proofs.lemmas.List.Kept.{IsStrictlySortedBy-filter}
 use Rattle.std.proofs.Math.Dec.{eqb-suc-zero}
 use Rattle.sc_lists.proofs.OrderingLaws.{is_eq_true}
 use Rattle.sc_clauses.specs.Clauses.{positive}
-use Rattle.sc_terms.specs.declared.node.UnaryOp.TheVariants as unary
-use Rattle.sc_terms.specs.Trees.{Tree, leaf, one, two, choice}
+use Rattle.sc_nodes.specs.declared.node.UnaryOp.TheVariants as unary
+use Rattle.sc_terms.specs.Trees.{Tree, leaf, one, two, choice, many}
 use Rattle.sc_terms.specs.Tables.{tree}
 use Rattle.sc_terms.specs.Folds.{truth_term}
 use Rattle.sc_terms.specs.Order.{tree_cmp, tree_eq}
@@ -66,9 +66,10 @@ pub literal_of_atom : (number : Tree → ℕ) (t : Tree) → is_opposite t ≡ f
 unfolding literal
 literal_of_atom number (leaf l) h = rw h refl
 literal_of_atom number (one unary.Not a) h = absurd cc
-literal_of_atom number (one (unary.Field n s) a) h = refl
+literal_of_atom number (one _ a) h = refl
 literal_of_atom number (two o a b) h = refl
 literal_of_atom number (choice c a b) h = refl
+literal_of_atom number (many o ts) h = refl
 
 not_opposite : (b c : Bool) → (b && not c) ≡ true → c ≡ false
 not_opposite true false e = refl

@@ -1,5 +1,5 @@
 -- Closed terms have numbers in the table, so what has none there is no atom.
-use Rattle.std.proofs.Common.{◌≡◌, ◌≢◌, ◌<◌, ℕ, false, List, [], length, Option, Some, None, ap, sym, ◌∙◌, subst}
+use Rattle.std.proofs.Common.{◌≡◌, ◌≢◌, ◌<◌, ℕ, false, List, [], length, Option, Some, None, ap, refl, sym, ◌∙◌, subst}
 use Rattle.sc_clauses.specs.Assignments.{Assignment}
 use Rattle.sc_clauses.specs.declared.lit.Lit.{Lit}
 use Rattle.sc_schema.specs.declared.ty.Ty.{Ty}
@@ -7,14 +7,15 @@ use Rattle.sc_schema.specs.declared.declarations.Env.{Env}
 use Rattle.sc_sorts.specs.declared.sort.Sort.{Sort}
 use Rattle.sc_sorts.specs.declared.sort.Sort.TheVariants as sort
 use Rattle.sc_sorts.specs.OfTypes.{sort_of}
-use Rattle.sc_terms.specs.declared.node.Node.{Node}
-use Rattle.sc_terms.specs.declared.node.BinaryOp.TheVariants.{Equal}
-use Rattle.sc_terms.specs.declared.node.Leaf.TheVariants.{Principal, Resource, Context}
-use Rattle.sc_terms.specs.declared.node.UnaryOp.TheVariants.{Field}
+use Rattle.sc_nodes.specs.declared.node.Node.{Node}
+use Rattle.sc_nodes.specs.declared.node.BinaryOp.TheVariants.{Equal}
+use Rattle.sc_nodes.specs.declared.node.Leaf.TheVariants.{Principal, Resource, Context}
+use Rattle.sc_nodes.specs.declared.node.UnaryOp.TheVariants.{Field}
 use Rattle.sc_terms.specs.Trees.{Tree, leaf, one, two}
 use Rattle.sc_terms.specs.Tables.{tree, StandsFor}
 use Rattle.sc_terms.specs.Finding.{IsFound}
-use Rattle.sc_terms.specs.Booleans.{context_term, attribute_term}
+use Rattle.sc_terms.specs.Folds.{field_term}
+use Rattle.sc_term_laws.specs.Booleans.{context_term, attribute_term}
 use Rattle.sc_footprint.specs.Closure.{Closed, next, of_principal, of_resource, principal_term, resource_term, follow}
 use Rattle.sc_footprint.specs.Problems.{Posed, IsPosed, goal_term, closed_terms, atoms, atom_number, is_opposite, literal_in}
 use Rattle.sc_solver.specs.Rebuilding.{truth_at, one_entity}
@@ -40,6 +41,7 @@ resource_found p posed nodes env s e f g h =
 
 -- where the context has no number, none of its attributes is an atom
 no_attribute : (p : Posed) → IsLevel → IsPosed p → (type : Ty) (name : List ℕ) → IsFound p.nodes (context_term type) None → atom_number p (attribute_term type name) ≡ 0
+unfolding field_term
 no_attribute p level posed type name h = number_of_none level (atoms p) (attribute_term type name) each where
   each : (x : Tree) → Has (atoms p) x → x ≢ attribute_term type name
   each x k e =
@@ -63,11 +65,16 @@ pub context_found : (p : Posed) (nodes : List Node) (type : Ty) (s : Sort) (o : 
 context_found p nodes type s o e f h = subst (λ (xs : List Node). IsFound xs (context_term type) o) e (subst (λ (r : Sort). IsFound nodes (leaf (Context r)) o) f h)
 
 pub attribute_found : (p : Posed) (nodes : List Node) (type : Ty) (given name : List ℕ) (n : ℕ) (o : Option ℕ) → nodes ≡ p.nodes → given ≡ name → StandsFor p.nodes n (context_term type)
-    → IsFound nodes (one (Field given sort.Bool) (tree nodes n)) o → IsFound p.nodes (attribute_term type name) o
+    → IsFound nodes (one (Field given) (tree nodes n)) o → IsFound p.nodes (attribute_term type name) o
+unfolding field_term
 attribute_found p nodes type given name n o e f h k =
-    subst (λ (t : Tree). IsFound p.nodes (one (Field name sort.Bool) t) o) h.is
-    (subst (λ (x : List ℕ). IsFound p.nodes (one (Field x sort.Bool) (tree p.nodes n)) o) f
-    (subst (λ (xs : List Node). IsFound xs (one (Field given sort.Bool) (tree xs n)) o) e k))
+    subst (λ (t : Tree). IsFound p.nodes (one (Field name) t) o) h.is
+    (subst (λ (x : List ℕ). IsFound p.nodes (one (Field x) (tree p.nodes n)) o) f
+    (subst (λ (xs : List Node). IsFound xs (one (Field given) (tree xs n)) o) e k))
+
+pub attribute_plain : (type : Ty) (name : List ℕ) → is_opposite (attribute_term type name) ≡ false
+unfolding field_term
+attribute_plain type name = refl
 
 -- the equation of principal and resource
 pub equation_found : (p : Posed) (nodes : List Node) (a b : ℕ) (o : Option ℕ) → nodes ≡ p.nodes → StandsFor p.nodes a (principal_term p.env) → StandsFor p.nodes b (resource_term p.env)

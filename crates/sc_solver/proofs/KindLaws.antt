@@ -1,5 +1,5 @@
 -- Types of records of required truth values, and the sorts of closed terms.
-use Rattle.std.proofs.Common.{◌≡◌, Bool, true, false, cond, List, [], map, Option, Some, None, refl, ap, sym, ◌∙◌, subst}
+use Rattle.std.proofs.Common.{◌≡◌, Bool, true, false, cond, List, map, Some, None, refl, ap, sym, ◌∙◌, subst}
 use Rattle.std.specs.List.{list_all}
 use Rattle.sc_schema.specs.declared.declarations.Env.{Env}
 use Rattle.sc_schema.specs.declared.ty.Ty.{Ty, Ty-F, out-Ty, roll-Ty, roll-out-Ty}
@@ -9,16 +9,16 @@ use Rattle.sc_schema.specs.declared.ty.Ty.TheOpen as t
 use Rattle.sc_sorts.specs.declared.sort.Sort.{out-Sort}
 use Rattle.sc_sorts.specs.declared.sort.Sort.TheOpen as s
 use Rattle.sc_sorts.specs.OfTypes.{sort_of, field_sort}
-use Rattle.sc_sorts.specs.Plain.{Field, is_bool_field, is_required, plain_in, plain_fields}
+use Rattle.sc_sorts.specs.Plain.{Field, is_bool_field, plain_in, plain_fields}
 use Rattle.sc_sorts.specs.Plain as plain
-use Rattle.sc_sorts.proofs.OutLaws.{out_Bool, out_Entity, out_Record}
+use Rattle.sc_sorts.proofs.OutLaws.{out_Record}
 use Rattle.sc_sorts.proofs.OfTypesLaws.{sort_of_Record}
-use Rattle.sc_terms.specs.declared.node.BinaryOp.TheVariants.{Equal}
-use Rattle.sc_terms.specs.Trees.{Tree, two}
+use Rattle.sc_nodes.specs.declared.node.BinaryOp.TheVariants.{Equal}
+use Rattle.sc_terms.specs.Trees.{two}
 use Rattle.sc_terms.specs.TreeSorts.{tree_sort}
 use Rattle.sc_terms.specs.Folds.{equal_term}
 use Rattle.sc_terms.specs.Order.{tree_cmp, tree_eq}
-use Rattle.sc_terms.specs.Booleans.{IsBoolean, of_truth, of_attribute, of_not, of_two, context_term}
+use Rattle.sc_term_laws.specs.Booleans.{context_term}
 use Rattle.sc_footprint.specs.Closure.{principal_term, resource_term}
 
 -- ---- types of records of required truth values
@@ -62,13 +62,6 @@ bool_type x (t.Set member) is e = absurd cc
 bool_type x (t.Record fields) is e = absurd cc
 
 -- ---- the sorts of terms
-
-pub sort_truth : (context : Option Ty) (x : Tree) → IsBoolean context x → out-Sort (tree_sort x) ≡ s.Bool
-unfolding tree_sort
-sort_truth context _ (of_truth b) = out_Bool
-sort_truth context _ (of_attribute type fields name e f h) = out_Bool
-sort_truth context _ (of_not a h) = out_Bool
-sort_truth context _ (of_two o a b h k) = out_Bool
 
 pub sort_context : (type : Ty) (fields : List Field) → type ≡ ty.Record fields → out-Sort (tree_sort (context_term type)) ≡ s.Record (map field_sort fields)
 unfolding tree_sort

@@ -8,7 +8,7 @@ use Rattle.std.specs.Ordering.{is_eq}
 use Rattle.std.specs.Str.{bytes_eq}
 use Rattle.std.proofs.lemmas.Slice.Eq.{bytes_eq-Decides}
 use Rattle.sc_footprint.proofs.TruthLaws.{atom_is}
-use Rattle.sc_footprint.proofs.GoalLaws.{principal_sort, resource_sort}
+use Rattle.sc_footprint.proofs.GoalLaws.{boolean_sort, attribute_sort, principal_sort, resource_sort}
 use Rattle.sc_terms.proofs.FoldValues.{seen_yes}
 use Rattle.sc_clauses.specs.Clauses.{bool_eq, holds}
 use Rattle.sc_clauses.specs.Assignments.{Assignment}
@@ -16,7 +16,7 @@ use Rattle.sc_names.specs.declared.uid.Uid.{Uid}
 use Rattle.sc_schema.specs.Declarations.{context_of}
 use Rattle.sc_schema.specs.declared.declarations.Env.{Env}
 use Rattle.sc_schema.specs.declared.ty.Ty.{Ty}
-use Rattle.sc_sorts.specs.declared.sort.Sort.{Sort-F, out-Sort}
+use Rattle.sc_sorts.specs.declared.sort.Sort.{Sort, Sort-F, out-Sort}
 use Rattle.sc_sorts.specs.declared.sort.Sort.TheOpen as s
 use Rattle.sc_sorts.specs.Plain.{Field, plain_fields}
 use Rattle.sc_values.specs.declared.value.Value.{Value, Value-F, out-Value}
@@ -28,13 +28,13 @@ use Rattle.sc_values.proofs.OutLaws.{out_Entity}
 use Rattle.sc_values.proofs.OrderLaws.{value_cmp_level}
 use Rattle.sc_world.specs.declared.world.Request.{Request}
 use Rattle.sc_world.specs.declared.world.World.{World}
-use Rattle.sc_terms.specs.declared.node.BinaryOp.TheVariants.{And, Or, Equal}
-use Rattle.sc_terms.specs.declared.node.UnaryOp.TheVariants.{Not}
+use Rattle.sc_nodes.specs.declared.node.BinaryOp.TheVariants.{And, Or, Equal}
+use Rattle.sc_nodes.specs.declared.node.UnaryOp.TheVariants.{Not}
 use Rattle.sc_terms.specs.Trees.{Tree, one, two}
 use Rattle.sc_terms.specs.TreeSorts.{tree_sort}
-use Rattle.sc_terms.specs.Folds.{truth_term}
-use Rattle.sc_terms.specs.Booleans.{names_of, IsBoolean, of_truth, of_attribute, of_not, of_two, attribute_term, context_term}
-use Rattle.sc_terms.specs.Values.{val, seen, value_eq}
+use Rattle.sc_terms.specs.Folds.{truth_term, field_term}
+use Rattle.sc_term_laws.specs.Booleans.{names_of, is_connective, IsBoolean, of_truth, of_attribute, of_not, of_two, attribute_term, context_term}
+use Rattle.sc_terms.specs.Values.{it, val, seen, value_eq, field_value}
 use Rattle.sc_footprint.specs.Closure.{Closed, next, of_goal, principal_term, resource_term, follow}
 use Rattle.sc_footprint.specs.Problems.{Posed, IsPosed, goal_term, closed_terms, atoms, atom_number, is_bool_in, is_bool, is_opposite, is_atom, literal, literal_in, numbered}
 use Rattle.sc_footprint.specs.Definitions.{defining}
@@ -46,7 +46,7 @@ use Rattle.sc_solver.proofs.StepLaws.{AllHold}
 use Rattle.sc_solver.proofs.TableLaws.{table_says}
 use Rattle.sc_solver.proofs.AtomLaws.{IsLevel, literal_of_atom, listed, atom_closed, atom_is_plain, number_at, truth_listed, truth_first}
 use Rattle.sc_footprint.specs.Kinds.{IsOfGoal, of_boolean, of_context, of_principal, of_resource, of_entities}
-use Rattle.sc_solver.proofs.KindLaws.{are_plain, sort_truth, sort_context, one_entity_is}
+use Rattle.sc_solver.proofs.KindLaws.{are_plain, sort_context, one_entity_is}
 use Rattle.sc_solver.proofs.AssignedLaws.{truth_holds, and_holds, or_holds, equal_holds, goal_holds}
 use Rattle.sc_solver.proofs.ValueLaws.{truth_seen, not_seen_as, and_seen_as, or_seen_as, equal_seen_as, one_entity_seen, field_told, field_seen_as}
 
@@ -146,10 +146,11 @@ module _ (level : IsLevel) (p : Posed) (posed : IsPosed p) (known : IsKnown p) (
   context_is type fields e f = ap (λ (r : Request). r.context) request ∙ ap (context_of_type p m) e ∙ ap (context_by p m type) f
 
   says_attribute : (type : Ty) (fields : List Field) (name : List ℕ) → type_of_context ≡ Some type → plain_fields type ≡ Some fields → Contains (names_of fields) name → Says (attribute_term type name)
-  unfolding val
+  unfolding val field_term tree_sort
   says_attribute type fields name e f h =
       let told = field_told (λ (n : List ℕ). truth_at m (atom_number p (attribute_term type n))) fields name (has_of _ name h) in
-      field_seen_as name w.request.context (truth_at m (atom_number p (attribute_term type name))) (ap (field name) (context_is type fields e f) ∙ told)
+      ap (λ (k : Sort). seen (field_value name k (it (value.Record w.request.context)))) (attribute_sort type fields name f)
+      ∙ field_seen_as name w.request.context (truth_at m (atom_number p (attribute_term type name))) (ap (field name) (context_is type fields e f) ∙ told)
       ∙ ap Some (sym (atom_truth (attribute_term type name) refl))
 
   -- ---- connectives
@@ -159,28 +160,29 @@ module _ (level : IsLevel) (p : Posed) (posed : IsPosed p) (known : IsKnown p) (
   says_not a h = not_seen_as (val a w) (assigned_truth a) h ∙ ap Some (sym (holds_negation (truth_at m) (literal_in p a)))
 
   two_atom : (o : _) (a b : Tree) → IsBoolean type_of_context (two o a b) → IsClosed (two o a b) → Has (atoms p) (two o a b)
-  two_atom o a b h c = listed level p posed (two o a b) c (atom_is (two o a b) (bool_of (two o a b) s.Bool (sort_truth type_of_context (two o a b) h) refl) refl)
+  two_atom o a b h c = listed level p posed (two o a b) c (atom_is (two o a b) (bool_of (two o a b) s.Bool (boolean_sort type_of_context (two o a b) h) refl) refl)
 
-  says_two : (o : _) (a b : Tree) → IsBoolean type_of_context a → IsBoolean type_of_context b → IsClosed (two o a b) → Says a → Says b → Says (two o a b)
+  says_two : (o : _) (a b : Tree) → is_connective o ≡ true → IsBoolean type_of_context a → IsBoolean type_of_context b → IsClosed (two o a b) → Says a → Says b → Says (two o a b)
   unfolding val
-  says_two And a b h k c x y =
+  says_two And a b e h k c x y =
       and_seen_as (val a w) (val b w) (assigned_truth a) (assigned_truth b) x y
-      ∙ ap Some (sym (table_says (truth_at m) (λ t u. t && u) (literal_in p (two And a b)) (literal_in p a) (literal_in p b) (and_holds p (truth_at m) hold a b (two_atom And a b (of_two And a b h k) c))))
-  says_two Or a b h k c x y =
+      ∙ ap Some (sym (table_says (truth_at m) (λ t u. t && u) (literal_in p (two And a b)) (literal_in p a) (literal_in p b) (and_holds p (truth_at m) hold a b (two_atom And a b (of_two And a b e h k) c))))
+  says_two Or a b e h k c x y =
       or_seen_as (val a w) (val b w) (assigned_truth a) (assigned_truth b) x y
-      ∙ ap Some (sym (table_says (truth_at m) (λ t u. t || u) (literal_in p (two Or a b)) (literal_in p a) (literal_in p b) (or_holds p (truth_at m) hold a b (two_atom Or a b (of_two Or a b h k) c))))
-  says_two Equal a b h k c x y =
+      ∙ ap Some (sym (table_says (truth_at m) (λ t u. t || u) (literal_in p (two Or a b)) (literal_in p a) (literal_in p b) (or_holds p (truth_at m) hold a b (two_atom Or a b (of_two Or a b e h k) c))))
+  says_two Equal a b e h k c x y =
       equal_seen_as (val a w) (val b w) (assigned_truth a) (assigned_truth b) x y
       ∙ ap Some (sym (table_says (truth_at m) bool_eq (literal_in p (two Equal a b)) (literal_in p a) (literal_in p b)
-      (equal_holds p (truth_at m) hold a b (two_atom Equal a b (of_two Equal a b h k) c) (bool_of a s.Bool (sort_truth type_of_context a h) refl))))
+      (equal_holds p (truth_at m) hold a b (two_atom Equal a b (of_two Equal a b e h k) c) (bool_of a s.Bool (boolean_sort type_of_context a h) refl))))
+  says_two _ a b e h k c x y = cc
 
   -- a closed term of the fragment has the truth that its literal is assigned
   says : (t : Tree) → IsBoolean type_of_context t → IsClosed t → Says t
   says _ (of_truth b) c = says_truth b
   says _ (of_attribute type fields name e f h) c = says_attribute type fields name e f h
   says _ (of_not a h) c = says_not a (says a h (part_of_not p.env (goal_term p) a c))
-  says _ (of_two o a b h k) c =
-      says_two o a b h k c (says a h (left_of_two p.env (goal_term p) o a b c)) (says b k (right_of_two p.env (goal_term p) o a b c))
+  says _ (of_two o a b e h k) c =
+      says_two o a b e h k c (says a h (left_of_two p.env (goal_term p) o a b c)) (says b k (right_of_two p.env (goal_term p) o a b c))
 
   -- ---- whether principal and resource are one
 

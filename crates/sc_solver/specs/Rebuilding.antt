@@ -18,7 +18,7 @@ use Rattle.sc_world.specs.Defaults.{default_fields}
 use Rattle.sc_world.specs.Named.{AreDefaults, StoresNamed}
 use Rattle.sc_sorts.specs.Plain.{Field, plain_fields}
 use Rattle.sc_terms.specs.Folds.{equal_term}
-use Rattle.sc_terms.specs.Booleans.{attribute_term}
+use Rattle.sc_term_laws.specs.Booleans.{attribute_term}
 use Rattle.sc_footprint.specs.Closure.{principal_term, resource_term}
 use Rattle.sc_footprint.specs.Problems.{Posed, atoms, atom_number}
 use Rattle.sc_footprint.specs.Definitions.{defining}

@@ -7,7 +7,7 @@ ghost use Rattle.sc_schema.specs.declared.ty.Ty.{Ty as AnyTy};
 ghost use Rattle.sc_sorts.specs.Plain.{plain_fields as plain_fields_of};
 ghost use Rattle.sc_solver.specs.Contexts.{IsContext};
 ghost use Rattle.sc_solver.specs.Rebuilding as rebuilt;
-ghost use Rattle.sc_terms.specs.Booleans as booleans;
+ghost use Rattle.sc_term_laws.specs.Booleans as booleans;
 ghost use Rattle.sc_terms.specs.Finding.{IsFound};
 ghost use Rattle.sc_world.specs.Defaults.{default_fields};
 
@@ -15,9 +15,10 @@ use crate::truth::truth_of;
 use sc_clauses::Assignment;
 use sc_footprint::Problem;
 use sc_lists::{Seq, Text};
+use sc_nodes::{Leaf, Node, UnaryOp};
 use sc_schema::{Presence, Ty, context_of};
-use sc_sorts::{Sort, plain_fields, sort_of};
-use sc_terms::{Leaf, Node, UnaryOp, order_laws};
+use sc_sorts::{plain_fields, sort_of};
+use sc_term_laws::order_laws;
 use sc_values::{Rec, Value};
 use sc_world::default_world;
 use std::alloc::{AllocError, Global};
@@ -49,7 +50,7 @@ fn attribute_truth(
         Some(n) => n,
         None => return Ok(false),
     };
-    let node = Node::One(UnaryOp::Field(name.try_clone(alloc)?, Sort::Bool), context);
+    let node = Node::One(UnaryOp::Field(name.try_clone(alloc)?), context);
     Ok(truth_of(problem, m, problem.terms().find(&node)))
 }
 

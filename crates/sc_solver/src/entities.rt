@@ -10,9 +10,10 @@ use sc_clauses::Assignment;
 use sc_footprint::Problem;
 use sc_lists::{Seq, Text};
 use sc_names::{Name, Uid};
+use sc_nodes::{BinaryOp, Leaf, Node};
 use sc_schema::Env;
 use sc_sorts::Sort;
-use sc_terms::{BinaryOp, Leaf, Node, order_laws};
+use sc_term_laws::order_laws;
 use std::alloc::{AllocError, Global};
 
 /// The sort of entities of a type that isn't one of actions.

@@ -9,7 +9,7 @@ use crate::context::context_under;
 use crate::entities::{nameless, resource_number};
 use sc_clauses::Assignment;
 use sc_footprint::{Problem, problem_laws};
-use sc_terms::order_laws;
+use sc_term_laws::order_laws;
 use sc_world::{Request, World, world_for};
 use std::alloc::{AllocError, Global};
 use th_defs::defining_laws;

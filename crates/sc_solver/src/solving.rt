@@ -9,7 +9,7 @@ use sc_checker::Log;
 use sc_footprint::{Problem, problem_laws};
 use sc_lists::Seq;
 use sc_search::{Found, search};
-use sc_terms::order_laws;
+use sc_term_laws::order_laws;
 use sc_world::World;
 use std::alloc::{AllocError, Global};
 use th_defs::{defining, defining_laws};

@@ -7,7 +7,7 @@ ghost use Rattle.sc_terms.specs.Trees.{Tree};
 
 use sc_clauses::{Assignment, Atom};
 use sc_footprint::Problem;
-use sc_terms::order_laws;
+use sc_term_laws::order_laws;
 
 /// The value of an atom, `false` where it has none.
 fn truth_at(m: &Assignment, atom: Atom) -> bool

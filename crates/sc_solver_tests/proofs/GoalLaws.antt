@@ -4,14 +4,13 @@ use Rattle.sc_schema.specs.declared.ty.Ty.{Ty}
 use Rattle.sc_sorts.specs.Plain.{Field, plain_fields}
 use Rattle.sc_sorts.specs.OfTypes.{sort_of}
 use Rattle.sc_sorts.specs.declared.sort.Sort.{Sort}
-use Rattle.sc_sorts.specs.declared.sort.Sort.TheVariants as sort
-use Rattle.sc_terms.specs.declared.node.Leaf.TheVariants.{Context}
-use Rattle.sc_terms.specs.declared.node.Node.{Node}
+use Rattle.sc_nodes.specs.declared.node.Leaf.TheVariants.{Context}
+use Rattle.sc_nodes.specs.declared.node.Node.{Node}
 use Rattle.sc_terms.specs.Trees.{Tree, leaf}
 use Rattle.sc_terms.specs.Tables.{tree, Keeps, StandsFor}
 use Rattle.sc_terms.specs.Folds.{truth_term, not_term, and_term, or_term, equal_term, field_term}
-use Rattle.sc_terms.specs.Booleans.{IsBoolean, of_truth, of_attribute, attribute_term, names_of}
-use Rattle.sc_terms.proofs.BooleansLaws.{not_boolean, and_boolean, or_boolean, equal_boolean, field_attribute}
+use Rattle.sc_term_laws.specs.Booleans.{IsBoolean, of_truth, of_attribute, attribute_term, names_of}
+use Rattle.sc_term_laws.proofs.BooleansLaws.{not_boolean, and_boolean, or_boolean, equal_boolean, field_attribute}
 use Rattle.std.proofs.lemmas.Option.{slice_get-map, slice_get_read, slice_get_within, get_or_from_slice_get}
 use Rattle.sc_solver_tests.specs.Goals.{IsGoal}
 
@@ -27,7 +26,7 @@ named_there fields i f h e =
 
 pub attribute_goal : (ys zs : List Node) (type : Ty) (fields : List Field) (i : ℕ) (f : Field) (s : Sort) (name : List ℕ) (c n : ℕ)
     → Some fields ≡ plain_fields type → i < length fields → f ≡ get_or fields i f → s ≡ sort_of type → StandsFor ys c (leaf (Context s)) → name ≡ f.0
-    → StandsFor zs n (field_term name sort.Bool (tree ys c)) → IsGoal type zs n
+    → StandsFor zs n (field_term name (tree ys c)) → IsGoal type zs n
 attribute_goal ys zs type fields i f s name c n plain within got sorted at named field =
     let boolean : IsBoolean (Some type) (attribute_term type f.0) = of_attribute type fields f.0 refl (sym plain) (named_there fields i f within got) in
     record { within = field.within; boolean = field_attribute type ys zs c n s name (subst (λ (x : List ℕ). IsBoolean (Some type) (attribute_term type x)) (sym named) boolean) sorted at field }

@@ -6,7 +6,7 @@ ghost use Rattle.sc_terms.specs.Tables.{Keeps};
 ghost use Rattle.sc_solver_tests.specs.Goals.{IsGoal};
 
 use sc_schema::Ty;
-use sc_sorts::{Sort, plain_fields, sort_of};
+use sc_sorts::{plain_fields, sort_of};
 use sc_terms::Terms;
 use std::alloc::{AllocError, Global};
 
@@ -23,7 +23,7 @@ fn attribute(alloc: Global, terms: &mut Terms, ty: &Ty, place: usize) -> Result<
         return Err(AllocError);
     };
     let context = terms.context(sort_of(alloc, ty)?)?;
-    let number = terms.field(context, field.0.try_clone(alloc)?, Sort::Bool)?;
+    let number = terms.field(context, field.0.try_clone(alloc)?)?;
     Ok(number)
 }
 

@@ -1,3 +1,5 @@
+pub mod Inside
+pub mod Entities
 pub mod OfTypes
 pub mod Defaults
 pub mod Order

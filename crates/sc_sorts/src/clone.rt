@@ -45,7 +45,8 @@ fn clone_fields(alloc: Global, fields: &Seq<(Text, Sort)>) -> Result<Seq<(Text, 
     Ok(copy)
 }
 
-fn clone_uids(alloc: Global, uids: &Seq<Uid>) -> Result<Seq<Uid>, AllocError>
+/// A copy of the entities that a sort lists, which equals them.
+pub fn clone_uids(alloc: Global, uids: &Seq<Uid>) -> Result<Seq<Uid>, AllocError>
     ensures { IfOk result (λ copy. copy ≡ uids.now) }
 {
     let mut copy = Seq::new(alloc);

@@ -66,8 +66,9 @@ fn is_option(sort: &Sort) -> bool
     matches!(sort, Sort::Option(_))
 }
 
-/// The default entity of a type of which these are listed.
-fn default_uid(alloc: Global, name: &Name, choices: &Seq<Uid>) -> Result<Uid, AllocError>
+/// The default entity of a type of which these are listed: the least of them, and the one with no
+/// id where none is.
+pub fn default_uid(alloc: Global, name: &Name, choices: &Seq<Uid>) -> Result<Uid, AllocError>
     ensures { IfOk result (λ u. u ≡ default_uid name.now choices.now) }
 {
     match choices.as_slice().split_first() {

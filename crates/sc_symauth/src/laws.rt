@@ -11,7 +11,7 @@ ghost use Rattle.sc_symeval.specs.Agreement.{Agrees};
 ghost use Rattle.sc_symauth.specs.Standings.{Compiled, satisfied, error, allow, any_error};
 ghost use Rattle.sc_symauth.specs.Agreement.{IsTruth, Represents};
 
-use sc_terms::{truth_laws, value_laws};
+use sc_term_laws::{truth_laws, value_laws};
 
 /// In a world in which compiled policies agree with policies, their terms are true where these are
 /// satisfied, where they err, and where they allow, and false where not.

@@ -15,8 +15,8 @@ use Rattle.sc_typed.specs.Outcomes.{ty}
 use Rattle.sc_typing_rules.specs.Operators.{negated}
 use Rattle.sc_typing_rules.specs.Rules.{or_type, and_type}
 use Rattle.sc_sound_values.proofs.ValueLaws.{by_test, Fits, true_fits, false_fits, bool_fits, fits-true, fits-false}
-use Rattle.sc_terms.specs.declared.node.UnaryOp.TheVariants.{Not}
-use Rattle.sc_terms.specs.declared.node.BinaryOp.TheVariants.{And, Or}
+use Rattle.sc_nodes.specs.declared.node.UnaryOp.TheVariants.{Not}
+use Rattle.sc_nodes.specs.declared.node.BinaryOp.TheVariants.{And, Or}
 use Rattle.sc_terms.specs.Trees.{Tree, one, two}
 use Rattle.sc_terms.specs.Folds.{not_term, and_term, or_term}
 use Rattle.sc_terms.specs.Values.{Val, it, yes, bool_seen, seen, not_seen, not_value, and_seen, and_value, or_seen, or_value, val}

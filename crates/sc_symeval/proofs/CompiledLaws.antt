@@ -31,7 +31,7 @@ use Rattle.sc_constructs.specs.Constructs as constructs
 use Rattle.sc_symeval.specs.Codes.{Code, Part, and_code, or_code, of_two, of_both, of_either, of_attribute, code_of}
 use Rattle.sc_symeval.specs.Codes as codes
 use Rattle.sc_symeval.specs.Parts.{seen, context_type}
-use Rattle.sc_terms.specs.Booleans.{attribute_term}
+use Rattle.sc_term_laws.specs.Booleans.{attribute_term}
 use Rattle.sc_symeval.proofs.CodeLaws.{opens, code_And, code_Or, code_Unary, code_Access, code_Literal}
 use Rattle.sc_symeval.proofs.StandLaws.{objects, both_shut, both_open, either_shut, either_open}
 use Rattle.sc_symeval.proofs.FieldLaws.{some_same, fields_of}

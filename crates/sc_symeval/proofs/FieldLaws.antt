@@ -1,6 +1,7 @@
 -- Attributes of a type of records that have required truth values alone.
-use Rattle.std.proofs.Common.{◌≡◌, ℕ, List, [], ◌∷◌, Bool, true, false, cond, Contains, Option, Some, None, option_map, IfSome, refl, ap, sym, subst, ◌∙◌}
+use Rattle.std.proofs.Common.{◌≡◌, ℕ, List, [], ◌∷◌, map, Bool, true, false, cond, Contains, Option, Some, None, unwrap_or, option_map, IfSome, refl, ap, sym, subst, ◌∙◌}
 use Rattle.std.specs.List.{list_all}
+use Rattle.std.specs.Map.{lookup}
 use Rattle.std.specs.Option.{option_and_then}
 use Rattle.std.specs.Str.{bytes_eq}
 use Rattle.std.proofs.lemmas.Slice.Eq.{bytes_eq-Decides}
@@ -8,13 +9,22 @@ use Rattle.std.proofs.lemmas.Bool.{and_parts}
 use Rattle.sc_lists.proofs.ListLaws.{contains_rest, contains_first}
 use Rattle.sc_schema.specs.declared.ty.Presence.{Presence}
 use Rattle.sc_schema.specs.declared.ty.Presence.TheVariants.{Required, Optional}
-use Rattle.sc_schema.specs.declared.ty.Ty.{Ty, Ty-F, out-Ty}
+use Rattle.sc_schema.specs.declared.ty.Ty.{Ty, Ty-F, out-Ty, roll-Ty, roll-out-Ty, fold-roll-Ty}
+use Rattle.sc_schema.specs.declared.ty.Ty.TheVariants as ty
+use Rattle.sc_schema.specs.declared.ty.Ty.TheVariants.{rolls-Bool, rolls-Record}
 use Rattle.sc_schema.specs.declared.ty.Ty.TheOpen as t
 use Rattle.sc_schema.specs.Declarations.{Declarations}
+use Rattle.sc_sorts.specs.declared.sort.Sort.{Sort, Sort-F}
+use Rattle.sc_sorts.specs.declared.sort.Sort.TheVariants as sort
+use Rattle.sc_sorts.specs.Inside.{fields_in, field_sort}
+use Rattle.sc_sorts.specs.OfTypes.{with_presence, sort_step, sort_of}
+use Rattle.sc_sorts.specs.OfTypes as of_types
+use Rattle.sc_sorts.proofs.OutLaws.{out_Record}
+use Rattle.sc_sorts.proofs.OfTypesLaws.{sort_of_Record}
 use Rattle.sc_sorts.specs.Plain.{Field, is_bool, is_required, is_bool_field, plain_in, plain_fields}
 use Rattle.sc_typed.specs.declared.typed_expr.TypedExpr.{TypedExpr, out-TypedExpr}
 use Rattle.sc_typed.specs.Types.{same_presence, is_boolean, is_boolean_in, attributes_in, attributes, attribute}
-use Rattle.sc_terms.specs.Booleans.{attribute_term, names_of}
+use Rattle.sc_term_laws.specs.Booleans.{attribute_term, names_of}
 use Rattle.sc_symeval.specs.Codes.{Code, always, of_attribute, of_access}
 use Rattle.sc_symeval.specs.Parts.{seen, context_type}
 use Rattle.sc_symeval.proofs.StandLaws.{objects}
@@ -70,6 +80,31 @@ required_is : (p : Presence) → is_required p ≡ true → same_presence p Requ
 required_is Required h = refl
 required_is Optional h = absurd cc
 
+-- ---- the sorts
+
+bool_type : (y : Ty-F Ty) → is_bool y ≡ true → y ≡ t.Bool
+bool_type t.Bool h = refl
+bool_type _ h = absurd cc
+
+sort_of_Bool : sort_of ty.Bool ≡ sort.Bool
+unfolding sort_of
+sort_of_Bool = ap sort_of (sym rolls-Bool) ∙ fold-roll-Ty Sort sort_step t.Bool
+
+-- the sort of a required truth value
+bool_sort : (p : Presence) (u : Ty) → is_required p ≡ true → is_bool (out-Ty u) ≡ true → with_presence p (sort_of u) ≡ sort.Bool
+bool_sort Required u h k = ap sort_of (sym (roll-out-Ty u) ∙ ap roll-Ty (bool_type (out-Ty u) k) ∙ rolls-Bool) ∙ sort_of_Bool
+bool_sort Optional u h k = absurd cc
+
+-- the sort that a record's sort has for a field of its type
+sort_by : (b : Bool) (g f : Field) (later : Option Field) (sorts : Option Sort) → cond b (Some g) later ≡ Some f → (later ≡ Some f → sorts ≡ Some (of_types.field_sort f).1)
+    → cond b (Some (of_types.field_sort g).1) sorts ≡ Some (of_types.field_sort f).1
+sort_by true g f later sorts h next = let same : g ≡ f = cc in ap (λ (k : Field). Some (of_types.field_sort k).1) same
+sort_by false g f later sorts h next = next h
+
+sort_found : (name : List ℕ) (fields : List Field) (f : Field) → attribute name fields ≡ Some f → lookup (bytes_eq name) (map of_types.field_sort fields) ≡ Some (of_types.field_sort f).1
+sort_found name [] f h = absurd cc
+sort_found name (g ∷ fields) f h = sort_by (bytes_eq name g.0) g f (attribute name fields) (lookup (bytes_eq name) (map of_types.field_sort fields)) h (sort_found name fields f)
+
 -- an attribute of such a type
 pub record IsField (s : Declarations) (type : Ty) (name : List ℕ) (fields : List Field) (f : Field) : Type 0 where
   pub plain : plain_fields type ≡ Some fields
@@ -78,12 +113,31 @@ pub record IsField (s : Declarations) (type : Ty) (name : List ℕ) (fields : Li
   pub required : same_presence f.1 Required ≡ true
   pub boolean : is_boolean f.2 ≡ true
   pub bool : is_bool (out-Ty f.2) ≡ true
+  pub sorts : sort_of type ≡ sort.Record (map of_types.field_sort fields)
+  pub sort_is : lookup (bytes_eq name) (map of_types.field_sort fields) ≡ Some sort.Bool
 
 field_is : (s : Declarations) (type : Ty) (name : List ℕ) (fields : List Field) (f : Field) → plain_fields type ≡ Some fields → attribute name fields ≡ Some f → IsField s type name fields f
 field_is s type name fields f h k =
     let p = fields_of (out-Ty type) fields h in
     let q = and_parts (is_required f.1) (is_bool (out-Ty f.2)) (found_bool name fields f p.all k) in
-    record { plain = h; declared = ap (attributes_in s) p.is; found = k; required = required_is f.1 q.0; boolean = bool_is_boolean (out-Ty f.2) q.1; bool = q.1 }
+    let type_is : type ≡ ty.Record fields = sym (roll-out-Ty type) ∙ ap roll-Ty p.is ∙ rolls-Record fields in
+    record {
+      plain = h;
+      declared = ap (attributes_in s) p.is;
+      found = k;
+      required = required_is f.1 q.0;
+      boolean = bool_is_boolean (out-Ty f.2) q.1;
+      bool = q.1;
+      sorts = ap sort_of type_is ∙ sort_of_Record fields;
+      sort_is = sort_found name fields f k ∙ ap Some (bool_sort f.1 f.2 q.0 q.1);
+    }
+
+-- its sort in that of the type
+pub attribute_sort : (s : Declarations) (type : Ty) (name : List ℕ) (fields : List Field) (f : Field) → IsField s type name fields f → field_sort name (sort_of type) ≡ sort.Bool
+attribute_sort s type name fields f found =
+    ap (field_sort name) found.sorts
+    ∙ ap (λ (k : Sort-F Sort). unwrap_or (lookup (bytes_eq name) (fields_in k)) sort.Bool) (out_Record (map of_types.field_sort fields))
+    ∙ ap (λ (o : Option Sort). unwrap_or o sort.Bool) found.sort_is
 
 -- ---- what is compiled
 

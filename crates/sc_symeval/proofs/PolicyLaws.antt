@@ -3,7 +3,7 @@ use Rattle.std.proofs.Common.{◌≡◌, List, [], Option, Some, None, Result, O
 use Rattle.sc_ast.specs.declared.policy.Policy.{Policy}
 use Rattle.sc_ast.specs.Conditions.{condition}
 use Rattle.sc_schema.specs.declared.declarations.Env.{Env}
-use Rattle.sc_schema.specs.Declarations.{Declarations, context_of}
+use Rattle.sc_schema.specs.Declarations.{Declarations}
 use Rattle.sc_schema.specs.declared.ty.Ty.{Ty}
 use Rattle.sc_names.specs.declared.uid.Uid.{Uid}
 use Rattle.sc_world.specs.declared.world.World.{World}
@@ -17,17 +17,16 @@ use Rattle.sc_typed.specs.Types.{is_boolean}
 use Rattle.sc_typed.proofs.OutcomeLaws.{through, checked, weaker}
 use Rattle.sc_typing.specs.Typing.{typing}
 use Rattle.sc_typing.specs.Policies.{asked, typed_policy}
-use Rattle.sc_terms.specs.declared.node.UnaryOp.TheVariants.{Not}
-use Rattle.sc_terms.specs.declared.node.BinaryOp.TheVariants.{And, Or}
+use Rattle.sc_nodes.specs.declared.node.UnaryOp.TheVariants.{Not}
+use Rattle.sc_nodes.specs.declared.node.BinaryOp.TheVariants.{And, Or}
 use Rattle.sc_terms.specs.Trees.{Tree, one, two}
 use Rattle.sc_terms.specs.Folds.{not_term, and_term, or_term}
 use Rattle.sc_terms.specs.Values.{val}
-use Rattle.sc_terms.specs.Booleans.{IsBoolean}
 use Rattle.sc_symeval.specs.Codes.{Code, code_of}
 use Rattle.sc_symeval.specs.Compiling.{code_typed, policy_code}
 use Rattle.sc_symeval.specs.Agreement.{Agrees}
 use Rattle.sc_symeval.proofs.RuleLaws.{Ruled, ruled}
-use Rattle.sc_symeval.proofs.BooleanLaws.{AreBoolean, boolean_code}
+use Rattle.sc_symeval.proofs.BooleanLaws.{IsKept, each_code}
 use Rattle.sc_symeval.proofs.AgreeLaws.{Tells}
 use Rattle.sc_symeval.proofs.TellLaws.{tells}
 
@@ -49,10 +48,11 @@ of_code P (Err fault) c h at = absurd cc
 
 -- ---- the laws
 
-pub policy_boolean : (s : Declarations) (env : Env) (p : Policy) (c : Code) → policy_code s env p ≡ Some c → IsBoolean (context_of s env.action) c.ok × IsBoolean (context_of s env.action) c.val
-policy_boolean s env p c at =
-    of_code (AreBoolean (context_of s env.action)) (typed_policy s env p) c
-    (weaker (λ (x : TypedExpr). Ruled s env (condition p) [] x) (λ (x : TypedExpr). IfSome (code_of x) (AreBoolean (context_of s env.action))) (typed_policy s env p) (λ x r. boolean_code s env r) (policy_ruled s env p)) at
+-- both terms of a policy are of a kind that keeps connectives
+pub policy_of : (s : Declarations) (env : Env) (Is : Tree → Type 0) → IsKept s env Is → (p : Policy) (c : Code) → policy_code s env p ≡ Some c → Is c.ok × Is c.val
+policy_of s env Is kept p c at =
+    of_code (λ (d : Code). Is d.ok × Is d.val) (typed_policy s env p) c
+    (weaker (λ (x : TypedExpr). Ruled s env (condition p) [] x) (λ (x : TypedExpr). IfSome (code_of x) (λ (d : Code). Is d.ok × Is d.val)) (typed_policy s env p) (λ x r. each_code s env Is kept r) (policy_ruled s env p)) at
 
 module _ (not_is : (a : Tree) (w : World) → val (not_term a) w ≡ val (one Not a) w) (and_is : (a b : Tree) (w : World) → val (and_term a b) w ≡ val (two And a b) w) (or_is : (a b : Tree) (w : World) → val (or_term a b) w ≡ val (two Or a b) w) where
   pub policy_agrees : (s : Declarations) (env : Env) (literals : List Uid) (w : World) (p : Policy) (c : Code) → IsWellFormed s env literals w → policy_code s env p ≡ Some c → Agrees w c (eval (condition p) w)

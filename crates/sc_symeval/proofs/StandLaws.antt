@@ -18,7 +18,7 @@ use Rattle.sc_typed.specs.declared.typed_expr.TypedExpr.TheOpen as t
 use Rattle.sc_typed.specs.declared.typed_expr.TypedExpr.TheVariants as typed
 use Rattle.sc_typed.specs.Types.{is_true, is_false}
 use Rattle.sc_typed.specs.Outcomes.{ty}
-use Rattle.sc_terms.specs.declared.node.Node.{Node}
+use Rattle.sc_nodes.specs.declared.node.Node.{Node}
 use Rattle.sc_terms.specs.Trees.{Tree}
 use Rattle.sc_terms.specs.Tables.{tree, Keeps, StandsFor}
 use Rattle.sc_terms.specs.Folds.{not_term}

@@ -21,6 +21,8 @@ use Rattle.sc_schema.specs.Declarations.{Declarations, context_of}
 use Rattle.sc_sorts.specs.declared.sort.Sort.{Sort}
 use Rattle.sc_sorts.specs.declared.sort.Sort.TheVariants as sort
 use Rattle.sc_sorts.specs.Defaults.{is_option, is_option_level}
+use Rattle.sc_sorts.specs.Inside.{field_sort}
+use Rattle.sc_sorts.specs.OfTypes.{sort_of}
 use Rattle.sc_sorts.proofs.OutLaws.{out_Bool}
 use Rattle.sc_values.specs.declared.value.Value.{Value}
 use Rattle.sc_values.specs.declared.value.Value.TheVariants as value
@@ -49,19 +51,21 @@ use Rattle.sc_sound_values.specs.Sound.{IsOf}
 use Rattle.sc_sound_values.proofs.ValueLaws.{truth_fits, boolean}
 use Rattle.sc_sound_values.proofs.ObjectLaws.{has_declared, value_declared}
 use Rattle.sc_sound_values.proofs.LiteralLaws.{literals-same}
-use Rattle.sc_terms.specs.declared.node.UnaryOp.TheVariants as unary
-use Rattle.sc_terms.specs.declared.node.BinaryOp.TheVariants as two_op
+use Rattle.sc_nodes.specs.declared.node.UnaryOp.TheVariants as unary
+use Rattle.sc_nodes.specs.declared.node.BinaryOp.TheVariants as two_op
 use Rattle.sc_terms.specs.Trees.{Tree, one, two}
 use Rattle.sc_terms.specs.Folds.{not_term, and_term, or_term}
-use Rattle.sc_terms.specs.Booleans.{attribute_term}
-use Rattle.sc_terms.specs.Values.{it, fields_seen, field_seen, val}
+use Rattle.sc_term_laws.specs.Booleans.{context_term, attribute_term}
+use Rattle.sc_terms.specs.Values.{it, fields_seen, field_seen, field_value, val}
+use Rattle.sc_terms.specs.TreeSorts.{tree_sort}
+use Rattle.sc_terms.proofs.RecordValues.{field_is}
 use Rattle.sc_symeval.specs.Codes.{Code, always, constant, not_code, of_both, of_either, of_equation, is_literal, are_literals, code_of}
 use Rattle.sc_symeval.specs.Codes as codes
 use Rattle.sc_symeval.specs.Parts.{seen}
 use Rattle.sc_symeval.proofs.CodeLaws.{code_And, code_Or, code_Unary, code_Binary, code_Access, code_Literal, code_Variable}
 use Rattle.sc_symeval.proofs.StandLaws.{both_shut, both_open, either_shut, either_open}
 use Rattle.sc_symeval.proofs.OtherLaws.{other_code}
-use Rattle.sc_symeval.proofs.FieldLaws.{some_same, IsField, attribute_code, access_code}
+use Rattle.sc_symeval.proofs.FieldLaws.{some_same, IsField, attribute_sort, attribute_code, access_code}
 use Rattle.sc_symeval.proofs.LeafLaws.{IsContext, IsLiteral, written, acted, leaf_of, literal_leaf, context_leaf}
 use Rattle.sc_symeval.proofs.RuleLaws.{act, act_Literal, act_action, HasAttribute, Ruled, of_or_skipped, of_or, of_and_skipped, of_and, of_equal, of_not, of_access, of_literal, of_action, of_variable, of_other}
 use Rattle.sc_symeval.proofs.AgreeLaws.{Tells, constant_tells, not_tells, both_tell, either_tells, and_skips, or_skips}
@@ -83,10 +87,12 @@ read_there (Some x) y h = let is : x ≡ y = cc in ap Some is
 read_there None y h = absurd cc
 
 -- the value of an attribute's term
-attribute_val : (w : World) (type : Ty) (name : List ℕ) (y : Value) → field name w.request.context ≡ Some y → val (attribute_term type name) w ≡ it y
-unfolding val
-attribute_val w type name y h =
-    ap (λ (fs : Fields). field_seen (is_option sort.Bool) sort.Bool (field name fs)) (ap fields_seen (out_Record w.request.context))
+attribute_val : (w : World) (type : Ty) (name : List ℕ) (y : Value) → field_sort name (sort_of type) ≡ sort.Bool → field name w.request.context ≡ Some y → val (attribute_term type name) w ≡ it y
+unfolding val tree_sort
+attribute_val w type name y of_sort h =
+    field_is name (context_term type) w tt
+    ∙ ap (λ (k : Sort). field_value name k (it (value.Record w.request.context))) of_sort
+    ∙ ap (λ (fs : Fields). field_seen (is_option sort.Bool) sort.Bool (field name fs)) (ap fields_seen (out_Record w.request.context))
     ∙ ap (λ (b : Bool). field_seen b sort.Bool (field name w.request.context)) (ap (is_option_level Sort) out_Bool)
     ∙ ap (λ (o : Option Value). field_seen false sort.Bool o) h
 
@@ -150,7 +156,7 @@ module _ (s : Declarations) (env : Env) (literals : List Uid) (w : World) (well 
         let q = boolean f.2 p.0 found.boolean p.2.conforming in
         let there = read_there (field name w.request.context) p.0 (sym (ap (access_in name w) (out_Record w.request.context)) ∙ p.1) in
         subst (Tells w f.2 (always (attribute_term (variable_type s env Context) name))) (sym p.1)
-        (record { agrees = (refl, attribute_val w (variable_type s env Context) name p.0 there); typed = (q.0, q.1, subst (λ v. IsTrue (conforms f.2 v)) q.1 p.2.conforming) })
+        (record { agrees = (refl, attribute_val w (variable_type s env Context) name p.0 (attribute_sort s (variable_type s env Context) name fields f found) there); typed = (q.0, q.1, subst (λ v. IsTrue (conforms f.2 v)) q.1 p.2.conforming) })
 
   -- an attribute that is compiled has the type that typing found
   type_found : (name : List ℕ) (type object : Ty) (fields : List Field) (f : Field) → IsField s object name fields f → HasAttribute s object name type → f.2 ≡ type

@@ -18,7 +18,7 @@ use Rattle.sc_typed.specs.declared.typed_expr.TypedExpr.{TypedExpr, TypedExpr-F,
 use Rattle.sc_typed.specs.declared.typed_expr.TypedExpr.TheOpen as t
 use Rattle.sc_terms.specs.Trees.{Tree}
 use Rattle.sc_terms.specs.Folds.{truth_term, not_term, and_term, or_term}
-use Rattle.sc_terms.specs.Booleans.{attribute_term}
+use Rattle.sc_term_laws.specs.Booleans.{attribute_term}
 
 -- where there is no error, and the value there
 pub record Code : Type 0 where

@@ -6,7 +6,7 @@ use Rattle.sc_schema.specs.Declarations.{Declarations}
 use Rattle.sc_typed.specs.declared.fault.TypeFault.{TypeFault}
 use Rattle.sc_typed.specs.declared.typed_expr.TypedExpr.{TypedExpr}
 use Rattle.sc_typing.specs.Policies.{typed_policy}
-use Rattle.sc_terms.specs.declared.node.Node.{Node}
+use Rattle.sc_nodes.specs.declared.node.Node.{Node}
 use Rattle.sc_terms.specs.Tables.{StandsFor}
 use Rattle.sc_symeval.specs.Codes.{Code, code_of}
 use Rattle.sc_symeval.specs.declared.opt.Opt.{Opt}

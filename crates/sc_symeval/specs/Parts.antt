@@ -4,7 +4,7 @@ use Rattle.sc_ast.specs.declared.expr.Variable.TheVariants.{Context}
 use Rattle.sc_schema.specs.declared.ty.Ty.{Ty}
 use Rattle.sc_typed.specs.declared.typed_expr.TypedExpr.{TypedExpr, TypedExpr-F}
 use Rattle.sc_typed.specs.declared.typed_expr.TypedExpr.TheOpen as t
-use Rattle.sc_terms.specs.declared.node.Node.{Node}
+use Rattle.sc_nodes.specs.declared.node.Node.{Node}
 use Rattle.sc_terms.specs.Tables.{tree}
 use Rattle.sc_symeval.specs.Codes.{Code, Part, code, code_of}
 use Rattle.sc_symeval.specs.declared.opt.Opt.{Opt}

@@ -3,7 +3,7 @@ ghost use Rattle.std.specs.Prelude.{◌≡◌, ◌<◌, Some, length, option_map
 ghost use Rattle.std.specs.Option.{option_copied};
 ghost use Rattle.sc_typed.specs.declared.typed_expr.TypedExpr.{out-TypedExpr};
 ghost use Rattle.sc_terms.specs.Tables.{Keeps};
-ghost use Rattle.sc_terms.specs.Booleans.{attribute_term};
+ghost use Rattle.sc_term_laws.specs.Booleans.{attribute_term};
 ghost use Rattle.sc_symeval.specs.Codes.{always, constant as constant_code, and_code, or_code, of_both, of_either, of_unary, of_binary, of_equation, of_attribute, of_access, of_literal, is_literal as literal_is, are_literals, code_of};
 ghost use Rattle.sc_symeval.specs.Compiling.{StandsAs, StandsIf};
 ghost use Rattle.sc_symeval.specs.Parts.{seen, code_at, context_type};
@@ -12,7 +12,7 @@ use crate::opt::Opt;
 use sc_ast::{BinaryOperator, Literal, UnaryOperator, Variable};
 use sc_lists::Text;
 use sc_schema::{Env, Schema, Ty};
-use sc_sorts::{Sort, plain_fields, sort_of};
+use sc_sorts::{plain_fields, sort_of};
 use sc_terms::Terms;
 use sc_typed::operands::{is_false, is_true};
 use sc_typed::types::attribute;
@@ -309,6 +309,6 @@ fn read(alloc: Global, terms: &mut Terms, name: &Text, ty: &Ty) -> Result<Opt, A
     let sort = sort_of(alloc, ty)?;
     let context = terms.context(sort)?;
     let name = name.try_clone(alloc)?;
-    let val = terms.field(context, name, Sort::Bool)?;
+    let val = terms.field(context, name)?;
     Ok(Opt { ok, val })
 }

@@ -22,7 +22,7 @@ fn attribute(alloc: Global, terms: &mut Terms, name: &str) -> Result<u64, AllocE
     ensures longer { length terms.old ≤ length terms.new }
 {
     let context = terms.context(Sort::Record(Seq::new(alloc)))?;
-    terms.field(context, Text::from_str(alloc, name)?, Sort::Bool)
+    terms.field(context, Text::from_str(alloc, name)?)
 }
 
 /// The term of a letter.
@@ -209,8 +209,7 @@ fn is_of_users(sort: &Sort) -> bool {
 fn is_user(alloc: Global, text: &str) -> Result<bool, AllocError> {
     let mut terms = Terms::new(alloc)?;
     let number = number_of(alloc, &mut terms, text)?;
-    let sort = terms.sort(alloc, number)?;
-    Ok(is_of_users(&sort))
+    Ok(is_of_users(terms.sort(number)))
 }
 
 #[test]

@@ -1,19 +1,15 @@
 -- What a node's place in a table tells of its term.
-use Rattle.std.proofs.Common.{◌≡◌, ◌≢◌, ◌<◌, ◌+◌, ◌++◌, ℕ, zero, suc, false, List, [], ◌∷◌, Some, length, slice_get, get_or, refl, sym, ap, ◌∙◌, subst, arith, length-append}
+use Rattle.std.proofs.Common.{◌≡◌, ◌≢◌, ◌<◌, ◌++◌, ℕ, zero, suc, false, List, [], ◌∷◌, Some, length, slice_get, get_or, refl, sym, ap, ◌∙◌, subst, arith, length-append}
 use Rattle.std.proofs.lemmas.List.Quantifiers.{position-Some}
 use Rattle.std.specs.List.{list_any, position}
 use Rattle.std.proofs.lemmas.Option.{slice_get-get_or}
 use Rattle.indexmap.specs.IndexSet.{insert_key}
-use Rattle.sc_terms.specs.declared.node.Node.{Node}
-use Rattle.sc_terms.specs.contracts.node.NodePartialEq.TheImpl.{ghosts as node_eq}
-use Rattle.sc_terms.specs.contracts.node.NodeEq.TheImpl.Laws.{laws-law}
-use Rattle.sc_terms.proofs.SameLaws.{same_node}
-use Rattle.sc_terms.proofs.TableLaws.{tree_is, keeps_append, table_insert, stands_insert}
+use Rattle.sc_nodes.specs.declared.node.Node.{Node}
+use Rattle.sc_nodes.specs.contracts.node.NodePartialEq.TheImpl.{ghosts as node_eq}
+use Rattle.sc_nodes.specs.contracts.node.NodeEq.TheImpl.Laws.{laws-law}
+use Rattle.sc_nodes.specs.Same.{same_node}
+use Rattle.sc_terms.proofs.TableLaws.{slice_get-end, tree_is, keeps_append, table_insert, stands_insert}
 use Rattle.sc_terms.specs.Tables.{tree, node_tree, PartsAreBelow, IsTable, StandsFor}
-
-slice_get-end : {X : Type 0} (xs : List X) (v : X) → slice_get (xs ++ v ∷ []) (length xs) ≡ Some v
-slice_get-end [] v = refl
-slice_get-end (x ∷ xs) v = slice_get-end xs v
 
 module _ (xs : List Node) (v : Node) (t : IsTable xs) where
   pub found_at : (n : ℕ) → position (node_eq.eq v) xs ≡ Some n → StandsFor xs n (node_tree xs v)

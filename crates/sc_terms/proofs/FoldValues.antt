@@ -1,22 +1,28 @@
 -- The values of folded terms: what the plain term has.
-use Rattle.std.proofs.Common.{◌≡◌, ℕ, Bool, true, false, not, cond, ◌&&◌, ◌||◌, List, Option, Some, None, IfOk, unwrap_or, refl, sym, ap, ◌∙◌}
-use Rattle.std.specs.Prelude.{Result, Ok, Err}
+use Rattle.std.proofs.Common.{◌≡◌, ℕ, Bool, true, false, not, cond, ◌&&◌, ◌||◌, Option, Some, None, unwrap_or, List, Result, Ok, Err, IfOk, refl, sym, ap, ◌∙◌}
 use Rattle.sc_values.specs.declared.value.Value.{Value, Value-F, out-Value, roll-Value, roll-out-Value}
 use Rattle.sc_values.specs.declared.value.Value.TheOpen as v
 use Rattle.sc_values.specs.declared.value.Value.TheVariants.{rolls-Bool}
-use Rattle.sc_values.proofs.OutLaws.{out_Bool}
+use Rattle.sc_values.proofs.OutLaws.{out_Bool, out_Long, out_Decimal, out_Ip, out_String, out_Entity}
 use Rattle.sc_world.specs.declared.world.World.{World}
-use Rattle.sc_terms.specs.declared.node.Node.{Node}
 use Rattle.sc_sorts.specs.declared.sort.Sort.{Sort}
-use Rattle.sc_terms.specs.declared.node.Leaf.{Leaf}
-use Rattle.sc_terms.specs.declared.node.Leaf.TheVariants as leafs
-use Rattle.sc_terms.specs.declared.node.Literal.TheVariants as literal
-use Rattle.sc_terms.specs.declared.node.UnaryOp.TheVariants as unary
-use Rattle.sc_terms.specs.Trees.{Tree, leaf, one, two, choice}
-use Rattle.sc_terms.specs.Tables.{StandsFor}
+use Rattle.sc_nodes.specs.declared.node.Leaf.TheVariants as leafs
+use Rattle.sc_nodes.specs.declared.node.Literal.{Literal}
+use Rattle.sc_nodes.specs.declared.node.Literal.TheVariants as literal
+use Rattle.sc_nodes.specs.declared.node.UnaryOp.TheVariants as unary
+use Rattle.sc_nodes.specs.declared.node.Node.{Node}
+use Rattle.sc_nodes.specs.declared.node.Leaf.{Leaf}
+use Rattle.sc_nodes.specs.declared.node.UnaryOp.{UnaryOp}
+use Rattle.sc_nodes.specs.declared.node.BinaryOp.{BinaryOp}
+use Rattle.sc_nodes.specs.declared.node.ManyOp.{ManyOp}
+use Rattle.sc_nodes.specs.Literals.{literal_bit, literal_like}
+use Rattle.sc_pattern.specs.declared.part.Part.{Part}
+use Rattle.sc_terms.specs.Tables.{tree, StandsFor}
+use Rattle.sc_terms.specs.TreeSorts.{tree_sort}
+use Rattle.sc_terms.specs.Trees.{Tree, leaf, one, two, choice, many, Trees}
 use Rattle.sc_terms.specs.Order.{tree_eq}
-use Rattle.sc_terms.specs.Folds.{truth_term, constant, under_not, not_by, not_term, and_by, and_term, or_by, or_term, choice_by, choice_term, field_term}
-use Rattle.sc_terms.specs.Values.{Val, it, maybe, yes, truth, val, bool_seen, seen, not_seen, not_value, and_seen, and_value, or_seen, or_value, choice_value, field_value, leaf_value, HasValue}
+use Rattle.sc_terms.specs.Folds.{constant, under_not, not_by, not_term, and_by, and_term, or_by, or_term, choice_by, choice_term, absent, present_by, present_term, literal_of, bit_by, bit_term, like_by, like_term, truth_term}
+use Rattle.sc_terms.specs.Values.{Val, it, maybe, yes, truth, val, bool_seen, bit_seen, literal_value, seen, not_seen, not_value, and_seen, and_value, or_seen, or_value, choice_value, like_seen, leaf_value, one_value, two_value, many_value, operands, vals, HasValue}
 use Rattle.sc_terms.proofs.OrderLaws.{tree_eq-exact}
 
 -- ---- truth values
@@ -24,12 +30,19 @@ use Rattle.sc_terms.proofs.OrderLaws.{tree_eq-exact}
 pub constant_value : (a : Tree) (b : Bool) (w : World) → constant a ≡ Some b → val a w ≡ yes b
 unfolding val
 constant_value (leaf (leafs.Literal (literal.Bool c))) b w h = let e : c ≡ b = cc in ap yes e
+constant_value (leaf (leafs.Literal (literal.Long n))) b w h = cc
+constant_value (leaf (leafs.Literal (literal.String x))) b w h = cc
+constant_value (leaf (leafs.Literal (literal.Decimal n))) b w h = cc
+constant_value (leaf (leafs.Literal (literal.Ip x))) b w h = cc
+constant_value (leaf (leafs.Literal (literal.Entity u us))) b w h = cc
+constant_value (leaf (leafs.None s)) b w h = cc
 constant_value (leaf (leafs.Principal s)) b w h = cc
 constant_value (leaf (leafs.Resource s)) b w h = cc
 constant_value (leaf (leafs.Context s)) b w h = cc
 constant_value (one o a) b w h = cc
 constant_value (two o c d) b w h = cc
 constant_value (choice c d e) b w h = cc
+constant_value (many o ts) b w h = cc
 
 pub seen_yes : (b : Bool) → seen (yes b) ≡ Some b
 seen_yes b = ap bool_seen (out_Bool b)
@@ -77,10 +90,21 @@ not_twice x = by (seen x) refl
 
 under : (a b : Tree) → under_not a ≡ Some b → a ≡ one unary.Not b
 under (one unary.Not t) b e = cc
-under (one (unary.Field name s) t) b e = cc
+under (one (unary.Bit i) t) b e = cc
+under (one (unary.CarryIn i) t) b e = cc
+under (one (unary.ProductRow i j) t) b e = cc
+under (one (unary.ProductCarry i j) t) b e = cc
+under (one (unary.Attributes s) t) b e = cc
+under (one (unary.Ancestors s) t) b e = cc
+under (one unary.Keys t) b e = cc
+under (one (unary.Field n) t) b e = cc
+under (one unary.Present t) b e = cc
+under (one unary.Held t) b e = cc
+under (one (unary.Like p) t) b e = cc
 under (leaf l) b e = cc
 under (two o c d) b e = cc
 under (choice c d f) b e = cc
+under (many o ts) b e = cc
 
 pub not_is : (a : Tree) (w : World) → val (not_term a) w ≡ not_value (val a w)
 unfolding not_term val not_value
@@ -198,12 +222,73 @@ or_truth x y = by (seen x) (seen y) refl refl
     by None (Some false) e f = rw (truth_unseen x e, seen_is y false f, truth_yes false) refl
     by None None e f = rw (truth_unseen x e, truth_unseen y f) refl
 
--- ---- the value of a number's term
+-- ---- options, bits and patterns
 
--- what stands for a term has its value
-pub valued : {E : Type 0} (xs : List Node) (r : Result ℕ E) (t : Tree) (f : World → Val) → ((w : World) → val t w ≡ f w) → IfOk r (λ n. StandsFor xs n t) → IfOk r (λ n. HasValue xs n f)
-valued xs (Ok n) t f same h = record { at = λ w. ap (λ (x : Tree). val x w) h.is ∙ same w }
-valued xs (Err e) t f same h = tt
+absent_is : (a : Tree) (held : Sort) (w : World) → absent a ≡ Some held → val a w ≡ maybe None
+unfolding val
+absent_is (leaf (leafs.None s)) held w h = refl
+absent_is (leaf (leafs.Literal l)) held w h = cc
+absent_is (leaf (leafs.Principal s)) held w h = cc
+absent_is (leaf (leafs.Resource s)) held w h = cc
+absent_is (leaf (leafs.Context s)) held w h = cc
+absent_is (one o a) held w h = cc
+absent_is (two o a b) held w h = cc
+absent_is (choice c a b) held w h = cc
+absent_is (many o ts) held w h = cc
+
+pub present_is : (a : Tree) (w : World) → val (present_term a) w ≡ val (one unary.Present a) w
+unfolding present_term val
+present_is a w = by (absent a) refl
+  where
+    by : (o : Option Sort) → absent a ≡ o → val (present_by o a) w ≡ val (one unary.Present a) w
+    by (Some held) e = rw (absent_is a held w e) refl
+    by None e = refl
+
+pub literal_is : (a : Tree) (l : Literal) (w : World) → literal_of a ≡ Some l → val a w ≡ it (literal_value l)
+unfolding val
+literal_is (leaf (leafs.Literal m)) l w h = let e : m ≡ l = cc in ap (λ (z : Literal). it (literal_value z)) e
+literal_is (leaf (leafs.None s)) l w h = cc
+literal_is (leaf (leafs.Principal s)) l w h = cc
+literal_is (leaf (leafs.Resource s)) l w h = cc
+literal_is (leaf (leafs.Context s)) l w h = cc
+literal_is (one o a) l w h = cc
+literal_is (two o a b) l w h = cc
+literal_is (choice c a b) l w h = cc
+literal_is (many o ts) l w h = cc
+
+bits_are : (l : Literal) (i : ℕ) → literal_bit l i ≡ bit_seen (out-Value (literal_value l)) i
+bits_are (literal.Bool b) i = ap (λ (z : Value-F Value). bit_seen z i) (sym (out_Bool b))
+bits_are (literal.Long n) i = ap (λ (z : Value-F Value). bit_seen z i) (sym (out_Long n))
+bits_are (literal.String x) i = ap (λ (z : Value-F Value). bit_seen z i) (sym (out_String x))
+bits_are (literal.Decimal n) i = ap (λ (z : Value-F Value). bit_seen z i) (sym (out_Decimal n))
+bits_are (literal.Ip x) i = ap (λ (z : Value-F Value). bit_seen z i) (sym (out_Ip x))
+bits_are (literal.Entity u us) i = ap (λ (z : Value-F Value). bit_seen z i) (sym (out_Entity u))
+
+pub bit_is : (a : Tree) (i : ℕ) (w : World) → val (bit_term a i) w ≡ val (one (unary.Bit i) a) w
+unfolding bit_term val
+bit_is a i w = by (literal_of a) refl
+  where
+    by : (o : Option Literal) → literal_of a ≡ o → val (bit_by o a i) w ≡ val (one (unary.Bit i) a) w
+    by (Some l) e = rw (literal_is a l w e) (ap yes (bits_are l i))
+    by None e = refl
+
+likes_are : (l : Literal) (p : List Part) → literal_like l p ≡ like_seen (out-Value (literal_value l)) p
+likes_are (literal.Bool b) p = ap (λ (z : Value-F Value). like_seen z p) (sym (out_Bool b))
+likes_are (literal.Long n) p = ap (λ (z : Value-F Value). like_seen z p) (sym (out_Long n))
+likes_are (literal.String x) p = ap (λ (z : Value-F Value). like_seen z p) (sym (out_String x))
+likes_are (literal.Decimal n) p = ap (λ (z : Value-F Value). like_seen z p) (sym (out_Decimal n))
+likes_are (literal.Ip x) p = ap (λ (z : Value-F Value). like_seen z p) (sym (out_Ip x))
+likes_are (literal.Entity u us) p = ap (λ (z : Value-F Value). like_seen z p) (sym (out_Entity u))
+
+pub like_is : (a : Tree) (p : List Part) (w : World) → val (like_term a p) w ≡ val (one (unary.Like p) a) w
+unfolding like_term val
+like_is a p w = by (literal_of a) refl
+  where
+    by : (o : Option Literal) → literal_of a ≡ o → val (like_by o a p) w ≡ val (one (unary.Like p) a) w
+    by (Some l) e = rw (literal_is a l w e) (ap yes (likes_are l p))
+    by None e = refl
+
+-- ---- terms of which nothing folds
 
 pub truth_is : (b : Bool) (w : World) → val (truth_term b) w ≡ yes b
 unfolding val
@@ -213,6 +298,23 @@ pub leaf_is : (l : Leaf) (w : World) → val (leaf l) w ≡ leaf_value l w
 unfolding val
 leaf_is l w = refl
 
-pub field_is : (name : List ℕ) (s : Sort) (a : Tree) (w : World) → val (field_term name s a) w ≡ field_value name s (val a w)
+pub one_is : (o : UnaryOp) (a : Tree) (w : World) → val (one o a) w ≡ one_value o (tree_sort a) (operands a w) (val a w) w
 unfolding val
-field_is name s a w = refl
+one_is o a w = refl
+
+pub two_is : (o : BinaryOp) (a b : Tree) (w : World) → val (two o a b) w ≡ two_value o (tree_sort a) (val a w) (val b w) w
+unfolding val
+two_is o a b w = refl
+
+pub many_is : (o : ManyOp) (ts : Trees) (w : World) → val (many o ts) w ≡ many_value o (vals ts w)
+unfolding val
+many_is o ts w = refl
+
+-- ---- the value of a number
+
+pub has_value : (xs : List Node) (n : ℕ) (t : Tree) (f : World → Val) → ((w : World) → val t w ≡ f w) → StandsFor xs n t → HasValue xs n f
+has_value xs n t f same h = record { at = λ w. ap (λ (x : Tree). val x w) h.is ∙ same w }
+
+pub valued : {E : Type 0} (xs : List Node) (r : Result ℕ E) (t : Tree) (f : World → Val) → ((w : World) → val t w ≡ f w) → IfOk r (λ n. StandsFor xs n t) → IfOk r (λ n. HasValue xs n f)
+valued xs (Ok n) t f same h = has_value xs n t f same h
+valued xs (Err e) t f same h = tt

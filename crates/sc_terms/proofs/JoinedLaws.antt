@@ -2,9 +2,11 @@
 use Rattle.std.proofs.Common.{◌≡◌, ℕ, zero, suc, ◌+◌, ◌-◌, ◌/◌, ◌<◌, ◌≤◌, Bool, true, false, ◌&&◌, ◌||◌, List, [], ◌∷◌, ◌++◌, length, take, drop, map, All, refl, sym, ap, ◌∙◌, arith, length-drop, take-append-drop}
 use Rattle.std.specs.List.{list_all, list_any}
 use Rattle.std.proofs.lemmas.List.Elements.{All-from_recursion}
+use Rattle.std.proofs.lemmas.List.Folds.{list_all-append, list_any-append}
+use Rattle.sc_lists.proofs.BoolLaws.{or_false}
 use Rattle.std.proofs.lemmas.List.{length-take-le, length-map, take-map, drop-map, take_all}
 use Rattle.sc_world.specs.declared.world.World.{World}
-use Rattle.sc_terms.specs.declared.node.Node.{Node}
+use Rattle.sc_nodes.specs.declared.node.Node.{Node}
 use Rattle.sc_terms.specs.Trees.{Tree}
 use Rattle.sc_terms.specs.Tables.{tree, Keeps, StandsFor}
 use Rattle.sc_terms.specs.Folds.{truth_term, and_term, or_term}
@@ -107,29 +109,9 @@ module _ (w : World) where
   or_holds : (a b : Tree) → holds (or_term a b) ≡ (holds a || holds b)
   or_holds a b = ap truth (or_is a b w) ∙ or_truth (val a w) (val b w)
 
-  and_assoc : (a b c : Bool) → (a && (b && c)) ≡ ((a && b) && c)
-  and_assoc true b c = refl
-  and_assoc false b c = refl
-
   and_true : (b : Bool) → b ≡ (b && true)
   and_true true = refl
   and_true false = refl
-
-  or_assoc : (a b c : Bool) → (a || (b || c)) ≡ ((a || b) || c)
-  or_assoc true b c = refl
-  or_assoc false b c = refl
-
-  or_false : (b : Bool) → b ≡ (b || false)
-  or_false true = refl
-  or_false false = refl
-
-  all_append : (xs ys : List Tree) → list_all holds (xs ++ ys) ≡ (list_all holds xs && list_all holds ys)
-  all_append [] ys = refl
-  all_append (x ∷ xs) ys = ap (λ (b : Bool). holds x && b) (all_append xs ys) ∙ and_assoc (holds x) (list_all holds xs) (list_all holds ys)
-
-  any_append : (xs ys : List Tree) → list_any holds (xs ++ ys) ≡ (list_any holds xs || list_any holds ys)
-  any_append [] ys = refl
-  any_append (x ∷ xs) ys = ap (λ (b : Bool). holds x || b) (any_append xs ys) ∙ or_assoc (holds x) (list_any holds xs) (list_any holds ys)
 
   constant_holds : (b : Bool) → holds (truth_term b) ≡ b
   constant_holds b = ap truth (constant_value (truth_term b) b w refl) ∙ truth_yes b
@@ -147,13 +129,13 @@ module _ (w : World) where
       and_holds (joined and_term (truth_term true) n (take k l)) (joined and_term (truth_term true) n (drop k l))
       ∙ ap (λ (c : Bool). c && holds (joined and_term (truth_term true) n (drop k l))) a
       ∙ ap (λ (c : Bool). list_all holds (take k l) && c) b
-      ∙ sym (all_append (take k l) (drop k l))
+      ∙ sym (list_all-append holds (take k l) (drop k l))
       ∙ ap (list_all holds) (take-append-drop k l)
 
   any_at : (n : ℕ) (xs : List Tree) → length xs ≤ n → holds (joined or_term (truth_term false) n xs) ≡ list_any holds xs
   unfolding joined
   any_at n [] h = constant_holds false
-  any_at n (x ∷ []) h = or_false (holds x)
+  any_at n (x ∷ []) h = sym (or_false (holds x))
   any_at zero (x ∷ y ∷ xs) h = absurd (omega arith)
   any_at (suc n) (x ∷ y ∷ xs) h =
       let l = x ∷ y ∷ xs in
@@ -163,7 +145,7 @@ module _ (w : World) where
       or_holds (joined or_term (truth_term false) n (take k l)) (joined or_term (truth_term false) n (drop k l))
       ∙ ap (λ (c : Bool). c || holds (joined or_term (truth_term false) n (drop k l))) a
       ∙ ap (λ (c : Bool). list_any holds (take k l) || c) b
-      ∙ sym (any_append (take k l) (drop k l))
+      ∙ sym (list_any-append holds (take k l) (drop k l))
       ∙ ap (list_any holds) (take-append-drop k l)
 
   pub all_true : (xs : List Tree) → holds (all_of xs) ≡ list_all holds xs

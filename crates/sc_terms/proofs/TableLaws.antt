@@ -1,34 +1,53 @@
 -- Laws of tables: what comes in stands for its term, and what is there stays.
-use Rattle.std.proofs.Common.{◌≡◌, ℕ, suc, zero, ◌+◌, ◌<◌, ◌≤◌, Bool, true, false, cond, ◌||◌, ◌⊎◌, inl, inr, List, [], ◌∷◌, ◌++◌, Some, length, slice_get, refl, sym, ap, ◌∙◌, subst, arith, length-append}
+use Rattle.std.proofs.Common.{◌≡◌, ℕ, suc, zero, ◌+◌, ◌<◌, ◌≤◌, Bool, true, false, cond, ◌||◌, ◌⊎◌, inl, inr, List, [], ◌∷◌, ◌++◌, Some, length, take, slice_get, refl, sym, ap, ◌∙◌, subst, arith, length-append}
 use Rattle.std.proofs.lemmas.Bool.{false≢true, or_right}
 use Rattle.std.proofs.Math.ListN.{get_or-append}
 use Rattle.std.proofs.lemmas.List.{get_or_at}
 use Rattle.std.proofs.lemmas.Option.{slice_get_within}
 use Rattle.std.specs.List.{list_any}
 use Rattle.indexmap.specs.IndexSet.{insert_key}
-use Rattle.sc_terms.specs.declared.node.Leaf.TheVariants.{Literal}
-use Rattle.sc_terms.specs.declared.node.Literal.TheVariants.{Bool as bool}
-use Rattle.sc_terms.specs.declared.node.Node.{Node}
-use Rattle.sc_terms.specs.declared.node.Node.TheVariants as node
-use Rattle.sc_terms.specs.contracts.node.NodePartialEq.TheImpl.{ghosts as node_eq}
-use Rattle.sc_terms.specs.contracts.node.NodeEq.TheImpl.Laws.{laws-law}
-use Rattle.sc_terms.proofs.SameLaws.{same_node}
-use Rattle.sc_terms.specs.Trees.{Tree, leaf, one}
-use Rattle.sc_terms.specs.Tables.{among, planted, grown, trees, tree, node_tree, PartsAreBelow, IsTable, Keeps, StandsFor}
+use Rattle.sc_lists.proofs.ListLaws.{all_weaker}
+use Rattle.sc_lists.proofs.OptionLaws.{same_some}
+use Rattle.sc_nodes.specs.declared.node.Leaf.TheVariants.{Literal}
+use Rattle.sc_nodes.specs.declared.node.Literal.TheVariants.{Bool as bool}
+use Rattle.sc_nodes.specs.declared.node.Node.{Node}
+use Rattle.sc_nodes.specs.declared.node.Node.TheVariants as node
+use Rattle.sc_nodes.specs.contracts.node.NodePartialEq.TheImpl.{ghosts as node_eq}
+use Rattle.sc_nodes.specs.contracts.node.NodeEq.TheImpl.Laws.{laws-law}
+use Rattle.sc_nodes.specs.Same.{same_node}
+use Rattle.sc_terms.specs.Trees.{Tree, leaf, one, many, part}
+use Rattle.sc_terms.specs.Tables.{Places, AreBelow, planted_parts, node_parts, among, planted, grown, trees, tree, node_tree, PartsAreBelow, IsTable, Keeps, StandsFor}
 
 blank : Tree
 blank = leaf (Literal (bool false))
 
 -- a node's tree is that of its parts
 module _ (ts us : List Tree) (n : ℕ) (alike : (m : ℕ) → m < n → among ts m ≡ among us m) where
+  parts_alike : (ps : Places) → AreBelow n ps → planted_parts ts ps ≡ planted_parts us ps
+  parts_alike [] h = refl
+  parts_alike (p ∷ ps) h = let e = alike p.1 h.0 in let f = parts_alike ps h.1 in cc
+
   planted_alike : (x : Node) → PartsAreBelow n x → planted ts x ≡ planted us x
   planted_alike (node.Leaf l) h = refl
   planted_alike (node.One o a) h = ap (one o) (alike a h)
   planted_alike (node.Two o a b) h = let e = alike a h.0 in let f = alike b h.1 in cc
   planted_alike (node.Choice c a b) h = let d = alike c h.0 in let e = alike a h.1 in let f = alike b h.2 in cc
+  planted_alike (node.Many o ps) h = ap (many o) (parts_alike ps h)
 
 -- nodes of one tree are one node
 module _ (ts : List Tree) (n : ℕ) (apart : (l m : ℕ) → l < n → m < n → among ts l ≡ among ts m → l ≡ m) where
+  parts_inject : (ps qs : Places) → AreBelow n ps → AreBelow n qs → planted_parts ts ps ≡ planted_parts ts qs → ps ≡ qs
+  parts_inject [] [] h k e = refl
+  parts_inject [] (q ∷ qs) h k e = cc
+  parts_inject (p ∷ ps) [] h k e = cc
+  parts_inject (p ∷ ps) (q ∷ qs) h k e =
+      let d : p.0 ≡ q.0 = cc in
+      let i : among ts p.1 ≡ among ts q.1 = cc in
+      let j : planted_parts ts ps ≡ planted_parts ts qs = cc in
+      let f = apart p.1 q.1 h.0 k.0 i in
+      let g = parts_inject ps qs h.1 k.1 j in
+      λ z. (d z, f z) ∷ g z
+
   planted_injects : (x y : Node) → PartsAreBelow n x → PartsAreBelow n y → planted ts x ≡ planted ts y → x ≡ y
   planted_injects (node.Leaf a) (node.Leaf b) h k e = cc
   planted_injects (node.Leaf a) _ h k e = cc
@@ -53,6 +72,12 @@ module _ (ts : List Tree) (n : ℕ) (apart : (l m : ℕ) → l < n → m < n →
       let z = apart c g h.2 k.2 l in
       cc
   planted_injects (node.Choice a b c) _ h k e = cc
+  planted_injects (node.Many o ps) (node.Many p qs) h k e =
+      let d : o ≡ p = cc in
+      let i : planted_parts ts ps ≡ planted_parts ts qs = cc in
+      let f = parts_inject ps qs h k i in
+      λ z. node.Many (d z) (f z)
+  planted_injects (node.Many o ps) _ h k e = cc
 
 -- ---- growing
 
@@ -89,6 +114,11 @@ tree_planted : (xs : List Node) (n : ℕ) (x : Node) → slice_get xs n ≡ Some
 unfolding trees tree
 tree_planted xs n x e h = grown_is [] xs n n x e (omega arith) h
 
+parts_is : (xs : List Node) (ps : Places) → planted_parts (trees xs) ps ≡ node_parts xs ps
+unfolding tree
+parts_is xs [] = refl
+parts_is xs (p ∷ ps) = ap (part p.0 (tree xs p.1)) (parts_is xs ps)
+
 -- a node's tree, by the numbers of its parts
 pub planted_is : (xs : List Node) (x : Node) → planted (trees xs) x ≡ node_tree xs x
 unfolding tree
@@ -96,6 +126,7 @@ planted_is xs (node.Leaf l) = refl
 planted_is xs (node.One o a) = refl
 planted_is xs (node.Two o a b) = refl
 planted_is xs (node.Choice c a b) = refl
+planted_is xs (node.Many o ps) = ap (many o) (parts_is xs ps)
 
 -- the number of a node stands for its tree
 pub tree_is : (xs : List Node) (n : ℕ) (x : Node) → slice_get xs n ≡ Some x → PartsAreBelow n x → tree xs n ≡ node_tree xs x
@@ -118,11 +149,15 @@ planted_stays : (xs ys : List Node) (x : Node) → Keeps xs ys → PartsAreBelow
 unfolding trees tree
 planted_stays xs ys x e h = planted_alike (trees ys) (trees xs) (length xs) (λ m k. e.same m k) x h
 
+pub places_rise : (m n : ℕ) (ps : Places) → m ≤ n → AreBelow m ps → AreBelow n ps
+places_rise m n ps h k = all_weaker (λ (p : List ℕ × ℕ). p.1 < m) (λ (p : List ℕ × ℕ). p.1 < n) (λ p i. omega arith) ps k
+
 pub parts_rise : (m n : ℕ) (x : Node) → m ≤ n → PartsAreBelow m x → PartsAreBelow n x
 parts_rise m n (node.Leaf l) h k = tt
 parts_rise m n (node.One o a) h k = omega arith
 parts_rise m n (node.Two o a b) h k = (omega (arith, k.0), omega (arith, k.1))
 parts_rise m n (node.Choice a b c) h k = (omega (arith, k.0), omega (arith, k.1), omega (arith, k.2))
+parts_rise m n (node.Many o ps) h k = places_rise m n ps h k
 
 -- ---- where a node stands in a list
 
@@ -132,7 +167,7 @@ slice_get-push [] v (suc n) x e = cc
 slice_get-push (y ∷ ys) v zero x e = inl e
 slice_get-push (y ∷ ys) v (suc n) x e = elim (slice_get-push ys v n x e) [ inl h ↦ inl h | inr h ↦ inr (ap suc h.0, h.1) ]
 
-slice_get-end : (xs : List Node) (v : Node) → slice_get (xs ++ v ∷ []) (length xs) ≡ Some v
+pub slice_get-end : {X : Type 0} (xs : List X) (v : X) → slice_get (xs ++ v ∷ []) (length xs) ≡ Some v
 slice_get-end [] v = refl
 slice_get-end (x ∷ xs) v = slice_get-end xs v
 
@@ -219,3 +254,39 @@ module _ (xs : List Node) (v : Node) (t : IsTable xs) (h : PartsAreBelow (length
         within = slice_get_within new n v at;
         is = tree_planted new n v at (table_insert.below n v at) ∙ planted_stays xs new v keeps_insert h ∙ planted_is xs v;
       }
+
+-- ---- terms that are taken back
+
+front_same : (xs ys : List Node) → length xs ≤ length ys → ((n : ℕ) → n < length xs → slice_get xs n ≡ slice_get ys n) → take (length xs) ys ≡ xs
+front_same [] ys h same = refl
+front_same (x ∷ xs) [] h same = absurd (omega arith)
+front_same (x ∷ xs) (y ∷ ys) h same =
+    let first : x ≡ y = same_some (same 0 (omega arith)) in
+    let rest : take (length xs) ys ≡ xs = front_same xs ys (omega arith) (λ n k. same (suc n) (omega arith)) in
+    λ i. sym first i ∷ rest i
+
+-- the numbers of a table tell apart its trees
+injects : (xs : List Node) → IsTable xs → (m n : ℕ) → m < length xs → n < length xs → among (trees xs) m ≡ among (trees xs) n → m ≡ n
+unfolding tree
+injects xs t = t.apart
+
+-- what has come in over a table is all behind it
+pub kept_front : (xs ys : List Node) → IsTable xs → IsTable ys → Keeps xs ys → take (length xs) ys ≡ xs
+kept_front xs ys t u k = front_same xs ys k.longer at
+  where
+    at : (n : ℕ) → n < length xs → slice_get xs n ≡ slice_get ys n
+    at n h =
+        let x = found xs n h in
+        let y = found ys n (omega (arith, k.longer)) in
+        let below_x = t.below n x.0 x.1 in
+        let below_y = u.below n y.0 y.1 in
+        let rise_x = parts_rise n (length xs) x.0 (omega arith) below_x in
+        let rise_y = parts_rise n (length xs) y.0 (omega arith) below_y in
+        let old = sym (tree_planted xs n x.0 x.1 below_x) ∙ sym (k.same n h) ∙ tree_planted ys n y.0 y.1 below_y in
+        let one = old ∙ planted_stays xs ys y.0 k rise_y in
+        let same : x.0 ≡ y.0 = planted_injects (trees xs) (length xs) (injects xs t) x.0 y.0 rise_x rise_y one in
+        x.1 ∙ ap Some same ∙ sym y.1
+
+-- what is left where as many are kept as there were
+pub taken_back : (xs ys left : List Node) (n : ℕ) → left ≡ take n ys → IsTable ys → IsTable xs → Keeps xs ys → n ≡ length xs → left ≡ xs
+taken_back xs ys left n e u t k h = e ∙ ap (λ (m : ℕ). take m ys) h ∙ kept_front xs ys t u k

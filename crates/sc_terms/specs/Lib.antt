@@ -1,10 +1,8 @@
 pub mod Trees
+pub mod TreeSorts
 pub mod Tables
 pub mod Finding
-pub mod Hashing
 pub mod Order
 pub mod Folds
 pub mod Joined
-pub mod TreeSorts
 pub mod Values
-pub mod Booleans

@@ -1,54 +1,15 @@
-//! The order of terms: by their rows in the table of all terms, then by their parts, and then by
-//! what else they hold. Equal parts have one number, so a comparison goes down one path.
+//! The order of terms: by rows, then by parts, and then by what else they hold. Equal parts have
+//! one number, so a comparison goes down one path.
 ghost use Rattle.std.specs.Prelude.{◌≡◌, ◌<◌, length};
-ghost use Rattle.sc_terms.specs.Tables.{node_tree, tree, PartsAreBelow};
+ghost use Rattle.std.specs.Ordering.{ordering_then};
+ghost use Rattle.sc_names.specs.Uids.{text_cmp};
+ghost use Rattle.sc_terms.specs.Tables.{node_tree, node_parts, tree, PartsAreBelow, AreBelow};
 ghost use Rattle.sc_terms.specs.Order as order;
 
-use crate::node::{BinaryOp, Leaf, Literal, Node, UnaryOp};
 use crate::terms::Terms;
+use sc_lists::Text;
+use sc_nodes::{Node, row};
 use std::cmp::Ordering;
-
-fn row(node: &Node) -> u8
-    ensures { result ≡ order.node_row node.now }
-{
-    match node {
-        Node::Leaf(leaf) => leaf_row(leaf),
-        Node::One(op, _) => unary_row(op),
-        Node::Two(op, _, _) => binary_row(*op),
-        Node::Choice(_, _, _) => 14,
-    }
-}
-
-fn leaf_row(leaf: &Leaf) -> u8
-    ensures { result ≡ order.leaf_row leaf.now }
-{
-    match leaf {
-        Leaf::Literal(Literal::Bool(true)) => 0,
-        Leaf::Literal(Literal::Bool(false)) => 1,
-        Leaf::Principal(_) => 8,
-        Leaf::Resource(_) => 9,
-        Leaf::Context(_) => 10,
-    }
-}
-
-fn unary_row(op: &UnaryOp) -> u8
-    ensures { result ≡ order.unary_row op.now }
-{
-    match op {
-        UnaryOp::Not => 11,
-        UnaryOp::Field(_, _) => 33,
-    }
-}
-
-fn binary_row(op: BinaryOp) -> u8
-    ensures { result ≡ order.binary_row op }
-{
-    match op {
-        BinaryOp::And => 12,
-        BinaryOp::Or => 13,
-        BinaryOp::Equal => 15,
-    }
-}
 
 impl Terms {
     /// The order of two terms.
@@ -100,7 +61,58 @@ impl Terms {
                 },
                 other => other,
             },
+            (Node::Many(o, ps), Node::Many(p, qs)) => {
+                match self.compare_lists(n, ps.as_slice(), qs.as_slice()) {
+                    Ordering::Equal => o.cmp(p),
+                    other => other,
+                }
+            }
             _ => Ordering::Equal,
+        }
+    }
+
+    /// The order of two lists of labelled parts, the first of which are below `n`.
+    #[cycle(compare)]
+    #[tactic(auto, unfolding(crate::specs::Order::tree_cmp))]
+    fn compare_lists(&self, n: u64, ps: &[(Text, u64)], qs: &[(Text, u64)]) -> Ordering
+        requires n_in { n < length self.now }
+        requires ps_in { AreBelow n ps.now }
+        requires qs_in { AreBelow (length self.now) qs.now }
+        ensures { result ≡ order.trees_cmp (node_parts self.now ps.now) (node_parts self.now qs.now) }
+    {
+        let mut rest = ps;
+        let mut left = qs;
+        while let Some((p, later)) = rest.split_first() {
+            let Some((q, others)) = left.split_first() else {
+                return Ordering::Greater;
+            };
+            match self.compare_labelled(n, p, q) {
+                Ordering::Equal => {
+                    rest = later;
+                    left = others;
+                }
+                Ordering::Less => return Ordering::Less,
+                Ordering::Greater => return Ordering::Greater,
+            }
+        }
+        match left.split_first() {
+            None => Ordering::Equal,
+            Some(_) => Ordering::Less,
+        }
+    }
+
+    /// The order of two labelled parts, the first of which is below `n`.
+    #[cycle(compare)]
+    fn compare_labelled(&self, n: u64, p: &(Text, u64), q: &(Text, u64)) -> Ordering
+        requires n_in { n < length self.now }
+        requires p_in { p.now.1 < n }
+        requires q_in { q.now.1 < length self.now }
+        ensures { result ≡ ordering_then (text_cmp p.now.0 q.now.0) (order.tree_cmp (tree self.now p.now.1)
+            (tree self.now q.now.1)) }
+    {
+        match p.0.cmp(&q.0) {
+            Ordering::Equal => self.compare(p.1, q.1),
+            other => other,
         }
     }
 }

@@ -1,20 +1,16 @@
-//! Connectives and fields, each with the value that it has in every world. What a connective gives
-//! of values that are no truth values is chosen so that each fold holds there too.
+//! Connectives. Of values that are no truth values each gives what keeps its folds right.
 ghost use Rattle.std.specs.Prelude.{◌≡◌, ◌<◌, ◌≤◌, ◌+◌, length, IfOk, OnErr};
 ghost use Rattle.sc_terms.specs.Tables.{tree, Keeps, StandsFor};
-ghost use Rattle.sc_terms.specs.Folds.{not_term, and_term, or_term, choice_term, equal_term, field_term};
-ghost use Rattle.sc_terms.specs.Values.{HasValue, val, not_value, and_value, or_value, choice_value, equal_value, field_value};
+ghost use Rattle.sc_terms.specs.Values.{val, HasValue, not_value, and_value, or_value, equal_value, choice_value};
+ghost use Rattle.sc_terms.specs.Folds.{not_term, and_term, or_term, choice_term, equal_term};
 
-use crate::node::{Node, UnaryOp};
 use crate::terms::Terms;
-use sc_lists::Text;
-use sc_sorts::Sort;
 use std::alloc::AllocError;
 
 impl Terms {
     /// The other truth value.
     pub fn not(&mut self, a: u64) -> Result<u64, AllocError>
-        requires { a < length self.old }
+        requires a_in { a < length self.old }
         ensures ok { IfOk result (λ n. StandsFor self.new n (not_term (tree self.old a))) }
         ensures value { IfOk result (λ n. HasValue self.new n (λ w. not_value (val (tree self.old a) w))) }
         ensures kept { Keeps self.old self.new }
@@ -52,20 +48,6 @@ impl Terms {
         self.folded_or(a, b)
     }
 
-    /// Whether two terms have one value.
-    pub fn equal(&mut self, a: u64, b: u64) -> Result<u64, AllocError>
-        requires a_in { a < length self.old }
-        requires b_in { b < length self.old }
-        ensures ok { IfOk result (λ n. StandsFor self.new n (equal_term (tree self.old a) (tree self.old b))) }
-        ensures value { IfOk result (λ n. HasValue self.new n (λ w. equal_value (val (tree self.old a) w) (val
-            (tree self.old b) w))) }
-        ensures kept { Keeps self.old self.new }
-        ensures grows { length self.new ≤ length self.old + 1 }
-        ensures err { OnErr result (self.new ≡ self.old) }
-    {
-        self.folded_equal(a, b)
-    }
-
     /// The second term where the first is true, and else the third.
     pub fn choice(&mut self, c: u64, a: u64, b: u64) -> Result<u64, AllocError>
         requires c_in { c < length self.old }
@@ -82,16 +64,17 @@ impl Terms {
         self.folded_choice(c, a, b)
     }
 
-    /// The field of a name of a record, with the sort that the field has: an option where the
-    /// record may lack it.
-    pub fn field(&mut self, a: u64, name: Text, sort: Sort) -> Result<u64, AllocError>
-        requires { a < length self.old }
-        ensures ok { IfOk result (λ n. StandsFor self.new n (field_term name sort (tree self.old a))) }
-        ensures value { IfOk result (λ n. HasValue self.new n (λ w. field_value name sort (val (tree self.old a) w))) }
+    /// Whether two terms have one value.
+    pub fn equal(&mut self, a: u64, b: u64) -> Result<u64, AllocError>
+        requires a_in { a < length self.old }
+        requires b_in { b < length self.old }
+        ensures ok { IfOk result (λ n. StandsFor self.new n (equal_term (tree self.old a) (tree self.old b))) }
+        ensures value { IfOk result (λ n. HasValue self.new n (λ w. equal_value (val (tree self.old a) w) (val
+            (tree self.old b) w))) }
         ensures kept { Keeps self.old self.new }
         ensures grows { length self.new ≤ length self.old + 1 }
         ensures err { OnErr result (self.new ≡ self.old) }
     {
-        self.add(Node::One(UnaryOp::Field(name, sort), a))
+        self.folded_equal(a, b)
     }
 }

@@ -1,12 +1,12 @@
-//! The terms that equations make: constants and equal sides are folded away, and the lesser side
-//! stands first.
+//! Equations: constants, equal sides and literals are folded away; the lesser side stands first.
 ghost use Rattle.std.specs.Prelude.{◌≡◌, ◌<◌, ◌≤◌, ◌+◌, length, IfOk, OnErr};
+ghost use Rattle.std.specs.Ordering.{is_gt};
 ghost use Rattle.sc_terms.specs.Tables.{tree, Keeps, StandsFor};
-ghost use Rattle.sc_terms.specs.Folds.{is_literal as literal_is, equal_term, other_equal, both};
-ghost use Rattle.sc_terms.specs.Order.{tree_eq};
+ghost use Rattle.sc_terms.specs.Order.{tree_eq, tree_cmp};
+ghost use Rattle.sc_terms.specs.Folds.{literal_of, equal_term, other_equal, equation, literals_same};
 
-use crate::node::{BinaryOp, Leaf, Node};
 use crate::terms::Terms;
+use sc_nodes::{BinaryOp, Node, same_entity};
 use std::alloc::AllocError;
 
 impl Terms {
@@ -33,7 +33,8 @@ impl Terms {
         requires a_in { a < length self.old }
         requires b_in { b < length self.old }
         ensures ok { IfOk result (λ n. StandsFor self.new n (other_equal (tree_eq (tree self.old a) (tree self.old b))
-            (both (literal_is (tree self.old a)) (literal_is (tree self.old b))) (tree self.old a) (tree self.old b))) }
+            (literals_same (literal_of (tree self.old a)) (literal_of (tree self.old b))) (tree self.old a)
+            (tree self.old b))) }
         ensures kept { Keeps self.old self.new }
         ensures grows { length self.new ≤ length self.old + 1 }
         ensures err { OnErr result (self.new ≡ self.old) }
@@ -41,9 +42,22 @@ impl Terms {
         if self.is_same(a, b) {
             return self.truth(true);
         }
-        if self.is_literal(a) && self.is_literal(b) {
-            return self.truth(false);
+        match self.same_literals(a, b) {
+            Some(same) => self.truth(same),
+            None => self.ordered_equation(a, b),
         }
+    }
+
+    /// The equation with the lesser side first.
+    fn ordered_equation(&mut self, a: u64, b: u64) -> Result<u64, AllocError>
+        requires a_in { a < length self.old }
+        requires b_in { b < length self.old }
+        ensures ok { IfOk result (λ n. StandsFor self.new n (equation (is_gt (tree_cmp (tree self.old a)
+            (tree self.old b))) (tree self.old a) (tree self.old b))) }
+        ensures kept { Keeps self.old self.new }
+        ensures grows { length self.new ≤ length self.old + 1 }
+        ensures err { OnErr result (self.new ≡ self.old) }
+    {
         if self.compare(a, b).is_gt() {
             self.add(Node::Two(BinaryOp::Equal, b, a))
         } else {
@@ -51,13 +65,14 @@ impl Terms {
         }
     }
 
-    fn is_literal(&self, n: u64) -> bool
-        requires { n < length self.now }
-        ensures { result ≡ literal_is (tree self.now n) }
+    /// Whether two different literals have one value. None exactly where one is no literal.
+    fn same_literals(&self, a: u64, b: u64) -> Option<bool>
+        requires a_in { a < length self.now }
+        requires b_in { b < length self.now }
+        ensures { result ≡ literals_same (literal_of (tree self.now a)) (literal_of (tree self.now b)) }
     {
-        match self.node(n) {
-            Node::Leaf(Leaf::Literal(_)) => true,
-            _ => false,
-        }
+        let l = self.literal_at(a)?;
+        let m = self.literal_at(b)?;
+        Some(same_entity(l, m))
     }
 }

@@ -1,16 +1,16 @@
 //! The terms that connectives make: constants, double negations and equal parts are folded away.
-ghost use Rattle.std.specs.Prelude.{◌≡◌, ◌<◌, ◌≤◌, ◌+◌, length, option_map, IfSome, IfOk, OnErr};
+ghost use Rattle.std.specs.Prelude.{◌≡◌, ◌<◌, ◌≤◌, ◌+◌, length, IfOk, OnErr};
 ghost use Rattle.sc_terms.specs.Tables.{tree, Keeps, StandsFor};
-ghost use Rattle.sc_terms.specs.Folds.{under_not as inside_not, not_term, and_term, or_term, choice_term};
+ghost use Rattle.sc_terms.specs.Folds.{not_term, and_term, or_term, choice_term};
 
-use crate::node::{BinaryOp, Node, UnaryOp};
 use crate::terms::Terms;
+use sc_nodes::{BinaryOp, Node, UnaryOp};
 use std::alloc::AllocError;
 
 impl Terms {
     #[tactic(auto, unfolding(crate::specs::Folds::not_term))]
     pub(crate) fn folded_not(&mut self, a: u64) -> Result<u64, AllocError>
-        requires { a < length self.old }
+        requires a_in { a < length self.old }
         ensures ok { IfOk result (λ n. StandsFor self.new n (not_term (tree self.old a))) }
         ensures kept { Keeps self.old self.new }
         ensures grows { length self.new ≤ length self.old + 1 }
@@ -20,18 +20,6 @@ impl Terms {
             (Some(b), _) => self.truth(!b),
             (None, Some(m)) => Ok(m),
             (None, None) => self.add(Node::One(UnaryOp::Not, a)),
-        }
-    }
-
-    /// What a negation negates. None exactly of another term.
-    pub fn under_not(&self, n: u64) -> Option<u64>
-        requires { n < length self.now }
-        ensures within { IfSome result (λ m. m < n) }
-        ensures inside { option_map (tree self.now) result ≡ inside_not (tree self.now n) }
-    {
-        match self.node(n) {
-            Node::One(UnaryOp::Not, m) => Some(*m),
-            _ => None,
         }
     }
 

@@ -1,19 +1,23 @@
 //! Terms: what a policy asks, as trees that are kept in one table, in which equal terms have one
-//! number. Each constructor folds, and promises the value that its term has in every world.
+//! number. There is one call for each row of the table of terms; each folds, and promises the value
+//! that its term has in every world.
 #![tactic(auto)]
 
+mod bits;
 mod compare;
 mod connectives;
+mod defaults;
+mod entities;
 mod equal;
 mod folds;
-mod hash;
 mod joined;
-mod law;
 mod leaves;
-mod node;
-mod sort;
+mod numbers;
+mod options;
+mod reading;
+mod records;
+mod sets;
 mod terms;
+mod texts;
 
-pub use law::{default_laws, order_laws, truth_laws, value_laws};
-pub use node::{BinaryOp, Leaf, Literal, Node, UnaryOp};
 pub use terms::Terms;

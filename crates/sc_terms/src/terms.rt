@@ -1,29 +1,38 @@
 //! Tables of terms.
-ghost use Rattle.std.specs.Prelude.{◌≡◌, ◌<◌, ◌≤◌, ◌+◌, true, false, [], length, IfOk, OnErr};
+ghost use Rattle.std.specs.Prelude.{List, ◌≡◌, ◌<◌, ◌≤◌, ◌+◌, ◌++◌, ◌∷◌, true, false, [], length, IfOk, OnErr, OnOk};
+ghost use Rattle.sc_nodes.specs.declared.node.Node.{Node as AnyNode};
+ghost use Rattle.std.specs.List.{list_any};
+ghost use Rattle.indexmap.specs.IndexSet.{insert_key};
+ghost use Rattle.sc_nodes.specs.contracts.node.NodePartialEq.TheImpl.{ghosts as node_equality};
 ghost use Rattle.sc_terms.specs.Tables.{node_tree, tree, PartsAreBelow, Keeps, StandsFor, IsTable};
+ghost use Rattle.sc_terms.specs.TreeSorts.{tree_sort};
 ghost use Rattle.sc_terms.specs.Order.{tree_eq};
-ghost use Rattle.sc_terms.specs.Folds.{constant as constant_of, truth_term};
+ghost use Rattle.sc_terms.specs.Folds.{truth_term};
 
 mod finding;
+mod sorting;
 
-use crate::node::{Leaf, Literal, Node};
 use indexmap::IndexSet;
+use sc_nodes::Node;
+use sc_sorts::Sort;
 use std::alloc::{AllocError, Global};
 use std::marker::Model;
 
 /// A table of terms. Its numbers count from 0; each stands for one term, whose parts have smaller
-/// numbers, and no two stand for the same term.
+/// numbers, and no two stand for the same term. The sort of each is kept beside it.
 #[derive(Drop)]
 pub struct Terms {
     nodes: IndexSet<Node>,
+    sorts: Vec<Sort>,
+    alloc: Global,
 }
 
 impl Model for Terms {
     ghost use Rattle.std.specs.Prelude.{List};
     ghost use Rattle.std.specs.Coded.{codes};
     ghost use Rattle.sc_sorts.specs.contracts.sort.Sort as sort;
-    ghost use Rattle.sc_terms.specs.declared.node.Node.{Node};
-    ghost use Rattle.sc_terms.specs.Tables.{IsTable};
+    ghost use Rattle.sc_nodes.specs.declared.node.Node.{Node};
+    ghost use Rattle.sc_terms.specs.Tables.{IsSorted};
 
     ghost Value = { List Node };
 
@@ -31,7 +40,7 @@ impl Model for Terms {
 
     ghost view = { λ t. t.nodes.keys };
 
-    ghost invariant = { λ t. IsTable t.nodes.keys };
+    ghost invariant = { λ t. IsSorted t.nodes.keys t.sorts.items };
 }
 
 impl Terms {
@@ -52,6 +61,8 @@ impl Terms {
     {
         Terms {
             nodes: IndexSet::new(alloc),
+            sorts: Vec::new(alloc),
+            alloc,
         }
     }
 
@@ -60,6 +71,10 @@ impl Terms {
         ensures { IsTable self.now }
     {
         let _ = &self.nodes;
+    }
+
+    pub(crate) fn allocator(&self) -> Global {
+        self.alloc
     }
 
     /// How many terms there are.
@@ -82,6 +97,17 @@ impl Terms {
         }
     }
 
+    /// The sort of a number's term.
+    pub fn sort(&self, n: u64) -> &Sort
+        requires { n < length self.now }
+        ensures { result.now ≡ tree_sort (tree self.now n) }
+    {
+        match self.sorts.get(n as usize) {
+            Some(sort) => sort,
+            None => unreachable!(),
+        }
+    }
+
     /// The number of a term, which goes last where it isn't there.
     pub(crate) fn add(&mut self, node: Node) -> Result<u64, AllocError>
         requires { PartsAreBelow (length self.old) node }
@@ -90,19 +116,31 @@ impl Terms {
         ensures grows { length self.new ≤ length self.old + 1 }
         ensures err { OnErr result (self.new ≡ self.old) }
     {
-        let found = self.nodes.insert_full(node)?;
-        Ok(found.0 as u64)
+        match self.find(&node) {
+            Some(n) => Ok(n),
+            None => self.add_new(node),
+        }
     }
 
-    /// The truth value that a term is, if it is one.
-    pub fn constant(&self, n: u64) -> Option<bool>
-        requires { n < length self.now }
-        ensures { result ≡ constant_of (tree self.now n) }
+    fn add_new(&mut self, node: Node) -> Result<u64, AllocError>
+        requires parts { PartsAreBelow (length self.old) node }
+        requires absent { list_any (node_equality.eq node) self.old ≡ false }
+        ensures ok { IfOk result (λ n. StandsFor self.new n (node_tree self.old node)) }
+        ensures kept { Keeps self.old self.new }
+        ensures grows { length self.new ≤ length self.old + 1 }
+        ensures err { OnErr result (self.new ≡ self.old) }
     {
-        match self.node(n) {
-            Node::Leaf(Leaf::Literal(Literal::Bool(b))) => Some(*b),
-            _ => None,
-        }
+        let sort = self.node_sort(&node)?;
+        let n = put(&mut self.nodes, &mut self.sorts, node, sort)?;
+        Ok(n)
+    }
+
+    /// Takes back all terms from a number on.
+    pub(crate) fn take_back(&mut self, count: u64)
+        ensures { (xs : List AnyNode) → IsTable xs → Keeps xs self.old → count ≡ length xs → self.new ≡ xs }
+    {
+        self.nodes.truncate(count as usize);
+        self.sorts.truncate(count as usize);
     }
 
     /// Whether two numbers stand for one term.
@@ -113,5 +151,30 @@ impl Terms {
     {
         let _ = &self.nodes;
         a == b
+    }
+}
+
+/// Puts a node and its sort at the ends of their lists, both or neither.
+fn put(
+    nodes: &mut IndexSet<Node>,
+    sorts: &mut Vec<Sort>,
+    node: Node,
+    sort: Sort,
+) -> Result<u64, AllocError>
+    requires { list_any (node_equality.eq node) nodes.old.keys ≡ false }
+    ensures place { IfOk result (λ n. n ≡ length nodes.old.keys) }
+    ensures keys { OnOk result (nodes.new.keys ≡ nodes.old.keys ++ node ∷ []) }
+    ensures beside { OnOk result (sorts.new.items ≡ sorts.old.items ++ sort ∷ []) }
+    ensures err { OnErr result (nodes.new.keys ≡ nodes.old.keys) }
+    ensures err_beside { OnErr result (sorts.new.items ≡ sorts.old.items) }
+{
+    let place = nodes.len() as u64;
+    sorts.push(sort)?;
+    match nodes.insert_full(node) {
+        Ok(_) => Ok(place),
+        Err(refused) => {
+            let _ = sorts.pop();
+            Err(refused.into())
+        }
     }
 }

@@ -4,8 +4,8 @@ use Rattle.std.proofs.Common.{◌≡◌, ◌+◌, zero, length, arith, length-ap
 use Rattle.std.proofs.lemmas.List.{append-nil}
 use Rattle.sc_clauses.specs.declared.lit.Lit.{Lit}
 use Rattle.sc_clauses.specs.Clauses.{Clause}
-use Rattle.sc_terms.specs.declared.node.BinaryOp.{BinaryOp}
-use Rattle.sc_terms.specs.declared.node.BinaryOp.TheVariants.{And, Or, Equal}
+use Rattle.sc_nodes.specs.declared.node.BinaryOp.{BinaryOp}
+use Rattle.sc_nodes.specs.declared.node.BinaryOp.TheVariants.{And, Or, Equal}
 use Rattle.sc_terms.specs.Trees.{Tree, two}
 use Rattle.sc_footprint.specs.Definitions.{is_tautology, row, table, definition}
 use Rattle.th_defs.specs.Connectives.{kept, truth_of, is_connective}
@@ -34,12 +34,13 @@ connective : (lit : Tree → Lit) (o : BinaryOp) (a b : Tree) → is_connective 
 connective lit And a b e = refl
 connective lit Or a b e = refl
 connective lit Equal a b e = rw e refl
+connective lit _ a b e = cc
 
 -- once its table was added, a connective is defined
-pub defined : {E : Type 0} (r : Result (Unit {0}) E) (lit : Tree → Lit) (o p : BinaryOp) (t a b : Tree) (x l m : Lit) (old new : List Clause) → t ≡ two o a b → is_connective o a ≡ true → p ≡ o → x ≡ lit t → l ≡ lit a → m ≡ lit b
-    → OnOk r (new ≡ old ++ table (truth_of p) x l m) → OnOk r (new ≡ old ++ definition lit t)
-defined (Ok u) lit o p t a b x l m old new at is same of_x of_l of_m e = rw (e, same, of_x, of_l, of_m, at) (ap (λ (cs : List Clause). old ++ cs) (sym (connective lit o a b is)))
-defined (Err e) lit o p t a b x l m old new at is same of_x of_l of_m h = tt
+pub defined : {E : Type 0} (r : Result (Unit {0}) E) (lit : Tree → Lit) (o : BinaryOp) (t a b : Tree) (x l m : Lit) (old new : List Clause) → t ≡ two o a b → is_connective o a ≡ true → x ≡ lit t → l ≡ lit a → m ≡ lit b
+    → OnOk r (new ≡ old ++ table (truth_of o) x l m) → OnOk r (new ≡ old ++ definition lit t)
+defined (Ok u) lit o t a b x l m old new at is of_x of_l of_m e = rw (e, of_x, of_l, of_m, at) (ap (λ (cs : List Clause). old ++ cs) (sym (connective lit o a b is)))
+defined (Err e) lit o t a b x l m old new at is of_x of_l of_m h = tt
 
 -- ---- how many clauses there are
 
@@ -58,7 +59,8 @@ pub none_counted : (lit : Tree → Lit) (o : BinaryOp) (t a b : Tree) → t ≡ 
 none_counted lit And t a b at is = absurd cc
 none_counted lit Or t a b at is = absurd cc
 none_counted lit Equal t a b at is = rw (at, is) refl
+none_counted lit _ t a b at is = rw at refl
 
 -- a connective is defined by its table
-pub counted : (lit : Tree → Lit) (o p : BinaryOp) (t a b : Tree) (x l m : Lit) → t ≡ two o a b → is_connective o a ≡ true → p ≡ o → x ≡ lit t → l ≡ lit a → m ≡ lit b → length (table (truth_of p) x l m) ≡ length (definition lit t)
-counted lit o p t a b x l m at is same of_x of_l of_m = rw (same, of_x, of_l, of_m, at) (ap length (sym (connective lit o a b is)))
+pub counted : (lit : Tree → Lit) (o : BinaryOp) (t a b : Tree) (x l m : Lit) → t ≡ two o a b → is_connective o a ≡ true → x ≡ lit t → l ≡ lit a → m ≡ lit b → length (table (truth_of o) x l m) ≡ length (definition lit t)
+counted lit o t a b x l m at is of_x of_l of_m = rw (of_x, of_l, of_m, at) (ap length (sym (connective lit o a b is)))

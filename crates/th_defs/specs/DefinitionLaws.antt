@@ -1,18 +1,17 @@
 -- Laws of the clauses that define a problem, given what the literals of its closed truth values say.
-use Rattle.std.proofs.Common.{◌≡◌, ℕ, List, [], ◌∷◌, ◌++◌, map, filter, length, Bool, true, false, not, cond, ◌&&◌, Option, Some, None, refl, sym, ap, ◌∙◌, subst}
+use Rattle.std.proofs.Common.{◌≡◌, List, [], ◌∷◌, ◌++◌, length, Bool, true, false, not, cond, Option, Some, refl, ap, ◌∙◌}
 use Rattle.std.specs.List.{All, AllByRecursion, Contains, flat_map}
 use Rattle.std.proofs.lemmas.Bool.{and_parts}
-use Rattle.std.proofs.lemmas.List.Elements.{All-append, All-contains, All-contains_itself, All-cons, All-nil, All-from_recursion, recursion_from_All, All-weaker}
+use Rattle.std.proofs.lemmas.List.Elements.{All-append, All-contains_itself, All-cons, All-nil, All-from_recursion, recursion_from_All, All-weaker}
 use Rattle.sc_world.specs.declared.world.World.{World}
-use Rattle.sc_clauses.specs.declared.lit.Lit.{Lit}
 use Rattle.sc_clauses.specs.Clauses.{Clause, bool_eq, holds, clause_holds}
-use Rattle.sc_terms.specs.declared.node.Leaf.TheVariants as leafs
-use Rattle.sc_terms.specs.declared.node.Literal.TheVariants as literals
-use Rattle.sc_terms.specs.declared.node.BinaryOp.{BinaryOp}
-use Rattle.sc_terms.specs.declared.node.BinaryOp.TheVariants.{And, Or, Equal}
-use Rattle.sc_terms.specs.Trees.{Tree, leaf, one, two, choice}
+use Rattle.sc_nodes.specs.declared.node.Leaf.TheVariants as leafs
+use Rattle.sc_nodes.specs.declared.node.Literal.TheVariants as literals
+use Rattle.sc_nodes.specs.declared.node.BinaryOp.{BinaryOp}
+use Rattle.sc_nodes.specs.declared.node.BinaryOp.TheVariants.{And, Or, Equal}
+use Rattle.sc_terms.specs.Trees.{Tree, leaf, two}
 use Rattle.sc_terms.specs.Folds.{truth_term}
-use Rattle.sc_terms.specs.Values.{Val, yes, seen, truth, val, not_value, and_value, or_value, equal_seen, equal_value, two_value}
+use Rattle.sc_terms.specs.Values.{Val, seen, truth, val, equal_seen, equal_value}
 use Rattle.sc_terms.proofs.FoldValues.{not_truth, and_truth, or_truth, truth_yes, truth_is}
 use Rattle.sc_footprint.specs.Problems.{Posed, closed_terms, is_bool, is_atom, is_opposite, atoms, literal_in, goal_term, goal_literal}
 use Rattle.sc_footprint.specs.Definitions.{table, definition, defining}
@@ -68,15 +67,10 @@ module _ (p : Posed) (parts : (o : BinaryOp) (a b : Tree) → Contains (closed_t
 
   lawful_definition : (t : Tree) → IsTruth p t → AllByRecursion (IsLawful (length (atoms p))) (definition (literal_in p) t)
   lawful_definition (leaf (leafs.Literal (literals.Bool true))) is = (unit_lawful (length (atoms p)) (literal_in p (truth_term true)) (listed (truth_term true) is), tt)
-  lawful_definition (leaf (leafs.Literal (literals.Bool false))) is = tt
-  lawful_definition (leaf (leafs.Principal s)) is = tt
-  lawful_definition (leaf (leafs.Resource s)) is = tt
-  lawful_definition (leaf (leafs.Context s)) is = tt
-  lawful_definition (one o a) is = tt
   lawful_definition (two And a b) is = lawful_table And a b (truth_of And) is refl
   lawful_definition (two Or a b) is = lawful_table Or a b (truth_of Or) is refl
   lawful_definition (two Equal a b) is = lawful_equal a b (is_bool a) refl is
-  lawful_definition (choice c a b) is = tt
+  lawful_definition _ is = tt
 
   pub lawful_before : All (IsLawful (length (atoms p))) (flat_map (definition (literal_in p)) (atoms p))
   lawful_before = defined p (IsLawful (length (atoms p))) lawful_definition
@@ -96,16 +90,17 @@ unfolding equal_value
 equal_truth x y c at e = ap (λ (o : Option Bool). truth (equal_seen o (seen y) x y)) at ∙ equal_at x y (truth x) c e
 
 module _ (p : Posed) (w : World) (parts : (o : BinaryOp) (a b : Tree) → Contains (closed_terms p) (two o a b) → is_connective o a ≡ true → AreTruths p a b) (valued : (t : Tree) → IsTruth p t → seen (val t w) ≡ Some (is_true t w)) (told : (t : Tree) → IsTruth p t → holds (truths p w) (literal_in p t) ≡ is_true t w) where
-  connective_truth : (o : BinaryOp) (a b : Tree) → AreTruths p a b → is_true (two o a b) w ≡ truth_of o (is_true a w) (is_true b w)
+  connective_truth : (o : BinaryOp) (a b : Tree) → is_connective o a ≡ true → AreTruths p a b → is_true (two o a b) w ≡ truth_of o (is_true a w) (is_true b w)
   unfolding val
-  connective_truth And a b both = and_truth (val a w) (val b w)
-  connective_truth Or a b both = or_truth (val a w) (val b w)
-  connective_truth Equal a b both = equal_truth (val a w) (val b w) (is_true b w) (valued a both.left) (valued b both.right)
+  connective_truth And a b e both = and_truth (val a w) (val b w)
+  connective_truth Or a b e both = or_truth (val a w) (val b w)
+  connective_truth Equal a b e both = equal_truth (val a w) (val b w) (is_true b w) (valued a both.left) (valued b both.right)
+  connective_truth _ a b e both = cc
 
   true_table : (o : BinaryOp) (a b : Tree) → IsTruth p (two o a b) → is_connective o a ≡ true → AllByRecursion (λ c. clause_holds (truths p w) c ≡ true) (table (truth_of o) (literal_in p (two o a b)) (literal_in p a) (literal_in p b))
   true_table o a b is e =
       let both = parts o a b is.closed e in
-      table_true (truths p w) (truth_of o) (literal_in p (two o a b)) (literal_in p a) (literal_in p b) (is_true a w) (is_true b w) (told a both.left) (told b both.right) (told (two o a b) is ∙ connective_truth o a b both)
+      table_true (truths p w) (truth_of o) (literal_in p (two o a b)) (literal_in p a) (literal_in p b) (is_true a w) (is_true b w) (told a both.left) (told b both.right) (told (two o a b) is ∙ connective_truth o a b e both)
 
   true_equal : (a b : Tree) (c : Bool) → is_bool a ≡ c → IsTruth p (two Equal a b) → AllByRecursion (λ c. clause_holds (truths p w) c ≡ true) (cond c (table bool_eq (literal_in p (two Equal a b)) (literal_in p a) (literal_in p b)) [])
   true_equal a b true e is = true_table Equal a b is e
@@ -113,15 +108,10 @@ module _ (p : Posed) (w : World) (parts : (o : BinaryOp) (a b : Tree) → Contai
 
   true_definition : (t : Tree) → IsTruth p t → AllByRecursion (λ c. clause_holds (truths p w) c ≡ true) (definition (literal_in p) t)
   true_definition (leaf (leafs.Literal (literals.Bool true))) is = (unit_true (truths p w) (literal_in p (truth_term true)) (told (truth_term true) is ∙ ap truth (truth_is true w) ∙ truth_yes true), tt)
-  true_definition (leaf (leafs.Literal (literals.Bool false))) is = tt
-  true_definition (leaf (leafs.Principal s)) is = tt
-  true_definition (leaf (leafs.Resource s)) is = tt
-  true_definition (leaf (leafs.Context s)) is = tt
-  true_definition (one o a) is = tt
   true_definition (two And a b) is = true_table And a b is refl
   true_definition (two Or a b) is = true_table Or a b is refl
   true_definition (two Equal a b) is = true_equal a b (is_bool a) refl is
-  true_definition (choice c a b) is = tt
+  true_definition _ is = tt
 
   pub true_before : All (λ c. clause_holds (truths p w) c ≡ true) (flat_map (definition (literal_in p)) (atoms p))
   true_before = defined p (λ c. clause_holds (truths p w) c ≡ true) true_definition

@@ -1,11 +1,11 @@
 -- Numbers of defining clauses as instances of a theory. Their rule has no word, so no line of a log's text is one.
-use Rattle.std.specs.Prelude.{◌&&◌, ◌-◌, ℕ, Bool, false, nat_lt, List, [], ◌∷◌, length}
+use Rattle.std.specs.Prelude.{◌&&◌, ◌-◌, ℕ, Bool, nat_lt, List, [], ◌∷◌, length}
 use Rattle.std.specs.List.{slice_index_or}
 use Rattle.std.specs.Str.{bytes_eq}
 use Rattle.sc_clauses.specs.Clauses.{Clause}
 use Rattle.sc_clauses.specs.declared.step.Instance.{Instance}
 use Rattle.sc_clauses.specs.declared.step.Word.{Word}
-use Rattle.sc_clauses.specs.declared.step.Word.TheVariants.{Number, Signs}
+use Rattle.sc_clauses.specs.declared.step.Word.TheVariants.{Number}
 use Rattle.sc_footprint.specs.Problems.{Posed}
 use Rattle.sc_footprint.specs.Definitions.{defining}
 

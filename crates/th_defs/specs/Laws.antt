@@ -1,29 +1,25 @@
 -- The laws of the theory of defining clauses.
-use Rattle.std.proofs.Common.{◌≡◌, ◌+◌, ◌-◌, ◌<◌, ◌≤◌, ◌&&◌, ℕ, List, [], ◌∷◌, ◌++◌, length, get_or, true, Some, refl, sym, ap, subst, ◌∙◌, Option, arith, length-append}
+use Rattle.std.proofs.Common.{◌≡◌, ◌-◌, ◌<◌, ℕ, List, [], ◌∷◌, ◌++◌, length, true, Some, sym, ap, subst, ◌∙◌, arith, length-append}
 use Rattle.std.specs.Prelude.{nat_lt}
 use Rattle.std.specs.List.{All, Contains, flat_map, slice_index_or}
 use Rattle.std.specs.Str.{bytes_eq}
-use Rattle.std.proofs.lemmas.Bool.{and_parts, ltb-true, true≢false}
+use Rattle.std.proofs.lemmas.Bool.{and_parts, ltb-true}
 use Rattle.std.proofs.lemmas.List.{get_or_append_left}
-use Rattle.std.proofs.lemmas.List.Elements.{All-contains, Contains-append_left}
+use Rattle.std.proofs.lemmas.List.Elements.{All-contains}
 use Rattle.sc_schema.specs.Declarations.{context_of}
-use Rattle.sc_schema.specs.declared.declarations.Env.{Env}
-use Rattle.sc_schema.specs.declared.ty.Ty.{Ty}
 use Rattle.sc_world.specs.declared.world.World.{World}
 use Rattle.sc_clauses.specs.declared.step.Instance.{Instance}
-use Rattle.sc_clauses.specs.Clauses.{Clause, holds, clause_holds}
-use Rattle.sc_terms.specs.declared.node.BinaryOp.{BinaryOp}
+use Rattle.sc_clauses.specs.Clauses.{Clause, holds}
+use Rattle.sc_nodes.specs.declared.node.BinaryOp.{BinaryOp}
 use Rattle.sc_terms.specs.Trees.{Tree, two}
-use Rattle.sc_terms.specs.Booleans.{IsBoolean, of_two}
 use Rattle.sc_terms.specs.Values.{seen, val}
 use Rattle.sc_terms.proofs.FoldValues.{seen_yes}
 use Rattle.sc_terms.proofs.OrderLaws.{tree_cmp_total, tree_cmp_level}
-use Rattle.sc_footprint.specs.Closure.{of_goal, principal_term, all_fields}
-use Rattle.sc_footprint.specs.Kinds.{IsOfGoal, of_boolean, of_entities}
-use Rattle.sc_footprint.proofs.GoalLaws.{boolean_sort, principal_sort}
-use Rattle.sc_footprint.proofs.TruthLaws.{kind_is, part_closed, value_is, true_literal}
+use Rattle.sc_footprint.specs.Closure.{of_goal}
+use Rattle.sc_footprint.proofs.GoalLaws.{boolean_sort}
+use Rattle.sc_footprint.proofs.TruthLaws.{bool_parts, value_is, true_literal}
 use Rattle.sc_footprint.proofs.TruthLaws.{listed as literal_listed}
-use Rattle.sc_footprint.specs.Problems.{Posed, IsPosed, is_bool, is_bool_in, closed_terms, atoms, literal_in, goal_term, goal_literal}
+use Rattle.sc_footprint.specs.Problems.{Posed, IsPosed, is_bool_in, closed_terms, atoms, literal_in, goal_term, goal_literal}
 use Rattle.sc_footprint.specs.Definitions.{definition, defining}
 use Rattle.sc_footprint.specs.Theories.{IsListed, IsClauseOf}
 use Rattle.sc_footprint.specs.Truths.{is_true, truths, IsWorldOf, IsTrueIn, Satisfies}
@@ -34,28 +30,13 @@ use Rattle.th_defs.specs.DefinitionLaws.{IsTruth, AreTruths, lawful_before, lawf
 
 -- ---- what holds of closed truth values
 
-bool_of : (context : Option Ty) (t : Tree) → IsBoolean context t → is_bool t ≡ true
-bool_of context t h = ap is_bool_in (boolean_sort context t h)
-
-entity_is_no_bool : (env : Env) → is_bool (principal_term env) ≡ true → ⊥
-entity_is_no_bool env e = true≢false (sym e ∙ ap is_bool_in (principal_sort env))
-
-both_bool : (context : Option Ty) (o : BinaryOp) (a b : Tree) → IsBoolean context (two o a b) → (is_bool a ≡ true) × (is_bool b ≡ true)
-both_bool context o a b (of_two _ _ _ p q) = (bool_of context a p, bool_of context b q)
-
 -- the parts of a connective are truth values
-parts_bool : (env : Env) (context : Option Ty) (o : BinaryOp) (a b : Tree) → IsOfGoal env context (two o a b) → is_connective o a ≡ true → (is_bool a ≡ true) × (is_bool b ≡ true)
-parts_bool env context o a b (of_boolean _ h) e = both_bool context o a b h
-parts_bool env context o a b (of_entities h) e = absurd (entity_is_no_bool env e)
-
 parts : (p : Posed) → IsPosed p → (o : BinaryOp) (a b : Tree) → Contains (closed_terms p) (two o a b) → is_connective o a ≡ true → AreTruths p a b
 parts p posed o a b h e =
-    let closed = part_closed tree_cmp_total tree_cmp_level p posed (two o a b) in
-    let rest = all_fields (two o a b) in
-    let bools = parts_bool p.env (context_of p.schema p.env.action) o a b (kind_is tree_cmp_total tree_cmp_level p posed (two o a b) h) e in
+    let both = bool_parts tree_cmp_total tree_cmp_level p posed o a b h (λ f. subst (λ (q : BinaryOp). is_connective q a ≡ true) f e) in
     record {
-      left = record { closed = closed a h (Contains-append_left (a ∷ b ∷ []) rest a (0, omega arith, refl)); bool = bools.0 };
-      right = record { closed = closed b h (Contains-append_left (a ∷ b ∷ []) rest b (1, omega arith, refl)); bool = bools.1 };
+      left = record { closed = both.first.closed; bool = both.first.bool };
+      right = record { closed = both.second.closed; bool = both.second.bool };
     }
 
 listed : (p : Posed) → IsPosed p → (t : Tree) → IsTruth p t → IsListed (length (atoms p)) (literal_in p t)
@@ -68,7 +49,7 @@ told : (p : Posed) (w : World) → IsPosed p → IsWorldOf p w → (t : Tree) �
 told p w posed formed t is = true_literal tree_cmp_total tree_cmp_level p posed w formed t is.closed is.bool
 
 goal : (p : Posed) → IsPosed p → IsTruth p (goal_term p)
-goal p posed = record { closed = (posed.are_closed.just (goal_term p)).1 of_goal; bool = bool_of (context_of p.schema p.env.action) (goal_term p) posed.boolean }
+goal p posed = record { closed = (posed.are_closed.just (goal_term p)).1 of_goal; bool = ap is_bool_in (boolean_sort (context_of p.schema p.env.action) (goal_term p) posed.boolean) }
 
 -- ---- instances
 

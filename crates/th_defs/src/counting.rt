@@ -9,21 +9,21 @@ ghost use Rattle.th_defs.specs.Instances.{is_before_last};
 use crate::definitions::{connective_of, is_connective};
 use crate::table::table_count;
 use sc_footprint::Problem;
-use sc_terms::{BinaryOp, Leaf, Literal, Node};
+use sc_nodes::{BinaryOp, Leaf, Literal, Node};
 
 /// How many clauses define the term of an operator on two terms.
 #[tactic(auto, using(crate::proofs::TableLaws::none_counted))]
-fn two_count(problem: &Problem<'_>, op: BinaryOp, term: u64, left: u64, right: u64) -> u64
+fn two_count(problem: &Problem<'_>, op: &BinaryOp, term: u64, left: u64, right: u64) -> u64
     requires term_in { term < length problem.now.nodes }
     requires left_in { left < length problem.now.nodes }
     requires right_in { right < length problem.now.nodes }
-    requires two { tree problem.now.nodes term ≡ two op (tree problem.now.nodes left) (tree problem.now.nodes right) }
+    requires two { tree problem.now.nodes term ≡ two op.now (tree problem.now.nodes left) (tree problem.now.nodes right) }
     ensures { result ≡ length (definition (literal_in problem.now) (tree problem.now.nodes term)) }
 {
     if !is_connective(problem, op, left) {
         return 0;
     }
-    table_count(&connective_of(problem, op, term, left, right))
+    table_count(op, &connective_of(problem, term, left, right))
 }
 
 /// How many clauses define an atom.
@@ -33,7 +33,7 @@ fn definition_count(problem: &Problem<'_>, term: u64) -> u64
 {
     match problem.terms().node(term) {
         Node::Leaf(Leaf::Literal(Literal::Bool(true))) => 1,
-        Node::Two(op, left, right) => two_count(problem, *op, term, *left, *right),
+        Node::Two(op, left, right) => two_count(problem, op, term, *left, *right),
         _ => 0,
     }
 }

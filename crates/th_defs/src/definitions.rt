@@ -10,7 +10,7 @@ use crate::table::{Connective, push_table};
 use sc_clauses::{Clause, Lit};
 use sc_footprint::Problem;
 use sc_lists::Seq;
-use sc_terms::{BinaryOp, Leaf, Literal, Node};
+use sc_nodes::{BinaryOp, Leaf, Literal, Node};
 use std::alloc::{AllocError, Global};
 
 /// The clause of one literal.
@@ -23,34 +23,28 @@ fn unit(alloc: Global, lit: Lit) -> Result<Clause, AllocError>
 }
 
 /// Whether an operator on two terms, given the first of them, is a connective.
-pub(crate) fn is_connective(problem: &Problem<'_>, op: BinaryOp, left: u64) -> bool
+pub(crate) fn is_connective(problem: &Problem<'_>, op: &BinaryOp, left: u64) -> bool
     requires { left < length problem.now.nodes }
-    ensures { result ≡ connective op (tree problem.now.nodes left) }
+    ensures { result ≡ connective op.now (tree problem.now.nodes left) }
 {
     match op {
+        BinaryOp::And => true,
+        BinaryOp::Or => true,
         BinaryOp::Equal => problem.is_bool(left),
-        _ => true,
+        _ => false,
     }
 }
 
-/// The connective of a term and its two parts.
-pub(crate) fn connective_of(
-    problem: &Problem<'_>,
-    op: BinaryOp,
-    term: u64,
-    left: u64,
-    right: u64,
-) -> Connective
+/// The literals of a term and its two parts.
+pub(crate) fn connective_of(problem: &Problem<'_>, term: u64, left: u64, right: u64) -> Connective
     requires term_in { term < length problem.now.nodes }
     requires left_in { left < length problem.now.nodes }
     requires right_in { right < length problem.now.nodes }
-    ensures op { result.op ≡ op }
     ensures whole { result.whole ≡ literal_in problem.now (tree problem.now.nodes term) }
     ensures left { result.left ≡ literal_in problem.now (tree problem.now.nodes left) }
     ensures right { result.right ≡ literal_in problem.now (tree problem.now.nodes right) }
 {
     Connective {
-        op,
         whole: problem.literal(term),
         left: problem.literal(left),
         right: problem.literal(right),
@@ -61,7 +55,7 @@ pub(crate) fn connective_of(
 fn push_two(
     alloc: Global,
     problem: &Problem<'_>,
-    op: BinaryOp,
+    op: &BinaryOp,
     term: u64,
     left: u64,
     right: u64,
@@ -70,15 +64,15 @@ fn push_two(
     requires term_in { term < length problem.now.nodes }
     requires left_in { left < length problem.now.nodes }
     requires right_in { right < length problem.now.nodes }
-    requires two { tree problem.now.nodes term ≡ two op (tree problem.now.nodes left) (tree problem.now.nodes right) }
+    requires two { tree problem.now.nodes term ≡ two op.now (tree problem.now.nodes left) (tree problem.now.nodes right) }
     ensures { OnOk result (clauses.new.items ≡ clauses.old.items
         ++ definition (literal_in problem.now) (tree problem.now.nodes term)) }
 {
     if !is_connective(problem, op, left) {
         return Ok(());
     }
-    let connective = connective_of(problem, op, term, left, right);
-    push_table(alloc, &connective, clauses)
+    let connective = connective_of(problem, term, left, right);
+    push_table(alloc, op, &connective, clauses)
 }
 
 /// Adds what defines an atom.
@@ -97,7 +91,7 @@ fn push_definition(
             clauses.push(unit(alloc, problem.literal(term))?)?;
             Ok(())
         }
-        Node::Two(op, left, right) => push_two(alloc, problem, *op, term, *left, *right, clauses),
+        Node::Two(op, left, right) => push_two(alloc, problem, op, term, *left, *right, clauses),
         _ => Ok(()),
     }
 }

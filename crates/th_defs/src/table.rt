@@ -5,26 +5,26 @@ ghost use Rattle.th_defs.specs.Connectives.{truth_of, kept};
 
 use sc_clauses::{Clause, Lit, is_in, negation};
 use sc_lists::Seq;
-use sc_terms::BinaryOp;
+use sc_nodes::BinaryOp;
 use std::alloc::{AllocError, Global};
 
-/// A connective of two truth values: its literal, and those of its parts.
+/// The literals of a connective of two truth values: its own, and those of its parts.
 #[derive(Clone, Copy)]
 pub(crate) struct Connective {
-    pub(crate) op: BinaryOp,
     pub(crate) whole: Lit,
     pub(crate) left: Lit,
     pub(crate) right: Lit,
 }
 
 /// What a connective makes of two truth values.
-fn truth(op: BinaryOp, u: bool, v: bool) -> bool
-    ensures { result ≡ truth_of op u v }
+fn truth(op: &BinaryOp, u: bool, v: bool) -> bool
+    ensures { result ≡ truth_of op.now u v }
 {
     match op {
         BinaryOp::And => u && v,
         BinaryOp::Or => u || v,
         BinaryOp::Equal => u == v,
+        _ => false,
     }
 }
 
@@ -50,10 +50,16 @@ fn is_tautology(lits: &[Lit]) -> bool
 }
 
 /// The row of two values: an input differs from the row, or the whole has the row's value.
-fn row(alloc: Global, connective: &Connective, u: bool, v: bool) -> Result<Clause, AllocError>
-    ensures { IfOk result (λ c. c ≡ row_of (truth_of connective.now.op) connective.now.whole connective.now.left connective.now.right u v) }
+fn row(
+    alloc: Global,
+    op: &BinaryOp,
+    connective: &Connective,
+    u: bool,
+    v: bool,
+) -> Result<Clause, AllocError>
+    ensures { IfOk result (λ c. c ≡ row_of (truth_of op.now) connective.now.whole connective.now.left connective.now.right u v) }
 {
-    let value = truth(connective.op, u, v);
+    let value = truth(op, u, v);
     let mut clause = Seq::new(alloc);
     clause.push(differs(connective.left, u))?;
     clause.push(differs(connective.right, v))?;
@@ -64,15 +70,16 @@ fn row(alloc: Global, connective: &Connective, u: bool, v: bool) -> Result<Claus
 /// Adds the row of two values, unless it holds an atom with its negation.
 fn push_row(
     alloc: Global,
+    op: &BinaryOp,
     connective: &Connective,
     u: bool,
     v: bool,
     clauses: &mut Vec<Clause>,
 ) -> Result<(), AllocError>
     ensures { OnOk result (clauses.new.items ≡ clauses.old.items
-        ++ kept (row_of (truth_of connective.now.op) connective.now.whole connective.now.left connective.now.right u v)) }
+        ++ kept (row_of (truth_of op.now) connective.now.whole connective.now.left connective.now.right u v)) }
 {
-    let clause = row(alloc, connective, u, v)?;
+    let clause = row(alloc, op, connective, u, v)?;
     if is_tautology(clause.as_slice()) {
         return Ok(());
     }
@@ -84,40 +91,41 @@ fn push_row(
 #[tactic(auto, using(crate::proofs::TableLaws::table_is))]
 pub(crate) fn push_table(
     alloc: Global,
+    op: &BinaryOp,
     connective: &Connective,
     clauses: &mut Vec<Clause>,
 ) -> Result<(), AllocError>
     ensures { OnOk result (clauses.new.items ≡ clauses.old.items
-        ++ table (truth_of connective.now.op) connective.now.whole connective.now.left connective.now.right) }
+        ++ table (truth_of op.now) connective.now.whole connective.now.left connective.now.right) }
 {
-    push_row(alloc, connective, false, false, clauses)?;
-    push_row(alloc, connective, false, true, clauses)?;
-    push_row(alloc, connective, true, false, clauses)?;
-    push_row(alloc, connective, true, true, clauses)?;
+    push_row(alloc, op, connective, false, false, clauses)?;
+    push_row(alloc, op, connective, false, true, clauses)?;
+    push_row(alloc, op, connective, true, false, clauses)?;
+    push_row(alloc, op, connective, true, true, clauses)?;
     Ok(())
 }
 
 /// How many clauses the row of two values is: none where it holds an atom with its negation.
-fn row_count(connective: &Connective, u: bool, v: bool) -> u64
-    ensures count { result ≡ length (kept (row_of (truth_of connective.now.op) connective.now.whole connective.now.left connective.now.right u v)) }
+fn row_count(op: &BinaryOp, connective: &Connective, u: bool, v: bool) -> u64
+    ensures count { result ≡ length (kept (row_of (truth_of op.now) connective.now.whole connective.now.left connective.now.right u v)) }
     ensures one { result ≤ 1 }
 {
     let row = [
         differs(connective.left, u),
         differs(connective.right, v),
-        has_value(connective.whole, truth(connective.op, u, v)),
+        has_value(connective.whole, truth(op, u, v)),
     ];
     if is_tautology(&row) { 0 } else { 1 }
 }
 
 /// How many clauses a connective's truth table has.
 #[tactic(auto, using(crate::proofs::TableLaws::rows_counted))]
-pub(crate) fn table_count(connective: &Connective) -> u64
-    ensures { result ≡ length (table (truth_of connective.now.op) connective.now.whole connective.now.left connective.now.right) }
+pub(crate) fn table_count(op: &BinaryOp, connective: &Connective) -> u64
+    ensures { result ≡ length (table (truth_of op.now) connective.now.whole connective.now.left connective.now.right) }
 {
-    let neither = row_count(connective, false, false);
-    let second = row_count(connective, false, true);
-    let first = row_count(connective, true, false);
-    let both = row_count(connective, true, true);
+    let neither = row_count(op, connective, false, false);
+    let second = row_count(op, connective, false, true);
+    let first = row_count(op, connective, true, false);
+    let both = row_count(op, connective, true, true);
     neither + second + first + both
 }

@@ -3,7 +3,7 @@ use Rattle.std.specs.List.{AllByRecursion}
 use Rattle.sc_names.specs.declared.uid.Uid.{Uid}
 use Rattle.sc_goal.specs.Queries.{second}
 use Rattle.sc_schema.specs.Declarations.{context_of}
-use Rattle.sc_terms.specs.Booleans.{IsBoolean}
+use Rattle.sc_term_laws.specs.Booleans.{IsBoolean}
 use Rattle.sc_world.specs.Named.{IsDeclared}
 use Rattle.sc_run.proofs.AnalysisLaws.{query-posed, query-declared, goal-stands}
 use Rattle.sc_run.proofs.analysing.problem_of.Goals as goal

@@ -8,6 +8,6 @@ use Rattle.th_defs.proofs.counting.two_count.Goals as goal
 pub returns : goal.returns
 returns c =
     let p = c.args.problem.now in
-    let is : is_connective c.args.op (tree p.nodes c.args.left) ≡ true = search rules in
+    let is : is_connective c.args.op.now (tree p.nodes c.args.left) ≡ true = search rules in
     let made = c.connective_of.ensures in
-    c.table_count.ensures ∙ counted (literal_in p) c.args.op _ (tree p.nodes c.args.term) (tree p.nodes c.args.left) (tree p.nodes c.args.right) _ _ _ c.requires.two is made.op made.whole made.left made.right
+    c.table_count.ensures ∙ counted (literal_in p) c.args.op.now (tree p.nodes c.args.term) (tree p.nodes c.args.left) (tree p.nodes c.args.right) _ _ _ c.requires.two is made.whole made.left made.right

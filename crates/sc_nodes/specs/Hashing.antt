@@ -1,0 +1,55 @@
+-- What nodes feed a hasher: what they hold beside their sorts, and their parts.
+use Rattle.std.specs.Prelude.{◌≡◌, true, [], ◌++◌, length}
+use Rattle.std.specs.Hash.{HashWrites, str, u64}
+use mathlib.Core.Path.{ap}
+use Rattle.sc_nodes.specs.declared.node.Literal.TheVariants as literal
+use Rattle.sc_nodes.specs.declared.node.Leaf.{Leaf}
+use Rattle.sc_nodes.specs.declared.node.Leaf.TheVariants as leafs
+use Rattle.sc_nodes.specs.declared.node.UnaryOp.{UnaryOp}
+use Rattle.sc_nodes.specs.declared.node.UnaryOp.TheVariants as unary
+use Rattle.sc_nodes.specs.declared.node.BinaryOp.{BinaryOp}
+use Rattle.sc_nodes.specs.declared.node.BinaryOp.TheVariants as binary
+use Rattle.sc_nodes.specs.declared.node.Node.{Node}
+use Rattle.sc_nodes.specs.declared.node.Node.TheVariants as node
+use Rattle.sc_nodes.specs.contracts.node.LeafPartialEq.TheImpl.{ghosts as leaf_eq}
+use Rattle.sc_nodes.specs.contracts.node.UnaryOpPartialEq.TheImpl.{ghosts as unary_eq}
+use Rattle.sc_nodes.specs.contracts.node.BinaryOpPartialEq.TheImpl.{ghosts as binary_eq}
+use Rattle.sc_nodes.specs.contracts.node.NodePartialEq.TheImpl.{ghosts as node_eq}
+use Rattle.sc_nodes.specs.Same.{same_leaf, same_unary, same_binary, same_node}
+
+abbrev pub leaf_input : Leaf → HashWrites
+leaf_input (leafs.Literal (literal.String text)) = str text
+leaf_input (leafs.Literal (literal.Entity u us)) = str u.id
+leaf_input _ = []
+
+abbrev pub unary_input : UnaryOp → HashWrites
+unary_input (unary.Bit i) = u64 i
+unary_input (unary.CarryIn i) = u64 i
+unary_input (unary.ProductRow i j) = u64 i ++ u64 j
+unary_input (unary.ProductCarry i j) = u64 i ++ u64 j
+unary_input (unary.Field name) = str name
+unary_input _ = []
+
+abbrev pub binary_input : BinaryOp → HashWrites
+binary_input (binary.Low i) = u64 i
+binary_input _ = []
+
+abbrev pub node_input : Node → HashWrites
+node_input (node.Leaf l) = leaf_input l
+node_input (node.One o a) = unary_input o ++ u64 a
+node_input (node.Two o a b) = binary_input o ++ (u64 a ++ u64 b)
+node_input (node.Choice c a b) = u64 c ++ (u64 a ++ u64 b)
+node_input (node.Many o ps) = u64 (length ps)
+
+-- equal ones feed the same
+pub leaf_respects : (a b : Leaf) → leaf_eq.eq a b ≡ true → leaf_input a ≡ leaf_input b
+leaf_respects a b same = ap leaf_input (same_leaf a b same)
+
+pub unary_respects : (a b : UnaryOp) → unary_eq.eq a b ≡ true → unary_input a ≡ unary_input b
+unary_respects a b same = ap unary_input (same_unary a b same)
+
+pub binary_respects : (a b : BinaryOp) → binary_eq.eq a b ≡ true → binary_input a ≡ binary_input b
+binary_respects a b same = ap binary_input (same_binary a b same)
+
+pub node_respects : (a b : Node) → node_eq.eq a b ≡ true → node_input a ≡ node_input b
+node_respects a b same = ap node_input (same_node a b same)

@@ -1,0 +1,25 @@
+mod DefaultTypeLaws
+mod JudgingLaws
+mod UnfoldedLaws
+mod MadeLaws
+mod DefaultMade
+mod FitLaws
+mod ToldLaws
+mod MemberLaws
+mod ChoicesLaws
+mod TestLaws
+mod LawfulSortLaws
+mod LeavesJudged
+mod UnaryJudged
+mod BinaryJudged
+mod ManyJudged
+mod NodesJudged
+mod FitVals
+mod FitSets
+mod FitRecords
+mod SortsLawful
+mod FitDefaults
+mod FitEntities
+mod TermsFitLaws
+mod Examples
+pub mod BooleansLaws
