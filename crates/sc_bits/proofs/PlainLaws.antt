@@ -1,5 +1,5 @@
 -- Carries, comparisons and rows by their recursions are those by plain integers.
-use Rattle.std.proofs.Common.{◌≡◌, ℕ, zero, suc, ◌+◌, ◌-◌, ◌*◌, ◌%◌, ◌^◌, ◌<◌, ◌≤◌, ◌↔◌, min, leb, ltb, Bool, true, false, not, IsTrue, ℤ, pos, negsuc, refl, ap, sym, ◌∙◌, arith, SFits, mod-eq_of_lt, ⊎_elim}
+use Rattle.std.proofs.Common.{◌≡◌, ℕ, ◌+◌, ◌-◌, ◌*◌, ◌%◌, ◌^◌, ◌<◌, ◌≤◌, min, leb, Bool, true, false, ℤ, pos, negsuc, ap, sym, ◌∙◌, arith, SFits, mod-eq_of_lt, ⊎_elim}
 use Rattle.std.proofs.Math.Nat.{mod-lt, add-mul-mod_self_right}
 use Rattle.std.proofs.lemmas.Nat.{pow-add}
 use Rattle.std.proofs.lemmas.Bool.{cases_lt}
@@ -15,7 +15,7 @@ use Rattle.sc_bits.proofs.NumberLaws.{number-lt, number-same, number-injective, 
 use Rattle.sc_bits.proofs.IntegerLaws.{bit64-sign}
 use Rattle.sc_bits.proofs.AdderLaws.{number-added}
 use Rattle.sc_bits.proofs.OrderLaws.{low-decides}
-use Rattle.sc_bits.proofs.ProductLaws.{row-product, number-none, number-shift}
+use Rattle.sc_bits.proofs.ProductLaws.{row-product, number-shift}
 
 -- ---- remainders
 

@@ -17,7 +17,8 @@ pub fn integer_laws()
     ensures back { (z : ℤ) → FitsSigned w64 z → of_bits64 (bit64 z) ≡ z }
     ensures bits { (f : ℕ → Bool) (i : ℕ) → i < 64 → bit64 (of_bits64 f) i ≡ f i }
     ensures fits { (f : ℕ → Bool) → FitsSigned w64 (of_bits64 f) }
-    ensures same { (a b : ℤ) → FitsSigned w64 a → FitsSigned w64 b → ((i : ℕ) → i < 64 → bit64 a i ≡ bit64 b i) ↔ (a ≡ b) }
+    ensures same { (a b : ℤ) → FitsSigned w64 a → FitsSigned w64 b
+        → ((i : ℕ) → i < 64 → bit64 a i ≡ bit64 b i) ↔ (a ≡ b) }
     ensures only { (f g : ℕ → Bool) → ((i : ℕ) → i < 64 → f i ≡ g i) → of_bits64 f ≡ of_bits64 g }
     ensures wrapped { (z : ℤ) → of_bits64 (bit64 z) ≡ int_wrap w64 z }
     ensures leaves { (z : ℤ) → (leaves64 z ≡ false) ↔ FitsSigned w64 z }
@@ -41,7 +42,8 @@ pub fn sum_laws()
         ≡ odd (bit64 a i) (bit64 b i) (carry_of_sum a b i) }
     ensures overflow { (a b : ℤ) → FitsSigned w64 a → FitsSigned w64 b
         → sum_overflows (bit64 a 63) (bit64 b 63) (bit64 (int_wrap w64 (a +ℤ b)) 63) ≡ leaves64 (a +ℤ b) }
-    ensures carries { (first : Bool) (n : ℕ) (a b : ℕ → Bool) → IsAdder first n a b (carry first a b) (added first a b) }
+    ensures carries { (first : Bool) (n : ℕ) (a b : ℕ → Bool) → IsAdder first n a b (carry first a b)
+        (added first a b) }
     ensures rebuilt { (a b c r : ℕ → Bool) → IsAdder false 64 a b c r → of_bits64 r
         ≡ int_wrap w64 (of_bits64 a +ℤ of_bits64 b) }
     ensures rebuilt_overflow { (a b c r : ℕ → Bool) → IsAdder false 64 a b c r

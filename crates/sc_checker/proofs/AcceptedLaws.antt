@@ -1,6 +1,6 @@
 -- Where a log is accepted by the rules of a theory, the goal is true in no well-formed world.
-use Rattle.std.proofs.Common.{◌≡◌, ◌<◌, ◌≤◌, ◌&&◌, ℕ, List, [], ◌∷◌, ◌++◌, length, Bool, true, IsTrue, refl, sym, ◌∙◌}
-use Rattle.std.specs.List.{All, AllByRecursion, Contains, list_all}
+use Rattle.std.proofs.Common.{◌≡◌, ℕ, List, length, Bool, true, sym, ◌∙◌}
+use Rattle.std.specs.List.{Contains, list_all}
 use Rattle.std.proofs.lemmas.Bool.{and_from, lt-ltb, le-leb}
 use Rattle.std.proofs.lemmas.List.Elements.{All-contains_itself, All-weaker, recursion_from_All}
 use Rattle.sc_lists.proofs.ListLaws.{list_all_true}
@@ -8,8 +8,8 @@ use Rattle.sc_world.specs.declared.world.World.{World}
 use Rattle.sc_clauses.specs.declared.lit.Lit.{Lit}
 use Rattle.sc_clauses.specs.declared.step.Instance.{Instance}
 use Rattle.sc_clauses.specs.declared.step.Step.{Step}
-use Rattle.sc_clauses.specs.Clauses.{Clause, clause_holds}
-use Rattle.sc_footprint.specs.Problems.{Posed, IsPosed, atoms}
+use Rattle.sc_clauses.specs.Clauses.{Clause}
+use Rattle.sc_footprint.specs.Problems.{Posed, atoms}
 use Rattle.sc_footprint.specs.Definitions.{defining}
 use Rattle.sc_footprint.specs.Theories.{IsListed, IsClauseOf}
 use Rattle.sc_footprint.specs.Truths.{truths, IsWorldOf, IsTrueIn, Satisfies, IsUnsatisfiable}
@@ -18,7 +18,7 @@ use Rattle.sc_checker.specs.declared.checking.Verdict.{Verdict}
 use Rattle.sc_checker.specs.declared.checking.Verdict.TheVariants.{Refuted}
 use Rattle.sc_checker.specs.Verdicts.{Rules, IsAccepted, verdict}
 use Rattle.sc_checker.proofs.VerdictLaws.{AreListed, refuted_accepted}
-use Rattle.sc_checker.proofs.Soundness.{AllHold, AreTrue, accepted-sound}
+use Rattle.sc_checker.proofs.Soundness.{AllHold, accepted-sound}
 
 -- ---- listed atoms
 

@@ -178,7 +178,8 @@ pub fn check<T: Theory>(
     log: &Log,
 ) -> Result<Verdict, AllocError>
     // The verdict is exact: which step is the first at fault, and why.
-    ensures exact { IfOk result (λ v. v ≡ verdict (rules_at T.has_instance T.clause_of rules.now problem.now) problem.now log.now) }
+    ensures exact { IfOk result (λ v. v ≡ verdict (rules_at T.has_instance T.clause_of rules.now problem.now)
+        problem.now log.now) }
     // The logs that refute the goal are those that are accepted.
     ensures accepted { IfOk result (λ v. (v ≡ Verdict.Refuted)
         ↔ IsAccepted (rules_at T.has_instance T.clause_of rules.now problem.now) problem.now log.now) }

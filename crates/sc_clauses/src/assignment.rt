@@ -45,7 +45,7 @@ impl Assignment {
 }
 
 /// Whether an assignment makes a literal false.
-fn is_false(m: &Assignment, lit: Lit) -> bool
+pub fn is_false(m: &Assignment, lit: Lit) -> bool
     ensures { result ≡ is_false m.now lit }
 {
     match m.value(lit.atom) {

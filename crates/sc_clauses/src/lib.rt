@@ -8,7 +8,7 @@ mod step;
 #[cfg(test)]
 mod tests;
 
-pub use assignment::{Assignment, falsifies};
+pub use assignment::{Assignment, falsifies, is_false};
 pub use clause::{Clause, contained, is_in};
 pub use lit::{Atom, Lit, is_same, negation};
 pub use step::{Instance, Learned, Step, Word};

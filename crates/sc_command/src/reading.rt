@@ -115,7 +115,8 @@ fn command_in<'w>(matches: &ArgMatches<'w>) -> Option<Command<'w>>
 /// What `clap` makes of the words, where it accepts them.
 fn matches_of<'w>(alloc: Global, words: &'w [String]) -> Result<Option<ArgMatches<'w>>, AllocError>
     ensures accepted { IfOk result (λ o. IfSome o (λ m. fault_of tool (words_view words.now) ≡ [])) }
-    ensures entered { IfOk result (λ o. IfSome o (λ m. subcommand_rows_of m ≡ subcommand_of tool (words_view words.now))) }
+    ensures entered { IfOk result (λ o. IfSome o
+        (λ m. subcommand_rows_of m ≡ subcommand_of tool (words_view words.now))) }
     ensures refused { IfOk result (λ o. IfNone o (fault_of tool (words_view words.now) ≢ [])) }
 {
     match tool(alloc)?.try_get_matches_from(words) {

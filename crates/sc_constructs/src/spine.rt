@@ -52,7 +52,8 @@ fn to_clauses(policy: &Policy, clauses: &[Condition], typed: &TypedExpr) -> Opti
 /// Of a clause. The `!` of `unless` is no construct that is lacking.
 #[tactic(auto, using(crate::proofs::ScopesLaws::clause_When, crate::proofs::ScopesLaws::clause_Unless))]
 fn in_clause(clause: &Condition, typed: &TypedExpr, so_far: Option<Found>) -> Option<Found>
-    ensures { result ≡ least_of so_far (of_conjunct (clause.now.place, required clause.now.kind clause.now.place clause.now.body) (out-TypedExpr typed.now)) }
+    ensures { result ≡ least_of so_far (of_conjunct
+        (clause.now.place, required clause.now.kind clause.now.place clause.now.body) (out-TypedExpr typed.now)) }
 {
     match clause.kind {
         ConditionKind::When => in_expr(&clause.body, typed, so_far),

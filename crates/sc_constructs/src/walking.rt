@@ -78,7 +78,8 @@ fn in_if(
 
 #[cycle(walking)]
 fn in_either(a: &Expr, b: &Expr, typed: &TypedExpr, so_far: Option<Found>) -> Option<Found>
-    ensures { result ≡ least_of so_far (of_either (constructs_in a.now) (constructs_in b.now) (out-TypedExpr typed.now)) }
+    ensures { result ≡ least_of so_far (of_either (constructs_in a.now) (constructs_in b.now)
+        (out-TypedExpr typed.now)) }
 {
     match typed {
         TypedExpr::Or(_, _, x, y) => in_two(a, b, x.get(), y.get(), so_far),

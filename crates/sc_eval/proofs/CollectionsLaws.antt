@@ -74,7 +74,7 @@ all-decides (y ∷ ys) t = (
 pub all_are : (r : Bool) (s t : List Value) → (IsTrue r ↔ IsSubset s t) → r ≡ list_all (is_member t) s
 all_are r s t h = same_truth r (list_all (is_member t) s) h (all-decides s t)
 
-any-decides : (s t : List Value) → IsTrue (list_any (is_member t) s) ↔ Meets s t
+pub any-decides : (s t : List Value) → IsTrue (list_any (is_member t) s) ↔ Meets s t
 any-decides [] t = (λ h. cc, λ h. absurd (contains_nothing h.0 h.1))
 any-decides (y ∷ ys) t = (
   λ h. elim (or_cases (is_member t y) (list_any (is_member t) ys) h) [

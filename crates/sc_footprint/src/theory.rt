@@ -37,8 +37,10 @@ pub trait Theory {
         m: &Assignment,
     ) -> Result<Option<Instance>, AllocError>
         ensures accepted { IfOk result (λ o. IfSome o (λ i. has_instance self.now problem.now i ≡ true)) }
-        ensures falsified { IfOk result (λ o. IfSome o (λ i. falsifies m.now (clause_of self.now problem.now i) ≡ true)) }
-        ensures none { IfOk result (λ o. o ≡ None → (i : AnyInstance) → has_instance self.now problem.now i ≡ true → falsifies m.now (clause_of self.now problem.now i) ≡ false) };
+        ensures falsified { IfOk result (λ o. IfSome o
+            (λ i. falsifies m.now (clause_of self.now problem.now i) ≡ true)) }
+        ensures none { IfOk result (λ o. o ≡ None → (i : AnyInstance) → has_instance self.now problem.now i ≡ true
+            → falsifies m.now (clause_of self.now problem.now i) ≡ false) };
 
     /// The clause of an instance. Want of memory is its one fault.
     fn clause(
@@ -51,8 +53,10 @@ pub trait Theory {
         ensures { IfOk result (λ c. c ≡ clause_of self.now problem.now instance.now) };
 
     /// Each clause is true in every well-formed world.
-    ghost sound: { (t : Self) (p : Posed) (i : AnyInstance) (w : World) → IsPosed p → has_instance t p i ≡ true → IsWorldOf p w → IsTrueIn p w (clause_of t p i) };
+    ghost sound: { (t : Self) (p : Posed) (i : AnyInstance) (w : World) → IsPosed p → has_instance t p i ≡ true
+        → IsWorldOf p w → IsTrueIn p w (clause_of t p i) };
 
     /// Each clause has literals of listed atoms, none of them with its negation.
-    ghost lawful: { (t : Self) (p : Posed) (i : AnyInstance) → IsPosed p → has_instance t p i ≡ true → IsClauseOf p (clause_of t p i) };
+    ghost lawful: { (t : Self) (p : Posed) (i : AnyInstance) → IsPosed p → has_instance t p i ≡ true
+        → IsClauseOf p (clause_of t p i) };
 }

@@ -4,7 +4,7 @@ use Rattle.std.specs.Option.{option_map, option_and_then}
 use Rattle.std.specs.List.{AllByRecursion, AllZip, list_any}
 use Rattle.std.proofs.lemmas.List.Elements.{Contains-append_left, Contains-append_right}
 use Rattle.sc_terms.proofs.FoldValues.{truth_yes}
-use Rattle.sc_lists.proofs.ListLaws.{all_of_elements, contains_rest, contains_first}
+use Rattle.sc_lists.proofs.ListLaws.{all_of_elements}
 use Rattle.sc_names.specs.declared.uid.Uid.{Uid}
 use Rattle.sc_ast.specs.declared.policy.Effect.{Effect}
 use Rattle.sc_ast.specs.declared.policy.Policy.{Policy}

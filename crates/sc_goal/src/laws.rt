@@ -52,15 +52,18 @@ pub fn property_laws()
 /// the fragment of Booleans. Policies that are typed in all environments, and have no further constructs
 /// there, are compiled in each; and there is a goal where the policies of both sets are.
 pub fn goal_laws()
-    ensures right { (s : Declarations) (env : AnyEnv) (lits : List AnyUid) (w : AnyWorld) (q : AnyQuestion) (a b : List AnyPolicy) (t : Tree) →
-        IsLawful s → IsWellFormed s env lits w → ((u : AnyUid) → Contains (uids_of a) u → Contains lits u) → ((u : AnyUid) → Contains (uids_of b) u → Contains lits u) →
+    ensures right { (s : Declarations) (env : AnyEnv) (lits : List AnyUid) (w : AnyWorld) (q : AnyQuestion)
+        (a b : List AnyPolicy) (t : Tree) →
+        IsLawful s → IsWellFormed s env lits w → ((u : AnyUid) → Contains (uids_of a) u → Contains lits u)
+        → ((u : AnyUid) → Contains (uids_of b) u → Contains lits u) →
         goal_term s env q a b ≡ Some t → truth (val t w) ≡ not (has q a b w) }
     ensures boolean { (s : Declarations) (env : AnyEnv) (q : AnyQuestion) (a b : List AnyPolicy) (t : Tree) →
         goal_term s env q a b ≡ Some t → IsBoolean (context_of s env.action) t }
     ensures term { (s : Declarations) (env : AnyEnv) (written : List AnyUid) (q : AnyQuestion) (a b : List AnyPolicy)
         (t : Tree) → goal_term s env q a b ≡ Some t → IsTermOf s env written Bool t }
     ensures posed { (s : Declarations) (env : AnyEnv) (ps : List AnyPolicy) →
-        type_fault s ps ≡ None → unsupported s ps ≡ None → Contains (environments s) env → IsSome (all_compiled s env ps) }
+        type_fault s ps ≡ None → unsupported s ps ≡ None → Contains (environments s) env
+        → IsSome (all_compiled s env ps) }
     ensures both { (s : Declarations) (env : AnyEnv) (q : AnyQuestion) (a b : List AnyPolicy) →
         IsSome (all_compiled s env a) → IsSome (all_compiled s env b) → IsSome (goal_term s env q a b) }
 {

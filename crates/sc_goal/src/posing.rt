@@ -69,7 +69,8 @@ fn goal_of(
 /// Whether a set doesn't allow.
 fn denies(alloc: Global, terms: &mut Terms, policies: &[CompiledPolicy]) -> Result<u64, AllocError>
     requires { AreCodes terms.old policies.now }
-    ensures ok { IfOk result (λ n. StandsFor terms.new n (not_term (allow (map (compiled_at terms.old) policies.now)))) }
+    ensures ok { IfOk result (λ n. StandsFor terms.new n
+        (not_term (allow (map (compiled_at terms.old) policies.now)))) }
     ensures kept { Keeps terms.old terms.new }
 {
     let allowed = allow_term(alloc, terms, policies)?;

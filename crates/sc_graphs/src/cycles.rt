@@ -96,7 +96,8 @@ impl Search {
         requires { StandsAt graph.now self.old part }
         ensures stands { OnOk result (Stands graph.now self.new) }
         ensures goes { OnOk result (Goes self.old.marks.items self.new.marks.items) }
-        ensures further { OnOk result (steps_left self.new.marks.items self.new.parts.items self.new.waiting.items < steps_left self.old.marks.items (self.old.parts.items ++ part ∷ []) self.old.waiting.items) }
+        ensures further { OnOk result (steps_left self.new.marks.items self.new.parts.items self.new.waiting.items
+            < steps_left self.old.marks.items (self.old.parts.items ++ part ∷ []) self.old.waiting.items) }
     {
         if self.waiting.len() <= part.waiting {
             self.leave(part);
@@ -168,7 +169,8 @@ impl Search {
     fn part_at(&mut self, last: Part, place: usize) -> Part
         ensures joined { (graph : List (List ℕ)) (path waiting : List ℕ) (end held : ℕ) → place < end
             → AreParts graph path waiting (self.old.parts.items ++ last ∷ []) end held
-            → IsJoined graph path waiting (self.old.parts.items ++ last ∷ []) self.new.parts.items result place end held }
+            → IsJoined graph path waiting (self.old.parts.items ++ last ∷ [])
+            self.new.parts.items result place end held }
         ensures fewer { length self.new.parts.items ≤ length self.old.parts.items }
         ensures marks { self.new.marks ≡ self.old.marks }
         ensures path { self.new.path ≡ self.old.path }

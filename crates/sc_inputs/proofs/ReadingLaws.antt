@@ -1,5 +1,5 @@
 -- Why reading the files of a command ends, and what it gives.
-use Rattle.std.proofs.Common.{◌≡◌, ◌≤◌, ℕ, List, Option, Some, None, Result, Ok, Err, IfOk, IfErr, OnOk, is_some, refl, sym, subst, ◌∙◌, arith}
+use Rattle.std.proofs.Common.{◌≡◌, ℕ, List, Option, Some, None, Result, Ok, Err, IfOk, IfErr, OnOk, is_some, refl, sym, subst, ◌∙◌}
 use Rattle.std.proofs.Math.Path.{fun_ext}
 use Rattle.sc_lists.specs.declared.fault.Fault.{Fault}
 use Rattle.sc_lists.specs.declared.fault.Fault.TheVariants.{Told, NoMemory}
@@ -14,7 +14,7 @@ use Rattle.sc_inputs.specs.Serving.{Command, Serves, HasUnits, HasSets, asking, 
 use Rattle.sc_inputs.proofs.ServingLaws.{units_of, sets_of}
 use Rattle.sc_inputs.specs.Readings.{FailsWith, Checks, IsNoSchema, IsNoPolicies, IsNoWorld, ReadsRest, ReadsInputs, IsRead, RefusesSets, by_first, by_against, RefusesAnalysis, by_files, by_question, RefusesScene, by_policies, by_world, by_names}
 use Rattle.sc_inputs.specs.Refusals as spec
-use Rattle.sc_inputs.specs.Refusals.{Content, File, Side, policies_side, against_side, IsRefusal, no_command, of_schema, of_policies, of_against, of_world, of_names, of_question, IsContent, ReadsSchema, HasPolicies, HasAgainst, HasWorld, AreServed, ReachesQuestion, RefusesQuestion, RefusesFile, unread, long, RefusesSchema, schema_unread, schema_faulty, RefusesPolicies, policies_unread, policies_faulty, RefusesWorld, world_unread, world_faulty, schema_file, policy_file, world_file}
+use Rattle.sc_inputs.specs.Refusals.{Content, File, Side, policies_side, against_side, IsRefusal, no_command, of_schema, of_policies, of_against, of_world, of_names, of_question, IsContent, ReadsSchema, HasPolicies, HasAgainst, HasWorld, AreServed, RefusesFile, unread, long, RefusesSchema, schema_unread, schema_faulty, RefusesPolicies, policies_unread, policies_faulty, RefusesWorld, world_unread, world_faulty, schema_file, policy_file, world_file}
 use Rattle.sc_inputs.specs.View.{refusal_view}
 use Rattle.sc_inputs.specs.declared.inputs.Inputs.{Inputs}
 use Rattle.sc_inputs.specs.declared.inputs.Inputs.TheVariants.{Asked, Replayed}

@@ -64,7 +64,8 @@ pub fn sets_of<F: Files>(
     against: Option<&str>,
 ) -> Result<(PolicySet, Option<PolicySet>), Fault<Refusal>>
     ensures first { IfOk result (λ sets. HasPolicies (F.content files.old) policies.now sets.0) }
-    ensures second { IfOk result (λ sets. HasAgainst (F.content files.old) (option_map (λ n. n.now) against.entry) sets.1) }
+    ensures second { IfOk result (λ sets. HasAgainst (F.content files.old)
+        (option_map (λ n. n.now) against.entry) sets.1) }
     ensures fails { IfErr result (FailsWith (RefusesSets (F.content files.old) policies.now (option_map
         (λ n. n.now) against.entry) (Rose (F.faults files.old) (F.faults files.new)))) }
     ensures later { F.faults files.old ≤ F.faults files.new }

@@ -29,7 +29,8 @@ fn checked_sets<F: Files>(
     schema: &Schema,
 ) -> Result<(PolicySet, Option<PolicySet>), Fault<Refusal>>
     ensures first { IfOk result (λ sets. HasPolicies (F.content files.old) policies.now sets.0) }
-    ensures second { IfOk result (λ sets. HasAgainst (F.content files.old) (option_map (λ n. n.now) against.entry) sets.1) }
+    ensures second { IfOk result (λ sets. HasAgainst (F.content files.old)
+        (option_map (λ n. n.now) against.entry) sets.1) }
     ensures served { IfOk result (λ sets. AreServed schema.now sets.0 sets.1) }
     ensures fails { IfErr result (FailsWith (RefusesAnalysis (F.content files.old) policies.now (option_map
         (λ n. n.now) against.entry) (Rose (F.faults files.old) (F.faults files.new)) schema.now)) }
@@ -59,7 +60,8 @@ fn analysis_of<F: Files>(
     ensures question { IfOk result (λ i. i.question ≡ question) }
     ensures budget { IfOk result (λ i. i.budget ≡ budget) }
     ensures first { IfOk result (λ i. HasPolicies (F.content files.old) command.now.policies.now i.policies) }
-    ensures second { IfOk result (λ i. HasAgainst (F.content files.old) (option_map (λ n. n.now) against.entry) i.against) }
+    ensures second { IfOk result (λ i. HasAgainst (F.content files.old) (option_map (λ n. n.now) against.entry)
+        i.against) }
     ensures served { IfOk result (λ i. AreServed schema i.policies i.against) }
     ensures fails { IfErr result (FailsWith (RefusesAnalysis (F.content files.old) command.now.policies.now (option_map
         (λ n. n.now) against.entry) (Rose (F.faults files.old) (F.faults files.new)) schema)) }

@@ -43,7 +43,8 @@ fn follow_one(
 ) -> Result<Option<Vec<char>>, AllocError>
     ensures scalar { IsScalar c }
     ensures found { IfOk result (λ o. IfSome o (λ v. IsEnd items.now words.now marks.now word.now v.items)) }
-    ensures none { IfOk result (λ o. IfNone o (IsStepped items.now words.now marks.now word.now c visited.old visited.new)) }
+    ensures none { IfOk result (λ o. IfNone o
+        (IsStepped items.now words.now marks.now word.now c visited.old visited.new)) }
 {
     let next = step(alloc, items, c, marks)?;
     if is_dead(items, next.as_slice()) {
@@ -75,7 +76,8 @@ fn follow(
     word: &[char],
 ) -> Result<Option<Vec<char>>, AllocError>
     ensures found { IfOk result (λ o. IfSome o (λ v. IsEnd items.now words.now marks.now word.now v.items)) }
-    ensures none { IfOk result (λ o. IfNone o (IsFollowed items.now symbols.now words.now marks.now word.now visited.old visited.new)) }
+    ensures none { IfOk result (λ o. IfNone o
+        (IsFollowed items.now symbols.now words.now marks.now word.now visited.old visited.new)) }
 {
     for c in symbols {
         if let Some(found) = follow_one(alloc, items, words, visited, marks, word, *c)? {
@@ -107,7 +109,8 @@ fn visit(
     requires { IsAt items.now marks.now word.now }
     ensures found { IfOk result (λ o. IfSome o (λ v. IsFound items.now words.now v.items)) }
     ensures known { IfOk result (λ o. IfNone o (accepts_of false items.now marks.now ≡ true → Has words.now word.now)) }
-    ensures none { IfOk result (λ o. IfNone o (IsFollowed items.now symbols.now words.now marks.now word.now visited.old visited.new)) }
+    ensures none { IfOk result (λ o. IfNone o
+        (IsFollowed items.now symbols.now words.now marks.now word.now visited.old visited.new)) }
 {
     if is_sought(items, words, marks, word) {
         return Ok(Some(copy(alloc, word)?));

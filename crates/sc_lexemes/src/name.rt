@@ -160,7 +160,8 @@ pub fn more_entity(
     ensures forward { cursor.old.at ≤ cursor.new.at }
     ensures within { cursor.new.at ≤ length ts.now }
     ensures ok { IfOk result (λ e. ReadsMoreEntity ts.now cursor.old place (string_bytes so_far) (read e cursor.new)) }
-    ensures err { IfErr result (λ f. Halts (ReadsMoreEntity ts.now cursor.old place (string_bytes so_far)) f cursor.new) }
+    ensures err { IfErr result (λ f. Halts (ReadsMoreEntity ts.now cursor.old place (string_bytes so_far))
+        f cursor.new) }
 {
     let mut path = so_far;
     while let Some(_) = sign_at(ts, cursor.at, Kind::DoubleColon) {

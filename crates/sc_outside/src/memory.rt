@@ -53,7 +53,8 @@ impl Files for MemFiles {
         // It fails exactly where it is told to, or the name isn't there.
         ensures fails { (result ≡ Err FileFault.Failed)
             ↔ ((Contains self.old.failing.items self.old.calls) ⊎ (content_in self.old.files name.now ≡ None)) }
-        ensures counts_failure { CountsFailure self.old.faults.count self.new.faults.count (result ≡ Err FileFault.Failed) }
+        ensures counts_failure { CountsFailure self.old.faults.count self.new.faults.count
+            (result ≡ Err FileFault.Failed) }
         ensures failing { self.new.failing ≡ self.old.failing }
         ensures calls { self.new.calls ≡ next_count self.old.calls }
     {
@@ -130,8 +131,10 @@ impl Sink for MemSink {
         ensures counts { Counts self.old.faults.count self.new.faults.count (result ≡ Err SinkFault.Failed) }
 
         // It fails exactly where it is told to.
-        ensures kept { KeepsOf (kept_of self.old.failing.items self.old.calls) self.old.written.items self.new.written.items piece.now result }
-        ensures counts_failure { CountsFailure self.old.faults.count self.new.faults.count (result ≡ Err SinkFault.Failed) }
+        ensures kept { KeepsOf (kept_of self.old.failing.items self.old.calls)
+            self.old.written.items self.new.written.items piece.now result }
+        ensures counts_failure { CountsFailure self.old.faults.count self.new.faults.count
+            (result ≡ Err SinkFault.Failed) }
         ensures failing { self.new.failing ≡ self.old.failing }
         ensures calls { self.new.calls ≡ next_count self.old.calls }
     {

@@ -44,7 +44,8 @@ impl<R: rt::Files> Files for RealFiles<'_, R> {
     fn read(&mut self, alloc: Global, name: &str, limit: u64) -> Result<Vec<u8>, FileFault>
         ensures within { IfOk result (λ bytes. length bytes.items ≤ limit) }
         ensures counts { Counts self.old.faults.count self.new.faults.count (result ≡ Err FileFault.Failed) }
-        ensures counts_failure { CountsFailure self.old.faults.count self.new.faults.count (result ≡ Err FileFault.Failed) }
+        ensures counts_failure { CountsFailure self.old.faults.count self.new.faults.count
+            (result ≡ Err FileFault.Failed) }
     {
         let read = bytes_of(self.rt, alloc, name, limit);
         if matches!(&read, Err(FileFault::Failed)) {
@@ -141,7 +142,8 @@ impl<R: Print> Sink for RealSink<'_, R> {
     fn write(&mut self, piece: &[u8]) -> Result<(), SinkFault>
         ensures text { Writes None None piece.now result }
         ensures counts { Counts self.old.faults.count self.new.faults.count (result ≡ Err SinkFault.Failed) }
-        ensures counts_failure { CountsFailure self.old.faults.count self.new.faults.count (result ≡ Err SinkFault.Failed) }
+        ensures counts_failure { CountsFailure self.old.faults.count self.new.faults.count
+            (result ≡ Err SinkFault.Failed) }
     {
         if self.rt.write_all(piece).is_err() {
             self.faults.raise();

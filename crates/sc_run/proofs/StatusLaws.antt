@@ -1,5 +1,5 @@
 -- What a run's end tells.
-use Rattle.std.proofs.Common.{◌≡◌, ◌≤◌, ◌<◌, ◌==◌, ◌||◌, ◌↔◌, ◌++◌, ℕ, zero, suc, List, [], ◌∷◌, map, Bool, true, false, Option, Some, None, Contains, refl, sym, ap, ◌∙◌, subst, arith, ⊎_elim, inl, inr, ◌⊎◌}
+use Rattle.std.proofs.Common.{◌≡◌, ◌≤◌, ◌<◌, ◌==◌, ◌↔◌, ◌++◌, ℕ, zero, suc, List, [], ◌∷◌, map, Bool, true, false, Option, Some, None, Contains, refl, sym, ap, ◌∙◌, subst, arith, ⊎_elim, inl, inr, ◌⊎◌}
 use Rattle.std.specs.Bool.{⊤}
 use Rattle.std.specs.List.{AllByRecursion}
 use Rattle.std.proofs.lemmas.Bool.{or_cases}
@@ -25,7 +25,7 @@ use Rattle.sc_inputs.specs.View.{refusal_view}
 use Rattle.sc_inputs.specs.declared.refusal.Refusal as answer
 use Rattle.sc_inputs.specs.declared.refusal.Refusal.TheVariants as refusal
 use Rattle.sc_lists.specs.declared.fault.Fault.TheVariants.{Told}
-use Rattle.sc_inputs.specs.Refusals.{Refusal, Side, policies_side, against_side, usage, schema_text, policy_text, world_text, unknown_name, ill_typed, unsupported, read_fault, too_long, IsRefusal, no_command, of_schema, of_policies, of_against, of_world, of_names, of_question, RefusesQuestion, unread, long, RefusesSchema, schema_unread, schema_faulty, RefusesPolicies, policies_unread, RefusesWorld, world_unread, world_faulty, code_of, ReadsSchema, ReachesQuestion, ReachesWorld}
+use Rattle.sc_inputs.specs.Refusals.{Refusal, policies_side, against_side, usage, schema_text, policy_text, world_text, unknown_name, ill_typed, unsupported, read_fault, too_long, IsRefusal, no_command, of_schema, of_policies, of_against, of_world, of_names, of_question, RefusesQuestion, unread, long, RefusesSchema, schema_unread, schema_faulty, RefusesPolicies, policies_unread, RefusesWorld, world_unread, world_faulty, code_of, ReadsSchema, ReachesQuestion, ReachesWorld}
 use Rattle.sc_inputs.specs.Refusals as spec
 use Rattle.sc_run.specs.Progress.{Reported, whole, cut, cut_none, stopped}
 use Rattle.sc_run.specs.Replays.{Replayed, told_whole, told_front, told_first, untold}

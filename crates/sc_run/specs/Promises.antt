@@ -1,5 +1,5 @@
 -- What is promised of each run.
-use Rattle.std.specs.Prelude.{◌≡◌, ℕ, List}
+use Rattle.std.specs.Prelude.{◌≡◌, List}
 use Rattle.std.specs.List.{Contains}
 use Rattle.sc_clauses.specs.declared.step.Step.{Step}
 use Rattle.sc_inputs.specs.Serving.{Command, Serves}

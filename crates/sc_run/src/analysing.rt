@@ -43,7 +43,8 @@ fn problem_of<'a>(
     requires served { AreServed schema.now query.now.first query.now.against }
     ensures ok { IfOk result (λ p. (t : Tree) → IsGoalOf schema.now env.now query.now t
         → IsProblemOf schema.now env.now query.now.literals t p) }
-    ensures err { IfErr result (λ fault. (t : Tree) → IsGoalOf schema.now env.now query.now t → IsRefused env.now t fault) }
+    ensures err { IfErr result (λ fault. (t : Tree) → IsGoalOf schema.now env.now query.now t
+        → IsRefused env.now t fault) }
 {
     goal_laws();
     declared_laws();

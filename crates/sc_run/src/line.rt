@@ -58,7 +58,8 @@ pub fn line_of(
     answer: &EnvAnswer,
 ) -> Result<Vec<u8>, AllocError>
     requires { IsPrintable answer.now }
-    ensures { IfOk result (λ v. v.items ≡ line_text (record { env = env.now; verdict = verdict_view budget answer.now })) }
+    ensures { IfOk result (λ v. v.items
+        ≡ line_text (record { env = env.now; verdict = verdict_view budget answer.now })) }
 {
     let mut out = Vec::new(alloc);
     put_env(alloc, &mut out, env)?;

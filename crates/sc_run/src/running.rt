@@ -34,7 +34,8 @@ fn refuse<O: Sink>(alloc: Global, refusal: &Refusal, out: &mut O) -> u8
 
 /// Reads what the words name, and does it.
 fn ends<F: Files, O: Sink>(alloc: Global, words: &[String], files: &mut F, out: &mut O) -> Status
-    ensures ends { Ends (run_of F.Files O.Sink files.old files.new out.old out.new words.now result.code) result.spent.items }
+    ensures ends { Ends (run_of F.Files O.Sink files.old files.new out.old out.new words.now result.code)
+        result.spent.items }
     ensures read_told { F.faults files.old < F.faults files.new → MustBe 20 result.code }
     ensures write_told { O.faults out.old < O.faults out.new → result.code ≡ 21 }
 {
@@ -50,7 +51,8 @@ fn ends<F: Files, O: Sink>(alloc: Global, words: &[String], files: &mut F, out: 
 /// goes to one sink. Each line is written as soon as it is known. The answer has the status and the log of each
 /// environment that is unknown. `specs/Promises.antt` says what is promised of each run.
 pub fn run<F: Files, O: Sink>(alloc: Global, words: &[String], files: &mut F, out: &mut O) -> Status
-    ensures { Promises (run_of F.Files O.Sink files.old files.new out.old out.new words.now result.code) result.spent.items }
+    ensures { Promises (run_of F.Files O.Sink files.old files.new out.old out.new words.now result.code)
+        result.spent.items }
 {
     spelling_laws();
     reading_laws();

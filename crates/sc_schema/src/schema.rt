@@ -39,7 +39,8 @@ impl Model for Schema {
 
     ghost view = { λ s. record { types = s.types; actions = s.actions } };
 
-    ghost invariant = { λ s. IsLawful (record { types = s.types; actions = s.actions }) × IsIndexOf (record { types = s.types; actions = s.actions }) s.index };
+    ghost invariant = { λ s. IsLawful (record { types = s.types; actions = s.actions })
+        × IsIndexOf (record { types = s.types; actions = s.actions }) s.index };
 }
 
 impl Schema {

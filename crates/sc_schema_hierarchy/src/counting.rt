@@ -23,7 +23,8 @@ pub fn has_more_environments(actions: &[Action], most: u64) -> bool
 /// What is left of a number where as many are taken away as an action has environments; none where
 /// it has more.
 fn without_environments(left: u64, action: &Action) -> Option<u64>
-    ensures { SomeIff result (length (environments_for action.now) ≤ left) (left - length (environments_for action.now)) }
+    ensures { SomeIff result (length (environments_for action.now) ≤ left)
+        (left - length (environments_for action.now)) }
 {
     left.checked_sub(environment_count(action)?)
 }

@@ -70,7 +70,12 @@ fn links_of(
 
 /// An entity type, with these types above it.
 fn with_ancestors(declared: ExpandedEntityType, ancestors: Seq<Name>) -> EntityType
-    ensures { result ≡ record { name = declared.name; ancestors = ancestors; shape = declared.shape; tags = declared.tags } }
+    ensures { result ≡ record {
+      name = declared.name;
+      ancestors = ancestors;
+      shape = declared.shape;
+      tags = declared.tags;
+    } }
 {
     EntityType {
         name: declared.name,

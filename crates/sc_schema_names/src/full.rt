@@ -82,7 +82,8 @@ pub(crate) fn parent_candidates(
     namespace: &str,
     parent: &WrittenParent,
 ) -> Result<Seq<Uid>, AllocError>
-    ensures { IfOk result (λ uids. uids ≡ map (uid_of parent.now.id) (action_types namespace.now parent.now.type_name)) }
+    ensures { IfOk result (λ uids. uids
+        ≡ map (uid_of parent.now.id) (action_types namespace.now parent.now.type_name)) }
 {
     let mut uids = Seq::new(alloc);
     for type_name in action_types(alloc, namespace, &parent.type_name)?.into_vec() {

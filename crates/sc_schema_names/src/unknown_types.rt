@@ -62,7 +62,8 @@ fn record_fault(
     attributes: &WrittenAttributes,
 ) -> Result<Option<SchemaFault>, AllocError>
     ensures { IfOk result (λ fault. fault ≡ inside (codes "attributes")
-        (first_member (λ (a : List ℕ × AnyPresence × AnyType). a.0) (λ a. type_fault (known declared.now) namespace.now a.2) attributes.now)) }
+        (first_member (λ (a : List ℕ × AnyPresence × AnyType). a.0)
+        (λ a. type_fault (known declared.now) namespace.now a.2) attributes.now)) }
 {
     let fault = attributes_fault(alloc, declared, namespace, attributes)?;
     inside(alloc, "attributes", fault)
@@ -77,7 +78,8 @@ fn attributes_fault(
     attributes: &WrittenAttributes,
 ) -> Result<Option<SchemaFault>, AllocError>
     ensures { IfOk result (λ fault. fault ≡
-        first_member (λ (a : List ℕ × AnyPresence × AnyType). a.0) (λ a. type_fault (known declared.now) namespace.now a.2) attributes.now) }
+        first_member (λ (a : List ℕ × AnyPresence × AnyType). a.0)
+        (λ a. type_fault (known declared.now) namespace.now a.2) attributes.now) }
 {
     for attribute in attributes.as_slice() {
         if let Some(fault) = type_fault(alloc, declared, namespace, &attribute.2)? {

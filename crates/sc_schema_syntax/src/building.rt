@@ -99,7 +99,8 @@ fn applies_to<'v>(value: &'v Value, name: &str) -> Option<&'v Value>
 
 /// The actions that a list names, if the value is one.
 fn parents_of(alloc: Global, value: Option<&Value>) -> Result<Seq<WrittenParent>, AllocError>
-    ensures { IfOk result (λ parents. parents ≡ map parent_of (elements_of (option_map (λ v. view v.now) value.entry))) }
+    ensures { IfOk result (λ parents. parents
+        ≡ map parent_of (elements_of (option_map (λ v. view v.now) value.entry))) }
 {
     let mut parents = Seq::new(alloc);
     let Some(value) = value else {

@@ -50,7 +50,8 @@ fn put<'s>(
     declared: &'s ResolvedCommonType,
 ) -> Result<(), AllocError>
     ensures { OnOk result ((name : List ℕ) →
-        body_in bodies.new.entries name ≡ option_or (body_in bodies.old.entries name) (body_among (declared.now ∷ []) name)) }
+        body_in bodies.new.entries name ≡ option_or (body_in bodies.old.entries name)
+        (body_among (declared.now ∷ []) name)) }
 {
     if bodies.contains_key(&declared.name) {
         return Ok(());

@@ -135,7 +135,8 @@ fn tag_type(
     table: &BTreeMap<Name, Ty>,
     resolved: Option<&ResolvedType>,
 ) -> Result<Option<Ty>, AllocError>
-    ensures { IfOk result (λ ty. ty ≡ option_map (expanded (type_in table.now.entries)) (option_copied resolved.entry)) }
+    ensures { IfOk result (λ ty. ty ≡ option_map (expanded (type_in table.now.entries))
+        (option_copied resolved.entry)) }
 {
     match resolved {
         Some(resolved) => Ok(Some(expanded(alloc, table, resolved)?)),

@@ -72,7 +72,8 @@ fn actions_fault(
     table: &BTreeMap<Name, Outline>,
     actions: &[ResolvedAction],
 ) -> Result<Option<SchemaFault>, AllocError>
-    ensures { IfOk result (λ fault. fault ≡ first (action_fault (judged_by (outline_in table.now.entries))) actions.now) }
+    ensures { IfOk result (λ fault. fault ≡ first (action_fault (judged_by (outline_in table.now.entries)))
+        actions.now) }
 {
     for action in actions {
         if let Some(fault) = action_fault(alloc, table, action)? {

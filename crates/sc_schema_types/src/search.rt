@@ -54,7 +54,8 @@ pub(crate) fn order_of(
     names: &[Name],
 ) -> Result<Result<Seq<Name>, Name>, AllocError>
     ensures { IfOk result (λ found. MatchResult found
-        (λ order. All (Contains order) names.now × LeadsBack (references (body_in bodies.now.entries)) order × IsDistinct bytes_eq order)
+        (λ order. All (Contains order) names.now × LeadsBack (references (body_in bodies.now.entries)) order
+        × IsDistinct bytes_eq order)
         (λ name. Reaches (references (body_in bodies.now.entries)) name name)) }
 {
     let mut search = Search {

@@ -69,8 +69,10 @@ impl Trail {
         requires in_cells { lit.atom < length self.now.cells.items }
         requires may_be_met { IsMet analysis.old.met.items lit
             ⊎ (true_before self.now.cells.items (length self.now.lits.items) (negation lit) ≡ true) }
-        requires collected { IsCollected (length self.now.cells.items) self.now.cells.items first analysis.old.met.items analysis.old.lower.items }
-        ensures collected { IfOk result (λ _. IsCollected (length self.now.cells.items) self.now.cells.items first analysis.new.met.items analysis.new.lower.items) }
+        requires collected { IsCollected (length self.now.cells.items)
+            self.now.cells.items first analysis.old.met.items analysis.old.lower.items }
+        ensures collected { IfOk result (λ _. IsCollected (length self.now.cells.items)
+            self.now.cells.items first analysis.new.met.items analysis.new.lower.items) }
         ensures more { IfOk result (λ _. MeetsMore analysis.old.met.items analysis.new.met.items) }
         ensures met { IfOk result (λ _. IsMet analysis.new.met.items lit) }
         ensures hints { analysis.new.hints ≡ analysis.old.hints }
@@ -94,9 +96,12 @@ impl Trail {
         clause: &[Lit],
     ) -> Result<(), AllocError>
         requires in_cells { AllInCells (length self.now.cells.items) clause.now }
-        requires may_be_met { MayBeMet self.now.cells.items (length self.now.lits.items) analysis.old.met.items clause.now }
-        requires collected { IsCollected (length self.now.cells.items) self.now.cells.items first analysis.old.met.items analysis.old.lower.items }
-        ensures collected { IfOk result (λ _. IsCollected (length self.now.cells.items) self.now.cells.items first analysis.new.met.items analysis.new.lower.items) }
+        requires may_be_met { MayBeMet self.now.cells.items (length self.now.lits.items)
+            analysis.old.met.items clause.now }
+        requires collected { IsCollected (length self.now.cells.items)
+            self.now.cells.items first analysis.old.met.items analysis.old.lower.items }
+        ensures collected { IfOk result (λ _. IsCollected (length self.now.cells.items)
+            self.now.cells.items first analysis.new.met.items analysis.new.lower.items) }
         ensures more { IfOk result (λ _. MeetsMore analysis.old.met.items analysis.new.met.items) }
         ensures met { IfOk result (λ _. AreMet analysis.new.met.items clause.now) }
         ensures hints { IfOk result (λ _. analysis.new.hints ≡ analysis.old.hints) }
@@ -112,7 +117,8 @@ impl Trail {
         requires trail { HoldsTrail (length self.now.cells.items) clauses.now self.now }
         requires within { i < length self.now.lits.items }
         requires undecided { ¬ Contains self.now.levels.items i }
-        ensures { (d : Lit) → IsReason clauses.now self.now.cells.items (slice_index_or self.now.lits.items i d) i result }
+        ensures { (d : Lit) → IsReason clauses.now self.now.cells.items
+            (slice_index_or self.now.lits.items i d) i result }
     {
         let lit = self.lits[i];
         match self.cells[lit.atom as usize] {
@@ -133,10 +139,12 @@ impl Trail {
         requires trail { HoldsTrail (length self.now.cells.items) clauses.now self.now }
         requires within { i < length self.now.lits.items }
         requires undecided { ¬ Contains self.now.levels.items i }
-        requires collected { IsCollected (length self.now.cells.items) self.now.cells.items first analysis.old.met.items analysis.old.lower.items }
+        requires collected { IsCollected (length self.now.cells.items)
+            self.now.cells.items first analysis.old.met.items analysis.old.lower.items }
         requires refutes { RefutesMet clauses.now self.now.cells.items (length self.now.lits.items)
             (i + 1) analysis.old.met.items analysis.old.hints.items }
-        ensures collected { IfOk result (λ _. IsCollected (length self.now.cells.items) self.now.cells.items first analysis.new.met.items analysis.new.lower.items) }
+        ensures collected { IfOk result (λ _. IsCollected (length self.now.cells.items)
+            self.now.cells.items first analysis.new.met.items analysis.new.lower.items) }
         ensures refutes { IfOk result (λ _. RefutesMet clauses.now self.now.cells.items
             (length self.now.lits.items) i analysis.new.met.items analysis.new.hints.items) }
     {
@@ -191,12 +199,14 @@ impl Trail {
         requires in_cells { AreInCells (length self.now.cells.items) clauses.now }
         requires trail { HoldsTrail (length self.now.cells.items) clauses.now self.now }
         requires highest { IsHighest self.now.levels.items first }
-        requires collected { IsCollected (length self.now.cells.items) self.now.cells.items first analysis.old.met.items analysis.old.lower.items }
+        requires collected { IsCollected (length self.now.cells.items)
+            self.now.cells.items first analysis.old.met.items analysis.old.lower.items }
         requires refutes { RefutesMet clauses.now self.now.cells.items (length self.now.lits.items)
             (length self.now.lits.items) analysis.old.met.items analysis.old.hints.items }
         ensures from { IfOk result (λ i. first ≤ i) }
         ensures within { IfOk result (λ i. i < length self.now.lits.items) }
-        ensures collected { IfOk result (λ _. IsCollected (length self.now.cells.items) self.now.cells.items first analysis.new.met.items analysis.new.lower.items) }
+        ensures collected { IfOk result (λ _. IsCollected (length self.now.cells.items)
+            self.now.cells.items first analysis.new.met.items analysis.new.lower.items) }
         ensures refutes { IfOk result (λ i. RefutesMet clauses.now self.now.cells.items (length self.now.lits.items)
             (i + 1) analysis.new.met.items analysis.new.hints.items) }
         ensures none { IfOk result (λ i. NoneMet self.now.lits.items analysis.new.met.items first i) }
@@ -222,7 +232,8 @@ impl Trail {
     ) -> Result<Analysis, AllocError>
         requires in_cells { AreInCells (length self.now.cells.items) clauses.now }
         requires falsified { IsFalsified clauses.now self.now.cells.items (length self.now.lits.items) conflict }
-        ensures collected { IfOk result (λ w. IsCollected (length self.now.cells.items) self.now.cells.items first w.met.items w.lower.items) }
+        ensures collected { IfOk result (λ w. IsCollected (length self.now.cells.items)
+            self.now.cells.items first w.met.items w.lower.items) }
         ensures refutes { IfOk result (λ w. RefutesMet clauses.now self.now.cells.items (length self.now.lits.items)
             (length self.now.lits.items) w.met.items w.hints.items) }
     {

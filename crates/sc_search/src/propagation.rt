@@ -125,7 +125,8 @@ impl Trail {
         requires listed { ListsAll (length self.old.cells.items) clauses.now occurrences.now }
         requires seen { AreSeen clauses.now self.old first }
         ensures goes_on { IfOk result (λ _. GoesOn (length self.old.cells.items) clauses.now self.old self.new) }
-        ensures done { IfOk result (λ r. HasPropagated clauses.now self.new.cells.items (length self.new.lits.items) r) }
+        ensures done { IfOk result (λ r. HasPropagated clauses.now self.new.cells.items
+            (length self.new.lits.items) r) }
     {
         let mut place = first;
         'literals: while place < self.lits.len() {
@@ -150,7 +151,8 @@ impl Trail {
         requires listed { ListsAll (length self.old.cells.items) clauses.now occurrences.now }
         requires pending { AreSeenBut clauses.now self.old pending }
         ensures goes_on { IfOk result (λ _. GoesOn (length self.old.cells.items) clauses.now self.old self.new) }
-        ensures done { IfOk result (λ r. HasPropagated clauses.now self.new.cells.items (length self.new.lits.items) r) }
+        ensures done { IfOk result (λ r. HasPropagated clauses.now self.new.cells.items
+            (length self.new.lits.items) r) }
     {
         match pending {
             Pending::From(place) => self.follow(clauses, occurrences, place),

@@ -151,7 +151,8 @@ impl Solver {
         requires some { 0 < length self.old.trail.levels.items }
         requires few_cells { length self.old.trail.cells.items ≤ 10 ^ 18 }
         requires few_clauses { length self.old.clauses.items < 10 ^ 18 }
-        ensures { IfOk result (λ _. HasLearned (length self.old.trail.cells.items) self.old.clauses.items self.old.steps.items self.new) }
+        ensures { IfOk result (λ _. HasLearned (length self.old.trail.cells.items)
+            self.old.clauses.items self.old.steps.items self.new) }
     {
         let first = self.trail.level_start();
         let Resolvent {
@@ -209,7 +210,8 @@ impl Solver {
             (length self.old.trail.lits.items) conflict }
         requires few_cells { length self.old.trail.cells.items ≤ 10 ^ 18 }
         requires few_clauses { length self.old.steps.items ≢ budget → length self.old.clauses.items < 10 ^ 18 }
-        ensures { IfOk result (λ t. HasSettled (length self.old.trail.cells.items) self.old.clauses.items self.old.steps.items budget self.new t) }
+        ensures { IfOk result (λ t. HasSettled (length self.old.trail.cells.items)
+            self.old.clauses.items self.old.steps.items budget self.new t) }
     {
         if self.is_spent(budget) {
             return Ok(Turn::Spent);

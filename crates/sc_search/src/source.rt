@@ -20,7 +20,8 @@ pub trait Source {
     fn violated(&self, m: &Assignment) -> Result<Option<Instance>, AllocError>
         ensures accepted { IfOk result (λ o. IfSome o (λ i. accepts self.now i ≡ true)) }
         ensures falsified { IfOk result (λ o. IfSome o (λ i. falsifies m.now (clause_of self.now i) ≡ true)) }
-        ensures none { IfOk result (λ o. o ≡ None → (i : Instance) → accepts self.now i ≡ true → falsifies m.now (clause_of self.now i) ≡ false) };
+        ensures none { IfOk result (λ o. o ≡ None → (i : Instance) → accepts self.now i ≡ true
+            → falsifies m.now (clause_of self.now i) ≡ false) };
 
     /// The clause of an instance that it has. Want of memory is its one fault.
     fn clause(&self, instance: &Instance) -> Result<Clause, AllocError>

@@ -13,7 +13,7 @@ use Rattle.sc_values.specs.declared.value.Value.TheVariants as value
 use Rattle.sc_values.specs.Records.{Fields, field}
 use Rattle.sc_values.proofs.OutLaws.{out_Bool, out_Entity, out_Record}
 use Rattle.sc_term_laws.specs.Booleans.{names_of}
-use Rattle.sc_terms.specs.Values.{Val, it, yes, seen, bool_seen, truth, fields_seen, not_value, and_value, or_value, equal_value, value_eq, field_value}
+use Rattle.sc_terms.specs.Values.{Val, it, seen, bool_seen, truth, fields_seen, not_value, and_value, or_value, equal_value, value_eq, field_value}
 use Rattle.sc_solver.proofs.ListLaws.{Has, here, there}
 
 pub truth_seen : (x : Val) (b : Bool) → seen x ≡ Some b → truth x ≡ b

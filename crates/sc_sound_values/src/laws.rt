@@ -22,8 +22,10 @@ ghost use Rattle.sc_sound_values.specs.Sound.{IsOf, Holds, AllHold};
 /// A value of either of two types that join is of the type that they join to.
 #[tactic(auto, using(crate::proofs::JoinLaws::first_within, crate::proofs::JoinLaws::second_within))]
 pub fn join_laws()
-    ensures first { (a b u : AnyType) (x : AnyValue) → join a b ≡ Some u → IsTrue (conforms a x) → IsTrue (conforms u x) }
-    ensures second { (a b u : AnyType) (x : AnyValue) → join a b ≡ Some u → IsTrue (conforms b x) → IsTrue (conforms u x) }
+    ensures first { (a b u : AnyType) (x : AnyValue) → join a b ≡ Some u → IsTrue (conforms a x)
+        → IsTrue (conforms u x) }
+    ensures second { (a b u : AnyType) (x : AnyValue) → join a b ≡ Some u → IsTrue (conforms b x)
+        → IsTrue (conforms u x) }
 {}
 
 /// An expression without places is worth what the expression is.
@@ -43,12 +45,18 @@ pub fn capability_laws()
 /// requires, and under a declared name nothing but a value of the declared type.
 #[tactic(auto, using(crate::proofs::ObjectLaws::none_undeclared, crate::proofs::ObjectLaws::has_declared, crate::proofs::ObjectLaws::value_declared))]
 pub fn object_laws()
-    ensures none { (s : Declarations) (env : AnyEnv) (literals : List AnyUid) (w : AnyWorld) (type : AnyType) (fields : List Field) (x : AnyValue) (name : List ℕ) →
-        IsWellFormed s env literals w → attributes s type ≡ Some fields → IsOf w type x → attribute name fields ≡ None → has name w x ≡ Ok false }
-    ensures required { (s : Declarations) (env : AnyEnv) (literals : List AnyUid) (w : AnyWorld) (type : AnyType) (fields : List Field) (x : AnyValue) (name : List ℕ) (f : Field) →
-        IsWellFormed s env literals w → attributes s type ≡ Some fields → IsOf w type x → attribute name fields ≡ Some f → is_required f ≡ true → has name w x ≡ Ok true }
-    ensures declared { (s : Declarations) (env : AnyEnv) (literals : List AnyUid) (w : AnyWorld) (type : AnyType) (fields : List Field) (x : AnyValue) (name : List ℕ) (f : Field) →
-        IsWellFormed s env literals w → attributes s type ≡ Some fields → IsOf w type x → attribute name fields ≡ Some f → has name w x ≡ Ok true
+    ensures none { (s : Declarations) (env : AnyEnv) (literals : List AnyUid) (w : AnyWorld) (type : AnyType)
+        (fields : List Field) (x : AnyValue) (name : List ℕ) →
+        IsWellFormed s env literals w → attributes s type ≡ Some fields → IsOf w type x → attribute name fields ≡ None
+        → has name w x ≡ Ok false }
+    ensures required { (s : Declarations) (env : AnyEnv) (literals : List AnyUid) (w : AnyWorld) (type : AnyType)
+        (fields : List Field) (x : AnyValue) (name : List ℕ) (f : Field) →
+        IsWellFormed s env literals w → attributes s type ≡ Some fields → IsOf w type x → attribute name fields
+        ≡ Some f → is_required f ≡ true → has name w x ≡ Ok true }
+    ensures declared { (s : Declarations) (env : AnyEnv) (literals : List AnyUid) (w : AnyWorld) (type : AnyType)
+        (fields : List Field) (x : AnyValue) (name : List ℕ) (f : Field) →
+        IsWellFormed s env literals w → attributes s type ≡ Some fields → IsOf w type x → attribute name fields
+        ≡ Some f → has name w x ≡ Ok true
         → (y : AnyValue) × (access name w x ≡ Ok y) × IsOf w f.2 y }
 {}
 
@@ -56,7 +64,10 @@ pub fn object_laws()
 /// type that is found, and where all names are there, what they give holds.
 #[tactic(auto, using(crate::proofs::PathLaws::path_answers))]
 pub fn path_laws()
-    ensures { (s : Declarations) (env : AnyEnv) (literals : List AnyUid) (w : AnyWorld) → IsWellFormed s env literals w → (known : Capabilities) → AllHold w known →
-        (place : AnyPlace) (names : List (List ℕ)) (o : Subject) (x : AnyValue) → eval o.object w ≡ Ok x → IsOf w o.type x →
-        IfOk (along s place known o no_names names) (λ r. (b : Bool) × (has_path names w x ≡ Ok b) × IsTrue (conforms r.found (value.Bool b)) × (b ≡ true → AllHold w r.given)) }
+    ensures { (s : Declarations) (env : AnyEnv) (literals : List AnyUid) (w : AnyWorld)
+        → IsWellFormed s env literals w → (known : Capabilities) → AllHold w known →
+        (place : AnyPlace) (names : List (List ℕ)) (o : Subject) (x : AnyValue) → eval o.object w ≡ Ok x
+        → IsOf w o.type x →
+        IfOk (along s place known o no_names names) (λ r. (b : Bool) × (has_path names w x ≡ Ok b)
+        × IsTrue (conforms r.found (value.Bool b)) × (b ≡ true → AllHold w r.given)) }
 {}

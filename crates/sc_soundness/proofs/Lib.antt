@@ -1,4 +1,4 @@
-mod ActingLaws
-mod ConditionLaws
+pub mod ActingLaws
+pub mod ConditionLaws
 mod CollectionLaws
 mod SoundLaws

@@ -34,8 +34,10 @@ pub fn policy_laws()
     ensures boolean { (s : Declarations) (env : AnyEnv) (literals : List AnyUid) (w : AnyWorld) (p : AnyPolicy) →
         IsLawful s → IsWellFormed s env literals w → AllByRecursion (Contains literals) (policy_uids p) →
         IfOk (typed_policy s env p) (λ x. OrOverflows (λ y. (b : Bool) × (y ≡ value.Bool b)) (eval (condition p) w)) }
-    ensures answered { (s : Declarations) (env : AnyEnv) (literals : List AnyUid) (w : AnyWorld) (p : AnyPolicy) (answer : Result AnyValue (AnyFault EvalError)) →
-        IsLawful s → IsWellFormed s env literals w → AllByRecursion (Contains literals) (policy_uids p) → Gives answer (eval (condition p) w) →
+    ensures answered { (s : Declarations) (env : AnyEnv) (literals : List AnyUid) (w : AnyWorld) (p : AnyPolicy)
+        (answer : Result AnyValue (AnyFault EvalError)) →
+        IsLawful s → IsWellFormed s env literals w → AllByRecursion (Contains literals) (policy_uids p)
+        → Gives answer (eval (condition p) w) →
         IfOk (typed_policy s env p) (λ x. AnswersOrOverflows (IsOf w (ty x)) answer) }
 {}
 
@@ -43,7 +45,9 @@ pub fn policy_laws()
 /// where it is true.
 #[tactic(auto, using(crate::proofs::SoundLaws::expression_is_sound))]
 pub fn expression_laws()
-    ensures { (s : Declarations) (env : AnyEnv) (literals : List AnyUid) (w : AnyWorld) (x : AnyExpr) (known : Capabilities) →
-        IsLawful s → IsWellFormed s env literals w → AllByRecursion (Contains literals) (expr_uids x) → AllHold w known →
+    ensures { (s : Declarations) (env : AnyEnv) (literals : List AnyUid) (w : AnyWorld) (x : AnyExpr)
+        (known : Capabilities) →
+        IsLawful s → IsWellFormed s env literals w → AllByRecursion (Contains literals) (expr_uids x)
+        → AllHold w known →
         IfOk (typing s env x known) (λ t. IsSound w (eval x w) t) }
 {}

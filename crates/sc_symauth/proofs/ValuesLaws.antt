@@ -1,15 +1,14 @@
 -- The values of terms that are truth values in a world.
-use Rattle.std.proofs.Common.{◌≡◌, Bool, true, false, not, ◌&&◌, ◌||◌, List, length, All, Option, Some, unwrap_or, refl, sym, ap, ◌∙◌}
+use Rattle.std.proofs.Common.{◌≡◌, Bool, true, false, not, ◌&&◌, ◌||◌, List, length, All, Option, sym, ap, ◌∙◌}
 use Rattle.std.specs.List.{list_any}
 use Rattle.sc_terms.proofs.FoldValues.{seen_yes, not_yes, truth_yes, truth_is}
-use Rattle.sc_values.proofs.OutLaws.{out_Bool}
 use Rattle.sc_world.specs.declared.world.World.{World}
 use Rattle.sc_nodes.specs.declared.node.UnaryOp.TheVariants.{Not}
 use Rattle.sc_nodes.specs.declared.node.BinaryOp.TheVariants.{And, Or, Equal}
 use Rattle.sc_terms.specs.Trees.{Tree, one, two}
 use Rattle.sc_terms.specs.Folds.{truth_term, not_term, and_term, or_term, equal_term}
 use Rattle.sc_terms.specs.Joined.{any_of}
-use Rattle.sc_terms.specs.Values.{Val, val, yes, seen, bool_seen, truth, not_value, not_seen, and_value, and_seen, or_value, or_seen, equal_value, equal_seen}
+use Rattle.sc_terms.specs.Values.{Val, val, yes, seen, truth, not_value, and_value, and_seen, or_value, or_seen, equal_value, equal_seen}
 use Rattle.sc_terms.proofs.JoinedKeeps.{joined_keeps}
 
 -- whether two truth values are one

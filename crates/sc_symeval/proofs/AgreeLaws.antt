@@ -19,7 +19,7 @@ use Rattle.sc_nodes.specs.declared.node.UnaryOp.TheVariants.{Not}
 use Rattle.sc_nodes.specs.declared.node.BinaryOp.TheVariants.{And, Or}
 use Rattle.sc_terms.specs.Trees.{Tree, one, two}
 use Rattle.sc_terms.specs.Folds.{not_term, and_term, or_term}
-use Rattle.sc_terms.specs.Values.{Val, it, yes, bool_seen, seen, not_seen, not_value, and_seen, and_value, or_seen, or_value, val}
+use Rattle.sc_terms.specs.Values.{Val, it, yes, seen, not_value, and_seen, and_value, or_seen, or_value, val}
 use Rattle.sc_symeval.specs.Codes.{Code, constant, not_code, and_code, or_code, of_two}
 use Rattle.sc_symeval.specs.Agreement.{Agrees}
 

@@ -26,9 +26,9 @@ use Rattle.sc_typed.proofs.TypeOfLaws.{type_of_Variable}
 use Rattle.sc_typing_rules.specs.Rules.{or_type, and_type, literal_type, variable_type}
 use Rattle.sc_typing_rules.specs.Operators.{negated}
 use Rattle.sc_constructs.specs.declared.construct.Found.{Found}
-use Rattle.sc_constructs.specs.Constructs.{Constructs, of_type, constructs_step, constructs_in}
+use Rattle.sc_constructs.specs.Constructs.{Constructs, constructs_step, constructs_in}
 use Rattle.sc_constructs.specs.Constructs as constructs
-use Rattle.sc_symeval.specs.Codes.{Code, Part, and_code, or_code, of_two, of_both, of_either, of_attribute, code_of}
+use Rattle.sc_symeval.specs.Codes.{Code, and_code, or_code, of_two, of_attribute, code_of}
 use Rattle.sc_symeval.specs.Codes as codes
 use Rattle.sc_symeval.specs.Parts.{seen, context_type}
 use Rattle.sc_term_laws.specs.Booleans.{attribute_term}

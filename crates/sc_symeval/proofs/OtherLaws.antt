@@ -7,7 +7,7 @@ use Rattle.sc_ast.specs.declared.operator.UnaryOperator.{UnaryOperator}
 use Rattle.sc_ast.specs.declared.operator.UnaryOperator.TheVariants.{Not}
 use Rattle.sc_schema.specs.declared.ty.Ty.{Ty}
 use Rattle.sc_typed.specs.declared.typed_expr.TypedExpr.{TypedExpr}
-use Rattle.sc_symeval.specs.Codes.{Code, Part, code_of}
+use Rattle.sc_symeval.specs.Codes.{Part, code_of}
 use Rattle.sc_symeval.specs.Codes as codes
 use Rattle.sc_symeval.specs.Parts.{seen}
 use Rattle.sc_symeval.proofs.CodeLaws.{code_If, code_Binary, code_Has, code_Like, code_Is, code_IsIn, code_Unary, code_Set, code_Record}

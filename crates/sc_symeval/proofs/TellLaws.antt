@@ -59,7 +59,7 @@ use Rattle.sc_term_laws.specs.Booleans.{context_term, attribute_term}
 use Rattle.sc_terms.specs.Values.{it, fields_seen, field_seen, field_value, val}
 use Rattle.sc_terms.specs.TreeSorts.{tree_sort}
 use Rattle.sc_terms.proofs.RecordValues.{field_is}
-use Rattle.sc_symeval.specs.Codes.{Code, always, constant, not_code, of_both, of_either, of_equation, is_literal, are_literals, code_of}
+use Rattle.sc_symeval.specs.Codes.{Code, always, constant, not_code, of_equation, is_literal, are_literals, code_of}
 use Rattle.sc_symeval.specs.Codes as codes
 use Rattle.sc_symeval.specs.Parts.{seen}
 use Rattle.sc_symeval.proofs.CodeLaws.{code_And, code_Or, code_Unary, code_Binary, code_Access, code_Literal, code_Variable}

@@ -27,14 +27,17 @@ use sc_term_laws::{made_laws, value_laws};
 /// condition is compiled to agrees with its evaluation. The terms are truth values of the environment,
 /// and of the fragment of Booleans; and a policy of no further constructs is compiled.
 pub fn compile_laws()
-    ensures agrees { (s : Declarations) (env : AnyEnv) (literals : List AnyUid) (w : AnyWorld) (p : AnyPolicy) (c : AnyCode) →
-        IsLawful s → IsWellFormed s env literals w → AllByRecursion (Contains literals) (policy_uids p) → policy_code s env p ≡ Some c →
+    ensures agrees { (s : Declarations) (env : AnyEnv) (literals : List AnyUid) (w : AnyWorld) (p : AnyPolicy)
+        (c : AnyCode) →
+        IsLawful s → IsWellFormed s env literals w → AllByRecursion (Contains literals) (policy_uids p)
+        → policy_code s env p ≡ Some c →
         Agrees w c (eval (condition p) w) }
     ensures boolean { (s : Declarations) (env : AnyEnv) (p : AnyPolicy) (c : AnyCode) → policy_code s env p ≡ Some c →
         IsBoolean (context_of s env.action) c.ok × IsBoolean (context_of s env.action) c.val }
     ensures term { (s : Declarations) (env : AnyEnv) (written : List AnyUid) (p : AnyPolicy) (c : AnyCode)
         → policy_code s env p ≡ Some c → IsTermOf s env written Bool c.ok × IsTermOf s env written Bool c.val }
-    ensures compiled { (s : Declarations) (env : AnyEnv) (p : AnyPolicy) (x : AnyTyped) → typed_policy s env p ≡ Ok x → constructs p x ≡ [] →
+    ensures compiled { (s : Declarations) (env : AnyEnv) (p : AnyPolicy) (x : AnyTyped) → typed_policy s env p ≡ Ok x
+        → constructs p x ≡ [] →
         IsSome (policy_code s env p) }
 {
     value_laws();

@@ -1,5 +1,5 @@
 -- An operator on two terms, and a choice, make a term just where their tests pass.
-use Rattle.std.proofs.Common.{◌≡◌, ◌&&◌, ℕ, List, Bool, true, Option, Some, nat_le, refl, sym, ap, ◌∙◌, subst}
+use Rattle.std.proofs.Common.{◌≡◌, ◌&&◌, ℕ, List, Bool, true, Some, sym, ap, ◌∙◌, subst}
 use Rattle.sc_lists.proofs.BoolLaws.{and_first, and_second}
 use Rattle.sc_names.specs.declared.uid.Uid.{Uid}
 use Rattle.sc_schema.specs.declared.declarations.Env.{Env}
@@ -18,8 +18,7 @@ use Rattle.sc_terms.specs.Trees.{Tree, two, choice}
 use Rattle.sc_terms.specs.TreeSorts.{tree_sort}
 use Rattle.sc_term_laws.specs.Judging.{IsTermOf, IsArithmetic, IsOverflow, IsNumberSort, IsTestOfSets, IsPick}
 use Rattle.sc_term_laws.specs.Judging as judged
-use Rattle.sc_term_laws.specs.Tests.{is_bool, is_long, is_string, is_ip, is_number, is_set, is_entity_sort, is_sort_of, name_of, both_bool, both_long, both_numbers, both_sets, tag_test, binary_test, choice_test}
-use Rattle.sc_term_laws.specs.Unfolded.{stays_two, stays_equal, stays_choice}
+use Rattle.sc_term_laws.specs.Tests.{is_bool, is_long, is_string, is_ip, is_number, is_set, is_entity_sort, name_of, both_bool, both_long, both_numbers, both_sets, tag_test, binary_test, choice_test}
 use Rattle.sc_term_laws.proofs.JudgingLaws.{sort_is}
 use Rattle.sc_term_laws.proofs.TestLaws as test
 use Rattle.std.specs.Cmp.Derive.{both_true}

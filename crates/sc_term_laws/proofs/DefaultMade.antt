@@ -1,5 +1,5 @@
 -- The default of a lawful sort is a term.
-use Rattle.std.proofs.Common.{◌≡◌, ◌⊎◌, inl, inr, ℕ, List, [], ◌∷◌, map, Option, Some, None, Contains, true, false, pos, arith, refl, sym, ap, ◌∙◌, subst}
+use Rattle.std.proofs.Common.{◌≡◌, inl, inr, ℕ, List, [], ◌∷◌, map, Option, Some, None, Contains, true, false, pos, arith, refl, sym, ap, ◌∙◌, subst}
 use Rattle.std.specs.List.{AllByRecursion}
 use Rattle.sc_lists.proofs.ListLaws.{contains_first}
 use Rattle.sc_ip.specs.declared.ip.Ip.TheVariants.{V4}
@@ -12,9 +12,8 @@ use Rattle.sc_sorts.specs.declared.sort.Sort.{Sort, Sort-F, out-Sort, roll-Sort,
 use Rattle.sc_sorts.specs.declared.sort.Sort.TheVariants as sort
 use Rattle.sc_sorts.specs.declared.sort.Sort.TheVariants.{rolls-Bool, rolls-Long, rolls-String, rolls-Decimal, rolls-Ip, rolls-Entity, rolls-Set, rolls-Record, rolls-Option}
 use Rattle.sc_sorts.specs.declared.sort.Sort.TheOpen as s
-use Rattle.sc_sorts.specs.Defaults.{default_uid}
 use Rattle.sc_sorts.specs.Entities.{choices_of, entity_sort}
-use Rattle.sc_sorts.specs.Inside.{SortField, SortFields, held_in}
+use Rattle.sc_sorts.specs.Inside.{SortField, held_in}
 use Rattle.sc_sorts.proofs.OutLaws.{out_Option}
 use Rattle.sc_sorts.proofs.EveryLaws.{in_Entity, in_Set, in_Record, in_Option}
 use Rattle.sc_terms.specs.Trees.{Tree, parts_of}

@@ -1,10 +1,9 @@
 -- The default of a lawful sort is of the sort.
-use Rattle.std.proofs.Common.{◌≡◌, ◌++◌, inl, inr, ℕ, ℤ, FitsSigned, List, [], ◌∷◌, map, Bool, true, false, pos, arith, Option, Some, None, IfSome, Contains, refl, sym, ap, ◌∙◌, subst}
+use Rattle.std.proofs.Common.{◌≡◌, ◌++◌, inr, ℕ, ℤ, FitsSigned, List, [], ◌∷◌, map, Bool, true, false, pos, arith, Option, None, Contains, refl, sym, ap, ◌∙◌, subst}
 use Rattle.std.specs.List.{AllByRecursion, flat_map}
 use Rattle.std.specs.Int.{w64}
 use Rattle.std.specs.List.Sorted.{IsStrictlySortedBy}
-use Rattle.std.specs.Map.{keys_of}
-use Rattle.std.specs.Str.{bytes_eq, IsUtf8}
+use Rattle.std.specs.Str.{IsUtf8}
 use Rattle.std.proofs.lemmas.Slice.Eq.{bytes_eq-Decides}
 use Rattle.sc_ip.specs.declared.ip.Ip.{Ip}
 use Rattle.sc_ip.specs.declared.ip.Ip.TheVariants.{V4}
@@ -20,22 +19,22 @@ use Rattle.sc_sorts.specs.declared.sort.Sort.TheVariants.{rolls-Bool, rolls-Long
 use Rattle.sc_sorts.specs.declared.sort.Sort.TheOpen as s
 use Rattle.sc_sorts.specs.Defaults.{is_option, default_field, default_of, default_uid}
 use Rattle.sc_sorts.specs.Entities.{choices_of}
-use Rattle.sc_sorts.specs.Inside.{SortField, SortFields, held_sort, held_in}
+use Rattle.sc_sorts.specs.Inside.{SortField, SortFields, held_in}
 use Rattle.sc_sorts.proofs.DefaultLaws as default
 use Rattle.sc_sorts.proofs.DefaultLaws.{default_fields}
-use Rattle.sc_sorts.proofs.EveryLaws.{in_Entity, in_Set, in_Record, in_Option}
+use Rattle.sc_sorts.proofs.EveryLaws.{in_Entity, in_Record, in_Option}
 use Rattle.sc_sorts.proofs.OutLaws.{out_Option}
 use Rattle.sc_values.specs.declared.value.Value.{Value}
 use Rattle.sc_values.specs.declared.value.Value.TheVariants as value
-use Rattle.sc_values.specs.Proper.{IsProper, IsProperLevel, IsUidText}
+use Rattle.sc_values.specs.Proper.{IsProperLevel, IsUidText}
 use Rattle.sc_values.specs.Order.{value_cmp}
 use Rattle.sc_values.proofs.EveryLaws as every
 use Rattle.sc_values.proofs.OutLaws as out
 use Rattle.sc_world.specs.Conforms.{is_string, is_decimal, is_ip, is_entity_of}
 use Rattle.sc_world.specs.Stores.{Entities}
-use Rattle.sc_terms.specs.Values.{Val, it, maybe, field_of, default_by, default_val}
+use Rattle.sc_terms.specs.Values.{Val, it, field_of, default_by, default_val}
 use Rattle.sc_term_laws.specs.Fitting.{fits, IsOfSort, IsKnown, NamesKnownLevel, Fits, as_value, as_option}
-use Rattle.sc_term_laws.specs.LawfulSorts.{IsDeclared, IsSortLevel, IsSortOf}
+use Rattle.sc_term_laws.specs.LawfulSorts.{IsSortLevel, IsSortOf}
 use Rattle.sc_term_laws.proofs.ChoicesLaws.{chosen}
 use Rattle.sc_term_laws.proofs.FitVals.{fits_at, at, bool_of, long_of}
 use Rattle.sc_term_laws.proofs.FitSets.{set_of}

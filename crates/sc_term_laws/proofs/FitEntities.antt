@@ -1,16 +1,15 @@
 -- What a well-formed world has of a request and of entities fits.
-use Rattle.std.proofs.Common.{cond, ◌≡◌, ◌⊎◌, inl, inr, ℕ, List, [], ◌∷◌, map, filter, Bool, true, false, Option, Some, None, unwrap_or, is_some, IsSome, IfSome, IsTrue, IsSomeAnd, MatchOption, Contains, refl, sym, ap, ◌∙◌, subst}
+use Rattle.std.proofs.Common.{cond, ◌≡◌, inl, ℕ, List, [], ◌∷◌, map, filter, Bool, true, false, Option, Some, None, unwrap_or, IsSome, IsTrue, IsSomeAnd, MatchOption, refl, sym, ap, ◌∙◌, subst}
 use Rattle.std.specs.List.{AllByRecursion}
 use Rattle.std.specs.List.Sorted.{IsStrictlySortedBy}
-use Rattle.std.specs.Map.{keys_of, lookup}
+use Rattle.std.specs.Map.{keys_of}
 use Rattle.std.specs.Str.{bytes_eq, IsUtf8}
-use Rattle.std.specs.Ordering.{nat_cmp, ordering_then}
 use Rattle.std.specs.BTreeMap.{is_at}
 use Rattle.std.specs.declared.cmp.Ordering.{Ordering}
 use Rattle.std.specs.declared.cmp.Ordering.TheVariants.{Less}
 use Rattle.std.proofs.lemmas.Map.Views.{Contains-from_lookup}
 use Rattle.std.proofs.lemmas.List.Kept.{IsStrictlySortedBy-filter}
-use Rattle.sc_lists.proofs.ListLaws.{all_element, all_of_elements, all_weaker}
+use Rattle.sc_lists.proofs.ListLaws.{all_element}
 use Rattle.sc_lists.proofs.OptionLaws.{same_some, some_of}
 use Rattle.sc_lists.proofs.OrderingLaws.{is_eq_true}
 use Rattle.sc_lists.proofs.TextLaws.{bytes_eq_true}
@@ -18,18 +17,16 @@ use Rattle.sc_names.specs.declared.uid.Uid.{Uid}
 use Rattle.sc_names.specs.Uids.{text_cmp, uid_cmp}
 use Rattle.sc_names.proofs.UidLaws.{uid_cmp_level}
 use Rattle.sc_schema.specs.declared.ty.Ty.{Ty}
-use Rattle.sc_schema.specs.declared.declarations.Action.{Action}
 use Rattle.sc_schema.specs.declared.declarations.Env.{Env}
-use Rattle.sc_schema.specs.Declarations.{Declarations, action_uids, attrs_of, tags_of, context_of}
+use Rattle.sc_schema.specs.Declarations.{Declarations, attrs_of, tags_of, context_of}
 use Rattle.sc_schema.specs.Lawful.{IsLawful, IsTypeOf}
 use Rattle.sc_sorts.specs.declared.sort.Sort.{Sort}
 use Rattle.sc_sorts.specs.declared.sort.Sort.TheVariants as sort
 use Rattle.sc_sorts.specs.declared.sort.Sort.TheOpen as s
-use Rattle.sc_sorts.specs.Defaults.{is_option, default_of}
-use Rattle.sc_sorts.specs.Entities.{choices_of, entity_sort}
+use Rattle.sc_sorts.specs.Defaults.{default_of}
 use Rattle.sc_sorts.specs.OfTypes.{sort_of}
 use Rattle.sc_sorts.proofs.OutLaws.{out_Entity}
-use Rattle.sc_values.specs.declared.value.Value.{Value, Value-F, every-Value, out-Value, roll-Value, map-Value, ind-Value}
+use Rattle.sc_values.specs.declared.value.Value.{Value, Value-F, every-Value, roll-Value, map-Value, ind-Value}
 use Rattle.sc_values.specs.declared.value.Value.TheVariants as value
 use Rattle.sc_values.specs.declared.value.Value.TheVariants.{rolls-Bool, rolls-Long, rolls-String, rolls-Entity, rolls-Set, rolls-Record, rolls-Decimal, rolls-Ip}
 use Rattle.sc_values.specs.declared.value.Value.TheOpen as v
@@ -45,16 +42,16 @@ use Rattle.sc_world.specs.declared.world.World.{World}
 use Rattle.sc_world.specs.Conforms.{conforms}
 use Rattle.sc_world.specs.Stores.{Entities, stored}
 use Rattle.sc_world.specs.WellFormed.{Entry, IsStored, NamesStored, NamesStoredLevel, IsWellFormed, IsProperEntry, EntryNamesStored, HasAttributes, HasTags}
-use Rattle.sc_terms.specs.Values.{Val, it, maybe, uid_seen, uid_in, value_in, entity_in, attributes_value, ancestors_value, keys_value, tag_value}
-use Rattle.sc_term_laws.specs.Fitting.{fits, IsOfSort, IsKnown, NamesKnown, NamesKnownLevel, Fits, as_value, as_option}
-use Rattle.sc_term_laws.specs.LawfulSorts.{IsDeclared, IsSortOf}
+use Rattle.sc_terms.specs.Values.{Val, it, attributes_value, ancestors_value, keys_value, tag_value}
+use Rattle.sc_term_laws.specs.Fitting.{IsOfSort, NamesKnown, NamesKnownLevel, Fits, as_value}
+use Rattle.sc_term_laws.specs.LawfulSorts.{IsDeclared}
 use Rattle.sc_term_laws.proofs.ChoicesLaws.{declared_is}
 use Rattle.sc_term_laws.proofs.DefaultTypeLaws.{no_option}
 use Rattle.sc_term_laws.proofs.FitLaws.{type_fits}
 use Rattle.sc_term_laws.proofs.FitVals.{no_option_at}
 use Rattle.sc_term_laws.proofs.FitDefaults.{none_ascends, entity_of, string_of, default_is}
-use Rattle.sc_term_laws.proofs.FitSets.{set_of, set_fits}
-use Rattle.sc_term_laws.proofs.SortsLawful.{attrs_lawful, tags_lawful, type_lawful, declared_action}
+use Rattle.sc_term_laws.proofs.FitSets.{set_fits}
+use Rattle.sc_term_laws.proofs.SortsLawful.{attrs_lawful, tags_lawful, type_lawful}
 
 -- ---- what holds at each level, weakened
 

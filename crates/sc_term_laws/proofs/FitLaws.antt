@@ -63,7 +63,7 @@ both_so true true c d f g h = rw (f refl, g refl) refl
 both_so true false c d f g h = cc
 both_so false b c d f g h = cc
 
-truth_is_bool : (b : Bool) (x : Value-F Value) → is_truth b x ≡ true → is_bool x ≡ true
+pub truth_is_bool : (b : Bool) (x : Value-F Value) → is_truth b x ≡ true → is_bool x ≡ true
 truth_is_bool true (v.Bool c) h = refl
 truth_is_bool false (v.Bool c) h = refl
 truth_is_bool true _ h = absurd cc

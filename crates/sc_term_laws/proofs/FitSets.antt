@@ -1,5 +1,5 @@
 -- Sets of what fits a sort, and what is chosen from them.
-use Rattle.std.proofs.Common.{cond, ◌≡◌, ℕ, List, [], ◌∷◌, map, Bool, true, false, Option, Some, None, All, refl, sym, ap, ◌∙◌, subst}
+use Rattle.std.proofs.Common.{cond, ◌≡◌, List, [], ◌∷◌, Bool, true, false, Option, Some, None, refl, sym, ap, ◌∙◌, subst}
 use Rattle.std.specs.Prelude.{find}
 use Rattle.std.specs.List.{AllByRecursion, list_all}
 use Rattle.std.specs.List.Sorted.{IsStrictlySortedBy}
@@ -27,10 +27,9 @@ use Rattle.sc_values.proofs.OrderLaws.{value_cmp_total}
 use Rattle.sc_values.proofs.OutLaws as out
 use Rattle.sc_world.specs.Conforms.{is_set_of}
 use Rattle.sc_world.specs.Stores.{Entities}
-use Rattle.sc_terms.specs.Values.{Val, it, maybe, level, value_in, members_seen, members_in, put_by, put_value, set_from, least}
-use Rattle.sc_term_laws.specs.Fitting.{fits, fits_step, IsOfSort, NamesKnown, NamesKnownLevel, Fits, as_value, as_option}
+use Rattle.sc_terms.specs.Values.{Val, it, value_in, members_seen, members_in, put_by, put_value, set_from, least}
+use Rattle.sc_term_laws.specs.Fitting.{fits, IsOfSort, NamesKnown, NamesKnownLevel, Fits, as_value, as_option}
 use Rattle.sc_term_laws.proofs.FitLaws as fit
-use Rattle.sc_term_laws.proofs.FitLaws.{set_all}
 use Rattle.sc_term_laws.proofs.FitVals.{fits_at, at, no_option_at}
 
 -- ---- a set is its members in order

@@ -1,28 +1,26 @@
 -- What operators on truth values, numbers and choices give fits.
-use Rattle.std.proofs.Common.{cond, ◌≡◌, ◌+ℤ◌, ◌-ℤ◌, ◌*ℤ◌, ℕ, ℤ, List, Bool, true, false, not, Option, Some, None, IfSome, FitsSigned, refl, sym, ap, ◌∙◌, subst}
+use Rattle.std.proofs.Common.{cond, ◌≡◌, ℕ, ℤ, List, Bool, true, false, not, Option, Some, None, FitsSigned, refl, sym, ap, ◌∙◌, subst}
 use Rattle.std.specs.Int.{w64, int_wrap}
 use Rattle.std.proofs.lemmas.Int.{SFits-int_wrap}
-use Rattle.sc_names.specs.declared.uid.Uid.{Uid}
 use Rattle.sc_schema.specs.Declarations.{Declarations}
-use Rattle.sc_sorts.specs.declared.sort.Sort.{Sort, Sort-F, out-Sort, roll-Sort, map-Sort, fold_out-Sort}
+use Rattle.sc_sorts.specs.declared.sort.Sort.{Sort, Sort-F, out-Sort, roll-Sort, map-Sort}
 use Rattle.sc_sorts.specs.declared.sort.Sort.TheVariants as sort
-use Rattle.sc_sorts.specs.declared.sort.Sort.TheVariants.{rolls-Bool, rolls-Long, rolls-String, rolls-Decimal, rolls-Ip, rolls-Entity, rolls-Set, rolls-Record, rolls-Option}
+use Rattle.sc_sorts.specs.declared.sort.Sort.TheVariants.{rolls-Bool, rolls-Long}
 use Rattle.sc_sorts.specs.declared.sort.Sort.TheOpen as s
 use Rattle.sc_sorts.specs.Defaults.{is_option, is_option_level}
-use Rattle.sc_sorts.specs.Inside.{held_sort}
-use Rattle.sc_sorts.proofs.OutLaws.{out_Bool, out_Long, out_String, out_Decimal, out_Ip, out_Entity, out_Set, out_Record, out_Option}
+use Rattle.sc_sorts.proofs.OutLaws.{out_Bool, out_Long}
 use Rattle.sc_values.specs.declared.value.Value.{Value, Value-F, out-Value}
 use Rattle.sc_values.specs.declared.value.Value.TheVariants as value
 use Rattle.sc_values.specs.declared.value.Value.TheOpen as v
-use Rattle.sc_values.specs.Proper.{IsProper, IsProperLevel}
+use Rattle.sc_values.specs.Proper.{IsProperLevel}
 use Rattle.sc_values.proofs.EveryLaws as every
 use Rattle.sc_values.proofs.OutLaws as out
 use Rattle.sc_world.specs.Conforms.{is_bool, is_long, is_string, is_decimal, is_ip, is_entity_of, is_set_of}
 use Rattle.sc_world.specs.Stores.{Entities}
-use Rattle.sc_terms.specs.Values.{Val, it, maybe, yes, bool_seen, seen, truth, not_seen, not_value, and_seen, and_value, or_seen, or_value, equal_seen, equal_value, val_eq, choice_value}
-use Rattle.sc_term_laws.specs.Fitting.{Seen, Test, seen_step, fits_step, fits, is_record_of, IsOfSort, NamesKnownLevel, Fits, as_value, as_option}
+use Rattle.sc_terms.specs.Values.{Val, it, yes, bool_seen, seen, truth, not_seen, not_value, and_seen, and_value, or_seen, or_value, equal_seen, equal_value, val_eq, choice_value}
+use Rattle.sc_term_laws.specs.Fitting.{Seen, Test, fits_step, fits, is_record_of, IsOfSort, NamesKnownLevel, Fits, as_value, as_option}
 use Rattle.sc_term_laws.proofs.FitLaws as fit
-use Rattle.sc_term_laws.proofs.TestLaws.{at_sort, at_level, option_sort}
+use Rattle.sc_term_laws.proofs.TestLaws.{at_level}
 
 -- ---- the test of each sort
 

@@ -1,11 +1,11 @@
 -- The sort that a table keeps of a term is the sort that it is judged to have.
-use Rattle.std.proofs.Common.{◌≡◌, ℕ, List, ◌∷◌, Option, Some, unwrap_or, refl, sym, ap, ◌∙◌}
+use Rattle.std.proofs.Common.{◌≡◌, ℕ, List, ◌∷◌, Option, Some, unwrap_or, refl, ap, ◌∙◌}
 use Rattle.std.specs.Map.{lookup}
 use Rattle.std.specs.Str.{bytes_eq}
 use Rattle.sc_names.specs.declared.uid.Uid.{Uid}
 use Rattle.sc_schema.specs.declared.declarations.Env.{Env}
 use Rattle.sc_schema.specs.Declarations.{Declarations}
-use Rattle.sc_sorts.specs.declared.sort.Sort.{Sort, Sort-F, out-Sort}
+use Rattle.sc_sorts.specs.declared.sort.Sort.{Sort, Sort-F}
 use Rattle.sc_sorts.specs.declared.sort.Sort.TheVariants as sort
 use Rattle.sc_sorts.proofs.OutLaws.{out_Set, out_Record, out_Option}
 use Rattle.sc_nodes.specs.declared.node.BinaryOp.{BinaryOp}
@@ -13,7 +13,7 @@ use Rattle.sc_terms.specs.Trees.{Tree, Trees}
 use Rattle.sc_sorts.specs.Inside.{SortFields, fields_in, held_in, member_in, field_sort, held_sort, member_sort}
 use Rattle.sc_nodes.specs.Sorts.{binary_sort}
 use Rattle.sc_terms.specs.TreeSorts.{tree_sort, sorts_of}
-use Rattle.sc_term_laws.specs.Judging.{IsTermOf, HaveFields, IsArithmetic, IsSum, IsOverflow, IsTestOfSets, IsPick}
+use Rattle.sc_term_laws.specs.Judging.{IsTermOf, HaveFields, IsArithmetic, IsOverflow, IsTestOfSets, IsPick}
 use Rattle.sc_term_laws.specs.Judging as judged
 
 pub arithmetic_sort : (o : BinaryOp) (x : Sort) → IsArithmetic o → binary_sort o x ≡ sort.Long

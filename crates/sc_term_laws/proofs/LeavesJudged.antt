@@ -1,5 +1,5 @@
 -- Which leaves are terms.
-use Rattle.std.proofs.Common.{◌≡◌, ◌↔◌, ◌⊎◌, inl, inr, ℕ, List, [], Bool, true, Option, Result, IsTrue, IfOk, refl, sym, ap, ◌∙◌, subst}
+use Rattle.std.proofs.Common.{◌≡◌, ◌↔◌, ◌⊎◌, inl, inr, List, [], Bool, true, Option, Result, IsTrue, IfOk, refl, sym, subst}
 use Rattle.sc_names.specs.declared.uid.Uid.{Uid}
 use Rattle.sc_schema.specs.declared.declarations.Env.{Env}
 use Rattle.sc_schema.specs.declared.ty.Ty.{Ty}
@@ -9,7 +9,6 @@ use Rattle.sc_sorts.specs.declared.sort.Sort.TheVariants as sort
 use Rattle.sc_sorts.specs.contracts.sort.SortPartialEq.TheImpl.{ghosts as sorts}
 use Rattle.sc_sorts.specs.Defaults.{default_uid}
 use Rattle.sc_sorts.specs.Entities.{choices_of, entity_sort}
-use Rattle.sc_sorts.specs.OfTypes.{sort_of}
 use Rattle.sc_sorts.proofs.OrderLaws.{sort_eq_decides}
 use Rattle.sc_nodes.specs.declared.node.Leaf.{Leaf}
 use Rattle.sc_nodes.specs.declared.node.Leaf.TheVariants as leafs

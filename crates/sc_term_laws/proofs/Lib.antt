@@ -1,25 +1,25 @@
-mod DefaultTypeLaws
-mod JudgingLaws
-mod UnfoldedLaws
-mod MadeLaws
-mod DefaultMade
-mod FitLaws
-mod ToldLaws
-mod MemberLaws
-mod ChoicesLaws
-mod TestLaws
-mod LawfulSortLaws
-mod LeavesJudged
-mod UnaryJudged
-mod BinaryJudged
-mod ManyJudged
-mod NodesJudged
-mod FitVals
-mod FitSets
-mod FitRecords
-mod SortsLawful
-mod FitDefaults
-mod FitEntities
-mod TermsFitLaws
+pub mod DefaultTypeLaws
+pub mod JudgingLaws
+pub mod UnfoldedLaws
+pub mod MadeLaws
+pub mod DefaultMade
+pub mod FitLaws
+pub mod ToldLaws
+pub mod MemberLaws
+pub mod ChoicesLaws
+pub mod TestLaws
+pub mod LawfulSortLaws
+pub mod LeavesJudged
+pub mod UnaryJudged
+pub mod BinaryJudged
+pub mod ManyJudged
+pub mod NodesJudged
+pub mod FitVals
+pub mod FitSets
+pub mod FitRecords
+pub mod SortsLawful
+pub mod FitDefaults
+pub mod FitEntities
+pub mod TermsFitLaws
 mod Examples
 pub mod BooleansLaws

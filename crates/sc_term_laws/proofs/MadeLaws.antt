@@ -1,5 +1,5 @@
 -- What constructors make of terms are terms.
-use Rattle.std.proofs.Common.{◌≡◌, ◌&&◌, ◌||◌, ℕ, Bool, true, false, not, cond, List, All, Option, Some, None, refl, sym, ap, ◌∙◌, subst}
+use Rattle.std.proofs.Common.{◌≡◌, ◌||◌, ℕ, Bool, true, false, not, cond, List, All, Option, Some, None, refl, sym, ap, ◌∙◌, subst}
 use Rattle.std.specs.Ordering.{is_eq, is_gt, ordering_reverse}
 use Rattle.std.specs.Map.{lookup}
 use Rattle.std.specs.Str.{bytes_eq}
@@ -25,7 +25,7 @@ use Rattle.sc_terms.specs.Folds.{truth_term, constant, under_not, literal_of, li
 use Rattle.sc_terms.specs.Joined.{all_of, any_of}
 use Rattle.sc_terms.proofs.JoinedKeeps.{joined_keeps}
 use Rattle.sc_terms.proofs.OrderLaws.{tree_cmp_total}
-use Rattle.sc_term_laws.specs.Unfolded.{lacks, has_other, stays_not, stays_two, stays_choice, stays_equal, stays_option, stays_literal}
+use Rattle.sc_term_laws.specs.Unfolded.{lacks, stays_two}
 use Rattle.sc_term_laws.specs.Judging.{IsTermOf, HaveFields, HasPlace}
 use Rattle.sc_term_laws.specs.Judging as judged
 use Rattle.sc_term_laws.proofs.JudgingLaws.{sort_is}

@@ -1,5 +1,5 @@
 -- An operator on any number of terms makes a term just where its test passes.
-use Rattle.std.proofs.Common.{◌≡◌, ◌↔◌, ◌&&◌, ◌<◌, ◌==◌, ℕ, List, [], ◌∷◌, length, map, Bool, true, false, IsTrue, refl, sym, ap, ◌∙◌, subst, arith}
+use Rattle.std.proofs.Common.{◌≡◌, ◌↔◌, ◌==◌, ℕ, List, [], ◌∷◌, length, Bool, true, false, refl, sym, ap, subst}
 use Rattle.std.specs.List.{AllByRecursion, list_all}
 use Rattle.std.specs.Map.{keys_of}
 use Rattle.sc_lists.proofs.BoolLaws.{and_first, and_second}
@@ -8,21 +8,20 @@ use Rattle.sc_schema.specs.declared.declarations.Env.{Env}
 use Rattle.sc_schema.specs.Declarations.{Declarations}
 use Rattle.sc_sorts.specs.declared.sort.Sort.{Sort}
 use Rattle.sc_sorts.specs.declared.sort.Sort.TheVariants as sort
-use Rattle.sc_sorts.specs.Inside.{SortField, SortFields}
+use Rattle.sc_sorts.specs.Inside.{SortFields}
 use Rattle.sc_nodes.specs.declared.node.ManyOp.{ManyOp}
 use Rattle.sc_nodes.specs.declared.node.ManyOp.TheVariants as manys
 use Rattle.sc_nodes.specs.declared.node.Node.{Node}
-use Rattle.sc_nodes.specs.Sorts.{many_sort}
 use Rattle.sc_terms.specs.Folds.{truth_term}
 use Rattle.sc_terms.specs.Trees.{Tree, many, Trees, no_part, part}
 use Rattle.sc_terms.specs.Tables.{Places, tree, node_parts, at_numbers, AreBelow}
 use Rattle.sc_terms.specs.TreeSorts.{tree_sort, sorts_of}
 use Rattle.sc_term_laws.specs.Judging.{IsTermOf, HaveSort, HaveFields}
 use Rattle.sc_term_laws.specs.Judging as judged
-use Rattle.sc_term_laws.specs.Judged.{is_good, all_good, AreJudged, IsManyBy, IsMany}
+use Rattle.sc_term_laws.specs.Judged.{is_good, all_good, AreJudged, IsMany}
 use Rattle.sc_term_laws.specs.LawfulSorts.{AreNames, IsHeldSort}
 use Rattle.sc_term_laws.specs.Tests.{member_test}
-use Rattle.sc_term_laws.proofs.JudgingLaws.{sort_is, fields_are}
+use Rattle.sc_term_laws.proofs.JudgingLaws.{sort_is}
 use Rattle.sc_term_laws.proofs.TestLaws.{same_sorts, same_told}
 use Rattle.std.specs.Cmp.Derive.{both_true}
 use Rattle.sc_term_laws.proofs.ToldLaws.{empty_is}

@@ -1,5 +1,5 @@
 -- Members that pass a test, and members of what a list is mapped to.
-use Rattle.std.proofs.Common.{◌≡◌, ◌||◌, ◌++◌, inl, inr, List, [], ◌∷◌, map, Bool, true, false, Contains, refl, ap, ◌∙◌}
+use Rattle.std.proofs.Common.{◌≡◌, ◌||◌, inl, inr, List, [], ◌∷◌, map, Bool, true, false, Contains, refl, ap, ◌∙◌}
 use Rattle.std.specs.List.{flat_map, list_any}
 use Rattle.std.proofs.lemmas.List.Elements.{Contains-append_cases}
 use Rattle.sc_lists.proofs.ListLaws.{contains_first, contains_rest, contains_split, contains_nothing}

@@ -1,11 +1,10 @@
 -- The sort of a type that a schema writes, and that of a term, is one of the schema's values.
-use Rattle.std.proofs.Common.{cond, ◌≡◌, ◌||◌, ◌⊎◌, inl, inr, ◌++◌, ℕ, List, [], ◌∷◌, map, Bool, true, false, Option, Some, None, option_map, option_and_then, is_some, IsSome, IfSome, IsSomeAnd, Contains, refl, sym, ap, ◌∙◌, subst}
-use Rattle.std.specs.List.{AllByRecursion, flat_map, list_any}
-use Rattle.std.specs.Map.{lookup, keys_of}
+use Rattle.std.proofs.Common.{cond, ◌≡◌, inl, inr, ℕ, List, [], ◌∷◌, map, Bool, true, false, Option, Some, None, option_map, option_and_then, IsSome, IfSome, Contains, refl, sym, ap, ◌∙◌, subst}
+use Rattle.std.specs.List.{AllByRecursion}
+use Rattle.std.specs.Map.{keys_of}
 use Rattle.std.specs.Str.{bytes_eq, IsUtf8}
 use Rattle.std.proofs.lemmas.Slice.Eq.{bytes_eq-Decides}
-use Rattle.std.proofs.lemmas.List.Elements.{Contains-append_cases}
-use Rattle.sc_lists.proofs.ListLaws.{all_element, contains_first, contains_rest, contains_split, contains_nothing}
+use Rattle.sc_lists.proofs.ListLaws.{all_element, contains_nothing}
 use Rattle.sc_lists.proofs.OptionLaws.{same_some, some_of}
 use Rattle.sc_lists.proofs.TextLaws.{bytes_eq_true}
 use Rattle.sc_names.specs.declared.uid.Uid.{Uid}
@@ -25,11 +24,10 @@ use Rattle.sc_schema.proofs.LookupLaws.{type_declared, action_declared}
 use Rattle.sc_sorts.specs.declared.sort.Sort.{Sort}
 use Rattle.sc_sorts.specs.declared.sort.Sort.TheVariants as sort
 use Rattle.sc_sorts.specs.declared.sort.Sort.TheOpen as s
-use Rattle.sc_sorts.specs.Entities.{choices_of, entity_sort}
 use Rattle.sc_sorts.specs.Inside.{SortField, SortFields}
 use Rattle.sc_sorts.specs.OfTypes.{with_presence, sort_of, sort_step}
 use Rattle.sc_sorts.proofs.EveryLaws.{in_Bool, in_Long, in_String, in_Decimal, in_Ip, in_Entity, in_Set, in_Record, in_Option}
-use Rattle.sc_term_laws.specs.LawfulSorts.{AreNames, IsDeclared, IsSortLevel, IsSortOf, IsHeldSort}
+use Rattle.sc_term_laws.specs.LawfulSorts.{AreNames, IsDeclared, IsSortLevel, IsSortOf}
 use Rattle.sc_term_laws.proofs.ChoicesLaws.{no_choices}
 use Rattle.sc_term_laws.proofs.DefaultTypeLaws.{no_option, no_action}
 use Rattle.sc_term_laws.proofs.FitLaws.{sort_roll}

@@ -1,5 +1,5 @@
 -- In a well-formed world of a lawful schema the sort of a term is lawful, and its value fits the sort.
-use Rattle.std.proofs.Common.{cond, ◌≡◌, inl, inr, ℕ, ℤ, List, [], ◌∷◌, map, Bool, true, false, not, Option, Some, None, IfSome, Contains, refl, sym, ap, ◌∙◌, subst}
+use Rattle.std.proofs.Common.{cond, ◌≡◌, inl, inr, ℕ, List, [], map, Bool, true, false, not, Option, Some, None, Contains, refl, sym, ap, ◌∙◌, subst}
 use Rattle.std.specs.Prelude.{find}
 use Rattle.std.specs.List.{AllByRecursion}
 use Rattle.std.specs.List.Sorted.{IsStrictlySortedBy}
@@ -8,7 +8,6 @@ use Rattle.std.specs.Str.{bytes_eq}
 use Rattle.std.proofs.lemmas.Bool.{false≢true}
 use Rattle.std.proofs.lemmas.Map.Views.{Contains-from_lookup}
 use Rattle.sc_lists.proofs.ListLaws.{all_element}
-use Rattle.sc_lists.proofs.OptionLaws.{same_some}
 use Rattle.sc_lists.proofs.TextLaws.{bytes_eq_true}
 use Rattle.sc_names.specs.declared.uid.Uid.{Uid}
 use Rattle.sc_names.specs.Uids.{text_cmp}
@@ -17,7 +16,7 @@ use Rattle.sc_schema.specs.declared.declarations.Env.{Env}
 use Rattle.sc_schema.specs.Declarations.{Declarations, action_uids}
 use Rattle.sc_schema.specs.Lawful.{IsLawful}
 use Rattle.sc_schema.proofs.LawfulLaws.{ascii_text}
-use Rattle.sc_sorts.specs.declared.sort.Sort.{Sort, out-Sort}
+use Rattle.sc_sorts.specs.declared.sort.Sort.{Sort}
 use Rattle.sc_sorts.specs.declared.sort.Sort.TheVariants as sort
 use Rattle.sc_sorts.specs.declared.sort.Sort.TheVariants.{rolls-Entity}
 use Rattle.sc_sorts.specs.declared.sort.Sort.TheOpen as s
@@ -30,8 +29,8 @@ use Rattle.sc_values.specs.declared.value.Value.{Value, Value-F, every-Value, ou
 use Rattle.sc_values.specs.declared.value.Value.TheVariants as value
 use Rattle.sc_values.specs.declared.value.Value.TheVariants.{rolls-Record}
 use Rattle.sc_values.specs.declared.value.Value.TheOpen as v
-use Rattle.sc_values.specs.Proper.{IsProper, IsProperLevel}
-use Rattle.sc_values.specs.Records.{Fields, field}
+use Rattle.sc_values.specs.Proper.{IsProperLevel}
+use Rattle.sc_values.specs.Records.{field}
 use Rattle.sc_values.proofs.EveryLaws as every
 use Rattle.sc_world.specs.declared.world.World.{World}
 use Rattle.sc_world.specs.Conforms.{is_entity_of}
@@ -41,9 +40,9 @@ use Rattle.sc_nodes.specs.declared.node.BinaryOp.{BinaryOp}
 use Rattle.sc_nodes.specs.declared.node.ManyOp.TheVariants as manys
 use Rattle.sc_terms.specs.Trees.{Tree, leaf, one, two, choice, many, Trees, listed}
 use Rattle.sc_terms.specs.TreeSorts.{tree_sort}
-use Rattle.sc_terms.specs.Values.{Val, it, maybe, value_in, uid_in, text_in, uid_seen, record_in, fields_seen, option_in, number_in, field_seen, field_value, held_value, default_val, two_value, val, vals, is_maybe, HaveKinds, HasKinds}
+use Rattle.sc_terms.specs.Values.{Val, it, value_in, uid_in, text_in, uid_seen, record_in, fields_seen, option_in, field_seen, field_value, held_value, two_value, val, vals, is_maybe, HaveKinds, HasKinds}
 use Rattle.sc_terms.specs.Values as values
-use Rattle.sc_term_laws.specs.Fitting.{fits, fits_step, IsOfSort, NamesKnown, NamesKnownLevel, Fits, as_value, as_option}
+use Rattle.sc_term_laws.specs.Fitting.{IsOfSort, NamesKnownLevel, Fits, as_value, as_option}
 use Rattle.sc_term_laws.specs.Judging.{IsTermOf, HaveSort, HaveFields, IsArithmetic, IsOverflow, IsTestOfSets, IsPick}
 use Rattle.sc_term_laws.specs.Judging as judged
 use Rattle.sc_term_laws.specs.LawfulSorts.{IsDeclared, IsSortLevel, IsSortOf}

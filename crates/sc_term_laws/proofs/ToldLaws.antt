@@ -1,5 +1,5 @@
 -- What one test tells is told by another of the same fact.
-use Rattle.std.proofs.Common.{◌≡◌, ◌↔◌, cond, ◌||◌, ◌⊎◌, inl, inr, ◌==◌, ℕ, List, [], ◌∷◌, length, Bool, true, false, Option, Some, None, option_map, is_some, find, Result, IsTrue, IfOk, refl, sym, ap, ◌∙◌, subst}
+use Rattle.std.proofs.Common.{◌≡◌, ◌↔◌, cond, ◌||◌, ◌⊎◌, inl, inr, ◌==◌, List, [], ◌∷◌, length, Bool, true, false, Option, Some, None, option_map, is_some, find, Result, IsTrue, IfOk, refl, sym, ap, ◌∙◌}
 use Rattle.std.specs.List.{list_any}
 use Rattle.std.proofs.Math.Dec.{eqb-suc-zero}
 use Rattle.std.proofs.lemmas.Bool.{false≢true}

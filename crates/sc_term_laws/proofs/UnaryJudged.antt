@@ -1,10 +1,7 @@
 -- An operator on a term makes a term just where its test passes.
-use Rattle.std.proofs.Common.{◌≡◌, ◌↔◌, ◌&&◌, ℕ, List, Bool, true, Option, Some, nat_le, nat_lt, is_some, IsTrue, refl, sym, ap, ◌∙◌, subst}
-use Rattle.std.specs.Map.{lookup}
-use Rattle.std.specs.Str.{bytes_eq}
+use Rattle.std.proofs.Common.{◌≡◌, ◌&&◌, ℕ, List, Bool, true, Option, Some, nat_le, nat_lt, is_some, refl, sym, ap, ◌∙◌, subst}
 use Rattle.sc_lists.proofs.BoolLaws.{and_first, and_second}
 use Rattle.sc_names.specs.declared.uid.Uid.{Uid}
-use Rattle.sc_pattern.specs.declared.part.Part.{Part}
 use Rattle.sc_schema.specs.declared.declarations.Env.{Env}
 use Rattle.sc_schema.specs.declared.ty.Ty.{Ty}
 use Rattle.sc_schema.specs.Declarations.{Declarations, attrs_of, tags_of, ancestor_types}
@@ -23,8 +20,8 @@ use Rattle.sc_terms.specs.Trees.{Tree, one, two}
 use Rattle.sc_terms.specs.TreeSorts.{tree_sort}
 use Rattle.sc_term_laws.specs.Judging.{IsTermOf, IsSum}
 use Rattle.sc_term_laws.specs.Judging as judged
-use Rattle.sc_term_laws.specs.Tests.{is_string, is_bool, has_place, is_sum, is_product, has_field, name_of, is_sort_of, is_above, is_entity_sort, attributes_test, ancestors_test, keys_test, unary_test}
-use Rattle.sc_term_laws.specs.Unfolded.{stays_not, stays_field, stays_option, stays_literal}
+use Rattle.sc_term_laws.specs.Tests.{is_string, is_bool, has_place, is_sum, is_product, has_field, name_of, is_above, is_entity_sort, attributes_test, ancestors_test, keys_test, unary_test}
+use Rattle.sc_term_laws.specs.Unfolded.{stays_field}
 use Rattle.sc_term_laws.proofs.JudgingLaws.{sort_is, arithmetic_sort, field_of_record}
 use Rattle.sc_term_laws.proofs.TestLaws as test
 use Rattle.std.specs.Cmp.Derive.{both_true}

@@ -1,15 +1,14 @@
 -- What stays is what the constructor makes.
-use Rattle.std.proofs.Common.{◌≡◌, ℕ, List, Bool, true, false, ◌&&◌, ◌||◌, not, Option, Some, None, refl, ap, ◌∙◌}
+use Rattle.std.proofs.Common.{◌≡◌, ℕ, List, Bool, true, false, ◌||◌, not, Option, Some, None, refl}
 use Rattle.std.specs.Ordering.{is_gt}
 use Rattle.sc_lists.proofs.BoolLaws.{and_first, and_second}
 use Rattle.sc_pattern.specs.declared.part.Part.{Part}
-use Rattle.sc_sorts.specs.declared.sort.Sort.{Sort}
 use Rattle.sc_nodes.specs.declared.node.Literal.{Literal}
 use Rattle.sc_nodes.specs.declared.node.UnaryOp.TheVariants as unary
 use Rattle.sc_nodes.specs.declared.node.BinaryOp.TheVariants as binary
 use Rattle.sc_terms.specs.Trees.{Tree, one, two, choice}
 use Rattle.sc_terms.specs.Order.{tree_cmp, tree_eq}
-use Rattle.sc_terms.specs.Folds.{constant, under_not, literal_of, literals_same, component, absent, equation, other_equal, not_by, not_term, and_by, and_term, or_by, or_term, choice_by, choice_term, equal_by, equal_term, field_by, field_term, present_by, present_term, held_by, held_term, bit_by, bit_term, like_by, like_term}
+use Rattle.sc_terms.specs.Folds.{constant, under_not, literal_of, literals_same, component, absent, not_term, and_term, or_term, choice_term, equal_term, field_term, present_term, held_term, bit_term, like_term}
 use Rattle.sc_term_laws.specs.Unfolded.{lacks, has_other, stays_not, stays_two, stays_choice, stays_equal, stays_field, stays_option, stays_literal}
 
 none_of : {X : Type 0} (o : Option X) → lacks o ≡ true → o ≡ None

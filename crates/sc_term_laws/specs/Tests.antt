@@ -1,6 +1,6 @@
 -- Tests of an operator on terms of given sorts: whether what it makes is a term.
-use Rattle.std.specs.Prelude.{◌&&◌, ℕ, List, [], ◌∷◌, Bool, true, false, not, Option, Some, None, is_some, nat_le, nat_lt, length, ◌==◌}
-use Rattle.std.specs.List.{list_all, list_any}
+use Rattle.std.specs.Prelude.{◌&&◌, ℕ, List, Bool, true, false, Option, Some, None, is_some, nat_le, nat_lt, length, ◌==◌}
+use Rattle.std.specs.List.{list_any}
 use Rattle.std.specs.Str.{bytes_eq}
 use Rattle.sc_schema.specs.declared.ty.Ty.{Ty}
 use Rattle.sc_schema.specs.Declarations.{Declarations, attrs_of, tags_of, ancestor_types}

@@ -1,8 +1,6 @@
 -- The value of a default term is the default of its sort.
-use Rattle.std.proofs.Common.{◌≡◌, ℕ, Bool, true, false, List, [], ◌∷◌, ◌++◌, map, Option, Some, None, pos, refl, sym, ap, ◌∙◌, subst}
+use Rattle.std.proofs.Common.{◌≡◌, ℕ, Bool, true, false, List, [], ◌∷◌, ◌++◌, map, Option, Some, None, refl, sym, ap, ◌∙◌, subst}
 use Rattle.std.specs.List.{flat_map}
-use Rattle.sc_ip.specs.declared.ip.Ip.TheVariants.{V4}
-use Rattle.sc_names.specs.declared.uid.Uid.{Uid}
 use Rattle.sc_values.specs.declared.value.Value.{Value}
 use Rattle.sc_values.specs.declared.value.Value.TheVariants as value
 use Rattle.sc_values.specs.Records.{Fields}
@@ -11,8 +9,8 @@ use Rattle.sc_sorts.specs.declared.sort.Sort.{Sort, Sort-F, out-Sort, roll-Sort,
 use Rattle.sc_sorts.specs.declared.sort.Sort.TheVariants as sort
 use Rattle.sc_sorts.specs.declared.sort.Sort.TheVariants.{rolls-Bool, rolls-Long, rolls-String, rolls-Decimal, rolls-Ip, rolls-Entity, rolls-Set, rolls-Record, rolls-Option}
 use Rattle.sc_sorts.specs.declared.sort.Sort.TheOpen as s
-use Rattle.sc_sorts.specs.Defaults.{is_option_level, is_option, default_uid, default_field, default_of}
-use Rattle.sc_sorts.specs.Inside.{held_in, held_sort}
+use Rattle.sc_sorts.specs.Defaults.{is_option_level, is_option, default_field, default_of}
+use Rattle.sc_sorts.specs.Inside.{held_in}
 use Rattle.sc_sorts.proofs.OutLaws.{out_Bool, out_Long, out_String, out_Decimal, out_Ip, out_Entity, out_Set, out_Record, out_Option}
 use Rattle.sc_sorts.proofs.DefaultLaws as plain
 use Rattle.sc_nodes.specs.declared.node.Leaf.TheVariants as leafs
@@ -20,7 +18,7 @@ use Rattle.sc_nodes.specs.declared.node.UnaryOp.TheVariants as unary
 use Rattle.sc_terms.specs.Trees.{Tree, leaf, one, two, choice, many, parts_of}
 use Rattle.sc_terms.specs.TreeSorts.{tree_sort}
 use Rattle.sc_terms.specs.Folds.{default_term, default_parts, absent, held_by, held_term}
-use Rattle.sc_terms.specs.Values.{Val, it, maybe, val, vals, default_by, default_val, field_of, option_in, held_value, set_from}
+use Rattle.sc_terms.specs.Values.{Val, it, val, vals, default_by, default_val, field_of, set_from}
 use Rattle.sc_terms.proofs.DefaultLaws.{with_default, default_Bool, default_Long, default_String, default_Decimal, default_Ip, default_Entity, default_Set, default_Record, default_Option}
 
 abbrev HasDefault : Sort → Type 0

@@ -25,10 +25,10 @@ use Rattle.sc_terms.proofs.FoldValues.{constant_value, seen_yes, seen_is, same_v
 
 -- ---- equality of values
 
-value_eq-exact : (x y : Value) → value_eq x y ≡ true → x ≡ y
+pub value_eq-exact : (x y : Value) → value_eq x y ≡ true → x ≡ y
 value_eq-exact x y h = value_cmp_exact x y ((Equal-is (value_cmp x y)).0 h)
 
-value_eq-same : (x y : Value) → x ≡ y → value_eq x y ≡ true
+pub value_eq-same : (x y : Value) → x ≡ y → value_eq x y ≡ true
 value_eq-same x y e = subst (λ (z : Value). value_eq x z ≡ true) e (ap is_eq (tied_itself value_cmp_total x))
 
 value_eq-flip : (x y : Value) → value_eq x y ≡ value_eq y x
@@ -38,7 +38,7 @@ option_eq-same : (o : Option Value) → option_eq o o ≡ true
 option_eq-same None = refl
 option_eq-same (Some x) = value_eq-same x x refl
 
-val_eq-same : (x : Val) → val_eq x x ≡ true
+pub val_eq-same : (x : Val) → val_eq x x ≡ true
 val_eq-same (it x) = value_eq-same x x refl
 val_eq-same (maybe o) = option_eq-same o
 

@@ -17,7 +17,7 @@ use Rattle.sc_nodes.specs.declared.node.BinaryOp.{BinaryOp}
 use Rattle.sc_nodes.specs.declared.node.ManyOp.{ManyOp}
 use Rattle.sc_nodes.specs.Literals.{literal_bit, literal_like}
 use Rattle.sc_pattern.specs.declared.part.Part.{Part}
-use Rattle.sc_terms.specs.Tables.{tree, StandsFor}
+use Rattle.sc_terms.specs.Tables.{StandsFor}
 use Rattle.sc_terms.specs.TreeSorts.{tree_sort}
 use Rattle.sc_terms.specs.Trees.{Tree, leaf, one, two, choice, many, Trees}
 use Rattle.sc_terms.specs.Order.{tree_eq}

@@ -4,21 +4,21 @@ use Rattle.std.specs.List.{flat_map}
 use Rattle.std.specs.Map.{lookup}
 use Rattle.std.specs.Str.{bytes_eq}
 use Rattle.sc_lists.proofs.TextLaws.{bytes_eq_true}
-use Rattle.sc_values.specs.declared.value.Value.{Value, Value-F, out-Value}
+use Rattle.sc_values.specs.declared.value.Value.{Value}
 use Rattle.sc_values.specs.declared.value.Value.TheVariants as value
 use Rattle.sc_values.specs.Records.{Fields, field}
 use Rattle.sc_values.proofs.OutLaws.{out_Record}
 use Rattle.sc_world.specs.declared.world.World.{World}
-use Rattle.sc_sorts.specs.declared.sort.Sort.{Sort, Sort-F, out-Sort}
+use Rattle.sc_sorts.specs.declared.sort.Sort.{Sort, Sort-F}
 use Rattle.sc_sorts.specs.declared.sort.Sort.TheVariants as sort
 use Rattle.sc_sorts.specs.Defaults.{is_option}
-use Rattle.sc_sorts.specs.Inside.{SortFields, fields_in, field_sort}
+use Rattle.sc_sorts.specs.Inside.{fields_in, field_sort}
 use Rattle.sc_sorts.proofs.OutLaws as sorts
 use Rattle.sc_nodes.specs.declared.node.ManyOp.TheVariants as manys
 use Rattle.sc_nodes.specs.declared.node.Node.{Node}
 use Rattle.sc_nodes.specs.declared.node.UnaryOp.TheVariants as unary
 use Rattle.sc_terms.specs.Trees.{Tree, leaf, one, two, choice, many, Trees, no_part, part, listed, parts_of}
-use Rattle.sc_terms.specs.Tables.{tree, StandsFor}
+use Rattle.sc_terms.specs.Tables.{StandsFor}
 use Rattle.sc_terms.specs.TreeSorts.{tree_sort, sorts_of}
 use Rattle.sc_terms.specs.Folds.{without_label, set_term, component, among_parts, field_by, field_term}
 use Rattle.sc_terms.specs.Values.{Val, it, maybe, val, vals, value_in, set_from, record_in, fields_seen, field_of, field_seen, field_value, is_maybe, HaveKinds, HasKinds, HasValueWhere}

@@ -1,5 +1,5 @@
 -- The sort of each term.
-use Rattle.std.specs.Prelude.{ℕ, List, [], ◌∷◌}
+use Rattle.std.specs.Prelude.{[], ◌∷◌}
 use Rattle.sc_sorts.specs.declared.sort.Sort.{Sort}
 use Rattle.sc_sorts.specs.Inside.{SortFields}
 use Rattle.sc_nodes.specs.Sorts.{leaf_sort, unary_sort, binary_sort, many_sort}

@@ -89,7 +89,8 @@ impl Terms {
     pub fn low(&mut self, a: u64, b: u64, count: u64) -> Result<u64, AllocError>
         requires a_in { a < length self.old }
         requires b_in { b < length self.old }
-        ensures ok { IfOk result (λ n. StandsFor self.new n (two (binary.Low count) (tree self.old a) (tree self.old b))) }
+        ensures ok { IfOk result (λ n. StandsFor self.new n
+            (two (binary.Low count) (tree self.old a) (tree self.old b))) }
         ensures value { IfOk result (λ n. HasValue self.new n (λ w. yes (low_bits_less (number_in (val
             (tree self.old a) w)) (number_in (val (tree self.old b) w)) count))) }
         ensures kept { Keeps self.old self.new }

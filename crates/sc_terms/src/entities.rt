@@ -57,7 +57,8 @@ impl Terms {
     pub fn tag(&mut self, a: u64, b: u64, sort: Sort) -> Result<u64, AllocError>
         requires a_in { a < length self.old }
         requires b_in { b < length self.old }
-        ensures ok { IfOk result (λ n. StandsFor self.new n (two (binary.Tag sort) (tree self.old a) (tree self.old b))) }
+        ensures ok { IfOk result (λ n. StandsFor self.new n
+            (two (binary.Tag sort) (tree self.old a) (tree self.old b))) }
         ensures value { IfOk result (λ n. HasValue self.new n (λ w. it (tag_value sort (text_in (val
             (tree self.old b) w)) (entity_in (val (tree self.old a) w) w)))) }
         ensures kept { Keeps self.old self.new }

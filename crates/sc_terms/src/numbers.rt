@@ -59,7 +59,8 @@ impl Terms {
     pub fn sum_overflows(&mut self, a: u64, b: u64) -> Result<u64, AllocError>
         requires a_in { a < length self.old }
         requires b_in { b < length self.old }
-        ensures ok { IfOk result (λ n. StandsFor self.new n (two binary.AddOverflows (tree self.old a) (tree self.old b))) }
+        ensures ok { IfOk result (λ n. StandsFor self.new n
+            (two binary.AddOverflows (tree self.old a) (tree self.old b))) }
         ensures value { IfOk result (λ n. HasValue self.new n (λ w. yes (leaves64 (number_in (val
             (tree self.old a) w) +ℤ number_in (val (tree self.old b) w))))) }
         ensures kept { Keeps self.old self.new }

@@ -16,7 +16,8 @@ impl Terms {
     pub fn present(&mut self, a: u64) -> Result<u64, AllocError>
         requires a_in { a < length self.old }
         ensures ok { IfOk result (λ n. StandsFor self.new n (present_term (tree self.old a))) }
-        ensures value { IfOk result (λ n. HasValue self.new n (λ w. yes (is_some (option_in (val (tree self.old a) w))))) }
+        ensures value { IfOk result (λ n. HasValue self.new n
+            (λ w. yes (is_some (option_in (val (tree self.old a) w))))) }
         ensures kept { Keeps self.old self.new }
         ensures grows { length self.new ≤ length self.old + 1 }
         ensures err { OnErr result (self.new ≡ self.old) }

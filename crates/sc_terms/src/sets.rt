@@ -106,7 +106,8 @@ impl Terms {
     pub fn common_pick(&mut self, a: u64, b: u64) -> Result<u64, AllocError>
         requires a_in { a < length self.old }
         requires b_in { b < length self.old }
-        ensures ok { IfOk result (λ n. StandsFor self.new n (two binary.CommonPick (tree self.old a) (tree self.old b))) }
+        ensures ok { IfOk result (λ n. StandsFor self.new n
+            (two binary.CommonPick (tree self.old a) (tree self.old b))) }
         ensures value { IfOk result (λ n. HasValue self.new n (λ w. least (member_sort (tree_sort (tree self.old a)))
             (find (has_member (members_in (val (tree self.old b) w))) (members_in (val (tree self.old a) w))))) }
         ensures kept { Keeps self.old self.new }

@@ -107,7 +107,8 @@ fn bare_is_in(
     type_name: &TypeName,
     b: &Boxed<Expr>,
 ) -> Result<Expr, AllocError>
-    ensures { IfOk result (λ copy. copy ≡ Expr.IsIn nowhere (bare a.now) (bare_name type_name.now) nowhere (bare b.now)) }
+    ensures { IfOk result (λ copy. copy ≡ Expr.IsIn nowhere (bare a.now) (bare_name type_name.now) nowhere
+        (bare b.now)) }
 {
     Ok(Expr::IsIn(
         NOWHERE,

@@ -129,7 +129,8 @@ fn acting_binary(
     a: &Boxed<Expr>,
     b: &Boxed<Expr>,
 ) -> Result<Expr, AllocError>
-    ensures { IfOk result (λ copy. copy ≡ Expr.Binary place operator (acting action.now a.now) (acting action.now b.now)) }
+    ensures { IfOk result (λ copy. copy ≡ Expr.Binary place operator (acting action.now a.now)
+        (acting action.now b.now)) }
 {
     Ok(Expr::Binary(
         place,

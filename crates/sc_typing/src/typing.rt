@@ -139,7 +139,8 @@ fn choose_open(
     a: &Expr,
     b: &Expr,
 ) -> Result<Typed, Fault<TypeFault>>
-    ensures { Gives result (choice_open place x (seen setting.now a.now) (seen setting.now b.now) setting.now.known.now) }
+    ensures { Gives result (choice_open place x (seen setting.now a.now) (seen setting.now b.now)
+        setting.now.known.now) }
 {
     let y = type_under(setting, x.given.as_slice(), a)?;
     choose_rest(setting, place, x, y, b)
@@ -250,7 +251,8 @@ fn type_right(
     b: &Expr,
     x: &TypedExpr,
 ) -> Result<(Ty, Boxed<TypedExpr>), Fault<TypeFault>>
-    ensures { Gives result (membership setting.now.schema.now a.now (seen setting.now b.now) setting.now.known.now x.now) }
+    ensures { Gives result (membership setting.now.schema.now a.now (seen setting.now b.now)
+        setting.now.known.now x.now) }
 {
     if let Some(is_in) = decided(setting.schema, a, b) {
         let right = leaves(setting.alloc, b)?;
@@ -267,7 +269,8 @@ fn type_has(
     names: &[Text],
     a: &Expr,
 ) -> Result<Typed, Fault<TypeFault>>
-    ensures { Gives result (having setting.now.schema.now place names.now (seen setting.now a.now) setting.now.known.now) }
+    ensures { Gives result (having setting.now.schema.now place names.now (seen setting.now a.now)
+        setting.now.known.now) }
 {
     let x = type_expr(setting, a)?;
     has(setting, place, names, a, x.into_expr())
@@ -363,7 +366,8 @@ fn type_access(
     name: &Text,
     a: &Expr,
 ) -> Result<Typed, Fault<TypeFault>>
-    ensures { Gives result (accessed setting.now.schema.now place name.now (seen setting.now a.now) setting.now.known.now) }
+    ensures { Gives result (accessed setting.now.schema.now place name.now (seen setting.now a.now)
+        setting.now.known.now) }
 {
     let x = type_expr(setting, a)?;
     access(setting, place, name, a, x.into_expr())

@@ -29,7 +29,8 @@ fn object_of<'s>(
     schema: &'s Schema,
     x: &'s TypedExpr,
 ) -> Result<&'s [(Text, Presence, Ty)], TypeFault>
-    ensures { result_map_both (λ fields. fields.now) (λ e. e) result ≡ as_object schema.now (place_of x.now) (ty x.now) }
+    ensures { result_map_both (λ fields. fields.now) (λ e. e) result ≡ as_object schema.now (place_of x.now)
+        (ty x.now) }
 {
     match type_of(x) {
         Some(ty) => object(schema, place_of(x), ty),

@@ -40,7 +40,8 @@ pub(crate) fn binary(
     x: &TypedExpr,
     y: &TypedExpr,
 ) -> Result<Ty, Fault<TypeFault>>
-    ensures { Gives result (binary setting.now.schema.now setting.now.known.now place operator a.now b.now x.now y.now) }
+    ensures { Gives result (binary setting.now.schema.now setting.now.known.now place operator a.now b.now
+        x.now y.now) }
 {
     match operator {
         BinaryOperator::Less

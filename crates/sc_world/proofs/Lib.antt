@@ -11,7 +11,7 @@ mod DefaultLaws
 mod TypeLaws
 mod RequiredLaws
 mod DefaultTypeLaws
-mod FillLaws
+pub mod FillLaws
 pub mod DeclaredLaws
 mod DefaultEntityLaws
 mod NamedWithLaws

@@ -43,7 +43,8 @@ pub fn default_world(alloc: Global, s: &Schema, env: &Env, lits: &Lits) -> Resul
     ensures request { IfOk result (λ w. w.request ≡ defaults.default_request s.now env.now) }
     ensures value { IfOk result (λ w. AreDefaults s.now w.store) }
     ensures exact { IfOk result (λ w. StoresNamed s.now (defaults.default_request s.now env.now) lits.now w.store) }
-    ensures well_formed { AllByRecursion (IsDeclared s.now) lits.now → IfOk result (IsWellFormed s.now env.now lits.now) }
+    ensures well_formed { AllByRecursion (IsDeclared s.now) lits.now
+        → IfOk result (IsWellFormed s.now env.now lits.now) }
 {
     s.laws();
     let request = default_request(alloc, s, env)?;

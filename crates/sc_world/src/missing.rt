@@ -98,7 +98,8 @@ fn least_in_value<'w>(store: &Store, least: Option<&'w Uid>, v: &'w Value) -> Op
 
 #[cycle(missing)]
 fn least_in_set<'w>(store: &Store, so_far: Option<&'w Uid>, members: &'w Set) -> Option<&'w Uid>
-    ensures { option_copied result ≡ least_missing store.now (option_copied so_far.entry) (flat_map uids_in members.now) }
+    ensures { option_copied result ≡ least_missing store.now (option_copied so_far.entry)
+        (flat_map uids_in members.now) }
 {
     let mut least = so_far;
     for member in members.as_slice() {
@@ -109,7 +110,8 @@ fn least_in_set<'w>(store: &Store, so_far: Option<&'w Uid>, members: &'w Set) ->
 
 #[cycle(missing)]
 fn least_in_record<'w>(store: &Store, so_far: Option<&'w Uid>, fields: &'w Rec) -> Option<&'w Uid>
-    ensures { option_copied result ≡ least_missing store.now (option_copied so_far.entry) (uids_in (Record fields.now)) }
+    ensures { option_copied result ≡ least_missing store.now (option_copied so_far.entry)
+        (uids_in (Record fields.now)) }
 {
     let mut least = so_far;
     for field in fields.as_slice() {

@@ -70,5 +70,6 @@ pub fn break_laws()
     ensures one { (s : Declarations) (literals : List AnyUid) (w : AnyWorld) (a b : Option AnyBreak)
         → IsFirstBreak s literals w a → IsFirstBreak s literals w b → a ≡ b }
     ensures nowhere { (s : Declarations) (literals : List AnyUid) (w : AnyWorld) → IsMap w.store
-        → IsFirstBreak s literals w None ↔ ((env : Env) × Contains (environments s) env × IsWellFormed s env literals w) }
+        → IsFirstBreak s literals w None
+        ↔ ((env : Env) × Contains (environments s) env × IsWellFormed s env literals w) }
 {}

@@ -17,7 +17,8 @@ fn two_count(problem: &Problem<'_>, op: &BinaryOp, term: u64, left: u64, right: 
     requires term_in { term < length problem.now.nodes }
     requires left_in { left < length problem.now.nodes }
     requires right_in { right < length problem.now.nodes }
-    requires two { tree problem.now.nodes term ≡ two op.now (tree problem.now.nodes left) (tree problem.now.nodes right) }
+    requires two { tree problem.now.nodes term ≡ two op.now (tree problem.now.nodes left)
+        (tree problem.now.nodes right) }
     ensures { result ≡ length (definition (literal_in problem.now) (tree problem.now.nodes term)) }
 {
     if !is_connective(problem, op, left) {

@@ -64,7 +64,8 @@ fn push_two(
     requires term_in { term < length problem.now.nodes }
     requires left_in { left < length problem.now.nodes }
     requires right_in { right < length problem.now.nodes }
-    requires two { tree problem.now.nodes term ≡ two op.now (tree problem.now.nodes left) (tree problem.now.nodes right) }
+    requires two { tree problem.now.nodes term ≡ two op.now (tree problem.now.nodes left)
+        (tree problem.now.nodes right) }
     ensures { OnOk result (clauses.new.items ≡ clauses.old.items
         ++ definition (literal_in problem.now) (tree problem.now.nodes term)) }
 {

@@ -57,7 +57,8 @@ fn row(
     u: bool,
     v: bool,
 ) -> Result<Clause, AllocError>
-    ensures { IfOk result (λ c. c ≡ row_of (truth_of op.now) connective.now.whole connective.now.left connective.now.right u v) }
+    ensures { IfOk result (λ c. c ≡ row_of (truth_of op.now)
+        connective.now.whole connective.now.left connective.now.right u v) }
 {
     let value = truth(op, u, v);
     let mut clause = Seq::new(alloc);
@@ -107,7 +108,8 @@ pub(crate) fn push_table(
 
 /// How many clauses the row of two values is: none where it holds an atom with its negation.
 fn row_count(op: &BinaryOp, connective: &Connective, u: bool, v: bool) -> u64
-    ensures count { result ≡ length (kept (row_of (truth_of op.now) connective.now.whole connective.now.left connective.now.right u v)) }
+    ensures count { result ≡ length (kept (row_of (truth_of op.now)
+        connective.now.whole connective.now.left connective.now.right u v)) }
     ensures one { result ≤ 1 }
 {
     let row = [

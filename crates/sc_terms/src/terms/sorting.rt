@@ -53,7 +53,8 @@ impl Terms {
 
     fn put_sort(&self, part: &(Text, u64), fields: &mut Seq<(Text, Sort)>) -> Result<(), AllocError>
         requires { part.now.1 < length self.now }
-        ensures { OnOk result (fields.new ≡ fields.old ++ (part.now.0, sorting.tree_sort (tree self.now part.now.1)) ∷ []) }
+        ensures { OnOk result (fields.new ≡ fields.old
+            ++ (part.now.0, sorting.tree_sort (tree self.now part.now.1)) ∷ []) }
     {
         let sort = try_clone(self.alloc, self.sort(part.1))?;
         fields.push((part.0.try_clone(self.alloc)?, sort))

@@ -1,5 +1,4 @@
-use Rattle.std.proofs.Common.{◌+◌, ◌*◌, ◌<◌, ℕ, get_or}
-use Rattle.sc_sorts.specs.declared.sort.Sort.{size-Sort}
+use Rattle.std.proofs.Common.{◌<◌, ℕ, get_or}
 use Rattle.sc_sorts.specs.Inside.{SortField}
 use Rattle.sc_term_laws.specs.LawfulSorts.{IsSortOf}
 use Rattle.sc_term_laws.proofs.lawful_sorts.+lawful.Given as goal

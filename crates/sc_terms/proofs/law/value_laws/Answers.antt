@@ -1,8 +1,0 @@
-use Rattle.sc_terms.specs.Values.{val}
-use Rattle.sc_terms.proofs.FoldValues.{not_is, and_is, or_is, choice_is}
-use Rattle.sc_terms.proofs.EqualValues.{equal_is}
-use Rattle.sc_terms.proofs.law.value_laws.Goals as goal
-
-pub returns : goal.returns
-unfolding val
-returns c = record { negation = not_is; both = and_is; either = or_is; equation = equal_is; chosen = choice_is }

@@ -1,5 +1,0 @@
-use Rattle.std.proofs.Common.{length}
-use Rattle.sc_terms.proofs.terms.Terms.+any_of.Given as goal
-
-abbrev pub decreases-any_of : goal.decreases-any_of
-decreases-any_of l = length l.xs.now
