@@ -1,0 +1,4 @@
+pub mod ShapeLaws
+pub mod RuleLaws
+pub mod MovedLaws
+pub mod AlikeLaws
