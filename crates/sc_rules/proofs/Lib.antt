@@ -1,0 +1,11 @@
+pub mod MemberLaws
+pub mod FieldLaws
+pub mod ClauseLaws
+pub mod EquationLaws
+pub mod MemberTruths
+pub mod SortValues
+pub mod EqualSound
+pub mod SetSound
+pub mod EntitySound
+pub mod StringSound
+pub mod TermsHold

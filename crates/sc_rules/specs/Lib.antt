@@ -1,0 +1,7 @@
+pub mod Signed
+pub mod Terms
+pub mod Equal
+pub mod Sets
+pub mod Entities
+pub mod Strings
+pub mod Laws

@@ -1,0 +1,10 @@
+mod NumberLaws
+mod ListLaws
+mod ClassLaws
+mod ChainLaws
+mod PathLaws
+mod CountLaws
+mod CrowdLaws
+mod ColourLaws
+mod NeedLaws
+mod SettledLaws

@@ -1,0 +1,72 @@
+//! Labels of items, equal where items are known to be equal.
+ghost use Rattle.std.specs.Prelude.{◌≡◌, ◌+◌, ◌<◌, map, length, slice_index_or, IfOk};
+ghost use Rattle.sc_violated.specs.Classes.{moved, IsJoined, AreLabels};
+
+use crate::truths::{Equalities, is};
+use std::alloc::{AllocError, Global};
+
+/// The label that an item has once one label becomes another.
+fn moved(from: usize, to: usize, label: usize) -> usize
+    ensures { result ≡ moved from to label }
+{
+    if label == from { to } else { label }
+}
+
+/// Gives each item of one label another label.
+fn move_all(labels: &mut Vec<usize>, from: usize, to: usize)
+    ensures { labels.new.items ≡ map (moved from to) labels.old.items }
+{
+    for label in labels.iter_mut() {
+        *label = moved(from, to, *label);
+    }
+}
+
+/// Gives two items one label, and with them all that have theirs.
+fn merge(labels: &mut Vec<usize>, one: usize, other: usize)
+    requires one { one < length labels.old.items }
+    requires other { other < length labels.old.items }
+    ensures { labels.new.items ≡ map (moved (slice_index_or labels.old.items other 0)
+        (slice_index_or labels.old.items one 0)) labels.old.items }
+{
+    let to = labels[one];
+    let from = labels[other];
+    move_all(labels, from, to);
+}
+
+/// Gives an item one label with each item before it that it is known to equal.
+#[tactic(auto, using(crate::proofs::ClassLaws::joined_skip, crate::proofs::ClassLaws::joined_merge, crate::proofs::ClassLaws::joined_row))]
+fn join_row<E: Equalities>(items: &E, labels: &mut Vec<usize>, i: usize)
+    requires bound { i < E.size items.now }
+    requires joined { IsJoined (E.truth items.now) (E.size items.now) i 0 labels.old.items }
+    ensures { IsJoined (E.truth items.now) (E.size items.now) (i + 1) 0 labels.new.items }
+{
+    for j in 0..i {
+        if is(items.equal(i, j), true) {
+            merge(labels, i, j);
+        }
+    }
+}
+
+/// As many numbers, from 0 on.
+fn numbers(alloc: Global, count: usize) -> Result<Vec<usize>, AllocError>
+    ensures { IfOk result (λ v. length v.items ≡ count) }
+{
+    let mut numbers = Vec::new(alloc);
+    for i in 0..count {
+        numbers.push(i)?;
+    }
+    Ok(numbers)
+}
+
+/// A label for each item, equal where items are known to be equal.
+#[tactic(auto, using(crate::proofs::ClassLaws::joined_start, crate::proofs::ClassLaws::joined_end))]
+pub(crate) fn labels<E: Equalities>(alloc: Global, items: &E) -> Result<Vec<usize>, AllocError>
+    ensures { IfOk result (λ v. AreLabels (E.truth items.now) (E.size items.now) v.items) }
+{
+    let count = items.len();
+    let mut labels = numbers(alloc, count)?;
+    for i in 0..count {
+        join_row(items, &mut labels, i);
+    }
+    Ok(labels)
+}

@@ -1,0 +1,302 @@
+//! Items that can't all be told apart: there are fewer texts with the signs that they have than there are of them.
+ghost use Rattle.std.specs.Prelude.{◌≡◌, ◌<◌, ◌≤◌, ◌+◌, ◌^◌, ◌++◌, ◌∷◌, [], slice_index_or, length, IfOk, IfSome, IfNone, IsTrue, ◌↔◌, Some, None, false};
+ghost use Rattle.std.specs.List.{All};
+ghost use Rattle.sc_violated.specs.Colours.{MayHave, AreColoured};
+ghost use Rattle.sc_violated.specs.Crowds.{agreed, IsRow, IsMeet, IsChosen, IsCrowd, HasRoomFrom, NoneIn, NoneAfter, NoneCrowded};
+
+use crate::needs::copy_signs;
+use crate::texts::Texts;
+use crate::truths::{Equalities, is};
+use std::alloc::{AllocError, Global};
+
+/// Items that can't all be told apart, and the signs that show it.
+#[derive(Debug, Drop)]
+pub struct Crowd {
+    pub items: Vec<usize>,
+    pub signs: Vec<Option<bool>>,
+}
+
+/// The sign that both have.
+fn agreed(one: Option<bool>, other: Option<bool>) -> Option<bool>
+    ensures { result ≡ agreed one other }
+{
+    match (one, other) {
+        (Some(true), Some(true)) => Some(true),
+        (Some(false), Some(false)) => Some(false),
+        _ => None,
+    }
+}
+
+/// All signs of an item.
+pub(crate) fn row<S: Texts>(
+    alloc: Global,
+    texts: &S,
+    item: usize,
+) -> Result<Vec<Option<bool>>, AllocError>
+    ensures { IfOk result (λ v. IsRow (S.sign texts.now) (S.patterns texts.now) item v.items) }
+{
+    let mut row = Vec::new(alloc);
+    for pattern in 0..texts.patterns() {
+        row.push(texts.sign(item, pattern))?;
+    }
+    Ok(row)
+}
+
+/// Those of some signs that an item has too.
+fn meet<S: Texts>(
+    alloc: Global,
+    texts: &S,
+    signs: &[Option<bool>],
+    item: usize,
+) -> Result<Vec<Option<bool>>, AllocError>
+    ensures { IfOk result (λ v. IsMeet (S.sign texts.now) signs.now item v.items) }
+{
+    let mut met = Vec::new(alloc);
+    for pattern in 0..signs.len() {
+        met.push(agreed(signs[pattern], texts.sign(item, pattern)))?;
+    }
+    Ok(met)
+}
+
+/// Whether an item is known to be none of a few.
+pub(crate) fn is_apart<E: Equalities>(items: &E, chosen: &[usize], item: usize) -> bool
+    ensures { IsTrue result ↔ All (λ c. E.truth items.now c item ≡ Some false) chosen.now }
+{
+    for c in chosen {
+        if !is(items.equal(*c, item), false) {
+            return false;
+        }
+    }
+    true
+}
+
+/// Whether no item of a colour is known to be apart from an item.
+#[tactic(auto, using(crate::proofs::ColourLaws::may_first, crate::proofs::ColourLaws::may_skip, crate::proofs::ColourLaws::may_more))]
+fn may_have<E: Equalities>(items: &E, colours: &[Option<usize>], item: usize, colour: usize) -> bool
+    ensures { IsTrue result → MayHave (E.truth items.now) colours.now (length colours.now) item colour }
+{
+    for t in 0..colours.len() {
+        if has_colour(colours, t, colour) {
+            if is(items.equal(t, item), false) {
+                return false;
+            }
+        }
+    }
+    true
+}
+
+/// Whether an item has a colour.
+fn has_colour(colours: &[Option<usize>], item: usize, colour: usize) -> bool
+    requires { item < length colours.now }
+    ensures { IsTrue result ↔ slice_index_or colours.now item None ≡ Some colour }
+{
+    match colours[item] {
+        Some(c) => c == colour,
+        None => false,
+    }
+}
+
+/// The first colour of a few that an item may have, or one more.
+fn colour_of<E: Equalities>(
+    items: &E,
+    colours: &[Option<usize>],
+    item: usize,
+    count: usize,
+) -> usize
+    ensures small { result ≤ count }
+    ensures may { result < count → MayHave (E.truth items.now) colours.now (length colours.now) item result }
+{
+    for colour in 0..count {
+        if may_have(items, colours, item, colour) {
+            return colour;
+        }
+    }
+    count
+}
+
+/// How many further items there may be at most: as many as they have colours, where no two of one colour are known to be
+/// apart.
+#[tactic(auto, using(crate::proofs::ColourLaws::coloured_first))]
+fn room<E: Equalities, S: Texts>(
+    alloc: Global,
+    items: &E,
+    texts: &S,
+    chosen: &[usize],
+    from: usize,
+) -> Result<usize, AllocError>
+    requires { from ≤ E.size items.now }
+    ensures room { IfOk result (λ most. HasRoomFrom (E.truth items.now) (S.sign texts.now)
+        (E.size items.now) chosen.now from most) }
+    ensures small { IfOk result (λ most. most ≤ E.size items.now) }
+    ensures bounded { E.size items.now < 2 ^ 62 }
+{
+    let mut colours = Vec::new(alloc);
+    let mut count = 0;
+    for item in 0..items.len() {
+        count = colour_next(items, chosen, &mut colours, from, item, count)?;
+    }
+    Ok(count)
+}
+
+/// Gives a colour to an item that is none of those that were chosen, and tells how many colours there are.
+fn colour_next<E: Equalities>(
+    items: &E,
+    chosen: &[usize],
+    colours: &mut Vec<Option<usize>>,
+    from: usize,
+    item: usize,
+    count: usize,
+) -> Result<usize, AllocError>
+    requires bounded { item < 2 ^ 62 }
+    requires coloured { AreColoured (E.truth items.now) chosen.now from item count colours.old.items }
+    ensures { IfOk result (λ k. AreColoured (E.truth items.now) chosen.now from (item + 1) k colours.new.items) }
+{
+    if item < from {
+        colours.push(None)?;
+        return Ok(count);
+    }
+    if !is_apart(items, chosen, item) {
+        colours.push(None)?;
+        return Ok(count);
+    }
+    let colour = colour_of(items, colours.as_slice(), item, count);
+    colours.push(Some(colour))?;
+    if colour < count {
+        return Ok(count);
+    }
+    Ok(count + 1)
+}
+
+/// A list and one further number.
+fn longer(alloc: Global, list: &[usize], item: usize) -> Result<Vec<usize>, AllocError>
+    ensures { IfOk result (λ v. v.items ≡ list.now ++ item ∷ []) }
+{
+    let mut further = list.to_vec(alloc)?;
+    further.push(item)?;
+    Ok(further)
+}
+
+/// A copy of a list of numbers.
+fn copy(alloc: Global, list: &[usize]) -> Result<Vec<usize>, AllocError>
+    ensures { IfOk result (λ v. v.items ≡ list.now) }
+{
+    list.to_vec(alloc)
+}
+
+/// A crowd of those that were chosen and items from a place on, or none where there is none.
+#[tactic(auto, using(crate::proofs::CrowdLaws::chosen_more, crate::proofs::CrowdLaws::in_end, crate::proofs::CrowdLaws::in_room, crate::proofs::CrowdLaws::in_skip, crate::proofs::CrowdLaws::in_take))]
+fn visit<E: Equalities, S: Texts>(
+    alloc: Global,
+    items: &E,
+    texts: &S,
+    chosen: &[usize],
+    signs: &[Option<bool>],
+    from: usize,
+) -> Result<Option<Crowd>, AllocError>
+    requires chosen { IsChosen (E.truth items.now) (S.sign texts.now) (E.size items.now)
+        (S.patterns texts.now) chosen.now signs.now }
+    requires from { from ≤ E.size items.now }
+    requires short { length chosen.now ≤ from }
+    ensures found { IfOk result (λ o. IfSome o (λ c. IsCrowd (E.truth items.now) (S.sign texts.now) (S.few texts.now)
+        (E.size items.now) (S.patterns texts.now) c.items.items c.signs.items)) }
+    ensures none { IfOk result (λ o. IfNone o (NoneIn (E.truth items.now) (S.sign texts.now) (S.few texts.now)
+        (E.size items.now) signs.now chosen.now from)) }
+{
+    let most = room(alloc, items, texts, chosen, from)?;
+    let bound = chosen.len() + most;
+    if !texts.few(alloc, signs, bound)? {
+        return Ok(None);
+    }
+    if texts.few(alloc, signs, chosen.len())? {
+        let items = copy(alloc, chosen)?;
+        let signs = copy_signs(alloc, signs)?;
+        return Ok(Some(Crowd { items, signs }));
+    }
+    let mut at = items.len();
+    while at > from {
+        at -= 1;
+        if is_apart(items, chosen, at) {
+            let met = meet(alloc, texts, signs, at)?;
+            if texts.few(alloc, met.as_slice(), bound)? {
+                let further = longer(alloc, chosen, at)?;
+                let outcome = visit(
+                    alloc,
+                    items,
+                    texts,
+                    further.as_slice(),
+                    met.as_slice(),
+                    at + 1,
+                )?;
+                if let Some(found) = outcome {
+                    return Ok(Some(found));
+                }
+            }
+        }
+    }
+    Ok(None)
+}
+
+/// A crowd whose first item is this one, where no more than so many items can be apart.
+#[tactic(auto, using(crate::proofs::CrowdLaws::chosen_first))]
+fn begin<E: Equalities, S: Texts>(
+    alloc: Global,
+    items: &E,
+    texts: &S,
+    empty: &[usize],
+    item: usize,
+    most: usize,
+) -> Result<Option<Crowd>, AllocError>
+    requires bound { item < E.size items.now }
+    requires small { E.size items.now < 2 ^ 62 }
+    requires empty { empty.now ≡ [] }
+    requires room { HasRoomFrom (E.truth items.now) (S.sign texts.now) (E.size items.now) empty.now 0 most }
+    ensures found { IfOk result (λ o. IfSome o (λ c. IsCrowd (E.truth items.now) (S.sign texts.now) (S.few texts.now)
+        (E.size items.now) (S.patterns texts.now) c.items.items c.signs.items)) }
+    ensures none { IfOk result (λ o. IfNone o (NoneAfter (E.truth items.now) (S.sign texts.now) (S.few texts.now)
+        (E.size items.now) (S.patterns texts.now) (item + 1)
+        → NoneAfter (E.truth items.now) (S.sign texts.now) (S.few texts.now) (E.size items.now)
+        (S.patterns texts.now) item)) }
+{
+    let signs = row(alloc, texts, item)?;
+    if !texts.few(alloc, signs.as_slice(), most)? {
+        return Ok(None);
+    }
+    let chosen = longer(alloc, empty, item)?;
+    match visit(
+        alloc,
+        items,
+        texts,
+        chosen.as_slice(),
+        signs.as_slice(),
+        item + 1,
+    )? {
+        Some(found) => Ok(Some(found)),
+        None => Ok(None),
+    }
+}
+
+/// Items, each two of them known to be apart, that are known to have signs which fewer texts have than there are of these
+/// items, or none where there are none.
+#[tactic(auto, using(crate::proofs::CrowdLaws::after_end))]
+pub(crate) fn crowded<E: Equalities, S: Texts>(
+    alloc: Global,
+    items: &E,
+    texts: &S,
+) -> Result<Option<Crowd>, AllocError>
+    ensures found { IfOk result (λ o. IfSome o (λ c. IsCrowd (E.truth items.now) (S.sign texts.now) (S.few texts.now)
+        (E.size items.now) (S.patterns texts.now) c.items.items c.signs.items)) }
+    ensures none { IfOk result (λ o. IfNone o (NoneCrowded (E.truth items.now) (S.sign texts.now) (S.few texts.now)
+        (E.size items.now) (S.patterns texts.now))) }
+{
+    let empty = Vec::new(alloc);
+    let most = room(alloc, items, texts, empty.as_slice(), 0)?;
+    let mut at = items.len();
+    while at > 0 {
+        at -= 1;
+        let outcome = begin(alloc, items, texts, empty.as_slice(), at, most)?;
+        if let Some(found) = outcome {
+            return Ok(Some(found));
+        }
+    }
+    Ok(None)
+}

@@ -1,0 +1,18 @@
+//! Instances of rules that a partial assignment falsifies: found, or none exactly where there is none.
+#![tactic(auto)]
+
+mod chains;
+mod classes;
+mod crowds;
+mod needs;
+mod paths;
+mod settled;
+mod texts;
+mod truths;
+
+pub use chains::intransitive_triple;
+pub use crowds::Crowd;
+pub use paths::{Paths, gap};
+pub use settled::crowd_of;
+pub use texts::Texts;
+pub use truths::Equalities;
