@@ -1,0 +1,4 @@
+pub mod PlaceLaws
+pub mod NumbersLaws
+pub mod AlongLaws
+mod Examples
