@@ -1,0 +1,12 @@
+pub mod MemberLaws
+pub mod MakingLaws
+mod PlaceLaws
+mod Examples
+mod ValueLaws
+mod RowLaws
+mod EquationLaws
+mod TruthLaws
+mod PartLaws
+mod HoldLaws
+mod InputLaws
+mod ReadingLaws
