@@ -1,0 +1,406 @@
+//! Which terms are folded: one row for each fold, and one for each term that stays as it is written.
+use crate::kinds::Kind;
+use crate::words::Leaf::{
+    Absent, Action, Address, Chars, Default, Empty, False, My, Number, Price, Principal, Resource,
+    True, User,
+};
+use crate::words::One::{Bit, Field, Held, Like, Not, Present, RecordOf, SetOf};
+use crate::words::Two::{
+    And, Common, Difference, DifferencePick, Equal, InRange, Less, Member, Or, RecordOfBoth,
+    SetOfBoth, Subset, Sum, SumOverflows,
+};
+use crate::words::Word::{self, Choice, Leaf, One, Two};
+use crate::words::{are_one, number_of};
+use sc_nodes::row;
+use sc_pattern::Part::{Char, Star};
+use sc_terms::Terms;
+use std::alloc::{AllocError, Global};
+use std::test::Fail;
+
+/// A term that is written, and the one that it is.
+type Fold = (&'static [Word], &'static [Word]);
+
+/// The place of the first term that isn't the one beside it.
+fn first_other(alloc: Global, folds: &[Fold]) -> Option<usize> {
+    for (place, row) in folds.iter().enumerate() {
+        if are_one(alloc, row.0, row.1) != Ok(true) {
+            return Some(place);
+        }
+    }
+    None
+}
+
+const CONNECTIVES: &[Fold] = &[
+    // negations of truth values and of negations
+    (&[Leaf(True), One(Not)], &[Leaf(False)]),
+    (&[Leaf(False), One(Not)], &[Leaf(True)]),
+    (&[Leaf(My("on")), One(Not), One(Not)], &[Leaf(My("on"))]),
+    // truth values on either side, and equal sides
+    (&[Leaf(True), Leaf(My("on")), Two(And)], &[Leaf(My("on"))]),
+    (&[Leaf(My("on")), Leaf(True), Two(And)], &[Leaf(My("on"))]),
+    (&[Leaf(False), Leaf(My("on")), Two(And)], &[Leaf(False)]),
+    (&[Leaf(My("on")), Leaf(False), Two(And)], &[Leaf(False)]),
+    (
+        &[Leaf(My("on")), Leaf(My("on")), Two(And)],
+        &[Leaf(My("on"))],
+    ),
+    (&[Leaf(True), Leaf(My("on")), Two(Or)], &[Leaf(True)]),
+    (&[Leaf(My("on")), Leaf(True), Two(Or)], &[Leaf(True)]),
+    (&[Leaf(False), Leaf(My("on")), Two(Or)], &[Leaf(My("on"))]),
+    (&[Leaf(My("on")), Leaf(False), Two(Or)], &[Leaf(My("on"))]),
+    (
+        &[Leaf(My("on")), Leaf(My("on")), Two(Or)],
+        &[Leaf(My("on"))],
+    ),
+    // a known condition, and equal branches
+    (
+        &[Leaf(True), Leaf(Number(1)), Leaf(Number(2)), Choice],
+        &[Leaf(Number(1))],
+    ),
+    (
+        &[Leaf(False), Leaf(Number(1)), Leaf(Number(2)), Choice],
+        &[Leaf(Number(2))],
+    ),
+    (
+        &[Leaf(My("on")), Leaf(Number(1)), Leaf(Number(1)), Choice],
+        &[Leaf(Number(1))],
+    ),
+];
+
+const EQUATIONS: &[Fold] = &[
+    // equal sides, of any kind
+    (&[Leaf(My("on")), Leaf(My("on")), Two(Equal)], &[Leaf(True)]),
+    (
+        &[Leaf(Empty(Kind::Long)), Leaf(Empty(Kind::Long)), Two(Equal)],
+        &[Leaf(True)],
+    ),
+    // a truth value on either side
+    (&[Leaf(True), Leaf(My("on")), Two(Equal)], &[Leaf(My("on"))]),
+    (&[Leaf(My("on")), Leaf(True), Two(Equal)], &[Leaf(My("on"))]),
+    (
+        &[Leaf(False), Leaf(My("on")), Two(Equal)],
+        &[Leaf(My("on")), One(Not)],
+    ),
+    (
+        &[Leaf(My("on")), One(Not), Leaf(False), Two(Equal)],
+        &[Leaf(My("on"))],
+    ),
+    // literals, by their values
+    (&[Leaf(True), Leaf(False), Two(Equal)], &[Leaf(False)]),
+    (
+        &[Leaf(Number(1)), Leaf(Number(2)), Two(Equal)],
+        &[Leaf(False)],
+    ),
+    (
+        &[Leaf(Number(2)), Leaf(Number(2)), Two(Equal)],
+        &[Leaf(True)],
+    ),
+    (
+        &[Leaf(Chars("a")), Leaf(Chars("b")), Two(Equal)],
+        &[Leaf(False)],
+    ),
+    (
+        &[Leaf(Price(1)), Leaf(Price(2)), Two(Equal)],
+        &[Leaf(False)],
+    ),
+    (
+        &[Leaf(Address(1, 32)), Leaf(Address(1, 31)), Two(Equal)],
+        &[Leaf(False)],
+    ),
+    (
+        &[Leaf(User("a")), Leaf(User("b")), Two(Equal)],
+        &[Leaf(False)],
+    ),
+    (
+        &[Leaf(User("a")), Leaf(User("a")), Two(Equal)],
+        &[Leaf(True)],
+    ),
+    // the lesser side stands first
+    (
+        &[
+            Leaf(Resource(Kind::User)),
+            Leaf(Principal(Kind::User)),
+            Two(Equal),
+        ],
+        &[
+            Leaf(Principal(Kind::User)),
+            Leaf(Resource(Kind::User)),
+            Two(Equal),
+        ],
+    ),
+    (
+        &[Leaf(My("level")), Leaf(Number(1)), Two(Equal)],
+        &[Leaf(Number(1)), Leaf(My("level")), Two(Equal)],
+    ),
+];
+
+const PARTS: &[Fold] = &[
+    // components of a record
+    (
+        &[Leaf(Number(1)), One(RecordOf("a")), One(Field("a"))],
+        &[Leaf(Number(1))],
+    ),
+    (
+        &[
+            Leaf(Number(1)),
+            Leaf(My("on")),
+            Two(RecordOfBoth("a", "b")),
+            One(Field("b")),
+        ],
+        &[Leaf(My("on"))],
+    ),
+    (
+        &[Leaf(Default(Kind::Person)), One(Field("level"))],
+        &[Leaf(Number(0))],
+    ),
+    (
+        &[Leaf(Default(Kind::Person)), One(Field("nick"))],
+        &[Leaf(Absent(Kind::String))],
+    ),
+    // absent options
+    (&[Leaf(Absent(Kind::Long)), One(Present)], &[Leaf(False)]),
+    (&[Leaf(Absent(Kind::Long)), One(Held)], &[Leaf(Number(0))]),
+    (
+        &[Leaf(Absent(Kind::Person)), One(Held)],
+        &[Leaf(Default(Kind::Person))],
+    ),
+    // bits of literals
+    (&[Leaf(Number(5)), One(Bit(0))], &[Leaf(True)]),
+    (&[Leaf(Number(5)), One(Bit(1))], &[Leaf(False)]),
+    (&[Leaf(Number(-1)), One(Bit(63))], &[Leaf(True)]),
+    (&[Leaf(Price(4)), One(Bit(2))], &[Leaf(True)]),
+    (&[Leaf(Address(1, 8)), One(Bit(0))], &[Leaf(False)]),
+    (&[Leaf(Address(1, 8)), One(Bit(8))], &[Leaf(True)]),
+    (&[Leaf(Address(1, 8)), One(Bit(9))], &[Leaf(False)]),
+    // texts that are written
+    (
+        &[Leaf(Chars("abc")), One(Like(&[Char('a'), Star]))],
+        &[Leaf(True)],
+    ),
+    (
+        &[Leaf(Chars("abc")), One(Like(&[Star, Char('a')]))],
+        &[Leaf(False)],
+    ),
+    (
+        &[Leaf(Chars("a*")), One(Like(&[Char('a'), Char('*')]))],
+        &[Leaf(True)],
+    ),
+];
+
+/// The default of each kind.
+const DEFAULTS: &[Fold] = &[
+    (&[Leaf(Default(Kind::Bool))], &[Leaf(False)]),
+    (&[Leaf(Default(Kind::Long))], &[Leaf(Number(0))]),
+    (&[Leaf(Default(Kind::String))], &[Leaf(Chars(""))]),
+    (&[Leaf(Default(Kind::Decimal))], &[Leaf(Price(0))]),
+    (&[Leaf(Default(Kind::Ip))], &[Leaf(Address(0, 32))]),
+    (&[Leaf(Default(Kind::User))], &[Leaf(User(""))]),
+    // the least that is listed
+    (&[Leaf(Default(Kind::Action))], &[Leaf(Action("buy"))]),
+    (&[Leaf(Default(Kind::Longs))], &[Leaf(Empty(Kind::Long))]),
+    (
+        &[Leaf(Default(Kind::Record))],
+        &[Leaf(Number(0)), One(RecordOf("a"))],
+    ),
+    (&[Leaf(Default(Kind::Nick))], &[Leaf(Absent(Kind::String))]),
+];
+
+#[test]
+fn connectives(rt: HostRuntime) -> Result<(), Fail> {
+    assert_eq!(rt; first_other(rt.alloc(), CONNECTIVES), None);
+    Ok(())
+}
+
+#[test]
+fn equations(rt: HostRuntime) -> Result<(), Fail> {
+    assert_eq!(rt; first_other(rt.alloc(), EQUATIONS), None);
+    Ok(())
+}
+
+#[test]
+fn parts(rt: HostRuntime) -> Result<(), Fail> {
+    assert_eq!(rt; first_other(rt.alloc(), PARTS), None);
+    Ok(())
+}
+
+#[test]
+fn defaults(rt: HostRuntime) -> Result<(), Fail> {
+    assert_eq!(rt; first_other(rt.alloc(), DEFAULTS), None);
+    Ok(())
+}
+
+// ---- what isn't folded
+
+/// The rows of terms that stay.
+const NOT: u8 = 11;
+
+const AND: u8 = 12;
+
+const OR: u8 = 13;
+
+const CHOICE: u8 = 14;
+
+const EQUAL: u8 = 15;
+
+const SUM: u8 = 16;
+
+const DIFFERENCE: u8 = 17;
+
+const SUM_OVERFLOWS: u8 = 19;
+
+const LESS: u8 = 22;
+
+const BIT: u8 = 23;
+
+const IN_RANGE: u8 = 24;
+
+const FIELD: u8 = 33;
+
+const PRESENT: u8 = 36;
+
+const HELD: u8 = 37;
+
+const MEMBER: u8 = 38;
+
+const SUBSET: u8 = 39;
+
+const COMMON: u8 = 40;
+
+const DIFFERENCE_PICK: u8 = 41;
+
+const LIKE: u8 = 43;
+
+/// Terms that stay as they are written, with their rows.
+const KEPT: &[(&[Word], u8)] = &[
+    // a term beside its negation, and beside a term that holds it
+    (&[Leaf(My("on")), Leaf(My("on")), One(Not), Two(And)], AND),
+    (&[Leaf(My("on")), Leaf(My("on")), One(Not), Two(Or)], OR),
+    (
+        &[Leaf(My("on")), Leaf(My("on")), One(Not), Two(Equal)],
+        EQUAL,
+    ),
+    (
+        &[
+            Leaf(My("on")),
+            Leaf(My("on")),
+            Leaf(My("up")),
+            Two(And),
+            Two(Or),
+        ],
+        OR,
+    ),
+    (&[Leaf(My("on")), Leaf(My("up")), Two(And), One(Not)], NOT),
+    // a choice of truth values, or by a negation
+    (&[Leaf(My("on")), Leaf(True), Leaf(False), Choice], CHOICE),
+    (
+        &[
+            Leaf(My("on")),
+            One(Not),
+            Leaf(Number(1)),
+            Leaf(Number(2)),
+            Choice,
+        ],
+        CHOICE,
+    ),
+    // equations of what is made of literals, and isn't one
+    (
+        &[
+            Leaf(Number(1)),
+            One(RecordOf("a")),
+            Leaf(Number(2)),
+            One(RecordOf("a")),
+            Two(Equal),
+        ],
+        EQUAL,
+    ),
+    (
+        &[
+            Leaf(Empty(Kind::Long)),
+            Leaf(Number(2)),
+            One(SetOf(Kind::Long)),
+            Two(Equal),
+        ],
+        EQUAL,
+    ),
+    (
+        &[
+            Leaf(Number(1)),
+            One(SetOf(Kind::Long)),
+            Leaf(Number(1)),
+            Leaf(Number(1)),
+            Two(SetOfBoth(Kind::Long)),
+            Two(Equal),
+        ],
+        EQUAL,
+    ),
+    (
+        &[Leaf(Absent(Kind::String)), Leaf(My("nick")), Two(Equal)],
+        EQUAL,
+    ),
+    // numbers and addresses that are written
+    (&[Leaf(Number(1)), Leaf(Number(2)), Two(Sum)], SUM),
+    (
+        &[Leaf(Number(0)), Leaf(My("level")), Two(Difference)],
+        DIFFERENCE,
+    ),
+    (
+        &[Leaf(Number(1)), Leaf(Number(2)), Two(SumOverflows)],
+        SUM_OVERFLOWS,
+    ),
+    (&[Leaf(Number(1)), Leaf(Number(2)), Two(Less)], LESS),
+    (&[Leaf(My("level")), Leaf(My("level")), Two(Less)], LESS),
+    (
+        &[Leaf(Address(1, 8)), Leaf(Address(1, 8)), Two(InRange)],
+        IN_RANGE,
+    ),
+    // what isn't a literal, a record term or an absent option
+    (&[Leaf(My("level")), One(Bit(0))], BIT),
+    (
+        &[Leaf(Number(1)), Leaf(Number(2)), Two(Sum), One(Bit(0))],
+        BIT,
+    ),
+    (&[Leaf(My("name")), One(Like(&[Star]))], LIKE),
+    (&[Leaf(My("nick")), One(Present)], PRESENT),
+    (&[Leaf(My("nick")), One(Held)], HELD),
+    (
+        &[Leaf(Number(1)), One(RecordOf("a")), One(Field("b"))],
+        FIELD,
+    ),
+    // sets
+    (
+        &[Leaf(Number(1)), Leaf(Empty(Kind::Long)), Two(Member)],
+        MEMBER,
+    ),
+    (
+        &[Leaf(My("friends")), Leaf(My("friends")), Two(Subset)],
+        SUBSET,
+    ),
+    (
+        &[Leaf(My("friends")), Leaf(Empty(Kind::User)), Two(Common)],
+        COMMON,
+    ),
+    (
+        &[
+            Leaf(Empty(Kind::Long)),
+            Leaf(Empty(Kind::Long)),
+            Two(DifferencePick),
+        ],
+        DIFFERENCE_PICK,
+    ),
+];
+
+/// Whether a term is of this row.
+fn stays(alloc: Global, words: &[Word], wanted: u8) -> Result<bool, AllocError> {
+    let mut terms = Terms::new(alloc)?;
+    let number = number_of(alloc, &mut terms, words)?;
+    Ok(row(terms.node(number)) == wanted)
+}
+
+#[test]
+fn nothing_else(rt: HostRuntime) -> Result<(), Fail> {
+    for (place, row) in KEPT.iter().enumerate() {
+        let kept = stays(rt.alloc(), row.0, row.1) == Ok(true);
+        assert!(rt; kept, "term {place}");
+    }
+    Ok(())
+}

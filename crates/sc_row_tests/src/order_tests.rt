@@ -1,0 +1,342 @@
+//! The order of terms of one row: by their parts from left to right, and then by what else they hold.
+use crate::kinds::Kind;
+use crate::words::Leaf::{
+    Absent, Action, Address, Chars, Default, Empty, My, Number, Price, Principal, User,
+};
+use crate::words::One::{
+    Ancestors, Attributes, Bit, Field, Like, Not, ProductRow, RecordOf, SetOf,
+};
+use crate::words::Two::{And, Equal, Low, Product, RecordOfBoth, SetOfBoth, Tag};
+use crate::words::Word::{self, Choice, Leaf, One, Two};
+use crate::words::{are_one, orders};
+use sc_pattern::Part::{Char, Star};
+use std::alloc::Global;
+use std::cmp::Ordering::{self, Greater, Less};
+use std::test::Fail;
+
+/// Two terms, and how the first compares with the second.
+type Pair = (&'static [Word], &'static [Word], Ordering);
+
+/// The place of the first pair whose terms don't compare so, or not the other way round.
+fn first_other(alloc: Global, pairs: &[Pair]) -> Option<usize> {
+    for (place, pair) in pairs.iter().enumerate() {
+        if orders(alloc, pair.0, pair.1) != Ok((pair.2, pair.2.reverse())) {
+            return Some(place);
+        }
+    }
+    None
+}
+
+const LITERALS: &[Pair] = &[
+    (&[Leaf(Number(-1))], &[Leaf(Number(0))], Less),
+    (&[Leaf(Number(2))], &[Leaf(Number(10))], Less),
+    (&[Leaf(Number(2))], &[Leaf(Number(2))], Ordering::Equal),
+    // of texts a proper prefix first, and then by bytes
+    (&[Leaf(Chars("a"))], &[Leaf(Chars("ab"))], Less),
+    (&[Leaf(Chars("b"))], &[Leaf(Chars("ab"))], Greater),
+    (&[Leaf(Chars("z"))], &[Leaf(Chars("ä"))], Less),
+    (&[Leaf(Price(-5))], &[Leaf(Price(5))], Less),
+    // by address, then prefix
+    (&[Leaf(Address(1, 32))], &[Leaf(Address(2, 8))], Less),
+    (&[Leaf(Address(1, 32))], &[Leaf(Address(1, 8))], Greater),
+    // by type, then id
+    (&[Leaf(Action("view"))], &[Leaf(User("a"))], Less),
+    (&[Leaf(User("b"))], &[Leaf(User("a"))], Greater),
+];
+
+const SORTED: &[Pair] = &[
+    // by kinds of sorts in their order
+    (
+        &[Leaf(Absent(Kind::Bool))],
+        &[Leaf(Absent(Kind::Long))],
+        Less,
+    ),
+    (
+        &[Leaf(Absent(Kind::String))],
+        &[Leaf(Absent(Kind::Long))],
+        Greater,
+    ),
+    (
+        &[Leaf(Absent(Kind::Ip))],
+        &[Leaf(Absent(Kind::Decimal))],
+        Greater,
+    ),
+    (&[Leaf(Absent(Kind::Ip))], &[Leaf(Absent(Kind::User))], Less),
+    (
+        &[Leaf(Absent(Kind::Longs))],
+        &[Leaf(Absent(Kind::User))],
+        Greater,
+    ),
+    (
+        &[Leaf(Absent(Kind::Longs))],
+        &[Leaf(Absent(Kind::Person))],
+        Less,
+    ),
+    (
+        &[Leaf(Absent(Kind::Nick))],
+        &[Leaf(Absent(Kind::Person))],
+        Greater,
+    ),
+    // and then by what is inside them
+    (
+        &[Leaf(Absent(Kind::Action))],
+        &[Leaf(Absent(Kind::User))],
+        Less,
+    ),
+    (
+        &[Leaf(Absent(Kind::Users))],
+        &[Leaf(Absent(Kind::Strings))],
+        Greater,
+    ),
+    (
+        &[Leaf(Absent(Kind::Record))],
+        &[Leaf(Absent(Kind::Person))],
+        Less,
+    ),
+    (
+        &[Leaf(Principal(Kind::User))],
+        &[Leaf(Principal(Kind::Action))],
+        Greater,
+    ),
+    // the sort of a set comes after its members
+    (
+        &[Leaf(Empty(Kind::Long))],
+        &[Leaf(Empty(Kind::Bool))],
+        Greater,
+    ),
+    (
+        &[Leaf(Number(1)), One(SetOf(Kind::Bool))],
+        &[Leaf(Number(0)), One(SetOf(Kind::Long))],
+        Greater,
+    ),
+    (
+        &[Leaf(Principal(Kind::User)), One(Attributes(Kind::Record))],
+        &[Leaf(Principal(Kind::Action)), One(Attributes(Kind::Person))],
+        Greater,
+    ),
+    (
+        &[Leaf(Principal(Kind::User)), One(Ancestors(Kind::Action))],
+        &[Leaf(Principal(Kind::User)), One(Ancestors(Kind::User))],
+        Less,
+    ),
+    (
+        &[Leaf(User("a")), Leaf(Chars("k")), Two(Tag(Kind::Long))],
+        &[Leaf(User("a")), Leaf(Chars("l")), Two(Tag(Kind::Bool))],
+        Less,
+    ),
+    (
+        &[Leaf(User("a")), Leaf(Chars("k")), Two(Tag(Kind::Long))],
+        &[Leaf(User("a")), Leaf(Chars("k")), Two(Tag(Kind::Bool))],
+        Greater,
+    ),
+];
+
+const LISTS: &[Pair] = &[
+    // the name of a field, then its part, then the next name
+    (
+        &[
+            Leaf(Number(2)),
+            Leaf(Number(0)),
+            Two(RecordOfBoth("a", "b")),
+        ],
+        &[
+            Leaf(Number(1)),
+            Leaf(Number(9)),
+            Two(RecordOfBoth("a", "c")),
+        ],
+        Greater,
+    ),
+    (
+        &[
+            Leaf(Number(1)),
+            Leaf(Number(0)),
+            Two(RecordOfBoth("a", "c")),
+        ],
+        &[
+            Leaf(Number(1)),
+            Leaf(Number(9)),
+            Two(RecordOfBoth("a", "b")),
+        ],
+        Greater,
+    ),
+    (
+        &[
+            Leaf(Number(9)),
+            Leaf(Number(9)),
+            Two(RecordOfBoth("a", "b")),
+        ],
+        &[
+            Leaf(Number(0)),
+            Leaf(Number(0)),
+            Two(RecordOfBoth("b", "c")),
+        ],
+        Less,
+    ),
+    // a proper prefix comes first
+    (
+        &[Leaf(Number(1)), One(RecordOf("a"))],
+        &[
+            Leaf(Number(1)),
+            Leaf(Number(0)),
+            Two(RecordOfBoth("a", "b")),
+        ],
+        Less,
+    ),
+    (
+        &[Leaf(Number(2)), One(RecordOf("a"))],
+        &[
+            Leaf(Number(1)),
+            Leaf(Number(0)),
+            Two(RecordOfBoth("a", "b")),
+        ],
+        Greater,
+    ),
+    (
+        &[Leaf(Empty(Kind::Long))],
+        &[Leaf(Number(0)), One(SetOf(Kind::Bool))],
+        Less,
+    ),
+    (
+        &[Leaf(Number(1)), One(SetOf(Kind::Long))],
+        &[Leaf(Number(1)), Leaf(Number(0)), Two(SetOfBoth(Kind::Long))],
+        Less,
+    ),
+    // members stay as they are written
+    (
+        &[Leaf(Number(2)), Leaf(Number(1)), Two(SetOfBoth(Kind::Long))],
+        &[Leaf(Number(1)), Leaf(Number(2)), Two(SetOfBoth(Kind::Long))],
+        Greater,
+    ),
+];
+
+const PARTS: &[Pair] = &[
+    // the first part, then the second
+    (
+        &[Leaf(My("on")), Leaf(My("up")), Two(And)],
+        &[Leaf(My("up")), Leaf(My("on")), Two(And)],
+        Less,
+    ),
+    // rows of parts come before what the parts hold
+    (
+        &[Leaf(My("on")), Leaf(My("up")), Two(And), One(Not)],
+        &[Leaf(My("on")), Leaf(My("up")), Two(Equal), One(Not)],
+        Less,
+    ),
+    // condition, then branches
+    (
+        &[Leaf(My("on")), Leaf(Number(9)), Leaf(Number(8)), Choice],
+        &[Leaf(My("up")), Leaf(Number(1)), Leaf(Number(2)), Choice],
+        Less,
+    ),
+    (
+        &[Leaf(My("on")), Leaf(Number(1)), Leaf(Number(9)), Choice],
+        &[Leaf(My("on")), Leaf(Number(2)), Leaf(Number(1)), Choice],
+        Less,
+    ),
+    // a place comes after the part
+    (
+        &[Leaf(My("level")), One(Bit(63))],
+        &[Leaf(My("price")), One(Bit(0))],
+        Less,
+    ),
+    (
+        &[Leaf(My("level")), One(Bit(9))],
+        &[Leaf(My("level")), One(Bit(10))],
+        Less,
+    ),
+    (
+        &[Leaf(Number(1)), Leaf(Number(2)), Two(Low(9))],
+        &[Leaf(Number(1)), Leaf(Number(3)), Two(Low(1))],
+        Less,
+    ),
+    (
+        &[
+            Leaf(Number(1)),
+            Leaf(Number(2)),
+            Two(Product),
+            One(ProductRow(1, 9)),
+        ],
+        &[
+            Leaf(Number(1)),
+            Leaf(Number(2)),
+            Two(Product),
+            One(ProductRow(2, 0)),
+        ],
+        Less,
+    ),
+    // so does the name of a field
+    (
+        &[
+            Leaf(Principal(Kind::User)),
+            One(Attributes(Kind::Person)),
+            One(Field("a")),
+        ],
+        &[
+            Leaf(Principal(Kind::User)),
+            One(Attributes(Kind::Record)),
+            One(Field("b")),
+        ],
+        Greater,
+    ),
+    (&[Leaf(My("name"))], &[Leaf(My("nick"))], Less),
+    // and a pattern: a star before each character, characters by number
+    (
+        &[Leaf(My("name")), One(Like(&[Star]))],
+        &[Leaf(My("name")), One(Like(&[Char('*')]))],
+        Less,
+    ),
+    (
+        &[Leaf(My("name")), One(Like(&[Char('z')]))],
+        &[Leaf(My("name")), One(Like(&[Char('ä')]))],
+        Less,
+    ),
+    (
+        &[Leaf(My("name")), One(Like(&[Char('a'), Star]))],
+        &[Leaf(My("name")), One(Like(&[Char('a')]))],
+        Greater,
+    ),
+];
+
+#[test]
+fn literals(rt: HostRuntime) -> Result<(), Fail> {
+    assert_eq!(rt; first_other(rt.alloc(), LITERALS), None);
+    Ok(())
+}
+
+#[test]
+fn terms_with_sorts(rt: HostRuntime) -> Result<(), Fail> {
+    assert_eq!(rt; first_other(rt.alloc(), SORTED), None);
+    Ok(())
+}
+
+#[test]
+fn records_and_sets(rt: HostRuntime) -> Result<(), Fail> {
+    assert_eq!(rt; first_other(rt.alloc(), LISTS), None);
+    Ok(())
+}
+
+#[test]
+fn parts_from_left_to_right(rt: HostRuntime) -> Result<(), Fail> {
+    assert_eq!(rt; first_other(rt.alloc(), PARTS), None);
+    Ok(())
+}
+
+/// Terms that differ by their sorts alone.
+const APART: &[(&[Word], &[Word])] = &[
+    (&[Leaf(Empty(Kind::Long))], &[Leaf(Empty(Kind::User))]),
+    (&[Leaf(Absent(Kind::Long))], &[Leaf(Absent(Kind::User))]),
+    (&[Leaf(Default(Kind::Longs))], &[Leaf(Default(Kind::Users))]),
+    (
+        &[Leaf(Principal(Kind::User)), One(Attributes(Kind::Record))],
+        &[Leaf(Principal(Kind::User)), One(Attributes(Kind::Person))],
+    ),
+];
+
+#[test]
+fn terms_of_two_sorts_are_two(rt: HostRuntime) -> Result<(), Fail> {
+    for (place, pair) in APART.iter().enumerate() {
+        let two = are_one(rt.alloc(), pair.0, pair.1) == Ok(false);
+        assert!(rt; two, "pair {place}");
+    }
+    Ok(())
+}
