@@ -1,1 +1,2 @@
 pub mod LitLaws
+mod ArrayLaws

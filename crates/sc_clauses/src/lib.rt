@@ -3,6 +3,7 @@
 
 mod assignment;
 mod clause;
+mod clauses;
 mod lit;
 mod step;
 #[cfg(test)]
@@ -10,5 +11,6 @@ mod tests;
 
 pub use assignment::{Assignment, falsifies, is_false};
 pub use clause::{Clause, contained, is_in};
+pub use clauses::Clauses;
 pub use lit::{Atom, Lit, is_same, negation};
 pub use step::{Instance, Learned, Step, Word};

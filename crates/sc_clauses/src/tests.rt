@@ -1,4 +1,4 @@
-use crate::{Assignment, Lit, contained, falsifies, negation};
+use crate::{Assignment, Clauses, Lit, contained, falsifies, negation};
 use sc_lists::Seq;
 use std::alloc::{AllocError, Global};
 use std::test::Fail;
@@ -35,6 +35,22 @@ fn is_contained(alloc: Global, c: &[(u64, bool)], d: &[(u64, bool)]) -> Result<b
     Ok(contained(&c, &d))
 }
 
+/// Three clauses, the second one empty.
+fn clauses(alloc: Global) -> Result<Clauses, AllocError> {
+    let mut clauses = Clauses::new(alloc);
+    let first = clause(alloc, &[(1, true), (2, false)])?;
+    clauses.push(first.as_slice())?;
+    clauses.push(&[])?;
+    let last = clause(alloc, &[(3, false)])?;
+    clauses.push(last.as_slice())?;
+    Ok(clauses)
+}
+
+fn length_at(clauses: &Clauses, place: usize) -> Option<usize> {
+    let clause = clauses.get(place)?;
+    Some(clause.len())
+}
+
 #[test]
 fn falsified_where_each_literal_is_false(rt: HostRuntime) -> Result<(), Fail> {
     assert!(rt; is_falsified(rt.alloc(), &[(1, true), (3, false)])?);
@@ -67,4 +83,15 @@ fn negation_of_a_literal(rt: HostRuntime) {
     let other = negation(lit);
     assert!(rt; other.atom == 3 && other.negated);
     assert!(rt; negation(other) == lit);
+}
+
+#[test]
+fn clauses_by_their_places(rt: HostRuntime) -> Result<(), Fail> {
+    let clauses = clauses(rt.alloc())?;
+    assert!(rt; clauses.len() == 3);
+    assert!(rt; length_at(&clauses, 0) == Some(2));
+    assert!(rt; length_at(&clauses, 1) == Some(0));
+    assert!(rt; length_at(&clauses, 2) == Some(1));
+    assert!(rt; length_at(&clauses, 3).is_none());
+    Ok(())
 }

@@ -2,6 +2,7 @@
 use Rattle.std.proofs.Common.{◌≡◌, ◌+◌, ◌<◌, ℕ, zero, suc, List, [], ◌∷◌, ◌++◌, All, length, map, get_or, refl, ap, ◌∙◌, arith}
 use Rattle.std.proofs.lemmas.List.{map-append}
 use Rattle.std.proofs.lemmas.List.Elements.{All-push, All-map}
+use Rattle.sc_terms.proofs.TableLaws.{stands_later}
 use Rattle.sc_schema.specs.declared.declarations.Env.{Env}
 use Rattle.sc_schema.specs.Declarations.{Declarations}
 use Rattle.sc_nodes.specs.declared.node.Node.{Node}
@@ -12,15 +13,8 @@ use Rattle.sc_codes.specs.declared.setting.Variables.{Variables}
 use Rattle.sc_codes.specs.Code.{Code, CodeField, code, oks, vals, field_codes}
 use Rattle.sc_codes.specs.Numbers.{IsCode, AreCodes, AreFields, StandsAs, StandAs, StandAsFields, StandForAll, HasVariables, OptField, code_at, codes_at, field_at}
 
--- a number stands for the same term in each later table
-pub for_later : (xs ys : List Node) (n : ℕ) (t : Tree) → Keeps xs ys → StandsFor xs n t → StandsFor ys n t
-for_later xs ys n t kept h = record {
-  within = (let m = h.within in let l = kept.longer in omega arith);
-  is = kept.same n h.within ∙ h.is;
-}
-
 pub as_later : (xs ys : List Node) (o : Opt) (c : Code) → Keeps xs ys → StandsAs xs o c → StandsAs ys o c
-as_later xs ys o c kept h = record { ok = for_later xs ys o.ok c.ok kept h.ok; val = for_later xs ys o.val c.val kept h.val }
+as_later xs ys o c kept h = record { ok = stands_later xs ys o.ok c.ok kept h.ok; val = stands_later xs ys o.val c.val kept h.val }
 
 -- numbers that stand for a code are numbers of the table
 pub in_table : (xs : List Node) (o : Opt) (c : Code) → StandsAs xs o c → IsCode xs o
@@ -32,15 +26,9 @@ code_is xs o c h = let p = h.ok.is in let q = h.val.is in λ i. code (p i) (q i)
 
 pub ready_later : (xs ys : List Node) (s : Declarations) (env : Env) (v : Variables) → Keeps xs ys → HasVariables xs s env v → HasVariables ys s env v
 ready_later xs ys s env v kept h = record {
-  principal = for_later xs ys v.principal _ kept h.principal;
-  resource = for_later xs ys v.resource _ kept h.resource;
-  context = for_later xs ys v.context _ kept h.context;
-}
-
-pub keeps_then : (xs ys zs : List Node) → Keeps xs ys → Keeps ys zs → Keeps xs zs
-keeps_then xs ys zs h k = record {
-  longer = (let m = h.longer in let n = k.longer in omega arith);
-  same = λ n within. k.same n (let l = h.longer in omega (arith, within)) ∙ h.same n within;
+  principal = stands_later xs ys v.principal _ kept h.principal;
+  resource = stands_later xs ys v.resource _ kept h.resource;
+  context = stands_later xs ys v.context _ kept h.context;
 }
 
 -- ---- many

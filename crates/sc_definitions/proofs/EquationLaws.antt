@@ -1,5 +1,5 @@
 -- Equations by bits, products that leave 64 bits, and ranges: each is true where all of many equations are.
-use Rattle.std.proofs.Common.{◌≡◌, ◌<◌, ◌≤◌, ◌+◌, ◌↔◌, ◌&&◌, ◌||◌, ℕ, zero, suc, Bool, true, false, not, List, map, Some, None, IsTrue, ⊎_elim, eq-or-lt_of_le, refl, sym, ap, ◌∙◌, subst, arith}
+use Rattle.std.proofs.Common.{◌≡◌, ◌<◌, ◌≤◌, ◌+◌, ◌↔◌, ◌&&◌, ◌||◌, ℕ, zero, suc, Bool, true, false, not, List, map, None, IsTrue, ⊎_elim, eq-or-lt_of_le, refl, sym, ap, ◌∙◌, subst, arith}
 use Rattle.std.specs.List.{list_all}
 use Rattle.std.specs.Prelude.{ℤ, ◌*ℤ◌}
 use Rattle.std.specs.Cmp.Derive.{both_true}
@@ -22,8 +22,8 @@ use Rattle.sc_world.specs.declared.world.World.{World}
 use Rattle.sc_nodes.specs.declared.node.BinaryOp.TheVariants as binary
 use Rattle.sc_terms.specs.Trees.{Tree, two}
 use Rattle.sc_terms.specs.Folds.{not_term, and_term, equal_term, bit_term}
-use Rattle.sc_terms.specs.Values.{Val, it, maybe, yes, val, truth, seen, level, number_in, ip_in, bit_seen, val_eq, not_value, equal_value}
-use Rattle.sc_terms.proofs.EqualValues.{value_eq-exact, val_eq-same, equal_is, equal_others}
+use Rattle.sc_terms.specs.Values.{Val, it, yes, val, truth, seen, level, number_in, ip_in, bit_seen, val_eq, not_value, equal_value}
+use Rattle.sc_terms.proofs.EqualValues.{val_eq-same, equal_is, equal_others, val_eq-exact}
 use Rattle.sc_terms.proofs.FoldValues.{truth_yes, seen_yes, not_yes, not_is, and_is, and_truth, or_is, or_truth}
 use Rattle.sc_definitions.specs.Definitions.{counted, equal_bits, product_row, upper_bits, place_agrees, range_inputs}
 use Rattle.sc_definitions.specs.Truths.{is_true, truths_of}
@@ -50,15 +50,6 @@ same_of true true = rw (seen_yes true) (truth_yes true)
 same_of true false = rw (seen_yes true) (truth_yes false)
 same_of false true = rw (seen_yes false) (ap truth (not_yes true) ∙ truth_yes false)
 same_of false false = rw (seen_yes false) (ap truth (not_yes false) ∙ truth_yes true)
-
-val_eq-exact : (x y : Val) → val_eq x y ≡ true → x ≡ y
-val_eq-exact (it x) (it y) h = ap it (value_eq-exact x y h)
-val_eq-exact (it x) (maybe p) h = absurd cc
-val_eq-exact (maybe o) (it y) h = absurd cc
-val_eq-exact (maybe None) (maybe None) h = refl
-val_eq-exact (maybe None) (maybe (Some y)) h = absurd cc
-val_eq-exact (maybe (Some x)) (maybe None) h = absurd cc
-val_eq-exact (maybe (Some x)) (maybe (Some y)) h = ap (λ (z : Value). maybe (Some z)) (value_eq-exact x y h)
 
 opposite : {P : Type 0} (b c : Bool) → ((b ≡ false) ↔ P) → ((c ≡ true) ↔ P) → b ≡ not c
 opposite true true p q = p.1 (q.0 refl)

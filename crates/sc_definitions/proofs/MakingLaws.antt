@@ -3,6 +3,7 @@ use Rattle.std.proofs.Common.{◌≡◌, ℕ, zero, suc, Bool, true, false, ◌+
 use Rattle.std.proofs.Common.{append_assoc, append-nil}
 use Rattle.std.proofs.lemmas.List.{map-append, length-map}
 use Rattle.std.specs.List.{AllByRecursion}
+use Rattle.sc_terms.proofs.TableLaws.{keeps_then, keeps_itself}
 use Rattle.sc_sorts.proofs.OutLaws.{out_Long}
 use Rattle.sc_nodes.specs.declared.node.Node.{Node}
 use Rattle.sc_nodes.specs.declared.node.BinaryOp.TheVariants as binary
@@ -16,9 +17,6 @@ use Rattle.sc_definitions.specs.Definitions.{Definition, definition, counted, bi
 use Rattle.sc_definitions.specs.Making.{stood, Puts, HasBit, operator, IsRowOf, inputs_by, shape_by, count_by, definition_by}
 use Rattle.sc_definitions.proofs.MemberLaws.{within_later, within_append}
 
-pub keeps_twice : (xs ys zs : List Node) → Keeps xs ys → Keeps ys zs → Keeps xs zs
-keeps_twice xs ys zs e f = record { longer = omega (arith, e.longer, f.longer); same = λ n h. f.same n (omega (arith, e.longer)) ∙ e.same n h }
-
 -- what the numbers of a table stand for stays
 pub stood_later : (xs ys : List Node) → Keeps xs ys → (ns : List ℕ) → AllByRecursion (λ n. n < length xs) ns → stood ys ns ≡ stood xs ns
 stood_later xs ys e [] h = refl
@@ -26,9 +24,6 @@ stood_later xs ys e (n ∷ ns) h =
     let f = e.same n h.0 in
     let g = stood_later xs ys e ns h.1 in
     cc
-
-pub keeps_itself : (xs : List Node) → Keeps xs xs
-keeps_itself xs = record { longer = omega arith; same = λ n h. refl }
 
 -- a number stands for the same of equal terms
 pub stands_same : {xs : List Node} {n : ℕ} (f : Tree → Tree) {t u : Tree} → t ≡ u → StandsFor xs n (f t) → StandsFor xs n (f u)
@@ -64,7 +59,7 @@ puts_three xs ys ns ms a b c t u v k f g h e = record {
 module _ (xs ys zs : List Node) (ns ms ls : List ℕ) (ts us : List Tree) where
   pub puts_then : Puts xs ys ns ms ts → Puts ys zs ms ls us → Puts xs zs ns ls (ts ++ us)
   puts_then p q = record {
-    kept = keeps_twice xs ys zs p.kept q.kept;
+    kept = keeps_then xs ys zs p.kept q.kept;
     more = p.more ++ q.more;
     is = q.is ∙ ap (λ (l : List ℕ). l ++ q.more) p.is ∙ append_assoc ns p.more q.more;
     within = within_append (length zs) p.more q.more (within_later (length ys) (length zs) q.kept.longer p.more p.within) q.within;
@@ -78,7 +73,7 @@ puts_same xs ys ns ms ts us e p = subst (Puts xs ys ns ms) e p
 
 -- what is put once the table has grown
 pub puts_later : (xs ys zs : List Node) (ns ms : List ℕ) (ts : List Tree) → Keeps xs ys → Puts ys zs ns ms ts → Puts xs zs ns ms ts
-puts_later xs ys zs ns ms ts e p = record { kept = keeps_twice xs ys zs e p.kept; more = p.more; is = p.is; within = p.within; stands = p.stands }
+puts_later xs ys zs ns ms ts e p = record { kept = keeps_then xs ys zs e p.kept; more = p.more; is = p.is; within = p.within; stands = p.stands }
 
 -- of a product that is made first
 pub upper_put : (xs ys zs : List Node) (ns ms : List ℕ) (n : ℕ) (a b : Tree) → Keeps xs ys → StandsFor ys n (two binary.Multiply a b) → Puts ys zs ns ms (sign_equations (tree ys n))

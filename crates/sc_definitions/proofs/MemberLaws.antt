@@ -1,24 +1,11 @@
 -- What is in a list, and numbers below a bound.
-use Rattle.std.proofs.Common.{◌≡◌, ℕ, zero, suc, ◌+◌, ◌<◌, ◌≤◌, inl, inr, List, [], ◌∷◌, ◌++◌, take, get_or, length, Contains, refl, ap, ◌∙◌, arith}
+use Rattle.std.proofs.Common.{◌≡◌, ℕ, zero, suc, ◌+◌, ◌<◌, ◌≤◌, inl, inr, List, [], ◌∷◌, ◌++◌, take, get_or, length, refl, ap, ◌∙◌, arith}
 use Rattle.std.proofs.Common.{add-one}
 use Rattle.std.proofs.Math.Seq.{take-suc}
 use Rattle.std.specs.List.{AllByRecursion}
 use Rattle.sc_lists.specs.Members.{Has}
 
 -- ---- by places
-
-pub Has-at : {X : Type 0} (xs : List X) (i : ℕ) (x : X) → i < length xs → get_or xs i x ≡ x → Has xs x
-Has-at [] i x h e = absurd (omega arith)
-Has-at (y ∷ ys) zero x h e = inl e
-Has-at (y ∷ ys) (suc i) x h e = inr (Has-at ys i x (omega arith) e)
-
-pub Has-from_Contains : {X : Type 0} (xs : List X) (x : X) → Contains xs x → Has xs x
-Has-from_Contains xs x h = Has-at xs h.0 x h.1 h.2
-
-pub Contains-from_Has : {X : Type 0} (xs : List X) (x : X) → Has xs x → Contains xs x
-Contains-from_Has [] x h = absurd h
-Contains-from_Has (y ∷ ys) x (inl e) = (0, omega arith, e)
-Contains-from_Has (y ∷ ys) x (inr h) = let k = Contains-from_Has ys x h in (suc k.0, omega (arith, k.1), k.2)
 
 -- ---- the first of a list
 

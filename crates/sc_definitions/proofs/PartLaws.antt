@@ -1,5 +1,6 @@
 -- What the parts of a term are that has bits, a sum, a product or a comparison.
 use Rattle.std.proofs.Common.{◌≡◌, ◌&&◌, ◌<◌, ◌≤◌, ℕ, Bool, true, nat_lt, nat_le, List, sym, ap, ◌∙◌, subst}
+use Rattle.sc_lists.proofs.NumberLaws.{at_most}
 use Rattle.sc_lists.proofs.BoolLaws.{and_first, and_second}
 use Rattle.sc_names.specs.declared.uid.Uid.{Uid}
 use Rattle.sc_schema.specs.declared.declarations.Env.{Env}
@@ -53,10 +54,10 @@ module _ (d : Declarations) (env : Env) (written : List Uid) where
 
 -- the places of a carry, of a row and of a carry between rows
 pub carry_place : (b : Bool) (i : ℕ) → (b && nat_le i 64) ≡ true → i ≤ 64
-carry_place b i t = test.at_most i 64 (and_second b _ t)
+carry_place b i t = at_most i 64 (and_second b _ t)
 
 pub row_places : (b : Bool) (i j : ℕ) → (b && (nat_le i 128 && nat_lt j 128)) ≡ true → (i ≤ 128) × (j < 128)
-row_places b i j t = let rest = and_second b _ t in (test.at_most i 128 (and_first _ _ rest), test.below j 128 (and_second (nat_le i 128) _ rest))
+row_places b i j t = let rest = and_second b _ t in (at_most i 128 (and_first _ _ rest), test.below j 128 (and_second (nat_le i 128) _ rest))
 
 pub product_carry_places : (b : Bool) (i j : ℕ) → (b && (nat_lt i 128 && nat_le j 128)) ≡ true → (i < 128) × (j ≤ 128)
-product_carry_places b i j t = let rest = and_second b _ t in (test.below i 128 (and_first _ _ rest), test.at_most j 128 (and_second (nat_lt i 128) _ rest))
+product_carry_places b i j t = let rest = and_second b _ t in (test.below i 128 (and_first _ _ rest), at_most j 128 (and_second (nat_lt i 128) _ rest))

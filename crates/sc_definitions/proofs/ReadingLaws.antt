@@ -1,6 +1,7 @@
 -- The row that is read from a node is that of its term.
 use Rattle.std.proofs.Common.{◌≡◌, ◌<◌, ◌≤◌, ◌-◌, ◌&&◌, ℕ, zero, suc, Bool, true, false, List, [], ◌∷◌, length, refl, sym, ap, ◌∙◌, subst, arith}
 use Rattle.std.proofs.Math.Dec.{eqb-suc-zero}
+use Rattle.sc_lists.proofs.NumberLaws.{at_most}
 use Rattle.sc_lists.proofs.BoolLaws.{and_first, and_second}
 use Rattle.sc_sorts.specs.declared.sort.Sort.{Sort, Sort-F, out-Sort}
 use Rattle.sc_sorts.specs.declared.sort.Sort.TheVariants as sort
@@ -127,7 +128,7 @@ module _ (xs : List Node) where
     below : (i : ℕ) (x : Tree) → IsSomeTerm (one (unary.CarryIn (suc i)) x) → i < 64
     below i x h =
         let p = unary_kept h.schema h.env h.written h.sort (unary.CarryIn (suc i)) x h.is in
-        let l : suc i ≤ 64 = test.at_most (suc i) 64 (and_second (is_sum x) _ p.1) in
+        let l : suc i ≤ 64 = at_most (suc i) 64 (and_second (is_sum x) _ p.1) in
         omega (arith, l)
 
     carry_of_is : (o : BinaryOp) (i : ℕ) → tree xs t ≡ two o A B → IsRowOf xs (one (unary.CarryIn i) (two o A B)) (carry_row_of o t a b i)

@@ -2,7 +2,7 @@
 use Rattle.std.proofs.Common.{◌≡◌, ℕ, zero, suc, ◌+◌, ◌<◌, ◌≤◌, Bool, true, false, ◌⊎◌, inl, inr, ⊎_elim, List, [], ◌∷◌, ◌++◌, take, get_or, length, slice_get, Some, None, refl, sym, ◌∙◌, subst, arith}
 use Rattle.std.specs.Cmp.{IsTotalOrder}
 use Rattle.std.specs.List.{AllByRecursion}
-use Rattle.sc_lists.proofs.MemberLaws.{Has-left, Has-right, Has-append, Has-last, Has-push, Has-map, map-Has, Has-flat_map, flat_map-Has}
+use Rattle.sc_lists.proofs.MemberLaws.{Has-left, Has-right, Has-append, Has-last, Has-push, Has-map, map-Has, Has-flat_map, flat_map-Has, Has-at, Has-from_Contains, Contains-from_Has}
 use Rattle.sc_lists.specs.Members.{Has}
 use Rattle.sc_schema.specs.declared.declarations.Env.{Env}
 use Rattle.sc_nodes.specs.declared.node.Node.{Node}
@@ -11,7 +11,7 @@ use Rattle.sc_terms.specs.Tables.{tree, Keeps}
 use Rattle.sc_terms.specs.Order.{tree_cmp}
 use Rattle.sc_footprint.specs.Closure.{follow, follow_pair, Closed, of_true, of_goal, of_principal, of_resource, next, pair}
 use Rattle.sc_footprint.specs.Following.{stood, put_new, seeds, is_entity, noted, pairs_with, IsClosing, StandsForClosed}
-use Rattle.sc_footprint.proofs.MemberLaws.{Has-at, Has-from_Contains, Contains-from_Has, take_sub, take_whole, take_next, within_later, within_Has, put_old, put_there, put_only, put_within, put_take}
+use Rattle.sc_footprint.proofs.MemberLaws.{take_sub, take_whole, take_next, within_later, within_Has, put_old, put_there, put_only, put_within, put_take}
 use Rattle.sc_footprint.proofs.FollowingLaws.{stood_later}
 use Rattle.sc_footprint.proofs.PairLaws.{flip, of_entities}
 

@@ -3,6 +3,7 @@ use Rattle.std.proofs.Common.{◌≡◌, ℕ, zero, suc, ◌+◌, ◌<◌, Bool,
 use Rattle.std.proofs.Common.{append_assoc, append-nil}
 use Rattle.std.proofs.lemmas.List.{map-append}
 use Rattle.std.specs.List.{AllByRecursion}
+use Rattle.sc_terms.proofs.TableLaws.{keeps_then}
 use Rattle.sc_sorts.specs.declared.sort.Sort.{Sort}
 use Rattle.sc_nodes.specs.declared.node.Node.{Node}
 use Rattle.sc_terms.specs.Trees.{Tree}
@@ -11,9 +12,6 @@ use Rattle.sc_terms.specs.Folds.{field_term, equal_term}
 use Rattle.sc_footprint.specs.Closure.{parts, unlabelled, all_fields, entity_type, same_name, follow_pair}
 use Rattle.sc_footprint.specs.Following.{stood, is_entity, pairs_with, fields_from, IsMade}
 use Rattle.sc_footprint.proofs.MemberLaws.{within_later, within_append, within_push}
-
-pub keeps_twice : (xs ys zs : List Node) → Keeps xs ys → Keeps ys zs → Keeps xs zs
-keeps_twice xs ys zs e f = record { longer = omega (arith, e.longer, f.longer); same = λ n h. f.same n (omega (arith, e.longer)) ∙ e.same n h }
 
 -- what the numbers of a table stand for stays
 pub stood_later : (xs ys : List Node) → Keeps xs ys → (ns : List ℕ) → AllByRecursion (λ n. n < length xs) ns → stood ys ns ≡ stood xs ns
@@ -55,7 +53,7 @@ parts_end xs ns all (p ∷ ps) e h = absurd (omega arith)
 module _ (old mid new : List Node) (ns : List ℕ) (all : List Tree) where
   made_more : (m : ℕ) (x : Tree) (rest : List Tree) → IsMade old mid ns (x ∷ rest) all → Keeps mid new → StandsFor new m x → IsMade old new (ns ++ m ∷ []) rest all
   made_more m x rest made e s = record {
-    kept = keeps_twice old mid new made.kept e;
+    kept = keeps_then old mid new made.kept e;
     within = within_push (length new) m ns (within_later (length mid) (length new) e.longer ns made.within) s.within;
     value = ap (λ (l : List Tree). l ++ rest) (map-append (tree new) ns (m ∷ [])) ∙ append_assoc (stood new ns) (tree new m ∷ []) rest
         ∙ ap (λ (t : Tree). stood new ns ++ t ∷ rest) s.is ∙ ap (λ (l : List Tree). l ++ x ∷ rest) (stood_later mid new e ns made.within) ∙ made.value;
@@ -116,7 +114,7 @@ module _ (s0 s1 s2 : List Node) (e : Keeps s0 s1) (f : Keeps s1 s2) (ps fs qs : 
   pub three_stood : (t : Tree) (es : List ℕ) (n : ℕ) → AllByRecursion (λ m. m < length s0) es → n < length s0
       → stood s0 ps ≡ parts t → stood s1 fs ≡ all_fields t → stood s2 qs ≡ pairs_with s1 es n → stood s2 ((ps ++ fs) ++ qs) ≡ (parts t ++ all_fields t) ++ pairs_with s0 es n
   three_stood t es n h k p q r =
-      let p' : stood s2 ps ≡ parts t = stood_later s0 s2 (keeps_twice s0 s1 s2 e f) ps a ∙ p in
+      let p' : stood s2 ps ≡ parts t = stood_later s0 s2 (keeps_then s0 s1 s2 e f) ps a ∙ p in
       let q' : stood s2 fs ≡ all_fields t = stood_later s1 s2 f fs b ∙ q in
       let r' : stood s2 qs ≡ pairs_with s0 es n = r ∙ pairs_later s0 s1 e es n h k in
       map-append (tree s2) (ps ++ fs) qs ∙ ap (λ (l : List Tree). l ++ stood s2 qs) (map-append (tree s2) ps fs)

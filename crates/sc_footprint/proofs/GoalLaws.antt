@@ -9,7 +9,7 @@ use Rattle.std.specs.Ordering.{is_eq, is_gt}
 use Rattle.std.specs.Str.{bytes_eq}
 use Rattle.std.specs.declared.cmp.Ordering.TheVariants.{Less}
 use Rattle.sc_lists.proofs.BoolLaws.{and_first, and_second}
-use Rattle.sc_lists.proofs.MemberLaws.{Has-append, Has-map, map-Has}
+use Rattle.sc_lists.proofs.MemberLaws.{Has-append, Has-map, map-Has, Has-from_Contains, Contains-from_Has}
 use Rattle.sc_lists.specs.Members.{Has}
 use Rattle.sc_schema.specs.declared.declarations.Env.{Env}
 use Rattle.sc_schema.specs.declared.ty.Presence.{Presence}
@@ -37,7 +37,6 @@ use Rattle.sc_footprint.specs.Closure.{principal_term, resource_term, parts, fie
 use Rattle.sc_footprint.specs.Closure.{of_principal as begins_principal, of_resource as begins_resource}
 use Rattle.sc_footprint.specs.Following.{is_entity}
 use Rattle.sc_footprint.specs.Kinds.{IsOfGoal, of_boolean, of_context, of_principal, of_resource, of_entities}
-use Rattle.sc_footprint.proofs.MemberLaws.{Has-from_Contains, Contains-from_Has}
 use Rattle.sc_footprint.proofs.PairLaws.{flip, of_entities as goes_with_entities}
 
 -- ---- types of records of required truth values

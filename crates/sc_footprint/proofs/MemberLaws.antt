@@ -1,5 +1,5 @@
 -- What is in a list, and numbers put after others.
-use Rattle.std.proofs.Common.{◌≡◌, ℕ, zero, suc, ◌+◌, ◌<◌, ◌≤◌, Bool, true, false, cond, ◌||◌, ◌⊎◌, inl, inr, ⊎_elim, List, [], ◌∷◌, ◌++◌, filter, take, get_or, length, nat_eq, Contains, refl, sym, ap, ◌∙◌, subst, arith}
+use Rattle.std.proofs.Common.{◌≡◌, ℕ, zero, suc, ◌+◌, ◌<◌, ◌≤◌, Bool, true, false, cond, ◌||◌, ◌⊎◌, inl, inr, ⊎_elim, List, [], ◌∷◌, ◌++◌, filter, take, get_or, length, nat_eq, refl, sym, ap, ◌∙◌, subst, arith}
 use Rattle.std.proofs.Common.{length-append, add-one, append_assoc, append-nil}
 use Rattle.std.proofs.Math.Seq.{take-suc}
 use Rattle.std.proofs.lemmas.List.{take-append-le}
@@ -11,19 +11,6 @@ use Rattle.sc_lists.proofs.NumberLaws.{nat_eq_true}
 use Rattle.sc_footprint.specs.Following.{put_one, put_new}
 
 -- ---- the same, by places
-
-pub Has-at : {X : Type 0} (xs : List X) (i : ℕ) (x : X) → i < length xs → get_or xs i x ≡ x → Has xs x
-Has-at [] i x h e = absurd (omega arith)
-Has-at (y ∷ ys) zero x h e = inl e
-Has-at (y ∷ ys) (suc i) x h e = inr (Has-at ys i x (omega arith) e)
-
-pub Has-from_Contains : {X : Type 0} (xs : List X) (x : X) → Contains xs x → Has xs x
-Has-from_Contains xs x h = Has-at xs h.0 x h.1 h.2
-
-pub Contains-from_Has : {X : Type 0} (xs : List X) (x : X) → Has xs x → Contains xs x
-Contains-from_Has [] x h = absurd h
-Contains-from_Has (y ∷ ys) x (inl e) = (0, omega arith, e)
-Contains-from_Has (y ∷ ys) x (inr h) = let k = Contains-from_Has ys x h in (suc k.0, omega (arith, k.1), k.2)
 
 -- ---- the first of a list
 

@@ -6,7 +6,7 @@ use Rattle.std.specs.Cmp.{IsTotalOrder}
 use Rattle.std.specs.declared.cmp.Ordering.TheVariants.{Equal}
 use Rattle.std.specs.List.{AllByRecursion}
 use Rattle.std.specs.List.Sorted.{IsStrictlySortedBy}
-use Rattle.sc_lists.proofs.MemberLaws.{Has-map, map-Has}
+use Rattle.sc_lists.proofs.MemberLaws.{Has-map, map-Has, Has-from_Contains, Contains-from_Has}
 use Rattle.sc_lists.specs.Members.{Has}
 use Rattle.sc_names.specs.declared.uid.Uid.{Uid}
 use Rattle.sc_schema.specs.declared.declarations.Env.{Env}
@@ -22,7 +22,6 @@ use Rattle.sc_footprint.specs.Problems.{AreClosed, IsOverLimit, IsProblemOf, ato
 use Rattle.sc_footprint.specs.Indices.{IsKept}
 use Rattle.sc_footprint.specs.Following.{stood, StandsForClosed}
 use Rattle.sc_footprint.specs.Sorting.{atoms_of}
-use Rattle.sc_footprint.proofs.MemberLaws.{Has-from_Contains, Contains-from_Has}
 use Rattle.sc_footprint.proofs.OrderingLaws.{within_moved}
 
 -- the closed terms of a goal are one list

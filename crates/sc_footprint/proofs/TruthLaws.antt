@@ -2,6 +2,7 @@
 use Rattle.std.proofs.Common.{◌≡◌, ◌↔◌, ℕ, ◌<◌, ◌≤◌, Bool, true, false, not, inl, inr, length, Option, Some, Contains, refl, sym, ap, ◌∙◌, subst}
 use Rattle.std.specs.Cmp.{IsTotalOrder}
 use Rattle.std.specs.declared.cmp.Ordering.TheVariants.{Equal as Level}
+use Rattle.sc_lists.proofs.MemberLaws.{Has-from_Contains, Contains-from_Has}
 use Rattle.sc_clauses.proofs.LitLaws.{holds_negation}
 use Rattle.sc_clauses.specs.Clauses.{bool_eq, holds, positive}
 use Rattle.sc_schema.specs.declared.declarations.Env.{Env}
@@ -25,7 +26,6 @@ use Rattle.sc_footprint.specs.Problems.{Posed, IsPosed, closed_terms, goal_term,
 use Rattle.sc_footprint.specs.Truths.{is_true, is_true_at, truths, IsWorldOf}
 use Rattle.sc_footprint.specs.Theories.{IsListed}
 use Rattle.sc_footprint.specs.Kinds.{IsOfGoal, HasBoolParts, of_boolean, of_context, of_principal, of_resource, of_entities}
-use Rattle.sc_footprint.proofs.MemberLaws.{Has-from_Contains, Contains-from_Has}
 use Rattle.sc_footprint.proofs.GoalLaws.{principal_sort, boolean_sort, of_closed}
 use Rattle.sc_footprint.proofs.NumberingLaws.{Has-filter, numbered_back, within_count, atom_one}
 use Rattle.sc_footprint.proofs.WorldLaws.{no_truth, goal_truth, valued, not_valued, constant_truth}

@@ -2,7 +2,7 @@
 use Rattle.std.proofs.Common.{◌≡◌, ℕ, ◌&&◌, Bool, true, false, not, inl, inr, List, [], ◌∷◌, Option, Some, None, IsSomeAnd, IsTrue, Contains, refl, sym, ap, ◌∙◌, subst}
 use Rattle.std.specs.List.{list_all}
 use Rattle.sc_terms.proofs.FoldValues.{seen_yes, truth_yes}
-use Rattle.sc_lists.proofs.MemberLaws.{map-Has}
+use Rattle.sc_lists.proofs.MemberLaws.{map-Has, Has-from_Contains}
 use Rattle.sc_lists.specs.Members.{Has}
 use Rattle.sc_lists.proofs.BoolLaws.{and_first}
 use Rattle.sc_schema.specs.declared.declarations.Env.{Env}
@@ -37,7 +37,6 @@ use Rattle.sc_terms.specs.Values.{Val, it, yes, val, seen, bool_seen, truth, not
 use Rattle.sc_footprint.specs.Problems.{is_bool as truth_value, is_bool_in}
 use Rattle.sc_footprint.specs.Truths.{is_true}
 use Rattle.sc_footprint.specs.Kinds.{IsOfGoal, of_boolean, of_context, of_principal, of_resource, of_entities}
-use Rattle.sc_footprint.proofs.MemberLaws.{Has-from_Contains}
 use Rattle.sc_footprint.proofs.GoalLaws.{type_is, bool_is, each_is, plain_is, attribute_sort, context_sort, principal_sort, resource_sort}
 
 -- ---- truth values

@@ -1,6 +1,7 @@
 -- The goal of policies that are compiled.
 use Rattle.std.proofs.Common.{◌≡◌, ℕ, true, false, List, map, Option, Some, None, IsSome, IfSome, refl, sym, ap, subst, ◌∙◌}
 use Rattle.std.specs.Option.{option_map, option_and_then}
+use Rattle.sc_terms.proofs.TableLaws.{stands_later}
 use Rattle.sc_question.specs.declared.question.Question.{Question}
 use Rattle.sc_nodes.specs.declared.node.Node.{Node}
 use Rattle.sc_terms.specs.Trees.{Tree}
@@ -9,7 +10,7 @@ use Rattle.sc_terms.specs.Folds.{not_term}
 use Rattle.sc_symauth.specs.declared.compiled.CompiledPolicy.{CompiledPolicy}
 use Rattle.sc_symauth.specs.Standings.{Compiled, allow}
 use Rattle.sc_symauth.specs.Numbers.{compiled_at, AreCodes}
-use Rattle.sc_symauth.proofs.NumbersLaws.{stands_later, compiled_same}
+use Rattle.sc_symauth.proofs.NumbersLaws.{compiled_same}
 use Rattle.sc_goal.specs.Goals.{goal_of}
 
 -- ---- both sets are compiled

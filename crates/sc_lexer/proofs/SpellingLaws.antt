@@ -5,7 +5,7 @@ use Rattle.std.specs.Char.{IsScalar, is_ascii_hexdigit}
 use Rattle.std.specs.Str.Parse.{digits_value}
 use Rattle.std.specs.List.{list_all, take_while}
 use Rattle.std.proofs.lemmas.Bool.{cases_lt, cases_Bool}
-use Rattle.std.proofs.lemmas.Bool.Decides.{nat_tests, eqb_tells}
+use Rattle.std.proofs.lemmas.Bool.Decides.{eqb_tells}
 use Rattle.std.proofs.lemmas.List.{take-append-drop, get_or_at, get_or_past, take_more, take_rest}
 use Rattle.std.proofs.lemmas.List.Sums.{take_while-cons}
 use Rattle.std.proofs.Math.Utf8.{scalar}
@@ -13,7 +13,7 @@ use Rattle.std.proofs.Math.Seq.{take-add, take-length}
 use Rattle.sc_lists.proofs.BoolLaws.{and_second, and_first}
 use Rattle.sc_lists.proofs.TextLaws.{take_while_within, take_while_front, take_while_passes}
 use Rattle.sc_lists.proofs.ListLaws.{rest_is}
-use Rattle.sc_lists.proofs.NumberLaws.{nat_eq_true}
+use Rattle.sc_lists.proofs.NumberLaws.{nat_eq_true, at_most}
 use Rattle.sc_lexer.specs.declared.piece.Piece.{Piece}
 use Rattle.sc_lexer.specs.declared.piece.Piece.TheVariants.{Char, EscapedStar}
 use Rattle.sc_lexer.specs.declared.piece.Escape.{Escape}
@@ -91,16 +91,13 @@ cond_some false x y h = cc
 pub some_same : {x y : Escape} → Some x ≡ Some y → x ≡ y
 some_same h = cc
 
-le_true : (a b : ℕ) → nat_le a b ≡ true → a ≤ b
-le_true a b h = grind (arith, nat_tests)
-
 Begins-ascii : (like : Bool) (cs : List ℕ) (e : Escape) → ascii_of cs ≡ Some e → Begins like (120 ∷ cs) e.len
 unfolding ascii_of
 Begins-ascii like cs e h =
     let digits = take 2 (take_while is_ascii_hexdigit cs) in
     let k = cond_some (nat_eq (length digits) 2 && nat_le (digits_value 16 digits) 127) (record { piece = Char (digits_value 16 digits); len = 3 }) e h in
     let two : length digits ≡ 2 = nat_eq_true (length digits) 2 (and_first (nat_eq (length digits) 2) (nat_le (digits_value 16 digits) 127) k.0) in
-    let small : digits_value 16 digits ≤ 127 = le_true (digits_value 16 digits) 127 (and_second (nat_eq (length digits) 2) (nat_le (digits_value 16 digits) 127) k.0) in
+    let small : digits_value 16 digits ≤ 127 = at_most (digits_value 16 digits) 127 (and_second (nat_eq (length digits) 2) (nat_le (digits_value 16 digits) 127) k.0) in
     let some : 2 ≤ length (take_while is_ascii_hexdigit cs) = omega (arith, length-take 2 (take_while is_ascii_hexdigit cs)) in
     let front : digits ≡ take 2 cs = take-take_while is_ascii_hexdigit 2 cs some in
     subst (λ (x : Escape). Begins like (120 ∷ cs) x.len) k.1 (record {
@@ -132,7 +129,7 @@ Begins-braced like cs e h =
     let whole : take (n + 3) (117 ∷ 123 ∷ cs) ≡ 117 ∷ 123 ∷ (digits ++ (125 ∷ [])) = take_two n cs ∙ ap (λ bs. 117 ∷ 123 ∷ bs) text in
     subst (λ (x : Escape). Begins like (117 ∷ 123 ∷ cs) x.len) k.1 (record {
       within = omega arith;
-      is = rw whole (code digits (take_while_passes is_ascii_hexdigit cs) (le_true 1 n (and_first least most some)) (le_true n 6 (and_second least most some)) (and_second (least && most && closing) value k.0));
+      is = rw whole (code digits (take_while_passes is_ascii_hexdigit cs) (at_most 1 n (and_first least most some)) (at_most n 6 (and_second least most some)) (and_second (least && most && closing) value k.0));
     })
 
 Begins-scalar : (like : Bool) (cs : List ℕ) (e : Escape) → scalar_of cs ≡ Some e → Begins like (117 ∷ cs) e.len

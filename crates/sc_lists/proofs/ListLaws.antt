@@ -1,9 +1,10 @@
 -- What is in a list, and what holds of each of its elements.
-use Rattle.std.proofs.Common.{◌≡◌, ◌⊎◌, ◌<◌, ◌≤◌, ◌+◌, ◌-◌, ◌&&◌, ◌||◌, ℕ, zero, suc, List, [], ◌∷◌, ◌++◌, length, take, drop, get_or, map, slice_get, Contains, Bool, true, false, Option, Some, inl, inr, refl, ap, subst, ◌∙◌, arith}
-use Rattle.std.specs.List.{AllByRecursion, list_all, list_any, take_while}
+use Rattle.std.proofs.Common.{◌≡◌, ◌⊎◌, ◌<◌, ◌+◌, ◌-◌, ◌&&◌, ◌||◌, ℕ, zero, suc, List, [], ◌∷◌, ◌++◌, length, take, drop, get_or, map, slice_get, Contains, Bool, true, false, Some, inl, inr, refl, ap, subst, ◌∙◌, arith, sym}
+use Rattle.std.specs.List.{AllByRecursion, list_all, list_any, flat_map}
 use Rattle.std.proofs.Math.Seq.{take-length}
-use Rattle.std.proofs.lemmas.List.Elements.{All-contains, All-from_recursion}
+use Rattle.std.proofs.lemmas.List.Elements.{All-contains, All-from_recursion, Contains-append_left, Contains-append_right, Contains-append_cases}
 use Rattle.std.proofs.lemmas.Option.{slice_get_within, get_or_from_slice_get}
+use Rattle.std.proofs.lemmas.Bool.{or_left, or_right}
 
 -- ---- the elements of a list are its first and those of the rest
 
@@ -72,3 +73,33 @@ map_itself {X} (x ∷ xs) = ap (λ (ys : List X). x ∷ ys) (map_itself xs)
 
 pub rest_is : (a : ℕ) (cs : List ℕ) → take (length (a ∷ cs) - 1) (drop 1 (a ∷ cs)) ≡ cs
 rest_is a cs = let less : length (a ∷ cs) - 1 ≡ length cs = omega arith in rw less (take-length cs)
+
+pub contains_from_map : {X Y : Type 0} (f : X → Y) (xs : List X) (y : Y) → Contains (map f xs) y → (x : X) × Contains xs x × (f x ≡ y)
+contains_from_map f [] y has = absurd (contains_nothing y has)
+contains_from_map {X} {Y} f (x ∷ xs) y has = elim (contains_split (f x) (map f xs) y has) [
+  | inl same ↦ (x, contains_first x xs, same)
+  | inr more ↦ later (contains_from_map f xs y more)
+] where
+  later : (z : X) × Contains xs z × (f z ≡ y) → (z : X) × Contains (x ∷ xs) z × (f z ≡ y)
+  later found = (found.0, contains_rest x xs found.0 found.1, found.2)
+
+pub contains_joined : {X Y : Type 0} (f : X → List Y) (xs : List X) (x : X) (y : Y) → Contains xs x → Contains (f x) y → Contains (flat_map f xs) y
+contains_joined f [] x y has inside = absurd (contains_nothing x has)
+contains_joined {X} {Y} f (z ∷ zs) x y has inside = elim (contains_split z zs x has) [
+  | inl same ↦ Contains-append_left (f z) (flat_map f zs) y (subst (λ (w : X). Contains (f w) y) (sym same) inside)
+  | inr later ↦ Contains-append_right (f z) (flat_map f zs) y (contains_joined f zs x y later inside)
+]
+
+pub joined_from : {X Y : Type 0} (f : X → List Y) (xs : List X) (y : Y) → Contains (flat_map f xs) y → (x : X) × Contains xs x × Contains (f x) y
+joined_from f [] y has = absurd (contains_nothing y has)
+joined_from {X} {Y} f (z ∷ zs) y has = at (Contains-append_cases (f z) (flat_map f zs) y has) (joined_from f zs y) where
+  at : Contains (f z) y ⊎ Contains (flat_map f zs) y → (Contains (flat_map f zs) y → (x : X) × Contains zs x × Contains (f x) y) → (x : X) × Contains (z ∷ zs) x × Contains (f x) y
+  at (inl here) rest = (z, contains_first z zs, here)
+  at (inr later) rest = let found = rest later in (found.0, contains_rest z zs found.0 found.1, found.2)
+
+pub any_contained : {X : Type 0} (test : X → Bool) (xs : List X) (x : X) → Contains xs x → test x ≡ true → list_any test xs ≡ true
+any_contained test [] x has h = absurd (contains_nothing x has)
+any_contained {X} test (z ∷ xs) x has h = elim (contains_split z xs x has) [
+  | inl same ↦ or_left (test z) (list_any test xs) (subst (λ (w : X). test w ≡ true) (sym same) h)
+  | inr later ↦ or_right (test z) (list_any test xs) (any_contained test xs x later h)
+]

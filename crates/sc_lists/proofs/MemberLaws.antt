@@ -1,5 +1,5 @@
 -- What is in a list that is put together from others.
-use Rattle.std.proofs.Common.{◌≡◌, ◌⊎◌, inl, inr, ⊎_elim, List, [], ◌∷◌, ◌++◌, map, flat_map, refl, sym, ap, subst}
+use Rattle.std.proofs.Common.{◌≡◌, ◌⊎◌, inl, inr, ⊎_elim, List, [], ◌∷◌, ◌++◌, map, flat_map, refl, sym, ap, subst, ℕ, zero, suc, ◌<◌, length, get_or, Contains, arith}
 use Rattle.sc_lists.specs.Members.{Has}
 
 pub Has-left : {X : Type 0} (xs ys : List X) (x : X) → Has xs x → Has (xs ++ ys) x
@@ -45,3 +45,16 @@ pub flat_map-Has : {X Y : Type 0} (f : X → List Y) (xs : List X) (y : Y) → H
 flat_map-Has f [] y h = absurd h
 flat_map-Has f (z ∷ zs) y h =
     ⊎_elim (λ k. (z, inl refl, k)) (λ k. let r = flat_map-Has f zs y k in (r.0, inr r.1, r.2)) (Has-append (f z) (flat_map f zs) y h)
+
+pub Has-at : {X : Type 0} (xs : List X) (i : ℕ) (x : X) → i < length xs → get_or xs i x ≡ x → Has xs x
+Has-at [] i x h e = absurd (omega arith)
+Has-at (y ∷ ys) zero x h e = inl e
+Has-at (y ∷ ys) (suc i) x h e = inr (Has-at ys i x (omega arith) e)
+
+pub Has-from_Contains : {X : Type 0} (xs : List X) (x : X) → Contains xs x → Has xs x
+Has-from_Contains xs x h = Has-at xs h.0 x h.1 h.2
+
+pub Contains-from_Has : {X : Type 0} (xs : List X) (x : X) → Has xs x → Contains xs x
+Contains-from_Has [] x h = absurd h
+Contains-from_Has (y ∷ ys) x (inl e) = (0, omega arith, e)
+Contains-from_Has (y ∷ ys) x (inr h) = let k = Contains-from_Has ys x h in (suc k.0, omega (arith, k.1), k.2)

@@ -1,8 +1,9 @@
 -- Tests of numbers.
-use Rattle.std.proofs.Common.{◌≡◌, ◌≢◌, ℕ, Bool, true, false, eqb, nat_eq, refl, arith, ℤ, ◌<ℤ◌, ◌↔◌, IsTrue, int_lt}
+use Rattle.std.proofs.Common.{◌≡◌, ◌≢◌, ℕ, Bool, true, false, eqb, nat_eq, refl, arith, ℤ, ◌<ℤ◌, ◌↔◌, IsTrue, int_lt, ◌≤◌}
 use Rattle.std.proofs.lemmas.Bool.{eqb-true}
 use Rattle.std.proofs.lemmas.Bool.Decides.{nat_tests}
 use Rattle.std.proofs.lemmas.Int.{ints}
+use Rattle.std.specs.Prelude.{nat_le}
 
 pub nat_eq_true : (a b : ℕ) → nat_eq a b ≡ true → a ≡ b
 nat_eq_true a b h = grind (arith, nat_tests)
@@ -15,3 +16,6 @@ eqb_false a b h = by (eqb a b) refl where
 
 pub int_lt_decides : (m n : ℤ) → IsTrue (int_lt m n) ↔ (m <ℤ n)
 int_lt_decides m n = (λ t. grind (arith, ints), λ t. grind (arith, ints))
+
+pub at_most : (i n : ℕ) → nat_le i n ≡ true → i ≤ n
+at_most i n h = grind (arith, nat_tests)

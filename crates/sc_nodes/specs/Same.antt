@@ -108,7 +108,7 @@ exact_literal (literal.Entity u us) (literal.Entity v vs) h =
     λ i. literal.Entity (first i) (rest i)
 exact_literal (literal.Entity u us) _ h = absurd cc
 
-same_literal : (a b : Literal) → literal_eq.eq a b ≡ true → a ≡ b
+pub same_literal : (a b : Literal) → literal_eq.eq a b ≡ true → a ≡ b
 same_literal a b h = exact_literal a b (is_eq_true (literal_ord.cmp a b) (sym (literal_level a b) ∙ h))
 
 -- ---- nodes

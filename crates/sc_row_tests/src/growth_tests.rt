@@ -75,6 +75,14 @@ fn comparison_goes_down_one_path(rt: HostRuntime) -> Result<(), Fail> {
     Ok(())
 }
 
+#[test]
+fn comparison_of_deep_terms(rt: HostRuntime) -> Result<(), Fail> {
+    // they differ at the bottom alone, a hundred thousand parts deep
+    let greater = order(rt.alloc(), 50_000, 50_001) == Ok(Ordering::Greater);
+    assert!(rt; greater);
+    Ok(())
+}
+
 /// `scripts/terms.sh` times it.
 #[test]
 fn a_million_terms(rt: HostRuntime) -> Result<(), Fail> {

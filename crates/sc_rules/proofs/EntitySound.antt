@@ -7,7 +7,7 @@ use Rattle.sc_lists.specs.Members.{Has}
 use Rattle.std.proofs.lemmas.Bool.{and_parts}
 use Rattle.sc_lists.proofs.BoolLaws.{never}
 use Rattle.sc_lists.proofs.ListLaws.{all_element}
-use Rattle.sc_lists.proofs.MemberLaws.{Has-map, map-Has}
+use Rattle.sc_lists.proofs.MemberLaws.{Has-map, map-Has, Has-from_Contains, Contains-from_Has}
 use Rattle.sc_lists.proofs.OptionLaws.{same_some}
 use Rattle.sc_lists.proofs.OrderingLaws.{is_eq_true}
 use Rattle.sc_lists.proofs.TextLaws.{bytes_eq_true}
@@ -44,7 +44,7 @@ use Rattle.sc_terms.specs.Values.{Val, it, maybe, val, value_in, uid_in, uid_see
 use Rattle.sc_terms.proofs.OrderLaws.{tree_eq-exact}
 use Rattle.sc_terms.proofs.FoldValues.{one_is, two_is}
 use Rattle.sc_terms.proofs.DefaultValues.{default_is}
-use Rattle.sc_rules.proofs.MemberLaws.{has_contained, contains_had, filter_passes, filter_within, filter_kept}
+use Rattle.sc_rules.proofs.MemberLaws.{filter_passes, filter_within, filter_kept}
 use Rattle.sc_rules.specs.Signed.{so, unless, some_holds, Holds, is_true}
 use Rattle.sc_rules.specs.Terms.{one_sort, member, above, keys, entity}
 use Rattle.sc_rules.specs.Entities.{are_attributes_of, en1, same_sets, en2, en3, en4, en5, en6, is_uid_in, is_literal_of, en7_of, en7_by, en7, en8_of}
@@ -192,7 +192,7 @@ module _ (w : World) where
       own h =
           let same : uid_in (val e w) ≡ h.uid = uid_of (val e w) h.uid h.value_is in
           let here : stored h.uid w.store ≡ Some h.kept = ap (λ (u : Uid). stored u w.store) (sym same) ∙ h.is_kept in
-          of_stored IsAcyclic h.uid h.kept w.store acyclic here (contains_had h.kept.ancestors h.uid h.there)
+          of_stored IsAcyclic h.uid h.kept w.store acyclic here (Contains-from_Has h.kept.ancestors h.uid h.there)
 
       by : (b : Bool) → is_true (member e (above (tree_sort e) e)) w ≡ b → b ≡ false
       by false f = refl
@@ -202,8 +202,8 @@ module _ (w : World) where
   upwards : (es : Entities) (u v : Uid) (d c : EntityData) → AllByRecursion (IsTransitive es) es → stored u es ≡ Some d → Has d.ancestors v → stored v es ≡ Some c → (z : Uid) → Has c.ancestors z → Has d.ancestors z
   upwards es u v d c transitive is h there z k =
       let all = of_stored (IsTransitive es) u d es transitive is in
-      let at = all_element _ d.ancestors v all (contains_had d.ancestors v h) in
-      has_contained d.ancestors z (all_element _ c.ancestors z (at_some (λ (e : EntityData). AllByRecursion (λ (b : Uid). Contains d.ancestors b) e.ancestors) (stored v es) c there at) (contains_had c.ancestors z k))
+      let at = all_element _ d.ancestors v all (Contains-from_Has d.ancestors v h) in
+      Has-from_Contains d.ancestors z (all_element _ c.ancestors z (at_some (λ (e : EntityData). AllByRecursion (λ (b : Uid). Contains d.ancestors b) e.ancestors) (stored v es) c there at) (Contains-from_Has c.ancestors z k))
     where
       at_some : (P : EntityData → Type 0) (o : Option EntityData) (c : EntityData) → o ≡ Some c → IfSome o P → P c
       at_some P (Some b) c e h = let f : b ≡ c = cc in subst P f h

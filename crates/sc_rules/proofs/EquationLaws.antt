@@ -1,12 +1,12 @@
 -- What equations say in a world: that two terms have one value, whatever they fold to.
-use Rattle.std.proofs.Common.{◌≡◌, Bool, true, false, Option, Some, None, unwrap_or, refl, sym, ap, ◌∙◌, subst}
+use Rattle.std.proofs.Common.{◌≡◌, Bool, true, false, Option, Some, None, refl, sym, ap, ◌∙◌, subst}
 use Rattle.sc_values.specs.declared.value.Value.{Value}
 use Rattle.sc_world.specs.declared.world.World.{World}
 use Rattle.sc_terms.specs.Trees.{Tree}
 use Rattle.sc_terms.specs.Folds.{equal_term}
-use Rattle.sc_terms.specs.Values.{Val, it, maybe, yes, val, seen, truth, not_seen, not_value, option_eq, val_eq, equal_seen, equal_value}
-use Rattle.sc_terms.proofs.FoldValues.{seen_yes, seen_is, truth_yes}
-use Rattle.sc_terms.proofs.EqualValues.{value_eq-exact, val_eq-same, equal_is, equal_bools, equal_others}
+use Rattle.sc_terms.specs.Values.{Val, yes, val, seen, truth, not_seen, not_value, option_eq, val_eq, equal_seen, equal_value}
+use Rattle.sc_terms.proofs.FoldValues.{seen_yes, seen_is, truth_yes, truth_unseen}
+use Rattle.sc_terms.proofs.EqualValues.{value_eq-exact, val_eq-same, equal_is, equal_bools, equal_others, val_eq-exact}
 use Rattle.sc_rules.specs.Signed.{is_true}
 
 -- ---- one value
@@ -17,20 +17,10 @@ option_exact None (Some y) e = absurd cc
 option_exact (Some x) None e = absurd cc
 option_exact (Some x) (Some y) e = ap Some (value_eq-exact x y e)
 
-pub val_exact : (x y : Val) → val_eq x y ≡ true → x ≡ y
-val_exact (it x) (it y) e = ap it (value_eq-exact x y e)
-val_exact (it x) (maybe p) e = absurd cc
-val_exact (maybe o) (it y) e = absurd cc
-val_exact (maybe o) (maybe p) e = ap maybe (option_exact o p e)
-
 pub val_same : (x y : Val) → x ≡ y → val_eq x y ≡ true
 val_same x y e = subst (λ (z : Val). val_eq x z ≡ true) e (val_eq-same x)
 
 -- ---- equations of values of any kinds
-
-truth_unseen : (x : Val) → seen x ≡ None → truth x ≡ false
-unfolding truth
-truth_unseen x e = ap (λ (o : Option Bool). unwrap_or o false) e
 
 not_unseen : (y : Val) → seen y ≡ None → not_value y ≡ y
 unfolding not_value
@@ -43,7 +33,7 @@ apart b y f = by (val_eq (yes b) y) refl
     by : (c : Bool) → val_eq (yes b) y ≡ c → c ≡ false
     by false e = refl
     by true e =
-        let both : Some b ≡ None = sym (seen_yes b) ∙ ap seen (val_exact (yes b) y e) ∙ f in
+        let both : Some b ≡ None = sym (seen_yes b) ∙ ap seen (val_eq-exact (yes b) y e) ∙ f in
         absurd cc
 
 apart_turned : (x : Val) (c : Bool) → seen x ≡ None → val_eq x (yes c) ≡ false
@@ -52,7 +42,7 @@ apart_turned x c f = by (val_eq x (yes c)) refl
     by : (d : Bool) → val_eq x (yes c) ≡ d → d ≡ false
     by false e = refl
     by true e =
-        let both : Some c ≡ None = sym (seen_yes c) ∙ ap seen (sym (val_exact x (yes c) e)) ∙ f in
+        let both : Some c ≡ None = sym (seen_yes c) ∙ ap seen (sym (val_eq-exact x (yes c) e)) ∙ f in
         absurd cc
 
 of_first : (b : Bool) (y : Val) → seen y ≡ None → truth (equal_value (yes b) y) ≡ false
@@ -83,7 +73,7 @@ module _ (w : World) where
   equality a b = ap truth (equal_is a b w) ∙ equal_truth (val a w) (val b w)
 
   pub is_equal : (a b : Tree) → is_true (equal_term a b) w ≡ true → val a w ≡ val b w
-  is_equal a b e = val_exact (val a w) (val b w) (sym (equality a b) ∙ e)
+  is_equal a b e = val_eq-exact (val a w) (val b w) (sym (equality a b) ∙ e)
 
   pub equal_so : (a b : Tree) → val a w ≡ val b w → is_true (equal_term a b) w ≡ true
   equal_so a b e = equality a b ∙ val_same (val a w) (val b w) e

@@ -5,21 +5,17 @@ use Rattle.std.specs.List.Sorted.{IsStrictlySortedBy}
 use Rattle.std.specs.Map.{keys_of}
 use Rattle.std.specs.Ordering.{ordering_reverse}
 use Rattle.std.specs.Str.{bytes_eq}
-use Rattle.std.specs.Cmp.{IsTotalOrder}
 use Rattle.std.specs.declared.cmp.Ordering.{Ordering}
 use Rattle.std.specs.declared.cmp.Ordering.TheVariants.{Less, Equal, Greater}
-use Rattle.std.proofs.lemmas.Cmp.{nat_list_cmp_total}
 use Rattle.std.proofs.lemmas.Map.Lookups.{exact_bytes}
 use Rattle.std.proofs.lemmas.Slice.Eq.{bytes_eq-Decides}
+use Rattle.sc_names.proofs.UidLaws.{text_total}
 use Rattle.sc_lists.proofs.OptionLaws.{same_some}
 use Rattle.sc_lists.proofs.TextLaws.{bytes_eq_true}
 use Rattle.sc_names.specs.Uids.{text_cmp}
 use Rattle.sc_values.specs.declared.value.Value.{Value}
 use Rattle.sc_values.specs.Records.{Fields, field}
-use Rattle.sc_term_laws.proofs.FitRecords.{all_apart, swapped}
-
-total : IsTotalOrder text_cmp
-total = nat_list_cmp_total
+use Rattle.sc_term_laws.proofs.FitRecords.{all_apart, swapped, absent_at}
 
 found_here : (f : List ℕ × Value) (r : Fields) → field f.0 (f ∷ r) ≡ Some f.1
 found_here f r = ap (λ (b : Bool). cond b (Some f.1) (field f.0 r)) ((bytes_eq-Decides f.0 f.0).1 refl)
@@ -27,17 +23,13 @@ found_here f r = ap (λ (b : Bool). cond b (Some f.1) (field f.0 r)) ((bytes_eq-
 found_later : (name : List ℕ) (f : List ℕ × Value) (r : Fields) → bytes_eq name f.0 ≡ false → field name (f ∷ r) ≡ field name r
 found_later name f r e = ap (λ (b : Bool). cond b (Some f.1) (field name r)) e
 
-absent : (name : List ℕ) (r : Fields) → AllByRecursion (λ (m : List ℕ). bytes_eq name m ≡ false) (keys_of r) → field name r ≡ None
-absent name [] h = refl
-absent name (f ∷ r) h = found_later name f r h.0 ∙ absent name r h.1
-
 -- names above a name
 below_none : (name : List ℕ) (r : Fields) → AllByRecursion (λ (m : List ℕ). text_cmp name m ≡ Less) (keys_of r) → field name r ≡ None
-below_none name r h = absent name r (swapped name (keys_of r) (all_apart name (keys_of r) h))
+below_none name r h = absent_at name r (swapped name (keys_of r) (all_apart name (keys_of r) h))
 
 below_all : (k j : List ℕ) (names : List (List ℕ)) → text_cmp k j ≡ Less → AllByRecursion (λ (m : List ℕ). text_cmp j m ≡ Less) names → AllByRecursion (λ (m : List ℕ). text_cmp k m ≡ Less) names
 below_all k j [] less h = tt
-below_all k j (i ∷ names) less h = (total.trans k j i less h.0, below_all k j names less h.1)
+below_all k j (i ∷ names) less h = (text_total.trans k j i less h.0, below_all k j names less h.1)
 
 some_or_none : (x : Value) (o : Option Value) → Some x ≡ o → o ≡ None → ⊥
 some_or_none x None e f = absurd cc
@@ -62,7 +54,7 @@ one_by : (o : Ordering) (f g : List ℕ × Value) (r s : Fields) → text_cmp f.
 unfolding IsStrictlySortedBy
 one_by Less f g r s c a b h rest = absurd (first_below f g r s c b.0 (h f.0))
 one_by Greater f g r s c a b h rest =
-    absurd (first_below g f s r (total.antisymm g.0 f.0 ∙ ap ordering_reverse c) a.0 (sym (h g.0)))
+    absurd (first_below g f s r (text_total.antisymm g.0 f.0 ∙ ap ordering_reverse c) a.0 (sym (h g.0)))
 one_by Equal f g r s c a b h rest =
     let same : f.0 ≡ g.0 = exact_bytes f.0 g.0 c in
     let value : f.1 ≡ g.1 = same_some (sym (found_here f r) ∙ h f.0 ∙ ap (λ (n : List ℕ). field n (g ∷ s)) same ∙ found_here g s) in

@@ -1,5 +1,5 @@
 -- Members of lists, by their places and where they pass a test.
-use Rattle.std.proofs.Common.{◌≡◌, ◌||◌, ◌&&◌, ◌<◌, ℕ, zero, suc, Bool, true, false, not, cond, inl, inr, List, [], ◌∷◌, filter, find, get_or, length, Some, Contains, refl, sym, ap, ◌∙◌, arith}
+use Rattle.std.proofs.Common.{◌≡◌, ◌||◌, ◌&&◌, Bool, true, false, not, cond, inl, inr, List, [], ◌∷◌, filter, find, Some, refl, sym, ap, ◌∙◌}
 use Rattle.std.specs.List.{list_all, list_any}
 use Rattle.std.specs.Cmp.Derive.{both_true}
 use Rattle.std.proofs.lemmas.Bool.{or_left, or_right}
@@ -7,19 +7,6 @@ use Rattle.sc_lists.specs.Members.{Has}
 use Rattle.sc_lists.proofs.BoolLaws.{and_first, and_second, never}
 
 -- ---- by places
-
-has_at : {X : Type 0} (xs : List X) (i : ℕ) (x : X) → i < length xs → get_or xs i x ≡ x → Has xs x
-has_at [] i x h e = absurd (omega arith)
-has_at (y ∷ ys) zero x h e = inl e
-has_at (y ∷ ys) (suc i) x h e = inr (has_at ys i x (omega arith) e)
-
-pub has_contained : {X : Type 0} (xs : List X) (x : X) → Contains xs x → Has xs x
-has_contained xs x h = has_at xs h.0 x h.1 h.2
-
-pub contains_had : {X : Type 0} (xs : List X) (x : X) → Has xs x → Contains xs x
-contains_had [] x h = absurd h
-contains_had (y ∷ ys) x (inl e) = (0, omega arith, e)
-contains_had (y ∷ ys) x (inr h) = let k = contains_had ys x h in (suc k.0, omega (arith, k.1), k.2)
 
 -- ---- tests of all and of any
 

@@ -1,6 +1,7 @@
 -- The rules of sets are true in every world; SE2 where members are no options, SE8 where sets are sets.
 use Rattle.std.proofs.Common.{◌≡◌, ◌&&◌, ℕ, zero, suc, true, false, List, [], slice_get, Option, Some, None, refl, sym, ap, ◌∙◌, subst, Contains}
 use Rattle.std.proofs.lemmas.Bool.{and_parts}
+use Rattle.sc_lists.proofs.MemberLaws.{Has-from_Contains, Contains-from_Has}
 use Rattle.sc_lists.specs.Members.{Has}
 use Rattle.sc_lists.proofs.BoolLaws.{never}
 use Rattle.sc_lists.proofs.ListLaws.{contains_place}
@@ -17,7 +18,6 @@ use Rattle.sc_terms.specs.Trees.{Tree, leaf, one, two, choice, many, Trees}
 use Rattle.sc_terms.specs.TreeSorts.{tree_sort}
 use Rattle.sc_terms.specs.Folds.{equal_term}
 use Rattle.sc_terms.specs.Values.{Val, it, val, value_in, members_in, members_seen, has_member, is_maybe}
-use Rattle.sc_rules.proofs.MemberLaws.{has_contained, contains_had}
 use Rattle.sc_rules.specs.Signed.{Holds, is_true}
 use Rattle.sc_rules.specs.Terms.{is_set, member, subset, common, missing, shared, members}
 use Rattle.sc_rules.specs.Sets.{se1, se2, se3_of, se3, se4, se5, se6, se7, se8}
@@ -67,7 +67,7 @@ module _ (w : World) where
       (member_so w x (many (manys.Set k) ts) (subst (Has (members_in (val (many (manys.Set k) ts) w))) (ap value_in (sym (is_equal w x t e))) (has_term k ts w t (there t refl)))))
 
   pub se3_holds : (x s : Tree) (i : ℕ) → Holds w (se3 x s i)
-  se3_holds x (many (manys.Set k) ts) i = se3_at x k ts (slice_get (members ts) i) (λ t e. has_contained (members ts) t (contains_place (members ts) i t e))
+  se3_holds x (many (manys.Set k) ts) i = se3_at x k ts (slice_get (members ts) i) (λ t e. Has-from_Contains (members ts) t (contains_place (members ts) i t e))
   se3_holds x (many manys.Record ts) i = tt
   se3_holds x (leaf l) i = tt
   se3_holds x (one o a) i = tt
@@ -114,8 +114,8 @@ module _ (w : World) where
 
   one_way : (s t : Tree) (us vs : List Value) → val s w ≡ it (value.Set us) → val t w ≡ it (value.Set vs) → is_true (subset s t) w ≡ true → (v : Value) → Contains us v → Contains vs v
   one_way s t us vs e f h v c =
-      contains_had vs v (subst (λ (ms : List Value). Has ms v) (members_of t vs f)
-      (is_subset w s t h v (subst (λ (ms : List Value). Has ms v) (sym (members_of s us e)) (has_contained us v c))))
+      Contains-from_Has vs v (subst (λ (ms : List Value). Has ms v) (members_of t vs f)
+      (is_subset w s t h v (subst (λ (ms : List Value). Has ms v) (sym (members_of s us e)) (Has-from_Contains us v c))))
 
   subsets_equal : (s t : Tree) → IsASet (val s w) → IsASet (val t w) → is_true (subset s t) w ≡ true → is_true (subset t s) w ≡ true → val s w ≡ val t w
   subsets_equal s t h k e f =

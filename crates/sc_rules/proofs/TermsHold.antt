@@ -6,6 +6,7 @@ use Rattle.std.specs.Str.{bytes_eq}
 use Rattle.std.proofs.lemmas.List.Elements.{All-contains}
 use Rattle.std.proofs.lemmas.Map.Views.{Contains-from_lookup}
 use Rattle.std.proofs.lemmas.Slice.Eq.{bytes_eq-Decides}
+use Rattle.sc_lists.proofs.MemberLaws.{Has-from_Contains, Contains-from_Has}
 use Rattle.sc_lists.specs.Members.{Has}
 use Rattle.sc_lists.proofs.BoolLaws.{and_first, and_second, never}
 use Rattle.sc_lists.proofs.ListLaws.{all_element, contains_map}
@@ -66,7 +67,7 @@ use Rattle.sc_rules.specs.Equal.{eq3, eq4, eq7}
 use Rattle.sc_rules.specs.Sets.{se2, se8}
 use Rattle.sc_rules.specs.Entities.{en4, en5, en6, en7, en8}
 use Rattle.sc_rules.specs.Strings.{Pattern, Signs, AreFew, st2, st3}
-use Rattle.sc_rules.proofs.MemberLaws.{has_contained, contains_had, all_has, filter_kept}
+use Rattle.sc_rules.proofs.MemberLaws.{all_has, filter_kept}
 use Rattle.sc_rules.proofs.FieldLaws.{one_record}
 use Rattle.sc_rules.proofs.SortValues.{IsASet, IsARecord, maybe_is, option_value, set_value, string_value, entity_value, record_value}
 use Rattle.sc_rules.proofs.EqualSound.{FieldsTell, IsAnOption, one_sort_is, eq3_holds, eq4_holds, eq7_holds}
@@ -154,7 +155,7 @@ module _ (d : Declarations) (env : Env) (written : List Uid) (w : World) (lawful
           never _
           (sym
           (all_has (λ (g : List ℕ × Value). list_any (λ (a : List ℕ × Seen). bytes_eq g.0 a.0) (sights_of fs)) x.fields_are (name, z) (known fs t x)
-          (has_contained x.fields_are (name, z) (Contains-from_lookup (λ a b g. bytes_eq_true a b g) name z x.fields_are f)))
+          (Has-from_Contains x.fields_are (name, z) (Contains-from_lookup (λ a b g. bytes_eq_true a b g) name z x.fields_are f)))
           ∙ unknown name fs e)
 
   agree : (fs : SortFields) (r q : Tree) → tree_sort r ≡ sort.Record fs → tree_sort q ≡ sort.Record fs → Is r → Is q → (x : RecordOf fs r) (y : RecordOf fs q)
@@ -162,7 +163,7 @@ module _ (d : Declarations) (env : Env) (written : List Uid) (w : World) (lawful
   agree fs r q a b g h x y each name (Some k) l =
       one_seen (is_option k) k (field name x.fields_are) (field name y.fields_are) (lacks fs name k r l x) (lacks fs name k q l y)
       (sym (component_is fs name k r a g l x)
-      ∙ each (name, k) (has_contained fs (name, k) (Contains-from_lookup (λ m n e. bytes_eq_true m n e) name k fs l))
+      ∙ each (name, k) (Has-from_Contains fs (name, k) (Contains-from_lookup (λ m n e. bytes_eq_true m n e) name k fs l))
       ∙ component_is fs name k q b h l y)
   agree fs r q a b g h x y each name None l = no_other fs name r x l ∙ sym (no_other fs name q y l)
 
@@ -277,7 +278,7 @@ module _ (d : Declarations) (env : Env) (written : List Uid) (w : World) (lawful
   among name u e (inl there) t =
       let is = stored_action u there (ap (is_action_type d) e ∙ acts name t) in
       let declared : Contains (action_uids d) u = subst (Contains (action_uids d)) (sym is.2) (contains_map (λ (a : Action). a.uid) d.actions is.0 is.1) in
-      filter_kept (λ (v : Uid). bytes_eq name v.type_name) (action_uids d) u (has_contained (action_uids d) u declared) ((bytes_eq-Decides name u.type_name).1 (sym e))
+      filter_kept (λ (v : Uid). bytes_eq name v.type_name) (action_uids d) u (Has-from_Contains (action_uids d) u declared) ((bytes_eq-Decides name u.type_name).1 (sym e))
   among name u e (inr is) t =
       first_chosen u.type_name (choices_of d name) u (is ∙ ap (λ (n : List ℕ). default_uid u.type_name (choices_of d n)) e) t
 
@@ -302,7 +303,7 @@ module _ (d : Declarations) (env : Env) (written : List Uid) (w : World) (lawful
   are_strings : (ts : List Tree) → All Is ts → list_all term.is_string ts ≡ true → AreStrings w ts
   are_strings ts all e t there =
       string_value d w.store (val t w)
-      (fit_at sort.String t (string_sort (tree_sort t) (all_has term.is_string ts t e there)) (All-contains Is ts t all (contains_had ts t there)))
+      (fit_at sort.String t (string_sort (tree_sort t) (all_has term.is_string ts t e there)) (All-contains Is ts t all (Contains-from_Has ts t there)))
 
   pub st2_true : (qs : List Pattern) (v : Signs) (ts : List Tree) → All Is ts → AreFew qs v (length ts) → Holds w (st2 qs v ts)
   st2_true qs v ts all few = st2_holds w qs v ts (are_strings ts all) few

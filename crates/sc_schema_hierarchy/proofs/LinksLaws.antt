@@ -1,23 +1,14 @@
 -- What stands above what, by any list of the same links.
-use Rattle.std.proofs.Common.{◌≡◌, List, [], ◌∷◌, map, refl, sym, ap, subst, inl, inr, Contains, IsPermutation}
+use Rattle.std.proofs.Common.{◌≡◌, List, [], ◌∷◌, map, refl, sym, ap, subst, Contains, IsPermutation}
 use Rattle.std.specs.List.{AllByRecursion}
 use Rattle.std.specs.Map.{keys_of}
 use Rattle.std.specs.declared.cmp.Ordering.{Ordering}
 use Rattle.std.proofs.lemmas.List.Sorted.{Contains-permutation, IsPermutation-map, IsPermutation-sym}
-use Rattle.sc_lists.proofs.ListLaws.{all_element, all_of_elements, contains_nothing, contains_split, contains_rest, contains_first}
+use Rattle.sc_lists.proofs.ListLaws.{all_element, all_of_elements, contains_from_map}
 use Rattle.sc_graphs.specs.Reaching.{step, on}
 use Rattle.sc_schema_hierarchy.specs.Above.{Links, IsParent, IsAbove, AreAbove, NamesKeys}
 
 -- ---- elements of lists
-
-pub contains_from_map : {X Y : Type 0} (f : X → Y) (xs : List X) (y : Y) → Contains (map f xs) y → (x : X) × Contains xs x × (f x ≡ y)
-contains_from_map f [] y has = absurd (contains_nothing y has)
-contains_from_map {X} {Y} f (x ∷ xs) y has = elim (contains_split (f x) (map f xs) y has) [
-  | inl same ↦ (x, contains_first x xs, same)
-  | inr more ↦ later (contains_from_map f xs y more)
-] where
-  later : (z : X) × Contains xs z × (f z ≡ y) → (z : X) × Contains (x ∷ xs) z × (f z ≡ y)
-  later found = (found.0, contains_rest x xs found.0 found.1, found.2)
 
 -- ---- the same links, the same above
 

@@ -11,7 +11,7 @@ use Rattle.std.proofs.lemmas.Cmp.{nat_list_cmp_total}
 use Rattle.std.proofs.lemmas.Option.{slice_get-map, slice_get-get_or}
 use Rattle.std.proofs.lemmas.Slice.Eq.{bytes_eq-Decides}
 use Rattle.std.proofs.lemmas.Bool.{or_parts}
-use Rattle.sc_lists.proofs.ListLaws.{contains_nothing, contains_split, contains_rest, contains_first, all_of_elements, all_element, contains_map}
+use Rattle.sc_lists.proofs.ListLaws.{contains_nothing, contains_split, contains_rest, contains_first, all_of_elements, all_element, contains_map, contains_from_map}
 use Rattle.sc_names.specs.declared.uid.Uid.{Uid}
 use Rattle.sc_names.specs.Uids.{text_cmp, uid_cmp}
 use Rattle.sc_names.proofs.UidLaws.{uid_cmp_total}
@@ -28,7 +28,7 @@ use Rattle.sc_schema_resolved.specs.declared.expanded.ExpandedEntityType.{Expand
 use Rattle.sc_schema_resolved.specs.declared.expanded.ExpandedSchema.{ExpandedSchema}
 use Rattle.sc_schema_hierarchy.specs.Above.{IsAbove, AreAbove, NamesKeys, NoCycle}
 use Rattle.sc_schema_hierarchy.specs.Schemas.{type_links, action_links, AreInOrder, IsEntityTypeOf, IsActionOf, IsSchemaOf}
-use Rattle.sc_schema_hierarchy.proofs.LinksLaws.{contains_from_map, above_above, above_key, keys_of_links, links_named}
+use Rattle.sc_schema_hierarchy.proofs.LinksLaws.{above_above, above_key, keys_of_links, links_named}
 use Rattle.sc_schema_hierarchy.proofs.TypeLaws.{record_type_of, tags_of}
 
 -- ---- look-ups

@@ -8,8 +8,7 @@ use Rattle.std.specs.Ordering.{ordering_reverse}
 use Rattle.std.specs.declared.cmp.Ordering.{Ordering}
 use Rattle.std.specs.declared.cmp.Ordering.TheVariants.{Less, Equal, Greater}
 use Rattle.std.proofs.lemmas.Bool.{or_right}
-use Rattle.std.proofs.lemmas.List.Elements.{Contains-append_left, Contains-append_right, Contains-append_cases}
-use Rattle.sc_lists.proofs.ListLaws.{contains_nothing, contains_split, contains_rest, contains_first}
+use Rattle.sc_lists.proofs.ListLaws.{contains_nothing, contains_split, contains_rest, contains_first, contains_joined}
 use Rattle.sc_schema_json.proofs.LeadingLaws.{Leads, next, onwards, goes, leads_decided}
 use Rattle.sc_schema_json.proofs.AscendingLaws.{Ascends, ascending_of, below_rest}
 
@@ -35,20 +34,6 @@ module _ {X : Type 0} (p : X → Bool) where
     at : (b : Bool) → p y ≡ b → Contains (cond b (y ∷ filter p ys) (filter p ys)) x → (Contains (filter p ys) x → Contains ys x × (p x ≡ true)) → Contains (y ∷ ys) x × (p x ≡ true)
     at true e there rest = first e (contains_split y (filter p ys) x there) rest
     at false e there rest = (contains_rest y ys x (rest there).0, (rest there).1)
-
-pub contains_joined : {X Y : Type 0} (f : X → List Y) (xs : List X) (x : X) (y : Y) → Contains xs x → Contains (f x) y → Contains (flat_map f xs) y
-contains_joined f [] x y has inside = absurd (contains_nothing x has)
-contains_joined {X} {Y} f (z ∷ zs) x y has inside = elim (contains_split z zs x has) [
-  | inl same ↦ Contains-append_left (f z) (flat_map f zs) y (subst (λ (w : X). Contains (f w) y) (sym same) inside)
-  | inr later ↦ Contains-append_right (f z) (flat_map f zs) y (contains_joined f zs x y later inside)
-]
-
-pub joined_from : {X Y : Type 0} (f : X → List Y) (xs : List X) (y : Y) → Contains (flat_map f xs) y → (x : X) × Contains xs x × Contains (f x) y
-joined_from f [] y has = absurd (contains_nothing y has)
-joined_from {X} {Y} f (z ∷ zs) y has = at (Contains-append_cases (f z) (flat_map f zs) y has) (joined_from f zs y) where
-  at : Contains (f z) y ⊎ Contains (flat_map f zs) y → (Contains (flat_map f zs) y → (x : X) × Contains zs x × Contains (f x) y) → (x : X) × Contains (z ∷ zs) x × Contains (f x) y
-  at (inl here) rest = (z, contains_first z zs, here)
-  at (inr later) rest = let found = rest later in (found.0, contains_rest z zs found.0 found.1, found.2)
 
 -- a test of elements tests whether one is on a list
 pub any_decided : {X : Type 0} (eq : X → X → Bool) (decides : (a b : X) → Decides (eq a b) (a ≡ b)) (xs : List X) (x : X) → Decides (list_any (eq x) xs) (Contains xs x)

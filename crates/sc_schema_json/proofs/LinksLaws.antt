@@ -6,12 +6,12 @@ use Rattle.std.specs.List.{flat_map, list_any}
 use Rattle.std.specs.List.Sorted.{IsStrictlySortedBy}
 use Rattle.std.specs.declared.cmp.Ordering.{Ordering}
 use Rattle.std.specs.declared.cmp.Ordering.TheVariants.{Equal}
-use Rattle.sc_lists.proofs.ListLaws.{contains_nothing, contains_map, map_itself}
+use Rattle.sc_lists.proofs.ListLaws.{contains_nothing, contains_map, map_itself, contains_joined, joined_from}
 use Rattle.sc_graphs.specs.Reaching.{step, on}
 use Rattle.sc_schema_hierarchy.specs.Above.{Links, IsParent, IsAbove, AreAbove, NoCycle, IsLeastCycle}
 use Rattle.sc_schema_json.proofs.AscendingLaws.{Ascends}
 use Rattle.sc_schema_json.proofs.LeadingLaws.{Leads, next, onwards}
-use Rattle.sc_schema_json.proofs.GraphLaws.{contains_joined, joined_from, any_decided, led_to, IsLeastRound, round_or_none}
+use Rattle.sc_schema_json.proofs.GraphLaws.{any_decided, led_to, IsLeastRound, round_or_none}
 
 module _ {K : Type 0} {R : K → K → Ordering} (o : IsTotalOrder R) (level : (x y : K) → R x y ≡ Equal → x ≡ y)
     (eq : K → K → Bool) (decides : (a b : K) → Decides (eq a b) (a ≡ b)) (links : Links K) where

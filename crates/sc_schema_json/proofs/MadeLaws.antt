@@ -12,7 +12,7 @@ use Rattle.std.proofs.lemmas.Cmp.{nat_list_cmp_total}
 use Rattle.std.proofs.lemmas.Map.Keys.{IsDistinct-head, IsDistinct-tail}
 use Rattle.std.proofs.lemmas.Map.Text.{is_eq-slice_cmp}
 use Rattle.std.proofs.lemmas.Slice.Eq.{bytes_eq-Decides}
-use Rattle.sc_lists.proofs.ListLaws.{all_element, contains_nothing, contains_split, contains_rest, contains_first, contains_map, map_itself}
+use Rattle.sc_lists.proofs.ListLaws.{all_element, contains_nothing, contains_split, contains_map, map_itself, contains_from_map}
 use Rattle.sc_lists.proofs.TextLaws.{bytes_eq_true}
 use Rattle.sc_names.specs.Uids.{text_cmp, uid_cmp}
 use Rattle.sc_names.proofs.UidLaws.{uid_cmp_total, uid_cmp_level}
@@ -35,13 +35,6 @@ text_level a b is = bytes_eq_true a b (sym (is_eq-slice_cmp a b) ∙ ap is_eq is
 
 -- ---- what declarations of different keys make, in ascending order
 
-from_map : {X Y : Type 0} (f : X → Y) (xs : List X) (y : Y) → Contains (map f xs) y → (x : X) × Contains xs x × (f x ≡ y)
-from_map f [] y has = absurd (contains_nothing y has)
-from_map {X} {Y} f (x ∷ xs) y has = at (contains_split (f x) (map f xs) y has) (from_map f xs y) where
-  at : (f x ≡ y) ⊎ Contains (map f xs) y → (Contains (map f xs) y → (z : X) × Contains xs z × (f z ≡ y)) → (z : X) × Contains (x ∷ xs) z × (f z ≡ y)
-  at (inl same) rest = (x, contains_first x xs, same)
-  at (inr later) rest = let found = rest later in (found.0, contains_rest x xs found.0 found.1, found.2)
-
 module _ {D T K : Type 0} {R : K → K → Ordering} (o : IsTotalOrder R) (level : (x y : K) → R x y ≡ Equal → x ≡ y)
     (eq : K → K → Bool) (decides : (a b : K) → Decides (eq a b) (a ≡ b)) (key : D → K) (key_of : T → K) (make : D → T)
     (keeps : (d : D) → key_of (make d) ≡ key d) where
@@ -62,7 +55,7 @@ module _ {D T K : Type 0} {R : K → K → Ordering} (o : IsTotalOrder R) (level
     at (inr p) (inr q) rest = rest p q
 
   made_tie : (ds : List D) → IsDistinct eq (map key ds) → (x y : T) → Contains (map make ds) x → Contains (map make ds) y → R (key_of x) (key_of y) ≡ Equal → x ≡ y
-  made_tie ds distinct x y has had tied = from (from_map make ds x has) (from_map make ds y had) where
+  made_tie ds distinct x y has had tied = from (contains_from_map make ds x has) (contains_from_map make ds y had) where
     from : (d : D) × Contains ds d × (make d ≡ x) → (e : D) × Contains ds e × (make e ≡ y) → x ≡ y
     from p q =
         let first : key p.0 ≡ key_of x = sym (keeps p.0) ∙ ap key_of p.2 in
@@ -100,7 +93,7 @@ made_types ds distinct =
         all.list,
         record {
           ascending = all.ascending;
-          each = λ t has. from t (from_map (made_type ds) ds t ((all.members t).0 has));
+          each = λ t has. from t (contains_from_map (made_type ds) ds t ((all.members t).0 has));
           all = λ d has. (made_type ds d, (all.members (made_type ds d)).1 (contains_map (made_type ds) ds d has), is_made_type ds d);
         },
       )
@@ -144,7 +137,7 @@ made_actions ds distinct =
         all.list,
         record {
           ascending = all.ascending;
-          each = λ a has. from a (from_map (made_action ds) ds a ((all.members a).0 has));
+          each = λ a has. from a (contains_from_map (made_action ds) ds a ((all.members a).0 has));
           all = λ d has. (made_action ds d, (all.members (made_action ds d)).1 (contains_map (made_action ds) ds d has), is_made_action ds d);
         },
       )

@@ -12,10 +12,10 @@ use Rattle.sc_sorts.specs.declared.sort.Sort.TheVariants.{rolls-Bool, rolls-Long
 use Rattle.sc_sorts.specs.declared.sort.Sort.TheOpen as s
 use Rattle.sc_sorts.specs.Defaults.{is_option_level, is_option, default_uid, default_field, Seen, default_step, seen_step, default_of}
 
-seen : Sort → Seen
+pub seen : Sort → Seen
 seen = fold-Sort Seen seen_step
 
-level_map : (x : Sort-F Sort) → is_option_level Seen (map-Sort Sort Seen seen x) ≡ is_option_level Sort x
+pub level_map : (x : Sort-F Sort) → is_option_level Seen (map-Sort Sort Seen seen x) ≡ is_option_level Sort x
 level_map s.Bool = refl
 level_map s.Long = refl
 level_map s.String = refl

@@ -2,6 +2,7 @@
 use Rattle.std.proofs.Common.{◌≡◌, ℕ, zero, suc, ◌+◌, ◌<◌, Bool, true, false, not, cond, List, [], ◌∷◌, ◌++◌, length, take, get_or, map, filter, All, refl, sym, ap, subst, ◌∙◌, arith}
 use Rattle.std.proofs.lemmas.List.{take_more, map-append, append-nil}
 use Rattle.std.proofs.lemmas.List.Elements.{All-push, All-filter, All-map, filter_more}
+use Rattle.sc_terms.proofs.TableLaws.{keeps_then, stands_later}
 use Rattle.sc_ast.specs.declared.policy.Effect.{Effect}
 use Rattle.sc_auth.specs.Decisions.{permits}
 use Rattle.sc_nodes.specs.declared.node.Node.{Node}
@@ -16,12 +17,6 @@ use Rattle.sc_symauth.specs.Standings.{Compiled, satisfied, any_satisfied, allow
 use Rattle.sc_symauth.specs.Numbers.{IsCode, code_at, compiled_at, AreCodes, StandForAll}
 
 -- ---- in a later table
-
-pub kept_twice : (a b c : List Node) → Keeps a b → Keeps b c → Keeps a c
-kept_twice a b c h k = record { longer = omega (arith, h.longer, k.longer); same = λ n d. k.same n (omega (arith, h.longer)) ∙ h.same n d }
-
-pub stands_later : (s t : List Node) (n : ℕ) (x : Tree) → Keeps s t → StandsFor s n x → StandsFor t n x
-stands_later s t n x k h = record { within = omega (arith, k.longer, h.within); is = k.same n h.within ∙ h.is }
 
 pub code_later : (s t : List Node) (o : Opt) → Keeps s t → IsCode s o → IsCode t o
 code_later s t o k h = record { ok = omega (arith, k.longer, h.ok); val = omega (arith, k.longer, h.val) }
@@ -148,7 +143,7 @@ allow_is s t u v w ps a b c n are k1 k2 k3 first second negated whole = record {
   within = whole.within;
   is =
       whole.is
-      ∙ ap (λ (x : Tree). and_term x (tree v c)) (stands_later t v a (any_satisfied (λ (p : Compiled). permits p.effect) (map (compiled_at s) ps)) (kept_twice t u v k2 k3) first).is
+      ∙ ap (λ (x : Tree). and_term x (tree v c)) (stands_later t v a (any_satisfied (λ (p : Compiled). permits p.effect) (map (compiled_at s) ps)) (keeps_then t u v k2 k3) first).is
       ∙ ap (and_term (any_satisfied (λ (p : Compiled). permits p.effect) (map (compiled_at s) ps)))
       (negated.is ∙ ap not_term (second.is ∙ ap (any_satisfied (λ (p : Compiled). not (permits p.effect))) (compiled_same s t ps k1 are)));
 }

@@ -22,6 +22,7 @@ use Rattle.sc_term_laws.specs.Tests.{is_bool, is_long, is_string, is_ip, is_numb
 use Rattle.sc_term_laws.proofs.JudgingLaws.{sort_is}
 use Rattle.sc_term_laws.proofs.TestLaws as test
 use Rattle.std.specs.Cmp.Derive.{both_true}
+use Rattle.sc_lists.proofs.NumberLaws.{at_most}
 use Rattle.sc_term_laws.proofs.UnaryJudged.{at_its_sort, of_sort}
 
 module _ (d : Declarations) (env : Env) (written : List Uid) where
@@ -111,7 +112,7 @@ module _ (d : Declarations) (env : Env) (written : List Uid) where
     binary_made binary.InRange t = in_range t
     binary_made (binary.Low i) t =
         let s = and_first _ _ t in
-        judged.of_low (tree_sort a) i a b (numbers s) (test.at_most i 64 (and_second (both_numbers (tree_sort a) (tree_sort b)) _ t)) g (like_first s)
+        judged.of_low (tree_sort a) i a b (numbers s) (at_most i 64 (and_second (both_numbers (tree_sort a) (tree_sort b)) _ t)) g (like_first s)
     binary_made (binary.Tag own) t = tag own t
     binary_made binary.Member t = judged.of_member (tree_sort a) a b g (at _ _ b (test.set_sort (tree_sort b) (tree_sort a) t) h)
     binary_made binary.Subset t = sets binary.Subset judged.subset_test t

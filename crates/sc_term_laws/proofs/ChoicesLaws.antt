@@ -3,7 +3,7 @@ use Rattle.std.proofs.Common.{cond, ◌≡◌, ◌↔◌, ◌⊎◌, inl, inr, �
 use Rattle.std.specs.List.{list_any}
 use Rattle.std.specs.Str.{bytes_eq}
 use Rattle.std.proofs.lemmas.Bool.{false≢true}
-use Rattle.sc_lists.proofs.ListLaws.{contains_first, contains_rest, contains_split, contains_nothing, contains_map}
+use Rattle.sc_lists.proofs.ListLaws.{contains_first, contains_rest, contains_split, contains_nothing, contains_map, contains_from_map, any_contained}
 use Rattle.sc_lists.proofs.OptionLaws.{some_of}
 use Rattle.sc_lists.proofs.TextLaws.{bytes_eq_true}
 use Rattle.sc_names.specs.declared.uid.Uid.{Uid}
@@ -18,7 +18,6 @@ use Rattle.sc_schema.specs.Lawful.{IsEntityType}
 use Rattle.sc_sorts.specs.Entities.{of_type_name, choices_of}
 use Rattle.sc_term_laws.specs.Judged.{IsWritten, IsNameless, IsEntityLiteral}
 use Rattle.sc_term_laws.specs.LawfulSorts.{IsDeclared}
-use Rattle.sc_term_laws.proofs.MemberLaws.{any_told, in_map}
 use Rattle.sc_term_laws.proofs.ToldLaws.{found_some, some_map}
 
 -- one that is chosen is among all, and of the type
@@ -127,8 +126,8 @@ entity_type_told d name a b is e there =
 -- a declared action
 action_there : (d : Declarations) (u : Uid) → Contains (action_uids d) u → IsSome (action d u)
 action_there d u h =
-    let a = in_map (λ (b : Action). b.uid) d.actions u h in
-    found_some (λ (b : Action). uid_eq u b.uid) d.actions (any_told (λ (b : Action). uid_eq u b.uid) d.actions a.0 a.1 ((uid_eq-Decides u a.0.uid).1 (sym a.2)))
+    let a = contains_from_map (λ (b : Action). b.uid) d.actions u h in
+    found_some (λ (b : Action). uid_eq u b.uid) d.actions (any_contained (λ (b : Action). uid_eq u b.uid) d.actions a.0 a.1 ((uid_eq-Decides u a.0.uid).1 (sym a.2)))
 
 there_action : (d : Declarations) (u : Uid) → IsSome (action d u) → Contains (action_uids d) u
 there_action d u h =

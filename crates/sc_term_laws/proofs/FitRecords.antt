@@ -3,12 +3,13 @@ use Rattle.std.proofs.Common.{cond, ◌≡◌, ◌&&◌, ◌||◌, ◌++◌, ℕ
 use Rattle.std.specs.List.{AllByRecursion, flat_map, list_all, list_any}
 use Rattle.std.specs.List.Sorted.{IsStrictlySortedBy}
 use Rattle.std.specs.Map.{keys_of}
-use Rattle.std.specs.Cmp.{IsTotalOrder}
 use Rattle.std.specs.Str.{bytes_eq, IsUtf8}
 use Rattle.std.specs.Cmp.Derive.{both_true}
 use Rattle.std.specs.declared.cmp.Ordering.TheVariants.{Less, Equal}
-use Rattle.std.proofs.lemmas.Cmp.{nat_list_cmp_total, tied_itself}
+use Rattle.std.proofs.lemmas.Cmp.{tied_itself}
 use Rattle.std.proofs.lemmas.Slice.Eq.{bytes_eq-Decides}
+use Rattle.sc_terms.proofs.RecordValues.{passes as at_field}
+use Rattle.sc_names.proofs.UidLaws.{text_total}
 use Rattle.sc_lists.proofs.BoolLaws.{and_first, and_second}
 use Rattle.sc_lists.proofs.TextLaws.{bytes_eq_true, bytes_eq_swap}
 use Rattle.sc_names.specs.Uids.{text_cmp}
@@ -54,16 +55,13 @@ holds_fit k x e h =
 
 -- ---- names that ascend
 
-total : IsTotalOrder text_cmp
-total = nat_list_cmp_total
-
 less_apart : (m n : List ℕ) → text_cmp m n ≡ Less → bytes_eq n m ≡ false
 less_apart m n h = by (bytes_eq n m) refl
   where
     by : (b : Bool) → bytes_eq n m ≡ b → b ≡ false
     by true e =
         let same : n ≡ m = bytes_eq_true n m e in
-        let level : text_cmp m n ≡ Equal = ap (text_cmp m) same ∙ tied_itself total m in
+        let level : text_cmp m n ≡ Equal = ap (text_cmp m) same ∙ tied_itself text_total m in
         let both : Less ≡ Equal = sym h ∙ level in cc
     by false e = refl
 
@@ -77,12 +75,7 @@ swapped n (m ∷ names) h = (bytes_eq_swap n m ∙ h.0, swapped n names h.1)
 
 -- ---- look-ups in what fields give
 
-at_field : (m n : List ℕ) (v : Val) (later : Fields) → bytes_eq m n ≡ false → field m (field_of (n, v) ++ later) ≡ field m later
-at_field m n (it x) later e = ap (λ (b : Bool). cond b (Some x) (field m later)) e
-at_field m n (maybe (Some x)) later e = ap (λ (b : Bool). cond b (Some x) (field m later)) e
-at_field m n (maybe None) later e = refl
-
-absent_at : (n : List ℕ) (r : Fields) → AllByRecursion (λ (m : List ℕ). bytes_eq n m ≡ false) (keys_of r) → field n r ≡ None
+pub absent_at : (n : List ℕ) (r : Fields) → AllByRecursion (λ (m : List ℕ). bytes_eq n m ≡ false) (keys_of r) → field n r ≡ None
 absent_at n [] h = refl
 absent_at n (f ∷ r) h = ap (λ (b : Bool). cond b (Some f.1) (field n r)) h.0 ∙ absent_at n r h.1
 

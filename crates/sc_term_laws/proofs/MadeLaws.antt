@@ -30,6 +30,7 @@ use Rattle.sc_term_laws.specs.Judging.{IsTermOf, HaveFields, HasPlace}
 use Rattle.sc_term_laws.specs.Judging as judged
 use Rattle.sc_term_laws.proofs.JudgingLaws.{sort_is}
 use Rattle.std.specs.Cmp.Derive.{both_true}
+use Rattle.sc_terms.proofs.FoldValues.{under}
 
 -- ---- what isn't known stays
 
@@ -80,25 +81,6 @@ constant_sort (two o c d) b h = cc
 constant_sort (choice c d e) b h = cc
 constant_sort (many o ts) b h = cc
 
--- what a negation negates
-negated : (a b : Tree) → under_not a ≡ Some b → a ≡ one unary.Not b
-negated (one unary.Not t) b e = let same : t ≡ b = cc in ap (one unary.Not) same
-negated (one (unary.Bit i) t) b e = cc
-negated (one (unary.CarryIn i) t) b e = cc
-negated (one (unary.ProductRow i j) t) b e = cc
-negated (one (unary.ProductCarry i j) t) b e = cc
-negated (one (unary.Attributes s) t) b e = cc
-negated (one (unary.Ancestors s) t) b e = cc
-negated (one unary.Keys t) b e = cc
-negated (one (unary.Field n) t) b e = cc
-negated (one unary.Present t) b e = cc
-negated (one unary.Held t) b e = cc
-negated (one (unary.Like p) t) b e = cc
-negated (leaf l) b e = cc
-negated (two o c d) b e = cc
-negated (choice c d f) b e = cc
-negated (many o ts) b e = cc
-
 module _ (d : Declarations) (env : Env) (written : List Uid) where
   abbrev Is : Sort → Tree → Type 0
   Is k t = IsTermOf d env written k t
@@ -113,7 +95,7 @@ module _ (d : Declarations) (env : Env) (written : List Uid) where
     where
       by : (c : Option Bool) (u : Option Tree) → constant a ≡ c → under_not a ≡ u → Is sort.Bool (not_by c u a)
       by (Some b) u e f = judged.of_truth (not b)
-      by None (Some x) e f = under_negation sort.Bool a x h (negated a x f)
+      by None (Some x) e f = under_negation sort.Bool a x h (under a x f)
       by None None e f = judged.of_not a h (both_true (lacking (constant a) e) (lacking (under_not a) f))
 
   module _ (a b : Tree) (g : Is sort.Bool a) (h : Is sort.Bool b) where

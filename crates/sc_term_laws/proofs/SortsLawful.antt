@@ -4,7 +4,7 @@ use Rattle.std.specs.List.{AllByRecursion}
 use Rattle.std.specs.Map.{keys_of}
 use Rattle.std.specs.Str.{bytes_eq, IsUtf8}
 use Rattle.std.proofs.lemmas.Slice.Eq.{bytes_eq-Decides}
-use Rattle.sc_lists.proofs.ListLaws.{all_element, contains_nothing}
+use Rattle.sc_lists.proofs.ListLaws.{all_element, contains_nothing, contains_from_map, joined_from, any_contained}
 use Rattle.sc_lists.proofs.OptionLaws.{same_some, some_of}
 use Rattle.sc_lists.proofs.TextLaws.{bytes_eq_true}
 use Rattle.sc_names.specs.declared.uid.Uid.{Uid}
@@ -31,7 +31,7 @@ use Rattle.sc_term_laws.specs.LawfulSorts.{AreNames, IsDeclared, IsSortLevel, Is
 use Rattle.sc_term_laws.proofs.ChoicesLaws.{no_choices}
 use Rattle.sc_term_laws.proofs.DefaultTypeLaws.{no_option, no_action}
 use Rattle.sc_term_laws.proofs.FitLaws.{sort_roll}
-use Rattle.sc_term_laws.proofs.MemberLaws.{any_found, any_told, in_flat, in_map}
+use Rattle.sc_term_laws.proofs.MemberLaws.{any_found}
 
 module _ (d : Declarations) (lawful : IsLawful d) where
   -- ---- types and actions that are declared
@@ -43,10 +43,10 @@ module _ (d : Declarations) (lawful : IsLawful d) where
   lawful_action a h = all_element (IsLawfulAction d) d.actions a lawful.each_action h
 
   pub action_type : (a : Action) → Contains d.actions a → is_action_type d a.uid.type_name ≡ true
-  action_type a h = any_told (λ (b : Action). bytes_eq a.uid.type_name b.uid.type_name) d.actions a h ((bytes_eq-Decides a.uid.type_name a.uid.type_name).1 refl)
+  action_type a h = any_contained (λ (b : Action). bytes_eq a.uid.type_name b.uid.type_name) d.actions a h ((bytes_eq-Decides a.uid.type_name a.uid.type_name).1 refl)
 
   pub action_of : (u : Uid) → Contains (action_uids d) u → (a : Action) × Contains d.actions a × (a.uid ≡ u)
-  action_of u h = in_map (λ (a : Action). a.uid) d.actions u h
+  action_of u h = contains_from_map (λ (a : Action). a.uid) d.actions u h
 
   pub declared_text : (name : List ℕ) → IsDeclared d name → IsUtf8 name
   declared_text name (inl h) = let x = some_of (entity_type d name) h in let it = lawful_type name x.0 x.1 in subst IsUtf8 (sym it.1) it.0.text
@@ -67,7 +67,7 @@ module _ (d : Declarations) (lawful : IsLawful d) where
 
   types_of : (name : List ℕ) (a : Action) (b : Bool) (above : List ℕ) → Contains d.actions a → Contains (cond b (map (λ (u : Uid). u.type_name) a.ancestors) []) above → IsDeclared d above
   types_of name a true above there h =
-      let u = in_map (λ (v : Uid). v.type_name) a.ancestors above h in
+      let u = contains_from_map (λ (v : Uid). v.type_name) a.ancestors above h in
       let declared : IsSome (action d u.0) = all_element (λ (v : Uid). IsSome (action d v)) a.ancestors u.0 (lawful_action a there).declared u.1 in
       let b = some_of (action d u.0) declared in
       let it = action_declared d u.0 b.0 b.1 in
@@ -76,7 +76,7 @@ module _ (d : Declarations) (lawful : IsLawful d) where
 
   above_action : (name above : List ℕ) → Contains (in_order (types_above d.actions name)) above → IsDeclared d above
   above_action name above h =
-      let there = in_flat (λ (a : Action). cond (bytes_eq name a.uid.type_name) (map (λ (u : Uid). u.type_name) a.ancestors) []) d.actions above ((in_order_members (types_above d.actions name) above).0 h) in
+      let there = joined_from (λ (a : Action). cond (bytes_eq name a.uid.type_name) (map (λ (u : Uid). u.type_name) a.ancestors) []) d.actions above ((in_order_members (types_above d.actions name) above).0 h) in
       types_of name there.0 (bytes_eq name there.0.uid.type_name) above there.1 there.2
 
   above_by : (b : Bool) (name above : List ℕ) (names : List (List ℕ))

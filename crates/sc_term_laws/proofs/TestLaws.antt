@@ -1,5 +1,5 @@
 -- What the tests of sorts say.
-use Rattle.std.proofs.Common.{cond, ◌≡◌, ◌||◌, ◌<◌, ◌≤◌, ℕ, List, [], ◌∷◌, Bool, true, false, nat_lt, nat_le, Option, Some, None, is_some, Contains, ◌⊎◌, inl, inr, refl, sym, ap, ◌∙◌, subst, arith}
+use Rattle.std.proofs.Common.{cond, ◌≡◌, ◌||◌, ◌<◌, ◌≤◌, ℕ, List, [], ◌∷◌, Bool, true, false, nat_lt, nat_le, Option, Some, None, Contains, ◌⊎◌, inl, inr, refl, sym, ap, ◌∙◌, subst, arith}
 use Rattle.std.specs.List.{list_any}
 use Rattle.std.specs.Map.{lookup}
 use Rattle.std.specs.Str.{bytes_eq}
@@ -265,14 +265,7 @@ above_is d name above h = let p = named_above (ancestor_types d name) above h in
 pub above_told : (d : Declarations) (name above : List ℕ) (names : List (List ℕ)) → ancestor_types d name ≡ Some names → Contains names above → is_above d name above ≡ true
 above_told d name above names e h = ap (λ (o : Option (List (List ℕ))). has_name o above) e ∙ among_told names above h
 
-pub some_is : {X : Type 0} (o : Option X) → is_some o ≡ true → (x : X) × (o ≡ Some x)
-some_is None h = absurd cc
-some_is (Some x) h = (x, refl)
-
 -- ---- bounds
-
-pub at_most : (i n : ℕ) → nat_le i n ≡ true → i ≤ n
-at_most i n h = grind (arith, nat_tests)
 
 pub at_most_told : (i n : ℕ) → i ≤ n → nat_le i n ≡ true
 at_most_told i n h = grind (arith, nat_tests)

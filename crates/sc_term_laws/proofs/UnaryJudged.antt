@@ -25,6 +25,8 @@ use Rattle.sc_term_laws.specs.Unfolded.{stays_field}
 use Rattle.sc_term_laws.proofs.JudgingLaws.{sort_is, arithmetic_sort, field_of_record}
 use Rattle.sc_term_laws.proofs.TestLaws as test
 use Rattle.std.specs.Cmp.Derive.{both_true}
+use Rattle.sc_lists.proofs.OptionLaws.{some_is}
+use Rattle.sc_lists.proofs.NumberLaws.{at_most}
 
 module _ (d : Declarations) (env : Env) (written : List Uid) where
   abbrev Is : Sort → Tree → Type 0
@@ -54,21 +56,21 @@ module _ (d : Declarations) (env : Env) (written : List Uid) where
   carry_made i a h t =
       let p = test.sum_is a (and_first _ _ t) in
       subst (λ (z : Tree). Is sort.Bool (one (unary.CarryIn i) z)) (sym p.4)
-      (judged.of_carry p.0 i p.1 p.2 p.3 (test.at_most i 64 (and_second _ _ t)) (sum_term p.0 p.1 p.2 a p.3 p.4 h))
+      (judged.of_carry p.0 i p.1 p.2 p.3 (at_most i 64 (and_second _ _ t)) (sum_term p.0 p.1 p.2 a p.3 p.4 h))
 
   row_made : (i j : ℕ) (a : Tree) → IsTerm a → (is_product a && (nat_le i 128 && nat_lt j 128)) ≡ true → Is sort.Bool (one (unary.ProductRow i j) a)
   row_made i j a h t =
       let p = test.product_is a (and_first _ _ t) in
       let rest = and_second (is_product a) _ t in
       subst (λ (z : Tree). Is sort.Bool (one (unary.ProductRow i j) z)) (sym p.2)
-      (judged.of_row i j p.0 p.1 (test.at_most i 128 (and_first _ _ rest)) (test.below j 128 (and_second _ _ rest)) (product_term p.0 p.1 a p.2 h))
+      (judged.of_row i j p.0 p.1 (at_most i 128 (and_first _ _ rest)) (test.below j 128 (and_second _ _ rest)) (product_term p.0 p.1 a p.2 h))
 
   product_carry_made : (i j : ℕ) (a : Tree) → IsTerm a → (is_product a && (nat_lt i 128 && nat_le j 128)) ≡ true → Is sort.Bool (one (unary.ProductCarry i j) a)
   product_carry_made i j a h t =
       let p = test.product_is a (and_first _ _ t) in
       let rest = and_second (is_product a) _ t in
       subst (λ (z : Tree). Is sort.Bool (one (unary.ProductCarry i j) z)) (sym p.2)
-      (judged.of_product_carry i j p.0 p.1 (test.below i 128 (and_first _ _ rest)) (test.at_most j 128 (and_second _ _ rest)) (product_term p.0 p.1 a p.2 h))
+      (judged.of_product_carry i j p.0 p.1 (test.below i 128 (and_first _ _ rest)) (at_most j 128 (and_second _ _ rest)) (product_term p.0 p.1 a p.2 h))
 
   attributes_made : (own : Sort) (a : Tree) → IsTerm a → attributes_test d own (tree_sort a) ≡ true → Is own (one (unary.Attributes own) a)
   attributes_made own a h t =
@@ -91,7 +93,7 @@ module _ (d : Declarations) (env : Env) (written : List Uid) where
   keys_made a h t =
       let k = tree_sort a in
       let e = test.entity_is d k (and_first _ _ t) in
-      let p = test.some_is (tags_of d (name_of k)) (and_second (is_entity_sort d k) _ t) in
+      let p = some_is (tags_of d (name_of k)) (and_second (is_entity_sort d k) _ t) in
       judged.of_keys (name_of k) p.0 a p.1 (of_sort k _ a e h)
 
   field_made : (name : List ℕ) (a : Tree) → IsTerm a → (has_field name (tree_sort a) && stays_field name a) ≡ true → Is (field_sort name (tree_sort a)) (one (unary.Field name) a)

@@ -32,6 +32,7 @@ ghost use Rattle.sc_terms.specs.TreeSorts.{tree_sort};
 ghost use Rattle.sc_terms.specs.Values.{Val, val, val_eq, value_eq, seen, truth, yes, default_val, not_value, and_value, or_value, equal_value, fields_seen, set_from, HasKinds};
 ghost use Rattle.sc_term_laws.specs.Fitting.{fits, TermsFit, TermsHaveKinds};
 ghost use Rattle.sc_term_laws.specs.Judging.{IsTermOf, HasPlace};
+ghost use Rattle.sc_term_laws.specs.LawfulSorts.{IsSortOf};
 ghost use Rattle.sc_term_laws.specs.Unfolded.{stays_not, stays_two, stays_choice, stays_equal, stays_field, stays_option, stays_literal};
 
 /// The order of terms is total, and two terms are level in it exactly where they are one.
@@ -112,7 +113,7 @@ pub fn fit_laws()
 {}
 
 /// Where the parts are terms, so is what each constructor that folds makes of them, and the list of
-/// truth values joined.
+/// truth values joined. The default of a lawful sort is a term.
 pub fn made_laws()
     ensures negation { (s : Declarations) (env : AnyEnv) (written : List AnyUid) (a : Tree)
         → IsTermOf s env written sorts.Bool a → IsTermOf s env written sorts.Bool (not_term a) }
@@ -142,6 +143,8 @@ pub fn made_laws()
         → All (IsTermOf s env written sorts.Bool) ts → IsTermOf s env written sorts.Bool (all_of ts) }
     ensures any { (s : Declarations) (env : AnyEnv) (written : List AnyUid) (ts : List Tree)
         → All (IsTermOf s env written sorts.Bool) ts → IsTermOf s env written sorts.Bool (any_of ts) }
+    ensures defaults { (s : Declarations) (env : AnyEnv) (written : List AnyUid) (k : AnySort)
+        → IsSortOf s k → IsTermOf s env written k (default_term k) }
 {}
 
 /// In a well-formed world of a lawful schema the value of a term fits its sort.

@@ -1,5 +1,5 @@
 -- The default of a sort, by those of the sorts inside it.
-use Rattle.std.proofs.Common.{◌≡◌, ℕ, List, [], ◌∷◌, map, false, pos, ◌++◌, ◌<◌, length, arith, refl, sym, ap, ◌∙◌, subst}
+use Rattle.std.proofs.Common.{◌≡◌, ℕ, List, [], ◌∷◌, map, false, pos, ◌++◌, ◌<◌, length, refl, sym, ap, ◌∙◌, subst}
 use Rattle.std.proofs.lemmas.List.{map-append}
 use Rattle.sc_lists.proofs.ListLaws.{all_append}
 use Rattle.sc_ip.specs.declared.ip.Ip.TheVariants.{V4}
@@ -134,6 +134,3 @@ put_below xs ys ps new name n x k h t e = subst (AreBelow (length ys)) (sym e) (
 pub record_is : (xs ys : List Node) (n : ℕ) (ps : Places) (fields : List (List ℕ × Sort)) → at_numbers xs ps ≡ map with_default fields → StandsFor ys n (many manys.Record (node_parts xs ps))
     → StandsFor ys n (default_parts fields)
 record_is xs ys n ps fields e t = record { within = t.within; is = t.is ∙ ap (many manys.Record) (parts_listed xs ps ∙ ap parts_of e) }
-
-pub keeps_then : (xs ys zs : List Node) → Keeps xs ys → Keeps ys zs → Keeps xs zs
-keeps_then xs ys zs h k = record { longer = omega (arith, h.longer, k.longer); same = λ n i. k.same n (omega (arith, h.longer, i)) ∙ h.same n i }

@@ -252,3 +252,12 @@ equal_bools false false = rw (seen_yes false) (not_yes false ∙ ap yes (sym (va
 pub equal_others : (x y : Val) → seen x ≡ None → seen y ≡ None → equal_value x y ≡ yes (val_eq x y)
 unfolding equal_value
 equal_others x y e f = ap (λ (o : Option Bool). equal_seen o (seen y) x y) e ∙ ap (λ (o : Option Bool). equal_seen None o x y) f
+
+pub val_eq-exact : (x y : Val) → val_eq x y ≡ true → x ≡ y
+val_eq-exact (it x) (it y) h = ap it (value_eq-exact x y h)
+val_eq-exact (it x) (maybe p) h = absurd cc
+val_eq-exact (maybe o) (it y) h = absurd cc
+val_eq-exact (maybe None) (maybe None) h = refl
+val_eq-exact (maybe None) (maybe (Some y)) h = absurd cc
+val_eq-exact (maybe (Some x)) (maybe None) h = absurd cc
+val_eq-exact (maybe (Some x)) (maybe (Some y)) h = ap (λ (z : Value). maybe (Some z)) (value_eq-exact x y h)

@@ -88,7 +88,7 @@ not_twice x = by (seen x) refl
     by (Some b) e = rw (seen_yes (not b)) (seen_is x b e ∙ ap yes (twice b))
     by None e = rw e refl
 
-under : (a b : Tree) → under_not a ≡ Some b → a ≡ one unary.Not b
+pub under : (a b : Tree) → under_not a ≡ Some b → a ≡ one unary.Not b
 under (one unary.Not t) b e = cc
 under (one (unary.Bit i) t) b e = cc
 under (one (unary.CarryIn i) t) b e = cc
@@ -191,7 +191,7 @@ choice_is c a b w = by (constant c) (tree_eq a b) refl refl
 
 -- ---- whether values are true
 
-truth_unseen : (x : Val) → seen x ≡ None → truth x ≡ false
+pub truth_unseen : (x : Val) → seen x ≡ None → truth x ≡ false
 unfolding truth
 truth_unseen x h = ap (λ (o : Option Bool). unwrap_or o false) h
 

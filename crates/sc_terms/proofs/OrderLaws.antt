@@ -25,7 +25,7 @@ use Rattle.sc_nodes.specs.declared.node.ManyOp.TheVariants as manys
 use Rattle.sc_nodes.specs.contracts.node.ManyOpOrd.TheImpl.{ghosts as many_ord}
 use Rattle.sc_nodes.specs.contracts.node.ManyOpOrd.TheImpl.Laws.{matches_eq-law as many_level, total-law as many_total}
 use Rattle.std.proofs.lemmas.Map.Lookups.{exact_bytes}
-use Rattle.std.proofs.lemmas.Cmp.{nat_list_cmp_total}
+use Rattle.sc_names.proofs.UidLaws.{text_total}
 use Rattle.sc_names.specs.Uids.{text_cmp}
 use Rattle.sc_terms.specs.Trees.{Tree, leaf, one, two, choice, many, Trees, no_part, part}
 use Rattle.sc_nodes.specs.Rows.{leaf_row, unary_row, binary_row, many_row}
@@ -184,9 +184,6 @@ mutual
 
 level : {K : Type 0} {R : K → K → Ordering} → IsTotalOrder R → (x : K) → R x x ≡ Equal
 level t x = tied_itself t x
-
-text_total : IsTotalOrder text_cmp
-text_total = nat_list_cmp_total
 
 mutual
   unfolding tree_cmp

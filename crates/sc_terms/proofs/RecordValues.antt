@@ -42,7 +42,7 @@ found_in (it x) = Some x
 found_in (maybe o) = o
 
 -- past a field of another name
-passes : (name l : List ℕ) (x : Val) (fs : Fields) → bytes_eq name l ≡ false → field name (field_of (l, x) ++ fs) ≡ field name fs
+pub passes : (name l : List ℕ) (x : Val) (fs : Fields) → bytes_eq name l ≡ false → field name (field_of (l, x) ++ fs) ≡ field name fs
 passes name l (it x) fs e = rw e refl
 passes name l (maybe (Some x)) fs e = rw e refl
 passes name l (maybe None) fs e = refl

@@ -144,6 +144,12 @@ keeps_append xs ys = record {
 pub keeps_itself : (xs : List Node) → Keeps xs xs
 keeps_itself xs = record { longer = omega arith; same = λ n h. refl }
 
+pub keeps_then : (xs ys zs : List Node) → Keeps xs ys → Keeps ys zs → Keeps xs zs
+keeps_then xs ys zs h k = record { longer = omega (arith, h.longer, k.longer); same = λ n i. k.same n (omega (arith, h.longer, i)) ∙ h.same n i }
+
+pub stands_later : (s t : List Node) (n : ℕ) (x : Tree) → Keeps s t → StandsFor s n x → StandsFor t n x
+stands_later s t n x k h = record { within = omega (arith, k.longer, h.within); is = k.same n h.within ∙ h.is }
+
 -- a node of old parts has its old tree
 planted_stays : (xs ys : List Node) (x : Node) → Keeps xs ys → PartsAreBelow (length xs) x → planted (trees ys) x ≡ planted (trees xs) x
 unfolding trees tree

@@ -3,6 +3,7 @@ pub mod TreeSorts
 pub mod Tables
 pub mod Finding
 pub mod Order
+pub mod Steps
 pub mod Folds
 pub mod Joined
 pub mod Values

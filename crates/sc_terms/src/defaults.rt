@@ -65,7 +65,7 @@ impl Terms {
     }
 
     #[cycle(defaults)]
-    #[tactic(auto, using(crate::proofs::DefaultLaws::keeps_then))]
+    #[tactic(auto, using(crate::proofs::TableLaws::keeps_then))]
     fn default_record(&mut self, fields: &Seq<(Text, Sort)>) -> Result<u64, AllocError>
         ensures ok { IfOk result (λ n. StandsFor self.new n (default_parts fields.now)) }
         ensures kept { Keeps self.old self.new }

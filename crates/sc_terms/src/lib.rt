@@ -17,6 +17,7 @@ mod options;
 mod reading;
 mod records;
 mod sets;
+mod step;
 mod terms;
 mod texts;
 

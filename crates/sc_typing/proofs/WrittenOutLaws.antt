@@ -37,7 +37,7 @@ data IsTruth : Ty → Type 0 where
   never : IsTruth ty.False
   maybe : IsTruth ty.Bool
 
-by_kind : (f : Ty-F Ty → Bool) (t : Ty) (y : Ty-F Ty) → roll-Ty y ≡ t → f (out-Ty t) ≡ f y
+pub by_kind : (f : Ty-F Ty → Bool) (t : Ty) (y : Ty-F Ty) → roll-Ty y ≡ t → f (out-Ty t) ≡ f y
 by_kind f t y at = ap (λ z. f (out-Ty z)) (sym at) ∙ ap f (out-roll-Ty y)
 
 -- the tests of a type, which is that of one of the truth values

@@ -1,6 +1,7 @@
 -- The types that operators are given are those of their rows.
 use Rattle.std.proofs.Common.{◌≡◌, ℕ, List, Bool, true, false, ◌&&◌, Option, Some, None, IfOk, is_some, refl, subst}
 use Rattle.std.specs.Option.{option_and_then}
+use Rattle.sc_lists.proofs.OptionLaws.{some_is}
 use Rattle.sc_ast.specs.declared.expr.Expr.{Expr}
 use Rattle.sc_ast.specs.declared.literal.Literal.{Literal}
 use Rattle.sc_ast.specs.declared.operator.BinaryOperator.{BinaryOperator}
@@ -25,10 +26,6 @@ use Rattle.sc_typing_laws.specs.Operations.{are_literals, less, less_or_equal, g
 not_some : {A : Type 0} (o : Option A) → is_some o ≡ false → o ≡ None
 not_some None h = refl
 not_some (Some x) h = absurd cc
-
-value_of : {A : Type 0} (o : Option A) → is_some o ≡ true → (x : A) × (o ≡ Some x)
-value_of (Some x) h = (x, refl)
-value_of None h = absurd cc
 
 -- `in` has rows of its own
 abbrev pub is_membership : BinaryOperator → Bool
@@ -128,7 +125,7 @@ module _ (a : Expr) (x : TypedExpr) where
   text_reads : {A : Type 0} (read : List ℕ → Option A) (t : Option (List ℕ)) → text_of a ≡ t → is_some (option_and_then read t) ≡ true
       → (text : List ℕ) × (value : A) × (text_of a ≡ Some text) × (read text ≡ Some value)
   text_reads read None e h = absurd cc
-  text_reads read (Some text) e h = let v = value_of (read text) h in (text, v.0, e, v.1)
+  text_reads read (Some text) e h = let v = some_is (read text) h in (text, v.0, e, v.1)
 
   decimal_is : (place : Place) → IfOk (read_as (reads decimal_of a) place types.Decimal) (Has Decimal)
   decimal_is place =

@@ -3,6 +3,7 @@ use Rattle.std.proofs.Common.{◌≡◌, ◌&&◌, ◌||◌, ◌++◌, ℕ, List
 use Rattle.std.proofs.lemmas.List.{append-nil, append_assoc}
 use Rattle.std.proofs.Math.Bool.{or-true}
 use Rattle.std.specs.Option.{option_map_or}
+use Rattle.sc_typing.proofs.WrittenOutLaws.{by_kind}
 use Rattle.sc_ast.specs.declared.expr.Expr.{Expr, fold-roll-Expr}
 use Rattle.sc_ast.specs.declared.expr.Expr.TheOpen as e
 use Rattle.sc_ast.specs.declared.expr.Expr.TheVariants as expr
@@ -10,7 +11,7 @@ use Rattle.sc_ast.specs.declared.expr.Expr.TheVariants.{rolls-Access}
 use Rattle.sc_ast.specs.declared.place.Place.{Place}
 use Rattle.sc_eval.specs.Written.{and_has, has_each}
 use Rattle.sc_schema.specs.declared.declarations.Env.{Env}
-use Rattle.sc_schema.specs.declared.ty.Ty.{Ty, Ty-F, out-Ty, roll-Ty, out-roll-Ty}
+use Rattle.sc_schema.specs.declared.ty.Ty.{Ty}
 use Rattle.sc_schema.specs.declared.ty.Ty.TheOpen as open_ty
 use Rattle.sc_schema.specs.declared.ty.Ty.TheVariants as types
 use Rattle.sc_schema.specs.declared.ty.Ty.TheVariants.{rolls-True, rolls-False, rolls-Bool}
@@ -41,9 +42,6 @@ use Rattle.sc_typing_laws.proofs.WeightLaws.{weight, bare_weight}
 use Rattle.sc_typing_laws.proofs.KnownLaws.{Agree, agree_one, agree_all, typed_still}
 
 -- ---- types of truth values
-
-by_kind : (f : Ty-F Ty → Bool) (t : Ty) (y : Ty-F Ty) → roll-Ty y ≡ t → f (out-Ty t) ≡ f y
-by_kind f t y at = ap (λ z. f (out-Ty z)) (sym at) ∙ ap f (out-roll-Ty y)
 
 true_True : is_true types.True ≡ true
 true_True = by_kind is_true_in types.True open_ty.True rolls-True

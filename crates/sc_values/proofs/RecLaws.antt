@@ -8,11 +8,12 @@ use Rattle.std.specs.declared.cmp.Ordering.{Ordering}
 use Rattle.std.specs.declared.cmp.Ordering.TheVariants.{Less, Equal, Greater}
 use Rattle.std.specs.Ordering.{is_lt, is_gt, ordering_then, ordering_reverse}
 use Rattle.std.specs.Cmp.{IsTotalOrder}
-use Rattle.std.proofs.lemmas.Cmp.{nat_list_cmp_total, tied_itself, on_total, then_total, upto}
+use Rattle.std.proofs.lemmas.Cmp.{tied_itself, on_total, then_total, upto}
 use Rattle.std.proofs.lemmas.List.Sums.{sum_by-cons}
 use Rattle.std.proofs.lemmas.List.Sorted.{IsPermutation-map, IsPermutation-sym, sum_by-IsPermutation, Contains-permutation}
 use Rattle.std.proofs.lemmas.Map.Lookups.{CmpEqualImpliesEq, exact_bytes, exact_pairs}
 use Rattle.std.proofs.lemmas.Slice.Eq.{bytes_eq-Decides}
+use Rattle.sc_names.proofs.UidLaws.{text_total}
 use Rattle.sc_lists.proofs.TextLaws.{bytes_eq_true}
 use Rattle.sc_lists.proofs.OrderingLaws.{is_gt_false}
 use Rattle.sc_names.specs.Uids.{text_cmp}
@@ -28,16 +29,13 @@ use Rattle.sc_values.proofs.OrderLaws.{value_cmp_total, value_cmp_exact}
 AtMost : List ℕ → List ℕ → Type 0
 AtMost k j = is_gt (text_cmp k j) ≡ false
 
-total : IsTotalOrder text_cmp
-total = nat_list_cmp_total
-
 at_most_itself : (k : List ℕ) → AtMost k k
 unfolding AtMost
-at_most_itself k = ap is_gt (tied_itself total k)
+at_most_itself k = ap is_gt (tied_itself text_total k)
 
 at_most_trans : (k j i : List ℕ) → AtMost k j → AtMost j i → AtMost k i
 unfolding AtMost
-at_most_trans k j i = upto total k j i
+at_most_trans k j i = upto text_total k j i
 
 at_most_is : (k j : List ℕ) → AtMost k j → text_cmp k j ≢ Greater
 unfolding AtMost
@@ -50,7 +48,7 @@ reversed Greater = refl
 
 turned : (k j : List ℕ) → is_lt (text_cmp j k) ≡ false → AtMost k j
 unfolding AtMost
-turned k j h = ap is_gt (total.antisymm k j) ∙ reversed (text_cmp j k) ∙ h
+turned k j h = ap is_gt (text_total.antisymm k j) ∙ reversed (text_cmp j k) ∙ h
 
 less_unless : (o : Ordering) → is_gt o ≡ false → o ≢ Equal → o ≡ Less
 less_unless Less h n = refl
@@ -67,7 +65,7 @@ below_unless k j h differ = less_unless (text_cmp k j) h (λ e.
 below_at_most : (k j : List ℕ) → text_cmp k j ≡ Less → AtMost j k → ⊥
 unfolding AtMost
 below_at_most k j h most =
-    let above : text_cmp j k ≡ Greater = total.antisymm j k ∙ ap ordering_reverse h in
+    let above : text_cmp j k ≡ Greater = text_total.antisymm j k ∙ ap ordering_reverse h in
     let told : is_gt (text_cmp j k) ≡ true = ap is_gt above in
     cc
 
@@ -132,7 +130,7 @@ rises f (g ∷ fs) h = (
 
 below_all : (k j : List ℕ) (keys : List (List ℕ)) → text_cmp k j ≡ Less → AllByRecursion (λ y. text_cmp j y ≡ Less) keys → AllByRecursion (λ y. text_cmp k y ≡ Less) keys
 below_all k j [] h all = tt
-below_all k j (i ∷ keys) h all = (total.trans k j i h all.0, below_all k j keys h all.1)
+below_all k j (i ∷ keys) h all = (text_total.trans k j i h all.0, below_all k j keys h all.1)
 
 ascends_at : (k j : List ℕ) (keys : List (List ℕ)) (b : Bool) → bytes_eq j k ≡ b → AtMost k j → repeated_after k (j ∷ keys) ≡ None
     → (repeated_after j keys ≡ None → IsStrictlySortedBy text_cmp (j ∷ keys)) → IsStrictlySortedBy text_cmp (k ∷ j ∷ keys)
@@ -224,7 +222,7 @@ repeat_found pairs xs ys key copied moved sorted some =
 -- ---- pairs make one record, or have one least repeated key, and never both
 
 field_cmp_total : IsTotalOrder field_cmp
-field_cmp_total = then_total (on_total (λ (f : List ℕ × Value). f.0) total) (on_total (λ (f : List ℕ × Value). f.1) value_cmp_total)
+field_cmp_total = then_total (on_total (λ (f : List ℕ × Value). f.0) text_total) (on_total (λ (f : List ℕ × Value). f.1) value_cmp_total)
 
 field_cmp_exact : CmpEqualImpliesEq field_cmp
 field_cmp_exact = exact_pairs text_cmp value_cmp exact_bytes value_cmp_exact
@@ -269,4 +267,4 @@ level_at_least Equal p e n m = refl
 level_at_least Greater p e n m = absurd (n refl)
 
 pub one_duplicate : (pairs : Fields) (a b : List ℕ) → IsDuplicateKey pairs a → IsDuplicateKey pairs b → a ≡ b
-one_duplicate pairs a b h k = exact_bytes a b (level_at_least (text_cmp a b) (text_cmp b a) (total.antisymm a b) (h.least b k.repeated) (k.least a h.repeated))
+one_duplicate pairs a b h k = exact_bytes a b (level_at_least (text_cmp a b) (text_cmp b a) (text_total.antisymm a b) (h.least b k.repeated) (k.least a h.repeated))

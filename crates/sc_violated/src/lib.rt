@@ -7,6 +7,8 @@ mod crowds;
 mod needs;
 mod paths;
 mod settled;
+#[cfg(test)]
+mod tests;
 mod texts;
 mod truths;
 

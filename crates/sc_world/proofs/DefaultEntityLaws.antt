@@ -1,13 +1,12 @@
 -- Declared actions and environments, and what holds of an entity as it is stored by default.
 use Rattle.std.proofs.Common.{◌≡◌, ℕ, List, [], ◌∷◌, map, Bool, true, false, cond, Option, Some, None, is_some, IsSome, IsSomeAnd, MatchOption, IsTrue, option_map, unwrap_or, Contains, inl, inr, refl, ap, sym, subst, ◌∙◌}
-use Rattle.std.specs.List.{AllByRecursion, flat_map, list_any}
+use Rattle.std.specs.List.{AllByRecursion, flat_map}
 use Rattle.std.specs.List.Sorted.{IsStrictlySortedBy}
 use Rattle.std.specs.Str.{bytes_eq}
 use Rattle.std.proofs.lemmas.List.Elements.{Contains-append_cases}
 use Rattle.std.proofs.lemmas.Slice.Eq.{bytes_eq-Decides}
-use Rattle.std.proofs.lemmas.Bool.{or_right, or_left}
 use Rattle.sc_lists.proofs.OptionLaws.{some_of}
-use Rattle.sc_lists.proofs.ListLaws.{all_weaker, contains_map, contains_nothing, contains_split, contains_rest, contains_first, all_element, all_of_elements}
+use Rattle.sc_lists.proofs.ListLaws.{all_weaker, contains_map, contains_nothing, contains_split, contains_rest, contains_first, all_element, all_of_elements, contains_joined, any_contained}
 use Rattle.sc_names.specs.declared.uid.Uid.{Uid}
 use Rattle.sc_names.specs.Uids.{uid_cmp}
 use Rattle.sc_schema.specs.declared.declarations.Action.{Action}
@@ -30,7 +29,6 @@ use Rattle.sc_world.specs.Named.{attribute_uids, IsDeclared, IsRequestAmong}
 use Rattle.sc_world.specs.WellFormed.{Entry, IsProperEntry, HasAttributes, HasAncestorTypes, IsAcyclic, IsAction, action_data}
 use Rattle.sc_world.proofs.DeclaredLaws.{names_declared}
 use Rattle.sc_world.proofs.DefaultLaws.{default_Record, fields_Record}
-use Rattle.sc_world.proofs.FillLaws.{of_row}
 use Rattle.sc_world.proofs.DefaultTypeLaws.{type_named, IsDefaultOf, default_of, default_uid-type}
 
 -- ---- lists
@@ -60,13 +58,6 @@ image f (x ∷ xs) y has = elim (contains_split (f x) (map f xs) y has) [
   | inr later ↦ let there = image f xs y later in record { it = there.it; among = contains_rest x xs there.it there.among; is = there.is }
 ]
 
-any_of : {X : Type 0} (test : X → Bool) (xs : List X) (x : X) → Contains xs x → test x ≡ true → list_any test xs ≡ true
-any_of test [] x has h = absurd (contains_nothing x has)
-any_of {X} test (z ∷ xs) x has h = elim (contains_split z xs x has) [
-  | inl same ↦ or_left (test z) (list_any test xs) (subst (λ (w : X). test w ≡ true) (sym same) h)
-  | inr later ↦ or_right (test z) (list_any test xs) (any_of test xs x later h)
-]
-
 pub cond_true : {X : Type 0} (b : Bool) (x y : X) → b ≡ true → cond b x y ≡ x
 cond_true true x y h = refl
 cond_true false x y h = absurd cc
@@ -81,7 +72,7 @@ module _ (s : Declarations) (lawful : IsLawful s) where
   lawful_action a has = all_element (IsLawfulAction s) s.actions a lawful.each_action has
 
   pub of_action_type : (a : Action) → Contains s.actions a → is_action_type s a.uid.type_name ≡ true
-  of_action_type a has = any_of (λ (b : Action). bytes_eq a.uid.type_name b.uid.type_name) s.actions a has ((bytes_eq-Decides a.uid.type_name a.uid.type_name).1 refl)
+  of_action_type a has = any_contained (λ (b : Action). bytes_eq a.uid.type_name b.uid.type_name) s.actions a has ((bytes_eq-Decides a.uid.type_name a.uid.type_name).1 refl)
 
   pub declared_action : (a : Action) → Contains s.actions a → IsDeclared s a.uid
   declared_action a has =
@@ -200,7 +191,7 @@ module _ (s : Declarations) (lawful : IsLawful s) where
   type_above : (a : Action) (b : Uid) → Contains s.actions a → Contains a.ancestors b → Contains (types_above s.actions a.uid.type_name) b.type_name
   type_above a b among has =
       let name = a.uid.type_name in
-      of_row (λ (x : Action). cond (bytes_eq name x.uid.type_name) (map (λ (u : Uid). u.type_name) x.ancestors) []) s.actions a b.type_name among
+      contains_joined (λ (x : Action). cond (bytes_eq name x.uid.type_name) (map (λ (u : Uid). u.type_name) x.ancestors) []) s.actions a b.type_name among
       (subst (λ (names : List (List ℕ)). Contains names b.type_name) (sym (cond_true (bytes_eq name name) _ [] ((bytes_eq-Decides name name).1 refl))) (contains_map (λ (u : Uid). u.type_name) a.ancestors b has))
 
   types_of_action : (a : Action) (b : Uid) → Contains s.actions a → Contains a.ancestors b → IsSomeAnd (ancestor_types s a.uid.type_name) (λ types. Contains types b.type_name)

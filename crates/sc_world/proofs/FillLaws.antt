@@ -13,7 +13,7 @@ use Rattle.std.proofs.lemmas.Cmp.{tied_itself}
 use Rattle.std.proofs.lemmas.List.Elements.{Contains-append_left, Contains-append_right}
 use Rattle.sc_lists.proofs.OptionLaws.{some_of}
 use Rattle.sc_lists.proofs.OrderingLaws.{is_eq_true}
-use Rattle.sc_lists.proofs.ListLaws.{all_weaker, all_of_elements, all_append, all_element, contains_nothing, contains_split, contains_rest, contains_first}
+use Rattle.sc_lists.proofs.ListLaws.{all_weaker, all_of_elements, all_append, all_element, contains_rest, contains_first, contains_joined}
 use Rattle.sc_names.specs.declared.uid.Uid.{Uid}
 use Rattle.sc_names.specs.Uids.{uid_cmp}
 use Rattle.sc_names.proofs.UidLaws.{uid_cmp_total, uid_cmp_level}
@@ -145,13 +145,6 @@ none_given : (given : Entities) (u : Uid) (o : Option EntityData) → stored u g
 none_given given u None is new = is
 none_given given u (Some e) is new = absurd (new (ap is_some is))
 
-pub of_row : {X Y : Type 0} (f : X → List Y) (xs : List X) (x : X) (y : Y) → Contains xs x → Contains (f x) y → Contains (flat_map f xs) y
-of_row f [] x y among stands = absurd (contains_nothing x among)
-of_row {X} {Y} f (z ∷ xs) x y among stands = elim (contains_split z xs x among) [
-  | inl same ↦ Contains-append_left (f z) (flat_map f xs) y (subst (λ (w : X). Contains (f w) y) (sym same) stands)
-  | inr later ↦ Contains-append_right (f z) (flat_map f xs) y (of_row f xs x y later stands)
-]
-
 pub all_rows : {X Y : Type 0} (P : Y → Type 0) (f : X → List Y) (xs : List X) → AllByRecursion (λ x. AllByRecursion P (f x)) xs → AllByRecursion P (flat_map f xs)
 all_rows P f [] h = tt
 all_rows P f (x ∷ xs) h = all_append P (f x) (flat_map f xs) h.0 (all_rows P f xs h.1)
@@ -204,7 +197,7 @@ module _ (s : Declarations) (given : Entities) (r : Request) (literals : List Ui
         as_given = as_given ascending;
         so_far = λ k d below. absurd (omega arith);
         closed = all_of_elements (λ (x : Entry). AllByRecursion (Contains first) (uids_in_entry x)) given (λ x among.
-            all_of_elements (Contains first) (uids_in_entry x) (λ u has. in_first u (of_row uids_in_entry given x u among has)));
+            all_of_elements (Contains first) (uids_in_entry x) (λ u has. in_first u (contains_joined uids_in_entry given x u among has)));
       })
 
   passed : (P : Uid → Type 0) (uids : List Uid) (done : ℕ) → done < length uids → ((d : Uid) → P (get_or uids done d)) → ((k : ℕ) (d : Uid) → k < done → P (get_or uids k d)) → (k : ℕ) (d : Uid) → k < done + 1 → P (get_or uids k d)

@@ -1,8 +1,9 @@
 use Rattle.std.proofs.Common.{arith}
+use Rattle.sc_terms.proofs.TableLaws.{keeps_itself}
 use Rattle.sc_terms.specs.Trees.{Tree}
 use Rattle.sc_terms.specs.Tables.{tree}
 use Rattle.sc_definitions.specs.Definitions.{place_agrees}
-use Rattle.sc_definitions.proofs.MakingLaws.{keeps_itself, stands_same, puts_start, puts_place, puts_end}
+use Rattle.sc_definitions.proofs.MakingLaws.{stands_same, puts_start, puts_place, puts_end}
 use Rattle.sc_definitions.proofs.inputs.put_agreements.Goals as goal
 
 pub loop-place-init : goal.loop-place-init

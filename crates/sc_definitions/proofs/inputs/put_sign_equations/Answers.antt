@@ -1,9 +1,10 @@
 use Rattle.std.proofs.Common.{arith}
+use Rattle.sc_terms.proofs.TableLaws.{keeps_itself}
 use Rattle.sc_nodes.specs.declared.node.UnaryOp.TheVariants as unary
 use Rattle.sc_terms.specs.Trees.{Tree, one}
 use Rattle.sc_terms.specs.Tables.{tree}
 use Rattle.sc_terms.specs.Folds.{equal_term}
-use Rattle.sc_definitions.proofs.MakingLaws.{keeps_itself, stands_same, puts_start, puts_place, puts_end}
+use Rattle.sc_definitions.proofs.MakingLaws.{stands_same, puts_start, puts_place, puts_end}
 use Rattle.sc_definitions.proofs.inputs.put_sign_equations.Goals as goal
 
 pub loop-place-init : goal.loop-place-init

@@ -1,5 +1,5 @@
 use Rattle.std.proofs.Common.{length, ap, arith}
-use Rattle.sc_footprint.proofs.FollowingLaws.{keeps_twice}
+use Rattle.sc_terms.proofs.TableLaws.{keeps_then}
 use Rattle.sc_footprint.proofs.ClosingLaws.{closing_start, closing_step, closing_end, number_below, entities_below, place_read, nothing_read}
 use Rattle.sc_footprint.proofs.MemberLaws.{put_longer}
 use Rattle.sc_footprint.proofs.closed.closed_terms.Goals as goal
@@ -28,7 +28,7 @@ loop-n-preserved c =
       closing = rw (c.in_ok-put_all-2.ensures, c.in_ok-note_entity.ensures, c.deref-in-Some-2.ensures.value)
           (closing_step c.order_laws.ensures.total _ _ _ _ _ _ _ _ _ c.loop-n.invariant.closing c.in_ok-more.ensures.kept c.in-Some.ensures.value c.in_ok-more.ensures.within
           (rw (c.deref-in-Some.ensures.value, c.in_ok-note_entity.ensures) at c.in_ok-more.ensures.ok));
-      kept = keeps_twice _ _ _ c.loop-n.invariant.kept c.in_ok-more.ensures.kept;
+      kept = keeps_then _ _ _ c.loop-n.invariant.kept c.in_ok-more.ensures.kept;
     }
 
 pub returns-clause-closed : goal.returns-clause-closed

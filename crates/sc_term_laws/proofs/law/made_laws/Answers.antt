@@ -1,4 +1,4 @@
-use Rattle.sc_term_laws.proofs.DefaultMade.{held_made}
+use Rattle.sc_term_laws.proofs.DefaultMade.{default_made, held_made}
 use Rattle.sc_term_laws.proofs.MadeLaws.{not_made, and_made, or_made, choice_made, equal_made, field_made, present_made, bit_made, like_made, all_made, any_made}
 use Rattle.sc_term_laws.proofs.law.made_laws.Goals as goal
 
@@ -17,4 +17,5 @@ returns c =
       like = like_made;
       all = all_made;
       any = any_made;
+      defaults = default_made;
     }
