@@ -1,0 +1,13 @@
+pub mod LoopLaws
+mod FollowLaws
+mod InsideLaws
+mod AncestorLaws
+mod PlaceLaws
+mod PartLaws
+pub mod SortLaws
+mod MadeLaws
+mod BesideLaws
+mod MetLaws
+pub mod RoleLaws
+pub mod ClosedTermLaws
+mod Examples

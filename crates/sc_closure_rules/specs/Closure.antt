@@ -1,0 +1,221 @@
+-- The closed terms of a goal: those on which a world depends that may make it true.
+use Rattle.std.specs.Prelude.{ℕ, Bool, true, false, List, [], ◌∷◌, ◌++◌, map, flat_map, Option, Some, None, unwrap_or}
+use Rattle.std.specs.List.{Contains}
+use Rattle.sc_names.specs.declared.uid.Uid.{Uid}
+use Rattle.sc_pattern.specs.declared.part.Part.{Part}
+use Rattle.sc_schema.specs.declared.declarations.Env.{Env}
+use Rattle.sc_schema.specs.Declarations.{Declarations, ancestor_types, action_ancestors}
+use Rattle.sc_sorts.specs.declared.sort.Sort.{Sort, Sort-F, out-Sort}
+use Rattle.sc_sorts.specs.declared.sort.Sort.TheOpen as s
+use Rattle.sc_sorts.specs.contracts.sort.SortPartialEq.TheImpl.{ghosts as sorts}
+use Rattle.sc_sorts.specs.Entities.{entity_sort, of_type_name}
+use Rattle.sc_nodes.specs.declared.node.Leaf.TheVariants.{Principal, Resource}
+use Rattle.sc_nodes.specs.declared.node.Literal.TheVariants as literal
+use Rattle.sc_nodes.specs.declared.node.UnaryOp.TheVariants as unary
+use Rattle.sc_nodes.specs.declared.node.BinaryOp.TheVariants as binary
+use Rattle.sc_nodes.specs.declared.node.ManyOp.TheVariants as manys
+use Rattle.sc_terms.specs.Trees.{Tree, leaf, one, two, choice, many, Trees, no_part, part}
+use Rattle.sc_terms.specs.TreeSorts.{tree_sort}
+use Rattle.sc_terms.specs.Folds.{truth_term, literal_term, literal_of, equal_term, field_term, present_term, held_term, default_term, bit_term, like_term}
+use Rattle.sc_definitions.specs.Definitions.{counted, bits_in, inputs_of}
+
+-- ---- the request's entities
+
+abbrev pub principal_term : Declarations → Env → Tree
+principal_term d env = leaf (Principal (entity_sort d env.principal))
+
+abbrev pub resource_term : Declarations → Env → Tree
+resource_term d env = leaf (Resource (entity_sort d env.resource))
+
+-- ---- the terms that go with a term
+
+abbrev pub trees_in : Trees → List Tree
+trees_in no_part = []
+trees_in (part l t ts) = t ∷ trees_in ts
+
+-- its parts
+abbrev pub parts : Tree → List Tree
+parts (leaf l) = []
+parts (one o a) = a ∷ []
+parts (two o a b) = a ∷ b ∷ []
+parts (choice c a b) = c ∷ a ∷ b ∷ []
+parts (many o ts) = trees_in ts
+
+abbrev pub field_terms : List (List ℕ × Sort) → Tree → List Tree
+field_terms fields x = map (λ (f : List ℕ × Sort). field_term f.0 x) fields
+
+abbrev pub bit_terms : ℕ → Tree → List Tree
+bit_terms n x = map (bit_term x) (counted 0 n)
+
+-- what tells its value, by its sort: of a record the fields, of an option whether it holds a value, what it holds, and whether that is
+-- the default, of a number or an address the bits
+abbrev pub inside_by : Sort-F Sort → Tree → List Tree
+inside_by (s.Record fields) x = field_terms fields x
+inside_by (s.Option held) x = present_term x ∷ held_term x ∷ equal_term (held_term x) (default_term held) ∷ []
+inside_by k x = bit_terms (bits_in k) x
+
+abbrev pub inside : Tree → List Tree
+inside x = inside_by (out-Sort (tree_sort x)) x
+
+-- an entity, beside the choices of its sort
+abbrev pub uid_term : List Uid → Uid → Tree
+uid_term us u = literal_term (literal.Entity u us)
+
+-- the entities that it may be: of a sort of actions the declared ones, where it isn't written
+abbrev pub choices_by : Sort-F Sort → List Tree
+choices_by (s.Entity name us) = map (uid_term us) us
+choices_by _ = []
+
+abbrev pub unless_literal : {X : Type 0} → Option X → List Tree → List Tree
+unless_literal (Some l) ts = []
+unless_literal None ts = ts
+
+abbrev pub choices : Tree → List Tree
+choices x = unless_literal (literal_of x) (choices_by (out-Sort (tree_sort x)))
+
+-- of a choice that is no truth value whether it is the one or the other
+abbrev pub branches : Sort-F Sort → Tree → Tree → Tree → List Tree
+branches s.Bool x a b = []
+branches _ x a b = equal_term x a ∷ equal_term x b ∷ []
+
+-- of an equation of records those of their fields, of options that of what they hold, of sets whether each is within the other. What
+-- has bits is equal by its definition.
+abbrev pub equations : Sort-F Sort → Tree → Tree → List Tree
+equations (s.Record fields) a b = map (λ (f : List ℕ × Sort). equal_term (field_term f.0 a) (field_term f.0 b)) fields
+equations (s.Option held) a b = equal_term (held_term a) (held_term b) ∷ []
+equations (s.Set member) a b = two binary.Subset a b ∷ two binary.Subset b a ∷ []
+equations _ a b = []
+
+abbrev pub ancestors_of : Sort → Tree → Tree
+ancestors_of own e = one (unary.Ancestors own) e
+
+-- an action's ancestors of a sort's type, as members of its ancestors
+abbrev pub declared_members : Declarations → Sort-F Sort → Sort → Tree → Uid → List Tree
+declared_members d (s.Entity name us) own a u = map (λ (v : Uid). two binary.Member (uid_term us v) (ancestors_of own a)) (of_type_name name (unwrap_or (action_ancestors d u) []))
+declared_members d _ own a u = []
+
+-- of an action's ancestors of a type those of each declared action, with its declared ones as members
+abbrev pub declared_ancestors : Declarations → Sort → List Uid → List Tree
+declared_ancestors d own us = flat_map (λ (u : Uid). ancestors_of own (uid_term us u) ∷ declared_members d (out-Sort own) own (uid_term us u) u) us
+
+-- of an entity's ancestors of a type those of each ancestor type
+abbrev pub ancestors_by : Declarations → Sort-F Sort → Sort → Tree → List Tree
+ancestors_by d (s.Entity name us) own e = map (λ (n : List ℕ). ancestors_of (entity_sort d n) e) (unwrap_or (ancestor_types d name) []) ++ declared_ancestors d own us
+ancestors_by d _ own e = []
+
+-- what goes with it by its row
+abbrev pub beside : Declarations → Tree → List Tree
+beside d (choice c a b) = branches (out-Sort (tree_sort a)) (choice c a b) a b
+beside d (one (unary.Ancestors own) e) = ancestors_by d (out-Sort (tree_sort e)) own e
+beside d (two binary.Equal a b) = equations (out-Sort (tree_sort a)) a b
+beside d (two (binary.Tag own) e k) = one unary.Keys e ∷ two binary.Member k (one unary.Keys e) ∷ equal_term (two (binary.Tag own) e k) (default_term own) ∷ []
+beside d (two binary.Subset a b) = two binary.DifferencePick a b ∷ []
+beside d (two binary.Common a b) = two binary.CommonPick a b ∷ []
+beside d _ = []
+
+-- all of them, in the order in which they are numbered: the inputs of its definition first, and its parts last
+unfoldable pub follow : Declarations → Tree → List Tree
+follow d x = inputs_of x ++ (inside x ++ (choices x ++ (beside d x ++ parts x)))
+
+-- ---- the terms that go with two
+
+-- What a closed term is to those rules. Attributes and tags stand beside the entity that they are of.
+pub data Role : Type 0 where
+  named : Tree → Role
+  candidate : Tree → Role
+  attributes : Tree → Tree → Role
+  tag : Tree → Tree → Role
+  set : Tree → Role
+  pattern : List Part → Role
+
+-- by its sort: texts and entities, which are told apart by their names, and sets
+abbrev pub roles_by : Sort-F Sort → Tree → List Role
+roles_by s.String x = named x ∷ []
+roles_by (s.Entity name us) x = named x ∷ []
+roles_by (s.Set member) x = set x ∷ []
+roles_by _ x = []
+
+-- By its row. Candidates for members of sets are first parts of `member`, picks, what stands in a set, and entities under ancestors.
+-- No rule brings in a pattern, so patterns are the goal's.
+abbrev pub roles_in : Tree → List Role
+roles_in (two binary.Member a b) = candidate a ∷ []
+roles_in (two binary.DifferencePick a b) = candidate (two binary.DifferencePick a b) ∷ []
+roles_in (two binary.CommonPick a b) = candidate (two binary.CommonPick a b) ∷ []
+roles_in (many (manys.Set member) ts) = map candidate (trees_in ts)
+roles_in (one (unary.Ancestors own) e) = candidate e ∷ []
+roles_in (one (unary.Attributes own) e) = attributes e (one (unary.Attributes own) e) ∷ []
+roles_in (two (binary.Tag own) e k) = tag e (two (binary.Tag own) e k) ∷ []
+roles_in (one (unary.Like p) t) = pattern p ∷ []
+roles_in _ = []
+
+abbrev pub roles : Tree → List Role
+roles x = roles_by (out-Sort (tree_sort x)) x ++ roles_in x
+
+-- the equation of two terms, where two others are of one sort
+abbrev pub equated_by : Bool → Tree → Tree → List Tree
+equated_by true x y = equal_term x y ∷ []
+equated_by false x y = []
+
+abbrev pub one_sort : Tree → Tree → Bool
+one_sort e f = sorts.eq (tree_sort e) (tree_sort f)
+
+-- a candidate and a set of its sort: whether it is a member
+abbrev pub members_by : Bool → Tree → Tree → List Tree
+members_by true x y = two binary.Member x y ∷ []
+members_by false x y = []
+
+abbrev pub is_over : Sort-F Sort → Sort → Bool
+is_over (s.Set member) k = sorts.eq member k
+is_over _ k = false
+
+abbrev pub is_set_over : Tree → Tree → Bool
+is_set_over y x = is_over (out-Sort (tree_sort y)) (tree_sort x)
+
+-- a text and a pattern: whether it matches
+abbrev pub matches_by : Sort-F Sort → Tree → List Part → List Tree
+matches_by s.String x p = like_term x p ∷ []
+matches_by _ x p = []
+
+abbrev pub with_named : Tree → Role → List Tree
+with_named x (named y) = equated_by (one_sort x y) x y
+with_named x (pattern p) = matches_by (out-Sort (tree_sort x)) x p
+with_named x _ = []
+
+abbrev pub with_candidate : Tree → Role → List Tree
+with_candidate x (candidate y) = equated_by (one_sort x y) x y
+with_candidate x (set y) = members_by (is_set_over y x) x y
+with_candidate x _ = []
+
+abbrev pub with_attributes : Tree → Tree → Role → List Tree
+with_attributes e x (attributes f y) = equated_by (one_sort e f) x y
+with_attributes e x _ = []
+
+abbrev pub with_tag : Tree → Tree → Role → List Tree
+with_tag e x (tag f y) = equated_by (one_sort e f) x y
+with_tag e x _ = []
+
+-- what goes with a role and another
+abbrev pub meet : Role → Role → List Tree
+meet (named x) r = with_named x r
+meet (candidate x) r = with_candidate x r
+meet (attributes e x) r = with_attributes e x r
+meet (tag e x) r = with_tag e x r
+meet _ r = []
+
+-- one half of what goes with two terms; the other exchanges them
+abbrev pub half : Tree → Tree → List Tree
+half x y = flat_map (λ p. flat_map (meet p) (roles y)) (roles x)
+
+abbrev pub follow_pair : Tree → Tree → List Tree
+follow_pair x y = half x y ++ half y x
+
+-- ---- the least set that holds `true`, the goal, the principal and the resource, with a term those that go with it, and with two those
+-- that go with both
+
+pub data Closed (d : Declarations) (env : Env) (goal : Tree) : Tree → Type 0 where
+  of_true : Closed d env goal (truth_term true)
+  of_goal : Closed d env goal goal
+  of_principal : Closed d env goal (principal_term d env)
+  of_resource : Closed d env goal (resource_term d env)
+  next : (x y : Tree) → Closed d env goal x → Contains (follow d x) y → Closed d env goal y
+  pair : (x y z : Tree) → Closed d env goal x → Closed d env goal y → Contains (follow_pair x y) z → Closed d env goal z

@@ -1,0 +1,10 @@
+//! The rules by which terms belong to a goal: those on which a world depends that may make it true.
+//! Which terms a term brings in, which two bring in together, and the least set that these rules give.
+#![tactic(auto)]
+
+mod ancestors;
+mod following;
+mod law;
+
+pub use following::put_following;
+pub use law::closed_laws;
