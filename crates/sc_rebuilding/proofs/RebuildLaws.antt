@@ -1,0 +1,60 @@
+-- The laws of the values that a consistent assignment gives.
+use Rattle.std.proofs.Common.{◌≡◌, List, refl, sym, ap, ◌∙◌}
+use Rattle.sc_names.specs.declared.uid.Uid.{Uid}
+use Rattle.sc_schema.specs.declared.declarations.Env.{Env}
+use Rattle.sc_schema.specs.Declarations.{Declarations}
+use Rattle.sc_schema.specs.Lawful.{IsLawful}
+use Rattle.sc_sorts.specs.declared.sort.Sort.{Sort}
+use Rattle.sc_terms.specs.Trees.{Tree}
+use Rattle.sc_terms.specs.TreeSorts.{tree_sort}
+use Rattle.sc_definitions.specs.Truths.{DefinitionsHold, AddressesHold}
+use Rattle.sc_term_laws.specs.Judging.{IsTermOf}
+use Rattle.sc_closure_rules.specs.Closure.{Closed}
+use Rattle.sc_closure_rules.specs.Goals.{IsGoal}
+use Rattle.sc_rebuilding.specs.Laws.{EquationsAgree, TermsAreRight, TruthsAreRight, HasModel, TruthsAreConsistent, TruthsAreTold}
+use Rattle.sc_rebuilding.specs.Vals.{val_of}
+use Rattle.sc_rebuilding.proofs.ClaimLaws.{AreTerms, AreAddresses}
+use Rattle.sc_rebuilding.proofs.CompositeClaims.{claims}
+use Rattle.sc_rebuilding.proofs.ModelLaws.{is_model}
+use Rattle.sc_rebuilding.proofs.SortLaws.{sort_lawful}
+use Rattle.sc_rebuilding.proofs.TermLaws.{right}
+use Rattle.sc_rebuilding.proofs.TruthLaws.{closed_told, truths_consistent}
+use Rattle.sc_rebuilding.proofs.ValLaws.{val_Bool}
+
+-- each closed term of a goal is a term of its sort
+abbrev pub AreJudged : Type 0
+AreJudged = (d : Declarations) (env : Env) (literals : List Uid) (goal t : Tree) → IsLawful d → IsGoal d env literals goal
+    → Closed d env goal t → IsTermOf d env literals (tree_sort t) t
+
+module _ (judged : AreJudged) (addresses : AreAddresses) where
+  pub terms_of : (d : Declarations) (env : Env) (literals : List Uid) (goal : Tree) → IsLawful d → IsGoal d env literals goal → AreTerms d env literals goal
+  terms_of d env literals goal lawful is = record {
+    made = λ x c. judged d env literals goal x lawful is c;
+    lawful = λ x c. sort_lawful d env literals lawful is.environment is.declared (tree_sort x) x (judged d env literals goal x lawful is c);
+  }
+
+  pub equations_agree : EquationsAgree
+  equations_agree d env literals goal m x y lawful is model c e sorts q =
+      let agrees = claims d env literals goal addresses (terms_of d env literals goal lawful is) m model (tree_sort x) x y
+      (record { first = c; second = e; first_sort = refl; second_sort = sym sorts }) q in
+      let later : val_of m (tree_sort x) y ≡ val_of m (tree_sort y) y = ap (λ (k : Sort). val_of m k y) sorts in
+      (λ t. agrees.same t ∙ later, λ t. agrees.told (t ∙ sym later))
+
+  pub terms_are_right : TermsAreRight
+  terms_are_right d env literals goal m w x lawful is model holds c p =
+      right d env literals goal addresses (terms_of d env literals goal lawful is) m model w holds (tree_sort x) x (judged d env literals goal x lawful is c) p c
+
+  pub truths_are_right : TruthsAreRight
+  truths_are_right d env literals goal m w x lawful is model holds c e p =
+      terms_are_right d env literals goal m w x lawful is model holds c p ∙ ap (λ (k : Sort). val_of m k x) e ∙ val_Bool m x
+
+  pub truths_are_told : TruthsAreTold
+  truths_are_told d env literals goal w x lawful is well c =
+      closed_told d env literals goal (terms_of d env literals goal lawful is) w lawful well x c
+
+  pub truths_are_consistent : DefinitionsHold → AddressesHold → TruthsAreConsistent
+  truths_are_consistent hold addressed d env literals goal w lawful is well =
+      truths_consistent d env literals goal (terms_of d env literals goal lawful is) w lawful well hold addressed
+
+pub has_model : HasModel
+has_model d env goal closed m is listed = is_model d env goal closed m is listed
