@@ -9,10 +9,10 @@ use Rattle.sc_clauses.specs.declared.lit.Lit.{Lit}
 use Rattle.sc_clauses.specs.declared.step.Instance.{Instance}
 use Rattle.sc_clauses.specs.declared.step.Step.{Step}
 use Rattle.sc_clauses.specs.Clauses.{Clause}
-use Rattle.sc_footprint.specs.Problems.{Posed, atoms}
-use Rattle.sc_footprint.specs.Definitions.{defining}
-use Rattle.sc_footprint.specs.Theories.{IsListed, IsClauseOf}
-use Rattle.sc_footprint.specs.Truths.{truths, IsWorldOf, IsTrueIn, Satisfies, IsUnsatisfiable}
+use Rattle.sc_boolean_footprint.specs.Problems.{Posed, atoms}
+use Rattle.sc_boolean_footprint.specs.Definitions.{defining}
+use Rattle.sc_boolean_footprint.specs.Theories.{IsListed, IsClauseOf}
+use Rattle.sc_boolean_footprint.specs.Truths.{truths, IsWorldOf, IsTrueIn, Satisfies, IsUnsatisfiable}
 use Rattle.sc_checker.specs.Refutations.{is_listed, are_listed}
 use Rattle.sc_checker.specs.declared.checking.Verdict.{Verdict}
 use Rattle.sc_checker.specs.declared.checking.Verdict.TheVariants.{Refuted}
@@ -43,7 +43,7 @@ rules_listed p rules lawful i e = clause_listed p (rules.clause_of i) (lawful i 
 
 -- ---- truth
 
-all_hold : (p : Posed) (w : World) → ((c : Clause) → Contains (defining p) c → IsTrueIn p w c) → AllHold (truths p w) (defining p)
+pub all_hold : (p : Posed) (w : World) → ((c : Clause) → Contains (defining p) c → IsTrueIn p w c) → AllHold (truths p w) (defining p)
 all_hold p w h = recursion_from_All (IsTrueIn p w) (defining p) (All-weaker (Contains (defining p)) (IsTrueIn p w) h (defining p) (All-contains_itself (defining p)))
 
 -- what the goal's truth in a world gives of the defining clauses

@@ -7,4 +7,8 @@ pub mod AcceptedLaws
 pub mod TextLaws
 pub mod WordLaws
 pub mod LineLaws
+pub mod LineStepLaws
 pub mod ReadingLaws
+pub mod ProgressLaws
+pub mod StreamLaws
+pub mod StreamVerdicts

@@ -108,10 +108,10 @@ lit_no_zero_at n false t e =
     let positive : 0 < n = ltb-true 0 n parts.0 in
     absurd (omega arith)
 
-lit_no_zero : (l : Lit) → is_lit l ≡ true → lit_text l ≡ zero_text → ⊥
+pub lit_no_zero : (l : Lit) → is_lit l ≡ true → lit_text l ≡ zero_text → ⊥
 lit_no_zero l t e = lit_no_zero_at l.atom l.negated t e
 
-text_no_zero : (w : List ℕ) (b : Bool) → bytes_eq w zero_text ≡ b → (w ≡ zero_text → ⊥) → not b ≡ true
+pub text_no_zero : (w : List ℕ) (b : Bool) → bytes_eq w zero_text ≡ b → (w ≡ zero_text → ⊥) → not b ≡ true
 text_no_zero w true is h = absurd (h ((bytes_eq-Decides w zero_text).0 is))
 text_no_zero w false is h = refl
 

@@ -1,25 +1,17 @@
 -- Bytes are read in one way.
-use Rattle.std.proofs.Common.{◌≡◌, ◌≢◌, ◌+◌, ◌<◌, ◌≤◌, ◌==◌, ℕ, suc, List, [], ◌∷◌, ◌++◌, map, length, Bool, true, false, not, nat_lt, None, Result, Ok, Err, IfOk, IfErr, IsTrue, inl, inr, refl, sym, ap, ◌∙◌, subst, arith, append_assoc}
-use Rattle.std.specs.List.{list_all, join_with_byte, slice_split}
-use Rattle.std.specs.Fmt.{decimal}
-use Rattle.std.proofs.lemmas.Bool.{and_parts, and_from, ltb-true, ne_eqb, both_ways, eq-eqb, true≢false}
-use Rattle.std.proofs.lemmas.Fmt.{decimal_injective}
+use Rattle.std.proofs.Common.{◌≡◌, ◌≢◌, ◌+◌, ◌<◌, ◌==◌, ℕ, suc, List, [], ◌∷◌, ◌++◌, length, true, false, not, nat_lt, None, Result, Ok, Err, IfOk, IfErr, IsTrue, inl, inr, refl, sym, ap, ◌∙◌, subst, arith, append_assoc}
+use Rattle.std.specs.List.{list_all, join_with_byte}
+use Rattle.std.proofs.lemmas.Bool.{and_parts, and_from, ltb-true, ne_eqb, eq-eqb, true≢false}
 use Rattle.sc_lists.specs.declared.fault.Fault.{Fault}
 use Rattle.sc_lists.specs.declared.fault.Fault.TheVariants.{Told, NoMemory}
 use Rattle.sc_lists.specs.Told.{Gives}
-use Rattle.sc_clauses.specs.declared.lit.Lit.{Lit}
-use Rattle.sc_clauses.specs.declared.step.Word.{Word}
-use Rattle.sc_clauses.specs.declared.step.Word.TheVariants.{Number, Signs}
 use Rattle.sc_clauses.specs.declared.step.Step.{Step}
-use Rattle.sc_clauses.specs.declared.step.Step.TheVariants.{Instance, Learned}
-use Rattle.sc_clauses.specs.declared.step.Instance as instance
-use Rattle.sc_clauses.specs.declared.step.Learned as learned
 use Rattle.sc_checker.specs.declared.reading.Malformed.{Malformed}
-use Rattle.sc_checker.specs.Writable.{is_number, is_rule_word, is_word, is_lit, is_hint, are_hints, is_instance, is_learned, is_writable}
-use Rattle.sc_checker.specs.Texts.{sign_text, word_text, lit_text, zero_text, instance_words, hint_words, learned_words, step_words, step_line, has_no_newline, steps_text, first_line, log_text}
+use Rattle.sc_checker.specs.Writable.{is_writable}
+use Rattle.sc_checker.specs.Texts.{step_words, step_line, has_no_newline, steps_text, first_line, log_text}
 use Rattle.sc_checker.specs.Readings.{Reads, IfTold, AreWritable, IsText, BeginsWith, StopsAt, IsFault, no_log, no_line, IsReading}
-use Rattle.sc_checker.proofs.WordLaws.{number_small, hint_number, decimal_no_minus, decimal_begins}
-use Rattle.sc_checker.proofs.LineLaws.{is_visible, step_visible, line_split, lits_end, lits_no_zero, snoc_same, first_same, rest_same, cons_same}
+use Rattle.sc_checker.proofs.LineStepLaws.{line_injective}
+use Rattle.sc_checker.proofs.LineLaws.{is_visible, step_visible, first_same, rest_same, cons_same}
 
 -- ---- lines
 
@@ -43,14 +35,14 @@ join_no_newline (w ∷ x ∷ ws) e =
     let parts = and_parts (is_visible w) (list_all is_visible (x ∷ ws)) e in
     append_no_newline w (32 ∷ join_with_byte 32 (x ∷ ws)) (visible_no_newline w parts.0) (join_no_newline (x ∷ ws) parts.1)
 
-line_no_newline : (s : Step) → is_writable s ≡ true → has_no_newline (step_line s) ≡ true
+pub line_no_newline : (s : Step) → is_writable s ≡ true → has_no_newline (step_line s) ≡ true
 line_no_newline s e = join_no_newline (step_words s) (step_visible s e)
 
 ten_not : (b : ℕ) → not (b == 10) ≡ true → b ≡ 10 → ⊥
 ten_not b h e = true≢false (sym h ∙ ap not (eq-eqb b 10 e))
 
 -- lines end at the first newline
-newline_cut : (a b x y : List ℕ) → has_no_newline a ≡ true → has_no_newline b ≡ true → a ++ 10 ∷ x ≡ b ++ 10 ∷ y → (a ≡ b) × (x ≡ y)
+pub newline_cut : (a b x y : List ℕ) → has_no_newline a ≡ true → has_no_newline b ≡ true → a ++ 10 ∷ x ≡ b ++ 10 ∷ y → (a ≡ b) × (x ≡ y)
 newline_cut [] [] x y e f h = (refl, rest_same h)
 newline_cut [] (c ∷ b) x y e f h = absurd (ten_not c (and_parts (not (c == 10)) (has_no_newline b) f).0 (sym (first_same h)))
 newline_cut (c ∷ a) [] x y e f h = absurd (ten_not c (and_parts (not (c == 10)) (has_no_newline a) e).0 (first_same h))
@@ -65,80 +57,6 @@ next_none bytes line rest is free none s t begins =
 
 -- ---- one text, one value
 
-map_injective : {X : Type 0} (test : X → Bool) (text : X → List ℕ) (xs ys : List X) → ((x y : X) → test x ≡ true → test y ≡ true → text x ≡ text y → x ≡ y)
-    → list_all test xs ≡ true → list_all test ys ≡ true → map text xs ≡ map text ys → xs ≡ ys
-map_injective test text [] [] h e f g = refl
-map_injective test text [] (y ∷ ys) h e f g = absurd cc
-map_injective test text (x ∷ xs) [] h e f g = absurd cc
-map_injective test text (x ∷ xs) (y ∷ ys) h e f g =
-    let p = and_parts (test x) (list_all test xs) e in
-    let q = and_parts (test y) (list_all test ys) f in
-    cons_same (h x y p.0 q.0 (first_same g)) (map_injective test text xs ys h p.1 q.1 (rest_same g))
-
-sign_injective : (a b : Bool) → sign_text a ≡ sign_text b → a ≡ b
-sign_injective true true e = refl
-sign_injective true false e = absurd (both_ways (43 == 45) refl (eq-eqb 43 45 e))
-sign_injective false true e = absurd (both_ways (45 == 43) refl (eq-eqb 45 43 e))
-sign_injective false false e = refl
-
-signs_injective : (a b : List Bool) → map sign_text a ≡ map sign_text b → a ≡ b
-signs_injective [] [] e = refl
-signs_injective [] (y ∷ b) e = absurd cc
-signs_injective (x ∷ a) [] e = absurd cc
-signs_injective (x ∷ a) (y ∷ b) e = cons_same (sign_injective x y (first_same e)) (signs_injective a b (rest_same e))
-
-number_injective : (m n : ℕ) → is_number m ≡ true → is_number n ≡ true → decimal m ≡ decimal n → m ≡ n
-number_injective m n e f h = decimal_injective m n (number_small m e) (number_small n f) h
-
--- a number's text isn't signs
-number_no_signs : (n : ℕ) (signs : List Bool) → is_number n ≡ true → not (length signs == 0) ≡ true → decimal n ≡ map sign_text signs → ⊥
-number_no_signs n [] e f h = true≢false (sym f)
-number_no_signs n (true ∷ signs) e f h = let digit : 48 ≤ 43 = decimal_begins n (map sign_text signs) 43 e h in absurd (omega arith)
-number_no_signs n (false ∷ signs) e f h = decimal_no_minus n (map sign_text signs) e h
-
-word_injective : (v w : Word) → is_word v ≡ true → is_word w ≡ true → word_text v ≡ word_text w → v ≡ w
-word_injective (Number m) (Number n) e f h = ap Number (number_injective m n e f h)
-word_injective (Number m) (Signs b) e f h = absurd (number_no_signs m b e f h)
-word_injective (Signs a) (Number n) e f h = absurd (number_no_signs n a f e (sym h))
-word_injective (Signs a) (Signs b) e f h = ap Signs (signs_injective a b h)
-
-lit_injective_at : (m n : ℕ) (a b : Bool) → is_number m ≡ true → is_number n ≡ true → lit_text (record { atom = m; negated = a }) ≡ lit_text (record { atom = n; negated = b })
-    → (m ≡ n) × (a ≡ b)
-lit_injective_at m n true true e f h = (number_injective m n e f (rest_same h), refl)
-lit_injective_at m n true false e f h = absurd (decimal_no_minus n (decimal m) f (sym h))
-lit_injective_at m n false true e f h = absurd (decimal_no_minus m (decimal n) e h)
-lit_injective_at m n false false e f h = (number_injective m n e f h, refl)
-
-lit_injective : (l k : Lit) → is_lit l ≡ true → is_lit k ≡ true → lit_text l ≡ lit_text k → l ≡ k
-lit_injective l k e f h =
-    let parts = lit_injective_at l.atom k.atom l.negated k.negated (and_parts _ (is_number l.atom) e).1 (and_parts _ (is_number k.atom) f).1 h in
-    λ i. record { atom = parts.0 i; negated = parts.1 i }
-
-instance_injective : (i j : instance.Instance) → is_instance i ≡ true → is_instance j ≡ true → instance_words i ≡ instance_words j → i ≡ j
-instance_injective i j e f h =
-    let rule : i.rule ≡ j.rule = first_same h in
-    let words : i.words ≡ j.words = map_injective is_word word_text i.words j.words word_injective (and_parts (is_rule_word i.rule) (list_all is_word i.words) e).1 (and_parts (is_rule_word j.rule) (list_all is_word j.words) f).1 (rest_same h) in
-    λ k. record { rule = rule k; words = words k }
-
-learned_injective : (l k : learned.Learned) → is_learned l ≡ true → is_learned k ≡ true → learned_words l ≡ learned_words k → l ≡ k
-learned_injective l k e f h =
-    let p = and_parts (list_all is_lit l.clause) (are_hints l.hints) e in
-    let q = and_parts (list_all is_lit k.clause) (are_hints k.hints) f in
-    let ends = lits_end l.clause (map lit_text k.clause) (hint_words k.hints) (hint_words l.hints) p.0 (lits_no_zero k.clause q.0) h in
-    let clause : l.clause ≡ k.clause = map_injective is_lit lit_text l.clause k.clause lit_injective p.0 q.0 ends.0 in
-    let hints : l.hints ≡ k.hints = map_injective is_hint decimal l.hints k.hints (λ m n s t g. number_injective m n (hint_number m s) (hint_number n t) g)
-    (and_parts _ (list_all is_hint l.hints) p.1).1 (and_parts _ (list_all is_hint k.hints) q.1).1 (snoc_same (map decimal l.hints) (map decimal k.hints) zero_text zero_text ends.1).0 in
-    λ i. record { clause = clause i; hints = hints i }
-
-words_injective : (s t : Step) → is_writable s ≡ true → is_writable t ≡ true → step_words s ≡ step_words t → s ≡ t
-words_injective (Instance i) (Instance j) e f h = ap Instance (instance_injective i j e f (rest_same h))
-words_injective (Instance i) (Learned k) e f h = absurd (both_ways (116 == 108) refl (eq-eqb 116 108 (first_same (first_same h))))
-words_injective (Learned l) (Instance j) e f h = absurd (both_ways (108 == 116) refl (eq-eqb 108 116 (first_same (first_same h))))
-words_injective (Learned l) (Learned k) e f h = ap Learned (learned_injective l k e f (rest_same h))
-
-line_injective : (s t : Step) → is_writable s ≡ true → is_writable t ≡ true → step_line s ≡ step_line t → s ≡ t
-line_injective s t e f h = words_injective s t e f (sym (line_split s e) ∙ ap (slice_split (λ b. b == 32)) h ∙ line_split t f)
-
 step_same : (s t : Step) (x y : List ℕ) → is_writable s ≡ true → is_writable t ≡ true → step_line s ++ 10 ∷ x ≡ step_line t ++ 10 ∷ y → (s ≡ t) × (x ≡ y)
 step_same s t x y e f h =
     let parts = newline_cut (step_line s) (step_line t) x y (line_no_newline s e) (line_no_newline t f) h in
@@ -147,10 +65,10 @@ step_same s t x y e f h =
 -- ---- lists of steps
 
 -- the line of a step, and then more lines
-line_first : (s : Step) (ss : List Step) (rest : List ℕ) → steps_text (s ∷ ss) ++ rest ≡ step_line s ++ 10 ∷ (steps_text ss ++ rest)
+pub line_first : (s : Step) (ss : List Step) (rest : List ℕ) → steps_text (s ∷ ss) ++ rest ≡ step_line s ++ 10 ∷ (steps_text ss ++ rest)
 line_first s ss rest = append_assoc (step_line s ++ 10 ∷ []) (steps_text ss) rest ∙ append_assoc (step_line s) (10 ∷ []) (steps_text ss ++ rest)
 
-line_only : (s : Step) (ss : List Step) → steps_text (s ∷ ss) ≡ step_line s ++ 10 ∷ steps_text ss
+pub line_only : (s : Step) (ss : List Step) → steps_text (s ∷ ss) ≡ step_line s ++ 10 ∷ steps_text ss
 line_only s ss = append_assoc (step_line s) (10 ∷ []) (steps_text ss)
 
 not_nil : (a x : List ℕ) (b : ℕ) → a ++ b ∷ x ≡ [] → ⊥
@@ -202,7 +120,7 @@ first_cancel x y e = rest_same (rest_same (rest_same (rest_same (rest_same (rest
 first_not_nil : (x : List ℕ) → first_line ++ x ≡ [] → ⊥
 first_not_nil x e = absurd cc
 
-text_once : (bytes : List ℕ) (ss tt : List Step) → AreWritable ss → AreWritable tt → IsText bytes ss → IsText bytes tt → ss ≡ tt
+pub text_once : (bytes : List ℕ) (ss tt : List Step) → AreWritable ss → AreWritable tt → IsText bytes ss → IsText bytes tt → ss ≡ tt
 text_once bytes ss tt e f (inl a) (inl b) = steps_injective ss tt e f (first_cancel (steps_text ss) (steps_text tt) (sym a ∙ b))
 text_once bytes ss tt e f (inl a) (inr b) = absurd (first_not_nil (steps_text ss) (sym a ∙ b.0))
 text_once bytes ss tt e f (inr a) (inl b) = absurd (first_not_nil (steps_text tt) (sym b ∙ a.0))

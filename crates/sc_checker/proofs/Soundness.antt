@@ -114,11 +114,11 @@ abbrev pub AreTrue : (ℕ → Bool) → Rules → Type 0
 AreTrue v rules = (i : instance.Instance) → rules.accepts i ≡ true → clause_holds v (rules.clause_of i) ≡ true
 
 -- the clause that a step adds is true where those before it and those of the rules are
-added-holds : (v : ℕ → Bool) (rules : Rules) (count : ℕ) (cs : List Clause) (s : Step) (c : Clause) → AreTrue v rules → AllHold v cs → added rules count cs s ≡ Ok c → clause_holds v c ≡ true
+pub added-holds : (v : ℕ → Bool) (rules : Rules) (count : ℕ) (cs : List Clause) (s : Step) (c : Clause) → AreTrue v rules → AllHold v cs → added rules count cs s ≡ Ok c → clause_holds v c ≡ true
 added-holds v rules count cs (Instance i) c t h e = instance_holds v (rules.clause_of i) c (rules.accepts i) (t i) e
 added-holds v rules count cs (Learned l) c t h e = shown-holds v count cs l.clause c l.hints (is_clause count l.clause) _ h refl e
 
-all-push : (v : ℕ → Bool) (cs : List Clause) (c : Clause) → AllHold v cs → clause_holds v c ≡ true → AllHold v (cs ++ c ∷ [])
+pub all-push : (v : ℕ → Bool) (cs : List Clause) (c : Clause) → AllHold v cs → clause_holds v c ≡ true → AllHold v (cs ++ c ∷ [])
 all-push v [] c h e = (e, tt)
 all-push v (d ∷ cs) c h e = (h.0, all-push v cs c h.1 e)
 

@@ -4,3 +4,6 @@ pub mod Known
 pub mod Verdicts
 pub mod Texts
 pub mod Readings
+pub mod Progress
+pub mod LineSteps
+pub mod Streams

@@ -1,8 +1,8 @@
 -- Which logs are accepted, and the verdict on a log.
 use Rattle.std.specs.Prelude.{◌≡◌, ◌≢◌, ◌&&◌, ◌+◌, ℕ, List, [], ◌∷◌, ◌++◌, Bool, false, Result, Ok, Err, length, if◌then◌else◌}
 use Rattle.sc_clauses.specs.Clauses.{Clause}
-use Rattle.sc_footprint.specs.Problems.{Posed, atoms}
-use Rattle.sc_footprint.specs.Definitions.{defining}
+use Rattle.sc_boolean_footprint.specs.Problems.{Posed, atoms}
+use Rattle.sc_boolean_footprint.specs.Definitions.{defining}
 use Rattle.sc_clauses.specs.declared.step.Instance as instance
 use Rattle.sc_clauses.specs.declared.step.Learned as learned
 use Rattle.sc_clauses.specs.declared.step.Step.{Step}

@@ -4,15 +4,21 @@
 
 mod checking;
 mod known;
+mod laws;
+mod line_checker;
 mod lines;
 mod log;
 mod reading;
 mod refuting;
+mod steps;
+mod stream;
 mod words;
 mod writing;
 
 pub use checking::{Reason, Verdict, check};
+pub use laws::stream_laws;
 pub use log::{Log, are_writable, is_writable};
 pub use reading::{Malformed, read_log};
 pub use sc_clauses::{Instance, Learned, Step, Word};
-pub use writing::write_log;
+pub use stream::LogChecker;
+pub use writing::{write_log, write_step};

@@ -2,6 +2,7 @@
 ghost use Rattle.std.specs.Prelude.{◌≡◌, [], ◌∷◌, ◌++◌, ◌==◌, ℕ, List, map, IfOk, IsTrue, MatchOption};
 ghost use Rattle.std.specs.List.{slice_split};
 ghost use Rattle.std.specs.Str.{bytes_eq};
+ghost use Rattle.sc_checker.specs.LineSteps.{step_of};
 ghost use Rattle.sc_checker.specs.Readings.{Reads};
 ghost use Rattle.sc_checker.specs.Texts.{zero_text, has_no_zero, instance_words, hint_words, learned_words, step_words, step_line};
 ghost use Rattle.sc_checker.specs.Writable.{is_rule_word, is_instance, are_hints, is_learned, is_writable};
@@ -135,7 +136,8 @@ fn step_of(alloc: Global, words: &[&[u8]]) -> Result<Option<Step>, AllocError>
 
 /// The step whose line this is, without its newline.
 pub(crate) fn read_step(alloc: Global, line: &[u8]) -> Result<Option<Step>, AllocError>
-    ensures { IfOk result (Reads is_writable step_line line.now) }
+    ensures read { IfOk result (Reads is_writable step_line line.now) }
+    ensures value { IfOk result (λ step. step ≡ step_of line.now) }
 {
     let words = split_words(alloc, line)?;
     let step = step_of(alloc, words.as_slice())?;

@@ -44,26 +44,17 @@ impl Log {
     }
 }
 
-/// The least number of more than 18 digits.
-const NUMBER_END: u64 = 1_000_000_000_000_000_000;
-
 /// Whether a number has at most 18 digits.
 pub(crate) fn is_number(number: u64) -> bool
     ensures { result ≡ is_number number }
 {
-    number < NUMBER_END
-}
-
-fn is_letter_or_digit(byte: u8) -> bool
-    ensures { result ≡ is_letter_or_digit byte }
-{
-    byte.is_ascii_alphanumeric()
+    number < 1_000_000_000_000_000_000
 }
 
 fn are_letters_and_digits(bytes: &[u8]) -> bool
     ensures { result ≡ list_all is_letter_or_digit bytes.now }
 {
-    bytes.iter().all(|byte| is_letter_or_digit(*byte))
+    bytes.iter().all(|byte| byte.is_ascii_alphanumeric())
 }
 
 /// Whether a text is one or more letters and digits.

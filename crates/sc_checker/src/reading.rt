@@ -21,7 +21,7 @@ pub struct Malformed {
 }
 
 /// The first line, without the newline that ends it, and what follows.
-fn cut_line(bytes: &[u8]) -> Option<(&[u8], &[u8])>
+pub(crate) fn cut_line(bytes: &[u8]) -> Option<(&[u8], &[u8])>
     ensures { MatchOption result (IsTrue (has_no_newline bytes.now)) (λ p. (bytes.now ≡ p.0.now ++ 10 ∷ p.1.now)
         × IsTrue (has_no_newline p.0.now)) }
 {

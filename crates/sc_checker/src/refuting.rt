@@ -7,7 +7,7 @@ ghost use Rattle.sc_checker.specs.Known.{marked};
 ghost use Rattle.sc_checker.specs.Refutations.{residual, open_lits, residual_at, clause_at, is_listed, is_clause, are_listed, negated, refutes};
 
 use crate::known::Known;
-use sc_clauses::{Clause, Lit, is_same, negation};
+use sc_clauses::{Clauses, Lit, is_same, negation};
 
 /// What is left of a clause where its false literals are left out.
 #[derive(Clone, Copy)]
@@ -21,11 +21,11 @@ pub(crate) enum Residual {
 }
 
 /// What is left of a clause where these literals are true.
-fn left_of(known: &Known, clause: &Clause) -> Residual
+fn left_of(known: &Known, clause: &[Lit]) -> Residual
     ensures { result ≡ residual (open_lits (marked known.now.step known.now.marks.items) clause.now) }
 {
     let mut found: Option<Lit> = None;
-    for lit in clause.as_slice() {
+    for lit in clause {
         if known.contains(negation(*lit)) {
             continue;
         }
@@ -42,7 +42,7 @@ fn left_of(known: &Known, clause: &Clause) -> Residual
 }
 
 /// The clause of a number, counted from 1.
-fn clause_at(clauses: &[Clause], number: u64) -> Option<&Clause>
+fn clause_at(clauses: &Clauses, number: u64) -> Option<&[Lit]>
     ensures { option_copied result ≡ clause_at clauses.now number }
 {
     if number == 0 {
@@ -51,7 +51,7 @@ fn clause_at(clauses: &[Clause], number: u64) -> Option<&Clause>
     clauses.get((number - 1) as usize)
 }
 
-fn left_at(known: &Known, clauses: &[Clause], number: u64) -> Residual
+fn left_at(known: &Known, clauses: &Clauses, number: u64) -> Residual
     ensures { result ≡ residual_at (marked known.now.step known.now.marks.items) (clause_at clauses.now number) }
 {
     match clause_at(clauses, number) {
@@ -60,31 +60,24 @@ fn left_at(known: &Known, clauses: &[Clause], number: u64) -> Residual
     }
 }
 
-/// Whether a literal is one of so many atoms.
-fn is_listed(count: usize, lit: Lit) -> bool
-    ensures { result ≡ is_listed count lit }
-{
-    0 < lit.atom && lit.atom <= count as u64
-}
-
 /// Whether a literal is of a listed atom, and isn't known to be true.
 fn is_free(known: &Known, lit: Lit) -> bool
     ensures { result ≡ (is_listed (length known.now.marks.items) lit
         && not (marked known.now.step known.now.marks.items lit)) }
 {
-    let listed = is_listed(known.marks.len(), lit);
+    let listed = 0 < lit.atom && lit.atom <= known.marks.len() as u64;
     listed && !known.contains(lit)
 }
 
 /// Takes the literals of a clause as false. It stops at one that is of no listed atom, or true.
-pub(crate) fn assume_false(known: &mut Known, clause: &Clause) -> bool
+pub(crate) fn assume_false(known: &mut Known, clause: &[Lit]) -> bool
     requires { marked known.old.step known.old.marks.items ≡ λ _. false }
     ensures clause { result ≡ is_clause (length known.old.marks.items) clause.now }
     ensures known { IsTrue result → marked known.new.step known.new.marks.items ≡ negated clause.now }
     ensures count { length known.new.marks.items ≡ length known.old.marks.items }
     ensures number { known.new.step ≡ known.old.step }
 {
-    for lit in clause.as_slice() {
+    for lit in clause {
         if !is_free(known, *lit) {
             return false;
         }
@@ -94,7 +87,7 @@ pub(crate) fn assume_false(known: &mut Known, clause: &Clause) -> bool
 }
 
 /// Whether each hint in turn leaves one literal, which is true from then on, and the last none.
-pub(crate) fn follow(known: &mut Known, clauses: &[Clause], hints: &[u64]) -> bool
+pub(crate) fn follow(known: &mut Known, clauses: &Clauses, hints: &[u64]) -> bool
     requires { IsTrue (are_listed (length known.old.marks.items) clauses.now) }
     ensures shown { result ≡ refutes clauses.now (marked known.old.step known.old.marks.items) hints.now }
     ensures count { length known.new.marks.items ≡ length known.old.marks.items }

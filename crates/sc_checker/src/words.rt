@@ -52,10 +52,7 @@ fn hint_of(word: &[u8]) -> Option<u64>
 fn lit_of_atom(atom: Option<u64>, negated: bool) -> Option<Lit>
     ensures { result ≡ option_map (λ n. record { atom = n; negated = negated }) atom }
 {
-    match atom {
-        Some(atom) => Some(Lit { atom, negated }),
-        None => None,
-    }
+    atom.map(|atom| Lit { atom, negated })
 }
 
 /// What follows `-` in a word that begins with it.

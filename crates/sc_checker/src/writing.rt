@@ -94,7 +94,8 @@ fn write_learned(text: &mut String, learned: &Learned) -> Result<(), AllocError>
     text.push_str(" 0")
 }
 
-fn write_step(text: &mut String, step: &Step) -> Result<(), AllocError>
+/// Writes the line of a step, without its newline. Its one fault is want of memory.
+pub fn write_step(text: &mut String, step: &Step) -> Result<(), AllocError>
     ensures { OnOk result (string_bytes text.new ≡ string_bytes text.old ++ step_line step.now) }
 {
     match step {
@@ -103,8 +104,7 @@ fn write_step(text: &mut String, step: &Step) -> Result<(), AllocError>
     }
 }
 
-/// The text of a log: the line `log 1`, and then a line for each step. Want of memory is its one
-/// fault.
+/// The text of a log: the line `log 1`, then one for each step. Its one fault is want of memory.
 pub fn write_log(alloc: Global, log: &Log) -> Result<String, AllocError>
     ensures { IfOk result (λ text. string_bytes text ≡ log_text log.now) }
 {

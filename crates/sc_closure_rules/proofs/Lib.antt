@@ -2,7 +2,6 @@ pub mod LoopLaws
 mod FollowLaws
 mod InsideLaws
 mod AncestorLaws
-mod PlaceLaws
 mod PartLaws
 pub mod SortLaws
 mod MadeLaws

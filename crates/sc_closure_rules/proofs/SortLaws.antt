@@ -33,7 +33,7 @@ use Rattle.sc_term_laws.proofs.SortsLawful.{lawful_action, above_declared, attrs
 
 -- ---- a field is found by its name, where names ascend
 
-key_at : (P : List ℕ → Type 0) (fs : SortFields) (f : SortField) → AllByRecursion P (keys_of fs) → Has fs f → P f.0
+pub key_at : (P : List ℕ → Type 0) (fs : SortFields) (f : SortField) → AllByRecursion P (keys_of fs) → Has fs f → P f.0
 key_at P [] f all there = absurd there
 key_at P (g ∷ fs) f all (inl e) = subst (λ (h : SortField). P h.0) e all.0
 key_at P (g ∷ fs) f all (inr there) = key_at P fs f all.1 there

@@ -14,10 +14,10 @@ ghost use Rattle.sc_closure_rules.specs.Closure as closing;
 ghost use Rattle.sc_closure_rules.specs.Beside.{choices_in, members_of_sort, is_literal as literal_node, own_in, IsAncestorsOf};
 
 use sc_lists::Seq;
-use sc_names::{Name, Uid};
+use sc_names::{Name, Uid, clone_uids};
 use sc_nodes::{Leaf, Literal, Node, UnaryOp};
 use sc_schema::{Schema, action_ancestors, ancestor_types};
-use sc_sorts::{Sort, clone_uids, entity_sort, try_clone};
+use sc_sorts::{Sort, entity_sort, try_clone};
 use sc_terms::Terms;
 use std::alloc::{AllocError, Global};
 

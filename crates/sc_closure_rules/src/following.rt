@@ -190,7 +190,7 @@ fn put_option(
 }
 
 /// The number of a bit of a term.
-#[tactic(auto, using(crate::proofs::PlaceLaws::place_in))]
+#[tactic(auto, using(sc_definitions::proofs::PlaceLaws::place_in))]
 fn bit(terms: &mut Terms, n: u64, place: u64) -> Result<u64, AllocError>
     requires within { n < length terms.old }
     requires place { place < count_of (tree_sort (tree terms.old n)) }

@@ -1,28 +1,52 @@
 -- Words are one command at most.
-use Rattle.std.proofs.Common.{◌≡◌, ◌∙◌, ℕ, List, [], Option, Some, unwrap_or, sym, ap, subst}
+use Rattle.std.proofs.Common.{◌≡◌, ◌∙◌, ℕ, List, [], Option, Some, unwrap_or, true, false, refl, sym, ap, subst}
 use Rattle.std.specs.Prelude.{codes}
 use Rattle.std.specs.Str.{bytes_eq}
 use Rattle.std.specs.Str.Parse.{digits_value}
 use Rattle.std.proofs.lemmas.Bool.{true≢false}
 use Rattle.clap.specs.Words.{Row, Text, subcommand_of}
 use Rattle.sc_question.proofs.NameLaws.{one_name}
-use Rattle.sc_command.specs.CommandLine.{Analyse, Command, Commands, HasBudget, IsAnalyse, IsReplay, Reads, Replay, Values, analyse, replay, tool, values_of}
+use Rattle.sc_command.specs.CommandLine.{Analyse, Asked, Check, Command, Commands, HasBudget, HasPlace, IsAnalyse, IsAsked, IsCheck, IsLog, IsNumber, IsReplay, Log, Reads, Replay, Values, analyse, check_log, replay, tool, values_of, write_log}
 
 one_value : {X : Type 0} (x y : X) → Some x ≡ Some y → x ≡ y
 one_value x y e = ap (λ o. unwrap_or o x) e
 
-one_budget : (given : Values) (m n : ℕ) → HasBudget given m → HasBudget given n → m ≡ n
-one_budget given m n h k =
-    sym h.spelled.value ∙ ap (digits_value 10) (one_value h.text k.text (sym h.given_text ∙ k.given_text)) ∙ k.spelled.value
+one_number : {low high : ℕ} (s t : Text) (m n : ℕ) → Some s ≡ Some t → IsNumber low high s m → IsNumber low high t n → m ≡ n
+one_number s t m n e h k = sym h.value ∙ ap (digits_value 10) (one_value s t e) ∙ k.value
 
-one_analyse : (given : Values) (a b : Analyse) → IsAnalyse given a → IsAnalyse given b → a ≡ b
-one_analyse given a b h k =
+one_budget : (given : Values) (m n : ℕ) → HasBudget given m → HasBudget given n → m ≡ n
+one_budget given m n h k = one_number h.text k.text m n (sym h.given_text ∙ k.given_text) h.spelled k.spelled
+
+one_place : (given : Values) (m n : ℕ) → HasPlace given m → HasPlace given n → m ≡ n
+one_place given m n h k = one_number h.text k.text m n (sym h.given_text ∙ k.given_text) h.spelled k.spelled
+
+one_asked : (given : Values) (a b : Asked) → IsAsked given a → IsAsked given b → a ≡ b
+one_asked given a b h k =
     let schema = one_value a.schema b.schema (sym h.schema_given ∙ k.schema_given) in
     let policies = one_value a.policies b.policies (sym h.policies_given ∙ k.policies_given) in
     let against = sym h.against_given ∙ k.against_given in
     let question = one_name a.question b.question (one_value _ _ (sym h.query_given ∙ k.query_given)) in
+    λ i. record { schema = schema i; policies = policies i; against = against i; question = question i }
+
+one_analyse : (given : Values) (a b : Analyse) → IsAnalyse given a → IsAnalyse given b → a ≡ b
+one_analyse given a b h k =
+    let asked = one_asked given a.asked b.asked h.asked_given k.asked_given in
     let budget = one_budget given a.budget b.budget h.budget_given k.budget_given in
-    λ i. record { schema = schema i; policies = policies i; against = against i; question = question i; budget = budget i }
+    λ i. record { asked = asked i; budget = budget i }
+
+one_log : (given : Values) (l m : Log) → IsLog given l → IsLog given m → l ≡ m
+one_log given l m h k =
+    let asked = one_asked given l.asked m.asked h.asked_given k.asked_given in
+    let budget = one_budget given l.budget m.budget h.budget_given k.budget_given in
+    let environment = one_place given l.environment m.environment h.place_given k.place_given in
+    λ i. record { asked = asked i; budget = budget i; environment = environment i }
+
+one_check : (given : Values) (c d : Check) → IsCheck given c → IsCheck given d → c ≡ d
+one_check given c d h k =
+    let asked = one_asked given c.asked d.asked h.asked_given k.asked_given in
+    let environment = one_place given c.environment d.environment h.place_given k.place_given in
+    let log = one_value c.log d.log (sym h.log_given ∙ k.log_given) in
+    λ i. record { asked = asked i; environment = environment i; log = log i }
 
 one_replay : (given : Values) (a b : Replay) → IsReplay given a → IsReplay given b → a ≡ b
 one_replay given a b h k =
@@ -38,9 +62,13 @@ Entered = Option (Text × List Row)
 one_list : (entered : Entered) (name : Text) (r s : List Row) → entered ≡ Some (name, r) → entered ≡ Some (name, s) → r ≡ s
 one_list entered name r s e f = ap (λ (o : Entered). (unwrap_or o (name, r)).1) (sym e ∙ f)
 
-other_name : (entered : Entered) (r s : List Row) → entered ≡ Some (codes "analyse", r) → entered ≡ Some (codes "replay", s) → ⊥
-other_name entered r s e f =
-    true≢false (ap (λ (o : Entered). bytes_eq (unwrap_or o ([], [])).0 (codes "analyse")) (sym e ∙ f))
+-- two names aren't both entered
+other_name : (entered : Entered) (name other : Text) (r s : List Row) → bytes_eq name name ≡ true → bytes_eq other name ≡ false → entered ≡ Some (name, r) → entered ≡ Some (other, s) → ⊥
+other_name entered name other r s same differs e f =
+    true≢false (sym same ∙ ap (λ (o : Entered). bytes_eq (unwrap_or o ([], [])).0 name) (sym e ∙ f) ∙ differs)
+
+never : (entered : Entered) (name other : Text) (r s : List Row) (c d : Command) → bytes_eq name name ≡ true → bytes_eq other name ≡ false → entered ≡ Some (name, r) → entered ≡ Some (other, s) → c ≡ d
+never entered name other r s c d same differs e f = absurd (other_name entered name other r s same differs e f)
 
 one_read : (entered : Entered) (c d : Command) → Reads entered c → Reads entered d → c ≡ d
 one_read entered (analyse a) (analyse b) h k =
@@ -49,8 +77,24 @@ one_read entered (analyse a) (analyse b) h k =
 one_read entered (replay r) (replay s) h k =
     let same = one_list entered (codes "replay") h.0 k.0 h.1 k.1 in
     ap replay (one_replay (values_of k.0) r s (subst (λ (rows : List Row). IsReplay (values_of rows) r) same h.2) k.2)
-one_read entered (analyse a) (replay r) h k = absurd (other_name entered h.0 k.0 h.1 k.1)
-one_read entered (replay r) (analyse a) h k = absurd (other_name entered k.0 h.0 k.1 h.1)
+one_read entered (write_log l) (write_log m) h k =
+    let same = one_list entered (codes "log") h.0 k.0 h.1 k.1 in
+    ap write_log (one_log (values_of k.0) l m (subst (λ (rows : List Row). IsLog (values_of rows) l) same h.2) k.2)
+one_read entered (check_log c) (check_log d) h k =
+    let same = one_list entered (codes "check") h.0 k.0 h.1 k.1 in
+    ap check_log (one_check (values_of k.0) c d (subst (λ (rows : List Row). IsCheck (values_of rows) c) same h.2) k.2)
+one_read entered (analyse a) (replay s) h k = never entered (codes "analyse") (codes "replay") h.0 k.0 _ _ refl refl h.1 k.1
+one_read entered (analyse a) (write_log m) h k = never entered (codes "analyse") (codes "log") h.0 k.0 _ _ refl refl h.1 k.1
+one_read entered (analyse a) (check_log d) h k = never entered (codes "analyse") (codes "check") h.0 k.0 _ _ refl refl h.1 k.1
+one_read entered (replay r) (analyse b) h k = never entered (codes "replay") (codes "analyse") h.0 k.0 _ _ refl refl h.1 k.1
+one_read entered (replay r) (write_log m) h k = never entered (codes "replay") (codes "log") h.0 k.0 _ _ refl refl h.1 k.1
+one_read entered (replay r) (check_log d) h k = never entered (codes "replay") (codes "check") h.0 k.0 _ _ refl refl h.1 k.1
+one_read entered (write_log l) (analyse b) h k = never entered (codes "log") (codes "analyse") h.0 k.0 _ _ refl refl h.1 k.1
+one_read entered (write_log l) (replay s) h k = never entered (codes "log") (codes "replay") h.0 k.0 _ _ refl refl h.1 k.1
+one_read entered (write_log l) (check_log d) h k = never entered (codes "log") (codes "check") h.0 k.0 _ _ refl refl h.1 k.1
+one_read entered (check_log c) (analyse b) h k = never entered (codes "check") (codes "analyse") h.0 k.0 _ _ refl refl h.1 k.1
+one_read entered (check_log c) (replay s) h k = never entered (codes "check") (codes "replay") h.0 k.0 _ _ refl refl h.1 k.1
+one_read entered (check_log c) (write_log m) h k = never entered (codes "check") (codes "log") h.0 k.0 _ _ refl refl h.1 k.1
 
 pub one_command : (words : List Text) (c d : Command) → Commands words c → Commands words d → c ≡ d
 one_command words c d h k = one_read (subcommand_of tool words) c d h.reads k.reads

@@ -1,2 +1,2 @@
-pub mod BudgetLaws
+pub mod NumberLaws
 pub mod CommandLaws

@@ -8,11 +8,15 @@ pub enum Command<'w> {
     Analyse(Analyse<'w>),
     /// To tell what policies do in one world.
     Replay(Replay<'w>),
+    /// To write the log that shows the answer to a question in one environment.
+    Log(Log<'w>),
+    /// To check a log that was written so.
+    Check(Check<'w>),
 }
 
-/// The command to ask a question of policies.
+/// A question, and the policies that it is asked of.
 #[derive(Clone, Copy, Debug, PartialEq, Eq)]
-pub struct Analyse<'w> {
+pub struct Asked<'w> {
     /// The name of the schema file.
     pub schema: &'w str,
     /// The name of the policy file.
@@ -21,6 +25,13 @@ pub struct Analyse<'w> {
     pub against: Option<&'w str>,
     /// The question.
     pub question: Question,
+}
+
+/// The command to ask a question of policies.
+#[derive(Clone, Copy, Debug, PartialEq, Eq)]
+pub struct Analyse<'w> {
+    /// What is asked.
+    pub asked: Asked<'w>,
     /// How many units of work each environment may take, from 1 to 1,000,000,000.
     pub budget: u64,
 }
@@ -34,4 +45,26 @@ pub struct Replay<'w> {
     pub policies: &'w str,
     /// The name of the file with the world.
     pub world: &'w str,
+}
+
+/// The command to write the log that shows the answer to a question in one environment.
+#[derive(Clone, Copy, Debug, PartialEq, Eq)]
+pub struct Log<'w> {
+    /// What is asked.
+    pub asked: Asked<'w>,
+    /// How many units of work the environment may take, from 1 to 1,000,000,000.
+    pub budget: u64,
+    /// Which environment of the schema, counted from 0.
+    pub environment: u32,
+}
+
+/// The command to check a log that was written so.
+#[derive(Clone, Copy, Debug, PartialEq, Eq)]
+pub struct Check<'w> {
+    /// What is asked.
+    pub asked: Asked<'w>,
+    /// Which environment of the schema, counted from 0.
+    pub environment: u32,
+    /// The name of the file with the log.
+    pub log: &'w str,
 }

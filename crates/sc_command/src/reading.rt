@@ -3,10 +3,10 @@ ghost use Rattle.std.specs.Prelude.{◌≡◌, ◌≢◌, ℕ, List, [], IfNone,
 ghost use Rattle.clap.specs.Words.{Text as AnyText, fault_of, found_of, rows_of, subcommand_of, subcommand_rows_of};
 ghost use Rattle.sc_question.specs.Questions.{name_of};
 ghost use Rattle.sc_question.specs.declared.question.Question.{Question as AnyQuestion};
-ghost use Rattle.sc_command.specs.CommandLine.{Analyse as AnyAnalyse, Command as AnyCommand, Commands, HasBudget, IsAnalyse, IsReplay, Reads, Replay as AnyReplay, analyse_view, command_view, given_of, replay_view, tool, words_view};
+ghost use Rattle.sc_command.specs.CommandLine.{Analyse as AnyAnalyse, Asked as AnyAsked, Check as AnyCheck, Command as AnyCommand, Commands, HasBudget, HasPlace, IsAnalyse, IsAsked, IsCheck, IsLog, IsReplay, Log as AnyLog, Reads, Replay as AnyReplay, analyse_view, asked_view, check_view, command_view, given_of, log_view, replay_view, tool, words_view};
 
-use crate::budget::budget_of;
-use crate::command::{Analyse, Command, Replay};
+use crate::command::{Analyse, Asked, Check, Command, Log, Replay};
+use crate::numbers::{budget_of, place_of};
 use crate::tool::tool;
 use clap::ArgMatches;
 use clap::error::ErrorKind;
@@ -40,9 +40,19 @@ fn units_of(values: &ArgMatches) -> Option<u64>
     budget_of(text)
 }
 
-fn analyse_of<'w>(values: &ArgMatches<'w>) -> Option<Analyse<'w>>
-    ensures found { IfSome result (λ a. IsAnalyse (given_of values.now) (analyse_view a)) }
-    ensures none { IfNone result ((a : AnyAnalyse) → IsAnalyse (given_of values.now) a → ⊥) }
+fn environment_of(values: &ArgMatches) -> Option<u32>
+    ensures found { IfSome result (HasPlace (given_of values.now)) }
+    ensures none { IfNone result ((n : ℕ) → HasPlace (given_of values.now) n → ⊥) }
+{
+    let Some(text) = given(values, "env") else {
+        return None;
+    };
+    place_of(text)
+}
+
+fn asked_of<'w>(values: &ArgMatches<'w>) -> Option<Asked<'w>>
+    ensures found { IfSome result (λ a. IsAsked (given_of values.now) (asked_view a)) }
+    ensures none { IfNone result ((a : AnyAsked) → IsAsked (given_of values.now) a → ⊥) }
 {
     let Some(schema) = given(values, "schema") else {
         return None;
@@ -53,19 +63,68 @@ fn analyse_of<'w>(values: &ArgMatches<'w>) -> Option<Analyse<'w>>
     let Some(question) = question_of(values) else {
         return None;
     };
-    let Some(budget) = units_of(values) else {
-        return None;
-    };
     let against = given(values, "against");
     if against.is_some() != takes_two(question) {
         return None;
     }
-    Some(Analyse {
+    Some(Asked {
         schema,
         policies,
         against,
         question,
+    })
+}
+
+fn analyse_of<'w>(values: &ArgMatches<'w>) -> Option<Analyse<'w>>
+    ensures found { IfSome result (λ a. IsAnalyse (given_of values.now) (analyse_view a)) }
+    ensures none { IfNone result ((a : AnyAnalyse) → IsAnalyse (given_of values.now) a → ⊥) }
+{
+    let Some(asked) = asked_of(values) else {
+        return None;
+    };
+    let Some(budget) = units_of(values) else {
+        return None;
+    };
+    Some(Analyse { asked, budget })
+}
+
+fn log_of<'w>(values: &ArgMatches<'w>) -> Option<Log<'w>>
+    ensures found { IfSome result (λ l. IsLog (given_of values.now) (log_view l)) }
+    ensures none { IfNone result ((l : AnyLog) → IsLog (given_of values.now) l → ⊥) }
+{
+    let Some(asked) = asked_of(values) else {
+        return None;
+    };
+    let Some(budget) = units_of(values) else {
+        return None;
+    };
+    let Some(environment) = environment_of(values) else {
+        return None;
+    };
+    Some(Log {
+        asked,
         budget,
+        environment,
+    })
+}
+
+fn check_of<'w>(values: &ArgMatches<'w>) -> Option<Check<'w>>
+    ensures found { IfSome result (λ c. IsCheck (given_of values.now) (check_view c)) }
+    ensures none { IfNone result ((c : AnyCheck) → IsCheck (given_of values.now) c → ⊥) }
+{
+    let Some(asked) = asked_of(values) else {
+        return None;
+    };
+    let Some(environment) = environment_of(values) else {
+        return None;
+    };
+    let Some(log) = given(values, "log") else {
+        return None;
+    };
+    Some(Check {
+        asked,
+        environment,
+        log,
     })
 }
 
@@ -108,6 +167,12 @@ fn command_in<'w>(matches: &ArgMatches<'w>) -> Option<Command<'w>>
     }
     if name == "replay" {
         return Some(Command::Replay(replay_of(values)?));
+    }
+    if name == "log" {
+        return Some(Command::Log(log_of(values)?));
+    }
+    if name == "check" {
+        return Some(Command::Check(check_of(values)?));
     }
     None
 }

@@ -1,4 +1,4 @@
-use crate::{Analyse, Command, Replay, command_of};
+use crate::{Analyse, Asked, Check, Command, Log, Replay, command_of};
 use sc_question::Question;
 use std::alloc::{AllocError, Global};
 
@@ -38,20 +38,28 @@ fn replays(alloc: Global, line: &str, wanted: Replay<'_>) -> bool {
 
 fn denies<'w>(schema: &'w str, policies: &'w str, budget: u64) -> Analyse<'w> {
     Analyse {
-        schema,
-        policies,
-        against: None,
-        question: Question::AlwaysDenies,
+        asked: Asked {
+            schema,
+            policies,
+            against: None,
+            question: Question::AlwaysDenies,
+        },
         budget,
+    }
+}
+
+fn asked<'w>(question: Question, against: Option<&'w str>) -> Asked<'w> {
+    Asked {
+        schema: "s",
+        policies: "p",
+        against,
+        question,
     }
 }
 
 fn asks<'w>(question: Question, against: Option<&'w str>) -> Analyse<'w> {
     Analyse {
-        schema: "s",
-        policies: "p",
-        against,
-        question,
+        asked: asked(question, against),
         budget: 10,
     }
 }
@@ -283,6 +291,57 @@ fn worlds_are_replayed(rt: HostRuntime) {
             wanted
         )
     );
+}
+
+fn is_log(alloc: Global, line: &str, environment: u32) -> bool {
+    let wanted = Log {
+        asked: asked(Question::Implies, Some("q")),
+        budget: 10,
+        environment,
+    };
+    reads(alloc, line, Some(Command::Log(wanted))).unwrap_or(false)
+}
+
+fn is_check(alloc: Global, line: &str, environment: u32) -> bool {
+    let wanted = Check {
+        asked: asked(Question::AlwaysDenies, None),
+        environment,
+        log: "l",
+    };
+    reads(alloc, line, Some(Command::Check(wanted))).unwrap_or(false)
+}
+
+#[test]
+fn logs_are_written_and_checked(rt: HostRuntime) {
+    let alloc = rt.alloc();
+    let line = "log --schema s --policies p --against q --query implies --budget 10 --env 0";
+    assert!(rt; is_log(alloc, line, 0));
+    let line = "log --env=007 --schema s --policies p --against q --query implies --budget 10";
+    assert!(rt; is_log(alloc, line, 7));
+    let line = "check --schema s --policies p --query always-denies --env 4294967295 --log l";
+    assert!(rt; is_check(alloc, line, u32::MAX));
+    let line = "check --log=l --env 1 --schema s --policies p --query always-denies";
+    assert!(rt; is_check(alloc, line, 1));
+}
+
+#[test]
+fn other_places_are_refused(rt: HostRuntime) {
+    let lines = [
+        "check --schema s --policies p --query always-denies --log l --env 4294967296",
+        "check --schema s --policies p --query always-denies --log l --env 18446744073709551616",
+        "check --schema s --policies p --query always-denies --log l --env +1",
+        "check --schema s --policies p --query always-denies --log l --env=-1",
+        "check --schema s --policies p --query always-denies --log l --env ",
+        "check --schema s --policies p --query always-denies --log l",
+        "check --schema s --policies p --query always-denies --env 0",
+        "check --schema s --policies p --query implies --log l --env 0",
+        "check --schema s --policies p --query always-denies --budget 10 --log l --env 0",
+        "log --schema s --policies p --query always-denies --budget 10",
+        "log --schema s --policies p --query always-denies --env 0",
+        "log --schema s --policies p --query always-denies --budget 10 --env 0 --log l",
+        "analyse --schema s --policies p --query always-denies --budget 10 --env 0",
+    ];
+    assert!(rt; are_refused(rt.alloc(), &lines));
 }
 
 #[test]

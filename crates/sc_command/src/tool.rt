@@ -1,7 +1,7 @@
 //! The command line, as `clap` is told it.
 ghost use Rattle.std.specs.Prelude.{◌≡◌, IfOk, false};
 ghost use Rattle.clap.specs.Words.{app_of, rule_of};
-ghost use Rattle.sc_command.specs.CommandLine.{analyse_line, bare_tool, on_files, option, replay_line, required, tool};
+ghost use Rattle.sc_command.specs.CommandLine.{analyse_line, asking, bare_tool, check_line, log_line, on_files, option, replay_line, required, served_line, tool};
 
 use clap::{Arg, ArgAction, Command};
 use std::alloc::{AllocError, Global};
@@ -31,19 +31,41 @@ fn on_files<'w>(alloc: Global, name: &'w str) -> Result<Command<'w>, AllocError>
         .arg(required(alloc, "policies"))
 }
 
+/// The subcommand of this name, with the options of each that asks a question.
+fn asking<'w>(alloc: Global, name: &'w str) -> Result<Command<'w>, AllocError>
+    ensures { IfOk result (λ c. app_of c ≡ asking name.entry.now) }
+{
+    on_files(alloc, name)?
+        .arg(option(alloc, "against"))?
+        .arg(required(alloc, "query"))
+}
+
 fn analyse_line<'w>(alloc: Global) -> Result<Command<'w>, AllocError>
     ensures { IfOk result (λ c. app_of c ≡ analyse_line) }
 {
-    on_files(alloc, "analyse")?
-        .arg(option(alloc, "against"))?
-        .arg(required(alloc, "query"))?
-        .arg(required(alloc, "budget"))
+    asking(alloc, "analyse")?.arg(required(alloc, "budget"))
 }
 
 fn replay_line<'w>(alloc: Global) -> Result<Command<'w>, AllocError>
     ensures { IfOk result (λ c. app_of c ≡ replay_line) }
 {
     on_files(alloc, "replay")?.arg(required(alloc, "world"))
+}
+
+fn log_line<'w>(alloc: Global) -> Result<Command<'w>, AllocError>
+    ensures { IfOk result (λ c. app_of c ≡ log_line) }
+{
+    asking(alloc, "log")?
+        .arg(required(alloc, "budget"))?
+        .arg(required(alloc, "env"))
+}
+
+fn check_line<'w>(alloc: Global) -> Result<Command<'w>, AllocError>
+    ensures { IfOk result (λ c. app_of c ≡ check_line) }
+{
+    asking(alloc, "check")?
+        .arg(required(alloc, "env"))?
+        .arg(required(alloc, "log"))
 }
 
 fn bare_tool<'w>(alloc: Global) -> Command<'w>
@@ -54,10 +76,18 @@ fn bare_tool<'w>(alloc: Global) -> Command<'w>
         .subcommand_required(true)
 }
 
+/// The command line with the commands that read no log and write none.
+fn served_line<'w>(alloc: Global) -> Result<Command<'w>, AllocError>
+    ensures { IfOk result (λ c. app_of c ≡ served_line) }
+{
+    let line = bare_tool(alloc).subcommand(analyse_line(alloc)?)?;
+    line.subcommand(replay_line(alloc)?)
+}
+
 /// The whole command line.
 pub(crate) fn tool<'w>(alloc: Global) -> Result<Command<'w>, AllocError>
     ensures { IfOk result (λ c. app_of c ≡ tool) }
 {
-    let line = bare_tool(alloc).subcommand(analyse_line(alloc)?)?;
-    line.subcommand(replay_line(alloc)?)
+    let line = served_line(alloc)?.subcommand(log_line(alloc)?)?;
+    line.subcommand(check_line(alloc)?)
 }

@@ -6,7 +6,7 @@ use Rattle.sc_ast.specs.declared.literal.EntityLiteral.{EntityLiteral}
 use Rattle.sc_typed.specs.declared.typed_expr.TypedExpr.{TypedExpr, out-TypedExpr}
 use Rattle.sc_constructs.specs.declared.construct.Found.{Found}
 use Rattle.sc_constructs.specs.Constructs.{Constructs, of_members, of_fields, constructs_in}
-use Rattle.sc_constructs.specs.First.{least_of}
+use Rattle.sc_constructs.specs.Least.{least_of}
 use Rattle.sc_constructs.specs.Scopes.{of_entity}
 use Rattle.sc_constructs.proofs.LeastLaws.{least_append}
 

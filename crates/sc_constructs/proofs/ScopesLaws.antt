@@ -23,8 +23,8 @@ use Rattle.sc_ast.specs.declared.scope.Scope.{Scope}
 use Rattle.sc_ast.specs.Conditions.{entity, asked, at, required}
 use Rattle.sc_typed.specs.declared.typed_expr.TypedExpr.{TypedExpr, TypedExpr-F}
 use Rattle.sc_constructs.specs.declared.construct.Found.{Found}
-use Rattle.sc_constructs.specs.Constructs.{Constructs, of_operated, of_tested, of_tested_in, of_applied, of_read, of_set, of_no_actions, of_conjunct, of_action, constructs_in}
-use Rattle.sc_constructs.specs.First.{least_of}
+use Rattle.sc_constructs.specs.Constructs.{Constructs, of_operated, of_tested, of_tested_in, of_applied, of_read, of_set, of_named_action, of_no_actions, of_conjunct, of_action, constructs_in}
+use Rattle.sc_constructs.specs.Least.{least_of}
 use Rattle.sc_constructs.specs.Scopes.{of_entity, of_first, of_asked, of_asked_action}
 use Rattle.sc_constructs.proofs.ConstructsLaws.{constructs_Binary, constructs_Is, constructs_IsIn, constructs_Unary, constructs_Literal, constructs_Variable, constructs_Set}
 
@@ -84,7 +84,8 @@ pub action_Any : (o : Option Found) (s : ActionScope) (y : Layer) → s.constrai
 unfolding of_asked_action of_constraint_on
 action_Any o s y h = alike o y (ap (of_constraint_on s) h)
 
-pub action_Equal : (o : Option Found) (s : ActionScope) (y : Layer) (place : Place) (l : EntityLiteral) → s.constraint ≡ action.Equal place l → least_of o (of_asked_action s y) ≡ o
+pub action_Equal : (o : Option Found) (s : ActionScope) (y : Layer) (place : Place) (l : EntityLiteral) → s.constraint ≡ action.Equal place l
+    → least_of o (of_asked_action s y) ≡ least_of o (of_named_action place y)
 unfolding of_asked_action of_constraint_on
 action_Equal o s y place l h = alike o y (ap (of_constraint_on s) h)
 

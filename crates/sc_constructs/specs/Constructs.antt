@@ -1,7 +1,6 @@
--- The constructs of a policy that the fragment of Booleans lacks, in the parts that typing checked. The fragment has Boolean
--- constants and operators, required Boolean attributes of a context that has no others, and scopes that are bare but for
--- `action == E`.
-use Rattle.std.specs.Prelude.{ℕ, List, [], ◌∷◌, ◌++◌, map, fold, if◌then◌else◌}
+-- All constructs of a policy, in the parts that typing checked, each at the place of its word. Which of them the program decides
+-- is another table.
+use Rattle.std.specs.Prelude.{ℕ, List, [], ◌∷◌, ◌++◌, map, fold}
 use Rattle.sc_ast.specs.declared.place.Place.{Place}
 use Rattle.sc_ast.specs.declared.operator.BinaryOperator.{BinaryOperator}
 use Rattle.sc_ast.specs.declared.operator.BinaryOperator.TheVariants as binary
@@ -19,13 +18,13 @@ use Rattle.sc_ast.specs.declared.scope.ActionConstraint.TheVariants as action
 use Rattle.sc_ast.specs.declared.scope.ActionScope.{ActionScope}
 use Rattle.sc_ast.specs.Conditions.{Conjunct, scope_part, action_part, clause}
 use Rattle.sc_schema.specs.declared.ty.Ty.{Ty}
-use Rattle.sc_sorts.specs.Plain.{is_plain}
 use Rattle.sc_typed.specs.declared.typed_expr.TypedExpr.{TypedExpr, TypedExpr-F, out-TypedExpr}
 use Rattle.sc_typed.specs.declared.typed_expr.TypedExpr.TheOpen as t
 use Rattle.sc_constructs.specs.declared.construct.Construct.{Construct}
-use Rattle.sc_constructs.specs.declared.construct.Construct.TheVariants.{StringLiteral, Entity, Has, Attribute, Is, If, Equality, Record, Number, Arithmetic, Comparison, Decimal, Ip, Set, In, Tag, Like, «Type»}
+use Rattle.sc_constructs.specs.declared.construct.Construct.TheVariants.{Boolean, Connective, ContextAttribute, NamedAction, StringLiteral, Entity, Has, Attribute, Is, If, Equality, Record, Number, Arithmetic, Comparison, Decimal, Ip, Set, In, Tag, Like}
 use Rattle.sc_constructs.specs.declared.construct.Construct.TheVariants as construct
 use Rattle.sc_constructs.specs.declared.construct.Found.{Found}
+use Rattle.sc_constructs.specs.Kinds.{of_type}
 
 abbrev pub found : Place → Construct → Found
 found place c = record { place = place; construct = c }
@@ -57,7 +56,7 @@ of_binary binary.GreaterThanOrEqual = Decimal
 of_binary binary.IsInRange = Ip
 
 abbrev pub of_unary : UnaryOperator → Place → List Found
-of_unary unary.Not place = []
+of_unary unary.Not place = one place Connective
 of_unary unary.Negate place = one place Arithmetic
 of_unary unary.IsEmpty place = one place Set
 of_unary unary.IsIpv4 place = one place Ip
@@ -68,17 +67,12 @@ of_unary unary.Decimal place = one place Decimal
 of_unary unary.Ip place = one place Ip
 
 abbrev pub of_literal : Literal → Place → List Found
-of_literal (literal.Bool b) place = []
+of_literal (literal.Bool b) place = one place Boolean
 of_literal (literal.Long n) place = one place Number
 of_literal (literal.String text) place = one place StringLiteral
 of_literal (literal.Entity u) place = one place Entity
 
--- ---- the context
-
--- of the type of `context`, where it stands at this place
-abbrev pub of_type : Place → Ty → List Found
-of_type place type = if is_plain type then [] else one place «Type»
-
+-- of a variable that isn't directly under an access; at `context` stand the kinds of its type too
 abbrev pub of_variable : Variable → Place → Ty → List Found
 of_variable variable.Context place type = found place construct.Variable ∷ of_type place type
 of_variable _ place type = one place construct.Variable
@@ -93,13 +87,13 @@ abbrev pub of_if : Place → Constructs → Constructs → Constructs → Constr
 of_if place c a b (t.If q type x y z) = found place If ∷ (c (out-TypedExpr x) ++ (a (out-TypedExpr y) ++ b (out-TypedExpr z)))
 of_if place c a b _ = []
 
-abbrev pub of_either : Constructs → Constructs → Constructs
-of_either a b (t.Or q type x y) = a (out-TypedExpr x) ++ b (out-TypedExpr y)
-of_either a b _ = []
+abbrev pub of_either : Place → Constructs → Constructs → Constructs
+of_either place a b (t.Or q type x y) = found place Connective ∷ (a (out-TypedExpr x) ++ b (out-TypedExpr y))
+of_either place a b _ = []
 
-abbrev pub of_both : Constructs → Constructs → Constructs
-of_both a b (t.And q type x y) = a (out-TypedExpr x) ++ b (out-TypedExpr y)
-of_both a b _ = []
+abbrev pub of_both : Place → Constructs → Constructs → Constructs
+of_both place a b (t.And q type x y) = found place Connective ∷ (a (out-TypedExpr x) ++ b (out-TypedExpr y))
+of_both place a b _ = []
 
 abbrev pub of_operated : Place → BinaryOperator → Constructs → Constructs → Constructs
 of_operated place operator a b (t.Binary q type o x y) = found place (of_binary operator) ∷ (a (out-TypedExpr x) ++ b (out-TypedExpr y))
@@ -130,9 +124,9 @@ abbrev pub of_applied : Place → UnaryOperator → Constructs → Constructs
 of_applied place operator a (t.Unary q type o x) = of_unary operator place ++ a (out-TypedExpr x)
 of_applied place operator a _ = []
 
--- the object of an access: of `context` attributes may be read (an optional one makes its type one of a later fragment)
+-- an access and its object: of `context` the kinds of its type stand at the word, one of which is that an attribute is optional
 abbrev pub of_object : Place → Constructs → Constructs
-of_object place a (t.Variable q type variable.Context) = of_type q type
+of_object place a (t.Variable q type variable.Context) = found place ContextAttribute ∷ of_type q type
 of_object place a x = found place Attribute ∷ a x
 
 abbrev pub of_accessed : Place → Constructs → Constructs
@@ -167,8 +161,8 @@ of_record place fields _ = []
 
 abbrev pub constructs_step : Expr-F Constructs → Constructs
 constructs_step (e.If place c a b) = of_if place c a b
-constructs_step (e.Or place a b) = of_either a b
-constructs_step (e.And place a b) = of_both a b
+constructs_step (e.Or place a b) = of_either place a b
+constructs_step (e.And place a b) = of_both place a b
 constructs_step (e.Binary place operator a b) = of_operated place operator a b
 constructs_step (e.Has place a names) = of_having place a
 constructs_step (e.Like place a pattern) = of_matching place a
@@ -192,15 +186,24 @@ of_conjunct c = constructs_in c.1
 abbrev pub nothing : Constructs
 nothing x = []
 
+-- two parts of what has to be true, which no written `&&` joins
+abbrev pub of_joined : Constructs → Constructs → Constructs
+of_joined a b (t.And q type x y) = a (out-TypedExpr x) ++ b (out-TypedExpr y)
+of_joined a b _ = []
+
+-- `action == E`
+abbrev pub of_named_action : Place → Constructs
+of_named_action place (t.Skipped x) = []
+of_named_action place x = one place NamedAction
+
 -- `action in []`, of which the condition has `false` alone
 abbrev pub of_no_actions : Place → Place → Constructs
 of_no_actions place in_place (t.Skipped x) = []
 of_no_actions place in_place x = found place construct.Variable ∷ one in_place In
 
--- `action == E` is none
 abbrev pub of_action : ActionScope → ActionConstraint → List Constructs
 of_action s action.Any = []
-of_action s (action.Equal place l) = nothing ∷ []
+of_action s (action.Equal place l) = of_named_action place ∷ []
 of_action s (action.In place l) = map of_conjunct (action_part s)
 of_action s (action.InAny place bracket []) = of_no_actions s.place place ∷ []
 of_action s (action.InAny place bracket (l ∷ ls)) = map of_conjunct (action_part s)
@@ -212,4 +215,4 @@ parts p =
 
 -- the constructs of a policy, given its condition with types
 abbrev pub constructs : Policy → TypedExpr → List Found
-constructs p x = fold of_both nothing (parts p) (out-TypedExpr x)
+constructs p x = fold of_joined nothing (parts p) (out-TypedExpr x)

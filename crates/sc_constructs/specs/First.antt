@@ -1,6 +1,7 @@
--- Which construct is told: of a policy in an environment the least by place and then by the order of constructs; of all, that of
--- the first policy, and there of the first environment, that has one.
-use Rattle.std.specs.Prelude.{ℕ, ◌+◌, List, [], ◌∷◌, Bool, Option, Some, None, option_map, Result, Ok, Err, fold, if◌then◌else◌}
+-- Which construct is told: of a policy in an environment the least that isn't admitted, by place and then by the order of
+-- constructs; of all, that of the first policy, and there of the first environment, that has one.
+use Rattle.std.specs.Prelude.{ℕ, ◌+◌, List, [], ◌∷◌, Bool, true, false, not, Option, Some, None, option_map, Result, Ok, Err, fold, if◌then◌else◌}
+use Rattle.std.specs.List.{filter}
 use Rattle.std.specs.Option.{option_or}
 use Rattle.std.specs.Ordering.{is_lt}
 use Rattle.sc_ast.specs.declared.policy.Policy.{Policy}
@@ -9,29 +10,40 @@ use Rattle.sc_schema.specs.Declarations.{Declarations, environments}
 use Rattle.sc_typed.specs.declared.fault.TypeFault.{TypeFault}
 use Rattle.sc_typed.specs.declared.typed_expr.TypedExpr.{TypedExpr}
 use Rattle.sc_typing.specs.Policies.{typed_policy}
+use Rattle.sc_constructs.specs.declared.construct.Construct.{Construct}
+use Rattle.sc_constructs.specs.declared.construct.Construct.TheVariants as construct
 use Rattle.sc_constructs.specs.declared.construct.Found.{Found}
 use Rattle.sc_constructs.specs.contracts.construct.FoundOrd.TheImpl.{ghosts as order}
 use Rattle.sc_constructs.specs.declared.unsupported.Unsupported.{Unsupported}
+use Rattle.sc_constructs.specs.Admitted.{admits}
 use Rattle.sc_constructs.specs.Constructs.{constructs}
 
 -- by place, and at one place by the order of constructs
-abbrev pub is_before : Found → Found → Bool
+unfoldable pub is_before : Found → Found → Bool
 is_before x y = is_lt (order.cmp x y)
+
+-- a kind in the type of `context`
+abbrev pub is_type : Construct → Bool
+is_type (construct.«Type» k) = true
+is_type _ = false
 
 -- the lesser of two, where there is a first
 abbrev pub lesser : Option Found → Found → Option Found
 lesser None y = Some y
 lesser (Some x) y = if is_before y x then Some y else Some x
 
--- the least of a list, and of one that was found before
-abbrev pub least_of : Option Found → List Found → Option Found
-least_of o xs = fold lesser o xs
-
 abbrev pub least : List Found → Option Found
-least xs = least_of None xs
+least xs = fold lesser None xs
+
+-- those of a list that aren't admitted
+abbrev pub refused : List Found → List Found
+refused xs = filter (λ (x : Found). not (admits x.construct)) xs
+
+abbrev pub of_policy : ℕ → Found → Unsupported
+of_policy i x = record { policy = i; found = x }
 
 abbrev pub told_of : ℕ → Policy → Result TypedExpr TypeFault → Option Unsupported
-told_of i p (Ok x) = option_map (λ (f : Found). record { policy = i; found = f }) (least (constructs p x))
+told_of i p (Ok x) = option_map (of_policy i) (least (refused (constructs p x)))
 told_of i p (Err e) = None
 
 -- of policy i in one environment, where it is typed

@@ -15,7 +15,7 @@ use Rattle.sc_ast.specs.declared.scope.Scope.{Scope}
 use Rattle.sc_ast.specs.Conditions.{scope_part, clause}
 use Rattle.sc_typed.specs.declared.typed_expr.TypedExpr.{TypedExpr, TypedExpr-F}
 use Rattle.sc_typed.specs.declared.typed_expr.TypedExpr.TheOpen as t
-use Rattle.sc_constructs.specs.Constructs.{Constructs, nothing, of_both, of_read_literal, of_conjunct, of_action}
+use Rattle.sc_constructs.specs.Constructs.{Constructs, nothing, of_joined, of_read_literal, of_conjunct, of_action}
 
 -- ---- one part
 
@@ -54,14 +54,14 @@ sides (t.And place type x y) = Some (x, y)
 sides _ = None
 
 unfoldable pub to_principal : Policy → Constructs
-to_principal p = fold of_both nothing (of_scope Principal p.principal)
+to_principal p = fold of_joined nothing (of_scope Principal p.principal)
 
 unfoldable pub to_action : Policy → Constructs
-to_action p = fold of_both (to_principal p) (of_action p.action p.action.constraint)
+to_action p = fold of_joined (to_principal p) (of_action p.action p.action.constraint)
 
 unfoldable pub to_resource : Policy → Constructs
-to_resource p = fold of_both (to_action p) (of_scope Resource p.resource)
+to_resource p = fold of_joined (to_action p) (of_scope Resource p.resource)
 
 -- and up to these clauses
 unfoldable pub to_clauses : Policy → List Condition → Constructs
-to_clauses p cs = fold of_both (to_resource p) (map of_conjunct (map clause cs))
+to_clauses p cs = fold of_joined (to_resource p) (map of_conjunct (map clause cs))

@@ -1,9 +1,18 @@
-//! Constructs of the policy language, by the fragment that admits them.
+//! All constructs of a policy, and the kinds of values that the type of its context holds.
+use crate::kind::Kind;
 use sc_ast::Place;
 
-/// A construct that no fragment up to now admits. At one place the first of this list is told.
+/// A construct. Of those at one place that aren't admitted the first of this list is told.
 #[derive(Clone, Copy, Debug, PartialEq, Eq, PartialOrd, Ord)]
 pub enum Construct {
+    /// `true` or `false`.
+    Boolean,
+    /// `!`, `&&` or `||`, or the `unless` of a clause.
+    Connective,
+    /// The access of an attribute of `context`.
+    ContextAttribute,
+    /// `action == E` in a scope.
+    NamedAction,
     /// A variable: `context` that isn't directly under an access, or another.
     Variable,
     /// The literal of a string.
@@ -12,7 +21,7 @@ pub enum Construct {
     Entity,
     /// `has`.
     Has,
-    /// The access of an attribute that isn't a required one of `context`.
+    /// The access of an attribute of anything else.
     Attribute,
     /// `is`.
     Is,
@@ -40,8 +49,8 @@ pub enum Construct {
     Tag,
     /// `like`.
     Like,
-    /// A type that holds a kind of values that no fragment up to now admits.
-    Type,
+    /// A kind that the type of `context` holds, at that word.
+    Type(Kind),
 }
 
 /// A construct, and where it stands.

@@ -1,8 +1,10 @@
-//! The least construct so far.
+//! The least construct so far that isn't admitted.
 ghost use Rattle.std.specs.Prelude.{◌≡◌};
 ghost use Rattle.sc_constructs.specs.Constructs.{found};
-ghost use Rattle.sc_constructs.specs.First.{lesser};
+ghost use Rattle.sc_constructs.specs.First.{is_before, lesser};
+ghost use Rattle.sc_constructs.specs.Least.{counted};
 
+use crate::admitted::admits;
 use crate::construct::{Construct, Found};
 use sc_ast::Place;
 
@@ -19,12 +21,27 @@ fn lesser(so_far: Option<Found>, found: Found) -> Option<Found>
 fn lesser_of(least: Found, found: Found) -> Found
     ensures { Some result ≡ lesser (Some least) found }
 {
-    if found < least { found } else { least }
+    if is_before(found, least) {
+        found
+    } else {
+        least
+    }
 }
 
-/// The lesser of a construct at a place and the one that was found before.
-pub(crate) fn with(so_far: Option<Found>, place: Place, construct: Construct) -> Option<Found>
-    ensures { result ≡ lesser so_far (found place construct) }
+/// Whether a construct is told before another.
+fn is_before(a: Found, b: Found) -> bool
+    ensures { result ≡ is_before a b }
 {
-    lesser(so_far, Found { place, construct })
+    a.cmp(&b).is_lt()
+}
+
+/// The lesser of a construct at a place, where it isn't admitted, and the one that was found before.
+pub(crate) fn with(so_far: Option<Found>, place: Place, construct: Construct) -> Option<Found>
+    ensures { result ≡ counted so_far (found place construct) }
+{
+    if admits(construct) {
+        so_far
+    } else {
+        lesser(so_far, Found { place, construct })
+    }
 }

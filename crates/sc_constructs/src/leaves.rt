@@ -2,21 +2,21 @@
 ghost use Rattle.std.specs.Prelude.{◌≡◌};
 ghost use Rattle.sc_ast.specs.declared.literal.Literal.TheVariants.{Entity};
 ghost use Rattle.sc_typed.specs.declared.typed_expr.TypedExpr.{out-TypedExpr};
-ghost use Rattle.sc_constructs.specs.Constructs.{of_literal, of_type, of_variable, of_read_literal, of_read};
-ghost use Rattle.sc_constructs.specs.First.{least_of};
+ghost use Rattle.sc_constructs.specs.Constructs.{of_literal, of_variable, of_read_literal, of_read};
+ghost use Rattle.sc_constructs.specs.Least.{least_of};
 
 use crate::construct::{Construct, Found};
 use crate::least::with;
+use crate::types::in_type;
 use sc_ast::{EntityLiteral, Literal, Place, Variable};
 use sc_schema::Ty;
-use sc_sorts::is_plain;
 use sc_typed::TypedExpr;
 
 fn in_literal(place: Place, literal: &Literal, so_far: Option<Found>) -> Option<Found>
     ensures { result ≡ least_of so_far (of_literal literal.now place) }
 {
     match literal {
-        Literal::Bool(_) => so_far,
+        Literal::Bool(_) => with(so_far, place, Construct::Boolean),
         Literal::Long(_) => with(so_far, place, Construct::Number),
         Literal::String(_) => with(so_far, place, Construct::StringLiteral),
         Literal::Entity(_) => with(so_far, place, Construct::Entity),
@@ -50,17 +50,6 @@ pub(crate) fn in_entity(
     match typed {
         TypedExpr::Literal(_, _, _) => with(so_far, entity.place, Construct::Entity),
         _ => so_far,
-    }
-}
-
-/// Of the type of `context`, which stands at a place.
-pub(crate) fn in_type(place: Place, ty: &Ty, so_far: Option<Found>) -> Option<Found>
-    ensures { result ≡ least_of so_far (of_type place ty.now) }
-{
-    if is_plain(ty) {
-        so_far
-    } else {
-        with(so_far, place, Construct::Type)
     }
 }
 

@@ -1,7 +1,7 @@
 //! The constructs of operators.
 ghost use Rattle.std.specs.Prelude.{◌≡◌};
 ghost use Rattle.sc_constructs.specs.Constructs.{of_binary, of_unary};
-ghost use Rattle.sc_constructs.specs.First.{least_of};
+ghost use Rattle.sc_constructs.specs.Least.{least_of};
 
 use crate::construct::{Construct, Found};
 use crate::least::with;
@@ -43,7 +43,7 @@ pub(crate) fn in_unary(
     ensures { result ≡ least_of so_far (of_unary operator place) }
 {
     match operator {
-        UnaryOperator::Not => so_far,
+        UnaryOperator::Not => with(so_far, place, Construct::Connective),
         UnaryOperator::Negate => with(so_far, place, Construct::Arithmetic),
         UnaryOperator::IsEmpty => with(so_far, place, Construct::Set),
         UnaryOperator::IsIpv4 => with(so_far, place, Construct::Ip),

@@ -1,8 +1,8 @@
 //! The constructs of a scope's parts, beside what typing made of them.
 ghost use Rattle.std.specs.Prelude.{◌≡◌, map};
 ghost use Rattle.sc_typed.specs.declared.typed_expr.TypedExpr.{out-TypedExpr};
-ghost use Rattle.sc_constructs.specs.Constructs.{of_operated, of_tested, of_group, of_tested_in, of_read, of_members, of_set, of_no_actions};
-ghost use Rattle.sc_constructs.specs.First.{least_of};
+ghost use Rattle.sc_constructs.specs.Constructs.{of_operated, of_tested, of_group, of_tested_in, of_read, of_members, of_set, of_named_action, of_no_actions};
+ghost use Rattle.sc_constructs.specs.Least.{least_of};
 ghost use Rattle.sc_constructs.specs.Scopes.{is_bare, is_any, of_entity, of_asked, of_asked_action};
 
 use crate::construct::{Construct, Found};
@@ -63,8 +63,8 @@ pub(crate) fn in_asked(
     }
 }
 
-/// Of what a scope asks of the action: `action == E` is no construct that is lacking.
-#[tactic(auto, using(crate::proofs::ScopesLaws::action_Any, crate::proofs::ScopesLaws::action_Equal))]
+/// Of what a scope asks of the action.
+#[tactic(auto, using(crate::proofs::ScopesLaws::action_Any))]
 pub(crate) fn in_asked_action(
     scope: &ActionScope,
     typed: &TypedExpr,
@@ -78,7 +78,7 @@ pub(crate) fn in_asked_action(
     };
     match &scope.constraint {
         ActionConstraint::Any => so_far,
-        ActionConstraint::Equal(_, _) => so_far,
+        ActionConstraint::Equal(place, _) => in_named_action(*place, typed, so_far),
         ActionConstraint::In(place, l) => {
             in_compared(x, *place, BinaryOperator::In, l, typed, so_far)
         }
@@ -163,6 +163,16 @@ fn in_group(
     match typed {
         TypedExpr::Skipped(_) => so_far,
         _ => in_entity(l, typed, with(so_far, in_place, Construct::In)),
+    }
+}
+
+/// Of `action == E`.
+fn in_named_action(place: Place, typed: &TypedExpr, so_far: Option<Found>) -> Option<Found>
+    ensures { result ≡ least_of so_far (of_named_action place (out-TypedExpr typed.now)) }
+{
+    match typed {
+        TypedExpr::Skipped(_) => so_far,
+        _ => with(so_far, place, Construct::NamedAction),
     }
 }
 

@@ -4,7 +4,8 @@ ghost use Rattle.std.specs.Prelude.{◌≡◌, Some, None, MatchOption};
 ghost use Rattle.sc_ast.specs.Conditions.{required};
 ghost use Rattle.sc_typed.specs.declared.typed_expr.TypedExpr.{out-TypedExpr};
 ghost use Rattle.sc_constructs.specs.Constructs.{of_conjunct, constructs};
-ghost use Rattle.sc_constructs.specs.First.{least_of, least};
+ghost use Rattle.sc_constructs.specs.First.{least, refused};
+ghost use Rattle.sc_constructs.specs.Least.{least_of};
 ghost use Rattle.sc_constructs.specs.Scopes.{sides, to_principal, to_action, to_resource, to_clauses};
 
 use crate::construct::Found;
@@ -13,12 +14,12 @@ use crate::walking::{in_applied, in_expr};
 use sc_ast::{Condition, ConditionKind, Policy, UnaryOperator, Variable};
 use sc_typed::TypedExpr;
 
-/// The construct of a policy that no fragment up to now admits: the least one by place, and at one place
-/// the first. Each part is looked at beside what typing made of it, and parts that typing skipped aren't
-/// looked at. A construct of the scope counts, but for `action == E`.
+/// The construct of a policy that isn't admitted: the least one by place, and at one place the first.
+/// Each part is looked at beside what typing made of it, and parts that typing skipped aren't looked at.
+/// The constructs of the scope count too.
 #[tactic(auto, using(crate::proofs::SpineLaws::all_clauses))]
 pub fn least_construct(policy: &Policy, condition: &TypedExpr) -> Option<Found>
-    ensures { result ≡ least (constructs policy.now condition.now) }
+    ensures { result ≡ least (refused (constructs policy.now condition.now)) }
 {
     to_clauses(policy, policy.conditions.as_slice(), condition)
 }
@@ -37,7 +38,7 @@ fn sides(typed: &TypedExpr) -> Option<(&TypedExpr, &TypedExpr)>
 /// Of the scope and these clauses.
 #[tactic(auto, using(crate::proofs::SpineLaws::clauses_none, crate::proofs::SpineLaws::clauses_sideless, crate::proofs::SpineLaws::clauses_more))]
 fn to_clauses(policy: &Policy, clauses: &[Condition], typed: &TypedExpr) -> Option<Found>
-    ensures { result ≡ least (to_clauses policy.now clauses.now (out-TypedExpr typed.now)) }
+    ensures { result ≡ least_of None (to_clauses policy.now clauses.now (out-TypedExpr typed.now)) }
 {
     let Some((last, others)) = clauses.split_last() else {
         return to_resource(policy, typed);
@@ -49,7 +50,7 @@ fn to_clauses(policy: &Policy, clauses: &[Condition], typed: &TypedExpr) -> Opti
     in_clause(last, y, so_far)
 }
 
-/// Of a clause. The `!` of `unless` is no construct that is lacking.
+/// Of a clause. `unless` is a `!`.
 #[tactic(auto, using(crate::proofs::ScopesLaws::clause_When, crate::proofs::ScopesLaws::clause_Unless))]
 fn in_clause(clause: &Condition, typed: &TypedExpr, so_far: Option<Found>) -> Option<Found>
     ensures { result ≡ least_of so_far (of_conjunct
@@ -72,7 +73,7 @@ fn in_clause(clause: &Condition, typed: &TypedExpr, so_far: Option<Found>) -> Op
 /// Of the whole scope.
 #[tactic(auto, using(crate::proofs::SpineLaws::resource_bare, crate::proofs::SpineLaws::resource_none, crate::proofs::SpineLaws::resource_asked))]
 fn to_resource(policy: &Policy, typed: &TypedExpr) -> Option<Found>
-    ensures { result ≡ least (to_resource policy.now (out-TypedExpr typed.now)) }
+    ensures { result ≡ least_of None (to_resource policy.now (out-TypedExpr typed.now)) }
 {
     if is_bare(&policy.resource) {
         return to_action(policy, typed);
@@ -87,7 +88,7 @@ fn to_resource(policy: &Policy, typed: &TypedExpr) -> Option<Found>
 /// Of the scope up to the action.
 #[tactic(auto, using(crate::proofs::SpineLaws::action_bare, crate::proofs::SpineLaws::action_none, crate::proofs::SpineLaws::action_asked))]
 fn to_action(policy: &Policy, typed: &TypedExpr) -> Option<Found>
-    ensures { result ≡ least (to_action policy.now (out-TypedExpr typed.now)) }
+    ensures { result ≡ least_of None (to_action policy.now (out-TypedExpr typed.now)) }
 {
     if is_any(&policy.action) {
         return to_principal(policy, typed);
@@ -102,7 +103,7 @@ fn to_action(policy: &Policy, typed: &TypedExpr) -> Option<Found>
 /// Of the scope's part on the principal.
 #[tactic(auto, using(crate::proofs::SpineLaws::principal_bare, crate::proofs::SpineLaws::principal_none, crate::proofs::SpineLaws::principal_asked))]
 fn to_principal(policy: &Policy, typed: &TypedExpr) -> Option<Found>
-    ensures { result ≡ least (to_principal policy.now (out-TypedExpr typed.now)) }
+    ensures { result ≡ least_of None (to_principal policy.now (out-TypedExpr typed.now)) }
 {
     if is_bare(&policy.principal) {
         return None;

@@ -1,4 +1,4 @@
-//! Constructs that policies have and no fragment admits.
+//! Constructs of policies that aren't admitted.
 use crate::construct::Found;
 
 /// A construct of a policy, by the number of the policy in its file.

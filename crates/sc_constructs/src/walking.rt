@@ -4,12 +4,13 @@ ghost use Rattle.std.specs.Prelude.{◌≡◌, ◌++◌, ℕ, List, map};
 ghost use Rattle.sc_ast.specs.declared.expr.Expr.{Expr as AnyExpr};
 ghost use Rattle.sc_typed.specs.declared.typed_expr.TypedExpr.{out-TypedExpr};
 ghost use Rattle.sc_constructs.specs.Constructs.{of_if, of_either, of_both, of_operated, of_having, of_matching, of_tested, of_group, of_tested_in, of_applied, of_object, of_accessed, of_members, of_set, of_fields, of_record, constructs_in};
-ghost use Rattle.sc_constructs.specs.First.{least_of};
+ghost use Rattle.sc_constructs.specs.Least.{least_of};
 
 use crate::construct::{Construct, Found};
 use crate::least::with;
-use crate::leaves::{in_read, in_read_literal, in_type};
+use crate::leaves::{in_read, in_read_literal};
 use crate::operators::{in_unary, of_binary};
+use crate::types::in_type;
 use sc_ast::{BinaryOperator, Expr, Place, UnaryOperator, Variable};
 use sc_lists::Text;
 use sc_typed::TypedExpr;
@@ -22,8 +23,8 @@ pub(crate) fn in_expr(expr: &Expr, typed: &TypedExpr, so_far: Option<Found>) -> 
 {
     match expr {
         Expr::If(place, c, a, b) => in_if(*place, c.get(), a.get(), b.get(), typed, so_far),
-        Expr::Or(_, a, b) => in_either(a.get(), b.get(), typed, so_far),
-        Expr::And(_, a, b) => in_both(a.get(), b.get(), typed, so_far),
+        Expr::Or(place, a, b) => in_either(*place, a.get(), b.get(), typed, so_far),
+        Expr::And(place, a, b) => in_both(*place, a.get(), b.get(), typed, so_far),
         Expr::Binary(place, operator, a, b) => {
             in_operated(*place, *operator, a.get(), b.get(), typed, so_far)
         }
@@ -77,22 +78,41 @@ fn in_if(
 }
 
 #[cycle(walking)]
-fn in_either(a: &Expr, b: &Expr, typed: &TypedExpr, so_far: Option<Found>) -> Option<Found>
-    ensures { result ≡ least_of so_far (of_either (constructs_in a.now) (constructs_in b.now)
+fn in_either(
+    place: Place,
+    a: &Expr,
+    b: &Expr,
+    typed: &TypedExpr,
+    so_far: Option<Found>,
+) -> Option<Found>
+    ensures { result ≡ least_of so_far (of_either place (constructs_in a.now) (constructs_in b.now)
         (out-TypedExpr typed.now)) }
 {
     match typed {
-        TypedExpr::Or(_, _, x, y) => in_two(a, b, x.get(), y.get(), so_far),
+        TypedExpr::Or(_, _, x, y) => {
+            let so_far = with(so_far, place, Construct::Connective);
+            in_two(a, b, x.get(), y.get(), so_far)
+        }
         _ => so_far,
     }
 }
 
 #[cycle(walking)]
-fn in_both(a: &Expr, b: &Expr, typed: &TypedExpr, so_far: Option<Found>) -> Option<Found>
-    ensures { result ≡ least_of so_far (of_both (constructs_in a.now) (constructs_in b.now) (out-TypedExpr typed.now)) }
+fn in_both(
+    place: Place,
+    a: &Expr,
+    b: &Expr,
+    typed: &TypedExpr,
+    so_far: Option<Found>,
+) -> Option<Found>
+    ensures { result ≡ least_of so_far (of_both place (constructs_in a.now) (constructs_in b.now)
+        (out-TypedExpr typed.now)) }
 {
     match typed {
-        TypedExpr::And(_, _, x, y) => in_two(a, b, x.get(), y.get(), so_far),
+        TypedExpr::And(_, _, x, y) => {
+            let so_far = with(so_far, place, Construct::Connective);
+            in_two(a, b, x.get(), y.get(), so_far)
+        }
         _ => so_far,
     }
 }
@@ -217,7 +237,9 @@ fn in_object(place: Place, a: &Expr, typed: &TypedExpr, so_far: Option<Found>) -
     ensures { result ≡ least_of so_far (of_object place (constructs_in a.now) (out-TypedExpr typed.now)) }
 {
     match typed {
-        TypedExpr::Variable(at, ty, Variable::Context) => in_type(*at, ty, so_far),
+        TypedExpr::Variable(at, ty, Variable::Context) => {
+            in_type(*at, ty, with(so_far, place, Construct::ContextAttribute))
+        }
         _ => in_expr(a, typed, with(so_far, place, Construct::Attribute)),
     }
 }

@@ -1,6 +1,6 @@
 pub mod MemberLaws
 pub mod MakingLaws
-mod PlaceLaws
+pub mod PlaceLaws
 mod Examples
 mod ValueLaws
 mod RowLaws

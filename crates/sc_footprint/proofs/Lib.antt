@@ -1,12 +1,13 @@
-pub mod LiteralLaws
-pub mod IndexLaws
-pub mod MemberLaws
-pub mod PairLaws
-pub mod FollowingLaws
-pub mod ClosingLaws
-pub mod OrderingLaws
-pub mod PosingLaws
-pub mod GoalLaws
+mod OrderingLaws
 pub mod NumberingLaws
-pub mod WorldLaws
+pub mod IndexLaws
+mod CompanionLaws
+mod ShelvingLaws
+mod CandidateLaws
+mod LiteralLaws
+pub mod PosingLaws
 pub mod TruthLaws
+pub mod OverLaws
+pub mod KindLaws
+pub mod ProblemLaws
+mod Examples

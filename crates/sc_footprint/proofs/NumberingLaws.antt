@@ -1,7 +1,10 @@
 -- The numbers of atoms, and the literals of closed terms.
-use Rattle.std.proofs.Common.{◌≡◌, ◌↔◌, ℕ, zero, suc, ◌+◌, ◌-◌, ◌<◌, ◌≤◌, ◌==◌, Bool, true, false, cond, inl, inr, List, [], ◌∷◌, filter, length, slice_get, Some, refl, sym, ap, ◌∙◌, arith}
+use Rattle.std.proofs.Common.{◌≡◌, ◌↔◌, ℕ, zero, suc, ◌+◌, ◌-◌, ◌<◌, ◌≤◌, ◌==◌, Bool, true, false, cond, inl, inr, List, [], ◌∷◌, map, filter, length, slice_get, Some, None, option_map, refl, sym, ap, subst, ◌∙◌, arith}
 use Rattle.std.proofs.lemmas.Bool.Decides.{nat_tests}
 use Rattle.std.proofs.lemmas.Cmp.{tied_itself}
+use Rattle.std.proofs.lemmas.Option.{slice_get-map}
+use Rattle.std.specs.List.{AllByRecursion}
+use Rattle.sc_lists.proofs.OptionLaws.{same_some}
 use Rattle.std.proofs.lemmas.List.Kept.{IsStrictlySortedBy-filter}
 use Rattle.std.specs.Cmp.{IsTotalOrder}
 use Rattle.std.specs.List.Sorted.{IsStrictlySortedBy}
@@ -17,7 +20,9 @@ use Rattle.sc_nodes.specs.declared.node.ManyOp.TheVariants as manys
 use Rattle.sc_terms.specs.Trees.{Tree, leaf, one, two, choice, many}
 use Rattle.sc_terms.specs.Order.{tree_cmp, tree_eq}
 use Rattle.sc_terms.specs.Folds.{truth_term}
-use Rattle.sc_footprint.specs.Problems.{is_atom, atoms_among, numbered, number_among, one_more}
+use Rattle.sc_closure.specs.Atoms.{is_atom, atoms_among}
+use Rattle.sc_closure.specs.Places.{one_more}
+use Rattle.sc_footprint.specs.Problems.{numbered, number_among}
 use Rattle.sc_footprint.proofs.OrderingLaws.{after}
 
 -- ---- a term's number, and the term of a number
@@ -27,6 +32,26 @@ at_suc xs k =
     let some : (suc k == 0) ≡ false = grind (arith, nat_tests) in
     let back : suc k - 1 ≡ k = omega arith in
     rw some (ap (slice_get xs) back)
+
+-- of a list that is mapped, and of numbers below one
+pub numbered_map : {X Y : Type 0} (f : X → Y) (xs : List X) (n : ℕ) → option_map f (numbered xs n) ≡ numbered (map f xs) n
+numbered_map {X} {Y} f xs n = by (n == 0)
+  where
+    by : (b : Bool) → option_map f (cond b None (slice_get xs (n - 1))) ≡ cond b None (slice_get (map f xs) (n - 1))
+    by true = refl
+    by false = sym (slice_get-map f xs (n - 1))
+
+pub numbered_within : (l : ℕ) (ns : List ℕ) (n t : ℕ) → AllByRecursion (λ m. m < l) ns → numbered ns n ≡ Some t → t < l
+numbered_within l ns n t h = by (n == 0)
+  where
+    read : (ms : List ℕ) (i : ℕ) → AllByRecursion (λ m. m < l) ms → slice_get ms i ≡ Some t → t < l
+    read [] i w e = absurd cc
+    read (m ∷ ms) zero w e = subst (λ (k : ℕ). k < l) (same_some e) w.0
+    read (m ∷ ms) (suc i) w e = read ms i w.1 e
+
+    by : (b : Bool) → cond b None (slice_get ns (n - 1)) ≡ Some t → t < l
+    by true e = absurd cc
+    by false e = read ns (n - 1) h e
 
 further : (x : Tree) (xs : List Tree) (k : ℕ) (t : Tree) → numbered xs k ≡ Some t → numbered (x ∷ xs) (one_more k) ≡ Some t
 further x xs zero t h = cc

@@ -4,12 +4,8 @@ use Rattle.sc_world.specs.declared.world.World.{World}
 use Rattle.sc_world.specs.WellFormed.{IsWellFormed}
 use Rattle.sc_clauses.specs.Clauses.{Clause, clause_holds}
 use Rattle.sc_terms.specs.Trees.{Tree}
-use Rattle.sc_terms.specs.Values.{val, truth}
+use Rattle.sc_definitions.specs.Truths.{is_true}
 use Rattle.sc_footprint.specs.Problems.{Posed, goal_term, atoms, numbered}
-
--- the term is true
-abbrev pub is_true : Tree → World → Bool
-is_true t w = truth (val t w)
 
 abbrev pub is_true_at : Option Tree → World → Bool
 is_true_at None w = false

@@ -1,39 +1,41 @@
-//! Of which kind the terms of a table are.
-ghost use Rattle.std.specs.Prelude.{◌≡◌, ◌<◌, length};
-ghost use Rattle.sc_terms.specs.Tables.{tree};
-ghost use Rattle.sc_footprint.specs.Problems.{is_opposite as opposite, is_bool as truth_value, is_atom as atom};
+//! Kinds of closed terms.
+ghost use Rattle.std.specs.Prelude.{◌≡◌};
+ghost use Rattle.sc_footprint.specs.Kinds.{place as place_of, same_kind};
 
-use sc_nodes::{Leaf, Literal, Node, UnaryOp};
-use sc_sorts::Sort;
-use sc_terms::Terms;
-
-/// Whether a term is `false` or a negation.
-pub(crate) fn is_opposite(terms: &Terms, n: u64) -> bool
-    requires { n < length terms.now }
-    ensures { result ≡ opposite (tree terms.now n) }
-{
-    match terms.node(n) {
-        Node::Leaf(Leaf::Literal(Literal::Bool(false))) => true,
-        Node::One(UnaryOp::Not, _) => true,
-        _ => false,
-    }
+/// What rules go over: closed terms of a sort, or what tells of entities of a sort.
+#[derive(Clone, Copy, Debug)]
+pub enum Kind {
+    /// All terms of a sort.
+    Any,
+    /// The terms of a sort that may be members of sets.
+    Candidate,
+    /// The attributes of entities.
+    Attributes,
+    /// The ancestors of entities.
+    Ancestors,
+    /// The keys of entities' tags.
+    Keys,
+    /// Entities' tags.
+    Tag,
 }
 
-/// Whether a term is a truth value.
-pub(crate) fn is_bool(terms: &Terms, n: u64) -> bool
-    requires { n < length terms.now }
-    ensures { result ≡ truth_value (tree terms.now n) }
-{
-    match terms.sort(n) {
-        Sort::Bool => true,
-        _ => false,
+impl Kind {
+    fn place(self) -> u64
+        ensures { result ≡ place_of self }
+    {
+        match self {
+            Kind::Any => 0,
+            Kind::Candidate => 1,
+            Kind::Attributes => 2,
+            Kind::Ancestors => 3,
+            Kind::Keys => 4,
+            Kind::Tag => 5,
+        }
     }
-}
 
-/// Whether a term is an atom.
-pub(crate) fn is_atom(terms: &Terms, n: u64) -> bool
-    requires { n < length terms.now }
-    ensures { result ≡ atom (tree terms.now n) }
-{
-    is_bool(terms, n) && !is_opposite(terms, n)
+    pub(crate) fn is_same(self, other: Kind) -> bool
+        ensures { result ≡ same_kind self other }
+    {
+        self.place() == other.place()
+    }
 }

@@ -1,21 +1,21 @@
 //! The problem whether some well-formed world makes a goal true: its closed terms, its listed atoms
-//! and their literals, and what a theory of such problems is.
+//! and their literals, what goes with each term, its terms by kinds and sorts, and what a theory of
+//! such problems is.
 #![tactic(auto)]
 
-mod closed;
 mod closing;
-mod following;
+mod companions;
 mod kind;
 mod law;
-mod limit;
 mod listing;
-mod numbers;
 mod problem;
+mod shelves;
 mod sorting;
 mod theory;
 
 pub use closing::close;
+pub use kind::Kind;
 pub use law::problem_laws;
-pub use limit::OverLimit;
 pub use problem::Problem;
+pub use sc_closure::OverLimit;
 pub use theory::Theory;

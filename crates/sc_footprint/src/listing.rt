@@ -1,11 +1,10 @@
 //! The atoms among the closed terms.
 ghost use Rattle.std.specs.Prelude.{◌≡◌, ◌<◌, length, IfOk};
 ghost use Rattle.std.specs.List.{AllByRecursion};
-ghost use Rattle.sc_footprint.specs.Sorting.{atoms_of};
+ghost use Rattle.sc_closure.specs.Following.{atoms_of};
 
-use crate::kind::is_atom;
-use crate::numbers::put;
 use indexmap::IndexSet;
+use sc_closure::{is_atom, put};
 use sc_terms::Terms;
 use std::alloc::{AllocError, Global};
 

@@ -1,13 +1,20 @@
 //! Problems.
-ghost use Rattle.std.specs.Prelude.{◌≡◌, ◌<◌, length, option_map, IfSome};
+ghost use Rattle.std.specs.Prelude.{◌≡◌, ◌<◌, ◌^◌, length, map, option_map, Contains, IfSome};
+ghost use Rattle.std.specs.List.{AllByRecursion};
 ghost use Rattle.sc_terms.specs.Tables.{tree};
-ghost use Rattle.sc_footprint.specs.Problems.{IsPosed, is_bool as truth_value, atoms, numbered, number_of, literal_in, literal_at, goal_literal, atom_number};
+ghost use Rattle.sc_closure.specs.Atoms.{is_bool as truth_value};
+ghost use Rattle.sc_definitions.specs.Definitions.{inputs_of, shape_of};
+ghost use Rattle.sc_footprint.specs.Problems.{IsPosed, atoms, numbered, number_of, term_of, companion as companion_of, literal_in, literal_at, goal_literal, atom_number};
+ghost use Rattle.sc_footprint.specs.Shelves.{shelf};
 ghost use Rattle.sc_footprint.specs.Indices.{own_literal};
 
-use crate::kind::is_bool;
-use crate::numbers::{number_at, place_in};
+use crate::companions::{Span, number_between, span_at};
+use crate::kind::Kind;
+use crate::shelves::{Shelf, shelf_of};
 use indexmap::IndexSet;
 use sc_clauses::{Lit, negation};
+use sc_closure::{is_bool, number_at, place_in};
+use sc_definitions::{Shape, input_count, shape_at};
 use sc_names::Lits;
 use sc_schema::{Env, Schema};
 use sc_term_laws::order_laws;
@@ -25,6 +32,9 @@ pub struct Problem<'a> {
     pub(crate) goal: u64,
     pub(crate) closed: IndexSet<u64>,
     pub(crate) atoms: IndexSet<u64>,
+    pub(crate) spans: Vec<Span>,
+    pub(crate) companions: Vec<u64>,
+    pub(crate) shelves: Vec<Shelf>,
 }
 
 impl<'a> Model for Problem<'a> {
@@ -32,15 +42,16 @@ impl<'a> Model for Problem<'a> {
     ghost use Rattle.sc_schema.specs.contracts.ty.Ty as ty;
     ghost use Rattle.sc_sorts.specs.contracts.sort.Sort as sort;
     ghost use Rattle.sc_footprint.specs.Problems.{Posed};
-    ghost use Rattle.sc_footprint.specs.Indices.{IsKept};
+    ghost use Rattle.sc_footprint.specs.Indices.{IsKept, problem_of};
 
     ghost Value = { Posed };
 
     ghost coded = { Prim.hlevel (codes, ty.the_row.coded, sort.the_row.coded) };
 
-    ghost view = { λ p. record { schema = p.schema.now; env = p.env.now; literals = p.literals.now; nodes = p.terms; goal = p.goal; closed = p.closed.keys } };
+    ghost view = { λ p. problem_of p.schema.now p.env.now p.literals.now p.terms p.goal p.closed.keys };
 
-    ghost invariant = { λ p. IsKept (record { schema = p.schema.now; env = p.env.now; literals = p.literals.now; nodes = p.terms; goal = p.goal; closed = p.closed.keys }) p.atoms.keys };
+    ghost invariant = { λ p. IsKept (problem_of p.schema.now p.env.now p.literals.now p.terms p.goal p.closed.keys)
+        p.atoms.keys p.spans.items p.companions.items p.shelves.items };
 }
 
 impl<'a> Problem<'a> {
@@ -61,7 +72,8 @@ impl<'a> Problem<'a> {
     /// The closed term of a number, by its number in the table of terms. None exactly where there is
     /// none.
     pub fn term(&self, n: u64) -> Option<u64>
-        ensures { result ≡ numbered self.now.closed n }
+        ensures value { result ≡ numbered self.now.closed n }
+        ensures within { IfSome result (λ t. t < length self.now.nodes) }
     {
         if n == 0 {
             return None;
@@ -83,7 +95,7 @@ impl<'a> Problem<'a> {
     /// The literal of the closed term of a number. None exactly where there is none, or it is no
     /// truth value.
     pub fn literal_of(&self, n: u64) -> Option<Lit>
-        ensures { result ≡ literal_at self.now (option_map (tree self.now.nodes) (numbered self.now.closed n)) }
+        ensures { result ≡ literal_at self.now (term_of self.now n) }
     {
         match self.term(n) {
             Some(term) => {
@@ -103,6 +115,57 @@ impl<'a> Problem<'a> {
         ensures { result ≡ truth_value (tree self.now.nodes term) }
     {
         is_bool(&self.terms, term)
+    }
+
+    /// How many terms are closed; they are numbered from 1.
+    pub fn closed_count(&self) -> u64
+        ensures value { result ≡ length self.now.closed }
+        ensures small { result < 10 ^ 18 }
+    {
+        self.spans.len() as u64
+    }
+
+    /// Of the terms that go with the closed term of a number the one at a place, counted from 0, by
+    /// its number in the table of terms. None exactly where there is none.
+    pub fn companion(&self, n: u64, place: u64) -> Option<u64>
+        ensures value { option_map (tree self.now.nodes) result ≡ companion_of self.now n place }
+        ensures within { IfSome result (λ t. t < length self.now.nodes) }
+        ensures closed { IfSome result (λ t. Contains self.now.closed t) }
+    {
+        if n == 0 {
+            return None;
+        }
+        self.terms.laws();
+        match span_at(&self.spans, n - 1) {
+            Some(span) => number_between(&self.companions, span, place),
+            None => None,
+        }
+    }
+
+    /// The closed terms of a kind whose sort is that of a term of the table, or that tell of
+    /// entities of its sort, by their numbers in the table and in the order of terms.
+    pub fn shelf(&self, kind: Kind, term: u64) -> &[u64]
+        requires { term < length self.now.nodes }
+        ensures value { map (tree self.now.nodes) result.now ≡ shelf self.now kind (tree self.now.nodes term) }
+        ensures within { AllByRecursion (λ t. t < length self.now.nodes) result.now }
+    {
+        shelf_of(&self.terms, &self.shelves, kind, term)
+    }
+
+    /// How a term of the table is defined.
+    pub fn shape(&self, term: u64) -> Shape
+        requires { term < length self.now.nodes }
+        ensures { result ≡ shape_of (tree self.now.nodes term) }
+    {
+        shape_at(&self.terms, term)
+    }
+
+    /// How many terms the definition of a term of the table names.
+    pub fn input_count(&self, term: u64) -> u64
+        requires { term < length self.now.nodes }
+        ensures { result ≡ length (inputs_of (tree self.now.nodes term)) }
+    {
+        input_count(&self.terms, term)
     }
 
     /// How many atoms are listed; they are numbered from 1.

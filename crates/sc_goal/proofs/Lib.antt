@@ -1,7 +1,8 @@
+pub mod CompilingLaws
 pub mod PropertiesLaws
 pub mod GoalsLaws
 pub mod QueriesLaws
 pub mod RightLaws
-pub mod BooleansLaws
+pub mod TermsLaws
 pub mod PosedLaws
 mod Examples

@@ -22,10 +22,11 @@ use Rattle.sc_question.specs.declared.question.Question.TheVariants.{NeverErrors
 use Rattle.sc_terms.specs.Trees.{Tree}
 use Rattle.sc_terms.specs.Folds.{not_term, equal_term}
 use Rattle.sc_terms.specs.Values.{val, yes, truth}
-use Rattle.sc_symeval.specs.Codes.{Code}
+use Rattle.sc_codes.specs.Code.{Code}
 use Rattle.sc_symeval.specs.Compiling.{policy_code}
 use Rattle.sc_symeval.specs.Agreement.{Agrees}
-use Rattle.sc_symauth.specs.Standings.{Compiled, with_effect, allow, any_error}
+use Rattle.sc_symauth.specs.Standings.{Compiled, allow, any_error}
+use Rattle.sc_goal.specs.Goals.{with_effect}
 use Rattle.sc_symauth.specs.Agreement.{Represents}
 use Rattle.sc_symauth.proofs.ValuesLaws as values
 use Rattle.sc_symauth.proofs.ValuesLaws.{Negation, Both, Equation, not_is, and_is, equal_is}

@@ -1,20 +1,20 @@
 //! What the properties that questions ask about come to, and in which worlds goals are true.
+ghost use Rattle.std.specs.List.{AllByRecursion};
 ghost use Rattle.std.specs.Prelude.{◌≡◌, ◌↔◌, List, None, Some, IsSome, IsTrue, IsErr, Any, Contains, not};
 ghost use Rattle.sc_names.specs.declared.uid.Uid.{Uid as AnyUid};
 ghost use Rattle.sc_ast.specs.Conditions.{condition};
 ghost use Rattle.sc_ast.specs.Literals.{literals as uids_of};
 ghost use Rattle.sc_ast.specs.declared.policy.Policy.{Policy as AnyPolicy};
 ghost use Rattle.sc_schema.specs.declared.declarations.Env.{Env as AnyEnv};
-ghost use Rattle.sc_schema.specs.Declarations.{Declarations, context_of, environments};
+ghost use Rattle.sc_schema.specs.Declarations.{Declarations, environments};
 ghost use Rattle.sc_schema.specs.Lawful.{IsLawful};
 ghost use Rattle.sc_world.specs.WellFormed.{IsWellFormed};
 ghost use Rattle.sc_world.specs.declared.world.World.{World as AnyWorld};
 ghost use Rattle.sc_eval.specs.Eval.{eval};
 ghost use Rattle.sc_auth.specs.Decisions.{allows};
 ghost use Rattle.sc_typing.specs.Checking.{type_fault};
-ghost use Rattle.sc_constructs.specs.First.{unsupported};
-ghost use Rattle.sc_sorts.specs.declared.sort.Sort.TheVariants.{Bool};
-ghost use Rattle.sc_term_laws.specs.Booleans.{IsBoolean};
+ghost use Rattle.sc_sorts.specs.declared.sort.Sort.TheVariants as sorts;
+ghost use Rattle.sc_symlaws.specs.Written.{IsSetting, IsWritten};
 ghost use Rattle.sc_term_laws.specs.Judging.{IsTermOf};
 ghost use Rattle.sc_terms.specs.Trees.{Tree};
 ghost use Rattle.sc_terms.specs.Values.{val, truth};
@@ -23,8 +23,8 @@ ghost use Rattle.sc_goal.specs.Properties.{has};
 ghost use Rattle.sc_question.specs.declared.question.Question.{Question as AnyQuestion};
 ghost use Rattle.sc_question.specs.declared.question.Question.TheVariants.{NeverErrors, AlwaysAllows, AlwaysDenies, Implies, Equivalent, Disjoint};
 
-use sc_symauth::standing_laws;
-use sc_symeval::compile_laws;
+use sc_symauth::{standing_laws, standing_terms};
+use sc_symlaws::compile_laws;
 use sc_term_laws::{made_laws, value_laws};
 
 /// Which worlds have the property that a question asks about, of policy sets `a` and `b`.
@@ -48,27 +48,27 @@ pub fn property_laws()
 {}
 
 /// In each well-formed world of its environment, for literals that hold the uids of the sets, a goal is
-/// true exactly where the property fails. A goal is a truth value among the environment's terms, and of
-/// the fragment of Booleans. Policies that are typed in all environments, and have no further constructs
-/// there, are compiled in each; and there is a goal where the policies of both sets are.
+/// true exactly where the property fails. Where the literals are declared and constants are in range, a
+/// goal is a term. Policies that are typed in all environments are compiled in each, and there is a goal
+/// where the policies of both sets are.
 pub fn goal_laws()
     ensures right { (s : Declarations) (env : AnyEnv) (lits : List AnyUid) (w : AnyWorld) (q : AnyQuestion)
         (a b : List AnyPolicy) (t : Tree) →
         IsLawful s → IsWellFormed s env lits w → ((u : AnyUid) → Contains (uids_of a) u → Contains lits u)
         → ((u : AnyUid) → Contains (uids_of b) u → Contains lits u) →
         goal_term s env q a b ≡ Some t → truth (val t w) ≡ not (has q a b w) }
-    ensures boolean { (s : Declarations) (env : AnyEnv) (q : AnyQuestion) (a b : List AnyPolicy) (t : Tree) →
-        goal_term s env q a b ≡ Some t → IsBoolean (context_of s env.action) t }
-    ensures term { (s : Declarations) (env : AnyEnv) (written : List AnyUid) (q : AnyQuestion) (a b : List AnyPolicy)
-        (t : Tree) → goal_term s env q a b ≡ Some t → IsTermOf s env written Bool t }
+    ensures term { (s : Declarations) (env : AnyEnv) (lits : List AnyUid) (q : AnyQuestion) (a b : List AnyPolicy)
+        (t : Tree) →
+        IsSetting s env lits → AllByRecursion (IsWritten lits) a → AllByRecursion (IsWritten lits) b →
+        goal_term s env q a b ≡ Some t → IsTermOf s env lits sorts.Bool t }
     ensures posed { (s : Declarations) (env : AnyEnv) (ps : List AnyPolicy) →
-        type_fault s ps ≡ None → unsupported s ps ≡ None → Contains (environments s) env
-        → IsSome (all_compiled s env ps) }
+        type_fault s ps ≡ None → Contains (environments s) env → IsSome (all_compiled s env ps) }
     ensures both { (s : Declarations) (env : AnyEnv) (q : AnyQuestion) (a b : List AnyPolicy) →
         IsSome (all_compiled s env a) → IsSome (all_compiled s env b) → IsSome (goal_term s env q a b) }
 {
     compile_laws();
     standing_laws();
-    value_laws();
+    standing_terms();
     made_laws();
+    value_laws();
 }

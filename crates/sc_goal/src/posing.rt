@@ -12,12 +12,14 @@ use crate::queries::Query;
 use sc_question::Question;
 use sc_schema::{Env, Schema};
 use sc_symauth::{CompiledPolicy, allow_term, any_error_term};
+use sc_symeval::{Setting, variables_of};
 use sc_terms::Terms;
 use std::alloc::{AllocError, Global};
 
 /// The goal of a query in an environment of a schema: a term that is true in the worlds that lack the
-/// property which the question asks about. Each policy of the sets is typed in the environment, and of
-/// the constructs that are compiled. Terms of the table keep their numbers, also where memory is wanted.
+/// property which the question asks about. Each policy of the sets is typed in the environment. The
+/// variables of its requests are made once. Terms of the table keep their numbers, also where memory is
+/// wanted.
 pub fn goal(
     alloc: Global,
     terms: &mut Terms,
@@ -31,8 +33,15 @@ pub fn goal(
     ensures kept { Keeps terms.old terms.new }
 {
     let policies = query.sets().0;
-    let first = compile_all(alloc, terms, schema, policies.as_slice(), env)?;
-    let second = compile_all(alloc, terms, schema, query.second(), env)?;
+    let variables = variables_of(alloc, terms, schema, env)?;
+    let setting = Setting {
+        alloc,
+        schema,
+        env,
+        variables,
+    };
+    let first = compile_all(&setting, terms, policies.as_slice())?;
+    let second = compile_all(&setting, terms, query.second())?;
     goal_of(
         alloc,
         terms,

@@ -1,7 +1,6 @@
-//! Goals of questions, in a new table, where 0 is `true` and 1 is `false`, and 3 comes to be the attribute
-//! that is read first.
+//! Goals of questions, in a new table, where 0 is `true` and 1 is `false`, 2, 3 and 4 come to be principal,
+//! resource and context, and from 5 on terms are numbered as they are made.
 ghost use Rattle.std.specs.Prelude.{◌≡◌, None, Contains, OnOk, IfOk, IsSome};
-ghost use Rattle.sc_constructs.specs.First.{unsupported};
 ghost use Rattle.sc_goal.specs.Goals.{all_compiled};
 ghost use Rattle.sc_goal.specs.Queries.{second};
 ghost use Rattle.sc_schema.specs.Declarations.{environments};
@@ -9,7 +8,6 @@ ghost use Rattle.sc_typing.specs.Checking.{type_fault};
 
 use crate::samples::{policies, schema};
 use sc_ast::PolicySet;
-use sc_constructs::first_unsupported;
 use sc_goal::{Query, Question, goal, goal_laws, query};
 use sc_question::takes_two;
 use sc_schema::{Env, Schema, environments};
@@ -18,18 +16,13 @@ use sc_typing::check_types;
 use std::alloc::{AllocError, Global};
 use std::test::Fail;
 
-/// Checks that policies have types and no construct that isn't compiled. That they have counts as want of
-/// memory.
+/// Checks that policies have types. That they have none counts as want of memory.
 #[tactic(auto, using(crate::proofs::ServingLaws::none_where_passed))]
 fn check(alloc: Global, schema: &Schema, policies: &PolicySet) -> Result<(), AllocError>
-    ensures typed { OnOk result (type_fault schema.now policies.now ≡ None) }
-    ensures plain { OnOk result (unsupported schema.now policies.now ≡ None) }
+    ensures { OnOk result (type_fault schema.now policies.now ≡ None) }
 {
     match check_types(alloc, schema, policies) {
-        Ok(()) => match first_unsupported(alloc, schema, policies)? {
-            None => Ok(()),
-            Some(_) => Err(AllocError),
-        },
+        Ok(()) => Ok(()),
         Err(_) => Err(AllocError),
     }
 }
@@ -103,6 +96,8 @@ const ALL: &str = "permit(principal, action == Action::\"view\", resource);";
 
 const X: &str = "permit(principal, action, resource) when { context.x };";
 
+const OVERFLOWS: &str = "permit(principal, action, resource) when { context.n + 1 == 2 };";
+
 const NONE: &str = "permit(principal, action, resource); forbid(principal, action, resource);";
 
 const ALL_BUT_X: &str =
@@ -115,13 +110,14 @@ fn goals_of_one_set(rt: HostRuntime) -> Result<(), Fail> {
         (Question::AlwaysAllows, "", 0),
         (Question::AlwaysDenies, "", 1),
         (Question::NeverErrors, X, 1),
-        (Question::AlwaysAllows, X, 4),
-        (Question::AlwaysDenies, X, 3),
+        (Question::AlwaysAllows, X, 6),
+        (Question::AlwaysDenies, X, 5),
         (Question::AlwaysAllows, ALL, 1),
         (Question::AlwaysDenies, ALL, 0),
         (Question::AlwaysDenies, NONE, 1),
-        (Question::AlwaysAllows, ALL_BUT_X, 3),
-        (Question::AlwaysDenies, ALL_BUT_X, 4),
+        (Question::AlwaysAllows, ALL_BUT_X, 5),
+        (Question::AlwaysDenies, ALL_BUT_X, 6),
+        (Question::NeverErrors, OVERFLOWS, 7),
     ] {
         let found = goal_number(rt.alloc(), question, (file, ""))?;
         assert!(rt; found == goal, "{question:?} {file}");
@@ -136,11 +132,11 @@ fn goals_of_two_sets(rt: HostRuntime) -> Result<(), Fail> {
         (Question::Equivalent, "", "", 1),
         (Question::Disjoint, "", "", 1),
         (Question::Implies, X, ALL, 1),
-        (Question::Implies, ALL, X, 4),
+        (Question::Implies, ALL, X, 7),
         (Question::Equivalent, X, X, 1),
-        (Question::Equivalent, X, "", 3),
+        (Question::Equivalent, X, "", 5),
         (Question::Disjoint, X, "", 1),
-        (Question::Disjoint, X, ALL, 3),
+        (Question::Disjoint, X, ALL, 5),
     ] {
         let found = goal_number(rt.alloc(), question, (first, second))?;
         assert!(rt; found == goal, "{question:?} {first}");

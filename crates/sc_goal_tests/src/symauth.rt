@@ -1,8 +1,6 @@
-//! How policies stand, over a table of `true` and `false`, which have the numbers 0 and 1.
-ghost use Rattle.std.specs.Prelude.{◌≡◌, Ok};
-ghost use Rattle.sc_typing.specs.Policies.{typed_policy};
-
-use crate::samples::{is_compiled, policies, schema};
+//! How policies stand, over a table of `true` and `false`, which have the numbers 0 and 1. Where policies
+//! are compiled, 5 comes to be the attribute that is read of the context first.
+use crate::samples::{policies, schema};
 use sc_ast::{Effect, Policy, PolicySet};
 use sc_lists::{Fault, Seq};
 use sc_schema::{Env, Schema, environments};
@@ -32,26 +30,20 @@ fn what_has_no_value_errs(rt: HostRuntime) -> Result<(), Fail> {
 }
 
 /// Whether a policy's condition with its types is true, and whether it has no value, as terms of a new
-/// table. That it has a construct that isn't compiled counts as want of memory.
+/// table.
 fn terms_of(
     alloc: Global,
     schema: &Schema,
     env: &Env,
-    policy: &Policy,
     condition: &TypedExpr,
-) -> Result<(u64, u64), AllocError>
-    requires { typed_policy schema.now env.now policy.now ≡ Ok condition.now }
-{
-    if !is_compiled(schema, env, policy, condition) {
-        return Err(AllocError);
-    }
+) -> Result<(u64, u64), AllocError> {
     let mut terms = Terms::new(alloc)?;
     let satisfied = satisfied_term(alloc, &mut terms, schema, condition, env)?;
     let error = error_term(alloc, &mut terms, schema, condition, env)?;
     Ok((satisfied, error))
 }
 
-/// The same of a policy's condition, if it is compiled.
+/// The same of a policy's condition, if there is memory.
 fn terms_in(
     alloc: Global,
     schema: &Schema,
@@ -59,7 +51,7 @@ fn terms_in(
     policy: &Policy,
 ) -> Result<Option<(u64, u64)>, Fault<TypeFault>> {
     let condition = type_policy(alloc, schema, env, policy)?;
-    Ok(terms_of(alloc, schema, env, policy, &condition).ok())
+    Ok(terms_of(alloc, schema, env, &condition).ok())
 }
 
 /// The same of the first of some policies in the first environment.
@@ -86,13 +78,18 @@ fn typed_policies_stand(rt: HostRuntime) -> Result<(), Fail> {
         ("permit(principal, action, resource) when { false };", 1, 1),
         (
             "permit(principal, action, resource) when { context.x };",
-            3,
+            5,
             1,
         ),
         (
             "forbid(principal, action, resource) unless { context.x };",
-            4,
+            6,
             1,
+        ),
+        (
+            "permit(principal, action, resource) when { context.n + 1 == 2 };",
+            12,
+            7,
         ),
     ] {
         let found = stands(rt.alloc(), file)?;

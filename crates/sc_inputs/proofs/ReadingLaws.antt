@@ -10,14 +10,15 @@ use Rattle.sc_schema.specs.Declarations.{Declarations}
 use Rattle.sc_world.specs.declared.world.World.{World}
 use Rattle.sc_world_json.specs.Reading.{SpellsWorld}
 use Rattle.sc_typing.specs.Names.{name_fault}
-use Rattle.sc_inputs.specs.Serving.{Command, Serves, HasUnits, HasSets, asking, replaying}
+use Rattle.sc_inputs.specs.Serving.{Aim, Command, Serves, HasSets, MayWork, asking, checking, logging, replaying, reporting}
 use Rattle.sc_inputs.proofs.ServingLaws.{units_of, sets_of}
-use Rattle.sc_inputs.specs.Readings.{FailsWith, Checks, IsNoSchema, IsNoPolicies, IsNoWorld, ReadsRest, ReadsInputs, IsRead, RefusesSets, by_first, by_against, RefusesAnalysis, by_files, by_question, RefusesScene, by_policies, by_world, by_names}
+use Rattle.sc_inputs.specs.Readings.{FailsWith, Checks, IsNoSchema, IsNoPolicies, IsNoWorld, ReadsRest, ReadsInputs, IsRead, RefusesSets, by_first, by_against, ReadsAll, ReadsAsking, RefusesAsking, by_files, by_place, by_question, RefusesScene, by_policies, by_world, by_names}
 use Rattle.sc_inputs.specs.Refusals as spec
-use Rattle.sc_inputs.specs.Refusals.{Content, File, Side, policies_side, against_side, IsRefusal, no_command, of_schema, of_policies, of_against, of_world, of_names, of_question, IsContent, ReadsSchema, HasPolicies, HasAgainst, HasWorld, AreServed, RefusesFile, unread, long, RefusesSchema, schema_unread, schema_faulty, RefusesPolicies, policies_unread, policies_faulty, RefusesWorld, world_unread, world_faulty, schema_file, policy_file, world_file}
+use Rattle.sc_inputs.specs.Refusals.{Content, File, Side, policies_side, against_side, IsRefusal, no_command, of_schema, of_policies, of_against, of_world, of_log, of_names, of_place, of_question, IsContent, ReadsSchema, HasPolicies, HasAgainst, HasWorld, HasEnvironment, AreServed, RefusesFile, unread, long, RefusesSchema, schema_unread, schema_faulty, RefusesPolicies, policies_unread, policies_faulty, RefusesLog, log_long, log_unread, RefusesWorld, world_unread, world_faulty, schema_file, policy_file, world_file}
 use Rattle.sc_inputs.specs.View.{refusal_view}
+use Rattle.sc_inputs.specs.declared.inputs.Asking.{Asking}
 use Rattle.sc_inputs.specs.declared.inputs.Inputs.{Inputs}
-use Rattle.sc_inputs.specs.declared.inputs.Inputs.TheVariants.{Asked, Replayed}
+use Rattle.sc_inputs.specs.declared.inputs.Inputs.TheVariants.{Asked, Checked, Logged, Replayed}
 use Rattle.sc_inputs.specs.declared.refusal.Refusal.{Refusal}
 
 -- ---- one file
@@ -55,9 +56,14 @@ module _ {risen rose : Type 0} (since : risen → rose) where
   sets_rise content policies against _ (by_first a h) = by_first a (policies_rise content policies policies_side a h)
   sets_rise content policies against _ (by_against a first name has is h) = by_against a first name has is (policies_rise content name against_side a h)
 
-  pub analysis_rises : (content : Content) (policies : List ℕ) (against : Option (List ℕ)) (s : Declarations) (a : spec.Refusal) → RefusesAnalysis content policies against risen s a → RefusesAnalysis content policies against rose s a
-  analysis_rises content policies against s _ (by_files a h) = by_files a (sets_rise content policies against a h)
-  analysis_rises content policies against s _ (by_question a first second has others h) = by_question a first second has others h
+  pub asking_rises : (content : Content) (policies : List ℕ) (against : Option (List ℕ)) (aim : Aim) (s : Declarations) (a : spec.Refusal) → RefusesAsking content policies against aim risen s a → RefusesAsking content policies against aim rose s a
+  asking_rises content policies against aim s _ (by_files a h) = by_files a (sets_rise content policies against a h)
+  asking_rises content policies against aim s _ (by_question a first second has others h) = by_question a first second has others h
+  asking_rises content policies against aim s _ (by_place a first second has others served h) = by_place a first second has others served h
+
+  pub log_rises : (content : Content) (name : List ℕ) (a : spec.Refusal) → RefusesLog content name risen a → RefusesLog content name rose a
+  log_rises content name _ (log_unread h) = log_unread (since h)
+  log_rises content name _ (log_long h) = log_long h
 
   pub world_rises : (content : Content) (name : List ℕ) (a : spec.Refusal) → RefusesWorld content name risen a → RefusesWorld content name rose a
   world_rises content name _ (world_unread a h) = world_unread a (file_rises content name world_file a h)
@@ -72,10 +78,12 @@ module _ {risen rose : Type 0} (since : risen → rose) where
   refusal_rises content words _ (no_command none) = no_command none
   refusal_rises content words _ (of_schema a c h i) = of_schema a c h (schema_rises content c a i)
   refusal_rises content words _ (of_policies a c s h reads i) = of_policies a c s h reads (policies_rise content c.policies policies_side a i)
-  refusal_rises content words _ (of_against a c s question name budget first h task reads has i) = of_against a c s question name budget first h task reads has (policies_rise content name against_side a i)
+  refusal_rises content words _ (of_against a c s question name aim first h task reads has i) = of_against a c s question name aim first h task reads has (policies_rise content name against_side a i)
   refusal_rises content words _ (of_world a s ps name reaches i) = of_world a s ps name reaches (world_rises content name a i)
   refusal_rises content words _ (of_names f s ps name w reaches has is) = of_names f s ps name w reaches has is
-  refusal_rises content words _ (of_question a s question first against budget reaches h) = of_question a s question first against budget reaches h
+  refusal_rises content words _ (of_question a s question first against aim reaches h) = of_question a s question first against aim reaches h
+  refusal_rises content words _ (of_place a s question first against aim reaches served h) = of_place a s question first against aim reaches served h
+  refusal_rises content words _ (of_log a s question first against place name reaches h) = of_log a s question first against place name reaches (log_rises content name a h)
 
 -- ---- what reading a file gives, call by call
 
@@ -136,17 +144,19 @@ world_later content mid name w same h = subst (λ (told : Content). HasWorld tol
 
 -- ---- a command, where the schema is read
 
-sets_refused : (content : Content) (words : List (List ℕ)) (c : Command) (question : Question) (name : Option (List ℕ)) (budget : ℕ) (rose : Type 0) (s : Declarations) → c.task ≡ asking question name budget → Serves words c → ReadsSchema content c s
+sets_refused : (content : Content) (words : List (List ℕ)) (c : Command) (question : Question) (name : Option (List ℕ)) (aim : Aim) (rose : Type 0) (s : Declarations) → c.task ≡ asking question name aim → Serves words c → ReadsSchema content c s
     → (a : spec.Refusal) → RefusesSets content c.policies name rose a → IsRefusal content words rose a
-sets_refused content words c question name budget rose s task serves reads _ (by_first a h) = of_policies a c s serves reads h
-sets_refused content words c question name budget rose s task serves reads _ (by_against a first other has is h) =
-    of_against a c s question other budget first serves (subst (λ (o : Option (List ℕ)). c.task ≡ asking question o budget) is task) reads has h
+sets_refused content words c question name aim rose s task serves reads _ (by_first a h) = of_policies a c s serves reads h
+sets_refused content words c question name aim rose s task serves reads _ (by_against a first other has is h) =
+    of_against a c s question other aim first serves (subst (λ (o : Option (List ℕ)). c.task ≡ asking question o aim) is task) reads has h
 
-pub analysis_refused : (content : Content) (words : List (List ℕ)) (c : Command) (question : Question) (name : Option (List ℕ)) (budget : ℕ) (rose : Type 0) (s : Declarations) → c.task ≡ asking question name budget → Serves words c → ReadsSchema content c s
-    → (a : spec.Refusal) → RefusesAnalysis content c.policies name rose s a → IsRefusal content words rose a
-analysis_refused content words c question name budget rose s task serves reads _ (by_files a h) = sets_refused content words c question name budget rose s task serves reads a h
-analysis_refused content words c question name budget rose s task serves reads _ (by_question a first second has others h) =
-    of_question a s question first second budget (record { command = c; commands = serves; name = name; task = task; schema = reads; policies = has; others = others }) h
+pub asking_refused : (content : Content) (words : List (List ℕ)) (c : Command) (question : Question) (name : Option (List ℕ)) (aim : Aim) (rose : Type 0) (s : Declarations) → c.task ≡ asking question name aim → Serves words c → ReadsSchema content c s
+    → (a : spec.Refusal) → RefusesAsking content c.policies name aim rose s a → IsRefusal content words rose a
+asking_refused content words c question name aim rose s task serves reads _ (by_files a h) = sets_refused content words c question name aim rose s task serves reads a h
+asking_refused content words c question name aim rose s task serves reads _ (by_question a first second has others h) =
+    of_question a s question first second aim (record { command = c; commands = serves; name = name; task = task; schema = reads; policies = has; others = others }) h
+asking_refused content words c question name aim rose s task serves reads _ (by_place a first second has others served h) =
+    of_place a s question first second aim (record { command = c; commands = serves; name = name; task = task; schema = reads; policies = has; others = others }) served h
 
 pub scene_refused : (content : Content) (words : List (List ℕ)) (c : Command) (name : List ℕ) (rose : Type 0) (s : Declarations) → c.task ≡ replaying name → Serves words c → ReadsSchema content c s
     → (a : spec.Refusal) → RefusesScene content c.policies name rose s a → IsRefusal content words rose a
@@ -188,9 +198,9 @@ some-where-read content None (Some ps) h = absurd h
 some-where-read content (Some n) None h = absurd h
 some-where-read content (Some n) (Some ps) h = refl
 
-words-read-one : (content : Content) (words : List (List ℕ)) (c : Command) (s : Declarations) (i : Inputs) → Serves words c → ReadsSchema content c s → ReadsRest content c s i → IsRead content words i
-words-read-one content words c s (Asked i) serves reads h = (
-  record {
+asked-read : (content : Content) (words : List (List ℕ)) (c : Command) (s : Declarations) (aim : Aim) (i : Asking) → Serves words c → ReadsSchema content c s → ReadsAsking content c s aim i → ReadsAll content words i.schema i.question i.policies i.against aim
+asked-read content words c s aim i serves reads h = record {
+  reached = record {
     reaches = record {
       command = c;
       commands = serves;
@@ -201,10 +211,16 @@ words-read-one content words c s (Asked i) serves reads h = (
       others = h.others_read;
     };
     served = subst (λ d. AreServed d i.policies i.against) (sym h.schema) h.served;
-  },
-  subst HasUnits h.task (units_of words c serves),
-  sym (some-where-read content h.name i.against h.others_read) ∙ subst HasSets h.task (sets_of words c serves),
-)
+    environment = subst (λ d. HasEnvironment d aim) (sym h.schema) h.environment;
+  };
+  units = subst MayWork h.task (units_of words c serves);
+  sets = sym (some-where-read content h.name i.against h.others_read) ∙ subst HasSets h.task (sets_of words c serves);
+}
+
+words-read-one : (content : Content) (words : List (List ℕ)) (c : Command) (s : Declarations) (i : Inputs) → Serves words c → ReadsSchema content c s → ReadsRest content c s i → IsRead content words i
+words-read-one content words c s (Asked i) serves reads h = asked-read content words c s (reporting i.budget) i.asking serves reads h
+words-read-one content words c s (Logged i) serves reads h = asked-read content words c s (logging i.analysis.budget i.environment) i.analysis.asking serves reads h
+words-read-one content words c s (Checked i) serves reads h = asked-read content words c s (checking i.environment i.log.now) i.asking serves reads h
 words-read-one content words c s (Replayed x) serves reads h = record {
   name = h.0;
   reaches = record { command = c; commands = serves; task = h.1; schema = schema_at content c x.schema s h.2.schema reads; policies = h.2.policies_read };

@@ -97,6 +97,10 @@ unfoldable pub type_fault_text : IllTyped → List ℕ
 type_fault_text f = codes "policy" ++ (decimal f.policy ++ (codes " " ++ (env_text f.env ++ (codes " " ++ placed (rule_name f.fault.rule) f.fault.at))))
 
 abbrev pub construct_name : Construct → List ℕ
+construct_name construct.Boolean = codes "boolean"
+construct_name construct.Connective = codes "connective"
+construct_name construct.ContextAttribute = codes "context"
+construct_name construct.NamedAction = codes "action"
 construct_name construct.Variable = codes "variable"
 construct_name construct.StringLiteral = codes "string"
 construct_name construct.Entity = codes "entity"
@@ -115,7 +119,7 @@ construct_name construct.Set = codes "set"
 construct_name construct.In = codes "in"
 construct_name construct.Tag = codes "tag"
 construct_name construct.Like = codes "like"
-construct_name construct.Type = codes "type"
+construct_name (construct.Type k) = codes "type"
 
 -- a construct that isn't supported: the policy that has it, its name, and its place
 unfoldable pub construct_text : Unsupported → List ℕ

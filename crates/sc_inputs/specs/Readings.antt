@@ -1,5 +1,5 @@
 -- What reading gives, and why it ends.
-use Rattle.std.specs.Prelude.{◌≡◌, ◌≤◌, ℕ, List, Option, Some, None, is_some, Result, Ok, Err, ⊤}
+use Rattle.std.specs.Prelude.{◌≡◌, ℕ, List, Option, Some, None, is_some, Result, Ok, Err, ⊤}
 use Rattle.sc_lists.specs.declared.fault.Fault.{Fault}
 use Rattle.sc_lists.specs.declared.fault.Fault.TheVariants.{Told, NoMemory}
 use Rattle.sc_ast.specs.declared.policy.Policy.{Policy}
@@ -15,23 +15,25 @@ use Rattle.sc_typing.specs.Names.{name_fault}
 use Rattle.sc_world.specs.declared.world.World.{World}
 use Rattle.sc_world_json.specs.declared.fault.WorldFault.{WorldFault}
 use Rattle.sc_world_json.specs.Reading as world
-use Rattle.sc_inputs.specs.Serving.{Command, asking, replaying}
+use Rattle.sc_inputs.specs.Serving.{Aim, Command, HasUnits, asking, checking, logging, replaying, reporting}
 use Rattle.sc_inputs.specs.Refusals as spec
 use Rattle.sc_inputs.specs.View.{refusal_view}
-use Rattle.sc_inputs.specs.declared.inputs.Analysis.{Analysis}
+use Rattle.sc_inputs.specs.declared.inputs.Asking.{Asking}
 use Rattle.sc_inputs.specs.declared.inputs.Inputs.{Inputs}
-use Rattle.sc_inputs.specs.declared.inputs.Inputs.TheVariants.{Asked, Replayed}
+use Rattle.sc_inputs.specs.declared.inputs.Inputs.TheVariants.{Asked, Replayed, Logged, Checked}
 use Rattle.sc_inputs.specs.declared.inputs.Scene.{Scene}
 use Rattle.sc_inputs.specs.declared.refusal.Refusal.{Refusal}
 use Rattle.sc_inputs.specs.declared.refusal.Refusal.TheVariants.{ReadFault}
 
 -- ---- a command whose files are read
 
--- the words are a command to ask this question within this budget, its files were read and spell a schema and these policies, which
--- write declared names alone, are typed in each environment, and have supported constructs alone
-pub record ReadsAll (content : spec.Content) (words : List (List ℕ)) (s : Declarations) (question : Question) (first : List Policy) (against : Option (List Policy)) (budget : ℕ) : Type 0 where
-  pub reaches : spec.ReachesQuestion content words s question first against budget
-  pub served : spec.AreServed s first against
+-- the words are a command to ask this question for this aim, its files were read and spell a schema and these policies, which write
+-- declared names alone, are typed in each environment, and have supported constructs alone, and the environment that is named is
+-- one of the schema; the budget allows some work, and there is a second set where the question takes two
+pub record ReadsAll (content : spec.Content) (words : List (List ℕ)) (s : Declarations) (question : Question) (first : List Policy) (against : Option (List Policy)) (aim : Aim) : Type 0 where
+  pub reached : spec.ReachesAim content words s question first against aim
+  pub units : HasUnits aim
+  pub sets : is_some against ≡ takes_two question
 
 -- the words are a command to replay a world, its files were read and spell a schema, policies and the world, and the
 -- policies write declared names alone
@@ -81,13 +83,14 @@ IsNoWorld bytes a = (f : WorldFault) × (a ≡ spec.world_text f) × world.HasFa
 -- ---- what the files of a command give
 
 -- where the schema is read: the policies of a question
-pub record ReadsAnalysis (content : spec.Content) (c : Command) (s : Declarations) (i : Analysis) : Type 0 where
+pub record ReadsAsking (content : spec.Content) (c : Command) (s : Declarations) (aim : Aim) (i : Asking) : Type 0 where
   pub schema : i.schema ≡ s
   pub name : Option (List ℕ)
-  pub task : c.task ≡ asking i.question name i.budget
+  pub task : c.task ≡ asking i.question name aim
   pub policies_read : spec.HasPolicies content c.policies i.policies
   pub others_read : spec.HasAgainst content name i.against
   pub served : spec.AreServed s i.policies i.against
+  pub environment : spec.HasEnvironment s aim
 
 -- where the schema is read: policies and a world
 pub record ReadsScene (content : spec.Content) (policies name : List ℕ) (s : Declarations) (x : Scene) : Type 0 where
@@ -97,7 +100,9 @@ pub record ReadsScene (content : spec.Content) (policies name : List ℕ) (s : D
   pub names : name_fault s x.policies ≡ None
 
 abbrev pub ReadsRest : spec.Content → Command → Declarations → Inputs → Type 0
-ReadsRest content c s (Asked i) = ReadsAnalysis content c s i
+ReadsRest content c s (Asked i) = ReadsAsking content c s (reporting i.budget) i.asking
+ReadsRest content c s (Logged i) = ReadsAsking content c s (logging i.analysis.budget i.environment) i.analysis.asking
+ReadsRest content c s (Checked i) = ReadsAsking content c s (checking i.environment i.log.now) i.asking
 ReadsRest content c s (Replayed x) = (name : List ℕ) × (c.task ≡ replaying name) × ReadsScene content c.policies name s x
 
 -- all files are read
@@ -106,9 +111,15 @@ pub record ReadsInputs (content : spec.Content) (c : Command) (i : Inputs) : Typ
   pub schema : spec.ReadsSchema content c declared
   pub rest : ReadsRest content c declared i
 
+-- what the words and the files give of a question
+abbrev pub IsAskedFor : spec.Content → List (List ℕ) → Aim → Asking → Type 0
+IsAskedFor content words aim i = ReadsAll content words i.schema i.question i.policies i.against aim
+
 -- what the words and the files give
 abbrev pub IsRead : spec.Content → List (List ℕ) → Inputs → Type 0
-IsRead content words (Asked i) = ReadsAll content words i.schema i.question i.policies i.against i.budget × (1 ≤ i.budget) × (is_some i.against ≡ takes_two i.question)
+IsRead content words (Asked i) = IsAskedFor content words (reporting i.budget) i.asking
+IsRead content words (Logged i) = IsAskedFor content words (logging i.analysis.budget i.environment) i.analysis.asking
+IsRead content words (Checked i) = IsAskedFor content words (checking i.environment i.log.now) i.asking
 IsRead content words (Replayed x) = ReadsWorld content words x.schema x.policies x.world
 
 -- ---- why the files of a command are refused, where the schema is read
@@ -118,10 +129,12 @@ pub data RefusesSets (content : spec.Content) (policies : List ℕ) (against : O
   by_first : (a : spec.Refusal) → spec.RefusesPolicies content policies spec.policies_side rose a → RefusesSets content policies against rose a
   by_against : (a : spec.Refusal) (first : List Policy) (name : List ℕ) → spec.HasPolicies content policies first → against ≡ Some name → spec.RefusesPolicies content name spec.against_side rose a → RefusesSets content policies against rose a
 
-pub data RefusesAnalysis (content : spec.Content) (policies : List ℕ) (against : Option (List ℕ)) (rose : Type 0) (s : Declarations) : spec.Refusal → Type 0 where
-  by_files : (a : spec.Refusal) → RefusesSets content policies against rose a → RefusesAnalysis content policies against rose s a
+pub data RefusesAsking (content : spec.Content) (policies : List ℕ) (against : Option (List ℕ)) (aim : Aim) (rose : Type 0) (s : Declarations) : spec.Refusal → Type 0 where
+  by_files : (a : spec.Refusal) → RefusesSets content policies against rose a → RefusesAsking content policies against aim rose s a
   by_question : (a : spec.Refusal) (first : List Policy) (second : Option (List Policy)) → spec.HasPolicies content policies first → spec.HasAgainst content against second
-      → spec.RefusesQuestion s first second a → RefusesAnalysis content policies against rose s a
+      → spec.RefusesQuestion s first second a → RefusesAsking content policies against aim rose s a
+  by_place : (a : spec.Refusal) (first : List Policy) (second : Option (List Policy)) → spec.HasPolicies content policies first → spec.HasAgainst content against second
+      → spec.AreServed s first second → spec.RefusesPlace s aim a → RefusesAsking content policies against aim rose s a
 
 pub data RefusesScene (content : spec.Content) (policies name : List ℕ) (rose : Type 0) (s : Declarations) : spec.Refusal → Type 0 where
   by_policies : (a : spec.Refusal) → spec.RefusesPolicies content policies spec.policies_side rose a → RefusesScene content policies name rose s a

@@ -1,7 +1,8 @@
 -- The answers other than a report, and when each may come.
 use Rattle.std.specs.Prelude.{◌≡◌, ◌≤◌, ◌<◌, ℕ, List, ◌++◌, Option, IfSome, Some, None, option_map, codes, length, ⊤}
+use Rattle.std.specs.Fmt.{decimal}
 use Rattle.std.specs.Option.{option_or}
-use Rattle.sc_schema.specs.Declarations.{Declarations}
+use Rattle.sc_schema.specs.Declarations.{Declarations, environments}
 use Rattle.sc_schema_json.specs.Spelling as schema
 use Rattle.sc_schema_syntax.specs.declared.fault.SchemaFault.{SchemaFault}
 use Rattle.sc_ast.specs.declared.policy.Policy.{Policy}
@@ -14,7 +15,7 @@ use Rattle.sc_typing.specs.Names.{name_fault}
 use Rattle.sc_world.specs.declared.world.World.{World}
 use Rattle.sc_world_json.specs.declared.fault.WorldFault.{WorldFault}
 use Rattle.sc_world_json.specs.Reading as world
-use Rattle.sc_inputs.specs.Serving.{Command, Serves, asking, replaying}
+use Rattle.sc_inputs.specs.Serving.{Aim, Command, Serves, asking, checking, place_in, replaying}
 use Rattle.sc_inputs.specs.FaultTexts.{fault_text, schema_fault_text, world_fault_text, name_fault_text, type_fault_text, construct_text}
 use Rattle.sc_constructs.specs.declared.unsupported.Unsupported.{Unsupported}
 use Rattle.sc_constructs.specs.First.{unsupported as unsupported_in}
@@ -29,6 +30,7 @@ pub data File : Type 0 where
   schema_file : File
   policy_file : Side → File
   world_file : File
+  log_file : File
 
 pub data Refusal : Type 0 where
   usage : Refusal
@@ -38,6 +40,8 @@ pub data Refusal : Type 0 where
   unknown_name : Side → NameFault → Refusal
   ill_typed : Side → IllTyped → Refusal
   unsupported : Side → Unsupported → Refusal
+  -- this place is none of so many environments
+  no_environment : (place count : ℕ) → Refusal
   read_fault : File → Refusal
   too_long : File → Refusal
 
@@ -49,6 +53,7 @@ abbrev pub file_name : File → List ℕ
 file_name schema_file = codes "schema"
 file_name (policy_file side) = side_name side
 file_name world_file = codes "world"
+file_name log_file = codes "log"
 
 abbrev pub code_of : Refusal → ℕ
 code_of usage = 10
@@ -58,12 +63,17 @@ code_of (world_text f) = 17
 code_of (unknown_name side f) = 13
 code_of (ill_typed side f) = 13
 code_of (unsupported side u) = 15
+code_of (no_environment place count) = 16
 code_of (read_fault f) = 20
 code_of (too_long f) = 22
 
 -- an error of policies of a side
 abbrev pub on_side : List ℕ → Side → List ℕ → List ℕ
 on_side front side text = front ++ (side_name side ++ (codes " " ++ (text ++ codes "\n")))
+
+-- a place that is none of so many environments
+unfoldable pub place_text : ℕ → ℕ → List ℕ
+place_text place count = codes "error 16 environment " ++ (decimal place ++ (codes " of " ++ (decimal count ++ codes "\n")))
 
 abbrev pub refusal_text : Refusal → List ℕ
 refusal_text usage = codes "error 10 usage\n"
@@ -73,14 +83,19 @@ refusal_text (world_text f) = codes "error 17 " ++ world_fault_text f ++ codes "
 refusal_text (unknown_name side f) = on_side (codes "error 13 ") side (name_fault_text f)
 refusal_text (ill_typed side f) = on_side (codes "error 13 ") side (type_fault_text f)
 refusal_text (unsupported side u) = on_side (codes "error 15 ") side (construct_text u)
+refusal_text (no_environment place count) = place_text place count
 refusal_text (read_fault f) = codes "error 20 " ++ file_name f ++ codes "\n"
 refusal_text (too_long f) = codes "error 22 " ++ file_name f ++ codes "\n"
 
 -- ---- files
 
--- how long a file may be
+-- how long a file may be, but for a log
 abbrev pub limit : ℕ
 limit = 16777216
+
+-- how long a log may be
+abbrev pub log_limit : ℕ
+log_limit = 1073741824
 
 -- what the file of a name holds, where that is told
 abbrev pub Content : Type 0
@@ -93,6 +108,10 @@ IsContent content name bytes = IfSome (content name) (λ told. (bytes ≡ told) 
 -- the file is too long, where its content is told
 abbrev pub IsTooLong : Content → List ℕ → Type 0
 IsTooLong content name = IfSome (content name) (λ told. limit < length told)
+
+-- the same of a log
+abbrev pub IsLongLog : Content → List ℕ → Type 0
+IsLongLog content name = IfSome (content name) (λ told. log_limit < length told)
 
 -- the schema file spells the schema
 pub record ReadsSchema (content : Content) (c : Command) (s : Declarations) : Type 0 where
@@ -119,13 +138,13 @@ HasAgainst content None (Some ps) = ⊥
 HasAgainst content (Some name) None = ⊥
 HasAgainst content (Some name) (Some ps) = HasPolicies content name ps
 
--- the words are the command to ask a question, within a budget, of the policies `first`, and of `against` where it takes two sets;
--- all files of it are read
-pub record ReachesQuestion (content : Content) (words : List (List ℕ)) (s : Declarations) (question : Question) (first : List Policy) (against : Option (List Policy)) (budget : ℕ) : Type 0 where
+-- the words are the command to ask a question, for an aim, of the policies `first`, and of `against` where it takes two sets; its
+-- schema file and policy files are read
+pub record ReachesQuestion (content : Content) (words : List (List ℕ)) (s : Declarations) (question : Question) (first : List Policy) (against : Option (List Policy)) (aim : Aim) : Type 0 where
   pub command : Command
   pub commands : Serves words command
   pub name : Option (List ℕ)
-  pub task : command.task ≡ asking question name budget
+  pub task : command.task ≡ asking question name aim
   pub schema : ReadsSchema content command s
   pub policies : HasPolicies content command.policies first
   pub others : HasAgainst content name against
@@ -166,6 +185,17 @@ pub record AreServed (s : Declarations) (first : List Policy) (against : Option 
   pub typed : types_fault s first against ≡ None
   pub supported : constructs_fault s first against ≡ None
 
+-- the schema has the environment that is named, where one is
+abbrev pub HasEnvironment : Declarations → Aim → Type 0
+HasEnvironment s aim = IfSome (place_in aim) (λ place. place < length (environments s))
+
+-- the words are the command to ask a question, for an aim, of policies that are read, write declared names alone, are typed in each
+-- environment, and have supported constructs alone, of a schema with the environment that is named
+pub record ReachesAim (content : Content) (words : List (List ℕ)) (s : Declarations) (question : Question) (first : List Policy) (against : Option (List Policy)) (aim : Aim) : Type 0 where
+  pub reaches : ReachesQuestion content words s question first against aim
+  pub served : AreServed s first against
+  pub environment : HasEnvironment s aim
+
 -- ---- refusals; `rose` says that the count of read faults rose
 
 -- a file isn't read: the count rose, or it is too long
@@ -188,21 +218,33 @@ pub data RefusesWorld (content : Content) (name : List ℕ) (rose : Type 0) : Re
   world_unread : (a : Refusal) → RefusesFile content name rose world_file a → RefusesWorld content name rose a
   world_faulty : (f : WorldFault) (bytes : List ℕ) → IsContent content name bytes → world.HasFault bytes f → RefusesWorld content name rose (world_text f)
 
--- all files of a question are read, and its policies are refused: a name isn't declared; or all are, and a policy has no type; or all
+-- the log in the file of this name isn't read whole
+pub data RefusesLog (content : Content) (name : List ℕ) (rose : Type 0) : Refusal → Type 0 where
+  log_unread : rose → RefusesLog content name rose (read_fault log_file)
+  log_long : IsLongLog content name → RefusesLog content name rose (too_long log_file)
+
+-- all policy files of a question are read, and its policies are refused: a name isn't declared; or all are, and a policy has no type; or all
 -- have, and a construct isn't supported
 pub data RefusesQuestion (s : Declarations) (first : List Policy) (against : Option (List Policy)) : Refusal → Type 0 where
   undeclared : (side : Side) (f : NameFault) → names_fault s first against ≡ Some (side, f) → RefusesQuestion s first against (unknown_name side f)
   untyped : (side : Side) (f : IllTyped) → names_fault s first against ≡ None → types_fault s first against ≡ Some (side, f) → RefusesQuestion s first against (ill_typed side f)
   has_construct : (side : Side) (u : Unsupported) → names_fault s first against ≡ None → types_fault s first against ≡ None → constructs_fault s first against ≡ Some (side, u) → RefusesQuestion s first against (unsupported side u)
 
+-- the environment that is named is none of the schema
+pub data RefusesPlace (s : Declarations) (aim : Aim) : Refusal → Type 0 where
+  misplaced : (place : ℕ) → place_in aim ≡ Some place → length (environments s) ≤ place → RefusesPlace s aim (no_environment place (length (environments s)))
+
 -- the words are no command; or a file is refused, where those before it are read; or, where all files are read, the policies of a
--- replay write a name that isn't declared, or those of a question are refused
+-- replay write a name that isn't declared, or those of a question are refused, or the environment that is named is none; or
+-- the log that is to be checked is refused, where all else is read
 pub data IsRefusal (content : Content) (words : List (List ℕ)) (rose : Type 0) : Refusal → Type 0 where
   no_command : ((c : Command) → Serves words c → ⊥) → IsRefusal content words rose usage
   of_schema : (a : Refusal) (c : Command) → Serves words c → RefusesSchema content c rose a → IsRefusal content words rose a
   of_policies : (a : Refusal) (c : Command) (s : Declarations) → Serves words c → ReadsSchema content c s → RefusesPolicies content c.policies policies_side rose a → IsRefusal content words rose a
-  of_against : (a : Refusal) (c : Command) (s : Declarations) (question : Question) (name : List ℕ) (budget : ℕ) (first : List Policy) → Serves words c → c.task ≡ asking question (Some name) budget → ReadsSchema content c s
+  of_against : (a : Refusal) (c : Command) (s : Declarations) (question : Question) (name : List ℕ) (aim : Aim) (first : List Policy) → Serves words c → c.task ≡ asking question (Some name) aim → ReadsSchema content c s
       → HasPolicies content c.policies first → RefusesPolicies content name against_side rose a → IsRefusal content words rose a
   of_world : (a : Refusal) (s : Declarations) (ps : List Policy) (name : List ℕ) → ReachesWorld content words s ps name → RefusesWorld content name rose a → IsRefusal content words rose a
   of_names : (f : NameFault) (s : Declarations) (ps : List Policy) (name : List ℕ) (w : World) → ReachesWorld content words s ps name → HasWorld content name w → name_fault s ps ≡ Some f → IsRefusal content words rose (unknown_name policies_side f)
-  of_question : (a : Refusal) (s : Declarations) (question : Question) (first : List Policy) (against : Option (List Policy)) (budget : ℕ) → ReachesQuestion content words s question first against budget → RefusesQuestion s first against a → IsRefusal content words rose a
+  of_question : (a : Refusal) (s : Declarations) (question : Question) (first : List Policy) (against : Option (List Policy)) (aim : Aim) → ReachesQuestion content words s question first against aim → RefusesQuestion s first against a → IsRefusal content words rose a
+  of_place : (a : Refusal) (s : Declarations) (question : Question) (first : List Policy) (against : Option (List Policy)) (aim : Aim) → ReachesQuestion content words s question first against aim → AreServed s first against → RefusesPlace s aim a → IsRefusal content words rose a
+  of_log : (a : Refusal) (s : Declarations) (question : Question) (first : List Policy) (against : Option (List Policy)) (place : ℕ) (name : List ℕ) → ReachesAim content words s question first against (checking place name) → RefusesLog content name rose a → IsRefusal content words rose a

@@ -1,16 +1,27 @@
 -- The commands, by what is done with the policies under a schema.
-use Rattle.std.specs.Prelude.{◌≡◌, ◌≤◌, ℕ, List, Option, option_map, is_some, ⊤}
+use Rattle.std.specs.Prelude.{◌≡◌, ◌≤◌, ℕ, List, Option, Some, None, option_map, is_some, ⊤}
 use Rattle.sc_question.specs.Questions.{takes_two}
 use Rattle.sc_question.specs.declared.question.Question.{Question}
-use Rattle.sc_command.specs.CommandLine.{Command as AnyCommand, Commands, analyse, replay}
+use Rattle.sc_command.specs.CommandLine.{Asked, Command as AnyCommand, Commands, analyse, check_log, replay, write_log}
+use Rattle.sc_inputs.specs.declared.serving.Aim as aim_code
+use Rattle.sc_inputs.specs.declared.serving.Aim.TheVariants as aim
 use Rattle.sc_inputs.specs.declared.serving.Served.{Served}
 use Rattle.sc_inputs.specs.declared.serving.Task as code
 use Rattle.sc_inputs.specs.declared.serving.Task.TheVariants as task
 
+-- what a question is asked for
+pub data Aim : Type 0 where
+  -- a report on each environment, within this budget
+  reporting : ℕ → Aim
+  -- the log of the environment at this place, within this budget
+  logging : (budget place : ℕ) → Aim
+  -- a verdict on the log in the file of this name, for the environment at this place
+  checking : ℕ → List ℕ → Aim
+
 -- what is done with a policy file
 pub data Task : Type 0 where
-  -- to ask a question of the policies, and of those of another file where it takes two sets, within this budget
-  asking : Question → Option (List ℕ) → ℕ → Task
+  -- to ask a question of the policies, and of those of another file where it takes two sets
+  asking : Question → Option (List ℕ) → Aim → Task
   -- to tell what they do in the world of the file of this name
   replaying : List ℕ → Task
 
@@ -19,10 +30,16 @@ pub record Command : Type 0 where
   pub policies : List ℕ
   pub task : Task
 
+-- to ask this for an aim, among all commands
+abbrev pub asked_for : Asked → Aim → AnyCommand
+asked_for asked (reporting budget) = analyse (record { asked = asked; budget = budget })
+asked_for asked (logging budget place) = write_log (record { asked = asked; budget = budget; environment = place })
+asked_for asked (checking place log) = check_log (record { asked = asked; environment = place; log = log })
+
 -- a task under a schema file and a policy file, among all commands
 abbrev pub command_for : List ℕ → List ℕ → Task → AnyCommand
-command_for schema policies (asking question against budget) =
-    analyse (record { schema = schema; policies = policies; against = against; question = question; budget = budget })
+command_for schema policies (asking question against a) =
+    asked_for (record { schema = schema; policies = policies; against = against; question = question }) a
 command_for schema policies (replaying world) = replay (record { schema = schema; policies = policies; world = world })
 
 abbrev pub as_command : Command → AnyCommand
@@ -33,17 +50,33 @@ abbrev pub Serves : List (List ℕ) → Command → Type 0
 Serves words c = Commands words (as_command c)
 
 -- a budget allows some work
-abbrev pub HasUnits : Task → Type 0
-HasUnits (asking question against budget) = 1 ≤ budget
-HasUnits (replaying world) = ⊤
+abbrev pub HasUnits : Aim → Type 0
+HasUnits (reporting budget) = 1 ≤ budget
+HasUnits (logging budget place) = 1 ≤ budget
+HasUnits (checking place log) = ⊤
+
+abbrev pub MayWork : Task → Type 0
+MayWork (asking question against a) = HasUnits a
+MayWork (replaying world) = ⊤
 
 -- a second file is named exactly where the question takes two sets
 abbrev pub HasSets : Task → Type 0
-HasSets (asking question against budget) = is_some against ≡ takes_two question
+HasSets (asking question against a) = is_some against ≡ takes_two question
 HasSets (replaying world) = ⊤
 
+-- the place of the environment that is named, where one is
+abbrev pub place_in : Aim → Option ℕ
+place_in (reporting budget) = None
+place_in (logging budget place) = Some place
+place_in (checking place log) = Some place
+
+abbrev pub aim_view : aim_code.Aim → Aim
+aim_view (aim.Report budget) = reporting budget
+aim_view (aim.Log budget place) = logging budget place
+aim_view (aim.Check place log) = checking place log.now
+
 abbrev pub task_view : code.Task → Task
-task_view (task.Ask question against budget) = asking question (option_map (λ name. name.now) against) budget
+task_view (task.Ask question against a) = asking question (option_map (λ name. name.now) against) (aim_view a)
 task_view (task.Replay world) = replaying world.now
 
 abbrev pub served_view : Served → Command

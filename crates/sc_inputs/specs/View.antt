@@ -15,6 +15,7 @@ abbrev pub file_view : FileName → spec.File
 file_view file.Schema = spec.schema_file
 file_view (file.Policies s) = spec.policy_file (side_view s)
 file_view file.World = spec.world_file
+file_view file.Log = spec.log_file
 
 abbrev pub refusal_view : Refusal → spec.Refusal
 refusal_view refusal.Usage = spec.usage
@@ -24,5 +25,6 @@ refusal_view (refusal.WorldText f) = spec.world_text f
 refusal_view (refusal.UnknownName s f) = spec.unknown_name (side_view s) f
 refusal_view (refusal.IllTyped s f) = spec.ill_typed (side_view s) f
 refusal_view (refusal.Unsupported s u) = spec.unsupported (side_view s) u
+refusal_view (refusal.NoEnvironment place count) = spec.no_environment place count
 refusal_view (refusal.ReadFault f) = spec.read_fault (file_view f)
 refusal_view (refusal.TooLong f) = spec.too_long (file_view f)

@@ -4,14 +4,16 @@ ghost use Rattle.sc_constructs.specs.First.{unsupported as unsupported_in};
 ghost use Rattle.sc_typing.specs.Checking.{type_fault};
 ghost use Rattle.sc_typing.specs.Names.{name_fault};
 ghost use Rattle.sc_inputs.specs.Readings.{Checks, FailsWith};
-ghost use Rattle.sc_inputs.specs.Refusals.{names_fault, types_fault, constructs_fault, AreServed, RefusesQuestion, unknown_name, ill_typed, unsupported};
+ghost use Rattle.sc_inputs.specs.Refusals.{names_fault, types_fault, constructs_fault, AreServed, HasEnvironment, RefusesPlace, RefusesQuestion, unknown_name, ill_typed, unsupported};
+ghost use Rattle.sc_inputs.specs.Serving.{aim_view, place_in};
 ghost use Rattle.sc_inputs.specs.View.{side_view};
 
 use crate::refusal::{Refusal, Side};
+use crate::serving::Aim;
 use sc_ast::PolicySet;
 use sc_constructs::first_unsupported;
 use sc_lists::Fault;
-use sc_schema::Schema;
+use sc_schema::{Schema, environments};
 use sc_typing::{check_names, check_types};
 use std::alloc::Global;
 
@@ -137,4 +139,30 @@ pub fn check_question(
         },
         Err(fault) => Err(fault),
     }
+}
+
+/// The place of the environment that is named, where one is.
+fn place_in(aim: Aim<'_>) -> Option<u64>
+    ensures { result ≡ place_in (aim_view aim.entry) }
+{
+    match aim {
+        Aim::Report(_) => None,
+        Aim::Log(_, place) => Some(u64::from(place)),
+        Aim::Check(place, _) => Some(u64::from(place)),
+    }
+}
+
+/// Checks that the schema has the environment that is named, where one is.
+pub fn check_place(schema: &Schema, aim: Aim<'_>) -> Result<(), Fault<Refusal>>
+    ensures ok { OnOk result (HasEnvironment schema.now (aim_view aim.entry)) }
+    ensures fails { IfErr result (FailsWith (RefusesPlace schema.now (aim_view aim.entry))) }
+{
+    let Some(place) = place_in(aim) else {
+        return Ok(());
+    };
+    let count = environments(schema).len() as u64;
+    if place < count {
+        return Ok(());
+    }
+    Err(Fault::Told(Refusal::NoEnvironment(place, count)))
 }

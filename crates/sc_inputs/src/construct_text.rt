@@ -7,10 +7,15 @@ use crate::put::{put, put_number};
 use sc_constructs::{Construct, Unsupported};
 use std::alloc::AllocError;
 
+/// The word of a construct. One that is admitted has a word too, which is never told.
 fn construct_name(construct: Construct) -> &'static [u8]
     ensures { result.now ≡ construct_name construct }
 {
     match construct {
+        Construct::Boolean => b"boolean",
+        Construct::Connective => b"connective",
+        Construct::ContextAttribute => b"context",
+        Construct::NamedAction => b"action",
         Construct::Variable => b"variable",
         Construct::StringLiteral => b"string",
         Construct::Entity => b"entity",
@@ -29,7 +34,7 @@ fn construct_name(construct: Construct) -> &'static [u8]
         Construct::In => b"in",
         Construct::Tag => b"tag",
         Construct::Like => b"like",
-        Construct::Type => b"type",
+        Construct::Type(_) => b"type",
     }
 }
 

@@ -6,7 +6,7 @@ use sc_world::World;
 
 /// What a command asks of which policies.
 #[derive(Drop)]
-pub struct Analysis {
+pub struct Asking {
     /// The schema.
     pub schema: Schema,
     /// The question.
@@ -15,6 +15,13 @@ pub struct Analysis {
     pub policies: PolicySet,
     /// The second set of policies, where the question takes two.
     pub against: Option<PolicySet>,
+}
+
+/// What a command asks, and how long it is looked for.
+#[derive(Drop)]
+pub struct Analysis {
+    /// What is asked.
+    pub asking: Asking,
     /// How many units of work each environment may take.
     pub budget: u64,
 }
@@ -30,11 +37,35 @@ pub struct Scene {
     pub world: World,
 }
 
+/// What a command asks of one environment.
+#[derive(Drop)]
+pub struct Logging {
+    /// What is asked, and how long it is looked for.
+    pub analysis: Analysis,
+    /// The environment's place among those of the schema, counted from 0.
+    pub environment: u32,
+}
+
+/// What a log is to show.
+#[derive(Drop)]
+pub struct Claim<'w> {
+    /// What is asked.
+    pub asking: Asking,
+    /// The environment's place among those of the schema, counted from 0.
+    pub environment: u32,
+    /// The name of the file with the log.
+    pub log: &'w str,
+}
+
 /// What there is to do.
 #[derive(Drop)]
-pub enum Inputs {
+pub enum Inputs<'w> {
     /// To ask a question of policies.
     Asked(Analysis),
     /// To tell what policies do in a world.
     Replayed(Scene),
+    /// To write the log of an environment.
+    Logged(Logging),
+    /// To check a log of an environment.
+    Checked(Claim<'w>),
 }

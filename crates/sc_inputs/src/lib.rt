@@ -14,7 +14,7 @@ mod serving;
 mod type_text;
 mod world_reading;
 
-pub use inputs::{Analysis, Inputs, Scene};
+pub use inputs::{Analysis, Asking, Claim, Inputs, Logging, Scene};
 pub use reading::inputs_of;
 pub use refusal::{FileName, Refusal, Side, code, text_of};
 pub use type_text::put_env;

@@ -44,6 +44,7 @@ fn others_of<F: Files>(
         → HasPolicies (F.content files.old) file ps
         → FailsWith (RefusesSets (F.content files.old) file (option_map (λ n. n.now) name.entry) (Rose
         (F.faults files.old) (F.faults files.new))) fault) }
+    ensures keeps { (other : List ℕ) → F.content files.new other ≡ F.content files.old other }
     ensures later { F.faults files.old ≤ F.faults files.new }
     ensures told { F.faults files.old < F.faults files.new → IsUnread result }
 {
@@ -68,6 +69,7 @@ pub fn sets_of<F: Files>(
         (option_map (λ n. n.now) against.entry) sets.1) }
     ensures fails { IfErr result (FailsWith (RefusesSets (F.content files.old) policies.now (option_map
         (λ n. n.now) against.entry) (Rose (F.faults files.old) (F.faults files.new)))) }
+    ensures keeps { (other : List ℕ) → F.content files.new other ≡ F.content files.old other }
     ensures later { F.faults files.old ≤ F.faults files.new }
     ensures told { F.faults files.old < F.faults files.new → IsUnread result }
 {

@@ -1,12 +1,12 @@
 //! The answers other than a report.
 ghost use Rattle.std.specs.Prelude.{◌≡◌, ◌++◌, OnOk, IfOk, codes};
-ghost use Rattle.sc_inputs.specs.Refusals.{code_of, refusal_text, file_name, side_name, on_side};
+ghost use Rattle.sc_inputs.specs.Refusals.{code_of, refusal_text, file_name, place_text, side_name, on_side};
 ghost use Rattle.sc_inputs.specs.FaultTexts.{fault_text, schema_fault_text, world_fault_text, name_fault_text, type_fault_text, construct_text};
 ghost use Rattle.sc_inputs.specs.View.{side_view, file_view, refusal_view};
 
 use crate::construct_text::put_construct;
 use crate::fault_text::{put_fault, put_name_fault, put_schema_fault, put_world_fault};
-use crate::put::put;
+use crate::put::{put, put_number};
 use crate::type_text::put_type_fault;
 use sc_constructs::Unsupported;
 use sc_parser::PolicyFault;
@@ -33,6 +33,8 @@ pub enum FileName {
     Policies(Side),
     /// The file with a world.
     World,
+    /// The file with a log.
+    Log,
 }
 
 /// An answer other than a report.
@@ -52,6 +54,8 @@ pub enum Refusal {
     IllTyped(Side, IllTyped),
     /// A policy of a set has a construct that isn't supported.
     Unsupported(Side, Unsupported),
+    /// The environment that is named, by this place, is none of the schema, which has so many.
+    NoEnvironment(u64, u64),
     /// A file couldn't be read.
     ReadFault(FileName),
     /// A file is longer than its limit.
@@ -68,6 +72,7 @@ pub fn code(refusal: &Refusal) -> u8
         Refusal::SchemaText(_) => 12,
         Refusal::UnknownName(_, _) | Refusal::IllTyped(_, _) => 13,
         Refusal::Unsupported(_, _) => 15,
+        Refusal::NoEnvironment(_, _) => 16,
         Refusal::WorldText(_) => 17,
         Refusal::ReadFault(_) => 20,
         Refusal::TooLong(_) => 22,
@@ -90,6 +95,7 @@ fn file_name(file: FileName) -> &'static [u8]
         FileName::Schema => b"schema",
         FileName::Policies(side) => side_name(side),
         FileName::World => b"world",
+        FileName::Log => b"log",
     }
 }
 
@@ -169,6 +175,17 @@ fn put_unsupported(out: &mut Vec<u8>, side: Side, found: Unsupported) -> Result<
     put(out, b"\n")
 }
 
+#[tactic(auto, unfolding(crate::specs::Refusals::place_text))]
+fn put_place(out: &mut Vec<u8>, place: u64, count: u64) -> Result<(), AllocError>
+    ensures { OnOk result (out.new.items ≡ out.old.items ++ place_text place count) }
+{
+    put(out, b"error 16 environment ")?;
+    put_number(out, place)?;
+    put(out, b" of ")?;
+    put_number(out, count)?;
+    put(out, b"\n")
+}
+
 fn put_refusal(alloc: Global, out: &mut Vec<u8>, refusal: &Refusal) -> Result<(), AllocError>
     ensures { OnOk result (out.new.items ≡ out.old.items ++ refusal_text (refusal_view refusal.now)) }
 {
@@ -180,6 +197,7 @@ fn put_refusal(alloc: Global, out: &mut Vec<u8>, refusal: &Refusal) -> Result<()
         Refusal::UnknownName(side, fault) => put_unknown_name(out, *side, fault),
         Refusal::IllTyped(side, fault) => put_ill_typed(alloc, out, *side, fault),
         Refusal::Unsupported(side, found) => put_unsupported(out, *side, *found),
+        Refusal::NoEnvironment(place, count) => put_place(out, *place, *count),
         Refusal::ReadFault(file) => put_error(out, b"error 20 ", *file),
         Refusal::TooLong(file) => put_error(out, b"error 22 ", *file),
     }

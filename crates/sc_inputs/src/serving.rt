@@ -1,18 +1,28 @@
 //! The commands, by what is done with the policies under a schema.
 ghost use Rattle.std.specs.Prelude.{◌≡◌, IfNone, IfOk, IfSome};
-ghost use Rattle.sc_command.specs.CommandLine.{command_view, words_view};
-ghost use Rattle.sc_inputs.specs.Serving.{Command as AnyServed, Serves, as_command, served_view};
+ghost use Rattle.sc_command.specs.CommandLine.{asked_view, command_view, words_view};
+ghost use Rattle.sc_inputs.specs.Serving.{Command as AnyServed, Serves, aim_view, as_command, asked_for, served_view};
 
-use sc_command::{Analyse, Command, Replay, command_of};
+use sc_command::{Analyse, Asked, Check, Command, Log, Replay, command_of};
 use sc_question::Question;
 use std::alloc::{AllocError, Global};
+
+/// What a question is asked for.
+#[derive(Clone, Copy)]
+pub enum Aim<'w> {
+    /// To report on each environment, within so many units of work each.
+    Report(u64),
+    /// To write the log of the environment at a place, within so many units of work.
+    Log(u64, u32),
+    /// To check a log of the environment at a place, in the file of this name.
+    Check(u32, &'w str),
+}
 
 /// What is done with a policy file.
 #[derive(Clone, Copy)]
 pub enum Task<'w> {
-    /// To ask a question of the policies, and of those of another file where it takes two sets. The
-    /// number says how many units of work each environment may take.
-    Ask(Question, Option<&'w str>, u64),
+    /// To ask a question of the policies, and of those of another file where it takes two sets.
+    Ask(Question, Option<&'w str>, Aim<'w>),
     /// To tell what they do in the world of the file of this name.
     Replay(&'w str),
 }
@@ -28,24 +38,37 @@ pub struct Served<'w> {
     pub task: Task<'w>,
 }
 
+/// The command to ask a question for an aim.
+fn asking<'w>(asked: Asked<'w>, aim: Aim<'w>) -> Served<'w>
+    ensures { asked_for (asked_view asked.entry) (aim_view aim.entry) ≡ as_command (served_view result) }
+{
+    Served {
+        schema: asked.schema,
+        policies: asked.policies,
+        task: Task::Ask(asked.question, asked.against, aim),
+    }
+}
+
 /// A command by what it does.
 fn as_served<'w>(command: &Command<'w>) -> Served<'w>
     ensures { command_view command.now ≡ as_command (served_view result) }
 {
     match command {
-        Command::Analyse(
-            Analyse {
-                schema,
-                policies,
-                against,
-                question,
+        Command::Analyse(Analyse { asked, budget }) => asking(*asked, Aim::Report(*budget)),
+        Command::Log(
+            Log {
+                asked,
                 budget,
+                environment,
             },
-        ) => Served {
-            schema,
-            policies,
-            task: Task::Ask(*question, *against, *budget),
-        },
+        ) => asking(*asked, Aim::Log(*budget, *environment)),
+        Command::Check(
+            Check {
+                asked,
+                environment,
+                log,
+            },
+        ) => asking(*asked, Aim::Check(*environment, *log)),
         Command::Replay(
             Replay {
                 schema,

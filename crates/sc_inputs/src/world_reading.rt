@@ -22,6 +22,7 @@ fn world_of<F: Files>(alloc: Global, files: &mut F, name: &str) -> Result<World,
     ensures reads { IfOk result (HasWorld (F.content files.old) name.now) }
     ensures fails { IfErr result (FailsWith (RefusesWorld (F.content files.old) name.now (Rose (F.faults files.old)
         (F.faults files.new)))) }
+    ensures keeps { (other : List ℕ) → F.content files.new other ≡ F.content files.old other }
     ensures later { F.faults files.old ≤ F.faults files.new }
     ensures told { F.faults files.old < F.faults files.new → IsUnread result }
 {
@@ -44,6 +45,7 @@ fn world_for<F: Files>(
     ensures fails { IfErr result (λ fault. (file : List ℕ) → HasPolicies (F.content files.old) file policies.now
         → FailsWith (RefusesScene (F.content files.old) file name.now (Rose (F.faults files.old)
         (F.faults files.new)) schema.now) fault) }
+    ensures keeps { (other : List ℕ) → F.content files.new other ≡ F.content files.old other }
     ensures later { F.faults files.old ≤ F.faults files.new }
     ensures told { F.faults files.old < F.faults files.new → IsUnread result }
 {
@@ -69,6 +71,7 @@ fn parts_of<F: Files>(
     ensures names { IfOk result (λ parts. name_fault schema.now parts.0 ≡ None) }
     ensures fails { IfErr result (FailsWith (RefusesScene (F.content files.old) policies.now world.now (Rose
         (F.faults files.old) (F.faults files.new)) schema.now)) }
+    ensures keeps { (other : List ℕ) → F.content files.new other ≡ F.content files.old other }
     ensures later { F.faults files.old ≤ F.faults files.new }
     ensures told { F.faults files.old < F.faults files.new → IsUnread result }
 {
@@ -92,6 +95,7 @@ pub fn scene_of<F: Files>(
     ensures reads { IfOk result (ReadsScene (F.content files.old) policies.now world.now schema) }
     ensures fails { IfErr result (FailsWith (RefusesScene (F.content files.old) policies.now world.now (Rose
         (F.faults files.old) (F.faults files.new)) schema)) }
+    ensures keeps { (other : List ℕ) → F.content files.new other ≡ F.content files.old other }
     ensures later { F.faults files.old ≤ F.faults files.new }
     ensures told { F.faults files.old < F.faults files.new → IsUnread result }
 {

@@ -143,7 +143,7 @@ pub fn path(alloc: Global, ts: &[Lexeme], cursor: &mut Cursor) -> Result<TypeNam
     let text = more_path(ts, cursor, first)?;
     Ok(TypeName {
         place,
-        name: Name::from_text(Text::from_string(text)),
+        name: Name::from_text(Text::from_string(text)?),
     })
 }
 
@@ -167,7 +167,7 @@ pub fn more_entity(
     while let Some(_) = sign_at(ts, cursor.at, Kind::DoubleColon) {
         if let Some((_, id, _)) = string_at(ts, cursor.at + 1) {
             *cursor = cursor.next().next();
-            let type_name = Name::from_text(Text::from_string(path));
+            let type_name = Name::from_text(Text::from_string(path)?);
             let id = Text::from_str(alloc, id)?;
             return Ok(EntityLiteral {
                 place,

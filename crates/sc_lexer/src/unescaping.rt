@@ -111,5 +111,5 @@ pub fn unescape(alloc: Global, text: &[u8]) -> Result<Text, AllocError>
     for piece in pieces.as_slice() {
         string.push(piece_char(*piece))?;
     }
-    Ok(Text::from_string(string))
+    Text::from_string(string)
 }

@@ -108,8 +108,7 @@ fn texts(rt: HostRuntime) -> Result<(), Fail> {
         let copied = Text::from_str(alloc, text)?;
         assert_eq!(rt; copied.as_str(), text);
         assert!(rt; copied.try_clone(alloc)?.is_same(&copied), "{text}");
-        assert_eq!(rt; copied.into_string().as_str(), text);
-        let moved = Text::from_string(String::from_str(alloc, text)?);
+        let moved = Text::from_string(String::from_str(alloc, text)?)?;
         assert_eq!(rt; moved.as_str(), text);
     }
     Ok(())

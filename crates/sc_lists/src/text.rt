@@ -1,5 +1,6 @@
-//! A text that contracts see as its bytes.
-ghost use Rattle.std.specs.Prelude.{◌≡◌, IfOk, string_bytes};
+//! A text that contracts see as its bytes, and that copies share.
+ghost use Rattle.std.specs.Prelude.{◌≡◌, [], IfOk, string_bytes};
+ghost use Rattle.std.specs.Rc.{rc_str_bytes};
 ghost use Rattle.std.specs.Ordering.{nat_cmp};
 ghost use Rattle.std.specs.Cmp.Lexicographic.{slice_cmp};
 ghost use Rattle.std.specs.Str.{bytes_eq};
@@ -7,72 +8,87 @@ ghost use Rattle.std.specs.Str.{bytes_eq};
 use std::alloc::{AllocError, Global};
 use std::cmp::Ordering;
 use std::marker::Model;
+use std::rc::RcStr;
 
-/// A `String` that contracts see as its bytes.
+/// A text that contracts see as its bytes. Its copies share these bytes, so a copy takes no memory.
 #[derive(Debug, Drop)]
 pub struct Text {
-    text: String,
+    // The text, unless it is empty.
+    shared: Option<RcStr>,
 }
 
 impl Model for Text {
-    ghost use Rattle.std.specs.Prelude.{ℕ, List, string_bytes};
+    ghost use Rattle.std.specs.Prelude.{ℕ, List, [], unwrap_or, option_map};
+    ghost use Rattle.std.specs.Rc.{rc_str_bytes};
 
     ghost Value = { List ℕ };
 
-    ghost view = { λ t. string_bytes t.text };
+    ghost view = { λ t. unwrap_or (option_map rc_str_bytes t.shared) [] };
 }
 
 impl Text {
+    /// The empty text, which takes no memory.
+    pub fn new() -> Text
+        ensures { result ≡ [] }
+    {
+        Text { shared: None }
+    }
+
     /// A copy of a text.
     pub fn from_str(alloc: Global, text: &str) -> Result<Text, AllocError>
         ensures { IfOk result (λ t. t ≡ text.now) }
     {
+        if text.is_empty() {
+            return Ok(Text::new());
+        }
         Ok(Text {
-            text: String::from_str(alloc, text)?,
+            shared: Some(RcStr::from_str(alloc, text)?),
         })
     }
 
-    /// The text of a `String`, which takes no memory.
-    pub fn from_string(text: String) -> Text
-        ensures { result ≡ string_bytes text }
+    /// The text of a `String`, whose bytes are moved.
+    pub fn from_string(text: String) -> Result<Text, AllocError>
+        ensures { IfOk result (λ t. t ≡ string_bytes text) }
     {
-        Text { text }
-    }
-
-    /// The `String` of a text, which takes no memory.
-    pub fn into_string(self) -> String
-        ensures { string_bytes result ≡ self }
-    {
-        let Text { text } = self;
-        text
+        Ok(Text {
+            shared: Some(RcStr::from_string(text)?),
+        })
     }
 
     /// The text itself.
     pub fn as_str(&self) -> &str
         ensures { result.now ≡ self.now }
     {
-        self.text.as_str()
+        match &self.shared {
+            Some(text) => text.as_str(),
+            None => "",
+        }
     }
 
     /// The order of texts by their bytes.
     pub fn compare(&self, other: &Text) -> Ordering
         ensures { result ≡ slice_cmp nat_cmp self.now other.now }
     {
-        self.text.as_str().cmp(other.text.as_str())
+        self.as_str().cmp(other.as_str())
     }
 
     /// Whether two texts have the same bytes.
     pub fn is_same(&self, other: &Text) -> bool
         ensures { result ≡ bytes_eq self.now other.now }
     {
-        self.text.as_str() == other.text.as_str()
+        self.as_str() == other.as_str()
     }
 
-    /// A copy, which equals the text.
-    pub fn try_clone(&self, alloc: Global) -> Result<Text, AllocError>
+    /// A copy, which equals the text and shares its bytes.
+    pub fn try_clone(&self, _alloc: Global) -> Result<Text, AllocError>
         ensures { IfOk result (λ t. t ≡ self.now) }
     {
-        Text::from_str(alloc, self.text.as_str())
+        match &self.shared {
+            Some(text) => Ok(Text {
+                shared: Some(text.clone()?),
+            }),
+            None => Ok(Text { shared: None }),
+        }
     }
 }
 
@@ -86,7 +102,7 @@ impl PartialEq for Text {
     ghost laws = { partial_equiv_from_equiv nat_list_eq_equiv };
 
     fn eq(&self, other: &Self) -> bool {
-        self.text.as_str() == other.text.as_str()
+        self.as_str() == other.as_str()
     }
 }
 
@@ -124,6 +140,6 @@ impl Ord for Text {
     ghost matches_eq = { texts_ties };
 
     fn cmp(&self, other: &Self) -> Ordering {
-        self.text.as_str().cmp(other.text.as_str())
+        self.as_str().cmp(other.as_str())
     }
 }

@@ -16,4 +16,4 @@ pub use lits::{Lits, lits_laws, lits_of, lits_union};
 pub use name::Name;
 pub use order::{compare, order_laws};
 pub use path::{BadName, bad_name_laws, is_path, path_laws, read_name};
-pub use uid::Uid;
+pub use uid::{Uid, clone_uids};

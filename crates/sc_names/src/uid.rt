@@ -1,8 +1,8 @@
 //! Uids of entities.
-ghost use Rattle.std.specs.Prelude.{◌≡◌, IfOk};
+ghost use Rattle.std.specs.Prelude.{◌≡◌, [], IfOk};
 
 use crate::name::Name;
-use sc_lists::Text;
+use sc_lists::{Seq, Text};
 use std::alloc::{AllocError, Global};
 
 /// An entity's uid: its type's name and its id. Uids are ordered by type, then id, both by bytes.
@@ -15,6 +15,16 @@ pub struct Uid {
 }
 
 impl Uid {
+    /// The entity of a type whose id is empty.
+    pub fn nameless(alloc: Global, type_name: &Name) -> Result<Uid, AllocError>
+        ensures { IfOk result (λ uid. uid ≡ record { type_name = type_name.now; id = [] }) }
+    {
+        Ok(Uid {
+            type_name: type_name.try_clone(alloc)?,
+            id: Text::new(),
+        })
+    }
+
     /// A copy, which equals the uid.
     pub fn try_clone(&self, alloc: Global) -> Result<Uid, AllocError>
         ensures { IfOk result (λ uid. uid ≡ self.now) }
@@ -24,4 +34,15 @@ impl Uid {
             id: self.id.try_clone(alloc)?,
         })
     }
+}
+
+/// A copy of uids, which equals them.
+pub fn clone_uids(alloc: Global, uids: &Seq<Uid>) -> Result<Seq<Uid>, AllocError>
+    ensures { IfOk result (λ copy. copy ≡ uids.now) }
+{
+    let mut copy = Seq::new(alloc);
+    for uid in uids.as_slice() {
+        copy.push(uid.try_clone(alloc)?)?;
+    }
+    Ok(copy)
 }

@@ -4,7 +4,8 @@ ghost use Rattle.sc_nodes.specs.Sorts as sorts;
 
 use crate::node::{BinaryOp, Leaf, Literal, UnaryOp};
 use sc_lists::Boxed;
-use sc_sorts::{Sort, clone_uids, field_sort, held_sort, member_sort, try_clone};
+use sc_names::clone_uids;
+use sc_sorts::{Sort, field_sort, held_sort, member_sort, try_clone};
 use std::alloc::{AllocError, Global};
 
 /// The sort of a term with no parts.

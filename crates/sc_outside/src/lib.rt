@@ -9,6 +9,7 @@ mod count;
 mod faults;
 mod memory;
 mod never_fails;
+mod started;
 mod system;
 #[cfg(test)]
 mod tests;

@@ -1,14 +1,16 @@
 //! Files and a sink in memory, of which the calls of given numbers fail.
-ghost use Rattle.std.specs.Prelude.{◌≡◌, ◌≢◌, ◌≤◌, ◌↔◌, ◌⊎◌, ℕ, List, [], length, Some, None, Err, Contains, IfOk, IfSome};
+ghost use Rattle.std.specs.Prelude.{◌≡◌, ◌≢◌, ◌≤◌, ◌↔◌, ◌⊎◌, ℕ, List, [], length, Some, None, Err, Contains, IfOk, IfSome, IsSome, OnErr, unwrap_or};
 ghost use Rattle.sc_outside.specs.Counts.{Counts, CountsFailure, next_count};
 ghost use Rattle.sc_outside.specs.Memory.{content_in, kept_of, KeepsOf};
+ghost use Rattle.sc_outside.specs.Pieces.{IsPiece, Starts, Takes, left_in};
 ghost use Rattle.sc_outside.specs.Reads.{Reads};
 ghost use Rattle.sc_outside.specs.Writes.{Writes};
 
 use crate::count::FaultCount;
 use crate::faults::{FileFault, SinkFault};
+use crate::started::Started;
 use crate::traits::{Files, Sink};
-use std::alloc::Global;
+use std::alloc::{AllocError, Global};
 use std::collections::BTreeMap;
 
 /// Files in memory. A call for a name that isn't among them fails, as do the calls of given numbers.
@@ -18,6 +20,7 @@ pub struct MemFiles {
     failing: Vec<u64>,
     calls: u64,
     faults: FaultCount,
+    started: Option<Started>,
 }
 
 impl MemFiles {
@@ -27,18 +30,22 @@ impl MemFiles {
         ensures failing { result.failing ≡ failing }
         ensures calls { result.calls ≡ 0 }
         ensures faults { ⟦<MemFiles as Files>⟧.faults result ≡ 0 }
+        ensures left { ⟦<MemFiles as Files>⟧.left result ≡ None }
     {
         MemFiles {
             files,
             failing,
             calls: 0,
             faults: FaultCount::new(),
+            started: None,
         }
     }
 }
 
 impl Files for MemFiles {
     ghost content = { λ s name. content_in s.files name };
+
+    ghost left = { λ s. left_in (content_in s.files) s.started };
 
     ghost faults = { λ s. s.faults.count };
 
@@ -48,6 +55,8 @@ impl Files for MemFiles {
         ensures told { IfSome (content_in self.old.files name.now) (λ bytes. Reads bytes limit result) }
         ensures within { IfOk result (λ bytes. length bytes.items ≤ limit) }
         ensures keeps { (other : List ℕ) → content_in self.new.files other ≡ content_in self.old.files other }
+        ensures leaves { left_in (content_in self.new.files) self.new.started
+            ≡ left_in (content_in self.old.files) self.old.started }
         ensures counts { Counts self.old.faults.count self.new.faults.count (result ≡ Err FileFault.Failed) }
 
         // It fails exactly where it is told to, or the name isn't there.
@@ -71,6 +80,97 @@ impl Files for MemFiles {
                 Err(FileFault::Failed)
             }
         }
+    }
+
+    fn start(&mut self, alloc: Global, name: &str) -> Result<(), FileFault>
+        ensures starts { Starts (content_in self.old.files name.now)
+            (left_in (content_in self.old.files) self.old.started)
+            (left_in (content_in self.new.files) self.new.started) result }
+        ensures never_long { result ≢ Err FileFault.TooLong }
+        ensures keeps { (other : List ℕ) → content_in self.new.files other ≡ content_in self.old.files other }
+        ensures counts { Counts self.old.faults.count self.new.faults.count (result ≡ Err FileFault.Failed) }
+
+        // It fails exactly where it is told to, or the name isn't there.
+        ensures fails { (result ≡ Err FileFault.Failed)
+            ↔ ((Contains self.old.failing.items self.old.calls) ⊎ (content_in self.old.files name.now ≡ None)) }
+        ensures counts_failure { CountsFailure self.old.faults.count self.new.faults.count
+            (result ≡ Err FileFault.Failed) }
+        ensures failing { self.new.failing ≡ self.old.failing }
+        ensures calls { self.new.calls ≡ next_count self.old.calls }
+    {
+        let call = self.calls;
+        self.calls = call.saturating_add(1);
+        if self.failing.contains(&call) {
+            self.faults.raise();
+            return Err(FileFault::Failed);
+        }
+        match self.files.get(name) {
+            Some(_) => {
+                self.started = Some(Started::new(alloc, name)?);
+                Ok(())
+            }
+            None => {
+                self.faults.raise();
+                Err(FileFault::Failed)
+            }
+        }
+    }
+
+    fn more(&mut self, alloc: Global, max: u64) -> Result<Vec<u8>, FileFault>
+        requires started { IsSome (left_in (content_in self.old.files) self.old.started) }
+        requires some { 1 ≤ max }
+        ensures takes { Takes (left_in (content_in self.old.files) self.old.started)
+            (left_in (content_in self.new.files) self.new.started) max result }
+        ensures never_long { result ≢ Err FileFault.TooLong }
+        ensures keeps { (other : List ℕ) → content_in self.new.files other ≡ content_in self.old.files other }
+        ensures counts { Counts self.old.faults.count self.new.faults.count (result ≡ Err FileFault.Failed) }
+
+        // It fails exactly where it is told to.
+        ensures fails { (result ≡ Err FileFault.Failed) ↔ Contains self.old.failing.items self.old.calls }
+        ensures counts_failure { CountsFailure self.old.faults.count self.new.faults.count
+            (result ≡ Err FileFault.Failed) }
+        ensures failing { self.new.failing ≡ self.old.failing }
+        ensures calls { self.new.calls ≡ next_count self.old.calls }
+    {
+        let call = self.calls;
+        self.calls = call.saturating_add(1);
+        if self.failing.contains(&call) {
+            self.faults.raise();
+            return Err(FileFault::Failed);
+        }
+        Ok(next_piece(alloc, &self.files, &mut self.started, max)?)
+    }
+}
+
+/// The bytes of a file, of which there are none where there is no such file.
+pub(crate) fn bytes_in<'a>(files: &'a BTreeMap<String, Vec<u8>>, name: &str) -> &'a [u8]
+    ensures { result.now ≡ unwrap_or (content_in files.now name.now) [] }
+{
+    match files.get(name) {
+        Some(bytes) => bytes,
+        None => &[],
+    }
+}
+
+/// The next bytes of the file that was started.
+fn next_piece(
+    alloc: Global,
+    files: &BTreeMap<String, Vec<u8>>,
+    started: &mut Option<Started>,
+    max: u64,
+) -> Result<Vec<u8>, AllocError>
+    requires { 1 ≤ max }
+    ensures piece { IfOk result (λ piece. IsPiece (left_in (content_in files.now) started.old)
+        (left_in (content_in files.now) started.new) max piece.items) }
+    ensures kept { OnErr result (left_in (content_in files.now) started.new
+        ≡ left_in (content_in files.now) started.old) }
+{
+    let Some(file) = started else {
+        return Ok(Vec::new(alloc));
+    };
+    match files.get(file.name()) {
+        Some(bytes) => file.take(alloc, bytes, max),
+        None => Ok(Vec::new(alloc)),
     }
 }
 

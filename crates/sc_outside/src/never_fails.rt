@@ -1,10 +1,12 @@
 //! Files and a sink that never fail.
-ghost use Rattle.std.specs.Prelude.{◌≡◌, [], Some, unwrap_or};
+ghost use Rattle.std.specs.Prelude.{◌≡◌, [], None, Some, unwrap_or};
 ghost use Rattle.std.proofs.Common.{rules};
 ghost use Rattle.sc_outside.specs.Memory.{content_in};
+ghost use Rattle.sc_outside.specs.Pieces.{left_in};
 
 use crate::faults::{FileFault, SinkFault};
-use crate::memory::copy_within;
+use crate::memory::{bytes_in, copy_within};
+use crate::started::Started;
 use crate::traits::{Files, Sink};
 use std::alloc::Global;
 use std::collections::BTreeMap;
@@ -14,14 +16,19 @@ use std::collections::BTreeMap;
 #[derive(Drop)]
 pub struct NeverFails<T> {
     inner: T,
+    started: Option<Started>,
 }
 
 impl<T> NeverFails<T> {
     /// Wraps files or bytes.
     pub fn new(inner: T) -> NeverFails<T>
-        ensures { result.inner ≡ inner }
+        ensures inner { result.inner ≡ inner }
+        ensures started { result.started ≡ None }
     {
-        NeverFails { inner }
+        NeverFails {
+            inner,
+            started: None,
+        }
     }
 
     /// What is wrapped.
@@ -35,15 +42,28 @@ impl<T> NeverFails<T> {
 impl Files for NeverFails<BTreeMap<String, Vec<u8>>> {
     ghost content = { λ s name. Some (unwrap_or (content_in s.inner name) []) };
 
+    ghost left = { λ s. left_in (λ name. Some (unwrap_or (content_in s.inner name) [])) s.started };
+
     ghost faults = { λ _. 0 };
 
     ghost bounded = { λ _. Prim.search rules };
 
     fn read(&mut self, alloc: Global, name: &str, limit: u64) -> Result<Vec<u8>, FileFault> {
-        match self.inner.get(name) {
-            Some(bytes) => copy_within(alloc, bytes, limit),
-            None => Ok(Vec::new(alloc)),
-        }
+        copy_within(alloc, bytes_in(&self.inner, name), limit)
+    }
+
+    fn start(&mut self, alloc: Global, name: &str) -> Result<(), FileFault> {
+        self.started = Some(Started::new(alloc, name)?);
+        Ok(())
+    }
+
+    #[tactic(auto, using(crate::proofs::PieceLaws::piece_of_file))]
+    fn more(&mut self, alloc: Global, max: u64) -> Result<Vec<u8>, FileFault> {
+        let Some(file) = &mut self.started else {
+            return Ok(Vec::new(alloc));
+        };
+        let bytes = bytes_in(&self.inner, file.name());
+        Ok(file.take(alloc, bytes, max)?)
     }
 }
 

@@ -2,6 +2,7 @@
 ghost use Rattle.std.specs.Prelude.{◌≡◌, ◌≢◌, ◌≤◌, ◌+◌, ◌↔◌, length, max, vec_capacity, Err, None, IfOk, OnErr};
 ghost use Rattle.std.specs.IoError.{error_kind};
 ghost use Rattle.sc_outside.specs.Counts.{Counts, CountsFailure};
+ghost use Rattle.sc_outside.specs.Pieces.{untold_left};
 ghost use Rattle.sc_outside.specs.Writes.{Writes};
 
 use crate::count::FaultCount;
@@ -15,21 +16,27 @@ use std::{io, rt};
 /// How many bytes are taken at a time, at most.
 const PIECE: usize = 8192;
 
+/// How many bytes a piece of a file may have, at most.
+const LONGEST: u64 = 65536;
+
 /// The files of the system.
 #[derive(Drop)]
-pub struct RealFiles<'a, R> {
+pub struct RealFiles<'a, R: rt::Files> {
     rt: &'a R,
     faults: FaultCount,
+    started: Option<R::File>,
 }
 
 impl<'a, R: rt::Files> RealFiles<'a, R> {
     /// The files that this runtime opens.
     pub fn new(rt: &'a R) -> RealFiles<'a, R>
         ensures faults { ⟦<RealFiles<'a, R> as Files>⟧.faults result ≡ 0 }
+        ensures left { ⟦<RealFiles<'a, R> as Files>⟧.left result ≡ None }
     {
         RealFiles {
             rt,
             faults: FaultCount::new(),
+            started: None,
         }
     }
 }
@@ -37,12 +44,15 @@ impl<'a, R: rt::Files> RealFiles<'a, R> {
 impl<R: rt::Files> Files for RealFiles<'_, R> {
     ghost content = { λ _ _. None };
 
+    ghost left = { λ s. untold_left s.started };
+
     ghost faults = { λ s. s.faults.count };
 
     ghost bounded = { λ s. s.faults.within };
 
     fn read(&mut self, alloc: Global, name: &str, limit: u64) -> Result<Vec<u8>, FileFault>
         ensures within { IfOk result (λ bytes. length bytes.items ≤ limit) }
+        ensures leaves { untold_left self.new.started ≡ untold_left self.old.started }
         ensures counts { Counts self.old.faults.count self.new.faults.count (result ≡ Err FileFault.Failed) }
         ensures counts_failure { CountsFailure self.old.faults.count self.new.faults.count
             (result ≡ Err FileFault.Failed) }
@@ -52,6 +62,33 @@ impl<R: rt::Files> Files for RealFiles<'_, R> {
             self.faults.raise();
         }
         read
+    }
+
+    fn start(&mut self, _alloc: Global, name: &str) -> Result<(), FileFault> {
+        match File::open(self.rt, name) {
+            Ok(file) => {
+                self.started = Some(file);
+                Ok(())
+            }
+            Err(error) => {
+                let fault = fault_of(&error);
+                if fault == FileFault::Failed {
+                    self.faults.raise();
+                }
+                Err(fault)
+            }
+        }
+    }
+
+    fn more(&mut self, alloc: Global, max: u64) -> Result<Vec<u8>, FileFault> {
+        let Some(file) = &mut self.started else {
+            return Ok(Vec::new(alloc));
+        };
+        let piece = piece_of(file, alloc, max);
+        if matches!(&piece, Err(FileFault::Failed)) {
+            self.faults.raise();
+        }
+        piece
     }
 }
 
@@ -80,6 +117,26 @@ fn bytes_of<R: rt::Files>(
             Ok(count) => {
                 make_room(&mut bytes, count, room as usize)?;
                 bytes.extend_from_slice(&piece[..count])?;
+            }
+            Err(error) if error.kind() == ErrorKind::Interrupted => {}
+            Err(error) => return Err(fault_of(&error)),
+        }
+    }
+    Err(FileFault::Failed)
+}
+
+/// The next bytes of an open file, as many as one read gives. Room for them is made before.
+pub(crate) fn piece_of<F: Read>(file: &mut F, alloc: Global, max: u64) -> Result<Vec<u8>, FileFault>
+    ensures within { IfOk result (λ piece. length piece.items ≤ max) }
+    ensures never_long { result ≢ Err FileFault.TooLong }
+{
+    let most = max.min(LONGEST) as usize;
+    let mut piece = vec![in alloc; 0u8; most]?;
+    for _ in 0..u64::MAX {
+        match file.read(&mut piece) {
+            Ok(count) => {
+                piece.truncate(count);
+                return Ok(piece);
             }
             Err(error) if error.kind() == ErrorKind::Interrupted => {}
             Err(error) => return Err(fault_of(&error)),

@@ -1,6 +1,7 @@
 //! What the program reads from, and what it writes to.
-ghost use Rattle.std.specs.Prelude.{◌≡◌, ◌≤◌, ℕ, List, length, Option, Err, IfOk, IfSome};
+ghost use Rattle.std.specs.Prelude.{◌≡◌, ◌≢◌, ◌≤◌, ℕ, List, length, Option, Err, IfOk, IfSome, IsSome};
 ghost use Rattle.sc_outside.specs.Counts.{Counts, last_count};
+ghost use Rattle.sc_outside.specs.Pieces.{Left, Starts, Takes};
 ghost use Rattle.sc_outside.specs.Reads.{Reads};
 ghost use Rattle.sc_outside.specs.Writes.{Writes};
 
@@ -12,6 +13,9 @@ pub trait Files {
     /// What the file of a name holds, where that is told.
     ghost content: { Self → List ℕ → Option (List ℕ) };
 
+    /// What is left of the file that was started, where one was, as far as that is told.
+    ghost left: { Self → Left };
+
     /// How often the source failed, up to 18446744073709551615.
     ghost faults: { Self → ℕ };
 
@@ -21,6 +25,23 @@ pub trait Files {
     fn read(&mut self, alloc: Global, name: &str, limit: u64) -> Result<Vec<u8>, FileFault>
         ensures told { IfSome (content self.old name.now) (λ bytes. Reads bytes limit result) }
         ensures within { IfOk result (λ bytes. length bytes.items ≤ limit) }
+        ensures keeps { (other : List ℕ) → content self.new other ≡ content self.old other }
+        ensures leaves { left self.new ≡ left self.old }
+        ensures counts { Counts (faults self.old) (faults self.new) (result ≡ Err FileFault.Failed) };
+
+    /// Starts a file, which is then read in pieces. One that was started before isn't read on.
+    fn start(&mut self, alloc: Global, name: &str) -> Result<(), FileFault>
+        ensures starts { Starts (content self.old name.now) (left self.old) (left self.new) result }
+        ensures never_long { result ≢ Err FileFault.TooLong }
+        ensures keeps { (other : List ℕ) → content self.new other ≡ content self.old other }
+        ensures counts { Counts (faults self.old) (faults self.new) (result ≡ Err FileFault.Failed) };
+
+    /// The next bytes of the file that was started, at most `max` of them. None are its end.
+    fn more(&mut self, alloc: Global, max: u64) -> Result<Vec<u8>, FileFault>
+        requires started { IsSome (left self.old) }
+        requires some { 1 ≤ max }
+        ensures takes { Takes (left self.old) (left self.new) max result }
+        ensures never_long { result ≢ Err FileFault.TooLong }
         ensures keeps { (other : List ℕ) → content self.new other ≡ content self.old other }
         ensures counts { Counts (faults self.old) (faults self.new) (result ≡ Err FileFault.Failed) };
 

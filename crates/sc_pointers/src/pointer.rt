@@ -14,7 +14,7 @@ pub fn below(alloc: Global, key: &str, path: &Text) -> Result<Text, AllocError>
     let mut pointer = String::from_str(alloc, "/")?;
     put_escaped(&mut pointer, key)?;
     pointer.push_str(path.as_str())?;
-    Ok(Text::from_string(pointer))
+    Text::from_string(pointer)
 }
 
 /// Puts a name at the end, with `~0` for `~` and `~1` for `/`.

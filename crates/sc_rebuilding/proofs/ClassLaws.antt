@@ -4,15 +4,12 @@ use Rattle.std.specs.Cmp.{both_ways}
 use Rattle.sc_lists.specs.Members.{Has}
 use Rattle.sc_terms.specs.Trees.{Tree}
 use Rattle.sc_rebuilding.specs.Names.{Name, or_name, literal_among, place_among, or_fresh, zeros, length_of, longest, class_name}
+use Rattle.sc_rebuilding.proofs.CompositeClaims.{true_both}
 
 length_zeros : (n : ℕ) → length (zeros n) ≡ n
 unfolding zeros
 length_zeros zero = refl
 length_zeros (suc n) = ap suc (length_zeros n)
-
-true_false : (b : Bool) → b ≡ true → b ≡ false → ⊥
-true_false true e f = absurd cc
-true_false false e f = absurd cc
 
 pub record IsClassed (same : Tree → Tree → Bool) (literal : Tree → Option Name) (xs : List Tree) : Type 0 where
   pub itself : (x : Tree) → Has xs x → same x x ≡ true
@@ -85,7 +82,7 @@ module _ (same : Tree → Tree → Bool) (literal : Tree → Option Name) where
   Met ys x z = (t : Tree) × Has ys t × (same x t ≡ true) × (same z t ≡ true)
 
   beyond : (u : Tree) (ys : List Tree) (x y : Tree) → Has (u ∷ ys) y → same x y ≡ true → same x u ≡ false → Has ys y
-  beyond u ys x y (inl is) e f = absurd (true_false (same x u) (ap (same x) is ∙ e) f)
+  beyond u ys x y (inl is) e f = absurd (true_both (same x u) (ap (same x) is ∙ e) f)
   beyond u ys x y (inr later) e f = later
 
   met_by : (u : Tree) (ys : List Tree) (x z y : Tree) → Has (u ∷ ys) y → same x y ≡ true

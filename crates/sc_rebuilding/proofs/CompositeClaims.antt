@@ -60,7 +60,7 @@ use Rattle.sc_rebuilding.proofs.ClaimLaws.{AreTerms, AreAddresses, Agrees, ArePa
 use Rattle.sc_rebuilding.proofs.ClosedLaws.{field_closed, present_closed, held_closed, fields_equation, held_equation, subset_closed, superset_closed, pick_closed, IsCandidate, candidates_equation, member_closed, member_candidate, pick_candidate}
 use Rattle.sc_rebuilding.proofs.EquationTerms.{literal_is, no_constant, equal_sym, lit_two}
 use Rattle.sc_rebuilding.proofs.HoldLaws.{second, third, only, first_of_three, first_of_four, none_unless}
-use Rattle.sc_rebuilding.proofs.SortLaws.{found}
+use Rattle.sc_closure_rules.proofs.SortLaws.{found}
 use Rattle.sc_rebuilding.proofs.SortSteps.{by_sorts}
 use Rattle.sc_rebuilding.proofs.ValLaws.{entry, val_Set, val_Option, val_Record, shown, is_it, field_found}
 
@@ -86,7 +86,7 @@ true_unless : (b : Bool) → (b ≡ false → ⊥) → b ≡ true
 true_unless true h = refl
 true_unless false h = absurd (h refl)
 
-true_both : (b : Bool) → b ≡ true → b ≡ false → ⊥
+pub true_both : (b : Bool) → b ≡ true → b ≡ false → ⊥
 true_both true e f = cc
 true_both false e f = cc
 

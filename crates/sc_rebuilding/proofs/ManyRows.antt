@@ -61,7 +61,7 @@ use Rattle.sc_rebuilding.proofs.CompositeClaims.{place_of, one_set, ruled, passe
 use Rattle.sc_rebuilding.proofs.EquationTerms.{Equation, is_one, are_literals, is_straight, is_turned, equation_of, no_constant, lit_not}
 use Rattle.sc_rebuilding.proofs.HoldLaws.{second, others, some_so}
 use Rattle.sc_rebuilding.proofs.RowLaws.{bool_only, at_sort, from_sort, right_literal, right_none}
-use Rattle.sc_rebuilding.proofs.SortLaws.{key_at}
+use Rattle.sc_closure_rules.proofs.SortLaws.{key_at}
 use Rattle.sc_rebuilding.proofs.SortSteps.{by_sorts}
 use Rattle.sc_rebuilding.proofs.ValLaws.{val_Bool, val_Option, val_Record, is_it}
 

@@ -30,21 +30,9 @@ use Rattle.sc_term_laws.proofs.ChoicesLaws.{declared_is}
 use Rattle.sc_term_laws.proofs.FitRecords.{all_apart}
 use Rattle.sc_term_laws.proofs.FitVals.{no_option_at}
 use Rattle.sc_term_laws.proofs.SortsLawful.{lawful_action, above_declared, attrs_lawful, tags_lawful, context_lawful, type_lawful, declared_action}
+use Rattle.sc_closure_rules.proofs.SortLaws.{key_at, found}
 
 -- ---- a field is found by its name, where names ascend
-
-pub key_at : (P : List ℕ → Type 0) (fs : SortFields) (f : SortField) → AllByRecursion P (keys_of fs) → Has fs f → P f.0
-key_at P [] f all there = absurd there
-key_at P (g ∷ fs) f all (inl e) = subst (λ (h : SortField). P h.0) e all.0
-key_at P (g ∷ fs) f all (inr there) = key_at P fs f all.1 there
-
-pub found : (fs : SortFields) (f : SortField) → IsStrictlySortedBy text_cmp (keys_of fs) → Has fs f → lookup (bytes_eq f.0) fs ≡ Some f.1
-unfolding IsStrictlySortedBy
-found [] f ascend there = absurd there
-found (g ∷ fs) f ascend (inl e) = subst (λ (h : SortField). lookup (bytes_eq h.0) (g ∷ fs) ≡ Some h.1) e (rw ((bytes_eq-Decides g.0 g.0).1 refl) refl)
-found (g ∷ fs) f ascend (inr there) =
-    let differs : bytes_eq f.0 g.0 ≡ false = key_at (λ m. bytes_eq m g.0 ≡ false) fs f (all_apart g.0 (keys_of fs) ascend.0) there in
-    rw differs (found fs f ascend.1 there)
 
 module _ (d : Declarations) (env : Env) (written : List Uid) (lawful : IsLawful d) (among : Contains (environments d) env) (declared : AllByRecursion (IsDeclaredUid d) written) where
   abbrev Is : Sort → Tree → Type 0

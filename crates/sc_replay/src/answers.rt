@@ -51,7 +51,7 @@ fn policy_line(alloc: Global, place: usize, standing: Standing) -> Result<Text, 
     line.push_str(" ")?;
     put_standing(&mut line, standing)?;
     line.push_str("\n")?;
-    Ok(Text::from_string(line))
+    Text::from_string(line)
 }
 
 /// Puts the lines of policies, which stand so, behind others, in their order.

@@ -38,5 +38,5 @@ pub(crate) fn world_line(alloc: Global, found: &Option<Break>) -> Result<Text, A
     let mut line = String::from_str(alloc, "world not well-formed: ")?;
     put_break(&mut line, found)?;
     line.push_str("\n")?;
-    Ok(Text::from_string(line))
+    Text::from_string(line)
 }

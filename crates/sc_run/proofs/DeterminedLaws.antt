@@ -1,6 +1,8 @@
 -- What a run must end with, since the words and the files determine what is read.
-use Rattle.std.proofs.Common.{◌≡◌, ◌≢◌, ◌≤◌, ◌<◌, ℕ, zero, suc, List, Option, Some, None, Ok, Err, length, refl, sym, ap, ◌∙◌, subst, arith, ⊎_elim, inl, inr}
-use Rattle.sc_schema.specs.Declarations.{Declarations}
+use Rattle.std.proofs.Common.{◌≡◌, ◌≢◌, ◌≤◌, ◌<◌, ◌⊎◌, ℕ, zero, suc, List, [], ◌∷◌, Option, Some, None, IfSome, Ok, Err, length, refl, sym, ap, ◌∙◌, subst, arith, ⊎_elim, inl, inr}
+use Rattle.std.specs.Bool.{⊤}
+use Rattle.sc_schema.specs.declared.declarations.Env.{Env}
+use Rattle.sc_schema.specs.Declarations.{Declarations, environments}
 use Rattle.sc_schema_json.specs.Spelling as json
 use Rattle.sc_ast.specs.declared.policy.Policy.{Policy}
 use Rattle.sc_clauses.specs.declared.step.Step.{Step}
@@ -12,14 +14,17 @@ use Rattle.sc_typing.specs.declared.name_fault.NameFault.{NameFault}
 use Rattle.sc_typing.specs.Names.{name_fault}
 use Rattle.sc_world.specs.declared.world.World.{World}
 use Rattle.sc_world_json.specs.Reading as world
-use Rattle.sc_inputs.specs.Serving.{Command, Serves, asking}
+use Rattle.sc_inputs.specs.Serving.{Aim, Command, Serves, asking, checking, logging, place_in, reporting}
 use Rattle.sc_inputs.proofs.ServingLaws.{same_policies, same_schema, same_task, not_both_tasks, one_world_file, one_question}
 use Rattle.sc_inputs.specs.Readings.{ReadsAll, ReadsWorld}
-use Rattle.sc_inputs.specs.Refusals.{Refusal, Side, policies_side, against_side, IsRefusal, no_command, of_schema, of_policies, of_against, of_world, of_names, of_question, RefusesQuestion, undeclared, untyped, has_construct, unread, long, RefusesSchema, schema_unread, schema_faulty, RefusesPolicies, policies_unread, policies_faulty, RefusesWorld, world_unread, world_faulty, code_of, Content, IsContent, IsTooLong, ReadsSchema, HasPolicies, HasAgainst, HasWorld, ReachesQuestion, ReachesWorld, names_fault, types_fault, constructs_fault, limit}
-use Rattle.sc_run.specs.Progress.{Reported, whole, cut, cut_none, stopped}
+use Rattle.sc_inputs.specs.Refusals.{Refusal, Side, policies_side, against_side, IsRefusal, no_command, of_schema, of_policies, of_against, of_world, of_names, of_log, of_place, of_question, RefusesLog, log_long, log_unread, RefusesPlace, misplaced, RefusesQuestion, undeclared, untyped, has_construct, unread, long, RefusesSchema, schema_unread, schema_faulty, RefusesPolicies, policies_unread, policies_faulty, RefusesWorld, world_unread, world_faulty, code_of, Content, IsContent, IsTooLong, ReadsSchema, HasPolicies, HasAgainst, HasWorld, AreServed, HasEnvironment, IsLongLog, ReachesAim, ReachesQuestion, ReachesWorld, names_fault, types_fault, constructs_fault, limit, log_limit}
+use Rattle.sc_reports.specs.Claims.{Answer, Checked, IsShort, accepted, answer_code, answer_front, answer_whole, rejected, too_large, unchecked}
+use Rattle.sc_reports.specs.Logs.{Logged, log_first, log_front, log_whole, other_front, other_whole, unlogged}
+use Rattle.sc_reports.specs.Progress.{Reported, whole, cut, cut_none, stopped}
 use Rattle.sc_run.specs.Replays.{Replayed, told_whole, told_front, told_first, untold}
-use Rattle.sc_run.specs.Reports.{Asked}
-use Rattle.sc_run.specs.Runs.{Run, HasRisen, Ends, refused, refusal_cut, reported, replayed, no_memory, asked, scene, IsReadable, IsWhole, MustBe, SchemaTold, PoliciesTold, AgainstTold, no_file, told_file, AgainstNamed, AllSpelled, WorldTold, WorldSpelled, QuestionSpelled, SchemaIsLong, SchemaIsFaulty, PoliciesAreLong, PoliciesAreFaulty, AgainstIsLong, AgainstIsFaulty, WorldIsLong, WorldIsFaulty, NamesAreUnknown, PoliciesAreUntyped, PoliciesAreUnsupported, IsReplayable, IsReplayed}
+use Rattle.sc_reports.specs.Reports.{Asked}
+use Rattle.sc_run.specs.Runs.{Run, HasRisen, Ends, refused, refusal_cut, reported, replayed, wrote_log, checked_log, no_memory, scene, IsReadable, IsServed, IsWhole, IsWholeFor, LogIsLong, LogIsTold, MustBe, PlaceIsMissing, SchemaTold, PoliciesTold, AgainstTold, no_file, told_file, AgainstNamed, AllSpelled, WorldTold, WorldSpelled, QuestionSpelled, SchemaIsLong, SchemaIsFaulty, PoliciesAreLong, PoliciesAreFaulty, AgainstIsLong, AgainstIsFaulty, WorldIsLong, WorldIsFaulty, NamesAreUnknown, PoliciesAreUntyped, PoliciesAreUnsupported, IsReplayable, IsReplayed}
+use Rattle.sc_reports.specs.Analyses.{asked}
 use Rattle.sc_run.proofs.StatusLaws.{status-code}
 
 -- ---- the words and the files determine what is read
@@ -90,17 +95,25 @@ record Reaches (content : Content) (words : List (List ℕ)) (s : Declarations) 
 reach-world : (content : Content) (words : List (List ℕ)) (s : Declarations) (ps : List Policy) (name : List ℕ) → ReachesWorld content words s ps name → Reaches content words s ps
 reach-world content words s ps name x = record { command = x.command; commands = x.commands; schema = x.schema; policies = x.policies }
 
+-- the log that is to be checked, where one is, isn't too long, where it is told
+abbrev HasShortLog : Content → Aim → Type 0
+HasShortLog content (reporting budget) = ⊤
+HasShortLog content (logging budget place) = ⊤
+HasShortLog content (checking place name) = IsShort (content name)
+
 -- a run must end with a status, where each refusal that may come has it, and no report comes
 record Only (r : Run) (n : ℕ) : Type 0 where
   pub words : ((c : Command) → Serves r.words c → ⊥) → 10 ≡ n
   pub schema : (a : Refusal) (c : Command) → Serves r.words c → RefusesSchema r.content c (HasRisen r.reads) a → code_of a ≡ n
   pub policies : (a : Refusal) (c : Command) (s : Declarations) → Serves r.words c → ReadsSchema r.content c s → RefusesPolicies r.content c.policies policies_side (HasRisen r.reads) a → code_of a ≡ n
-  pub others : (a : Refusal) (c : Command) (s : Declarations) (question : Question) (name : List ℕ) (budget : ℕ) (first : List Policy) → Serves r.words c → c.task ≡ asking question (Some name) budget → ReadsSchema r.content c s
+  pub others : (a : Refusal) (c : Command) (s : Declarations) (question : Question) (name : List ℕ) (aim : Aim) (first : List Policy) → Serves r.words c → c.task ≡ asking question (Some name) aim → ReadsSchema r.content c s
       → HasPolicies r.content c.policies first → RefusesPolicies r.content name against_side (HasRisen r.reads) a → code_of a ≡ n
   pub world : (a : Refusal) (s : Declarations) (ps : List Policy) (name : List ℕ) → ReachesWorld r.content r.words s ps name → RefusesWorld r.content name (HasRisen r.reads) a → code_of a ≡ n
   pub names : (f : NameFault) (s : Declarations) (ps : List Policy) (name : List ℕ) (w : World) → ReachesWorld r.content r.words s ps name → HasWorld r.content name w → name_fault s ps ≡ Some f → 13 ≡ n
-  pub question : (a : Refusal) (s : Declarations) (question : Question) (first : List Policy) (against : Option (List Policy)) (budget : ℕ) → ReachesQuestion r.content r.words s question first against budget → RefusesQuestion s first against a → code_of a ≡ n
-  pub report : (s : Declarations) (question : Question) (first : List Policy) (against : Option (List Policy)) (budget : ℕ) → ReadsAll r.content r.words s question first against budget → ⊥
+  pub question : (a : Refusal) (s : Declarations) (question : Question) (first : List Policy) (against : Option (List Policy)) (aim : Aim) → ReachesQuestion r.content r.words s question first against aim → RefusesQuestion s first against a → code_of a ≡ n
+  pub place : (a : Refusal) (s : Declarations) (question : Question) (first : List Policy) (against : Option (List Policy)) (aim : Aim) → ReachesQuestion r.content r.words s question first against aim → AreServed s first against → RefusesPlace s aim a → code_of a ≡ n
+  pub log : (a : Refusal) (s : Declarations) (question : Question) (first : List Policy) (against : Option (List Policy)) (place : ℕ) (name : List ℕ) → ReachesAim r.content r.words s question first against (checking place name) → RefusesLog r.content name (HasRisen r.reads) a → code_of a ≡ n
+  pub report : (s : Declarations) (question : Question) (first : List Policy) (against : Option (List Policy)) (aim : Aim) → ReadsAll r.content r.words s question first against aim → HasShortLog r.content aim → ⊥
   pub replay : (s : Declarations) (ps : List Policy) (w : World) → ReadsWorld r.content r.words s ps w → ⊥
 
 module _ (r : Run) (spent : List (List Step)) where
@@ -114,15 +127,24 @@ module _ (r : Run) (spent : List (List Step)) where
   refused-as n x _ (no_command none) = x.words none
   refused-as n x _ (of_schema a c h i) = x.schema a c h i
   refused-as n x _ (of_policies a c s h reads i) = x.policies a c s h reads i
-  refused-as n x _ (of_against a c s question name budget first h task reads has i) = x.others a c s question name budget first h task reads has i
+  refused-as n x _ (of_against a c s question name aim first h task reads has i) = x.others a c s question name aim first h task reads has i
   refused-as n x _ (of_world a s ps name reaches i) = x.world a s ps name reaches i
   refused-as n x _ (of_names f s ps name w reaches has is) = x.names f s ps name w reaches has is
-  refused-as n x _ (of_question a s question first against budget reaches i) = x.question a s question first against budget reaches i
+  refused-as n x _ (of_question a s question first against aim reaches i) = x.question a s question first against aim reaches i
+  refused-as n x _ (of_place a s question first against aim reaches served i) = x.place a s question first against aim reaches served i
+  refused-as n x _ (of_log a s question first against place name reaches i) = x.log a s question first against place name reaches i
+
+  checked-must : (n place : ℕ) (name : List ℕ) (q : Asked) (env : Env) → (IsShort (r.content name) → ⊥) → Checked (r.content name) q env r.before r.after (HasRisen r.writes) r.code → MustBe n r.code
+  checked-must n place name q env none (answer_whole a short claims c text) = absurd (none short)
+  checked-must n place name q env none (answer_front a k short claims rose c text) = absurd (none short)
+  checked-must n place name q env none (unchecked c text) = inr (inr c)
 
   must-be : (n : ℕ) → Ends r spent → Only r n → MustBe n r.code
   must-be n (refused a h c t none) x = inl (c ∙ refused-as n x a h)
   must-be n (refusal_cut a k h rose c t none) x = inr (inl c)
-  must-be n (reported s question first against budget reads report) x = absurd (x.report s question first against budget reads)
+  must-be n (reported s question first against budget reads report) x = absurd (x.report s question first against (reporting budget) reads tt)
+  must-be n (wrote_log s question first against budget place env reads at report) x = absurd (x.report s question first against (logging budget place) reads tt)
+  must-be n (checked_log s question first against place name env reads at report none) x = checked-must n place name _ env (λ short. x.report s question first against (checking place name) reads short) report
   must-be n (replayed s ps w reads report none) x = absurd (x.replay s ps w reads)
   must-be n (no_memory c t none) x = inr (inr c)
 
@@ -131,11 +153,13 @@ module _ (r : Run) (spent : List (List Step)) where
     words = λ h. refl;
     schema = λ a c h i. absurd (none c h);
     policies = λ a c s h reads i. absurd (none c h);
-    others = λ a c s question name budget first h task reads has i. absurd (none c h);
+    others = λ a c s question name aim first h task reads has i. absurd (none c h);
     world = λ a s ps name reaches i. absurd (none reaches.command reaches.commands);
     names = λ f s ps name w reaches has is. absurd (none reaches.command reaches.commands);
-    question = λ a s question first against budget reaches i. absurd (none reaches.command reaches.commands);
-    report = λ s question first against budget reads. none reads.reaches.command reads.reaches.commands;
+    question = λ a s question first against aim reaches i. absurd (none reaches.command reaches.commands);
+    place = λ a s question first against aim reaches served i. absurd (none reaches.command reaches.commands);
+    log = λ a s question first against place name reaches i. absurd (none reaches.reaches.command reaches.reaches.commands);
+    report = λ s question first against aim reads short. none reads.reached.reaches.command reads.reached.reaches.commands;
     replay = λ s ps w reads. none reads.reaches.command reads.reaches.commands;
   })
 
@@ -148,11 +172,13 @@ module _ (r : Run) (spent : List (List Step)) where
     words = λ none. absurd (none d k);
     schema = refuses;
     policies = λ a c s h reads i. absurd (unread_schema c h s reads);
-    others = λ a c s question name budget first h task reads has i. absurd (unread_schema c h s reads);
+    others = λ a c s question name aim first h task reads has i. absurd (unread_schema c h s reads);
     world = λ a s ps name reaches i. absurd (unread_schema reaches.command reaches.commands s reaches.schema);
     names = λ f s ps name w reaches has is. absurd (unread_schema reaches.command reaches.commands s reaches.schema);
-    question = λ a s question first against budget reaches i. absurd (unread_schema reaches.command reaches.commands s reaches.schema);
-    report = λ s question first against budget reads. unread_schema reads.reaches.command reads.reaches.commands s reads.reaches.schema;
+    question = λ a s question first against aim reaches i. absurd (unread_schema reaches.command reaches.commands s reaches.schema);
+    place = λ a s question first against aim reaches served i. absurd (unread_schema reaches.command reaches.commands s reaches.schema);
+    log = λ a s question first against place name reaches i. absurd (unread_schema reaches.reaches.command reaches.reaches.commands s reaches.reaches.schema);
+    report = λ s question first against aim reads short. unread_schema reads.reached.reaches.command reads.reached.reaches.commands s reads.reached.reaches.schema;
     replay = λ s ps w reads. unread_schema reads.reaches.command reads.reaches.commands s reads.reaches.schema;
   }
 
@@ -212,11 +238,13 @@ module _ (r : Run) (spent : List (List Step)) where
       words = λ none. absurd (none t.command t.commands);
       schema = λ a c h i. absurd (schema-read t calm a c h i);
       policies = refuses;
-      others = λ a c s question name budget first h task reads has i. absurd (unread_policies c h has.bytes has.told first has.spelled);
+      others = λ a c s question name aim first h task reads has i. absurd (unread_policies c h has.bytes has.told first has.spelled);
       world = λ a s ps name reaches i. absurd (unread_policies reaches.command reaches.commands reaches.policies.bytes reaches.policies.told ps reaches.policies.spelled);
       names = λ f s ps name w reaches has is. absurd (unread_policies reaches.command reaches.commands reaches.policies.bytes reaches.policies.told ps reaches.policies.spelled);
-      question = λ a s question first against budget reaches i. absurd (unread_policies reaches.command reaches.commands reaches.policies.bytes reaches.policies.told first reaches.policies.spelled);
-      report = λ s question first against budget reads. unread_policies reads.reaches.command reads.reaches.commands reads.reaches.policies.bytes reads.reaches.policies.told first reads.reaches.policies.spelled;
+      question = λ a s question first against aim reaches i. absurd (unread_policies reaches.command reaches.commands reaches.policies.bytes reaches.policies.told first reaches.policies.spelled);
+      place = λ a s question first against aim reaches served i. absurd (unread_policies reaches.command reaches.commands reaches.policies.bytes reaches.policies.told first reaches.policies.spelled);
+      log = λ a s question first against place name reaches i. absurd (unread_policies reaches.reaches.command reaches.reaches.commands reaches.reaches.policies.bytes reaches.reaches.policies.told first reaches.reaches.policies.spelled);
+      report = λ s question first against aim reads short. unread_policies reads.reached.reaches.command reads.reached.reaches.commands reads.reached.reaches.policies.bytes reads.reached.reaches.policies.told first reads.reached.reaches.policies.spelled;
       replay = λ s ps w reads. unread_policies reads.reaches.command reads.reaches.commands reads.reaches.policies.bytes reads.reaches.policies.told ps reads.reaches.policies.spelled;
     }
 
@@ -264,23 +292,23 @@ module _ (r : Run) (spent : List (List Step)) where
     -- no world is replayed
     no-replay : (t : QuestionSpelled r) → (s : Declarations) (ps : List Policy) (name : List ℕ) → ReachesWorld r.content r.words s ps name → ⊥
     no-replay t s ps name reaches =
-        not_both_tasks t.before.command.task t.question t.name t.budget name t.task (same_task r.words t.before.command reaches.command t.before.commands reaches.commands ∙ reaches.task)
+        not_both_tasks t.before.command.task t.question t.name t.aim name t.task (same_task r.words t.before.command reaches.command t.before.commands reaches.commands ∙ reaches.task)
 
     -- the second file is the one that the words name
-    one-name : (t : QuestionSpelled r) (c : Command) (question : Question) (name : Option (List ℕ)) (budget : ℕ) → Serves r.words c → c.task ≡ asking question name budget → t.name ≡ name
-    one-name t c question name budget h task =
-        (one_question t.before.command.task t.question question t.name name t.budget budget t.task (same_task r.words t.before.command c t.before.commands h ∙ task)).1
+    one-name : (t : QuestionSpelled r) (c : Command) (question : Question) (name : Option (List ℕ)) (aim : Aim) → Serves r.words c → c.task ≡ asking question name aim → t.name ≡ name
+    one-name t c question name aim h task =
+        (one_question t.before.command.task t.question question t.name name t.aim aim t.task (same_task r.words t.before.command c t.before.commands h ∙ task)).1
 
     -- ---- a second policy file, where the first is read
 
-    one-file : (t : AgainstNamed r) (c : Command) (question : Question) (name : List ℕ) (budget : ℕ) → Serves r.words c → c.task ≡ asking question (Some name) budget → name ≡ t.file
-    one-file t c question name budget h task = let named = t.named in let other = one-name t.before c question (Some name) budget h task in cc
+    one-file : (t : AgainstNamed r) (c : Command) (question : Question) (name : List ℕ) (aim : Aim) → Serves r.words c → c.task ≡ asking question (Some name) aim → name ≡ t.file
+    one-file t c question name aim h task = let named = t.named in let other = one-name t.before c question (Some name) aim h task in cc
 
     -- no question is reached where the second file isn't read
     no-question : (t : AgainstNamed r) → ((ps : List Policy) → HasPolicies r.content t.file ps → ⊥)
-        → (s : Declarations) (question : Question) (first : List Policy) (against : Option (List Policy)) (budget : ℕ) → ReachesQuestion r.content r.words s question first against budget → ⊥
-    no-question t unread_file s question first against budget x =
-        let same = sym (one-name t.before x.command question x.name budget x.commands x.task) ∙ t.named in
+        → (s : Declarations) (question : Question) (first : List Policy) (against : Option (List Policy)) (aim : Aim) → ReachesQuestion r.content r.words s question first against aim → ⊥
+    no-question t unread_file s question first against aim x =
+        let same = sym (one-name t.before x.command question x.name aim x.commands x.task) ∙ t.named in
         let has = named-content r.content x.name against t.file same x.others in
         unread_file has.0 has.1
 
@@ -291,13 +319,15 @@ module _ (r : Run) (spent : List (List Step)) where
       words = λ none. absurd (none t.before.before.command t.before.before.commands);
       schema = λ a c h i. absurd (schema-read t.before.before calm a c h i);
       policies = λ a c s h reads i. absurd (question-read t.before calm a c h i);
-      others = λ a c s question name budget first h task reads has i.
-          let same : name ≡ t.file = one-file t c question name budget h task in
+      others = λ a c s question name aim first h task reads has i.
+          let same : name ≡ t.file = one-file t c question name aim h task in
           refuses a (subst (λ file. RefusesPolicies r.content file against_side (HasRisen r.reads) a) same i);
       world = λ a s ps name reaches i. absurd (no-replay t.before s ps name reaches);
       names = λ f s ps name w reaches has is. absurd (no-replay t.before s ps name reaches);
-      question = λ a s question first against budget reaches i. absurd (no-question t unread_file s question first against budget reaches);
-      report = λ s question first against budget reads. no-question t unread_file s question first against budget reads.reaches;
+      question = λ a s question first against aim reaches i. absurd (no-question t unread_file s question first against aim reaches);
+      place = λ a s question first against aim reaches served i. absurd (no-question t unread_file s question first against aim reaches);
+      log = λ a s question first against place name reaches i. absurd (no-question t unread_file s question first against (checking place name) reaches.reaches);
+      report = λ s question first against aim reads short. no-question t unread_file s question first against aim reads.reached.reaches;
       replay = λ s ps w reads. no-replay t.before s ps reads.name reads.reaches;
     }
 
@@ -325,96 +355,181 @@ module _ (r : Run) (spent : List (List Step)) where
     -- ---- policies that are all spelled
 
     -- what is found in the policies that are reached, under their schema, is found in these
-    found-in : {X : Type 0} (t : AllSpelled r) (find : Declarations → List Policy → Option (List Policy) → Option X) (o : Option X) (s : Declarations) (question : Question) (first : List Policy) (against : Option (List Policy)) (budget : ℕ)
-        → ReachesQuestion r.content r.words s question first against budget → find s first against ≡ o → find t.before.before.schema t.before.policies t.others ≡ o
-    found-in t find o s question first against budget x e =
+    found-in : {X : Type 0} (t : AllSpelled r) (find : Declarations → List Policy → Option (List Policy) → Option X) (o : Option X) (s : Declarations) (question : Question) (first : List Policy) (against : Option (List Policy)) (aim : Aim)
+        → ReachesQuestion r.content r.words s question first against aim → find s first against ≡ o → find t.before.before.schema t.before.policies t.others ≡ o
+    found-in t find o s question first against aim x e =
         let schema = one-schema t.before.before x.command x.commands s x.schema in
         let policies = one-policies t.before.before t.before.policies t.before.spelled x.command x.commands first x.policies in
-        let others = one-against r.content t.before.name x.name t.others against t.against (one-name t.before x.command question x.name budget x.commands x.task) x.others in
+        let others = one-against r.content t.before.name x.name t.others against t.against (one-name t.before x.command question x.name aim x.commands x.task) x.others in
         subst (λ d. find d t.before.policies t.others ≡ o) schema (subst (λ ps. find s ps t.others ≡ o) policies (subst (λ qs. find s first qs ≡ o) others e))
 
     -- it isn't found where these have none
-    has-none : {X : Type 0} (t : AllSpelled r) (find : Declarations → List Policy → Option (List Policy) → Option X) (f : X) (s : Declarations) (question : Question) (first : List Policy) (against : Option (List Policy)) (budget : ℕ)
-        → find t.before.before.schema t.before.policies t.others ≡ None → ReachesQuestion r.content r.words s question first against budget → find s first against ≡ Some f → ⊥
-    has-none t find f s question first against budget none x e = let some = found-in t find (Some f) s question first against budget x e in absurd cc
+    has-none : {X : Type 0} (t : AllSpelled r) (find : Declarations → List Policy → Option (List Policy) → Option X) (f : X) (s : Declarations) (question : Question) (first : List Policy) (against : Option (List Policy)) (aim : Aim)
+        → find t.before.before.schema t.before.policies t.others ≡ None → ReachesQuestion r.content r.words s question first against aim → find s first against ≡ Some f → ⊥
+    has-none t find f s question first against aim none x e = let some = found-in t find (Some f) s question first against aim x e in absurd cc
 
     -- and it is found where these have one
-    has-some : {X : Type 0} (t : AllSpelled r) (find : Declarations → List Policy → Option (List Policy) → Option X) (s : Declarations) (question : Question) (first : List Policy) (against : Option (List Policy)) (budget : ℕ)
-        → find t.before.before.schema t.before.policies t.others ≢ None → ReachesQuestion r.content r.words s question first against budget → find s first against ≡ None → ⊥
-    has-some t find s question first against budget some x e = some (found-in t find None s question first against budget x e)
+    has-some : {X : Type 0} (t : AllSpelled r) (find : Declarations → List Policy → Option (List Policy) → Option X) (s : Declarations) (question : Question) (first : List Policy) (against : Option (List Policy)) (aim : Aim)
+        → find t.before.before.schema t.before.policies t.others ≢ None → ReachesQuestion r.content r.words s question first against aim → find s first against ≡ None → ⊥
+    has-some t find s question first against aim some x e = some (found-in t find None s question first against aim x e)
 
-    against-read : (t : AllSpelled r) → (HasRisen r.reads → ⊥) → (a : Refusal) (c : Command) (question : Question) (name : List ℕ) (budget : ℕ) → Serves r.words c → c.task ≡ asking question (Some name) budget
+    against-read : (t : AllSpelled r) → (HasRisen r.reads → ⊥) → (a : Refusal) (c : Command) (question : Question) (name : List ℕ) (aim : Aim) → Serves r.words c → c.task ≡ asking question (Some name) aim
         → RefusesPolicies r.content name against_side (HasRisen r.reads) a → ⊥
-    against-read t calm a c question name budget h task i =
-        against-file-read r.content t.before.name t.others name (HasRisen r.reads) t.against (one-name t.before c question (Some name) budget h task) calm a i
+    against-read t calm a c question name aim h task i =
+        against-file-read r.content t.before.name t.others name (HasRisen r.reads) t.against (one-name t.before c question (Some name) aim h task) calm a i
 
     -- where a question is asked, what comes is what its policies are refused for
     at-question : (n : ℕ) (t : AllSpelled r) → (HasRisen r.reads → ⊥)
-        → ((a : Refusal) (s : Declarations) (question : Question) (first : List Policy) (against : Option (List Policy)) (budget : ℕ) → ReachesQuestion r.content r.words s question first against budget → RefusesQuestion s first against a → code_of a ≡ n)
-        → ((s : Declarations) (question : Question) (first : List Policy) (against : Option (List Policy)) (budget : ℕ) → ReadsAll r.content r.words s question first against budget → ⊥) → Only r n
-    at-question n t calm refuses no_report = record {
+        → ((a : Refusal) (s : Declarations) (question : Question) (first : List Policy) (against : Option (List Policy)) (aim : Aim) → ReachesQuestion r.content r.words s question first against aim → RefusesQuestion s first against a → code_of a ≡ n)
+        → ((s : Declarations) (question : Question) (first : List Policy) (against : Option (List Policy)) (aim : Aim) → ReachesQuestion r.content r.words s question first against aim → AreServed s first against → ⊥) → Only r n
+    at-question n t calm refuses unserved = record {
       words = λ none. absurd (none t.before.before.command t.before.before.commands);
       schema = λ a c h i. absurd (schema-read t.before.before calm a c h i);
       policies = λ a c s h reads i. absurd (question-read t.before calm a c h i);
-      others = λ a c s question name budget first h task reads has i. absurd (against-read t calm a c question name budget h task i);
+      others = λ a c s question name aim first h task reads has i. absurd (against-read t calm a c question name aim h task i);
       world = λ a s ps name reaches i. absurd (no-replay t.before s ps name reaches);
       names = λ f s ps name w reaches has is. absurd (no-replay t.before s ps name reaches);
       question = refuses;
-      report = no_report;
+      place = λ a s question first against aim reaches served i. absurd (unserved s question first against aim reaches served);
+      log = λ a s question first against place name reaches i. absurd (unserved s question first against (checking place name) reaches.reaches reaches.served);
+      report = λ s question first against aim reads short. unserved s question first against aim reads.reached.reaches reads.reached.served;
       replay = λ s ps w reads. no-replay t.before s ps reads.name reads.reaches;
     }
 
     -- they write a name that isn't declared
     unknown-case : (t : AllSpelled r) → names_fault t.before.before.schema t.before.policies t.others ≢ None
-        → (a : Refusal) (s : Declarations) (question : Question) (first : List Policy) (against : Option (List Policy)) (budget : ℕ) → ReachesQuestion r.content r.words s question first against budget → RefusesQuestion s first against a → code_of a ≡ 13
-    unknown-case t some _ s question first against budget reaches (undeclared side f is) = refl
-    unknown-case t some _ s question first against budget reaches (untyped side f declared is) = refl
-    unknown-case t some _ s question first against budget reaches (has_construct side u declared typed is) = absurd (has-some t names_fault s question first against budget some reaches declared)
+        → (a : Refusal) (s : Declarations) (question : Question) (first : List Policy) (against : Option (List Policy)) (aim : Aim) → ReachesQuestion r.content r.words s question first against aim → RefusesQuestion s first against a → code_of a ≡ 13
+    unknown-case t some _ s question first against aim reaches (undeclared side f is) = refl
+    unknown-case t some _ s question first against aim reaches (untyped side f declared is) = refl
+    unknown-case t some _ s question first against aim reaches (has_construct side u declared typed is) = absurd (has-some t names_fault s question first against aim some reaches declared)
 
     question-unknown : Ends r spent → (t : AllSpelled r) → names_fault t.before.before.schema t.before.policies t.others ≢ None → (HasRisen r.reads → ⊥) → MustBe 13 r.code
     question-unknown ends t some calm =
         must-be 13 ends (at-question 13 t calm (unknown-case t some)
-        (λ s question first against budget reads. has-some t names_fault s question first against budget some reads.reaches reads.served.declared))
+        (λ s question first against aim reaches served. has-some t names_fault s question first against aim some reaches served.declared))
 
     -- one of them isn't typed
     untyped-case : (t : AllSpelled r) → types_fault t.before.before.schema t.before.policies t.others ≢ None
-        → (a : Refusal) (s : Declarations) (question : Question) (first : List Policy) (against : Option (List Policy)) (budget : ℕ) → ReachesQuestion r.content r.words s question first against budget → RefusesQuestion s first against a → code_of a ≡ 13
-    untyped-case t some _ s question first against budget reaches (undeclared side f is) = refl
-    untyped-case t some _ s question first against budget reaches (untyped side f declared is) = refl
-    untyped-case t some _ s question first against budget reaches (has_construct side u declared typed is) = absurd (has-some t types_fault s question first against budget some reaches typed)
+        → (a : Refusal) (s : Declarations) (question : Question) (first : List Policy) (against : Option (List Policy)) (aim : Aim) → ReachesQuestion r.content r.words s question first against aim → RefusesQuestion s first against a → code_of a ≡ 13
+    untyped-case t some _ s question first against aim reaches (undeclared side f is) = refl
+    untyped-case t some _ s question first against aim reaches (untyped side f declared is) = refl
+    untyped-case t some _ s question first against aim reaches (has_construct side u declared typed is) = absurd (has-some t types_fault s question first against aim some reaches typed)
 
     pub policies-are-untyped : Ends r spent → PoliciesAreUntyped r → (HasRisen r.reads → ⊥) → MustBe 13 r.code
     policies-are-untyped ends x calm =
         must-be 13 ends (at-question 13 x.0 calm (untyped-case x.0 x.2)
-        (λ s question first against budget reads. has-some x.0 types_fault s question first against budget x.2 reads.reaches reads.served.typed))
+        (λ s question first against aim reaches served. has-some x.0 types_fault s question first against aim x.2 reaches served.typed))
 
     -- one of them has a construct that isn't supported
     unsupported-case : (x : PoliciesAreUnsupported r)
-        → (a : Refusal) (s : Declarations) (question : Question) (first : List Policy) (against : Option (List Policy)) (budget : ℕ) → ReachesQuestion r.content r.words s question first against budget → RefusesQuestion s first against a → code_of a ≡ 15
-    unsupported-case x _ s question first against budget reaches (undeclared side f is) = absurd (has-none x.0 names_fault (side, f) s question first against budget x.1 reaches is)
-    unsupported-case x _ s question first against budget reaches (untyped side f declared is) = absurd (has-none x.0 types_fault (side, f) s question first against budget x.2 reaches is)
-    unsupported-case x _ s question first against budget reaches (has_construct side u declared typed is) = refl
+        → (a : Refusal) (s : Declarations) (question : Question) (first : List Policy) (against : Option (List Policy)) (aim : Aim) → ReachesQuestion r.content r.words s question first against aim → RefusesQuestion s first against a → code_of a ≡ 15
+    unsupported-case x _ s question first against aim reaches (undeclared side f is) = absurd (has-none x.0 names_fault (side, f) s question first against aim x.1 reaches is)
+    unsupported-case x _ s question first against aim reaches (untyped side f declared is) = absurd (has-none x.0 types_fault (side, f) s question first against aim x.2 reaches is)
+    unsupported-case x _ s question first against aim reaches (has_construct side u declared typed is) = refl
 
     pub policies-are-unsupported : Ends r spent → PoliciesAreUnsupported r → (HasRisen r.reads → ⊥) → MustBe 15 r.code
     policies-are-unsupported ends x calm =
         must-be 15 ends (at-question 15 x.0 calm (unsupported-case x)
-        (λ s question first against budget reads. has-some x.0 constructs_fault s question first against budget x.3 reads.reaches reads.served.supported))
+        (λ s question first against aim reaches served. has-some x.0 constructs_fault s question first against aim x.3 reaches served.supported))
+
+    -- ---- policies that are served
+
+    -- they aren't refused
+    question-served : (x : IsServed r) → (a : Refusal) (s : Declarations) (question : Question) (first : List Policy) (against : Option (List Policy)) (aim : Aim) → ReachesQuestion r.content r.words s question first against aim → RefusesQuestion s first against a → ⊥
+    question-served x _ s question first against aim reaches (undeclared side f is) = has-none x.0 names_fault (side, f) s question first against aim x.1.declared reaches is
+    question-served x _ s question first against aim reaches (untyped side f declared is) = has-none x.0 types_fault (side, f) s question first against aim x.1.typed reaches is
+    question-served x _ s question first against aim reaches (has_construct side u declared typed is) = has-none x.0 constructs_fault (side, u) s question first against aim x.1.supported reaches is
+
+    -- the aim is the one that the words name, and the schema the one that is spelled
+    one-aim : (t : AllSpelled r) (s : Declarations) (question : Question) (first : List Policy) (against : Option (List Policy)) (aim : Aim) → ReachesQuestion r.content r.words s question first against aim → t.before.aim ≡ aim
+    one-aim t s question first against aim x =
+        (one_question t.before.before.command.task t.before.question question t.before.name x.name t.before.aim aim t.before.task (same_task r.words t.before.before.command x.command t.before.before.commands x.commands ∙ x.task)).2
+
+    reached-schema-is : (t : AllSpelled r) (s : Declarations) (question : Question) (first : List Policy) (against : Option (List Policy)) (aim : Aim) → ReachesQuestion r.content r.words s question first against aim → s ≡ t.before.before.schema
+    reached-schema-is t s question first against aim x = one-schema t.before.before x.command x.commands s x.schema
+
+    environment-is : (x : IsServed r) (s : Declarations) (question : Question) (first : List Policy) (against : Option (List Policy)) (aim : Aim) → ReachesAim r.content r.words s question first against aim → HasEnvironment x.0.before.before.schema x.0.before.aim
+    environment-is x s question first against aim reached =
+        subst (λ d. HasEnvironment d x.0.before.aim) (reached-schema-is x.0 s question first against aim reached.reaches)
+        (subst (λ (m : Aim). HasEnvironment s m) (sym (one-aim x.0 s question first against aim reached.reaches)) reached.environment)
+
+    -- where policies are served, what comes is what the place or the log is refused for
+    at-aim : (n : ℕ) (x : IsServed r) → (HasRisen r.reads → ⊥)
+        → ((a : Refusal) → RefusesPlace x.0.before.before.schema x.0.before.aim a → code_of a ≡ n)
+        → ((a : Refusal) (place : ℕ) (name : List ℕ) → x.0.before.aim ≡ checking place name → HasEnvironment x.0.before.before.schema x.0.before.aim → RefusesLog r.content name (HasRisen r.reads) a → code_of a ≡ n)
+        → (HasEnvironment x.0.before.before.schema x.0.before.aim → HasShortLog r.content x.0.before.aim → ⊥) → Only r n
+    at-aim n x calm placeless unread-log done = record {
+      words = λ none. absurd (none x.0.before.before.command x.0.before.before.commands);
+      schema = λ a c h i. absurd (schema-read x.0.before.before calm a c h i);
+      policies = λ a c s h reads i. absurd (question-read x.0.before calm a c h i);
+      others = λ a c s question name aim first h task reads has i. absurd (against-read x.0 calm a c question name aim h task i);
+      world = λ a s ps name reaches i. absurd (no-replay x.0.before s ps name reaches);
+      names = λ f s ps name w reaches has is. absurd (no-replay x.0.before s ps name reaches);
+      question = λ a s question first against aim reaches i. absurd (question-served x a s question first against aim reaches i);
+      place = λ a s question first against aim reaches served i.
+          placeless a (subst (λ d. RefusesPlace d x.0.before.aim a) (reached-schema-is x.0 s question first against aim reaches) (subst (λ (m : Aim). RefusesPlace s m a) (sym (one-aim x.0 s question first against aim reaches)) i));
+      log = λ a s question first against place name reaches i.
+          unread-log a place name (one-aim x.0 s question first against (checking place name) reaches.reaches) (environment-is x s question first against (checking place name) reaches) i;
+      report = λ s question first against aim reads short.
+          done (environment-is x s question first against aim reads.reached) (subst (HasShortLog r.content) (sym (one-aim x.0 s question first against aim reads.reached.reaches)) short);
+      replay = λ s ps w reads. no-replay x.0.before s ps reads.name reads.reaches;
+    }
+
+    -- a place that is none of the schema's
+    not-within : (s : Declarations) (aim : Aim) (place : ℕ) → place_in aim ≡ Some place → length (environments s) ≤ place → HasEnvironment s aim → ⊥
+    not-within s aim place is beyond has = let within : place < length (environments s) = subst (λ (o : Option ℕ). IfSome o (λ k. k < length (environments s))) is has in omega (arith, within, beyond)
+
+    misplaced-code : (s : Declarations) (aim : Aim) (a : Refusal) → RefusesPlace s aim a → code_of a ≡ 16
+    misplaced-code s aim _ (misplaced place is beyond) = refl
+
+    well-placed : (s : Declarations) (aim : Aim) → HasEnvironment s aim → (a : Refusal) → RefusesPlace s aim a → ⊥
+    well-placed s aim has _ (misplaced place is beyond) = not-within s aim place is beyond has
+
+    pub place-is-missing : Ends r spent → PlaceIsMissing r → (HasRisen r.reads → ⊥) → MustBe 16 r.code
+    place-is-missing ends x calm =
+        let s = x.served.0.before.before.schema in
+        let aim = x.served.0.before.aim in
+        must-be 16 ends (at-aim 16 x.served calm (misplaced-code s aim) (λ a place name is has i. absurd (not-within s aim x.place x.named x.beyond has)) (λ has short. not-within s aim x.place x.named x.beyond has))
+
+    -- a log that is too long
+    log-long-case : (content : Content) (name : List ℕ) (rose : Type 0) → (rose → ⊥) → (a : Refusal) → RefusesLog content name rose a → code_of a ≡ 22
+    log-long-case content name rose calm _ (log_unread risen) = absurd (calm risen)
+    log-long-case content name rose calm _ (log_long is) = refl
+
+    log-short : (content : Content) (name bytes : List ℕ) → content name ≡ Some bytes → IsShort (content name) → length bytes ≤ log_limit
+    log-short content name bytes told short = subst (λ (o : Option (List ℕ)). IsShort o) told short
+
+    long-log : (content : Content) (name bytes : List ℕ) → content name ≡ Some bytes → IsLongLog content name → log_limit < length bytes
+    long-log content name bytes told far = subst (λ (o : Option (List ℕ)). IfSome o (λ text. log_limit < length text)) told far
+
+    pub log-is-long : Ends r spent → LogIsLong r → (HasRisen r.reads → ⊥) → MustBe 22 r.code
+    log-is-long ends x calm =
+        let s = x.served.0.before.before.schema in
+        let aim = x.served.0.before.aim in
+        let has : HasEnvironment s aim = subst (λ (m : Aim). HasEnvironment s m) (sym x.aim_is) x.within in
+        must-be 22 ends (at-aim 22 x.served calm (λ a i. absurd (well-placed s aim has a i)) (λ a place name is h i. log-long-case r.content name (HasRisen r.reads) calm a i)
+        (λ h short. let within = log-short r.content x.name x.bytes x.told (subst (HasShortLog r.content) x.aim_is short) in let far = x.long in omega (arith, within, far)))
 
     -- ---- where all of a question is readable
 
-    question-served : (x : IsReadable r) → (a : Refusal) (s : Declarations) (question : Question) (first : List Policy) (against : Option (List Policy)) (budget : ℕ) → ReachesQuestion r.content r.words s question first against budget → RefusesQuestion s first against a → ⊥
-    question-served x _ s question first against budget reaches (undeclared side f is) = has-none x.0 names_fault (side, f) s question first against budget x.1.declared reaches is
-    question-served x _ s question first against budget reaches (untyped side f declared is) = has-none x.0 types_fault (side, f) s question first against budget x.1.typed reaches is
-    question-served x _ s question first against budget reaches (has_construct side u declared typed is) = has-none x.0 constructs_fault (side, u) s question first against budget x.1.supported reaches is
+    log-read : (content : Content) (aim : Aim) (place : ℕ) (name : List ℕ) (rose : Type 0) → LogIsTold content aim → aim ≡ checking place name → (rose → ⊥) → (a : Refusal) → RefusesLog content name rose a → ⊥
+    log-read content aim place name rose told is calm _ (log_unread risen) = calm risen
+    log-read content aim place name rose told is calm _ (log_long beyond) =
+        let t = subst (LogIsTold content) is told in let far = long-log content name t.0 t.1 beyond in let near = t.2 in omega (arith, far, near)
 
     none-refused : (x : IsReadable r) → (HasRisen r.reads → ⊥) → (a : Refusal) → IsRefusal r.content r.words (HasRisen r.reads) a → ⊥
-    none-refused x calm _ (no_command none) = none x.0.before.before.command x.0.before.before.commands
-    none-refused x calm _ (of_schema a c h i) = schema-read x.0.before.before calm a c h i
-    none-refused x calm _ (of_policies a c s h reads i) = question-read x.0.before calm a c h i
-    none-refused x calm _ (of_against a c s question name budget first h task reads has i) = against-read x.0 calm a c question name budget h task i
-    none-refused x calm _ (of_world a s ps name reaches i) = no-replay x.0.before s ps name reaches
-    none-refused x calm _ (of_names f s ps name w reaches has is) = no-replay x.0.before s ps name reaches
-    none-refused x calm _ (of_question a s question first against budget reaches i) = question-served x a s question first against budget reaches i
+    none-refused x calm _ (no_command none) = none x.served.0.before.before.command x.served.0.before.before.commands
+    none-refused x calm _ (of_schema a c h i) = schema-read x.served.0.before.before calm a c h i
+    none-refused x calm _ (of_policies a c s h reads i) = question-read x.served.0.before calm a c h i
+    none-refused x calm _ (of_against a c s question name aim first h task reads has i) = against-read x.served.0 calm a c question name aim h task i
+    none-refused x calm _ (of_world a s ps name reaches i) = no-replay x.served.0.before s ps name reaches
+    none-refused x calm _ (of_names f s ps name w reaches has is) = no-replay x.served.0.before s ps name reaches
+    none-refused x calm _ (of_question a s question first against aim reaches i) = question-served x.served a s question first against aim reaches i
+    none-refused x calm _ (of_place a s question first against aim reaches served i) =
+        well-placed x.served.0.before.before.schema x.served.0.before.aim x.environment a
+        (subst (λ d. RefusesPlace d x.served.0.before.aim a) (reached-schema-is x.served.0 s question first against aim reaches) (subst (λ (m : Aim). RefusesPlace s m a) (sym (one-aim x.served.0 s question first against aim reaches)) i))
+    none-refused x calm _ (of_log a s question first against place name reaches i) =
+        log-read r.content x.served.0.before.aim place name (HasRisen r.reads) x.log (one-aim x.served.0 s question first against (checking place name) reaches.reaches) calm a i
 
     whole-code : (code : ℕ) → code ≤ 2 → IsWhole code
     whole-code zero most = inl refl
@@ -428,12 +543,42 @@ module _ (r : Run) (spent : List (List Step)) where
     reported-whole q (cut_none n none rose c text logs) calm = absurd (calm rose)
     reported-whole q (stopped lines front c text logs) calm = inr (inr (inr c))
 
-    pub complete : Ends r spent → IsReadable r → (HasRisen r.reads → ⊥) → (HasRisen r.writes → ⊥) → IsWhole r.code
+    logged-whole : (q : Asked) (env : Env) → Logged q env r.before r.after (HasRisen r.writes) r.code spent → (HasRisen r.writes → ⊥) → IsWhole r.code
+    logged-whole q env (log_whole log shows c text none) calm = inl c
+    logged-whole q env (log_front log lines next rest n shows order rose c text none) calm = absurd (calm rose)
+    logged-whole q env (log_first log lines rest shows order c text none) calm = inr (inr (inr c))
+    logged-whole q env (other_whole l other c text logs) calm = whole-code r.code (status-code (l ∷ []) r.code c)
+    logged-whole q env (other_front l n other rose c text none) calm = absurd (calm rose)
+    logged-whole q env (unlogged c text none) calm = inr (inr (inr c))
+
+    answered-whole : (a : Answer) (code : ℕ) → code ≡ answer_code a → (code ≡ 14) ⊎ IsWhole code
+    answered-whole accepted code c = inr (inl c)
+    answered-whole (rejected step why) code c = inl c
+    answered-whole too_large code c = inr (inr (inr (inl c)))
+
+    checked-whole : (content : Option (List ℕ)) (q : Asked) (env : Env) → Checked content q env r.before r.after (HasRisen r.writes) r.code → (HasRisen r.writes → ⊥) → (r.code ≡ 14) ⊎ IsWhole r.code
+    checked-whole content q env (answer_whole a short claims c text) calm = answered-whole a r.code c
+    checked-whole content q env (answer_front a n short claims rose c text) calm = absurd (calm rose)
+    checked-whole content q env (unchecked c text) calm = inr (inr (inr (inr c)))
+
+    -- want of memory is one of the statuses of each aim
+    out-of-memory : (aim : Aim) (code : ℕ) → code ≡ 30 → IsWholeFor aim code
+    out-of-memory (reporting budget) code c = inr (inr (inr c))
+    out-of-memory (logging budget place) code c = inr (inr (inr c))
+    out-of-memory (checking place name) code c = inr (inr (inr (inr c)))
+
+    -- what is done is for the aim that the words name
+    for-aim : (x : IsReadable r) (s : Declarations) (question : Question) (first : List Policy) (against : Option (List Policy)) (aim : Aim) → ReadsAll r.content r.words s question first against aim → IsWholeFor aim r.code → IsWholeFor x.served.0.before.aim r.code
+    for-aim x s question first against aim reads h = subst (λ (m : Aim). IsWholeFor m r.code) (sym (one-aim x.served.0 s question first against aim reads.reached.reaches)) h
+
+    pub complete : Ends r spent → (x : IsReadable r) → (HasRisen r.reads → ⊥) → (HasRisen r.writes → ⊥) → IsWholeFor x.served.0.before.aim r.code
     complete (refused a h c t none) x calm still = absurd (none-refused x calm a h)
     complete (refusal_cut a k h rose c t none) x calm still = absurd (still rose)
-    complete (reported s question first against budget reads report) x calm still = reported-whole (asked s question first against budget) report still
-    complete (replayed s ps w reads report none) x calm still = absurd (no-replay x.0.before s ps reads.name reads.reaches)
-    complete (no_memory c t none) x calm still = inr (inr (inr c))
+    complete (reported s question first against budget reads report) x calm still = for-aim x s question first against (reporting budget) reads (reported-whole (asked s question first against budget) report still)
+    complete (wrote_log s question first against budget place env reads at report) x calm still = for-aim x s question first against (logging budget place) reads (logged-whole (asked s question first against budget) env report still)
+    complete (checked_log s question first against place name env reads at report none) x calm still = for-aim x s question first against (checking place name) reads (checked-whole (r.content name) (asked s question first against 0) env report still)
+    complete (replayed s ps w reads report none) x calm still = absurd (no-replay x.served.0.before s ps reads.name reads.reaches)
+    complete (no_memory c t none) x calm still = out-of-memory x.served.0.before.aim r.code c
 
     -- ---- a world file, where the schema and the policies are read
 
@@ -454,11 +599,11 @@ module _ (r : Run) (spent : List (List Step)) where
     world-schema t calm a c h i = schema-read (policies_told t) calm a c h i
 
     -- no question is asked where the words are a command to replay
-    no-report : (t : WorldTold r) → (c : Command) → Serves r.words c → (question : Question) (name : Option (List ℕ)) (budget : ℕ) → c.task ≡ asking question name budget → ⊥
-    no-report t c h question name budget task = not_both_tasks t.command.task question name budget t.name (same_task r.words t.command c t.commands h ∙ task) t.task
+    no-report : (t : WorldTold r) → (c : Command) → Serves r.words c → (question : Question) (name : Option (List ℕ)) (aim : Aim) → c.task ≡ asking question name aim → ⊥
+    no-report t c h question name aim task = not_both_tasks t.command.task question name aim t.name (same_task r.words t.command c t.commands h ∙ task) t.task
 
-    none-asked : (t : WorldTold r) (s : Declarations) (question : Question) (first : List Policy) (against : Option (List Policy)) (budget : ℕ) → ReachesQuestion r.content r.words s question first against budget → ⊥
-    none-asked t s question first against budget x = no-report t x.command x.commands question x.name budget x.task
+    none-asked : (t : WorldTold r) (s : Declarations) (question : Question) (first : List Policy) (against : Option (List Policy)) (aim : Aim) → ReachesQuestion r.content r.words s question first against aim → ⊥
+    none-asked t s question first against aim x = no-report t x.command x.commands question x.name aim x.task
 
     world-policies : (t : WorldTold r) → (HasRisen r.reads → ⊥) → (a : Refusal) (c : Command) → Serves r.words c → RefusesPolicies r.content c.policies policies_side (HasRisen r.reads) a → ⊥
     unfolding policies_told
@@ -488,11 +633,13 @@ module _ (r : Run) (spent : List (List Step)) where
       words = λ none. absurd (none t.command t.commands);
       schema = λ a c h i. absurd (world-schema t calm a c h i);
       policies = λ a c s h reads i. absurd (world-policies t calm a c h i);
-      others = λ a c s question name budget first h task reads has i. absurd (no-report t c h question (Some name) budget task);
+      others = λ a c s question name aim first h task reads has i. absurd (no-report t c h question (Some name) aim task);
       world = refuses;
       names = λ f s ps name w reaches has is. absurd (unread_world s ps name reaches w has);
-      question = λ a s question first against budget reaches i. absurd (none-asked t s question first against budget reaches);
-      report = λ s question first against budget reads. none-asked t s question first against budget reads.reaches;
+      question = λ a s question first against aim reaches i. absurd (none-asked t s question first against aim reaches);
+      place = λ a s question first against aim reaches served i. absurd (none-asked t s question first against aim reaches);
+      log = λ a s question first against place name reaches i. absurd (none-asked t s question first against (checking place name) reaches.reaches);
+      report = λ s question first against aim reads short. none-asked t s question first against aim reads.reached.reaches;
       replay = λ s ps w reads. unread_world s ps reads.name reads.reaches w reads.spelled;
     }
 
@@ -539,11 +686,13 @@ module _ (r : Run) (spent : List (List Step)) where
         words = λ none. absurd (none t.before.command t.before.commands);
         schema = λ a c h i. absurd (world-schema t.before calm a c h i);
         policies = λ a c s h reads i. absurd (world-policies t.before calm a c h i);
-        others = λ a c s question name budget first h task reads has i. absurd (no-report t.before c h question (Some name) budget task);
+        others = λ a c s question name aim first h task reads has i. absurd (no-report t.before c h question (Some name) aim task);
         world = λ a s ps name reaches i. absurd (world-read t calm a s ps name reaches i);
         names = λ g s ps name w reaches has is. refl;
-        question = λ a s question first against budget reaches i. absurd (none-asked t.before s question first against budget reaches);
-        report = λ s question first against budget reads. none-asked t.before s question first against budget reads.reaches;
+        question = λ a s question first against aim reaches i. absurd (none-asked t.before s question first against aim reaches);
+        place = λ a s question first against aim reaches served i. absurd (none-asked t.before s question first against aim reaches);
+        log = λ a s question first against place name reaches i. absurd (none-asked t.before s question first against (checking place name) reaches.reaches);
+        report = λ s question first against aim reads short. none-asked t.before s question first against aim reads.reached.reaches;
         replay = λ s ps w reads. absurd (let none = reached-names t.before None s ps (reach-world r.content r.words s ps reads.name reads.reaches) reads.declared in cc);
       })
 
@@ -557,9 +706,11 @@ module _ (r : Run) (spent : List (List Step)) where
       replayable x calm _ (of_schema a c h i) = world-schema x.0.before calm a c h i
       replayable x calm _ (of_policies a c s h reads i) = world-policies x.0.before calm a c h i
       replayable x calm _ (of_world a s ps name reaches i) = world-read x.0 calm a s ps name reaches i
-      replayable x calm _ (of_against a c s question name budget first h task reads has i) = no-report x.0.before c h question (Some name) budget task
+      replayable x calm _ (of_against a c s question name aim first h task reads has i) = no-report x.0.before c h question (Some name) aim task
       replayable x calm _ (of_names f s ps name w reaches has is) = absurd (let some = reached-names x.0.before (Some f) s ps (reach-world r.content r.words s ps name reaches) is in let none = x.1 in cc)
-      replayable x calm _ (of_question a s question first against budget reaches i) = none-asked x.0.before s question first against budget reaches
+      replayable x calm _ (of_question a s question first against aim reaches i) = none-asked x.0.before s question first against aim reaches
+      replayable x calm _ (of_place a s question first against aim reaches served i) = none-asked x.0.before s question first against aim reaches
+      replayable x calm _ (of_log a s question first against place name reaches i) = none-asked x.0.before s question first against (checking place name) reaches.reaches
 
       replayed-whole : (x : IsReplayable r) → Replayed (scene x.0.before.schema x.0.before.policies x.0.world) r.before r.after (HasRisen r.writes) r.code → (HasRisen r.writes → ⊥) → IsReplayed r x
       replayed-whole x (told_whole found finds c text) still = inl (found, finds, c, text)
@@ -580,6 +731,8 @@ module _ (r : Run) (spent : List (List Step)) where
       pub complete-replay : Ends r spent → (x : IsReplayable r) → (HasRisen r.reads → ⊥) → (HasRisen r.writes → ⊥) → IsReplayed r x
       complete-replay (refused a h c t none) x calm still = absurd (replayable x calm a h)
       complete-replay (refusal_cut a k h rose c t none) x calm still = absurd (still rose)
-      complete-replay (reported s question first against budget reads report) x calm still = absurd (none-asked x.0.before s question first against budget reads.reaches)
+      complete-replay (reported s question first against budget reads report) x calm still = absurd (none-asked x.0.before s question first against (reporting budget) reads.reached.reaches)
+      complete-replay (wrote_log s question first against budget place env reads at report) x calm still = absurd (none-asked x.0.before s question first against (logging budget place) reads.reached.reaches)
+      complete-replay (checked_log s question first against place name env reads at report none) x calm still = absurd (none-asked x.0.before s question first against (checking place name) reads.reached.reaches)
       complete-replay (replayed s ps w reads report none) x calm still = replayed-whole x (this-scene x s ps w reads report) still
       complete-replay (no_memory c t none) x calm still = inr c

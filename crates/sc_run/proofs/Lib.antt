@@ -1,5 +1,3 @@
-pub mod ReportLaws
 pub mod StatusLaws
 pub mod DeterminedLaws
 pub mod ReplayLaws
-pub mod AnalysisLaws

@@ -3,7 +3,7 @@ use Rattle.std.specs.Prelude.{◌≡◌, List}
 use Rattle.std.specs.List.{Contains}
 use Rattle.sc_clauses.specs.declared.step.Step.{Step}
 use Rattle.sc_inputs.specs.Serving.{Command, Serves}
-use Rattle.sc_run.specs.Runs.{Run, HasRisen, WentUp, Ends, AllWell, AllHold, AsksQuestion, ReplaysWorld, IsWell, SomeFails, SomeOpen, IsLogged, IsBroken, IsReadable, IsWhole, IsReplayable, IsReplayed, MustBe, TooLong, IsUnsupported, SchemaIsLong, SchemaIsFaulty, PoliciesAreLong, PoliciesAreUnsupported, PoliciesAreFaulty, AgainstIsLong, AgainstIsFaulty, PoliciesAreUntyped, WorldIsLong, WorldIsFaulty, NamesAreUnknown, IsFaulty, IsFaultySchema, IsFaultyWorld, IsUntyped}
+use Rattle.sc_run.specs.Runs.{Run, HasRisen, WentUp, Ends, AllWell, AllHold, AsksQuestion, ChecksLog, WritesLog, ReplaysWorld, IsMisplaced, IsWell, LogIsAccepted, LogIsLong, LogIsRejected, LogIsWritten, PlaceIsMissing, SomeFails, SomeOpen, IsLogged, IsBroken, IsReadable, IsWholeFor, IsReplayable, IsReplayed, MustBe, TooLong, IsUnsupported, SchemaIsLong, SchemaIsFaulty, PoliciesAreLong, PoliciesAreUnsupported, PoliciesAreFaulty, AgainstIsLong, AgainstIsFaulty, PoliciesAreUntyped, WorldIsLong, WorldIsFaulty, NamesAreUnknown, IsFaulty, IsFaultySchema, IsFaultyWorld, IsUntyped}
 
 -- no read failed, and no write did
 abbrev pub AllRead : Run → Type 0
@@ -17,12 +17,20 @@ pub record Promises (r : Run) (logs : List (List Step)) : Type 0 where
   -- How it ends, whatever comes: what is written, and the status.
   pub ends : Ends r logs
   -- 0 comes only where each environment is reported to hold: each of its well-formed worlds has the property; or where a world is
-  -- replayed that is well-formed for an environment of the schema.
+  -- replayed that is well-formed for an environment of the schema; or where a log is written that shows the property of the environment
+  -- that is named, or is accepted for it.
   pub holds : r.code ≡ 0 → AllWell r
   -- Of a question 0 says that each well-formed world of each environment has the property.
   pub always : AsksQuestion r → r.code ≡ 0 → AllHold r
   -- Of a replay 0 says that the world is well-formed.
   pub well_formed : ReplaysWorld r → r.code ≡ 0 → IsWell r
+  -- Where a log is to be written 0 says that it is, and shows that each well-formed world of the environment has the property.
+  pub written : WritesLog r → r.code ≡ 0 → LogIsWritten r
+  -- Where a log is to be checked 0 says that it is accepted, and that means, whatever bytes the log file has: each well-formed world of
+  -- the environment has the property.
+  pub accepted : ChecksLog r → r.code ≡ 0 → LogIsAccepted r
+  -- 14 comes only where a log is checked and rejected, at its least step at fault and for what that step lacks.
+  pub rejected : r.code ≡ 14 → LogIsRejected r
   -- 1 comes only where a line prints a counterexample: a well-formed world of its environment that lacks the property.
   pub counterexample : r.code ≡ 1 → SomeFails r
   -- 2 comes only where no line prints a counterexample and some line says `unknown` or `over limit`.
@@ -33,8 +41,9 @@ pub record Promises (r : Run) (logs : List (List Step)) : Type 0 where
   -- 3 comes only where a world is replayed, and its report tells what keeps it from being well-formed, first of all.
   pub replayed : r.code ≡ 3 → IsBroken r
   -- Where all files of a question are told, short enough and spelled, the policies are declared, typed and of supported constructs, and
-  -- no read or write failed, a whole report is written or memory ran out.
-  pub complete : IsReadable r → AllRead r → AllWritten r → IsWhole r.code
+  -- no read or write failed, the schema has the environment that is named, where one is, and the log that is to be checked, where one is,
+  -- is told and short enough, all that is asked for is written or memory ran out.
+  pub complete : (x : IsReadable r) → AllRead r → AllWritten r → IsWholeFor x.served.0.before.aim r.code
   -- Where all files of a replay are so, and the policies write declared names alone, the whole report on the world is written, and the
   -- status says whether the world is well-formed; or memory ran out.
   pub complete_replay : (x : IsReplayable r) → AllRead r → AllWritten r → IsReplayed r x
@@ -54,6 +63,9 @@ pub record Promises (r : Run) (logs : List (List Step)) : Type 0 where
   pub names_are_unknown : NamesAreUnknown r → AllRead r → MustBe 13 r.code
   pub policies_are_untyped : PoliciesAreUntyped r → AllRead r → MustBe 13 r.code
   pub policies_are_unsupported : PoliciesAreUnsupported r → AllRead r → MustBe 15 r.code
+  -- An environment that is named and isn't there is refused, and so is a log that is too long.
+  pub place_is_missing : PlaceIsMissing r → AllRead r → MustBe 16 r.code
+  pub log_is_long : LogIsLong r → AllRead r → MustBe 22 r.code
   -- A failure is told: no read or write that failed is passed over.
   pub read_told : WentUp r.reads → MustBe 20 r.code
   pub write_told : WentUp r.writes → r.code ≡ 21
@@ -62,6 +74,7 @@ pub record Promises (r : Run) (logs : List (List Step)) : Type 0 where
   pub schema_fault : r.code ≡ 12 → IsFaultySchema r
   pub untyped : r.code ≡ 13 → IsUntyped r
   pub unsupported : r.code ≡ 15 → IsUnsupported r
+  pub misplaced : r.code ≡ 16 → IsMisplaced r
   pub world_fault : r.code ≡ 17 → IsFaultyWorld r
   pub read_fault : r.code ≡ 20 → HasRisen r.reads
   pub write_fault : r.code ≡ 21 → HasRisen r.writes

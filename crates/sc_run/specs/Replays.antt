@@ -1,13 +1,12 @@
 -- What a run writes of a scene: what the policies do in a world, under a schema.
-use Rattle.std.specs.Prelude.{◌≡◌, ℕ, List, ◌∷◌, ◌++◌, take, Option, Result, Ok, Err, flat_map}
+use Rattle.std.specs.Prelude.{◌≡◌, ℕ, List, ◌∷◌, ◌++◌, take, Option}
 use Rattle.sc_outside.specs.Writes.{appended}
-use Rattle.sc_outside.specs.declared.faults.SinkFault.{SinkFault}
-use Rattle.sc_outside.specs.declared.faults.SinkFault.TheVariants.{Failed, NoMemory}
 use Rattle.sc_ast.specs.Literals.{literals}
 use Rattle.sc_replay.specs.Reports.{report_lines, status_of}
 use Rattle.sc_world_breaks.specs.declared.breaks.Break.{Break}
 use Rattle.sc_world_breaks.specs.Breaks.{IsFirstBreak}
 use Rattle.sc_inputs.specs.declared.inputs.Scene.{Scene}
+use Rattle.sc_reports.specs.Lines.{text_of}
 
 -- what keeps the world from being well-formed, first of all, or that nothing does
 abbrev pub Finds : Scene → Option Break → Type 0
@@ -16,10 +15,6 @@ Finds x found = IsFirstBreak x.schema (literals x.policies) x.world found
 -- the lines of the report, each with its newline
 abbrev pub lines_of : Scene → Option Break → List (List ℕ)
 lines_of x found = report_lines found x.world x.policies
-
--- lines, one after another
-abbrev pub text_of : List (List ℕ) → List ℕ
-text_of lines = flat_map (λ (line : List ℕ). line) lines
 
 -- How reporting what a world does ends: all lines are written; or the sink failed, whole first lines are written and a front
 -- of the next one; or memory ran out, and whole first lines are written, or, where it ran out before they were known, nothing.
@@ -30,25 +25,3 @@ pub data Replayed (x : Scene) (old new : Option (List ℕ)) (rose : Type 0) (cod
   told_first : (found : Option Break) (lines rest : List (List ℕ)) → Finds x found → lines ++ rest ≡ lines_of x found
       → code ≡ 30 → new ≡ appended old (text_of lines) → Replayed x old new rose code
   untold : code ≡ 30 → new ≡ old → Replayed x old new rose code
-
--- whole first lines are written, and a front of the next one
-pub record CutLines (lines : List (List ℕ)) (old new : Option (List ℕ)) : Type 0 where
-  pub whole : List (List ℕ)
-  pub next : List ℕ
-  pub rest : List (List ℕ)
-  pub kept : ℕ
-  pub in_order : whole ++ next ∷ rest ≡ lines
-  pub text : new ≡ appended old (text_of whole ++ take kept next)
-
--- whole first lines are written
-pub record FirstLines (lines : List (List ℕ)) (old new : Option (List ℕ)) : Type 0 where
-  pub whole : List (List ℕ)
-  pub rest : List (List ℕ)
-  pub in_order : whole ++ rest ≡ lines
-  pub text : new ≡ appended old (text_of whole)
-
--- What putting out lines one after another does. `rose` says that the count of write faults rose.
-abbrev pub PutsLines : List (List ℕ) → Option (List ℕ) → Option (List ℕ) → Type 0 → Result Unit SinkFault → Type 0
-PutsLines lines old new rose (Ok _) = new ≡ appended old (text_of lines)
-PutsLines lines old new rose (Err Failed) = rose × CutLines lines old new
-PutsLines lines old new rose (Err NoMemory) = FirstLines lines old new

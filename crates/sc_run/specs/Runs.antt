@@ -1,5 +1,5 @@
 -- How a run ends.
-use Rattle.std.specs.Prelude.{◌≡◌, ◌≢◌, ◌≤◌, ◌<◌, ◌⊎◌, ℕ, List, [], true, false, Option, Some, None, length, take, unwrap_or, String}
+use Rattle.std.specs.Prelude.{◌≡◌, ◌≢◌, ◌≤◌, ◌<◌, ◌⊎◌, ℕ, List, [], ◌∷◌, true, false, Option, Some, None, length, slice_get, take, String, ⊤}
 use Rattle.std.specs.Global.{Global}
 use Rattle.std.specs.List.{Contains}
 use Rattle.sc_outside.specs.Counts.{Rose}
@@ -27,12 +27,18 @@ use Rattle.sc_world.specs.WellFormed.{IsWellFormed}
 use Rattle.sc_world_breaks.specs.declared.breaks.Break.{Break}
 use Rattle.sc_world_json.specs.declared.fault.WorldFault.{WorldFault}
 use Rattle.sc_world_json.specs.Reading as world_file
-use Rattle.sc_inputs.specs.Serving.{Command, Serves, asking, replaying}
+use Rattle.sc_inputs.specs.Serving.{Aim, Command, Serves, asking, checking, logging, place_in, replaying, reporting}
 use Rattle.sc_inputs.specs.Readings.{ReadsAll, ReadsWorld}
-use Rattle.sc_run.specs.Progress.{Reported}
-use Rattle.sc_run.specs.Replays.{Finds, Replayed, lines_of, text_of}
-use Rattle.sc_inputs.specs.Refusals.{Refusal, Side, IsRefusal, code_of, refusal_text, Content, IsContent, IsTooLong, ReadsSchema, HasPolicies, HasWorld, ReachesQuestion, ReachesWorld, names_fault, types_fault, constructs_fault, AreServed, limit}
-use Rattle.sc_run.specs.Reports.{Asked, Line, counterexample, IsReport, AlwaysHas, Violates, IsUndecided, has_counterexample, has_open, report_text}
+use Rattle.sc_checker.specs.declared.checking.Reason.{Reason}
+use Rattle.sc_reports.specs.Analyses.{asked, asked_within}
+use Rattle.sc_reports.specs.Claims.{Answer, Checked, Claims, IsShort, accepted, answer_text, rejected}
+use Rattle.sc_reports.specs.Logs.{Logged, Shows, log_lines}
+use Rattle.sc_reports.specs.Lines.{text_of}
+use Rattle.sc_reports.specs.Progress.{Reported}
+use Rattle.sc_run.specs.Replays.{Finds, Replayed, lines_of}
+use Rattle.sc_inputs.specs.Refusals.{Refusal, Side, IsRefusal, code_of, refusal_text, Content, IsContent, IsTooLong, ReadsSchema, HasPolicies, HasWorld, HasEnvironment, IsLongLog, RefusesLog, ReachesAim, ReachesQuestion, ReachesWorld, names_fault, types_fault, constructs_fault, AreServed, limit, log_limit}
+use Rattle.sc_reports.specs.Reports.{Asked, Line, counterexample, IsReport, AlwaysHas, Violates, IsUndecided, has_counterexample, has_open, report_text}
+use Rattle.sc_inputs.specs.declared.inputs.Claim.{Claim}
 use Rattle.sc_inputs.specs.declared.inputs.Scene.{Scene}
 
 -- a count of faults, before a run and after it
@@ -70,23 +76,60 @@ run_of source out files files' written written' words code = record {
   code = code;
 }
 
--- what is asked under a schema of one or two policy sets, within a budget
-abbrev pub asked : Declarations → Question → List Policy → Option (List Policy) → ℕ → Asked
-asked s question first against budget = record { schema = s; question = question; first = first; second = unwrap_or against []; budget = budget }
-
 -- what is replayed
 abbrev pub scene : Declarations → List Policy → World → Scene
 scene s ps w = record { schema = s; policies = ps; world = w }
 
--- a refusal's line is written whole, or a front of it; or the report is written, as far as it came; or memory ran out
--- before anything was written. The logs are those that a report counts, and none otherwise.
+-- the environment that there is, or none
+abbrev pub listed : Option Env → List Env
+listed None = []
+listed (Some env) = env ∷ []
+
+-- the environments that are asked about for an aim: all, or the one that is named
+abbrev pub asked_about : Declarations → Aim → List Env
+asked_about s (reporting budget) = environments s
+asked_about s (logging budget place) = listed (slice_get (environments s) place)
+asked_about s (checking place log) = listed (slice_get (environments s) place)
+
+-- the units that an aim allows; a check looks for nothing
+abbrev pub budget_in : Aim → ℕ
+budget_in (reporting budget) = budget
+budget_in (logging budget place) = budget
+budget_in (checking place log) = 0
+
+-- what is asked for an aim
+abbrev pub asked_for : Declarations → Question → List Policy → Option (List Policy) → Aim → Asked
+asked_for s question first against aim = asked s question first against (budget_in aim)
+
+-- a refusal's line is written whole, or a front of it; or a report, a log or what is said of one is written, as far as it came; or memory
+-- ran out before anything was written. The logs are those of the lines that say `unknown`.
 pub data Ends (r : Run) (spent : List (List Step)) : Type 0 where
   refused : (a : Refusal) → IsRefusal r.content r.words (HasRisen r.reads) a → r.code ≡ code_of a → r.after ≡ appended r.before (refusal_text a) → spent ≡ [] → Ends r spent
   refusal_cut : (a : Refusal) (n : ℕ) → IsRefusal r.content r.words (HasRisen r.reads) a → HasRisen r.writes → r.code ≡ 21 → r.after ≡ appended r.before (take n (refusal_text a)) → spent ≡ [] → Ends r spent
-  reported : (s : Declarations) (question : Question) (first : List Policy) (against : Option (List Policy)) (budget : ℕ) → ReadsAll r.content r.words s question first against budget
+  reported : (s : Declarations) (question : Question) (first : List Policy) (against : Option (List Policy)) (budget : ℕ) → ReadsAll r.content r.words s question first against (reporting budget)
       → Reported (asked s question first against budget) r.before r.after (HasRisen r.writes) r.code spent → Ends r spent
+  wrote_log : (s : Declarations) (question : Question) (first : List Policy) (against : Option (List Policy)) (budget place : ℕ) (env : Env) → ReadsAll r.content r.words s question first against (logging budget place)
+      → slice_get (environments s) place ≡ Some env → Logged (asked s question first against budget) env r.before r.after (HasRisen r.writes) r.code spent → Ends r spent
+  checked_log : (s : Declarations) (question : Question) (first : List Policy) (against : Option (List Policy)) (place : ℕ) (name : List ℕ) (env : Env) → ReadsAll r.content r.words s question first against (checking place name)
+      → slice_get (environments s) place ≡ Some env → Checked (r.content name) (asked s question first against 0) env r.before r.after (HasRisen r.writes) r.code → spent ≡ [] → Ends r spent
   replayed : (s : Declarations) (ps : List Policy) (w : World) → ReadsWorld r.content r.words s ps w → Replayed (scene s ps w) r.before r.after (HasRisen r.writes) r.code → spent ≡ [] → Ends r spent
   no_memory : r.code ≡ 30 → r.after ≡ r.before → spent ≡ [] → Ends r spent
+
+-- what an aim is
+abbrev pub IsReporting : Aim → Type 0
+IsReporting (reporting budget) = ⊤
+IsReporting (logging budget place) = ⊥
+IsReporting (checking place name) = ⊥
+
+abbrev pub IsLogging : Aim → Type 0
+IsLogging (reporting budget) = ⊥
+IsLogging (logging budget place) = ⊤
+IsLogging (checking place name) = ⊥
+
+abbrev pub IsChecking : Aim → Type 0
+IsChecking (reporting budget) = ⊥
+IsChecking (logging budget place) = ⊥
+IsChecking (checking place name) = ⊤
 
 -- what the words ask, and a whole report on it that is written
 pub record Reports (r : Run) : Type 0 where
@@ -94,18 +137,19 @@ pub record Reports (r : Run) : Type 0 where
   pub question : Question
   pub first : List Policy
   pub against : Option (List Policy)
-  pub budget : ℕ
-  pub reads : ReadsAll r.content r.words schema question first against budget
+  pub aim : Aim
+  pub reads : ReadsAll r.content r.words schema question first against aim
   pub lines : List Line
-  pub report : IsReport (asked schema question first against budget) (environments schema) lines
+  pub report : IsReport (asked_for schema question first against aim) (asked_about schema aim) lines
   pub text : r.after ≡ appended r.before (report_text lines)
 
 abbrev pub asked_by : {r : Run} → Reports r → Asked
-asked_by x = asked x.schema x.question x.first x.against x.budget
+asked_by x = asked_for x.schema x.question x.first x.against x.aim
 
 -- each environment is reported to hold: every well-formed world of it has the property
 pub record AllHold (r : Run) : Type 0 where
   pub told : Reports r
+  pub of_all : IsReporting told.aim
   pub always : (env : Env) → Contains (environments told.schema) env → AlwaysHas (asked_by told) env
 
 -- a line prints a world, which is a well-formed one of the line's environment and lacks the property
@@ -128,11 +172,11 @@ pub record IsLogged (r : Run) (log : List Step) : Type 0 where
   pub question : Question
   pub first : List Policy
   pub against : Option (List Policy)
-  pub budget : ℕ
-  pub reads : ReadsAll r.content r.words schema question first against budget
+  pub aim : Aim
+  pub reads : ReadsAll r.content r.words schema question first against aim
   pub env : Env
-  pub listed : Contains (environments schema) env
-  pub undecided : IsUndecided (asked schema question first against budget) env budget log
+  pub listed : Contains (asked_about schema aim) env
+  pub undecided : IsUndecided (asked_for schema question first against aim) env (budget_in aim) log
 
 -- a whole report on a world is written, and what it finds first is this, or nothing
 pub record Tells (r : Run) (found : Option Break) : Type 0 where
@@ -151,14 +195,25 @@ pub record IsWell (r : Run) : Type 0 where
   pub listed : Contains (environments told.schema) env
   pub well_formed : IsWellFormed told.schema env (literals told.policies) told.world
 
--- the words are a command to ask a question
-pub record AsksQuestion (r : Run) : Type 0 where
+-- the words are a command to ask a question for an aim of this kind
+pub record AsksFor (IsKind : Aim → Type 0) (r : Run) : Type 0 where
   pub command : Command
   pub commands : Serves r.words command
   pub question : Question
   pub name : Option (List ℕ)
-  pub budget : ℕ
-  pub task : command.task ≡ asking question name budget
+  pub aim : Aim
+  pub task : command.task ≡ asking question name aim
+  pub kind : IsKind aim
+
+-- the words are a command to ask a question, to write a log, or to check one
+abbrev pub AsksQuestion : Run → Type 0
+AsksQuestion r = AsksFor IsReporting r
+
+abbrev pub WritesLog : Run → Type 0
+WritesLog r = AsksFor IsLogging r
+
+abbrev pub ChecksLog : Run → Type 0
+ChecksLog r = AsksFor IsChecking r
 
 -- the words are a command to replay a world
 pub record ReplaysWorld (r : Run) : Type 0 where
@@ -167,9 +222,48 @@ pub record ReplaysWorld (r : Run) : Type 0 where
   pub name : List ℕ
   pub task : command.task ≡ replaying name
 
--- status 0: a question's property holds in each environment, or a world is replayed that is well-formed
+-- the log of the environment that is named is written whole, and shows that each of its well-formed worlds has the property
+pub record LogIsWritten (r : Run) : Type 0 where
+  pub schema : Declarations
+  pub question : Question
+  pub first : List Policy
+  pub against : Option (List Policy)
+  pub budget : ℕ
+  pub place : ℕ
+  pub reads : ReadsAll r.content r.words schema question first against (logging budget place)
+  pub env : Env
+  pub named : slice_get (environments schema) place ≡ Some env
+  pub log : List Step
+  pub shows : Shows (asked schema question first against budget) env log
+  pub text : r.after ≡ appended r.before (text_of (log_lines log))
+
+-- this is said of the log of the environment that is named
+pub record SaysOf (r : Run) (a : Answer) : Type 0 where
+  pub schema : Declarations
+  pub question : Question
+  pub first : List Policy
+  pub against : Option (List Policy)
+  pub place : ℕ
+  pub name : List ℕ
+  pub reads : ReadsAll r.content r.words schema question first against (checking place name)
+  pub env : Env
+  pub named : slice_get (environments schema) place ≡ Some env
+  pub short : IsShort (r.content name)
+  pub claims : Claims (r.content name) (asked schema question first against 0) env a
+  pub text : r.after ≡ appended r.before (answer_text env a)
+
+-- a log is accepted: each well-formed world of the environment that is named has the property, whatever bytes the log file has, and where
+-- these are told, they are the text of a log that shows it
+abbrev pub LogIsAccepted : Run → Type 0
+LogIsAccepted r = SaysOf r accepted
+
+-- a log is rejected at its least step at fault, for this reason
+abbrev pub LogIsRejected : Run → Type 0
+LogIsRejected r = (step : ℕ) × (why : Reason) × SaysOf r (rejected step why)
+
+-- status 0: a question's property holds in each environment, or a world is replayed that is well-formed, or a log is written or accepted
 abbrev pub AllWell : Run → Type 0
-AllWell r = AllHold r ⊎ IsWell r
+AllWell r = AllHold r ⊎ (IsWell r ⊎ (LogIsWritten r ⊎ LogIsAccepted r))
 
 -- status 3: a world is replayed that isn't well-formed
 abbrev pub IsBroken : Run → Type 0
@@ -200,8 +294,8 @@ pub record QuestionSpelled (r : Run) : Type 0 where
   pub short : length before.bytes ≤ limit
   pub question : Question
   pub name : Option (List ℕ)
-  pub budget : ℕ
-  pub task : before.command.task ≡ asking question name budget
+  pub aim : Aim
+  pub task : before.command.task ≡ asking question name aim
   pub policies : List Policy
   pub spelled : Spells before.bytes policies
 
@@ -216,14 +310,51 @@ pub record AllSpelled (r : Run) : Type 0 where
   pub others : Option (List Policy)
   pub against : AgainstTold r.content before.name others
 
--- the words are a command to ask a question, its files are told and short enough, they spell a schema and policies, and the policies
--- write declared names alone, are typed in each environment, and have supported constructs alone
-abbrev pub IsReadable : Run → Type 0
-IsReadable r = (t : AllSpelled r) × AreServed t.before.before.schema t.before.policies t.others
+-- the words are a command to ask a question, its schema file and policy files are told and short enough, they spell a schema and policies,
+-- and the policies write declared names alone, are typed in each environment, and have supported constructs alone
+abbrev pub IsServed : Run → Type 0
+IsServed r = (t : AllSpelled r) × AreServed t.before.before.schema t.before.policies t.others
+
+-- the log that is to be checked, where one is, is told
+abbrev pub LogIsTold : Content → Aim → Type 0
+LogIsTold content (reporting budget) = ⊤
+LogIsTold content (logging budget place) = ⊤
+LogIsTold content (checking place name) = (bytes : List ℕ) × (content name ≡ Some bytes) × (length bytes ≤ log_limit)
+
+-- the same, the schema has the environment that is named, where one is, and the log that is to be checked, where one is, is told and short
+-- enough
+pub record IsReadable (r : Run) : Type 0 where
+  pub served : IsServed r
+  pub environment : HasEnvironment served.0.before.before.schema served.0.before.aim
+  pub log : LogIsTold r.content served.0.before.aim
+
+-- the environment that is named is none of the schema
+pub record PlaceIsMissing (r : Run) : Type 0 where
+  pub served : IsServed r
+  pub place : ℕ
+  pub named : place_in served.0.before.aim ≡ Some place
+  pub beyond : length (environments served.0.before.before.schema) ≤ place
+
+-- the log that is to be checked is told and too long
+pub record LogIsLong (r : Run) : Type 0 where
+  pub served : IsServed r
+  pub place : ℕ
+  pub name : List ℕ
+  pub aim_is : served.0.before.aim ≡ checking place name
+  pub within : place < length (environments served.0.before.before.schema)
+  pub bytes : List ℕ
+  pub told : r.content name ≡ Some bytes
+  pub long : log_limit < length bytes
 
 -- one of the statuses of a whole report, or want of memory
 abbrev pub IsWhole : ℕ → Type 0
 IsWhole code = (code ≡ 0) ⊎ ((code ≡ 1) ⊎ ((code ≡ 2) ⊎ (code ≡ 30)))
+
+-- one of the statuses of what is written whole for an aim, or want of memory
+abbrev pub IsWholeFor : Aim → ℕ → Type 0
+IsWholeFor (reporting budget) code = IsWhole code
+IsWholeFor (logging budget place) code = IsWhole code
+IsWholeFor (checking place name) code = (code ≡ 14) ⊎ IsWhole code
 
 -- this status, unless the write failed or memory ran out
 abbrev pub MustBe : ℕ → ℕ → Type 0
@@ -234,8 +365,8 @@ pub record ReachesAgainst (content : Content) (words : List (List ℕ)) (name : 
   pub command : Command
   pub commands : Serves words command
   pub question : Question
-  pub budget : ℕ
-  pub task : command.task ≡ asking question (Some name) budget
+  pub aim : Aim
+  pub task : command.task ≡ asking question (Some name) aim
   pub schema : Declarations
   pub reads : ReadsSchema content command schema
   pub first : List Policy
@@ -246,6 +377,7 @@ pub data TooLong (r : Run) : Type 0 where
   schema_long : (c : Command) → Serves r.words c → IsTooLong r.content c.schema → TooLong r
   policies_long : (c : Command) → Serves r.words c → (s : Declarations) → ReadsSchema r.content c s → IsTooLong r.content c.policies → TooLong r
   against_long : (name : List ℕ) → ReachesAgainst r.content r.words name → IsTooLong r.content name → TooLong r
+  log_long : (s : Declarations) (question : Question) (first : List Policy) (against : Option (List Policy)) (place : ℕ) (name : List ℕ) → ReachesAim r.content r.words s question first against (checking place name) → IsLongLog r.content name → TooLong r
   world_long : (s : Declarations) (ps : List Policy) (name : List ℕ) → ReachesWorld r.content r.words s ps name → IsTooLong r.content name → TooLong r
 
 -- a question is asked of policies that write declared names alone and are typed, and one has a construct that isn't supported: that of
@@ -255,13 +387,26 @@ pub record IsUnsupported (r : Run) : Type 0 where
   pub question : Question
   pub first : List Policy
   pub against : Option (List Policy)
-  pub budget : ℕ
-  pub reaches : ReachesQuestion r.content r.words schema question first against budget
+  pub aim : Aim
+  pub reaches : ReachesQuestion r.content r.words schema question first against aim
   pub declared : names_fault schema first against ≡ None
   pub typed : types_fault schema first against ≡ None
   pub side : Side
   pub construct : Unsupported
   pub is : constructs_fault schema first against ≡ Some (side, construct)
+
+-- the environment that is named is none of the schema, and all that is asked for is read and served
+pub record IsMisplaced (r : Run) : Type 0 where
+  pub schema : Declarations
+  pub question : Question
+  pub first : List Policy
+  pub against : Option (List Policy)
+  pub aim : Aim
+  pub reaches : ReachesQuestion r.content r.words schema question first against aim
+  pub served : AreServed schema first against
+  pub place : ℕ
+  pub named : place_in aim ≡ Some place
+  pub beyond : length (environments schema) ≤ place
 
 -- the schema file of the command spells no schema, and its first fault is told
 pub record IsFaultySchema (r : Run) : Type 0 where
@@ -310,8 +455,8 @@ pub record IsUntypedQuestion (r : Run) : Type 0 where
   pub question : Question
   pub first : List Policy
   pub against : Option (List Policy)
-  pub budget : ℕ
-  pub reaches : ReachesQuestion r.content r.words schema question first against budget
+  pub aim : Aim
+  pub reaches : ReachesQuestion r.content r.words schema question first against aim
   pub ill_typed : IsIllTyped schema first against
 
 -- status 13: an undeclared name, or a policy without a type
@@ -408,3 +553,9 @@ abbrev pub Refuses : Refusal → Option (List ℕ) → Option (List ℕ) → Typ
 Refuses a old new rose code =
     ((code ≡ code_of a) × (new ≡ appended old (refusal_text a)))
     ⊎ ((rose × (code ≡ 21) × ((n : ℕ) × (new ≡ appended old (take n (refusal_text a))))) ⊎ ((code ≡ 30) × (new ≡ old)))
+
+-- how checking the log of a claim ends: what is said of it is written, as far as it came; or it is refused
+abbrev pub ChecksClaim : Claim → Env → Content → Type 0 → Option (List ℕ) → Option (List ℕ) → Type 0 → ℕ → Type 0
+ChecksClaim claim env content risen old new rose code =
+    Checked (content claim.log.now) (asked_within claim.asking 0) env old new rose code
+    ⊎ ((a : Refusal) × RefusesLog content claim.log.now risen a × Refuses a old new rose code)

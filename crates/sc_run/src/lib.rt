@@ -1,10 +1,10 @@
-//! The symbolic analyser of Cedar policies, as one call: it reads what the words of a command name, analyses or replays it, and
+//! The symbolic analyser of Cedar policies, as one call: it reads what the words of a command name, does what they ask, and
 //! writes the report as it comes.
 #![tactic(auto)]
 
-mod analysing;
 mod ending;
-mod line;
+#[cfg(test)]
+mod log_tests;
 #[cfg(test)]
 mod outside_tests;
 #[cfg(test)]
@@ -14,14 +14,10 @@ mod refusal_tests;
 #[cfg(test)]
 mod replay_tests;
 mod replaying;
-mod reporting;
 mod running;
-mod status;
-mod tally;
 #[cfg(test)]
 mod tests;
 
-pub use analysing::{EnvAnswer, analyse_env};
 pub use ending::exit_code;
 pub use running::run;
-pub use status::Status;
+pub use sc_reports::{EnvAnswer, Status, analyse_env};

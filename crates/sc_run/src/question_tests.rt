@@ -105,11 +105,11 @@ fn second_sets_are_refused(rt: HostRuntime) -> Result<(), Fail> {
 }
 
 /// The context has two truth values.
-const TWO: &str =
+pub const TWO: &str =
     r#"{"":{"entityTypes":{"User":{},"Doc":{}},"actions":{"view":{"appliesTo":{"principalTypes":["User"],"resourceTypes":["Doc"],"context":{"type":"Record","attributes":{"x":{"type":"Boolean"},"y":{"type":"Boolean"}}}}}}}}"#;
 
 /// Each of the four values of two attributes is excluded.
-const CONTRADICTION: &str =
+pub const CONTRADICTION: &str =
     "permit(principal, action, resource) when { (context.x || context.y) && (context.x || !context.y) && (!context.x || context.y) && (!context.x || !context.y) };";
 
 /// Budgets, with the status, the verdict and the number of logs within them.

@@ -1,7 +1,8 @@
 //! Tells what policies do in a world.
 ghost use Rattle.std.specs.Prelude.{◌≡◌, ◌<◌, ◌≤◌, Err};
 ghost use Rattle.sc_outside.specs.Counts.{Rose};
-ghost use Rattle.sc_run.specs.Replays.{PutsLines, Replayed};
+ghost use Rattle.sc_reports.specs.Lines.{PutsLines};
+ghost use Rattle.sc_run.specs.Replays.{Replayed};
 
 use sc_inputs::Scene;
 use sc_lists::Text;

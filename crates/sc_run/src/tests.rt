@@ -31,7 +31,7 @@ const GROUPS: &str =
 pub const MANY_KINDS: &str =
     r#"{"":{"entityTypes":{"Group":{"memberOfTypes":["Group"]},"User":{"memberOfTypes":["Group"],"shape":{"type":"Record","attributes":{"boss":{"type":"Entity","name":"User"},"age":{"type":"Long"},"nick":{"type":"String","required":false}}}},"Doc":{"shape":{"type":"Record","attributes":{"owner":{"type":"Entity","name":"User"}}}}},"actions":{"view":{"appliesTo":{"principalTypes":["User"],"resourceTypes":["Doc"],"context":{"type":"Record","attributes":{"n":{"type":"Long"},"s":{"type":"Set","element":{"type":"Boolean"}},"t":{"type":"Set","element":{"type":"Boolean"}},"q":{"type":"Set","element":{"type":"Long"}},"name":{"type":"String"},"addr":{"type":"Extension","name":"ipaddr"}}}}}}}}"#;
 
-const NO_TYPES: &str = r#"{"":{"entityTypes":{"User":{},"Doc":{}},"actions":{"view":{}}}}"#;
+pub const NO_TYPES: &str = r#"{"":{"entityTypes":{"User":{},"Doc":{}},"actions":{"view":{}}}}"#;
 
 pub const PERMIT_ALL: &str = "permit(principal, action, resource);";
 

@@ -17,7 +17,7 @@ pub(crate) fn full_name(alloc: Global, namespace: &str, name: &str) -> Result<Na
     let mut whole = String::from_str(alloc, namespace)?;
     whole.push_str("::")?;
     whole.push_str(name)?;
-    Ok(Name::from_text(Text::from_string(whole)))
+    Ok(Name::from_text(Text::from_string(whole)?))
 }
 
 /// The name of this text.

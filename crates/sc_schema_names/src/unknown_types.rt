@@ -114,7 +114,7 @@ pub(crate) fn entity_type_fault(
 {
     match entity_type_named(alloc, declared, namespace, text)? {
         Some(_) => Ok(None),
-        None => Ok(Some(unknown_type(alloc))),
+        None => Ok(Some(unknown_type())),
     }
 }
 
@@ -130,7 +130,7 @@ fn any_fault(
 {
     match type_named(alloc, declared, namespace, name.as_str())? {
         Some(_) => Ok(None),
-        None => inside(alloc, "name", Some(unknown_type(alloc))),
+        None => inside(alloc, "name", Some(unknown_type())),
     }
 }
 
@@ -146,7 +146,7 @@ fn common_fault(
 {
     match common_type_named(alloc, declared, namespace, name.as_str())? {
         Some(_) => Ok(None),
-        None => inside(alloc, "type", Some(unknown_type(alloc))),
+        None => inside(alloc, "type", Some(unknown_type())),
     }
 }
 
@@ -165,8 +165,8 @@ pub(crate) fn inside(
 }
 
 /// The fault that a text names no type.
-fn unknown_type(alloc: Global) -> SchemaFault
+fn unknown_type() -> SchemaFault
     ensures { result ≡ UnknownType [] }
 {
-    SchemaFault::UnknownType(Text::from_string(String::new(alloc)))
+    SchemaFault::UnknownType(Text::new())
 }

@@ -2,7 +2,7 @@
 ghost use Rattle.std.specs.Prelude.{◌≡◌, IfOk};
 
 use sc_lists::{Boxed, Seq};
-use sc_names::{Name, Uid};
+use sc_names::Name;
 use sc_schema::{Attributes, Ty};
 use std::alloc::{AllocError, Global};
 
@@ -48,17 +48,6 @@ pub(crate) fn copy_names(alloc: Global, names: &Seq<Name>) -> Result<Seq<Name>, 
     let mut copy = Seq::new(alloc);
     for name in names.as_slice() {
         copy.push(name.try_clone(alloc)?)?;
-    }
-    Ok(copy)
-}
-
-/// A copy, which equals the uids.
-pub(crate) fn copy_uids(alloc: Global, uids: &Seq<Uid>) -> Result<Seq<Uid>, AllocError>
-    ensures { IfOk result (λ copy. copy ≡ uids.now) }
-{
-    let mut copy = Seq::new(alloc);
-    for uid in uids.as_slice() {
-        copy.push(uid.try_clone(alloc)?)?;
     }
     Ok(copy)
 }

@@ -7,12 +7,12 @@ ghost use Rattle.sc_schema_types.specs.Tables.{type_in};
 ghost use Rattle.sc_schema_types.specs.Types.{record_type, expanded_action, expanded_entity_type, expanded_schema, IsExpansion, Refuses};
 
 use crate::bodies::bodies_of;
-use crate::copying::{copy_names, copy_uids};
+use crate::copying::copy_names;
 use crate::expansion::{expanded, meaning_of};
 use crate::faults::first_fault;
 use crate::outline::outlines_of;
 use sc_lists::{Fault, Seq};
-use sc_names::Name;
+use sc_names::{Name, clone_uids};
 use sc_schema::Ty;
 use sc_schema_resolved::{
     ExpandedAction, ExpandedEntityType, ExpandedSchema, ResolvedAction, ResolvedEntityType,
@@ -106,7 +106,7 @@ fn put_actions(
     for action in actions {
         all.push(ExpandedAction {
             uid: action.uid.try_clone(alloc)?,
-            parents: copy_uids(alloc, &action.parents)?,
+            parents: clone_uids(alloc, &action.parents)?,
             principals: copy_names(alloc, &action.principals)?,
             resources: copy_names(alloc, &action.resources)?,
             context: record_type(alloc, table, action.context.as_ref())?,

@@ -159,14 +159,14 @@ fn put_outline(
 }
 
 /// The fault of a type with this outline, at its own place.
-pub(crate) fn outline_fault(alloc: Global, wanted: Wanted, outline: Outline) -> Option<SchemaFault>
+pub(crate) fn outline_fault(wanted: Wanted, outline: Outline) -> Option<SchemaFault>
     ensures { result ≡ outline_fault wanted outline }
 {
     if wanted == Wanted::RecordType && !outline.is_record {
-        return Some(SchemaFault::NotRecord(Text::from_string(String::new(alloc))));
+        return Some(SchemaFault::NotRecord(Text::new()));
     }
     if outline.levels > MOST_LEVELS || outline.nodes > MOST_NODES {
-        return Some(SchemaFault::TypeTooLarge(Text::from_string(String::new(alloc))));
+        return Some(SchemaFault::TypeTooLarge(Text::new()));
     }
     None
 }

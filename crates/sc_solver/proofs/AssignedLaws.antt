@@ -6,9 +6,9 @@ use Rattle.sc_clauses.specs.Assignments.{Assignment, value_of, is_false_at, is_f
 use Rattle.sc_nodes.specs.declared.node.BinaryOp.TheVariants.{And, Or, Equal}
 use Rattle.sc_terms.specs.Trees.{Tree, two}
 use Rattle.sc_terms.specs.Folds.{truth_term}
-use Rattle.sc_footprint.specs.Problems.{Posed, atoms, is_bool, literal_in, goal_literal}
-use Rattle.sc_footprint.specs.Definitions.{definition, table, defining}
-use Rattle.sc_footprint.specs.Theories.{IsClauseOf}
+use Rattle.sc_boolean_footprint.specs.Problems.{Posed, atoms, is_bool, literal_in, goal_literal}
+use Rattle.sc_boolean_footprint.specs.Definitions.{definition, table, defining}
+use Rattle.sc_boolean_footprint.specs.Theories.{IsClauseOf}
 use Rattle.sc_checker.specs.Verdicts.{Rules}
 use Rattle.sc_solver.specs.Rebuilding.{IsConsistent, truth_at}
 use Rattle.sc_solver.proofs.ListLaws.{Has, here, contains_of, not_all, has_left, has_right, has_flat_map}

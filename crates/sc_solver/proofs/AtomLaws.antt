@@ -13,8 +13,8 @@ use Rattle.sc_terms.specs.Tables.{tree}
 use Rattle.sc_terms.specs.Folds.{truth_term}
 use Rattle.sc_terms.specs.Order.{tree_cmp, tree_eq}
 use Rattle.sc_terms.specs.Finding.{IsFound}
-use Rattle.sc_footprint.specs.Closure.{Closed}
-use Rattle.sc_footprint.specs.Problems.{Posed, IsPosed, goal_term, closed_terms, is_bool, is_opposite, is_atom, atoms, atom_number, number_among, one_more, numbered, literal}
+use Rattle.sc_boolean_footprint.specs.Closure.{Closed}
+use Rattle.sc_boolean_footprint.specs.Problems.{Posed, IsPosed, goal_term, closed_terms, is_bool, is_opposite, is_atom, atoms, atom_number, number_among, one_more, numbered, literal}
 use Rattle.sc_solver.proofs.ListLaws.{Has, here, there, has_of, contains_of, of_get, each_at, has_filter, filter_has, map_has}
 
 -- two terms are level in the order exactly where they are one

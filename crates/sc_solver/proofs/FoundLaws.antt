@@ -16,8 +16,8 @@ use Rattle.sc_terms.specs.Tables.{tree, StandsFor}
 use Rattle.sc_terms.specs.Finding.{IsFound}
 use Rattle.sc_terms.specs.Folds.{field_term}
 use Rattle.sc_term_laws.specs.Booleans.{context_term, attribute_term}
-use Rattle.sc_footprint.specs.Closure.{Closed, next, of_principal, of_resource, principal_term, resource_term, follow}
-use Rattle.sc_footprint.specs.Problems.{Posed, IsPosed, goal_term, closed_terms, atoms, atom_number, is_opposite, literal_in}
+use Rattle.sc_boolean_footprint.specs.Closure.{Closed, next, of_principal, of_resource, principal_term, resource_term, follow}
+use Rattle.sc_boolean_footprint.specs.Problems.{Posed, IsPosed, goal_term, closed_terms, atoms, atom_number, is_opposite, literal_in}
 use Rattle.sc_solver.specs.Rebuilding.{truth_at, one_entity}
 use Rattle.sc_solver.proofs.ListLaws.{Has, here, has_of, contains_of, map_has, each_at}
 use Rattle.sc_solver.proofs.AtomLaws.{IsLevel, atom_closed, number_of_none, literal_of_atom, found_none}

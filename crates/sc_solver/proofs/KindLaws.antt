@@ -19,7 +19,7 @@ use Rattle.sc_terms.specs.TreeSorts.{tree_sort}
 use Rattle.sc_terms.specs.Folds.{equal_term}
 use Rattle.sc_terms.specs.Order.{tree_cmp, tree_eq}
 use Rattle.sc_term_laws.specs.Booleans.{context_term}
-use Rattle.sc_footprint.specs.Closure.{principal_term, resource_term}
+use Rattle.sc_boolean_footprint.specs.Closure.{principal_term, resource_term}
 
 -- ---- types of records of required truth values
 

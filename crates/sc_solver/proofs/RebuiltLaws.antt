@@ -9,8 +9,8 @@ use Rattle.sc_world.specs.declared.world.Request.{Request}
 use Rattle.sc_world.specs.declared.world.World.{World}
 use Rattle.sc_world.specs.Named.{AreDefaults, StoresNamed, IsRequestAmong}
 use Rattle.sc_world.specs.WellFormed.{IsWellFormed}
-use Rattle.sc_footprint.specs.Problems.{Posed, IsPosed}
-use Rattle.sc_footprint.specs.Truths.{IsWorldOf}
+use Rattle.sc_boolean_footprint.specs.Problems.{Posed, IsPosed}
+use Rattle.sc_boolean_footprint.specs.Truths.{IsWorldOf}
 use Rattle.sc_checker.specs.Verdicts.{Rules}
 use Rattle.sc_solver.specs.Rebuilding.{IsConsistent, rebuilt_request, IsRebuilt, HasTruths}
 use Rattle.sc_solver.proofs.AtomLaws.{IsLevel}

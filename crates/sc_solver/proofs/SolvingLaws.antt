@@ -15,12 +15,12 @@ use Rattle.sc_search.specs.Steps.{AreListed, added}
 use Rattle.sc_search.specs.declared.searching.Found.{Found}
 use Rattle.sc_search.specs.declared.searching.Found.TheVariants.{Refuted, Consistent, Spent}
 use Rattle.sc_search.specs.Findings as found
-use Rattle.sc_footprint.specs.Problems.{Posed, IsPosed, atoms, most_atoms}
-use Rattle.sc_footprint.specs.Definitions.{defining}
-use Rattle.sc_footprint.specs.Truths.{truths, IsTrueIn, IsWorldOf, Satisfies, IsUnsatisfiable}
+use Rattle.sc_boolean_footprint.specs.Problems.{Posed, IsPosed, atoms, most_atoms}
+use Rattle.sc_boolean_footprint.specs.Definitions.{defining}
+use Rattle.sc_boolean_footprint.specs.Truths.{truths, IsTrueIn, IsWorldOf, Satisfies, IsUnsatisfiable}
 use Rattle.sc_checker.specs.Verdicts.{IsAccepted}
 use Rattle.sc_checker.specs.Writable.{is_writable}
-use Rattle.th_defs.specs.Instances.{number_in, is_before_last, definition_clause}
+use Rattle.th_boolean_defs.specs.Instances.{number_in, is_before_last, definition_clause}
 use Rattle.sc_solver.specs.Rebuilding.{IsConsistent, IsRebuilt}
 use Rattle.sc_solver.specs.Solutions.{rules_of}
 use Rattle.sc_solver.specs.Units.{IsSpent}

@@ -2,7 +2,7 @@
 use Rattle.std.proofs.Common.{◌≡◌, ◌||◌, ℕ, not, Bool, true, false, List, [], ◌∷◌, refl, ap, sym, ◌∙◌}
 use Rattle.sc_clauses.specs.declared.lit.Lit.{Lit}
 use Rattle.sc_clauses.specs.Clauses.{Clause, negation, is_in, holds, clause_holds}
-use Rattle.sc_footprint.specs.Definitions.{is_tautology, differs, has_value, row, table}
+use Rattle.sc_boolean_footprint.specs.Definitions.{is_tautology, differs, has_value, row, table}
 use Rattle.sc_solver.proofs.ListLaws.{Has, here, there, any_of, has_filter}
 use Rattle.sc_clauses.proofs.LitLaws.{holds_negation}
 use Rattle.sc_solver.proofs.LitLaws.{of_is_in, negated_holds, holds_by}

@@ -7,8 +7,8 @@ use Rattle.std.specs.Fmt.{decimal, digits}
 use Rattle.std.specs.Ordering.{is_eq}
 use Rattle.std.specs.Str.{bytes_eq}
 use Rattle.std.proofs.lemmas.Slice.Eq.{bytes_eq-Decides}
-use Rattle.sc_footprint.proofs.TruthLaws.{atom_is}
-use Rattle.sc_footprint.proofs.GoalLaws.{boolean_sort, attribute_sort, principal_sort, resource_sort}
+use Rattle.sc_boolean_footprint.proofs.TruthLaws.{atom_is}
+use Rattle.sc_boolean_footprint.proofs.GoalLaws.{boolean_sort, attribute_sort, principal_sort, resource_sort}
 use Rattle.sc_terms.proofs.FoldValues.{seen_yes}
 use Rattle.sc_clauses.specs.Clauses.{bool_eq, holds}
 use Rattle.sc_clauses.specs.Assignments.{Assignment}
@@ -35,17 +35,17 @@ use Rattle.sc_terms.specs.TreeSorts.{tree_sort}
 use Rattle.sc_terms.specs.Folds.{truth_term, field_term}
 use Rattle.sc_term_laws.specs.Booleans.{names_of, is_connective, IsBoolean, of_truth, of_attribute, of_not, of_two, attribute_term, context_term}
 use Rattle.sc_terms.specs.Values.{it, val, seen, value_eq, field_value}
-use Rattle.sc_footprint.specs.Closure.{Closed, next, of_goal, principal_term, resource_term, follow}
-use Rattle.sc_footprint.specs.Problems.{Posed, IsPosed, goal_term, closed_terms, atoms, atom_number, is_bool_in, is_bool, is_opposite, is_atom, literal, literal_in, numbered}
-use Rattle.sc_footprint.specs.Definitions.{defining}
-use Rattle.sc_footprint.specs.Truths.{is_true, is_true_at, truths}
+use Rattle.sc_boolean_footprint.specs.Closure.{Closed, next, of_goal, principal_term, resource_term, follow}
+use Rattle.sc_boolean_footprint.specs.Problems.{Posed, IsPosed, goal_term, closed_terms, atoms, atom_number, is_bool_in, is_bool, is_opposite, is_atom, literal, literal_in, numbered}
+use Rattle.sc_boolean_footprint.specs.Definitions.{defining}
+use Rattle.sc_boolean_footprint.specs.Truths.{is_true, is_true_at, truths}
 use Rattle.sc_solver.specs.Rebuilding.{truth_at, nameless, one_entity, assigned, context_by, context_of_type, rebuilt_request}
 use Rattle.sc_solver.proofs.ListLaws.{Has, here, there, has_of, contains_of, of_get}
 use Rattle.sc_clauses.proofs.LitLaws.{holds_negation}
 use Rattle.sc_solver.proofs.StepLaws.{AllHold}
 use Rattle.sc_solver.proofs.TableLaws.{table_says}
 use Rattle.sc_solver.proofs.AtomLaws.{IsLevel, literal_of_atom, listed, atom_closed, atom_is_plain, number_at, truth_listed, truth_first}
-use Rattle.sc_footprint.specs.Kinds.{IsOfGoal, of_boolean, of_context, of_principal, of_resource, of_entities}
+use Rattle.sc_boolean_footprint.specs.Kinds.{IsOfGoal, of_boolean, of_context, of_principal, of_resource, of_entities}
 use Rattle.sc_solver.proofs.KindLaws.{are_plain, sort_context, one_entity_is}
 use Rattle.sc_solver.proofs.AssignedLaws.{truth_holds, and_holds, or_holds, equal_holds, goal_holds}
 use Rattle.sc_solver.proofs.ValueLaws.{truth_seen, not_seen_as, and_seen_as, or_seen_as, equal_seen_as, one_entity_seen, field_told, field_seen_as}

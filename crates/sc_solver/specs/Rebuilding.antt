@@ -19,10 +19,10 @@ use Rattle.sc_world.specs.Named.{AreDefaults, StoresNamed}
 use Rattle.sc_sorts.specs.Plain.{Field, plain_fields}
 use Rattle.sc_terms.specs.Folds.{equal_term}
 use Rattle.sc_term_laws.specs.Booleans.{attribute_term}
-use Rattle.sc_footprint.specs.Closure.{principal_term, resource_term}
-use Rattle.sc_footprint.specs.Problems.{Posed, atoms, atom_number}
-use Rattle.sc_footprint.specs.Definitions.{defining}
-use Rattle.sc_footprint.specs.Truths.{truths}
+use Rattle.sc_boolean_footprint.specs.Closure.{principal_term, resource_term}
+use Rattle.sc_boolean_footprint.specs.Problems.{Posed, atoms, atom_number}
+use Rattle.sc_boolean_footprint.specs.Definitions.{defining}
+use Rattle.sc_boolean_footprint.specs.Truths.{truths}
 use Rattle.sc_checker.specs.Verdicts.{Rules}
 
 -- each listed atom has a value, and neither a defining clause nor the clause of an instance of the rules is falsified

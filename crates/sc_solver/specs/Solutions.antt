@@ -1,9 +1,9 @@
 -- What an answer of the solver means.
 use Rattle.std.specs.Prelude.{◌≤◌, ℕ, length}
-use Rattle.sc_footprint.specs.Problems.{Posed}
-use Rattle.sc_footprint.specs.Truths.{Satisfies, IsUnsatisfiable}
+use Rattle.sc_boolean_footprint.specs.Problems.{Posed}
+use Rattle.sc_boolean_footprint.specs.Truths.{Satisfies, IsUnsatisfiable}
 use Rattle.sc_checker.specs.Verdicts.{Rules, IsAccepted}
-use Rattle.th_defs.specs.Instances.{is_definition, definition_clause}
+use Rattle.th_boolean_defs.specs.Instances.{is_definition, definition_clause}
 use Rattle.sc_solver.specs.declared.solving.Solved.{Solved}
 use Rattle.sc_solver.specs.declared.solving.Solved.TheVariants.{Refuted, Violated, Spent}
 use Rattle.sc_solver.specs.Units.{IsSpent}

@@ -5,9 +5,9 @@ use Rattle.sc_world.specs.declared.world.World.{World}
 use Rattle.sc_clauses.specs.Clauses.{Clause, contained}
 use Rattle.sc_clauses.specs.declared.step.Step.{Step}
 use Rattle.sc_search.specs.Propagation.{IsNew, HasConflict}
-use Rattle.sc_footprint.specs.Problems.{Posed, atoms}
-use Rattle.sc_footprint.specs.Definitions.{defining}
-use Rattle.sc_footprint.specs.Truths.{IsTrueIn, Satisfies}
+use Rattle.sc_boolean_footprint.specs.Problems.{Posed, atoms}
+use Rattle.sc_boolean_footprint.specs.Definitions.{defining}
+use Rattle.sc_boolean_footprint.specs.Truths.{IsTrueIn, Satisfies}
 use Rattle.sc_checker.specs.Verdicts.{Rules, Adds}
 
 -- It isn't empty, has not all literals of a clause before it, and has a literal such that unit propagation over the clauses before it,

@@ -1,13 +1,13 @@
 //! Principal and resource, by what an assignment says of them.
 ghost use Rattle.std.specs.Prelude.{◌≡◌, [], IfOk};
-ghost use Rattle.sc_footprint.specs.Closure.{principal_term, resource_term};
+ghost use Rattle.sc_boolean_footprint.specs.Closure.{principal_term, resource_term};
 ghost use Rattle.sc_solver.specs.Rebuilding as rebuilt;
 ghost use Rattle.sc_sorts.specs.declared.sort.Sort.TheVariants.{Entity};
 ghost use Rattle.sc_terms.specs.Tables.{StandsFor};
 
 use crate::truth::truth_of;
+use sc_boolean_footprint::Problem;
 use sc_clauses::Assignment;
-use sc_footprint::Problem;
 use sc_lists::{Seq, Text};
 use sc_names::{Name, Uid};
 use sc_nodes::{BinaryOp, Leaf, Node};
@@ -89,6 +89,6 @@ pub(crate) fn nameless(alloc: Global, type_name: &Name, number: u64) -> Result<U
 {
     Ok(Uid {
         type_name: type_name.try_clone(alloc)?,
-        id: Text::from_string(format!(in alloc; "{number}")?),
+        id: Text::from_string(format!(in alloc; "{number}")?)?,
     })
 }

@@ -1,18 +1,18 @@
 //! The world that an assignment of the listed atoms stands for.
 ghost use Rattle.std.specs.Prelude.{◌≡◌, IfOk};
-ghost use Rattle.sc_footprint.specs.Truths.{IsWorldOf};
+ghost use Rattle.sc_boolean_footprint.specs.Truths.{IsWorldOf};
 ghost use Rattle.sc_solver.specs.Contexts.{IsContext};
 ghost use Rattle.sc_solver.specs.Rebuilding as rebuilt;
 ghost use Rattle.sc_solver.specs.Solutions.{rules_of};
 
 use crate::context::context_under;
 use crate::entities::{nameless, resource_number};
+use sc_boolean_footprint::{Problem, problem_laws};
 use sc_clauses::Assignment;
-use sc_footprint::{Problem, problem_laws};
 use sc_term_laws::order_laws;
 use sc_world::{Request, World, world_for};
 use std::alloc::{AllocError, Global};
-use th_defs::defining_laws;
+use th_boolean_defs::defining_laws;
 
 fn rebuilt_request(
     alloc: Global,

@@ -1,10 +1,10 @@
 //! The rules of problems: the theories that there are.
-ghost use Rattle.th_defs.specs.Instances.{is_definition, definition_clause};
+ghost use Rattle.th_boolean_defs.specs.Instances.{is_definition, definition_clause};
 
+use sc_boolean_footprint::{Problem, Theory};
 use sc_clauses::{Assignment, Clause, Instance};
-use sc_footprint::{Problem, Theory};
 use std::alloc::{AllocError, Global};
-use th_defs::Defs;
+use th_boolean_defs::Defs;
 
 /// All rules of problems. So far the defining clauses are all that there are.
 #[derive(Drop)]
@@ -21,7 +21,7 @@ impl Rules {
 
 /// An instance is handed to the theory that it belongs to.
 impl Theory for Rules {
-    ghost use Rattle.th_defs.specs.Laws.{instance_sound, instance_lawful};
+    ghost use Rattle.th_boolean_defs.specs.Laws.{instance_sound, instance_lawful};
 
     ghost has_instance = { λ r. is_definition };
 

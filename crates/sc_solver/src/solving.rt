@@ -1,18 +1,18 @@
 //! The solver.
 ghost use Rattle.std.specs.Prelude.{◌≤◌, length, IfOk};
-ghost use Rattle.sc_footprint.specs.Problems.{atoms, most_atoms};
+ghost use Rattle.sc_boolean_footprint.specs.Problems.{atoms, most_atoms};
 ghost use Rattle.sc_solver.specs.Solutions.{IsSolution};
 
 use crate::rebuilding::rebuild;
 use crate::source::OtherRules;
+use sc_boolean_footprint::{Problem, problem_laws};
 use sc_checker::Log;
-use sc_footprint::{Problem, problem_laws};
 use sc_lists::Seq;
 use sc_search::{Found, search};
 use sc_term_laws::order_laws;
 use sc_world::World;
 use std::alloc::{AllocError, Global};
-use th_defs::{defining, defining_laws};
+use th_boolean_defs::{defining, defining_laws};
 
 /// What the solver found.
 #[derive(Drop)]

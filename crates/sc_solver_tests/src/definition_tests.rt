@@ -4,12 +4,12 @@
 
 use crate::problems::{Question, is_lit, is_so};
 use crate::schemas::USER_DOC;
+use sc_boolean_footprint::{Problem, Theory};
 use sc_clauses::{Assignment, Clause, Instance, Word};
-use sc_footprint::{Problem, Theory};
 use sc_lists::{Seq, Text};
 use std::alloc::{AllocError, Global};
 use std::test::Fail;
-use th_defs::{Defs, defining};
+use th_boolean_defs::{Defs, defining};
 
 // ---- defining clauses
 

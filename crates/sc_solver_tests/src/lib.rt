@@ -17,3 +17,5 @@ mod problems;
 mod schemas;
 #[cfg(test)]
 mod solver_tests;
+#[cfg(test)]
+mod stream_tests;

@@ -1,12 +1,12 @@
 //! Questions about the problems of goals.
 ghost use Rattle.std.specs.Prelude.{◌≡◌, ◌≤◌, [], Contains, length, IfOk};
-ghost use Rattle.sc_footprint.specs.Problems.{atoms, most_atoms};
+ghost use Rattle.sc_boolean_footprint.specs.Problems.{atoms, most_atoms};
 ghost use Rattle.sc_schema.specs.Declarations.{environments};
 
 use crate::goals::number_of;
 use crate::schemas::schema;
+use sc_boolean_footprint::{OverLimit, Problem, close};
 use sc_clauses::Lit;
-use sc_footprint::{OverLimit, Problem, close};
 use sc_lists::Fault;
 use sc_names::Lits;
 use sc_schema::{Env, Schema, context_of, environments};

@@ -3,7 +3,7 @@ ghost use Rattle.std.specs.Prelude.{◌≡◌, IfOk};
 
 use crate::sort::Sort;
 use sc_lists::{Boxed, Seq, Text};
-use sc_names::Uid;
+use sc_names::clone_uids;
 use std::alloc::{AllocError, Global};
 
 /// A copy, which equals the sort.
@@ -41,17 +41,6 @@ fn clone_fields(alloc: Global, fields: &Seq<(Text, Sort)>) -> Result<Seq<(Text, 
     let mut copy = Seq::new(alloc);
     for field in fields.as_slice() {
         copy.push((field.0.try_clone(alloc)?, try_clone(alloc, &field.1)?))?;
-    }
-    Ok(copy)
-}
-
-/// A copy of the entities that a sort lists, which equals them.
-pub fn clone_uids(alloc: Global, uids: &Seq<Uid>) -> Result<Seq<Uid>, AllocError>
-    ensures { IfOk result (λ copy. copy ≡ uids.now) }
-{
-    let mut copy = Seq::new(alloc);
-    for uid in uids.as_slice() {
-        copy.push(uid.try_clone(alloc)?)?;
     }
     Ok(copy)
 }

@@ -73,15 +73,6 @@ pub fn default_uid(alloc: Global, name: &Name, choices: &Seq<Uid>) -> Result<Uid
 {
     match choices.as_slice().split_first() {
         Some((least, _)) => least.try_clone(alloc),
-        None => nameless(alloc, name),
+        None => Uid::nameless(alloc, name),
     }
-}
-
-fn nameless(alloc: Global, name: &Name) -> Result<Uid, AllocError>
-    ensures { IfOk result (λ u. u ≡ default_uid name.now []) }
-{
-    Ok(Uid {
-        type_name: name.try_clone(alloc)?,
-        id: Text::from_str(alloc, "")?,
-    })
 }

@@ -12,7 +12,7 @@ mod of_type;
 mod plain;
 mod sort;
 
-pub use clone::{clone_uids, try_clone};
+pub use clone::try_clone;
 pub use default::{default_of, default_uid};
 pub use entities::{choices_of, entity_sort};
 pub use inside::{field_sort, held_sort, member_sort};

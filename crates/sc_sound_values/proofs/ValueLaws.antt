@@ -62,7 +62,7 @@ bool_value : (z : Value-F Value) → IsTrue (conform.is_bool z) → (b : Bool) �
 bool_value (v.Bool b) h = (b, refl)
 bool_value _ h = absurd cc
 
-long_value : (z : Value-F Value) → IsTrue (conform.is_long z) → (n : ℤ) × (z ≡ v.Long n)
+pub long_value : (z : Value-F Value) → IsTrue (conform.is_long z) → (n : ℤ) × (z ≡ v.Long n)
 long_value (v.Long n) h = (n, refl)
 long_value _ h = absurd cc
 
@@ -70,11 +70,11 @@ string_value : (z : Value-F Value) → IsTrue (conform.is_string z) → (text : 
 string_value (v.String text) h = (text, refl)
 string_value _ h = absurd cc
 
-decimal_value : (z : Value-F Value) → IsTrue (conform.is_decimal z) → (n : ℤ) × (z ≡ v.Decimal n)
+pub decimal_value : (z : Value-F Value) → IsTrue (conform.is_decimal z) → (n : ℤ) × (z ≡ v.Decimal n)
 decimal_value (v.Decimal n) h = (n, refl)
 decimal_value _ h = absurd cc
 
-ip_value : (z : Value-F Value) → IsTrue (conform.is_ip z) → (a : Ip) × (z ≡ v.Ip a)
+pub ip_value : (z : Value-F Value) → IsTrue (conform.is_ip z) → (a : Ip) × (z ≡ v.Ip a)
 ip_value (v.Ip a) h = (a, refl)
 ip_value _ h = absurd cc
 

@@ -1,4 +1,4 @@
 pub mod NumbersLaws
-pub mod CompilingLaws
 pub mod ValuesLaws
 pub mod StandingsLaws
+pub mod TermsLaws

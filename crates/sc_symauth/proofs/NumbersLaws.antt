@@ -4,27 +4,25 @@ use Rattle.std.proofs.lemmas.List.{take_more, map-append, append-nil}
 use Rattle.std.proofs.lemmas.List.Elements.{All-push, All-filter, All-map, filter_more}
 use Rattle.sc_terms.proofs.TableLaws.{keeps_then, stands_later}
 use Rattle.sc_ast.specs.declared.policy.Effect.{Effect}
+use Rattle.sc_schema.specs.declared.declarations.Env.{Env}
+use Rattle.sc_schema.specs.Declarations.{Declarations}
+use Rattle.sc_symeval.specs.Codes.{code_of}
 use Rattle.sc_auth.specs.Decisions.{permits}
 use Rattle.sc_nodes.specs.declared.node.Node.{Node}
 use Rattle.sc_terms.specs.Trees.{Tree}
 use Rattle.sc_terms.specs.Tables.{tree, Keeps, StandsFor}
 use Rattle.sc_terms.specs.Folds.{not_term, and_term}
 use Rattle.sc_terms.specs.Joined.{any_of}
-use Rattle.sc_symeval.specs.Codes.{Code}
-use Rattle.sc_symeval.specs.declared.opt.Opt.{Opt}
+use Rattle.sc_codes.specs.Code.{Code}
+use Rattle.sc_codes.proofs.NumbersLaws.{in_table, code_is, code_later, code_same, for_more}
+use Rattle.sc_codes.specs.declared.opt.Opt.{Opt}
 use Rattle.sc_symauth.specs.declared.compiled.CompiledPolicy.{CompiledPolicy}
-use Rattle.sc_symauth.specs.Standings.{Compiled, satisfied, any_satisfied, allow, any_error, error}
-use Rattle.sc_symauth.specs.Numbers.{IsCode, code_at, compiled_at, AreCodes, StandForAll}
+use Rattle.sc_symauth.specs.declared.typed.Typed.{Typed}
+use Rattle.sc_symauth.specs.Standings.{Compiled, satisfied, any_satisfied, allow, any_error, error, with_effect, compiled_typed, all_compiled}
+use Rattle.sc_codes.specs.Numbers.{IsCode, StandsAs, StandForAll, code_at}
+use Rattle.sc_symauth.specs.Numbers.{AreCodes, AreCompiled, compiled_at}
 
 -- ---- in a later table
-
-pub code_later : (s t : List Node) (o : Opt) → Keeps s t → IsCode s o → IsCode t o
-code_later s t o k h = record { ok = omega (arith, k.longer, h.ok); val = omega (arith, k.longer, h.val) }
-
-pub code_same : (s t : List Node) (o : Opt) → Keeps s t → IsCode s o → code_at t o ≡ code_at s o
-code_same s t o k h =
-    let f : Tree → Tree → Code = λ (a b : Tree). record { ok = a; val = b } in
-    ap (λ (a : Tree). f a (tree t o.val)) (k.same o.ok h.ok) ∙ ap (f (tree s o.ok)) (k.same o.val h.val)
 
 pub codes_later : (s t : List Node) (ps : List CompiledPolicy) → Keeps s t → AreCodes s ps → AreCodes t ps
 codes_later s t ps k h = λ i d within. code_later s t (get_or ps i d).code k (h i d within)
@@ -37,22 +35,6 @@ compiled_same s t (p ∷ ps) k h =
     ∙ ap (f (code_at s p.code)) (compiled_same s t ps k (λ i d within. h (suc i) d (omega arith)))
 
 -- ---- terms that are made one after the other
-
-trees_later : (s t : List Node) → Keeps s t → (ns : List ℕ) → All (λ (n : ℕ). n < length s) ns → map (tree t) ns ≡ map (tree s) ns
-trees_later s t k [] h = refl
-trees_later s t k (n ∷ ns) h =
-    let here = k.same n (h zero zero (omega arith)) in
-    let rest = trees_later s t k ns (λ i d within. h (suc i) d (omega arith)) in
-    cc
-
-pub one_more : (s t : List Node) (ns : List ℕ) (ts : List Tree) (n : ℕ) (x : Tree) → StandForAll s ns ts → Keeps s t → StandsFor t n x → StandForAll t (ns ++ n ∷ []) (ts ++ x ∷ [])
-one_more s t ns ts n x h k new = record {
-  within = All-push (λ (m : ℕ). m < length t) ns n (λ i d within. later (get_or ns i d) (h.within i d within)) new.within;
-  are = map-append (tree t) ns (n ∷ []) ∙ ap (λ (xs : List Tree). xs ++ tree t n ∷ []) (trees_later s t k ns h.within ∙ h.are) ∙ ap (λ (y : Tree). ts ++ y ∷ []) new.is;
-}
-  where
-    later : (m : ℕ) → m < length s → m < length t
-    later m within = omega (arith, k.longer)
 
 module _ {X : Type 0} (h : Code → Tree) (g : X → Opt) where
   -- the terms of a list, of which each has a code
@@ -69,7 +51,7 @@ module _ {X : Type 0} (h : Code → Tree) (g : X → Opt) where
       let here : StandsFor u n (h (code_at s (g (get_or xs i d)))) = subst (λ (c : Code). StandsFor u n (h c)) (code_same s t (g (get_or xs i d)) k (codes i d within)) new in
       subst (λ (ts : List Tree). StandForAll u ms ts) (sym (made_more s xs i d within))
       (subst (λ (l : List ℕ). StandForAll u l (made s (take i xs) ++ h (code_at s (g (get_or xs i d))) ∷ [])) (sym pushed)
-      (one_more t u ns (made s (take i xs)) n (h (code_at s (g (get_or xs i d)))) so_far j here))
+      (for_more t u ns (made s (take i xs)) n (h (code_at s (g (get_or xs i d)))) so_far j here))
 
 -- ---- what a set decides
 
@@ -147,3 +129,41 @@ allow_is s t u v w ps a b c n are k1 k2 k3 first second negated whole = record {
       ∙ ap (and_term (any_satisfied (λ (p : Compiled). permits p.effect) (map (compiled_at s) ps)))
       (negated.is ∙ ap not_term (second.is ∙ ap (any_satisfied (λ (p : Compiled). not (permits p.effect))) (compiled_same s t ps k1 are)));
 }
+
+-- ---- policies that are compiled one after the other
+
+abbrev compiled_in : Declarations → Env → List Typed → List Compiled
+compiled_in s env ps = all_compiled s env ps
+
+-- one more
+pub compiled_more : (s : Declarations) (env : Env) (xs ys : List Node) (policies : List Typed) (i : ℕ) (p : Typed) (ps qs : List CompiledPolicy) (o : Opt)
+    → i < length policies → p ≡ get_or policies i p → Keeps xs ys → AreCompiled xs ps (compiled_in s env (take i policies)) → StandsAs ys o (code_of s env p.condition)
+    → qs ≡ ps ++ record { effect = p.effect; code = o } ∷ [] → AreCompiled ys qs (compiled_in s env (take (i + 1) policies))
+compiled_more s env xs ys policies i p ps qs o within at kept so_far new pushed =
+    let one : CompiledPolicy = record { effect = p.effect; code = o } in
+    let whole : compiled_in s env (take (i + 1) policies) ≡ compiled_in s env (take i policies) ++ compiled_typed s env p ∷ [] =
+    ap (compiled_in s env) (take_more policies i p within) ∙ map-append (compiled_typed s env) (take i policies) (get_or policies i p ∷ [])
+    ∙ ap (λ (q : Typed). compiled_in s env (take i policies) ++ compiled_typed s env q ∷ []) (sym at)
+    in
+    let code : code_at ys o ≡ code_of s env p.condition = code_is ys o (code_of s env p.condition) new in
+    subst (λ (rs : List CompiledPolicy). AreCompiled ys rs (compiled_in s env (take (i + 1) policies))) (sym pushed)
+    (subst (AreCompiled ys (ps ++ one ∷ [])) (sym whole)
+    (record {
+      codes = All-push (λ (q : CompiledPolicy). IsCode ys q.code) ps one (codes_later xs ys ps kept so_far.codes) (in_table ys o _ new);
+      are =
+          map-append (compiled_at ys) ps (one ∷ [])
+          ∙ ap (λ (cs : List Compiled). cs ++ compiled_at ys one ∷ []) (compiled_same xs ys ps kept so_far.codes ∙ so_far.are)
+          ∙ ap (λ (c : Code). compiled_in s env (take i policies) ++ with_effect p.effect c ∷ []) code;
+    }))
+
+-- what the numbers of compiled policies decide is what the policies' codes decide
+pub allow_of : (xs ys : List Node) (ps qs : List CompiledPolicy) (cs : List Compiled) (n : ℕ) → AreCompiled xs ps cs → qs ≡ ps → StandsFor ys n (allow (map (compiled_at xs) qs)) → StandsFor ys n (allow cs)
+allow_of xs ys ps qs cs n h same k = record { within = k.within; is = k.is ∙ ap allow (ap (map (compiled_at xs)) same ∙ h.are) }
+
+-- ---- one
+
+pub satisfied_of : (xs ys : List Node) (o : Opt) (c : Code) (n : ℕ) → StandsAs xs o c → StandsFor ys n (satisfied (code_at xs o)) → StandsFor ys n (satisfied c)
+satisfied_of xs ys o c n h k = subst (λ (d : Code). StandsFor ys n (satisfied d)) (code_is xs o c h) k
+
+pub error_of : (xs ys : List Node) (o : Opt) (c : Code) (n : ℕ) → StandsAs xs o c → StandsFor ys n (error (code_at xs o)) → StandsFor ys n (error c)
+error_of xs ys o c n h k = subst (λ (d : Code). StandsFor ys n (error d)) (code_is xs o c h) k

@@ -1,12 +1,14 @@
 -- How policies stand and what a set of them decides, as terms.
-use Rattle.std.specs.Prelude.{List, [], ◌∷◌, Bool, map, filter, not, Option, Some, option_map}
-use Rattle.std.specs.Option.{option_and_then}
+use Rattle.std.specs.Prelude.{List, Bool, map, filter, not}
 use Rattle.sc_ast.specs.declared.policy.Effect.{Effect}
 use Rattle.sc_auth.specs.Decisions.{permits}
+use Rattle.sc_schema.specs.declared.declarations.Env.{Env}
+use Rattle.sc_schema.specs.Declarations.{Declarations}
 use Rattle.sc_terms.specs.Trees.{Tree}
 use Rattle.sc_terms.specs.Folds.{not_term, and_term}
 use Rattle.sc_terms.specs.Joined.{any_of}
-use Rattle.sc_symeval.specs.Codes.{Code, code_of}
+use Rattle.sc_codes.specs.Code.{Code}
+use Rattle.sc_symeval.specs.Codes.{code_of}
 use Rattle.sc_symauth.specs.declared.typed.Typed.{Typed}
 
 -- the condition has a value, and it is true
@@ -36,17 +38,11 @@ any_error ps = any_of (map (λ (p : Compiled). error p.code) ps)
 
 -- ---- what policies are compiled to
 
--- a policy of this effect, where its condition is compiled
-abbrev pub with_effect : Effect → Option Code → Option Compiled
-with_effect effect o = option_map (λ (c : Code). record { effect = effect; code = c }) o
+abbrev pub with_effect : Effect → Code → Compiled
+with_effect effect c = record { effect = effect; code = c }
 
--- what all of a list are compiled to, where each is
-abbrev pub all_by : {X : Type 0} → (X → Option Compiled) → List X → Option (List Compiled)
-all_by f [] = Some []
-all_by f (x ∷ xs) = option_and_then (λ (c : Compiled). option_map (λ (cs : List Compiled). c ∷ cs) (all_by f xs)) (f x)
+abbrev pub compiled_typed : Declarations → Env → Typed → Compiled
+compiled_typed s env p = with_effect p.effect (code_of s env p.condition)
 
-abbrev pub compiled_typed : Typed → Option Compiled
-compiled_typed p = with_effect p.effect (code_of p.condition)
-
-abbrev pub all_compiled : List Typed → Option (List Compiled)
-all_compiled ps = all_by compiled_typed ps
+abbrev pub all_compiled : Declarations → Env → List Typed → List Compiled
+all_compiled s env ps = map (compiled_typed s env) ps

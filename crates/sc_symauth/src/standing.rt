@@ -1,9 +1,9 @@
 //! How one policy stands, as a term.
-ghost use Rattle.std.specs.Prelude.{IfOk, IfSome, IsSome};
+ghost use Rattle.std.specs.Prelude.{IfOk};
 ghost use Rattle.sc_terms.specs.Tables.{Keeps, StandsFor};
 ghost use Rattle.sc_symeval.specs.Codes.{code_of};
 ghost use Rattle.sc_symauth.specs.Standings.{satisfied, error};
-ghost use Rattle.sc_symauth.specs.Numbers.{IsCode, code_at};
+ghost use Rattle.sc_codes.specs.Numbers.{IsCode, code_at};
 
 use sc_schema::{Env, Schema};
 use sc_symeval::{Opt, compile};
@@ -12,8 +12,8 @@ use sc_typed::TypedExpr;
 use std::alloc::{AllocError, Global};
 
 /// Whether a condition has a value and is true. The condition is typed for an environment of the
-/// schema, and of the constructs that are compiled. Terms of the table keep their numbers, also where
-/// memory is wanted.
+/// schema. Terms of the table keep their numbers, also where memory is wanted.
+#[tactic(auto, using(sc_codes::proofs::NumbersLaws::in_table, crate::proofs::NumbersLaws::satisfied_of))]
 pub fn satisfied_term(
     alloc: Global,
     terms: &mut Terms,
@@ -21,16 +21,17 @@ pub fn satisfied_term(
     condition: &TypedExpr,
     env: &Env,
 ) -> Result<u64, AllocError>
-    requires { IsSome (code_of condition.now) }
-    ensures ok { IfOk result (λ n. IfSome (code_of condition.now) (λ c. StandsFor terms.new n (satisfied c))) }
+    ensures ok { IfOk result (λ n. StandsFor terms.new n (satisfied (code_of schema.now env.now condition.now))) }
     ensures kept { Keeps terms.old terms.new }
 {
     let code = compile(alloc, terms, schema, condition, env)?;
-    satisfied_by(terms, code)
+    let n = satisfied_by(terms, code)?;
+    Ok(n)
 }
 
-/// Whether a condition has no value. The condition is typed for an environment of the schema, and of
-/// the constructs that are compiled. Terms of the table keep their numbers, also where memory is wanted.
+/// Whether a condition has no value. The condition is typed for an environment of the schema.
+/// Terms of the table keep their numbers, also where memory is wanted.
+#[tactic(auto, using(sc_codes::proofs::NumbersLaws::in_table, crate::proofs::NumbersLaws::error_of))]
 pub fn error_term(
     alloc: Global,
     terms: &mut Terms,
@@ -38,12 +39,12 @@ pub fn error_term(
     condition: &TypedExpr,
     env: &Env,
 ) -> Result<u64, AllocError>
-    requires { IsSome (code_of condition.now) }
-    ensures ok { IfOk result (λ n. IfSome (code_of condition.now) (λ c. StandsFor terms.new n (error c))) }
+    ensures ok { IfOk result (λ n. StandsFor terms.new n (error (code_of schema.now env.now condition.now))) }
     ensures kept { Keeps terms.old terms.new }
 {
     let code = compile(alloc, terms, schema, condition, env)?;
-    error_by(terms, code)
+    let n = error_by(terms, code)?;
+    Ok(n)
 }
 
 /// Whether a condition that is compiled has a value and is true.

@@ -1,12 +1,3 @@
 pub mod CodeLaws
 pub mod StandLaws
-pub mod RuleLaws
-pub mod OtherLaws
-pub mod LeafLaws
-pub mod FieldLaws
-pub mod BooleanLaws
-pub mod AgreeLaws
-pub mod TellLaws
-pub mod PolicyLaws
-pub mod CompiledLaws
-pub mod ScopeLaws
+pub mod CollectionLaws

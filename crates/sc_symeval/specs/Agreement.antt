@@ -2,10 +2,13 @@
 use Rattle.std.specs.Prelude.{◌≡◌, true, false, Ok, Err}
 use Rattle.sc_eval.specs.Outcomes.{Outcome}
 use Rattle.sc_world.specs.declared.world.World.{World}
-use Rattle.sc_terms.specs.Values.{val, it, yes}
-use Rattle.sc_symeval.specs.Codes.{Code}
+use Rattle.sc_terms.specs.Values.{Val, val, it, yes}
+use Rattle.sc_codes.specs.Code.{Code}
 
 -- where there is a value, the first is true and the second is that value; where there is an error, the first is false
+abbrev pub Meets : Val → Val → Outcome → Type 0
+Meets ok t (Ok x) = (ok ≡ yes true) × (t ≡ it x)
+Meets ok t (Err e) = ok ≡ yes false
+
 abbrev pub Agrees : World → Code → Outcome → Type 0
-Agrees w c (Ok x) = (val c.ok w ≡ yes true) × (val c.val w ≡ it x)
-Agrees w c (Err e) = val c.ok w ≡ yes false
+Agrees w c o = Meets (val c.ok w) (val c.val w) o

@@ -1,4 +1,5 @@
 pub mod Codes
-pub mod Compiling
+pub mod Settings
 pub mod Parts
 pub mod Agreement
+pub mod Compiling

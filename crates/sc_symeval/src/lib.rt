@@ -1,10 +1,11 @@
-//! The compiler: an expression with types becomes two terms, which in every world tell whether it errs and what it comes to.
+//! The compiler: an expression with types becomes two terms, which in every well-formed world tell
+//! whether it errs and what it comes to.
 #![tactic(auto)]
 
+mod collections;
 mod compiling;
-mod laws;
-mod opt;
+mod leaves;
+mod operators;
 
-pub use compiling::compile;
-pub use laws::compile_laws;
-pub use opt::Opt;
+pub use compiling::{compile, compile_in};
+pub use sc_codes::{Opt, Setting, Variables, variables_of};

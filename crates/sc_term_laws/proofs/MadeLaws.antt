@@ -64,7 +64,7 @@ level_differs : (a b : Tree) → is_eq (tree_cmp a b) ≡ false → tree_eq a b 
 unfolding tree_eq
 level_differs a b h = h
 
-constant_sort : (a : Tree) (b : Bool) → constant a ≡ Some b → tree_sort a ≡ sort.Bool
+pub constant_sort : (a : Tree) (b : Bool) → constant a ≡ Some b → tree_sort a ≡ sort.Bool
 unfolding tree_sort
 constant_sort (leaf (leafs.Literal (literal.Bool c))) b h = refl
 constant_sort (leaf (leafs.Literal (literal.Long n))) b h = cc

@@ -32,7 +32,7 @@ use Rattle.sc_typing_laws.specs.Operations.{IsOperation, IsApplication}
 use Rattle.sc_typing_laws.proofs.OperationLaws.{operation_is, application_is}
 
 -- an outcome is what it is
-told : {A : Type 0} (o : Result A TypeFault) → IfOk o (λ x. o ≡ Ok x)
+pub told : {A : Type 0} (o : Result A TypeFault) → IfOk o (λ x. o ≡ Ok x)
 told (Ok x) = refl
 told (Err fault) = tt
 

@@ -49,13 +49,13 @@ true_True = by_kind is_true_in types.True open_ty.True rolls-True
 false_True : is_false types.True ≡ false
 false_True = by_kind is_false_in types.True open_ty.True rolls-True
 
-boolean_True : is_boolean types.True ≡ true
+pub boolean_True : is_boolean types.True ≡ true
 boolean_True = by_kind is_boolean_in types.True open_ty.True rolls-True
 
 false_False : is_false types.False ≡ true
 false_False = by_kind is_false_in types.False open_ty.False rolls-False
 
-boolean_False : is_boolean types.False ≡ true
+pub boolean_False : is_boolean types.False ≡ true
 boolean_False = by_kind is_boolean_in types.False open_ty.False rolls-False
 
 true_Bool : is_true types.Bool ≡ false
@@ -64,7 +64,7 @@ true_Bool = by_kind is_true_in types.Bool open_ty.Bool rolls-Bool
 false_Bool : is_false types.Bool ≡ false
 false_Bool = by_kind is_false_in types.Bool open_ty.Bool rolls-Bool
 
-boolean_Bool : is_boolean types.Bool ≡ true
+pub boolean_Bool : is_boolean types.Bool ≡ true
 boolean_Bool = by_kind is_boolean_in types.Bool open_ty.Bool rolls-Bool
 
 -- a truth value that may be true

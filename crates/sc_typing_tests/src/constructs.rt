@@ -1,10 +1,10 @@
-//! The construct of policies that no fragment admits, or none.
-use crate::samples::{at, policies, schema};
-use sc_constructs::{Construct, Found, Unsupported, first_unsupported};
+//! The construct of policies that isn't admitted, or none.
+use crate::samples::{at, policies, schema, schema_of};
+use sc_constructs::{Construct, Found, Kind, Unsupported, first_unsupported};
 use std::alloc::{AllocError, Global};
 use std::test::Fail;
 
-/// A policy that fragments admit, and one of which nothing is evaluated that they don't.
+/// A policy with admitted constructs alone, and one of which nothing else is evaluated.
 const ADMITTED: &str =
     "permit(principal, action == Action::\"view\", resource) when { context.mfa };
 permit(principal, action, resource) when { false && context.mfa == true };";
@@ -23,10 +23,43 @@ permit(principal, action, resource) when { context.mfa == true };";
 const EQUALITY: &str = "permit(principal, action, resource) when { context.mfa == true };
 permit(principal, action in [], resource) when { context.mfa };";
 
+/// Users view documents; the context has a truth value, and an attribute of a type.
+const ATTRIBUTE: &str =
+    r#"{"":{"entityTypes":{"User":{},"Doc":{}},"actions":{"view":{"appliesTo":{"principalTypes":["User"],"resourceTypes":["Doc"],"context":{"type":"Record","attributes":{"mfa":{"type":"Boolean"},"x":TYPE}}}}}}}"#;
+
+/// A policy with admitted constructs alone, where the type of the context is. The word `context` stands at
+/// byte 52.
+const NEGATED: &str = "permit(principal, action, resource) when { true && !context.mfa };";
+
+/// Types, and the first of the kinds that each holds and that isn't admitted.
+const KINDS: &[(&str, Kind)] = &[
+    (r#"{"type":"String"}"#, Kind::String),
+    (r#"{"type":"Entity","name":"User"}"#, Kind::Entity),
+    (r#"{"type":"Record","attributes":{}}"#, Kind::Record),
+    (
+        r#"{"type":"Record","attributes":{"s":{"type":"String"}}}"#,
+        Kind::String,
+    ),
+    (r#"{"type":"Boolean","required":false}"#, Kind::Optional),
+    (r#"{"type":"Long"}"#, Kind::Number),
+    (r#"{"type":"Extension","name":"decimal"}"#, Kind::Decimal),
+    (r#"{"type":"Extension","name":"ipaddr"}"#, Kind::Ip),
+    (r#"{"type":"Set","element":{"type":"Boolean"}}"#, Kind::Set),
+    (r#"{"type":"Set","element":{"type":"Long"}}"#, Kind::Number),
+];
+
 /// What is told of the policies of a file.
 fn told(alloc: Global, file: &str) -> Result<Option<Unsupported>, AllocError> {
     let schema = schema(alloc)?;
     let policies = policies(alloc, file)?;
+    first_unsupported(alloc, &schema, &policies)
+}
+
+/// What is told of the policy with admitted constructs, where an attribute of the context has a type.
+fn told_of_type(alloc: Global, ty: &str) -> Result<Option<Unsupported>, AllocError> {
+    let text = ATTRIBUTE.replace(alloc, "TYPE", ty)?;
+    let schema = schema_of(alloc, text.as_str())?;
+    let policies = policies(alloc, NEGATED)?;
     first_unsupported(alloc, &schema, &policies)
 }
 
@@ -48,6 +81,17 @@ fn constructs_that_are_told(rt: HostRuntime) -> Result<(), Fail> {
         let found = told(rt.alloc(), file)?;
         assert!(rt; found == expected(policy, offset, construct), "{file}");
     }
+    Ok(())
+}
+
+#[test]
+fn kinds_that_are_told(rt: HostRuntime) -> Result<(), Fail> {
+    for &(ty, kind) in KINDS {
+        let found = told_of_type(rt.alloc(), ty)?;
+        assert!(rt; found == expected(0, 52, Construct::Type(kind)), "{ty}");
+    }
+    let found = told_of_type(rt.alloc(), r#"{"type":"Boolean"}"#)?;
+    assert!(rt; found.is_none());
     Ok(())
 }
 

@@ -16,9 +16,13 @@ pub(crate) fn at(offset: u64) -> Place {
     Place { offset }
 }
 
-/// The schema. That its text isn't read counts as want of memory.
 pub(crate) fn schema(alloc: Global) -> Result<Schema, AllocError> {
-    match read_schema(alloc, SCHEMA.as_bytes()) {
+    schema_of(alloc, SCHEMA)
+}
+
+/// The schema of a text. That it isn't read counts as want of memory.
+pub(crate) fn schema_of(alloc: Global, text: &str) -> Result<Schema, AllocError> {
+    match read_schema(alloc, text.as_bytes()) {
         Ok(schema) => Ok(schema),
         Err(_) => Err(AllocError),
     }

@@ -60,7 +60,7 @@ has_shape_tested attributes fields a b first second =
 
 -- ---- records against types
 
-IsNoRecord : Ty-F Ty → Type 0
+unfoldable pub IsNoRecord : Ty-F Ty → Type 0
 IsNoRecord y = (attributes : List Attribute) → y ≡ t.Record attributes → ⊥
 
 -- no type but a record type has records

@@ -3,6 +3,7 @@ use Rattle.std.proofs.Common.{◌≡◌, ◌||◌, ℕ, List, [], ◌∷◌, map
 use Rattle.std.specs.List.{flat_map, list_any}
 use Rattle.std.specs.Str.{bytes_eq}
 use Rattle.std.proofs.lemmas.List.Folds.{flat_map-map}
+use Rattle.sc_world.proofs.ConformsLaws.{IsNoRecord}
 use Rattle.sc_names.specs.declared.uid.Uid.{Uid}
 use Rattle.sc_schema.specs.declared.declarations.Action.{Action}
 use Rattle.sc_schema.specs.declared.ty.Presence.{Presence}
@@ -36,9 +37,6 @@ fields_Record s type attributes is =
     ap (λ x. fields_in (out-Value (default_value s x))) is ∙ ap (λ x. fields_in (out-Value x)) (default_Record s attributes) ∙ ap fields_in (out_Record (required_fields s attributes))
 
 -- ---- other types have no fields
-
-IsNoRecord : Ty-F Ty → Type 0
-IsNoRecord y = (attributes : List Attribute) → y ≡ t.Record attributes → ⊥
 
 step_no_fields : (s : Declarations) (y : Ty-F Ty) → IsNoRecord y → fields_in (out-Value (default_step s (map-Ty Ty Value (default_value s) y))) ≡ []
 unfolding IsNoRecord

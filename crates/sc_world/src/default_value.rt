@@ -6,7 +6,7 @@ ghost use Rattle.sc_names.specs.declared.uid.Uid.{Uid as AnyUid};
 ghost use Rattle.sc_schema.specs.Declarations.{action_uids};
 ghost use Rattle.sc_schema.specs.declared.ty.Presence.{Presence as AnyPresence};
 ghost use Rattle.sc_schema.specs.declared.ty.Ty.{Ty as AnyTy};
-ghost use Rattle.sc_world.specs.Defaults.{default_uid, default_field, default_value, nameless};
+ghost use Rattle.sc_world.specs.Defaults.{default_uid, default_field, default_value};
 
 use sc_decimal::Decimal;
 use sc_ip::Ip;
@@ -82,7 +82,7 @@ pub(crate) fn default_uid(alloc: Global, s: &Schema, name: &Name) -> Result<Uid,
 {
     match first_action(s, name) {
         Some(action) => action.try_clone(alloc),
-        None => nameless(alloc, name),
+        None => Uid::nameless(alloc, name),
     }
 }
 
@@ -97,13 +97,4 @@ fn first_action<'s>(s: &'s Schema, name: &Name) -> Option<&'s Uid>
     } else {
         None
     }
-}
-
-fn nameless(alloc: Global, name: &Name) -> Result<Uid, AllocError>
-    ensures { IfOk result (λ u. u ≡ nameless name.now) }
-{
-    Ok(Uid {
-        type_name: name.try_clone(alloc)?,
-        id: Text::from_str(alloc, "")?,
-    })
 }

@@ -1,2 +1,9 @@
-pub mod TableLaws
-pub mod DefiningLaws
+mod InputLaws
+mod PlaceLaws
+mod ReadLaws
+mod LoopLaws
+mod ItemLaws
+mod WholeLaws
+mod NumberLaws
+mod CountLaws
+mod Examples

@@ -1,5 +1,7 @@
 pub mod Instances
-pub mod Connectives
+pub mod Items
+pub mod Places
+pub mod Numbers
 pub mod ClauseLaws
 pub mod DefinitionLaws
 pub mod Laws

@@ -1,13 +1,10 @@
 //! Defining clauses as the instances of a theory.
-ghost use Rattle.std.specs.Prelude.{◌≡◌, ◌-◌, ℕ, [], true, false, None, IfOk, IfSome, IsOk};
-ghost use Rattle.std.specs.List.{slice_index_or};
+ghost use Rattle.std.specs.Prelude.{◌≡◌, ◌↔◌, [], IfOk, IsOk, IsTrue};
 ghost use Rattle.std.specs.Str.{bytes_eq};
-ghost use Rattle.sc_clauses.specs.Assignments.{falsifies as falsified};
-ghost use Rattle.th_defs.specs.Instances.{number_in as number_of, is_before_last, is_definition, definition_clause};
+ghost use Rattle.th_defs.specs.Instances.{number_in as number_of, is_definition, definition_clause};
 
-use crate::counting::is_number;
-use crate::definitions::defining;
-use sc_clauses::{Assignment, Clause, Instance, Word, falsifies};
+use crate::numbers::{fill_number, first_falsified, is_number};
+use sc_clauses::{Assignment, Clause, Instance, Word};
 use sc_footprint::{Problem, Theory};
 use sc_lists::{Seq, Text};
 use std::alloc::{AllocError, Global};
@@ -34,21 +31,6 @@ fn is_empty(rule: &Text) -> bool
     rule.as_str().is_empty()
 }
 
-/// The number of the first clause before the last that an assignment falsifies.
-fn first_falsified(m: &Assignment, clauses: &[Clause]) -> Option<u64>
-    ensures listed { IfSome result (λ n. is_before_last clauses.now n ≡ true) }
-    ensures falsified { IfSome result (λ n. falsified m.now (slice_index_or clauses.now (n - 1) []) ≡ true) }
-    ensures none { result ≡ None → (n : ℕ) → is_before_last clauses.now n ≡ true
-        → falsified m.now (slice_index_or clauses.now (n - 1) []) ≡ false }
-{
-    for n in 1..clauses.len() {
-        if falsifies(m, &clauses[n - 1]) {
-            return Some(n as u64);
-        }
-    }
-    None
-}
-
 /// The instance of a defining clause's number.
 fn instance_of(alloc: Global, number: u64) -> Result<Instance, AllocError>
     ensures rule { IfOk result (λ i. i.rule ≡ []) }
@@ -61,9 +43,9 @@ fn instance_of(alloc: Global, number: u64) -> Result<Instance, AllocError>
 }
 
 impl Theory for Defs {
-    ghost use Rattle.th_defs.specs.Laws.{instance_sound, instance_lawful};
+    ghost use Rattle.th_defs.specs.Laws.{instance_sound, instance_lawful, instance_written};
 
-    ghost has_instance = { λ t. is_definition };
+    ghost has_instance = { λ t p i. IsTrue (is_definition p i) };
 
     ghost clause_of = { λ t. definition_clause };
 
@@ -73,7 +55,7 @@ impl Theory for Defs {
         problem: &Problem<'_>,
         instance: &Instance,
     ) -> Result<bool, AllocError>
-        ensures decides { IfOk result (λ b. b ≡ is_definition problem.now instance.now) }
+        ensures decides { IfOk result (λ b. IsTrue b ↔ IsTrue (is_definition problem.now instance.now)) }
         // It takes no memory.
         ensures always { IsOk result }
     {
@@ -91,8 +73,7 @@ impl Theory for Defs {
         problem: &Problem<'_>,
         m: &Assignment,
     ) -> Result<Option<Instance>, AllocError> {
-        let clauses = defining(alloc, problem)?;
-        match first_falsified(m, &clauses) {
+        match first_falsified(problem, m) {
             Some(number) => Ok(Some(instance_of(alloc, number)?)),
             None => Ok(None),
         }
@@ -104,13 +85,15 @@ impl Theory for Defs {
         problem: &Problem<'_>,
         instance: &Instance,
     ) -> Result<Clause, AllocError> {
-        let clauses = defining(alloc, problem)?;
         let number = number_in(instance.words.as_slice());
-        let clause = &clauses[(number - 1) as usize];
-        Ok(Seq::from_vec(Vec::from_slice(alloc, clause.as_slice())?))
+        let mut literals = Vec::new(alloc);
+        fill_number(problem, number, &mut literals)?;
+        Ok(Seq::from_vec(literals))
     }
 
     ghost sound = { λ t. instance_sound };
 
     ghost lawful = { λ t. instance_lawful };
+
+    ghost written = { λ t. instance_written };
 }

@@ -8,10 +8,14 @@ ghost use Rattle.sc_footprint.specs.Definitions.{defining};
 ghost use Rattle.sc_footprint.specs.Theories.{IsClauseOf};
 ghost use Rattle.sc_footprint.specs.Truths.{IsTrueIn, Satisfies};
 
-/// The defining clauses have literals of listed atoms, none with its negation, and in a well-formed world in which the goal is true
-/// each of them is true.
+use sc_footprint::problem_laws;
+
+/// The defining clauses have literals of listed atoms, none with its negation, and in a well-formed
+/// world in which the goal is true each of them is true.
 pub fn defining_laws()
     ensures lawful { (p : Posed) (c : AnyClause) → IsPosed p → Contains (defining p) c → IsClauseOf p c }
     ensures holds { (p : Posed) (w : AnyWorld) (c : AnyClause) → IsPosed p → Satisfies p w → Contains (defining p) c
         → IsTrueIn p w c }
-{}
+{
+    problem_laws();
+}

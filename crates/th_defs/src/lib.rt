@@ -1,11 +1,12 @@
 //! The defining clauses of a problem, and the theory whose instances they are.
 #![tactic(auto)]
 
-mod counting;
+mod clauses;
 mod definitions;
 mod defs;
+mod item;
 mod laws;
-mod table;
+mod numbers;
 
 pub use definitions::defining;
 pub use defs::Defs;

@@ -1,32 +1,30 @@
-use Rattle.std.proofs.Common.{◌≡◌}
-use Rattle.sc_checker.specs.Verdicts.{Rules, rules_at, verdict}
+use Rattle.sc_checker.specs.Verdicts.{Rules, rules_at}
 use Rattle.sc_checker.proofs.VerdictLaws.{accepted_at}
 use Rattle.sc_checker.proofs.RejectionLaws.{rejected_at}
-use Rattle.sc_checker.proofs.AcceptedLaws.{defining_listed, refuted_unsatisfiable}
+use Rattle.sc_checker.proofs.AcceptedLaws.{refuted_unsatisfiable}
+use Rattle.sc_checker.proofs.ProgressLaws.{verdict_is}
 use Rattle.sc_checker.proofs.checking.check.Goals as goal
 
-pub verdict_of-requires : goal.verdict_of-requires
-verdict_of-requires g c =
-    let p = c.args.problem.now in
-    rw c.in_ok-clauses.ensures (defining_listed p (λ d is. c.defining_laws.ensures.lawful p d c.laws.ensures is))
+pub returns-clause-exact : goal.returns-clause-exact
+returns-clause-exact g c =
+    let rules : Rules = rules_at g.T.Theory.has_instance g.T.Theory.clause_of c.args.rules.now c.args.problem.now in
+    verdict_is rules c.args.problem.now c.args.log.now c.steps.result.now _ _ c.verdict.result c.in_ok-checker.ensures.start c.steps.ensures.value c.in_ok-take_steps.ensures c.verdict.ensures
 
 pub returns-clause-accepted : goal.returns-clause-accepted
 returns-clause-accepted g c =
     let p = c.args.problem.now in
     let rules : Rules = rules_at g.T.Theory.has_instance g.T.Theory.clause_of c.args.rules.now p in
-    let is : c.in_ok-verdict.verdict ≡ verdict rules p c.args.log.now = rw (c.in_ok-clauses.ensures, c.steps.ensures.value) at c.in_ok-verdict.ensures in
-    accepted_at rules p c.args.log.now c.in_ok-verdict.verdict is
+    accepted_at rules p c.args.log.now c.verdict.result (verdict_is rules p c.args.log.now c.steps.result.now _ _ c.verdict.result c.in_ok-checker.ensures.start c.steps.ensures.value c.in_ok-take_steps.ensures c.verdict.ensures)
 
 pub returns-clause-rejected : goal.returns-clause-rejected
 returns-clause-rejected g c =
     let p = c.args.problem.now in
     let rules : Rules = rules_at g.T.Theory.has_instance g.T.Theory.clause_of c.args.rules.now p in
-    let is : c.in_ok-verdict.verdict ≡ verdict rules p c.args.log.now = rw (c.in_ok-clauses.ensures, c.steps.ensures.value) at c.in_ok-verdict.ensures in
-    rejected_at rules p c.args.log.now c.in_ok-verdict.verdict is
+    rejected_at rules p c.args.log.now c.verdict.result (verdict_is rules p c.args.log.now c.steps.result.now _ _ c.verdict.result c.in_ok-checker.ensures.start c.steps.ensures.value c.in_ok-take_steps.ensures c.verdict.ensures)
 
 pub returns-clause-sound : goal.returns-clause-sound
 returns-clause-sound g c =
     let p = c.args.problem.now in
     let rules : Rules = rules_at g.T.Theory.has_instance g.T.Theory.clause_of c.args.rules.now p in
-    let is : c.in_ok-verdict.verdict ≡ verdict rules p c.args.log.now = rw (c.in_ok-clauses.ensures, c.steps.ensures.value) at c.in_ok-verdict.ensures in
-    refuted_unsatisfiable rules p c.args.log.now c.in_ok-verdict.verdict (λ w d s h. c.defining_laws.ensures.holds p w d c.laws.ensures s h) (λ i w e formed. g.met.T.Theory.sound c.args.rules.now p i w c.laws.ensures e formed) is
+    refuted_unsatisfiable rules p c.args.log.now c.verdict.result (λ w d s h. c.defining_laws.ensures.holds p w d c.laws.ensures s h) (λ i w e formed. g.met.T.Theory.sound c.args.rules.now p i w c.laws.ensures e formed)
+    (verdict_is rules p c.args.log.now c.steps.result.now _ _ c.verdict.result c.in_ok-checker.ensures.start c.steps.ensures.value c.in_ok-take_steps.ensures c.verdict.ensures)

@@ -1,4 +1,4 @@
-use Rattle.std.proofs.Common.{◌≡◌, ◌&&◌, sym, ap, not, arith, get_or, length, false, true, ◌<◌}
+use Rattle.std.proofs.Common.{◌≡◌, ◌&&◌, sym, not, arith, get_or, length, false, true, ◌<◌}
 use Rattle.sc_clauses.specs.Clauses.{negation}
 use Rattle.sc_checker.specs.Known.{marked}
 use Rattle.sc_checker.specs.Refutations.{is_listed, with_lit}
@@ -9,8 +9,7 @@ pub returns-then-not-is_free-clause-clause : goal.returns-then-not-is_free-claus
 returns-then-not-is_free-clause-clause c =
     let known = marked c.loop-lit.known.step c.loop-lit.known.marks.items in
     let lit = get_or c.args.clause.now c.loop-lit.lit-index (record { atom = 0; negated = false }) in
-    let same : c.as_slice-lit-items.result.now ≡ c.args.clause.now = c.as_slice-lit-items.ensures in
-    let index : c.loop-lit.lit-index < length c.args.clause.now = omega (arith, ap length same) in
+    let index : c.loop-lit.lit-index < length c.args.clause.now = omega arith in
     let fails : is_listed (length c.args.known.now.marks.items) lit && not (known lit) ≡ false = cc in
     sym (clause_fails (length c.args.known.now.marks.items) known c.args.clause.now c.loop-lit.lit-index _ index c.loop-lit.invariant.known fails)
 
@@ -19,8 +18,7 @@ loop-lit-preserved c =
     let known = marked c.loop-lit.known.step c.loop-lit.known.marks.items in
     let next = marked c.insert.new.self.step c.insert.new.self.marks.items in
     let lit = get_or c.args.clause.now c.loop-lit.lit-index (record { atom = 0; negated = false }) in
-    let same : c.as_slice-lit-items.result.now ≡ c.args.clause.now = c.as_slice-lit-items.ensures in
-    let index : c.loop-lit.lit-index < length c.args.clause.now = omega (arith, ap length same) in
+    let index : c.loop-lit.lit-index < length c.args.clause.now = omega arith in
     let fits : is_listed (length c.args.known.now.marks.items) lit && not (known lit) ≡ true = cc in
     let more : next ≡ with_lit known (negation lit) = cc in
     record {

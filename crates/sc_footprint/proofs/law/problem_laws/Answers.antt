@@ -1,23 +1,32 @@
-use Rattle.std.proofs.Common.{ap}
-use Rattle.sc_footprint.specs.Closure.{of_goal}
-use Rattle.sc_footprint.specs.Problems.{is_bool_in, goal_term}
-use Rattle.sc_footprint.proofs.GoalLaws.{boolean_sort}
-use Rattle.sc_footprint.proofs.TruthLaws.{first_atom, atom_back, kind_is, bool_parts, value_is, listed, true_literal}
+use Rattle.sc_terms.proofs.OrderLaws.{tree_cmp_total, tree_cmp_level}
+use Rattle.sc_footprint.specs.Theories.{TermsHold}
+use Rattle.sc_footprint.proofs.OverLaws.{over_is_over}
 use Rattle.sc_footprint.proofs.PosingLaws.{same_closed}
+use Rattle.sc_footprint.proofs.ProblemLaws.{term_judged, goal_told, input_told, literal_listed, valued, literal_told}
+use Rattle.sc_footprint.proofs.TruthLaws.{first_atom, atom_back, closed_is}
 use Rattle.sc_footprint.proofs.law.problem_laws.Goals as goal
 
 pub returns : goal.returns
 returns c =
-    let total = c.order_laws.ensures.total in
-    let level = c.order_laws.ensures.level in
+    let laws : TermsHold = record {
+      closed = c.closed_laws.ensures.judged;
+      fit = c.terms_fit.ensures.value;
+      inputs = c.definition_laws.ensures.inputs;
+      defined = c.definition_laws.ensures.hold;
+      addresses = c.definition_laws.ensures.addresses;
+    } in
     record {
-      one = λ env goal ts us c d. same_closed total level env goal ts us c d;
-      first = λ p posed. first_atom total level p posed;
-      back = λ p t posed h k. atom_back total level p posed t h k;
-      kinds = λ p t posed h. kind_is total level p posed t h;
-      goal = λ p posed. ((posed.are_closed.just (goal_term p)).1 of_goal, ap is_bool_in (boolean_sort _ _ posed.boolean));
-      parts = λ p o a b posed h bool. bool_parts total level p posed o a b h bool;
-      valued = λ p t w posed h k world. value_is total level p posed w world t h k;
-      listed = λ p t posed h k. listed total level p posed t h k;
-      literals = λ p t w posed h k world. true_literal total level p posed w world t h k;
+      terms = laws;
+      one = λ d env goal ts us e f. same_closed tree_cmp_total tree_cmp_level d env goal ts us e f;
+      over = λ d env goal ts h e. over_is_over d env goal ts e h;
+      first = λ p posed. first_atom tree_cmp_total tree_cmp_level laws.closed p posed;
+      back = λ p t posed h k. atom_back tree_cmp_total tree_cmp_level laws.closed p posed t h k;
+      closed = λ p t posed h. closed_is tree_cmp_total tree_cmp_level laws.closed p posed t h;
+      listed_closed = λ p t posed h. (posed.are_closed.just t).1 h;
+      judged = λ p t posed h. term_judged laws p posed t h;
+      goal = λ p posed. goal_told laws p posed;
+      inputs = λ p x t posed h k i. input_told laws p posed x t h k i;
+      valued = λ p t w posed h k world. valued laws p posed w world t h k;
+      listed = λ p t posed h k. literal_listed laws p posed t h k;
+      literals = λ p t w posed h k world. literal_told laws p posed w world t h k;
     }

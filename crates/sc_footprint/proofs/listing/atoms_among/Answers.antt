@@ -1,6 +1,6 @@
 use Rattle.sc_terms.specs.Tables.{tree}
-use Rattle.sc_footprint.specs.Problems.{is_atom}
-use Rattle.sc_footprint.proofs.MemberLaws.{all_listed}
+use Rattle.sc_closure.specs.Atoms.{is_atom}
+use Rattle.sc_closure.proofs.PuttingLaws.{all_listed}
 use Rattle.sc_footprint.proofs.listing.atoms_among.Goals as goal
 
 pub returns : goal.returns

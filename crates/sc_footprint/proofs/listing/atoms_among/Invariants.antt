@@ -1,7 +1,6 @@
 use Rattle.std.proofs.Common.{◌≡◌, ◌<◌, [], length}
 use Rattle.std.specs.List.{AllByRecursion}
-use Rattle.sc_footprint.specs.Following.{put_new}
-use Rattle.sc_footprint.specs.Sorting.{atoms_of}
+use Rattle.sc_closure.specs.Following.{put_new, atoms_of}
 use Rattle.sc_footprint.proofs.listing.atoms_among.Given as goal
 
 abbrev pub invariant-loop-n : goal.invariant-loop-n

@@ -1,28 +1,29 @@
 use Rattle.std.proofs.Common.{ap}
 use Rattle.sc_outside.specs.Counts.{Rose}
-use Rattle.sc_inputs.specs.Readings.{RefusesAnalysis, RefusesScene}
+use Rattle.sc_inputs.specs.Readings.{RefusesAsking, RefusesScene}
 use Rattle.sc_inputs.specs.Refusals.{IsRefusal}
-use Rattle.sc_inputs.specs.Serving.{served_view, task_view}
-use Rattle.sc_inputs.proofs.ReadingLaws.{analysis_refused, scene_refused, fails_so}
+use Rattle.sc_inputs.specs.Serving.{aim_view, served_view, task_view}
+use Rattle.sc_inputs.proofs.ReadingLaws.{asking_refused, scene_refused, fails_so}
 use Rattle.sc_inputs.proofs.reading.with_schema.Goals as goal
 
 pub returns-in-Ok-clause-reads : goal.returns-in-Ok-clause-reads
-returns-in-Ok-clause-reads g c = record {
+returns-in-Ok-clause-reads g c = c.for_aim.ensures (g.F.Files.content c.args.files.now) (served_view c.args.command.now) c.args.schema (record {
   schema = c.in-Ok.ensures.schema;
   name = _;
-  task = cc (ap task_view c.in-Ask.is, c.in-Ok.ensures.question, c.in-Ok.ensures.budget);
+  task = cc (ap task_view c.in-Ask.is, c.in-Ok.ensures.question);
   policies_read = c.in-Ok.ensures.first;
   others_read = c.in-Ok.ensures.second;
   served = c.in-Ok.ensures.served;
-}
+  environment = c.in-Ok.ensures.environment;
+})
 
 pub returns-in-Err-clause-fails : goal.returns-in-Err-clause-fails
 returns-in-Err-clause-fails g c =
     λ words serves reads.
     let content = g.F.Files.content c.args.files.now in
-    let rose = Rose (g.F.Files.faults c.args.files.now) (g.F.Files.faults c.analysis_of.new.files) in
-    fails_so (RefusesAnalysis content c.args.command.now.policies.now _ rose c.args.schema) (IsRefusal content words rose)
-    (analysis_refused content words (served_view c.args.command.now) c.in-Ask.question _ c.in-Ask.budget rose c.args.schema (ap task_view c.in-Ask.is) serves reads) c.in-Err.fault c.in-Err.ensures.fails
+    let rose = Rose (g.F.Files.faults c.args.files.now) (g.F.Files.faults c.asking_of.new.files) in
+    fails_so (RefusesAsking content c.args.command.now.policies.now _ (aim_view c.in-Ask.aim) rose c.args.schema) (IsRefusal content words rose)
+    (asking_refused content words (served_view c.args.command.now) c.in-Ask.question _ (aim_view c.in-Ask.aim) rose c.args.schema (ap task_view c.in-Ask.is) serves reads) c.in-Err.fault c.in-Err.ensures.fails
 
 pub returns-in-Ok-scene_of-clause-reads : goal.returns-in-Ok-scene_of-clause-reads
 returns-in-Ok-scene_of-clause-reads g c = (c.in-Replay.world.now, ap task_view c.in-Replay.is, c.in-Ok-scene_of.ensures.reads)

@@ -1,6 +1,6 @@
 use Rattle.std.proofs.Common.{refl, rules, arith}
 use Rattle.sc_outside.specs.Counts.{Rose}
-use Rattle.sc_run.proofs.ReplayLaws.{first-none, lines-all, puts-stop}
+use Rattle.sc_reports.proofs.LineLaws.{first-none, lines-all, puts-stop}
 use Rattle.sc_run.proofs.replaying.put_lines.Goals as goal
 
 pub loop-line-init : goal.loop-line-init

@@ -1,6 +1,6 @@
 use Rattle.std.proofs.Common.{◌≡◌, take}
 use Rattle.sc_outside.specs.Writes.{appended}
-use Rattle.sc_run.specs.Replays.{text_of}
+use Rattle.sc_reports.specs.Lines.{text_of}
 use Rattle.sc_run.proofs.replaying.put_lines.Given as goal
 
 abbrev pub invariant-loop-line : goal.invariant-loop-line

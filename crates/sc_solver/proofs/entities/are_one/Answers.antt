@@ -1,7 +1,7 @@
 use Rattle.std.proofs.Common.{◌∙◌, ap, refl}
 use Rattle.sc_nodes.specs.declared.node.BinaryOp.TheVariants.{Equal}
 use Rattle.sc_terms.specs.Trees.{two}
-use Rattle.sc_footprint.specs.Closure.{principal_term, resource_term}
+use Rattle.sc_boolean_footprint.specs.Closure.{principal_term, resource_term}
 use Rattle.sc_solver.specs.Rebuilding.{truth_at}
 use Rattle.sc_solver.proofs.FoundLaws.{equation_found, equation_number}
 use Rattle.sc_solver.proofs.entities.are_one.Goals as goal

@@ -1,6 +1,6 @@
 use Rattle.std.proofs.Common.{◌∙◌, ◌≤◌, List, length, sym, subst, true≢false}
 use Rattle.sc_clauses.specs.declared.step.Step.{Step}
-use Rattle.sc_footprint.specs.Truths.{IsUnsatisfiable}
+use Rattle.sc_boolean_footprint.specs.Truths.{IsUnsatisfiable}
 use Rattle.sc_checker.specs.Verdicts.{IsAccepted}
 use Rattle.sc_solver.specs.Solutions.{rules_of}
 use Rattle.sc_solver.specs.Units.{IsSpent}

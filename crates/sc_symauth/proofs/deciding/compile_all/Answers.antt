@@ -1,13 +1,12 @@
-use Rattle.std.proofs.Common.{refl}
+use Rattle.sc_codes.proofs.NumbersLaws.{ready_later}
 use Rattle.sc_terms.proofs.TableLaws.{keeps_then}
-use Rattle.sc_symeval.specs.Codes.{code_of}
-use Rattle.sc_symauth.specs.Standings.{compiled_typed}
-use Rattle.sc_symauth.proofs.CompilingLaws.{more_so_far}
+use Rattle.sc_symauth.proofs.NumbersLaws.{compiled_more}
 use Rattle.sc_symauth.proofs.deciding.compile_all.Goals as goal
 
 pub loop-policy-preserved : goal.loop-policy-preserved
 loop-policy-preserved c = record {
+  ready = ready_later _ _ _ _ _ c.in_ok-code.ensures.kept c.loop-policy.invariant.ready;
   kept = keeps_then _ _ _ c.loop-policy.invariant.kept c.in_ok-code.ensures.kept;
-  so_far = more_so_far compiled_typed c.args.policies.now c.loop-policy.policy-index _ _ _ _ c.policy-item.result c.policy-item.result.effect (code_of c.policy-item.result.condition) c.in_ok-code.code
-      c.requires c.loop-policy-test.true c.policy-item.is refl c.loop-policy.invariant.so_far c.in_ok-code.ensures.kept c.in_ok-code.ensures.ok c.in_ok-push.ensures.ok;
+  made = compiled_more c.args.schema.now c.args.env.now _ _ c.args.policies.now c.loop-policy.policy-index c.policy-item.result _ _ c.in_ok-code.code
+      c.loop-policy-test.true c.policy-item.is c.in_ok-code.ensures.kept c.loop-policy.invariant.made c.in_ok-code.ensures.ok c.in_ok-push.ensures.ok;
 }

@@ -1,19 +1,21 @@
-use Rattle.std.proofs.Common.{◌≡◌, ◌+◌, ◌<◌, length, None, Some, option_map, sym, ap, ◌∙◌, arith}
-use Rattle.sc_terms.specs.Tables.{tree}
-use Rattle.sc_footprint.specs.Problems.{atoms, numbered, literal_in}
-use Rattle.sc_footprint.specs.Definitions.{definition}
-use Rattle.th_defs.proofs.DefiningLaws.{none_there, one_more}
+use Rattle.std.proofs.Common.{◌++◌, [], ◌∷◌, ◌∙◌, List, sym, ap}
+use Rattle.sc_clauses.specs.declared.lit.Lit.{Lit}
+use Rattle.sc_clauses.specs.Clauses.{Clause}
+use Rattle.th_defs.specs.Items.{kept_clauses}
+use Rattle.th_defs.proofs.WholeLaws.{all_items}
+use Rattle.th_defs.proofs.NumberLaws.{upto_start, upto_item, with_goal}
 use Rattle.th_defs.proofs.definitions.defining.Goals as goal
 
-pub unreachable-requires : goal.unreachable-requires
-unreachable-requires c =
-    let p = c.args.problem.now in
-    let within : c.loop-n.n < length (atoms p) = omega (arith, c.atom_count-n-end.ensures, c.loop-n-test.true) in
-    let none : None ≡ numbered (atoms p) (c.loop-n.n + 1) = ap (option_map (tree p.nodes)) (sym c.in_default.is) ∙ c.atom.ensures.value in
-    none_there (atoms p) c.loop-n.n within none
+pub loop-place-init : goal.loop-place-init
+loop-place-init c = c.new-clauses.ensures ∙ sym (upto_start c.args.problem.now)
 
-pub loop-n-preserved : goal.loop-n-preserved
-loop-n-preserved c =
-    let p = c.args.problem.now in
-    let at : Some (tree p.nodes c.in-Some.term) ≡ numbered (atoms p) (c.loop-n.n + 1) = ap (option_map (tree p.nodes)) (sym c.in-Some.is) ∙ c.atom.ensures.value in
-    rw c.in_ok-push_definition.ensures (one_more (definition (literal_in p)) (atoms p) c.loop-n.n (tree p.nodes c.in-Some.term) c.loop-n.clauses.items _ at c.loop-n.invariant)
+pub loop-place-preserved : goal.loop-place-preserved
+loop-place-preserved c =
+    c.in_ok-push_kept.ensures ∙ ap (λ (cs : List Clause). cs ++ kept_clauses c.args.problem.now c.item_at.result) c.loop-place.invariant
+    ∙ sym (upto_item c.args.problem.now _ _ c.item_at.ensures.is)
+
+pub returns : goal.returns
+returns c =
+    let whole = all_items c.problem_laws.ensures.terms _ c.laws.ensures in
+    with_goal c.args.problem.now whole _ _ c.item_count-place-end.ensures c.loop-place-test.false c.loop-place.auto.place-end _ _ c.loop-place.invariant
+    (c.in_ok-push.ensures.ok ∙ ap (λ (l : Lit). c.loop-place.clauses ++ (l ∷ []) ∷ []) c.goal_literal.ensures)

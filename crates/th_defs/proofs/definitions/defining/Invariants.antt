@@ -1,11 +1,6 @@
-use Rattle.std.proofs.Common.{◌≡◌, ◌++◌, drop}
-use Rattle.std.specs.List.{flat_map}
-use Rattle.sc_footprint.specs.Problems.{atoms, literal_in}
-use Rattle.sc_footprint.specs.Definitions.{definition}
+use Rattle.std.proofs.Common.{◌≡◌}
+use Rattle.th_defs.proofs.WholeLaws.{upto}
 use Rattle.th_defs.proofs.definitions.defining.Given as goal
 
--- the clauses so far and those of the atoms to come are those of all atoms
-abbrev pub invariant-loop-n : goal.invariant-loop-n
-invariant-loop-n l =
-    l.clauses.items ++ flat_map (definition (literal_in l.problem)) (drop l.n (atoms l.problem))
-    ≡ flat_map (definition (literal_in l.problem)) (atoms l.problem)
+abbrev pub invariant-loop-place : goal.invariant-loop-place
+invariant-loop-place l = l.clauses ≡ upto l.problem l.place

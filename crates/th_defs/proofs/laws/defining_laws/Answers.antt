@@ -1,8 +1,8 @@
-use Rattle.th_defs.specs.Laws.{clause_lawful, clause_true}
+use Rattle.th_defs.specs.Laws.{has_laws, clause_lawful, clause_true}
 use Rattle.th_defs.proofs.laws.defining_laws.Goals as goal
 
-pub returns-clause-lawful : goal.returns-clause-lawful
-returns-clause-lawful c = clause_lawful
-
-pub returns-clause-holds : goal.returns-clause-holds
-returns-clause-holds c = clause_true
+pub returns : goal.returns
+returns c = record {
+  lawful = λ p d posed h. clause_lawful p (has_laws c.problem_laws.ensures.terms p posed) d h;
+  holds = λ p w d posed s h. clause_true p (has_laws c.problem_laws.ensures.terms p posed) w d s h;
+}

@@ -1,0 +1,6 @@
+mod ActedLaws
+mod FreeLaws
+mod PlainLaws
+mod BooleanLaws
+mod PolicyLaws
+mod GoalLaws

@@ -1,0 +1,16 @@
+use Rattle.std.proofs.Common.{◌≡◌, length}
+use Rattle.sc_checker.specs.Progress.{IsChecked}
+use Rattle.sc_checker.specs.Streams.{after}
+use Rattle.sc_checker.specs.Verdicts.{rules_at}
+use Rattle.sc_checker.proofs.line_checker.LineChecker.read.Given as goal
+
+-- the rest leaves what the whole piece leaves
+abbrev pub invariant-loop-line : goal.invariant-loop-line
+invariant-loop-line g l = record {
+  checked : IsChecked l.problem l.self.progress;
+  rest : after (rules_at g.T.Theory.has_instance g.T.Theory.clause_of l.rules l.problem) l.self l.rest
+      ≡ after (rules_at g.T.Theory.has_instance g.T.Theory.clause_of l.rules l.problem) l.initial.self l.piece;
+}
+
+abbrev pub decreases-loop-line : goal.decreases-loop-line
+decreases-loop-line g l = length l.rest

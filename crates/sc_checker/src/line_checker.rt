@@ -1,0 +1,189 @@
+//! The checker of a log's lines, whose bytes come in pieces.
+ghost use Rattle.std.specs.Prelude.{◌≡◌, ◌++◌, ◌∷◌, ◌<◌, [], None, OnOk, IfOk, IsTrue, length};
+ghost use Rattle.std.specs.Str.{bytes_eq};
+ghost use Rattle.sc_checker.specs.LineSteps.{step_of};
+ghost use Rattle.sc_checker.specs.Progress.{IsChecked};
+ghost use Rattle.sc_checker.specs.Streams.{unread, first_words, after_reading, ended_line, line_number, after, ended};
+ghost use Rattle.sc_checker.specs.Texts.{has_no_newline};
+ghost use Rattle.sc_checker.specs.Verdicts.{Rules as AnyRules, rules_at};
+
+use crate::checking::{Reason, Verdict};
+use crate::lines::read_step;
+use crate::reading::cut_line;
+use crate::steps::StepChecker;
+use sc_boolean_footprint::{Problem, Theory};
+use std::alloc::{AllocError, Global};
+use std::marker::Model;
+use std::mem;
+
+/// Checks each line as it ends, and keeps the bytes of the line that isn't ended yet.
+#[derive(Drop)]
+pub(crate) struct LineChecker {
+    begun: bool,
+    line: Vec<u8>,
+    steps: StepChecker,
+}
+
+impl Model for LineChecker {
+    ghost use Rattle.sc_checker.specs.Streams.{Checking};
+
+    ghost Value = { Checking };
+
+    ghost view = { λ c. record { begun = c.begun; line = c.line.items; progress = c.steps } };
+}
+
+/// Whether a line is the first one of a log.
+fn is_first(line: &[u8]) -> bool
+    ensures { result ≡ bytes_eq line.now first_words }
+{
+    line == b"log 1".as_slice()
+}
+
+/// Takes the step of a line.
+fn take_line<T: Theory>(
+    steps: &mut StepChecker,
+    alloc: Global,
+    rules: &T,
+    problem: &Problem<'_>,
+    line: &[u8],
+) -> Result<(), AllocError>
+    requires checked { IsChecked problem.now steps.old }
+    requires going { steps.old.fault ≡ None }
+    ensures taken { OnOk result (steps.new ≡ after_reading
+        (rules_at T.has_instance T.clause_of rules.now problem.now) steps.old (step_of line.now)) }
+    ensures checked { OnOk result (IsChecked problem.now steps.new) }
+{
+    match read_step(alloc, line)? {
+        Some(step) => steps.take(alloc, rules, problem, &step),
+        None => {
+            steps.fail(steps.next_number(), Reason::Malformed);
+            Ok(())
+        }
+    }
+}
+
+impl LineChecker {
+    /// A checker of lines of a log on a problem, which has read nothing.
+    pub(crate) fn new(alloc: Global, problem: &Problem<'_>) -> Result<LineChecker, AllocError>
+        ensures unread { IfOk result (λ c. c ≡ unread problem.now) }
+        ensures checked { IfOk result (λ c. IsChecked problem.now c.progress) }
+    {
+        let steps = StepChecker::new(alloc, problem)?;
+        Ok(LineChecker {
+            begun: false,
+            line: Vec::new(alloc),
+            steps,
+        })
+    }
+
+    /// Takes a line: the first one, or that of a step.
+    fn take<T: Theory>(
+        &mut self,
+        alloc: Global,
+        rules: &T,
+        problem: &Problem<'_>,
+        line: &[u8],
+    ) -> Result<(), AllocError>
+        requires checked { IsChecked problem.now self.old.progress }
+        requires going { self.old.progress.fault ≡ None }
+        requires nothing { self.old.line ≡ [] }
+        ensures taken { OnOk result (self.new ≡ ended_line
+            (rules_at T.has_instance T.clause_of rules.now problem.now) self.old.begun line.now self.old.progress) }
+        ensures checked { OnOk result (IsChecked problem.now self.new.progress) }
+    {
+        if self.begun {
+            return take_line(&mut self.steps, alloc, rules, problem, line);
+        }
+        if is_first(line) {
+            self.begun = true;
+            return Ok(());
+        }
+        self.steps.fail(0, Reason::Malformed);
+        Ok(())
+    }
+
+    /// Reads the end of a line. A line that begins here isn't copied.
+    fn read_end<T: Theory>(
+        &mut self,
+        alloc: Global,
+        rules: &T,
+        problem: &Problem<'_>,
+        end: &[u8],
+    ) -> Result<(), AllocError>
+        requires checked { IsChecked problem.now self.old.progress }
+        requires end { IsTrue (has_no_newline end.now) }
+        ensures read { OnOk result (self.new ≡ after
+            (rules_at T.has_instance T.clause_of rules.now problem.now) self.old (end.now ++ 10 ∷ [])) }
+        ensures checked { OnOk result (IsChecked problem.now self.new.progress) }
+    {
+        if self.steps.is_at_fault() {
+            return Ok(());
+        }
+        if self.line.is_empty() {
+            return self.take(alloc, rules, problem, end);
+        }
+        self.line.extend_from_slice(end)?;
+        let line = mem::replace(&mut self.line, Vec::new(alloc));
+        self.take(alloc, rules, problem, line.as_slice())
+    }
+
+    /// Keeps bytes of a line that doesn't end with them.
+    fn keep(&mut self, bytes: &[u8]) -> Result<(), AllocError>
+        requires { IsTrue (has_no_newline bytes.now) }
+        ensures kept { OnOk result ((rules : AnyRules) → self.new ≡ after rules self.old bytes.now) }
+        ensures same { self.new.progress ≡ self.old.progress }
+    {
+        if self.steps.is_at_fault() {
+            return Ok(());
+        }
+        self.line.extend_from_slice(bytes)?;
+        Ok(())
+    }
+
+    /// Reads a piece of a log's text.
+    pub(crate) fn read<T: Theory>(
+        &mut self,
+        alloc: Global,
+        rules: &T,
+        problem: &Problem<'_>,
+        piece: &[u8],
+    ) -> Result<(), AllocError>
+        requires { IsChecked problem.now self.old.progress }
+        ensures read { OnOk result (self.new
+            ≡ after (rules_at T.has_instance T.clause_of rules.now problem.now) self.old piece.now) }
+        ensures checked { OnOk result (IsChecked problem.now self.new.progress) }
+    {
+        let mut rest = piece;
+        while let Some((line, later)) = cut_line(rest) {
+            self.read_end(alloc, rules, problem, line)?;
+            rest = later;
+        }
+        self.keep(rest)
+    }
+
+    /// The number of the line that isn't ended.
+    fn unended_number(&self) -> u64
+        requires { self.now.progress.steps < length self.now.progress.clauses }
+        ensures { result ≡ line_number self.now.begun self.now.progress }
+    {
+        if self.begun {
+            self.steps.next_number()
+        } else {
+            0
+        }
+    }
+
+    /// The verdict where the text ends here.
+    pub(crate) fn verdict(&self) -> Verdict
+        requires { self.now.progress.fault ≡ None → self.now.progress.steps < length self.now.progress.clauses }
+        ensures { result ≡ ended self.now }
+    {
+        if self.steps.is_at_fault() || self.line.is_empty() {
+            return self.steps.verdict();
+        }
+        Verdict::Rejected {
+            step: self.unended_number(),
+            reason: Reason::Malformed,
+        }
+    }
+}

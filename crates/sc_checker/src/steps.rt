@@ -1,0 +1,227 @@
+//! The checker of steps, one after another.
+ghost use Rattle.std.specs.Prelude.{◌≡◌, ◌&&◌, ◌++◌, ◌+◌, ◌<◌, ◌∷◌, [], None, OnOk, IfOk, IsTrue, length};
+ghost use Rattle.std.specs.Option.{is_some};
+ghost use Rattle.sc_lists.specs.Told.{Gives};
+ghost use Rattle.sc_checker.specs.Progress.{IsChecked, start, failed, counted, grown, taken, after_step, verdict_of};
+ghost use Rattle.sc_checker.specs.Refutations.{are_listed, is_clause, refutes, negated};
+ghost use Rattle.sc_checker.specs.Verdicts.{rules_at, of_instance, of_learned};
+
+use crate::checking::{Reason, Verdict};
+use crate::known::Known;
+use crate::refuting::{assume_false, follow};
+use sc_boolean_footprint::{Problem, Theory};
+use sc_clauses::{Clause, Clauses, Instance, Learned, Lit, Step};
+use sc_lists::Fault;
+use std::alloc::{AllocError, Global};
+use std::marker::Model;
+use th_boolean_defs::{defining, defining_laws};
+
+/// Takes one step after another, up to the first at fault. Contracts see what it holds of them.
+#[derive(Drop)]
+pub(crate) struct StepChecker {
+    known: Known,
+    steps: u64,
+    clauses: Clauses,
+    is_empty: bool,
+    fault: Option<(u64, Reason)>,
+}
+
+impl Model for StepChecker {
+    ghost use Rattle.std.specs.Prelude.{◌≤◌, length};
+    ghost use Rattle.sc_checker.specs.Progress.{Progress};
+
+    ghost Value = { Progress };
+
+    ghost view = { λ c. record { listed = length c.known.marks.items; steps = c.steps; clauses = c.clauses; is_empty = c.is_empty; fault = c.fault } };
+
+    ghost invariant = { λ c. c.known.step ≤ c.steps };
+}
+
+/// The clauses of a `Vec` in one array.
+fn clauses_of(alloc: Global, clauses: Vec<Clause>) -> Result<Clauses, AllocError>
+    ensures { IfOk result (λ c. c ≡ clauses.items) }
+{
+    let mut array = Clauses::new(alloc);
+    for clause in clauses.as_slice() {
+        array.push(clause.as_slice())?;
+    }
+    Ok(array)
+}
+
+/// The clause of an instance that the rules have.
+fn instance_clause<T: Theory>(
+    alloc: Global,
+    rules: &T,
+    problem: &Problem<'_>,
+    instance: &Instance,
+) -> Result<Clause, Fault<Reason>>
+    ensures { Gives result (of_instance (rules_at T.has_instance T.clause_of rules.now problem.now) instance.now) }
+{
+    if !rules.accepts(alloc, problem, instance)? {
+        return Err(Fault::Told(Reason::NoInstance));
+    }
+    Ok(rules.clause(alloc, problem, instance)?)
+}
+
+/// Whether a learned clause is shown by its hints.
+fn is_shown(known: &mut Known, number: u64, clauses: &Clauses, learned: &Learned) -> bool
+    requires later { known.old.step < number }
+    requires listed { IsTrue (are_listed (length known.old.marks.items) clauses.now) }
+    ensures shown { result ≡ is_clause (length known.old.marks.items) learned.now.clause
+        && refutes clauses.now (negated learned.now.clause) learned.now.hints }
+    ensures count { length known.new.marks.items ≡ length known.old.marks.items }
+    ensures number { known.new.step ≡ number }
+{
+    known.begin(number);
+    if !assume_false(known, learned.clause.as_slice()) {
+        return false;
+    }
+    follow(known, clauses, learned.hints.as_slice())
+}
+
+impl StepChecker {
+    /// A checker of steps on a problem, which has taken none. The marks that it needs are taken here.
+    pub(crate) fn new(alloc: Global, problem: &Problem<'_>) -> Result<StepChecker, AllocError>
+        ensures start { IfOk result (λ c. c ≡ start problem.now) }
+        ensures checked { IfOk result (IsChecked problem.now) }
+    {
+        defining_laws();
+        problem.laws();
+        let definitions = defining(alloc, problem)?;
+        let clauses = clauses_of(alloc, definitions)?;
+        let known = Known::new(alloc, problem.atom_count())?;
+        Ok(StepChecker {
+            known,
+            steps: 0,
+            clauses,
+            is_empty: false,
+            fault: None,
+        })
+    }
+
+    /// Whether a step was at fault.
+    pub(crate) fn is_at_fault(&self) -> bool
+        ensures { result ≡ is_some self.now.fault }
+    {
+        self.fault.is_some()
+    }
+
+    /// The number of the next step. There are more clauses than steps, so that it is in range.
+    pub(crate) fn next_number(&self) -> u64
+        requires { self.now.steps < length self.now.clauses }
+        ensures { result ≡ self.now.steps + 1 }
+    {
+        let _bound = self.clauses.len();
+        self.steps + 1
+    }
+
+    /// Puts the step of a number at fault.
+    pub(crate) fn fail(&mut self, number: u64, reason: Reason)
+        ensures { self.new ≡ failed number reason self.old }
+    {
+        self.fault = Some((number, reason));
+    }
+
+    /// Counts one step more.
+    fn count(&mut self)
+        requires { self.old.steps < length self.old.clauses }
+        ensures { self.new ≡ counted self.old }
+    {
+        self.steps = self.next_number();
+    }
+
+    /// Counts one step more, and tells whether its clause is shown by its hints.
+    fn shows(&mut self, learned: &Learned) -> bool
+        requires room { self.old.steps < length self.old.clauses }
+        requires listed { IsTrue (are_listed self.old.listed self.old.clauses) }
+        ensures counted { self.new ≡ counted self.old }
+        ensures shown { result ≡ is_clause self.old.listed learned.now.clause
+            && refutes self.old.clauses (negated learned.now.clause) learned.now.hints }
+    {
+        self.steps = self.next_number();
+        is_shown(&mut self.known, self.steps, &self.clauses, learned)
+    }
+
+    /// Adds the clause of the last step.
+    fn add(&mut self, clause: &[Lit]) -> Result<(), AllocError>
+        ensures { OnOk result (self.new ≡ grown clause.now self.old) }
+    {
+        self.clauses.push(clause)?;
+        self.is_empty = clause.is_empty();
+        Ok(())
+    }
+
+    /// Takes an instance.
+    fn take_instance<T: Theory>(
+        &mut self,
+        alloc: Global,
+        rules: &T,
+        problem: &Problem<'_>,
+        instance: &Instance,
+    ) -> Result<(), AllocError>
+        requires { self.old.steps < length self.old.clauses }
+        ensures { OnOk result (self.new ≡ taken (of_instance
+            (rules_at T.has_instance T.clause_of rules.now problem.now) instance.now) self.old) }
+    {
+        self.count();
+        match instance_clause(alloc, rules, problem, instance) {
+            Ok(clause) => self.add(clause.as_slice()),
+            Err(Fault::Told(reason)) => {
+                self.fail(self.steps, reason);
+                Ok(())
+            }
+            Err(Fault::NoMemory) => Err(AllocError),
+        }
+    }
+
+    /// Takes a learned clause.
+    fn take_learned(&mut self, learned: &Learned) -> Result<(), AllocError>
+        requires room { self.old.steps < length self.old.clauses }
+        requires listed { IsTrue (are_listed self.old.listed self.old.clauses) }
+        ensures { OnOk result (self.new ≡ taken (of_learned self.old.listed self.old.clauses learned.now) self.old) }
+    {
+        if self.shows(learned) {
+            return self.add(learned.clause.as_slice());
+        }
+        self.fail(self.steps, Reason::NotRefuted);
+        Ok(())
+    }
+
+    /// Takes a step, unless one was at fault.
+    pub(crate) fn take<T: Theory>(
+        &mut self,
+        alloc: Global,
+        rules: &T,
+        problem: &Problem<'_>,
+        step: &Step,
+    ) -> Result<(), AllocError>
+        requires { IsChecked problem.now self.old }
+        ensures taken { OnOk result (self.new
+            ≡ after_step (rules_at T.has_instance T.clause_of rules.now problem.now) self.old step.now) }
+        ensures checked { OnOk result (IsChecked problem.now self.new) }
+    {
+        // The clauses of the rules have literals of listed atoms, since this is a problem of a goal.
+        problem.laws();
+        if self.is_at_fault() {
+            return Ok(());
+        }
+        match step {
+            Step::Instance(instance) => self.take_instance(alloc, rules, problem, instance),
+            Step::Learned(learned) => self.take_learned(learned),
+        }
+    }
+
+    /// The verdict where no step follows.
+    pub(crate) fn verdict(&self) -> Verdict
+        ensures { result ≡ verdict_of self.now }
+    {
+        match self.fault {
+            Some((step, reason)) => Verdict::Rejected { step, reason },
+            None if self.is_empty => Verdict::Refuted,
+            None => Verdict::Rejected {
+                step: self.steps,
+                reason: Reason::NotEmpty,
+            },
+        }
+    }
+}

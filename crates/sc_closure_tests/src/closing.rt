@@ -1,0 +1,108 @@
+//! The closed terms of goals, and the sets of numbers that they are.
+ghost use Rattle.std.specs.Prelude.{◌<◌, [], Contains, length};
+ghost use Rattle.std.specs.List.{AllByRecursion};
+ghost use Rattle.sc_schema.specs.Declarations.{environments};
+
+use crate::goals::{Asked, goal_of, is_goal, schema};
+use indexmap::IndexSet;
+use sc_closure::{OverLimit, closed_terms, is_atom, number_at, place_in, put};
+use sc_lists::Fault;
+use sc_names::Lits;
+use sc_schema::{Env, Schema, context_of, environments};
+use sc_terms::Terms;
+use std::alloc::{AllocError, Global};
+use std::test::Fail;
+
+/// How many of these terms are atoms.
+fn atom_count(terms: &Terms, closed: &IndexSet<u64>) -> u64
+    requires { AllByRecursion (λ n. n < length terms.now) closed.now.keys }
+{
+    let mut count: u64 = 0;
+    let mut place = 0;
+    while let Some(n) = number_at(closed, place) {
+        if is_atom(terms, n) {
+            count = count.wrapping_add(1);
+        }
+        place += 1;
+    }
+    count
+}
+
+/// How many closed terms a goal has, how many of them are atoms, and in which place the goal is.
+fn closed_of(
+    alloc: Global,
+    schema: &Schema,
+    env: &Env,
+    asked: Asked,
+) -> Result<(usize, u64, u64), Fault<OverLimit>>
+    requires { Contains (environments schema.now) env.now }
+{
+    let Some(ty) = context_of(schema, &env.action) else {
+        return Err(Fault::NoMemory);
+    };
+    let mut terms = Terms::new(alloc)?;
+    let literals = Lits::new(alloc);
+    let goal = goal_of(alloc, &mut terms, schema, env, ty, asked)?;
+    if !is_goal(alloc, schema, env, &literals, &terms, goal)? {
+        return Err(Fault::NoMemory);
+    }
+    let closed = closed_terms(alloc, &mut terms, goal, schema, env, &literals)?;
+    let atoms = atom_count(&terms, &closed);
+    Ok((closed.len(), atoms, place_in(&closed, goal)))
+}
+
+/// The same in the one environment of the schema.
+fn found(alloc: Global, asked: Asked) -> Result<(usize, u64, u64), Fault<OverLimit>> {
+    let schema = schema(alloc)?;
+    let Some(env) = environments(&schema).get(0) else {
+        return Err(Fault::NoMemory);
+    };
+    closed_of(alloc, &schema, env, asked)
+}
+
+/// Whether a goal has so many closed terms, of which so many are atoms, and is met right after
+/// `true`.
+fn has(alloc: Global, asked: Asked, terms: usize, atoms: u64) -> bool {
+    match found(alloc, asked) {
+        Ok(closed) => closed == (terms, atoms, 2),
+        Err(_) => false,
+    }
+}
+
+/// Each goal brings in `true`, principal, resource and the context with its attributes, the
+/// equations of the two texts and of the two users, and for the number that may be absent whether it
+/// is there, its 64 bits with their negations, and whether it is 0.
+#[test]
+fn closed(rt: HostRuntime) -> Result<(), Fail> {
+    let alloc = rt.alloc();
+    assert!(rt; has(alloc, Asked::Flag, 146, 70));
+    // whether the other text matches the pattern
+    assert!(rt; has(alloc, Asked::Like, 148, 72));
+    // whether the other set holds the text
+    assert!(rt; has(alloc, Asked::Member, 148, 72));
+    // a member of the one set that the other lacks, whether it is in each, and whether it is each text
+    assert!(rt; has(alloc, Asked::Subset, 152, 75));
+    // whether the principal is above itself
+    assert!(rt; has(alloc, Asked::Above, 149, 72));
+    Ok(())
+}
+
+/// The numbers 7 and 3, the first of them put twice.
+fn two_numbers(alloc: Global) -> Result<IndexSet<u64>, AllocError> {
+    let mut numbers = IndexSet::new(alloc);
+    put(&mut numbers, 7)?;
+    put(&mut numbers, 3)?;
+    put(&mut numbers, 7)?;
+    Ok(numbers)
+}
+
+#[test]
+fn numbers(rt: HostRuntime) -> Result<(), Fail> {
+    let numbers = two_numbers(rt.alloc())?;
+    assert!(rt; place_in(&numbers, 7) == 1);
+    assert!(rt; place_in(&numbers, 3) == 2);
+    assert!(rt; place_in(&numbers, 5) == 0);
+    assert!(rt; number_at(&numbers, 1) == Some(3));
+    assert!(rt; number_at(&numbers, 2).is_none());
+    Ok(())
+}

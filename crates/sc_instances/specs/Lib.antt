@@ -1,0 +1,7 @@
+pub mod Clauses
+pub mod Attributes
+pub mod Names
+pub mod Instances
+pub mod Known
+pub mod Saying
+pub mod Lookups

@@ -1,0 +1,7 @@
+//! The law of posing: the goal of a question about declared policies is what the closure of problems
+//! asks of a goal.
+#![tactic(auto)]
+
+mod laws;
+
+pub use laws::posed_goals;

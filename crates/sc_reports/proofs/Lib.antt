@@ -1,0 +1,6 @@
+pub mod AnalysisLaws
+pub mod ClaimLaws
+pub mod LogReadingLaws
+pub mod LineLaws
+pub mod LogLaws
+pub mod ReportLaws

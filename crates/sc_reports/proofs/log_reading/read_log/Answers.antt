@@ -1,0 +1,23 @@
+use Rattle.std.proofs.Common.{rules, ◌≡◌, ℕ, List}
+use Rattle.sc_outside.proofs.CountLaws.{rose_before}
+use Rattle.sc_outside.specs.Counts.{Rose}
+use Rattle.sc_inputs.proofs.ReadingLaws.{result_fails}
+use Rattle.sc_inputs.specs.Refusals.{RefusesLog, log_limit, log_unread}
+use Rattle.sc_reports.proofs.LogReadingLaws.{log-fails}
+use Rattle.sc_reports.specs.LogReading.{RefusesPiece}
+use Rattle.sc_reports.proofs.log_reading.read_log.Goals as goal
+
+pub returns-in-Ok-clause-fails : goal.returns-in-Ok-clause-fails
+returns-in-Ok-clause-fails g c =
+    let faults = g.F.Files.faults in
+    let content = g.F.Files.content c.args.files.now in
+    let left = g.F.Files.left c.start.new.self in
+    let risen = Rose (faults c.start.new.self) (faults c.read_all.new.files) in
+    let rose = Rose (faults c.args.files.now) (faults c.read_all.new.files) in
+    result_fails (RefusesPiece left log_limit risen) (RefusesLog content c.args.name.now rose)
+    (log-fails content c.args.name.now left risen rose
+    (rose_before (faults c.args.files.now) (faults c.start.new.self) (faults c.read_all.new.files) c.in-Ok.ensures.counts.later) c.in-Ok.ensures.starts)
+    c.read_all.result c.read_all.ensures.fails
+
+pub returns-in-Err-Failed-clause-fails : goal.returns-in-Err-Failed-clause-fails
+returns-in-Err-Failed-clause-fails g c = log_unread (search rules)

@@ -1,0 +1,10 @@
+use Rattle.std.proofs.Common.{slice_get}
+use Rattle.sc_schema.specs.Declarations.{environments}
+use Rattle.sc_reports.specs.Analyses.{asked_in}
+use Rattle.sc_reports.proofs.LogLaws.{logged-named}
+use Rattle.sc_reports.proofs.logging.report_log.Goals as goal
+
+pub returns-in-Ok-analyse_env-clause-reports : goal.returns-in-Ok-analyse_env-clause-reports
+returns-in-Ok-analyse_env-clause-reports g c = λ env at.
+    logged-named (asked_in c.args.inputs.now.analysis) (slice_get (environments c.args.inputs.now.analysis.asking.schema) c.args.inputs.now.environment) c.environment_at-env.result.now env _ _ _ _ _
+    c.environment_at-env.ensures at c.report_found.ensures.reports

@@ -1,0 +1,4 @@
+pub mod TokenLaws
+pub mod ConstantLaws
+pub mod ExpressionLaws
+pub mod PolicyLaws

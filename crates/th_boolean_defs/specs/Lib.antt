@@ -1,0 +1,5 @@
+pub mod Instances
+pub mod Connectives
+pub mod ClauseLaws
+pub mod DefinitionLaws
+pub mod Laws

@@ -1,0 +1,116 @@
+//! Defining clauses as the instances of a theory.
+ghost use Rattle.std.specs.Prelude.{◌≡◌, ◌-◌, ℕ, [], true, false, None, IfOk, IfSome, IsOk};
+ghost use Rattle.std.specs.List.{slice_index_or};
+ghost use Rattle.std.specs.Str.{bytes_eq};
+ghost use Rattle.sc_clauses.specs.Assignments.{falsifies as falsified};
+ghost use Rattle.th_boolean_defs.specs.Instances.{number_in as number_of, is_before_last, is_definition, definition_clause};
+
+use crate::counting::is_number;
+use crate::definitions::defining;
+use sc_boolean_footprint::{Problem, Theory};
+use sc_clauses::{Assignment, Clause, Instance, Word, falsifies};
+use sc_lists::{Seq, Text};
+use std::alloc::{AllocError, Global};
+
+/// The theory of the defining clauses but the last, which is the goal's: they are true in every
+/// well-formed world. An instance is the number of such a clause, counted from 1, under the empty
+/// rule, so that no line of a log's text is one.
+#[derive(Drop)]
+pub struct Defs;
+
+/// The number that the words are, and 0 where they are none.
+fn number_in(words: &[Word]) -> u64
+    ensures { result ≡ number_of words.now }
+{
+    match words {
+        [Word::Number(n)] => *n,
+        _ => 0,
+    }
+}
+
+fn is_empty(rule: &Text) -> bool
+    ensures { result ≡ bytes_eq rule.now [] }
+{
+    rule.as_str().is_empty()
+}
+
+/// The number of the first clause before the last that an assignment falsifies.
+fn first_falsified(m: &Assignment, clauses: &[Clause]) -> Option<u64>
+    ensures listed { IfSome result (λ n. is_before_last clauses.now n ≡ true) }
+    ensures falsified { IfSome result (λ n. falsified m.now (slice_index_or clauses.now (n - 1) []) ≡ true) }
+    ensures none { result ≡ None → (n : ℕ) → is_before_last clauses.now n ≡ true
+        → falsified m.now (slice_index_or clauses.now (n - 1) []) ≡ false }
+{
+    for n in 1..clauses.len() {
+        if falsifies(m, &clauses[n - 1]) {
+            return Some(n as u64);
+        }
+    }
+    None
+}
+
+/// The instance of a defining clause's number.
+fn instance_of(alloc: Global, number: u64) -> Result<Instance, AllocError>
+    ensures rule { IfOk result (λ i. i.rule ≡ []) }
+    ensures number { IfOk result (λ i. number_of i.words ≡ number) }
+{
+    let rule = Text::from_str(alloc, "")?;
+    let mut words = Seq::new(alloc);
+    words.push(Word::Number(number))?;
+    Ok(Instance { rule, words })
+}
+
+impl Theory for Defs {
+    ghost use Rattle.th_boolean_defs.specs.Laws.{instance_sound, instance_lawful};
+
+    ghost has_instance = { λ t. is_definition };
+
+    ghost clause_of = { λ t. definition_clause };
+
+    fn accepts(
+        &self,
+        alloc: Global,
+        problem: &Problem<'_>,
+        instance: &Instance,
+    ) -> Result<bool, AllocError>
+        ensures decides { IfOk result (λ b. b ≡ is_definition problem.now instance.now) }
+        // It takes no memory.
+        ensures always { IsOk result }
+    {
+        let _ = alloc;
+        if !is_empty(&instance.rule) {
+            return Ok(false);
+        }
+        let number = number_in(instance.words.as_slice());
+        Ok(is_number(problem, number))
+    }
+
+    fn violated(
+        &self,
+        alloc: Global,
+        problem: &Problem<'_>,
+        m: &Assignment,
+    ) -> Result<Option<Instance>, AllocError> {
+        let clauses = defining(alloc, problem)?;
+        match first_falsified(m, &clauses) {
+            Some(number) => Ok(Some(instance_of(alloc, number)?)),
+            None => Ok(None),
+        }
+    }
+
+    fn clause(
+        &self,
+        alloc: Global,
+        problem: &Problem<'_>,
+        instance: &Instance,
+    ) -> Result<Clause, AllocError> {
+        let clauses = defining(alloc, problem)?;
+        let number = number_in(instance.words.as_slice());
+        let clause = &clauses[(number - 1) as usize];
+        Ok(Seq::from_vec(Vec::from_slice(alloc, clause.as_slice())?))
+    }
+
+    ghost sound = { λ t. instance_sound };
+
+    ghost lawful = { λ t. instance_lawful };
+}
