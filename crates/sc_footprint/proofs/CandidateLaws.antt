@@ -135,9 +135,6 @@ module _ (xs : List Node) (t : IsTable xs) where
 
   -- ---- all terms
 
-  pub candidates_start : (all : List ℕ) → AreCandidatesSoFar xs all all []
-  candidates_start all = record { done = []; are = refl; candidates_are = λ n h. no_candidate n }
-
   module _ (all : List ℕ) (n : ℕ) (rest candidates more : List ℕ) (x : Node) (so_far : AreCandidatesSoFar xs all (n ∷ rest) candidates) (e : tree xs n ≡ node_tree xs x) (parts : PartsAreBelow (length xs) x) (k : n < length xs)
       (is : more ≡ put_new candidates (node_candidates n x)) where
     abbrev tells : ℕ → Bool

@@ -1,8 +1,11 @@
 -- What goes with terms, listed one term after the other.
-use Rattle.std.proofs.Common.{◌≡◌, ℕ, zero, suc, ◌+◌, ◌-◌, ◌<◌, ◌≤◌, ◌==◌, Bool, false, cond, inl, inr, List, [], ◌∷◌, ◌++◌, take, drop, length, slice_get, Option, Some, None, option_map, option_and_then, IfSome, Contains, refl, sym, ap, ◌∙◌, subst, arith}
+use Rattle.std.proofs.Common.{◌≡◌, ℕ, zero, suc, ◌+◌, ◌-◌, ◌<◌, ◌≤◌, ◌==◌, Bool, false, cond, List, [], ◌∷◌, ◌++◌, take, drop, length, slice_get, Option, Some, None, option_map, option_and_then, IfSome, Contains, refl, sym, ap, ◌∙◌, subst, arith}
 use Rattle.std.proofs.Common.{append-nil, append_assoc, length-append}
+use Rattle.std.proofs.Math.Seq.{drop-append_seam}
+use Rattle.std.proofs.lemmas.List.{drop-append-le, length-drop, take-append-le}
 use Rattle.std.proofs.lemmas.Option.{slice_get-map}
 use Rattle.std.specs.List.{AllByRecursion, AllZip}
+use Rattle.sc_lists.proofs.ListLaws.{contains_place}
 use Rattle.sc_lists.proofs.MemberLaws.{Has-map, map-Has, Has-from_Contains, Contains-from_Has}
 use Rattle.sc_lists.proofs.OptionLaws.{same_some}
 use Rattle.sc_lists.specs.Members.{Has}
@@ -43,36 +46,17 @@ zip_length R (a ∷ xs) (b ∷ ys) h = ap suc (zip_length R xs ys h.1)
 
 -- ---- parts of lists
 
-take_left : (i : ℕ) (ns ms : List ℕ) → i ≤ length ns → take i (ns ++ ms) ≡ take i ns
-take_left zero ns ms h = refl
-take_left (suc i) [] ms h = absurd (omega (arith, h))
-take_left (suc i) (n ∷ ns) ms h = ap (λ (l : List ℕ). n ∷ l) (take_left i ns ms (omega (arith, h)))
-
-drop_left : (i : ℕ) (ns ms : List ℕ) → i ≤ length ns → drop i (ns ++ ms) ≡ drop i ns ++ ms
-drop_left zero ns ms h = refl
-drop_left (suc i) [] ms h = absurd (omega (arith, h))
-drop_left (suc i) (n ∷ ns) ms h = drop_left i ns ms (omega (arith, h))
-
-drop_length : (i : ℕ) (ns : List ℕ) → i ≤ length ns → length (drop i ns) ≡ length ns - i
-drop_length zero ns h = omega arith
-drop_length (suc i) [] h = absurd (omega (arith, h))
-drop_length (suc i) (n ∷ ns) h = let e = drop_length i ns (omega (arith, h)) in omega (arith, e)
-
-take_all : (i : ℕ) (ns : List ℕ) → length ns ≤ i → take i ns ≡ ns
+pub take_all : {X : Type 0} (i : ℕ) (xs : List X) → length xs ≤ i → take i xs ≡ xs
 take_all zero [] h = refl
-take_all zero (n ∷ ns) h = absurd (omega (arith, h))
+take_all zero (x ∷ xs) h = absurd (omega (arith, h))
 take_all (suc i) [] h = refl
-take_all (suc i) (n ∷ ns) h = ap (λ (l : List ℕ). n ∷ l) (take_all i ns (omega (arith, h)))
-
-drop_all : (ns ms : List ℕ) → drop (length ns) (ns ++ ms) ≡ ms
-drop_all [] ms = refl
-drop_all (n ∷ ns) ms = drop_all ns ms
+take_all {X} (suc i) (x ∷ xs) h = ap (λ (ys : List X). x ∷ ys) (take_all i xs (omega (arith, h)))
 
 -- what stands between two places stays where more is put behind
 between_stays : (s : Span) (ns ms : List ℕ) → s.from ≤ s.until → s.until ≤ length ns → between (ns ++ ms) s ≡ between ns s
 between_stays s ns ms h k =
-    ap (take (s.until - s.from)) (drop_left s.from ns ms (omega (arith, h, k)))
-    ∙ take_left (s.until - s.from) (drop s.from ns) ms (let e = drop_length s.from ns (omega (arith, h, k)) in omega (arith, h, k, e))
+    ap (take (s.until - s.from)) (drop-append-le s.from ns ms (omega (arith, h, k)))
+    ∙ take-append-le (s.until - s.from) (drop s.from ns) ms (let e = length-drop s.from ns in omega (arith, h, k, e))
 
 within_between : (l i j : ℕ) (ns : List ℕ) → AllByRecursion (λ n. n < l) ns → AllByRecursion (λ n. n < l) (take i (drop j ns))
 within_between l zero j ns h = tt
@@ -126,7 +110,7 @@ module _ (d : Declarations) where
     there =
         ap (λ (l : List ℕ). take (s.until - s.from) (drop s.from l)) put.is
         ∙ ap (λ (k : ℕ). take (s.until - k) (drop k (ns ++ put.more))) from_is
-        ∙ ap (take (s.until - length ns)) (drop_all ns put.more)
+        ∙ ap (take (s.until - length ns)) (drop-append_seam ns put.more)
         ∙ take_all (s.until - length ns) put.more (let l = long in omega (arith, l, until_is))
 
     here : IsSpanOf d later ms n s
@@ -184,9 +168,7 @@ read_within l (n ∷ ns) zero h = h.0
 read_within l (n ∷ ns) (suc i) h = read_within l ns i h.1
 
 read_has : {X : Type 0} (xs : List X) (i : ℕ) (x : X) → slice_get xs i ≡ Some x → Has xs x
-read_has [] i x h = absurd cc
-read_has (y ∷ ys) zero x h = inl (same_some h)
-read_has (y ∷ ys) (suc i) x h = inr (read_has ys i x h)
+read_has xs i x h = Has-from_Contains xs x (contains_place xs i x h)
 
 module _ (p : Posed) (atom_terms : List ℕ) (spans : List Span) (companions : List ℕ) (ss : List Shelf) (kept : IsKept p atom_terms spans companions ss) (n i : ℕ) (some : (n == 0) ≡ false) where
   term_read : (o : Option ℕ) → slice_get p.closed (n - 1) ≡ o → term_of p n ≡ option_map (tree p.nodes) o

@@ -1,10 +1,8 @@
 -- The numbers of atoms, and the literals of closed terms.
-use Rattle.std.proofs.Common.{◌≡◌, ◌↔◌, ℕ, zero, suc, ◌+◌, ◌-◌, ◌<◌, ◌≤◌, ◌==◌, Bool, true, false, cond, inl, inr, List, [], ◌∷◌, map, filter, length, slice_get, Some, None, option_map, refl, sym, ap, subst, ◌∙◌, arith}
+use Rattle.std.proofs.Common.{◌≡◌, ◌↔◌, ℕ, zero, suc, ◌+◌, ◌-◌, ◌<◌, ◌≤◌, ◌==◌, Bool, true, false, cond, inl, inr, List, [], ◌∷◌, map, filter, length, slice_get, Some, None, option_map, refl, sym, ap, ◌∙◌, arith}
 use Rattle.std.proofs.lemmas.Bool.Decides.{nat_tests}
 use Rattle.std.proofs.lemmas.Cmp.{tied_itself}
 use Rattle.std.proofs.lemmas.Option.{slice_get-map}
-use Rattle.std.specs.List.{AllByRecursion}
-use Rattle.sc_lists.proofs.OptionLaws.{same_some}
 use Rattle.std.proofs.lemmas.List.Kept.{IsStrictlySortedBy-filter}
 use Rattle.std.specs.Cmp.{IsTotalOrder}
 use Rattle.std.specs.List.Sorted.{IsStrictlySortedBy}
@@ -40,18 +38,6 @@ numbered_map {X} {Y} f xs n = by (n == 0)
     by : (b : Bool) → option_map f (cond b None (slice_get xs (n - 1))) ≡ cond b None (slice_get (map f xs) (n - 1))
     by true = refl
     by false = sym (slice_get-map f xs (n - 1))
-
-pub numbered_within : (l : ℕ) (ns : List ℕ) (n t : ℕ) → AllByRecursion (λ m. m < l) ns → numbered ns n ≡ Some t → t < l
-numbered_within l ns n t h = by (n == 0)
-  where
-    read : (ms : List ℕ) (i : ℕ) → AllByRecursion (λ m. m < l) ms → slice_get ms i ≡ Some t → t < l
-    read [] i w e = absurd cc
-    read (m ∷ ms) zero w e = subst (λ (k : ℕ). k < l) (same_some e) w.0
-    read (m ∷ ms) (suc i) w e = read ms i w.1 e
-
-    by : (b : Bool) → cond b None (slice_get ns (n - 1)) ≡ Some t → t < l
-    by true e = absurd cc
-    by false e = read ns (n - 1) h e
 
 further : (x : Tree) (xs : List Tree) (k : ℕ) (t : Tree) → numbered xs k ≡ Some t → numbered (x ∷ xs) (one_more k) ≡ Some t
 further x xs zero t h = cc

@@ -19,6 +19,7 @@ use Rattle.sc_terms.specs.TreeSorts.{tree_sort}
 use Rattle.sc_definitions.specs.Making.{stood}
 use Rattle.sc_closure_rules.specs.Closure.{one_sort}
 use Rattle.sc_closure.specs.Places.{place_among}
+use Rattle.sc_footprint.proofs.CompanionLaws.{take_all}
 use Rattle.sc_footprint.specs.declared.kind.Kind.{Kind}
 use Rattle.sc_footprint.specs.declared.kind.Kind.TheVariants as kind
 use Rattle.sc_footprint.specs.declared.shelves.Shelf.{Shelf}
@@ -33,12 +34,6 @@ split_at : {X : Type 0} (xs : List X) (i : ℕ) (x : X) → i < length xs → x 
 split_at [] i x h is = absurd (omega (arith, h))
 split_at {X} (y ∷ ys) zero x h is = ap (λ (z : X). z ∷ ys) (sym is)
 split_at {X} (y ∷ ys) (suc i) x h is = let e : suc i + 1 ≡ suc (i + 1) = omega arith in rw e (ap (λ (zs : List X). y ∷ zs) (split_at ys i x (omega (arith, h)) is))
-
-past_end : {X : Type 0} (xs : List X) (i : ℕ) → length xs ≤ i → take i xs ≡ xs
-past_end [] zero h = refl
-past_end [] (suc i) h = refl
-past_end (x ∷ xs) zero h = absurd (omega (arith, h))
-past_end {X} (x ∷ xs) (suc i) h = ap (λ (zs : List X). x ∷ zs) (past_end xs i (omega (arith, h)))
 
 -- ---- the first place whose element passes a test
 
@@ -60,9 +55,6 @@ first_is test (x ∷ ss) = by (test x) refl (first_is test ss)
 
 same_place : (m n : ℕ) → (m == n) ≡ true → m ≡ n
 same_place m n h = grind (arith, nat_tests)
-
-place_same : (m n : ℕ) → m ≡ n → (m == n) ≡ true
-place_same m n h = grind (arith, nat_tests)
 
 -- that `==` of sorts finds them equal just where they are one comes from below
 module _ (sort_is : (k l : Sort) → sorts.eq k l ≡ true ↔ k ≡ l) (xs : List Node) where
@@ -184,7 +176,7 @@ module _ (sort_is : (k l : Sort) → sorts.eq k l ≡ true ↔ k ≡ l) (xs : Li
         → AreWithin xs ss → key < length xs → n < length xs → IsAdded xs ss ts n (is_like xs k key)
     added_last ss ts i t place past kinds keys terms is w below h =
         let first : IsFirst (is_shelf xs k key) ss i = subst (IsFirst (is_shelf xs k key) ss) (sym place) (first_is (is_shelf xs k key) ss) in
-        let none : list_any (is_shelf xs k key) ss ≡ false = subst (λ (us : List Shelf). list_any (is_shelf xs k key) us ≡ false) (past_end ss i past) first.before in
+        let none : list_any (is_shelf xs k key) ss ≡ false = subst (λ (us : List Shelf). list_any (is_shelf xs k key) us ≡ false) (take_all i ss past) first.before in
         record {
           within = subst (AreWithin xs) (sym is) (within_last ss t w keys below terms h);
           each = λ l m inside. ap (λ (us : List Shelf). terms_at xs us l m) is ∙ taken_last l m t ss none kinds keys terms;
@@ -225,14 +217,6 @@ module _ (xs : List Node) where
       by : (b : Bool) → cond b (n ∷ []) [] ≡ if_so b n
       by true = refl
       by false = refl
-
-  pub shelving_start : (all : List ℕ) → AreShelving xs all all []
-  shelving_start all = record {
-    within = record { keys_in = tt; terms_in = tt };
-    done = [];
-    are = refl;
-    each = λ k m h. refl;
-  }
 
   -- on which shelves a term is put, of all three calls
   module _ (all candidates : List ℕ) (n : ℕ) (is : not (place_among candidates n == 0) ≡ is_candidate (stood xs all) (tree xs n)) where

@@ -61,10 +61,6 @@ bool_level _ h = cc
 pub bool_sort : (t : Tree) → is_bool t ≡ true → tree_sort t ≡ sort.Bool
 bool_sort t h = sym (roll-out-Sort (tree_sort t)) ∙ ap roll-Sort (bool_level (out-Sort (tree_sort t)) h) ∙ rolls-Bool
 
--- what is a truth value has its own truth
-valued_as : (x : Val) (b : Bool) → x ≡ yes b → x ≡ yes (truth x)
-valued_as x b e = e ∙ ap yes (sym (truth_yes b)) ∙ ap (λ (y : Val). yes (truth y)) (sym e)
-
 not_truth : (x : Val) (b : Bool) → x ≡ yes b → truth (not_value x) ≡ not (truth x)
 unfolding not_value
 not_truth x b e = rw (e, seen_yes b, truth_yes b) (truth_yes (not b))

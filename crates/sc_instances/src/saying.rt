@@ -16,7 +16,8 @@ use sc_clauses::{Assignment, Clause, Lit, is_false, is_same, negation};
 use sc_lists::Seq;
 use std::alloc::{AllocError, Global};
 
-/// Signed terms of a problem, given by their literals.
+/// Signed terms of a problem, given by their literals. They may be one more than a list holds, so
+/// that they are counted in 128 bits.
 pub trait Saying {
     /// The problem.
     ghost posed: { Self → Posed };
@@ -25,11 +26,11 @@ pub trait Saying {
     ghost said: { Self → Said };
 
     /// How many there are. None exactly where there are none to be told of.
-    fn count(&self) -> Option<u64>
+    fn count(&self) -> Option<u128>
         ensures { result ≡ count_of (said self.now) };
 
     /// The literal at a place, counted from 0.
-    fn literal(&self, place: u64) -> Lit
+    fn literal(&self, place: u128) -> Lit
         requires { IsSomeAnd (count_of (said self.now)) (λ n. place < n) }
         ensures { result ≡ literal_of (posed self.now) (said self.now) place };
 }
@@ -43,7 +44,7 @@ fn is_asked(lit: Lit) -> bool
 
 /// The literal at a place.
 #[tactic(auto, using(crate::proofs::SayingLaws::said_place))]
-fn literal_at<S: Saying>(saying: &S, place: u64) -> Lit
+fn literal_at<S: Saying>(saying: &S, place: u128) -> Lit
     requires { place < length (said_clause (S.posed saying.now) (S.said saying.now)) }
     ensures { result ≡ get_or (said_clause (S.posed saying.now) (S.said saying.now)) place (positive 0) }
 {
@@ -51,7 +52,7 @@ fn literal_at<S: Saying>(saying: &S, place: u64) -> Lit
 }
 
 /// Whether a literal is one of them.
-fn is_among<S: Saying>(saying: &S, count: u64, lit: Lit) -> bool
+fn is_among<S: Saying>(saying: &S, count: u128, lit: Lit) -> bool
     requires { count ≡ length (said_clause (S.posed saying.now) (S.said saying.now)) }
     ensures { result ≡ among (said_clause (S.posed saying.now) (S.said saying.now)) lit }
 {
@@ -64,7 +65,7 @@ fn is_among<S: Saying>(saying: &S, count: u64, lit: Lit) -> bool
 }
 
 /// Whether each literal is of a listed atom, and isn't `true`.
-fn is_each_asked<S: Saying>(saying: &S, count: u64) -> bool
+fn is_each_asked<S: Saying>(saying: &S, count: u128) -> bool
     requires { count ≡ length (said_clause (S.posed saying.now) (S.said saying.now)) }
     ensures { result ≡ list_all asked (said_clause (S.posed saying.now) (S.said saying.now)) }
 {
@@ -77,7 +78,7 @@ fn is_each_asked<S: Saying>(saying: &S, count: u64) -> bool
 }
 
 /// Whether some literal stands with its negation.
-fn is_opposed<S: Saying>(saying: &S, count: u64) -> bool
+fn is_opposed<S: Saying>(saying: &S, count: u128) -> bool
     requires { count ≡ length (said_clause (S.posed saying.now) (S.said saying.now)) }
     ensures { result ≡ tautology (said_clause (S.posed saying.now) (S.said saying.now)) }
 {
@@ -102,7 +103,7 @@ pub fn is_instance<S: Saying>(saying: &S) -> bool
 }
 
 /// Puts the literals after each other.
-fn put_literals<S: Saying>(saying: &S, count: u64, clause: &mut Clause) -> Result<(), AllocError>
+fn put_literals<S: Saying>(saying: &S, count: u128, clause: &mut Clause) -> Result<(), AllocError>
     requires count { count ≡ length (said_clause (S.posed saying.now) (S.said saying.now)) }
     requires empty { clause.old ≡ [] }
     ensures { OnOk result (clause.new ≡ said_clause (S.posed saying.now) (S.said saying.now)) }
@@ -136,7 +137,7 @@ fn is_broken(m: &Assignment, lit: Lit) -> bool
 }
 
 /// Whether each literal is so.
-fn is_each_broken<S: Saying>(saying: &S, count: u64, m: &Assignment) -> bool
+fn is_each_broken<S: Saying>(saying: &S, count: u128, m: &Assignment) -> bool
     requires { count ≡ length (said_clause (S.posed saying.now) (S.said saying.now)) }
     ensures { result ≡ broken m.now (said_clause (S.posed saying.now) (S.said saying.now)) }
 {

@@ -1,5 +1,5 @@
--- How many defining clauses there are: a number of 64 bits counts them.
-use Rattle.std.proofs.Common.{◌≡◌, ◌≤◌, ◌<◌, ◌+◌, ◌*◌, ◌^◌, ℕ, zero, suc, Bool, true, false, List, [], ◌∷◌, map, filter, flat_map, length, refl, sym, ap, ◌∙◌, subst, arith, length-append}
+-- How many defining clauses there are: fewer than 2 ^ 32.
+use Rattle.std.proofs.Common.{◌≡◌, ◌≤◌, ◌<◌, ◌+◌, ◌-◌, ◌*◌, ◌^◌, ℕ, zero, suc, Bool, true, false, List, [], ◌∷◌, map, filter, flat_map, length, refl, sym, ap, ◌∙◌, subst, arith, length-append}
 use Rattle.std.proofs.lemmas.List.{length-map}
 use Rattle.std.proofs.lemmas.List.Kept.{IsStrictlySortedBy-filter}
 use Rattle.std.specs.List.{AllByRecursion, IsDistinct}
@@ -23,12 +23,12 @@ use Rattle.sc_closure.specs.Atoms.{is_atom}
 use Rattle.sc_footprint.proofs.NumberingLaws.{Has-filter}
 use Rattle.sc_footprint.proofs.OverLaws.{no_more}
 use Rattle.sc_footprint.proofs.TruthLaws.{atom_is}
-use Rattle.sc_footprint.specs.Definitions.{clauses_by, turned, definition_clauses, address_clauses, is_address}
-use Rattle.sc_footprint.specs.Problems.{Posed, IsPosed, closed_terms, atoms, literal_in}
+use Rattle.sc_footprint.specs.Definitions.{clauses_by, turned, definition_clauses, address_clauses, is_address, defining}
+use Rattle.sc_footprint.specs.Problems.{Posed, IsPosed, closed_terms, atoms, goal_literal, literal_in}
 use Rattle.sc_footprint.specs.Theories.{TermsHold}
 use Rattle.th_defs.specs.DefinitionLaws.{IsTruth, IsAddress, unwritten_bit}
 use Rattle.th_defs.specs.Items.{HasInputs}
-use Rattle.th_defs.specs.Laws.{before, has_laws}
+use Rattle.th_defs.specs.Laws.{before, defining_is, has_laws}
 use Rattle.th_defs.proofs.InputLaws.{has_inputs}
 use Rattle.th_defs.proofs.LoopLaws.{kept_fewer}
 use Rattle.th_defs.proofs.PlaceLaws.{row_count_is, turned_long, conjunction_count}
@@ -114,11 +114,20 @@ module _ (terms : TermsHold) (p : Posed) (posed : IsPosed p) where
       let fewer = no_more (map first_bit addresses) (atoms p) once there in
       omega (arith, fewer, length-map addresses first_bit)
 
-  pub few_clauses : length (before p) < 2 ^ 64
-  few_clauses =
+  few_before : length (before p) < 2 ^ 32 - 1
+  few_before =
       let a = joined_short 258 (definition_clauses (literal_in p)) (atoms p) (defined_short (literal_in p)) in
       let b = joined_short 319 (address_clauses (literal_in p)) addresses (address_short (literal_in p)) in
       let both = length-append (flat_map (definition_clauses (literal_in p)) (atoms p)) (flat_map (address_clauses (literal_in p)) addresses) in
       let c = few_addresses in
       let d = posed.few in
       omega (arith, a, b, both, c, d)
+
+  pub few_clauses : length (before p) < 2 ^ 64
+  few_clauses = let h = few_before in omega (arith, h)
+
+  pub few_defining : length (defining p) < 2 ^ 32
+  few_defining =
+      let h = few_before in
+      let all = ap length (defining_is p) ∙ length-append (before p) ((goal_literal p ∷ []) ∷ []) in
+      omega (arith, h, all)

@@ -1,5 +1,6 @@
 -- Clauses by their numbers and literals by their places.
-use Rattle.std.proofs.Common.{◌≡◌, ◌<◌, ◌+◌, ◌*◌, ◌^◌, ◌==◌, ℕ, zero, suc, Bool, true, false, List, [], ◌∷◌, ◌++◌, map, length, get_or, refl, sym, ap, ◌∙◌, arith, length-append, pow-suc}
+use Rattle.std.proofs.Common.{◌≡◌, ◌<◌, ◌+◌, ◌*◌, ◌^◌, ◌==◌, ℕ, zero, suc, Bool, true, false, List, [], ◌∷◌, map, length, get_or, refl, sym, ap, ◌∙◌, arith, length-append, pow-suc}
+use Rattle.std.proofs.Math.Seq.{get_or-append_seam}
 use Rattle.std.proofs.lemmas.Bool.Decides.{nat_tests}
 use Rattle.std.proofs.lemmas.List.{length-map, get_or-map, get_or_append_left}
 use Rattle.std.specs.List.{AllByRecursion}
@@ -19,14 +20,6 @@ pub zero_isnt : (i : ℕ) → 0 < i → (i == 0) ≡ false
 zero_isnt i h = grind (arith, nat_tests)
 
 -- ---- lists by places
-
-read_at_end : (ls : List Lit) (x : Lit) (d : Lit) → get_or (ls ++ x ∷ []) (length ls) d ≡ x
-read_at_end [] x d = refl
-read_at_end (l ∷ ls) x d = read_at_end ls x d
-
-clause_at_end : (cs : List Clause) (c d : Clause) → get_or (cs ++ c ∷ []) (length cs) d ≡ c
-clause_at_end [] c d = refl
-clause_at_end (e ∷ cs) c d = clause_at_end cs c d
 
 pub read_counted : {X : Type 0} (f : ℕ → X) (from n i : ℕ) (d : X) → i < n → get_or (map f (counted from n)) i d ≡ f (from + i)
 unfolding counted
@@ -109,7 +102,7 @@ module _ (f : Function) (t : Bool) (x : Lit) (ls : List Lit) (k : ℕ) (below : 
       let long : length (differ_all (turned t ls) (get_or (rows (length ls)) k [])) ≡ length ls = differ_long (turned t ls) (get_or (rows (length ls)) k []) values_long ∙ turned_long t ls in
       ap (λ (c : Clause). get_or c (length ls) d) row_is
       ∙ ap (λ (n : ℕ). get_or (row f x (turned t ls) (get_or (rows (length ls)) k [])) n d) (sym long)
-      ∙ read_at_end (differ_all (turned t ls) (get_or (rows (length ls)) k [])) (has_value x (value_of f (get_or (rows (length ls)) k []))) d
+      ∙ get_or-append_seam (differ_all (turned t ls) (get_or (rows (length ls)) k [])) (has_value x (value_of f (get_or (rows (length ls)) k []))) [] d
 
 -- ---- all of some
 
@@ -129,4 +122,4 @@ module _ (x : Lit) (ls : List Lit) where
       get_or_append_left pairs ((x ∷ map negation ls) ∷ []) [] k (omega (arith, h, e)) ∙ get_or-map (λ (l : Lit). negation x ∷ l ∷ []) ls k d [] h
 
   pub conjunction_last : get_or (conjunction x ls) (length ls) [] ≡ x ∷ map negation ls
-  conjunction_last = ap (λ (n : ℕ). get_or (conjunction x ls) n []) (sym pairs_long) ∙ clause_at_end pairs (x ∷ map negation ls) []
+  conjunction_last = ap (λ (n : ℕ). get_or (conjunction x ls) n []) (sym pairs_long) ∙ get_or-append_seam pairs (x ∷ map negation ls) [] []

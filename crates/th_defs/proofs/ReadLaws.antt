@@ -1,7 +1,7 @@
 -- The clauses of items and their literals, as the code reads them.
-use Rattle.std.proofs.Common.{◌≡◌, ◌<◌, ◌≤◌, ◌+◌, ◌-◌, ◌^◌, ◌/◌, ◌%◌, ◌==◌, ◌⊎◌, inl, inr, ℕ, zero, suc, Bool, true, false, cond, List, [], ◌∷◌, ◌++◌, map, flat_map, length, get_or, nat_lt, refl, sym, ap, ◌∙◌, subst, arith, length-append}
+use Rattle.std.proofs.Common.{◌≡◌, ◌<◌, ◌≤◌, ◌+◌, ◌-◌, ◌^◌, ◌/◌, ◌%◌, ◌==◌, ◌⊎◌, inl, inr, ℕ, zero, suc, Bool, true, false, cond, List, [], ◌∷◌, map, flat_map, length, get_or, nat_lt, refl, sym, ap, ◌∙◌, subst, arith, length-append}
 use Rattle.std.proofs.lemmas.Bool.Decides.{nat_tests}
-use Rattle.std.proofs.lemmas.List.{length-map, get_or-map, get_or_append_left, get_or_past}
+use Rattle.std.proofs.lemmas.List.{length-map, get_or-map, get_or-append-add, get_or_append_left, get_or_past}
 use Rattle.sc_clauses.specs.declared.lit.Lit.{Lit}
 use Rattle.sc_clauses.specs.Clauses.{Clause, positive, negation}
 use Rattle.sc_definitions.proofs.MakingLaws.{counted_length}
@@ -190,10 +190,6 @@ module _ (bit : ℕ → Lit) where
       let place : suc from + k / 2 ≡ from + suc (k / 2) = omega arith in
       short_read (suc from) n k (omega (arith, h)) ∙ rw (half, odd, place) refl
 
-  after : (cs ds : List Clause) (k : ℕ) → get_or (cs ++ ds) (length cs + k) [] ≡ get_or ds k []
-  after [] ds k = let e : 0 + k ≡ k = omega arith in ap (λ (m : ℕ). get_or ds m []) e
-  after (c ∷ cs) ds k = let e : suc (length cs) + k ≡ suc (length cs + k) = omega arith in rw e (after cs ds k)
-
   mask_at : (k : ℕ) → k < 127 → get_or (address_by bit) k [] ≡ mask_clause bit k
   mask_at k h =
       let long = masks_long in
@@ -204,7 +200,7 @@ module _ (bit : ℕ → Lit) where
   later_at k h j =
       let long = masks_long in
       let e : k ≡ length (map (mask_clause bit) (counted 0 127)) + (k - 127) = omega (arith, h, long) in
-      ap (λ (m : ℕ). get_or (address_by bit) m []) e ∙ after (map (mask_clause bit) (counted 0 127)) (flat_map (short_clauses bit) (counted 32 96)) (k - 127) ∙ short_read 32 96 (k - 127) (omega (arith, h, j))
+      ap (λ (m : ℕ). get_or (address_by bit) m []) e ∙ get_or-append-add (map (mask_clause bit) (counted 0 127)) (flat_map (short_clauses bit) (counted 32 96)) (k - 127) [] ∙ short_read 32 96 (k - 127) (omega (arith, h, j))
 
   abbrev literal_by : ℕ → ℕ → Lit
   literal_by k i = cond (nat_lt k 127) (cond (i == 0) (negation (bit (2 + k))) (bit (1 + k))) (cond (i == 0) (bit 0) (negation (bit (later_bit (k - 127)))))

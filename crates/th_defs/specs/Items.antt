@@ -1,5 +1,5 @@
 -- The clauses of a problem in items, and their literals by places. No public promise speaks of it.
-use Rattle.std.specs.Prelude.{◌<◌, ◌≤◌, ◌+◌, ◌-◌, ◌/◌, ◌%◌, ◌^◌, ◌==◌, ⊤, ℕ, Bool, true, false, List, [], map, flat_map, length, get_or, nat_lt, Option, Some, None, option_map, unwrap_or, if◌then◌else◌}
+use Rattle.std.specs.Prelude.{◌<◌, ◌≤◌, ◌+◌, ◌-◌, ◌/◌, ◌%◌, ◌^◌, ◌==◌, ⊤, ℕ, Bool, true, false, List, [], map, length, get_or, nat_lt, Option, Some, None, option_map, unwrap_or, if◌then◌else◌}
 use Rattle.sc_clauses.specs.declared.lit.Lit.{Lit}
 use Rattle.sc_clauses.specs.Clauses.{Clause, positive, negation}
 use Rattle.sc_nodes.specs.declared.node.Leaf.TheVariants as leafs
@@ -62,10 +62,6 @@ item_at p i = if nat_lt i (length (atoms p)) then if_atom p (numbered (atoms p) 
 
 abbrev pub item_count : Posed → ℕ
 item_count p = length (atoms p) + length p.closed
-
--- the clauses that are kept of the items from a place on
-abbrev pub clauses_from : Posed → ℕ → List Clause
-clauses_from p i = flat_map (λ k. kept_clauses p (item_at p k)) (counted i (item_count p - i))
 
 -- what an item's clauses are told from: of a table there are one, two or three inputs, and of no definition more than an address has bits
 abbrev pub HasInputs : Shape → ℕ → Type 0

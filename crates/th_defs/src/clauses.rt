@@ -1,14 +1,14 @@
 //! The clauses of an item: counted, tested and made.
 ghost use Rattle.std.specs.Prelude.{◌≡◌, ◌<◌, ◌≤◌, ◌-◌, ◌++◌, [], length, OnOk};
 ghost use Rattle.std.specs.List.{slice_index_or};
-ghost use Rattle.sc_clauses.specs.Clauses.{is_in, negation as negation_of};
+ghost use Rattle.sc_clauses.specs.Clauses.{is_in as stands_in, negation as negation_of};
 ghost use Rattle.sc_clauses.specs.Assignments.{falsifies as falsified};
 ghost use Rattle.sc_footprint.specs.Definitions.{is_tautology as tautology};
 ghost use Rattle.th_defs.specs.Items.{IsItem, clause_at, item_clauses, kept_clauses};
 ghost use Rattle.th_defs.specs.Places.{IsFirstFalsified, IsPlaceOf};
 
 use crate::item::{Item, clause_count, clause_length, literal_at};
-use sc_clauses::{Assignment, Clauses, Lit, is_false, is_same, negation};
+use sc_clauses::{Assignment, Clauses, Lit, is_false, is_in, is_same, negation};
 use sc_footprint::Problem;
 use std::alloc::AllocError;
 
@@ -17,7 +17,7 @@ fn has_negation(problem: &Problem<'_>, item: Item, clause: u64, count: u64, lite
     requires item { IsItem item }
     requires clause { clause < length (item_clauses problem.now item) }
     requires count { count ≡ length (clause_at problem.now item clause) }
-    ensures { result ≡ is_in (clause_at problem.now item clause) (negation_of literal) }
+    ensures { result ≡ stands_in (clause_at problem.now item clause) (negation_of literal) }
 {
     for place in 0..count {
         if is_same(negation(literal), literal_at(problem, item, clause, place)) {
@@ -144,6 +144,15 @@ pub(crate) fn fill_kept(
     }
 }
 
+/// Whether some atom stands among literals with its negation.
+fn are_opposed(literals: &[Lit]) -> bool
+    ensures { result ≡ tautology literals.now }
+{
+    literals
+        .iter()
+        .any(|literal| is_in(negation(*literal), literals))
+}
+
 /// Adds the clauses of an item that are kept.
 pub(crate) fn push_kept(
     problem: &Problem<'_>,
@@ -155,8 +164,8 @@ pub(crate) fn push_kept(
     ensures { OnOk result (clauses.new ≡ clauses.old ++ kept_clauses problem.now item) }
 {
     for clause in 0..clause_count(item) {
-        if !is_tautology(problem, item, clause) {
-            fill(problem, item, clause, literals)?;
+        fill(problem, item, clause, literals)?;
+        if !are_opposed(literals.as_slice()) {
             clauses.push(literals)?;
         }
     }

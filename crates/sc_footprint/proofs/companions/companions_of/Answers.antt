@@ -23,3 +23,6 @@ loop-term-preserved c =
 
 pub returns-clause-ok : goal.returns-clause-ok
 returns-clause-ok c = listing_end _ _ _ _ _ _ _ c.in-None.ensures.steps.0 c.loop-term.invariant
+
+pub returns-clause-small : goal.returns-clause-small
+returns-clause-small c = omega (arith, c.as_slice-all.type_inv.1, c.as_slice-all.ensures)
