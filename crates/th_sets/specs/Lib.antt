@@ -1,0 +1,4 @@
+pub mod Rows
+pub mod Named
+pub mod Free
+pub mod Moves

@@ -1,0 +1,29 @@
+-- What a closed term names: a membership, an inclusion, or that two sets have a member in common. The parts have the numbers of closed
+-- terms; 0 is the number of none. No public promise speaks of it.
+use Rattle.std.specs.Prelude.{◌+◌, ◌<◌, ℕ, Option, Some, None}
+use Rattle.sc_nodes.specs.declared.node.BinaryOp.TheVariants as binary
+use Rattle.sc_terms.specs.Trees.{Tree, two}
+use Rattle.sc_footprint.specs.Problems.{Posed, closed_terms, number_among, term_of}
+use Rattle.th_sets.specs.declared.named.Named.{Named}
+use Rattle.th_sets.specs.declared.named.Named.TheVariants.{Member, Subset, Common, Other}
+
+abbrev pub number_in : Posed → Tree → ℕ
+number_in p t = number_among (closed_terms p) t
+
+abbrev pub named_in : Posed → Tree → Named
+named_in p (two binary.Member x s) = Member (number_in p x) (number_in p s)
+named_in p (two binary.Subset s t) = Subset (number_in p s) (number_in p t)
+named_in p (two binary.Common s t) = Common (number_in p s) (number_in p t)
+named_in p _ = Other
+
+abbrev pub named_if : Posed → Option Tree → Named
+named_if p (Some t) = named_in p t
+named_if p None = Other
+
+-- by the closed term of a number
+abbrev pub named_at : Posed → ℕ → Named
+named_at p n = named_if p (term_of p n)
+
+-- it holds of what the first so many closed terms name, by their numbers from 1 on
+unfoldable pub AreFirst : Posed → (Named → Type 0) → ℕ → Type 0
+AreFirst p P count = (n : ℕ) → n < count → P (named_at p (n + 1))

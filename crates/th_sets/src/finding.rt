@@ -1,0 +1,190 @@
+//! SE2 to SE8: instances that an assignment falsifies, found at the closed terms that name them.
+ghost use Rattle.std.specs.Prelude.{◌≡◌, ◌<◌, length, true, ℕ, Some, IfSome, IfNone};
+ghost use Rattle.std.specs.List.{AllByRecursion};
+ghost use Rattle.sc_terms.specs.Tables.{tree};
+ghost use Rattle.sc_footprint.specs.Problems.{term_of};
+ghost use Rattle.sc_instances.specs.declared.rule.SetRule.TheVariants.{Se3};
+ghost use Rattle.sc_instances.specs.Instances.{set_said};
+ghost use Rattle.sc_instances.specs.Known.{is_falsified as falsified_of};
+ghost use Rattle.th_sets.specs.Named.{named_at as named_of};
+ghost use Rattle.th_sets.specs.Free.{IsFree, IsBesideFree, IsMemberFree, IsNamedFree, AreNamedFree, by_subset, by_common, member_count as members_of};
+
+use crate::named::{Named, named_at};
+use crate::said::Said;
+use sc_clauses::Assignment;
+use sc_footprint::Problem;
+use sc_instances::{SetRule, is_falsified, members};
+
+/// The instance, if an assignment falsifies it.
+fn if_falsified(problem: &Problem<'_>, m: &Assignment, rule: SetRule) -> Option<SetRule>
+    ensures found { IfSome result (λ rule. falsified_of problem.now m.now (set_said problem.now rule) ≡ true) }
+    ensures none { IfNone result (IsFree problem.now m.now rule) }
+{
+    let said = Said { problem, rule };
+    if is_falsified(&said, m) {
+        Some(rule)
+    } else {
+        None
+    }
+}
+
+// ---- by a membership
+
+/// How many members a term has, if it is a set term.
+fn part_count(problem: &Problem<'_>, set: u64) -> u64
+    requires { set < length problem.now.nodes }
+    ensures { result ≡ members_of (Some (tree problem.now.nodes set)) }
+{
+    match members(problem, set) {
+        Some(parts) => parts.len() as u64,
+        None => 0,
+    }
+}
+
+/// The same of the closed term of a number.
+fn member_count(problem: &Problem<'_>, set: u64) -> u64
+    ensures { result ≡ members_of (term_of problem.now set) }
+{
+    match problem.term(set) {
+        Some(at) => part_count(problem, at),
+        None => 0,
+    }
+}
+
+/// An instance of SE3 for a term and a set.
+fn standing(problem: &Problem<'_>, m: &Assignment, x: u64, set: u64) -> Option<SetRule>
+    ensures found { IfSome result (λ rule. falsified_of problem.now m.now (set_said problem.now rule) ≡ true) }
+    ensures none { IfNone result ((i : ℕ) → IsFree problem.now m.now (Se3 x set i)) }
+{
+    for index in 0..member_count(problem, set) {
+        if let Some(rule) = if_falsified(problem, m, SetRule::Se3(x, set, index)) {
+            return Some(rule);
+        }
+    }
+    None
+}
+
+/// An instance of SE4 or SE7 for a membership and what another closed term names.
+fn beside_one(
+    problem: &Problem<'_>,
+    m: &Assignment,
+    x: u64,
+    set: u64,
+    other: Named,
+) -> Option<SetRule>
+    ensures found { IfSome result (λ rule. falsified_of problem.now m.now (set_said problem.now rule) ≡ true) }
+    ensures none { IfNone result (IsBesideFree problem.now m.now x set other) }
+{
+    match other {
+        Named::Subset(s, t) => {
+            if s == set {
+                if_falsified(problem, m, SetRule::Se4(s, t, x))
+            } else {
+                None
+            }
+        }
+        Named::Common(s, t) => {
+            if s == set {
+                if_falsified(problem, m, SetRule::Se7(s, t, x))
+            } else {
+                None
+            }
+        }
+        Named::Member(_, _) => None,
+        Named::Other => None,
+    }
+}
+
+/// The same with what any closed term names.
+fn beside(problem: &Problem<'_>, m: &Assignment, x: u64, set: u64) -> Option<SetRule>
+    ensures found { IfSome result (λ rule. falsified_of problem.now m.now (set_said problem.now rule) ≡ true) }
+    ensures none { IfNone result ((n : ℕ) → IsBesideFree problem.now m.now x set (named_of problem.now n)) }
+{
+    for n in 0..problem.closed_count() {
+        if let Some(rule) = beside_one(problem, m, x, set, named_at(problem, n + 1)) {
+            return Some(rule);
+        }
+    }
+    None
+}
+
+/// An instance that a membership names.
+fn at_member(problem: &Problem<'_>, m: &Assignment, x: u64, set: u64) -> Option<SetRule>
+    ensures found { IfSome result (λ rule. falsified_of problem.now m.now (set_said problem.now rule) ≡ true) }
+    ensures none { IfNone result (IsMemberFree problem.now m.now x set) }
+{
+    if let Some(rule) = if_falsified(problem, m, SetRule::Se2(x, set)) {
+        return Some(rule);
+    }
+    if let Some(rule) = standing(problem, m, x, set) {
+        return Some(rule);
+    }
+    match beside(problem, m, x, set) {
+        Some(rule) => Some(rule),
+        None => None,
+    }
+}
+
+// ---- by any closed term
+
+/// An instance that an inclusion names.
+fn at_subset(problem: &Problem<'_>, m: &Assignment, s: u64, t: u64) -> Option<SetRule>
+    ensures found { IfSome result (λ rule. falsified_of problem.now m.now (set_said problem.now rule) ≡ true) }
+    ensures none { IfNone result (AllByRecursion (IsFree problem.now m.now) (by_subset s t)) }
+{
+    if let Some(rule) = if_falsified(problem, m, SetRule::Se5(s, t, 0)) {
+        return Some(rule);
+    }
+    if let Some(rule) = if_falsified(problem, m, SetRule::Se5(s, t, 1)) {
+        return Some(rule);
+    }
+    if let Some(rule) = if_falsified(problem, m, SetRule::Se8(s, t, 0)) {
+        return Some(rule);
+    }
+    if let Some(rule) = if_falsified(problem, m, SetRule::Se8(t, s, 1)) {
+        return Some(rule);
+    }
+    if let Some(rule) = if_falsified(problem, m, SetRule::Se8(s, t, 2)) {
+        return Some(rule);
+    }
+    None
+}
+
+/// An instance that a common member names.
+fn at_common(problem: &Problem<'_>, m: &Assignment, s: u64, t: u64) -> Option<SetRule>
+    ensures found { IfSome result (λ rule. falsified_of problem.now m.now (set_said problem.now rule) ≡ true) }
+    ensures none { IfNone result (AllByRecursion (IsFree problem.now m.now) (by_common s t)) }
+{
+    if let Some(rule) = if_falsified(problem, m, SetRule::Se6(s, t, 0)) {
+        return Some(rule);
+    }
+    if let Some(rule) = if_falsified(problem, m, SetRule::Se6(s, t, 1)) {
+        return Some(rule);
+    }
+    None
+}
+
+fn at_named(problem: &Problem<'_>, m: &Assignment, by: Named) -> Option<SetRule>
+    ensures found { IfSome result (λ rule. falsified_of problem.now m.now (set_said problem.now rule) ≡ true) }
+    ensures none { IfNone result (IsNamedFree problem.now m.now by) }
+{
+    match by {
+        Named::Member(x, s) => at_member(problem, m, x, s),
+        Named::Subset(s, t) => at_subset(problem, m, s, t),
+        Named::Common(s, t) => at_common(problem, m, s, t),
+        Named::Other => None,
+    }
+}
+
+/// An instance of SE2 to SE8 that an assignment falsifies; none where there is none.
+pub(crate) fn falsified_row(problem: &Problem<'_>, m: &Assignment) -> Option<SetRule>
+    ensures found { IfSome result (λ rule. falsified_of problem.now m.now (set_said problem.now rule) ≡ true) }
+    ensures none { IfNone result (AreNamedFree problem.now m.now) }
+{
+    for n in 0..problem.closed_count() {
+        if let Some(rule) = at_named(problem, m, named_at(problem, n + 1)) {
+            return Some(rule);
+        }
+    }
+    None
+}

@@ -1,0 +1,58 @@
+//! What a closed term names.
+ghost use Rattle.std.specs.Prelude.{◌≡◌, ◌<◌, length};
+ghost use Rattle.sc_terms.specs.Tables.{tree, node_tree, PartsAreBelow};
+ghost use Rattle.th_sets.specs.Named.{number_in, named_in, named_at as named_of};
+
+use sc_footprint::Problem;
+use sc_nodes::{BinaryOp, Node};
+
+/// What a closed term names, its parts by the numbers of closed terms.
+#[derive(Clone, Copy, Debug)]
+pub(crate) enum Named {
+    /// That a set has a member.
+    Member(u64, u64),
+    /// That one set is within another.
+    Subset(u64, u64),
+    /// That two sets have a member in common.
+    Common(u64, u64),
+    /// Something else.
+    Other,
+}
+
+/// The number of a closed term; 0 of a term that is none.
+fn number(problem: &Problem<'_>, term: u64) -> u64
+    requires { term < length problem.now.nodes }
+    ensures { result ≡ number_in problem.now (tree problem.now.nodes term) }
+{
+    problem.laws();
+    problem.terms().laws();
+    problem.number_of(term).unwrap_or(0)
+}
+
+fn named_by(problem: &Problem<'_>, node: &Node) -> Named
+    requires { PartsAreBelow (length problem.now.nodes) node.now }
+    ensures { result ≡ named_in problem.now (node_tree problem.now.nodes node.now) }
+{
+    match node {
+        Node::Two(BinaryOp::Member, x, set) => {
+            Named::Member(number(problem, *x), number(problem, *set))
+        }
+        Node::Two(BinaryOp::Subset, s, t) => {
+            Named::Subset(number(problem, *s), number(problem, *t))
+        }
+        Node::Two(BinaryOp::Common, s, t) => {
+            Named::Common(number(problem, *s), number(problem, *t))
+        }
+        _ => Named::Other,
+    }
+}
+
+/// What the closed term of a number names.
+pub(crate) fn named_at(problem: &Problem<'_>, n: u64) -> Named
+    ensures { result ≡ named_of problem.now n }
+{
+    match problem.term(n) {
+        Some(at) => named_by(problem, problem.terms().node(at)),
+        None => Named::Other,
+    }
+}
