@@ -13,6 +13,7 @@ use sc_footprint::Problem;
 use sc_instances::{EqualRule, NOWHERE, Saying};
 
 /// An instance of a rule on equations of a problem.
+#[derive(Drop)]
 pub struct Said<'a, 'b> {
     /// The problem.
     pub problem: &'a Problem<'b>,

@@ -1,5 +1,6 @@
 mod LiteralLaws
 pub mod KnownLaws
+pub mod FalseLaws
 mod LookupLaws
 mod PartLaws
 mod SayingLaws

@@ -85,6 +85,10 @@ number_none ts t h = by (number_among ts t) refl
 atom_closed : (p : Posed) (t : Tree) → Has (atoms p) t → Contains (closed_terms p) t
 atom_closed p t h = Contains-from_Has (closed_terms p) t (filter_within is_atom (closed_terms p) t h)
 
+-- what has the number of an atom is closed
+pub number_closed : (p : Posed) (t : Tree) → atom_number p t ≢ 0 → Contains (closed_terms p) t
+number_closed p t h = atom_closed p t (number_there (atoms p) t h)
+
 atom_bool : (p : Posed) (t : Tree) → Has (atoms p) t → is_bool t ≡ true
 atom_bool p t h = (and_parts (is_bool t) (not (is_opposite t)) (filter_passes is_atom (closed_terms p) t h)).0
 

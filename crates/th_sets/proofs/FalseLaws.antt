@@ -1,9 +1,8 @@
--- What is known of literals, and which instances an assignment falsifies.
-use Rattle.std.proofs.Common.{◌≡◌, ◌==◌, ◌&&◌, ℕ, Bool, true, false, not, List, [], ◌∷◌, Option, Some, None, option_map, refl, sym, ap, ◌∙◌, cond, arith}
+-- Which instances an assignment falsifies.
+use Rattle.std.proofs.Common.{◌≡◌, ◌==◌, ◌&&◌, ℕ, Bool, true, false, not, List, [], ◌∷◌, Option, Some, None, refl, sym, ap, ◌∙◌, arith}
 use Rattle.std.proofs.lemmas.Bool.{and_parts, and_from}
 use Rattle.std.proofs.lemmas.Bool.Decides.{nat_tests}
 use Rattle.std.specs.List.{AllByRecursion, list_all}
-use Rattle.sc_lists.proofs.BoolLaws.{not_not}
 use Rattle.sc_lists.proofs.ListLaws.{all_weaker, list_any_false}
 use Rattle.sc_clauses.specs.declared.lit.Lit.{Lit}
 use Rattle.sc_clauses.specs.Assignments.{Assignment, value_of, is_false, is_false_at, falsifies}
@@ -12,7 +11,7 @@ use Rattle.sc_footprint.specs.Problems.{Posed}
 use Rattle.sc_footprint.specs.Definitions.{is_tautology}
 use Rattle.sc_rules.specs.Signed.{Signed, Said}
 use Rattle.sc_instances.specs.Clauses.{is_asked, literal_for, clause_for, is_instance, said_clause}
-use Rattle.sc_instances.specs.Known.{only_true, seen_value, known, is_broken, is_falsified}
+use Rattle.sc_instances.specs.Known.{is_broken, is_falsified}
 
 -- ---- a literal that is asked and false
 
@@ -24,84 +23,6 @@ asked_some l h e =
     let first : not (l.atom == 0) ≡ true = (and_parts _ _ h).0 in
     let zero : not (0 == 0) ≡ true = ap (λ (n : ℕ). not (n == 0)) (sym e) ∙ first in
     cc
-
--- by whether the atom is 0, whether it is 1, its value and that of atom 1, and the literal's sign
-abbrev asked_by : Bool → Bool → Bool → Bool
-asked_by none first negated = not none && not (first && bool_eq negated false)
-
-abbrev known_by : Bool → Option Bool → Option Bool → Bool → Option Bool
-known_by first value of_first negated = option_map (λ v. bool_eq v (not negated)) (cond first (only_true of_first) value)
-
-out_known_by : (none first : Bool) (value of_first : Option Bool) (negated : Bool) → (first ≡ true → value ≡ of_first)
-    → (asked_by none first negated && is_false_at value negated) ≡ true → known_by first value of_first negated ≡ Some false
-out_known_by true first value of_first negated same h = absurd cc
-out_known_by false true None of_first negated same h = by negated h
-  where
-    by : (n : Bool) → (asked_by false true n && false) ≡ true → known_by true None of_first n ≡ Some false
-    by true k = absurd cc
-    by false k = absurd cc
-out_known_by false true (Some true) of_first true same h = rw (sym (same refl)) refl
-out_known_by false true (Some true) of_first false same h = absurd cc
-out_known_by false true (Some false) of_first true same h = absurd cc
-out_known_by false true (Some false) of_first false same h = absurd cc
-out_known_by false false None of_first negated same h = absurd cc
-out_known_by false false (Some true) of_first true same h = refl
-out_known_by false false (Some true) of_first false same h = absurd cc
-out_known_by false false (Some false) of_first true same h = absurd cc
-out_known_by false false (Some false) of_first false same h = refl
-
-known_out_by : (none first : Bool) (value of_first : Option Bool) (negated : Bool) → (none ≡ true → value ≡ None) → (none ≡ true → first ≡ false) → (first ≡ true → value ≡ of_first)
-    → known_by first value of_first negated ≡ Some false → (asked_by none first negated && is_false_at value negated) ≡ true
-known_out_by none true value None negated empty zero same h = absurd cc
-known_out_by none true value (Some false) negated empty zero same h = absurd cc
-known_out_by true true value (Some true) negated empty zero same h = let k : true ≡ false = zero refl in absurd cc
-known_out_by false true value (Some true) true empty zero same h = rw (same refl) refl
-known_out_by false true value (Some true) false empty zero same h = absurd cc
-known_out_by none false None of_first negated empty zero same h = absurd cc
-known_out_by true false (Some v) of_first negated empty zero same h = let k : Some v ≡ None = empty refl in absurd cc
-known_out_by false false (Some true) of_first true empty zero same h = refl
-known_out_by false false (Some true) of_first false empty zero same h = absurd cc
-known_out_by false false (Some false) of_first true empty zero same h = absurd cc
-known_out_by false false (Some false) of_first false empty zero same h = refl
-
-at_first : (m : Assignment) (l : Lit) → (l.atom == 1) ≡ true → value_of m l.atom ≡ value_of m 1
-at_first m l e = let one : l.atom ≡ 1 = grind (arith, nat_tests) in ap (value_of m) one
-
-valueless : (m : Assignment) (n : ℕ) → (n == 0) ≡ true → value_of m n ≡ None
-valueless m n e = rw e refl
-
-first_isnt_zero : (n : ℕ) → (n == 0) ≡ true → (n == 1) ≡ false
-first_isnt_zero n e = let zero : n ≡ 0 = grind (arith, nat_tests) in ap (λ (k : ℕ). k == 1) zero
-
-module _ (m : Assignment) (l : Lit) where
-  -- it is known to be false
-  pub out_known : is_out m l ≡ true → known m l ≡ Some false
-  out_known h = out_known_by (l.atom == 0) (l.atom == 1) (value_of m l.atom) (value_of m 1) l.negated (at_first m l) h
-
-  pub known_out : known m l ≡ Some false → is_out m l ≡ true
-  known_out h = known_out_by (l.atom == 0) (l.atom == 1) (value_of m l.atom) (value_of m 1) l.negated (valueless m l.atom) (first_isnt_zero l.atom) (at_first m l) h
-
-opposite_known : (m : Assignment) (l : Lit) (b : Bool) → known m l ≡ Some b → known m (negation l) ≡ Some (not b)
-opposite_known m l b h = by (seen_value m l.atom) l.negated h
-  where
-    by : (o : Option Bool) (n : Bool) → option_map (λ v. bool_eq v (not n)) o ≡ Some b → option_map (λ v. bool_eq v (not (not n))) o ≡ Some (not b)
-    by None n k = absurd cc
-    by (Some true) true k = cc
-    by (Some true) false k = cc
-    by (Some false) true k = cc
-    by (Some false) false k = cc
-
-negation_twice : (l : Lit) → negation (negation l) ≡ l
-negation_twice l = ap signed (not_not l.negated)
-  where
-    signed : Bool → Lit
-    signed b = record { atom = l.atom; negated = b }
-
-pub not_out_known : (m : Assignment) (l : Lit) → is_out m (negation l) ≡ true → known m l ≡ Some true
-not_out_known m l h = ap (known m) (sym (negation_twice l)) ∙ opposite_known m (negation l) false (out_known m (negation l) h)
-
-pub known_not_out : (m : Assignment) (l : Lit) → known m l ≡ Some true → is_out m (negation l) ≡ true
-known_not_out m l h = known_out m (negation l) (opposite_known m l true h)
 
 -- ---- instances
 

@@ -1,12 +1,13 @@
 -- None of the instances that closed terms name is falsified, once each term was looked at.
-use Rattle.std.proofs.Common.{◌≡◌, ◌<◌, ◌≤◌, ◌+◌, ℕ, zero, suc, false, List, length, Option, Some, None, refl, sym, ap, ◌∙◌, subst, arith, ⊎_elim}
+use Rattle.std.proofs.Common.{◌≡◌, ◌<◌, ◌≤◌, ◌+◌, ℕ, zero, suc, false, List, length, Option, Some, None, IfNone, refl, sym, ap, ◌∙◌, subst, arith, ⊎_elim}
 use Rattle.std.proofs.lemmas.Bool.{cases_lt}
 use Rattle.std.proofs.lemmas.List.{length-map}
 use Rattle.std.proofs.lemmas.Option.{slice_get_past}
 use Rattle.sc_clauses.specs.Assignments.{Assignment}
 use Rattle.sc_nodes.specs.declared.node.ManyOp.TheVariants as manys
 use Rattle.sc_nodes.specs.declared.node.Node.{Node}
-use Rattle.sc_instances.specs.declared.rule.SetRule.TheVariants.{Se3}
+use Rattle.sc_instances.specs.declared.rule.SetRule.{SetRule}
+use Rattle.sc_instances.specs.declared.rule.SetRule.TheVariants.{Se2, Se3}
 use Rattle.sc_terms.specs.Trees.{Tree, leaf, one, two, choice, many}
 use Rattle.sc_terms.specs.Tables.{tree, Places}
 use Rattle.sc_footprint.specs.Problems.{Posed, closed_terms, numbered, term_of}
@@ -18,7 +19,7 @@ use Rattle.sc_instances.specs.Known.{is_falsified}
 use Rattle.sc_instances.specs.Lookups.{IsMembers}
 use Rattle.th_sets.specs.declared.named.Named.{Named}
 use Rattle.th_sets.specs.declared.named.Named.TheVariants.{Other}
-use Rattle.th_sets.specs.Free.{IsFree, AreStanding, member_count}
+use Rattle.th_sets.specs.Free.{IsFree, IsBesideFree, IsMemberFree, AreStanding, member_count}
 use Rattle.th_sets.specs.Named.{named_if, named_at, AreFirst}
 use Rattle.th_sets.proofs.RowLaws.{members_length}
 
@@ -77,3 +78,7 @@ module _ (p : Posed) (m : Assignment) (x s : ℕ) where
   pub standing_all : (count : ℕ) → member_count (term_of p s) ≤ count → AreStanding p m x s count → (i : ℕ) → IsFree p m (Se3 x s i)
   unfolding AreStanding
   standing_all count all h i = ⊎_elim (h i) (λ (past : count ≤ i). past_free (term_of p x) (term_of p s) i (omega (arith, all, past))) (cases_lt i count)
+
+  pub free_member : (o : Option SetRule) → IsFree p m (Se2 x s) → ((i : ℕ) → IsFree p m (Se3 x s i)) → IfNone o ((n : ℕ) → IsBesideFree p m x s (named_at p n)) → IfNone o (IsMemberFree p m x s)
+  free_member (Some rule) se2 se3 beside = tt
+  free_member None se2 se3 beside = record { se2 = se2; se3 = se3; beside = beside }

@@ -21,7 +21,8 @@ use Rattle.th_sets.specs.declared.named.Named.{Named}
 use Rattle.th_sets.specs.declared.named.Named.TheVariants.{Member, Subset, Common, Other}
 use Rattle.th_sets.specs.Moves.{term_at, known_two, equal_known, member_known, IsAmong, IsPutBy, AreAmong, move_of, AreMovesFree}
 use Rattle.th_sets.specs.Named.{named_at, AreFirst}
-use Rattle.th_sets.proofs.FalseLaws.{out_known, known_out, not_out_known, known_not_out, head_out, tail_out, more_out, all_out, free_if}
+use Rattle.sc_instances.proofs.FalseLaws.{false_known, known_false, false_negation, known_negation}
+use Rattle.th_sets.proofs.FalseLaws.{head_out, tail_out, more_out, all_out, free_if}
 use Rattle.th_sets.proofs.FreeLaws.{first_more, first_all}
 use Rattle.th_sets.proofs.WholeLaws.{Out, three_view, unless_there, so_there, member_named}
 
@@ -66,9 +67,9 @@ module _ (p : Posed) (m : Assignment) where
 
   gap_out : (o q r : Option Tree) → known_two p m equal_term o q ≡ Some true → known_two p m member o r ≡ Some true → known_two p m member q r ≡ Some false → Out p m (on_three o q r se1)
   gap_out (Some a) (Some b) (Some c) e f g =
-      more_out m p (unless (equal_term a b)) _ (known_not_out m (literal_in p (equal_term a b)) e)
-      (more_out m p (unless (member a c)) _ (known_not_out m (literal_in p (member a c)) f)
-      (more_out m p (so (member b c)) [] (known_out m (literal_in p (member b c)) g) (all_out m p)))
+      more_out m p (unless (equal_term a b)) _ (known_negation m (literal_in p (equal_term a b)) e)
+      (more_out m p (unless (member a c)) _ (known_negation m (literal_in p (member a c)) f)
+      (more_out m p (so (member b c)) [] (known_false m (literal_in p (member b c)) g) (all_out m p)))
   gap_out (Some a) (Some b) None e f g = absurd cc
   gap_out (Some a) None r e f g = absurd cc
   gap_out None q r e f g = absurd cc
@@ -145,9 +146,9 @@ module _ (p : Posed) (m : Assignment) where
             let (j, j_in, j_at) = place_of xs y b other.0 g in
             let (e, e_in, e_at) = place_of ss s c first.1 k in
             absurd (none j i e j_in i_in e_in (record {
-              joined = known_is equal_term (term_at p xs i) (term_at p xs j) a b true i_at j_at (not_out_known m (literal_in p (equal_term a b)) equal_out);
-              goes_on = known_is member (term_at p xs i) (term_at p ss e) a c true i_at e_at (not_out_known m (literal_in p (member a c)) member_out);
-              apart = known_is member (term_at p xs j) (term_at p ss e) b c false j_at e_at (out_known m (literal_in p (member b c)) last_out);
+              joined = known_is equal_term (term_at p xs i) (term_at p xs j) a b true i_at j_at (false_negation m (literal_in p (equal_term a b)) equal_out);
+              goes_on = known_is member (term_at p xs i) (term_at p ss e) a c true i_at e_at (false_negation m (literal_in p (member a c)) member_out);
+              apart = known_is member (term_at p xs j) (term_at p ss e) b c false j_at e_at (false_known m (literal_in p (member b c)) last_out);
             }))
 
 -- ---- the same where the problem and the assignment are told by equations

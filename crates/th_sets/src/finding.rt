@@ -109,6 +109,7 @@ fn beside(problem: &Problem<'_>, m: &Assignment, x: u64, set: u64) -> Option<Set
 }
 
 /// An instance that a membership names.
+#[tactic(auto, using(crate::proofs::FreeLaws::free_member))]
 fn at_member(problem: &Problem<'_>, m: &Assignment, x: u64, set: u64) -> Option<SetRule>
     ensures found { IfSome result (λ rule. falsified_of problem.now m.now (set_said problem.now rule) ≡ true) }
     ensures none { IfNone result (IsMemberFree problem.now m.now x set) }
@@ -119,10 +120,7 @@ fn at_member(problem: &Problem<'_>, m: &Assignment, x: u64, set: u64) -> Option<
     if let Some(rule) = standing(problem, m, x, set) {
         return Some(rule);
     }
-    match beside(problem, m, x, set) {
-        Some(rule) => Some(rule),
-        None => None,
-    }
+    beside(problem, m, x, set)
 }
 
 // ---- by any closed term
