@@ -1,0 +1,6 @@
+mod GivenLaws
+mod RowLaws
+mod AbsentLaws
+mod TagLaws
+mod EntityLaws
+mod DeclaredLaws

@@ -1,0 +1,13 @@
+//! What each instance of the rules on entities says of a problem, literal by literal, told without
+//! memory: how many literals there are, and the one at a place. The theory of entities stands on
+//! it.
+#![tactic(auto)]
+
+mod closed;
+mod declared;
+mod row;
+mod rows;
+mod said;
+mod stored;
+
+pub use said::Said;

@@ -1,0 +1,7 @@
+//! Strings and entities that equal one thing and not each other: the instances of EQ1 that an
+//! assignment falsifies.
+#![tactic(auto)]
+
+mod chains;
+
+pub use chains::broken_chain;
