@@ -53,7 +53,7 @@ own_uid u = own_level (uid_cmp u u) (uid_cmp_total.antisymm u u)
 
 -- ---- what is found among closed terms
 
-found_passes : (test : Tree → Bool) (ts : List Tree) (t : Tree) → find test ts ≡ Some t → Has ts t × (test t ≡ true)
+pub found_passes : (test : Tree → Bool) (ts : List Tree) (t : Tree) → find test ts ≡ Some t → Has ts t × (test t ≡ true)
 found_passes test [] t = λ e. absurd cc
 found_passes test (u ∷ us) t = by (test u) refl (found_passes test us t)
   where

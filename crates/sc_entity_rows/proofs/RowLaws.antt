@@ -1,5 +1,5 @@
 -- Rows of rules: what each says whatever its terms are, how many literals that has, and each of these.
-use Rattle.std.proofs.Common.{◌≡◌, ◌≢◌, ◌<◌, ◌==◌, ℕ, zero, suc, Bool, true, false, not, cond, List, [], ◌∷◌, map, length, slice_get, get_or, find, Option, Some, None, IsSomeAnd, if◌then◌else◌, refl, sym, ap, ◌∙◌, subst, arith}
+use Rattle.std.proofs.Common.{◌≡◌, ◌≢◌, ◌<◌, ◌==◌, ℕ, zero, suc, Bool, true, false, not, List, [], ◌∷◌, map, length, slice_get, get_or, Option, Some, None, IsSomeAnd, if◌then◌else◌, refl, sym, ap, ◌∙◌, subst, arith}
 use Rattle.std.proofs.lemmas.List.{length-map}
 use Rattle.sc_names.specs.declared.uid.Uid.{Uid}
 use Rattle.sc_clauses.specs.declared.lit.Lit.{Lit}
@@ -20,6 +20,7 @@ use Rattle.sc_rules.specs.Signed.{Signed, Said, so, unless, given}
 use Rattle.sc_rules.specs.Entities.{are_attributes_of, en1, en2, en3, en4, en5, en6, en7, en7_by, en8}
 use Rattle.sc_rules.specs.Terms.{above, choices_in, entity, keys, member, one_sort}
 use Rattle.sc_entity_rows.specs.Rows.{AreAttributes, are_ancestors_of, are_same_sets, are_tags, above_name, declared_above, is_tag, moved, owner, tag_entity, tag_key}
+use Rattle.sc_entity_rows.proofs.EntityLaws.{found_passes}
 
 -- ---- what each rule says, whatever the terms are
 
@@ -48,18 +49,10 @@ unfolding tree_sort
 lacking_said (two (binary.Tag s) e k) = refl
 lacking_said _ = refl
 
-find_passes : (test : Tree → Bool) (ts : List Tree) (t : Tree) → find test ts ≡ Some t → test t ≡ true
-find_passes test [] t = λ e. absurd cc
-find_passes test (u ∷ us) t = by (test u) refl (find_passes test us t)
-  where
-    by : (b : Bool) → test u ≡ b → (find test us ≡ Some t → test t ≡ true) → cond b (Some u) (find test us) ≡ Some t → test t ≡ true
-    by true f rest e = let same : u ≡ t = cc in ap test (sym same) ∙ f
-    by false f rest e = rest e
-
 pub attributes_said : (p : Posed) (x y : Tree) (a b : ℕ) → AreAttributes p x y a b
     → en1 x y (tree p.nodes a) (tree p.nodes b) ≡ given (one_sort (tree p.nodes a) (tree p.nodes b)) (unless (equal_term x y) ∷ so (equal_term (tree p.nodes a) (tree p.nodes b)) ∷ [])
 attributes_said p x y a b h =
-    rw (find_passes (are_attributes_of x) (closed_terms p) (tree p.nodes a) h.first, find_passes (are_attributes_of y) (closed_terms p) (tree p.nodes b) h.second) refl
+    rw ((found_passes (are_attributes_of x) (closed_terms p) (tree p.nodes a) h.first).1, (found_passes (are_attributes_of y) (closed_terms p) (tree p.nodes b) h.second).1) refl
 
 pub declared_said : (d : Declarations) (s x : Tree) → en7 d s x ≡ en7_by d s (above_name s) (declared_above d s) x
 declared_said d (one (unary.Ancestors k) (leaf (Literal (literal.Entity u choices)))) x = refl

@@ -14,6 +14,7 @@ use sc_footprint::Problem;
 use sc_instances::{EntityRule, NOWHERE, Saying, attributes};
 
 /// An instance of a rule on entities of a problem.
+#[derive(Drop)]
 pub struct Said<'a, 'b> {
     /// The problem.
     pub problem: &'a Problem<'b>,

@@ -1,0 +1,6 @@
+mod FalseLaws
+mod FreeLaws
+mod PastLaws
+mod PruneLaws
+mod WholeLaws
+mod TheoryLaws

@@ -1,0 +1,164 @@
+-- Where a test of some terms fails, no instance with these is falsified.
+use Rattle.std.proofs.Common.{◌≡◌, ◌≢◌, ◌∙◌, ◌&&◌, ℕ, Bool, true, false, List, [], ◌∷◌, Option, Some, None, is_some, refl, ap}
+use Rattle.sc_clauses.specs.declared.lit.Lit.{Lit}
+use Rattle.sc_clauses.specs.Assignments.{Assignment}
+use Rattle.sc_nodes.specs.declared.node.UnaryOp.TheVariants as unary
+use Rattle.sc_nodes.specs.declared.node.BinaryOp.TheVariants as binary
+use Rattle.sc_terms.specs.Trees.{Tree, leaf, one, two, choice, many}
+use Rattle.sc_terms.specs.TreeSorts.{tree_sort}
+use Rattle.sc_terms.specs.Order.{tree_eq}
+use Rattle.sc_terms.specs.Folds.{equal_term}
+use Rattle.sc_footprint.specs.Problems.{Posed, term_of}
+use Rattle.sc_instances.specs.declared.rule.EntityRule.TheVariants.{En1, En2, En3, En5, En7}
+use Rattle.sc_instances.specs.Clauses.{clause_for, literal_for, said_clause}
+use Rattle.sc_instances.specs.Instances.{entity_said, on_two, on_three, on_four}
+use Rattle.sc_instances.specs.Known.{is_broken, is_falsified}
+use Rattle.sc_instances.specs.Saying.{count_of, literal_of}
+use Rattle.sc_rules.specs.Signed.{Signed, Said, so, unless, given}
+use Rattle.sc_rules.specs.Entities.{en2, en3, en5, en7, same_sets}
+use Rattle.sc_rules.specs.Terms.{above, member}
+use Rattle.th_entities.specs.Free.{IsFree, is_head_out, is_out, is_stored, is_tag}
+use Rattle.th_entities.proofs.PastLaws.{free_none}
+
+module _ (p : Posed) (m : Assignment) where
+  head_free : (s : Signed) (parts : List Signed) → is_out m (literal_for p s) ≡ false → is_falsified p m (Some (s ∷ parts)) ≡ false
+  unfolding is_falsified
+  head_free s parts h = ap (λ (b : Bool). b && is_broken m (clause_for p parts)) h
+
+  given_head : (test : Bool) (s : Signed) (parts others : List Signed) → is_head_out p m (given test (s ∷ others)) ≡ false → is_falsified p m (given test (s ∷ parts)) ≡ false
+  given_head true s parts others h = head_free s parts h
+  given_head false s parts others h = free_none p m None refl
+
+  -- the first literal of an instance, where it has any
+  pub head_of : (said : Said) (n : ℕ) (l : Lit) (b : Bool) → Some n ≡ count_of said → n ≢ 0 → l ≡ literal_of p said 0 → b ≡ is_out m l → b ≡ is_head_out p m said
+  unfolding said_clause
+  head_of None n l b e h f g = absurd cc
+  head_of (Some []) n l b e h f g = absurd (let z : n ≡ 0 = cc in h z)
+  head_of (Some (s ∷ parts)) n l b e h f g = g ∙ ap (is_out m) f
+
+  pub prune1 : (e f : ℕ) → ((g : ℕ) → entity_said p (En1 e g) ≡ None) → IsFree p m (En1 e f)
+  prune1 e f h = free_none p m _ (h f)
+
+  -- ---- EN2
+
+  head2 : (x s z : Tree) → is_head_out p m (en2 s s z) ≡ false → is_falsified p m (en2 x s z) ≡ false
+  head2 x (one o e) (one q f) h =
+      given_head (same_sets o q) (unless (equal_term e f)) (unless (member x (one o e)) ∷ so (member x (one q f)) ∷ []) (unless (member (one o e) (one o e)) ∷ so (member (one o e) (one q f)) ∷ []) h
+  head2 x (one o e) (leaf l) h = free_none p m None refl
+  head2 x (one o e) (two q a b) h = free_none p m None refl
+  head2 x (one o e) (choice c a b) h = free_none p m None refl
+  head2 x (one o e) (many q ts) h = free_none p m None refl
+  head2 x (leaf l) z h = free_none p m None refl
+  head2 x (two o a b) z h = free_none p m None refl
+  head2 x (choice c a b) z h = free_none p m None refl
+  head2 x (many o ts) z h = free_none p m None refl
+
+  on_head2 : (o q r : Option Tree) → is_head_out p m (on_three q q r en2) ≡ false → is_falsified p m (on_three o q r en2) ≡ false
+  on_head2 (Some x) (Some s) (Some z) h = head2 x s z h
+  on_head2 (Some x) (Some s) None h = free_none p m None refl
+  on_head2 (Some x) None r h = free_none p m None refl
+  on_head2 None q r h = free_none p m None refl
+
+  pub prune2 : (x s z : ℕ) → is_head_out p m (entity_said p (En2 s s z)) ≡ false → IsFree p m (En2 x s z)
+  prune2 x s z = on_head2 (term_of p x) (term_of p s) (term_of p z)
+
+  stored2 : (x s z : Tree) → is_stored (Some s) ≡ false → en2 x s z ≡ None
+  stored2 x (one o e) z h = absurd cc
+  stored2 x (leaf l) z h = refl
+  stored2 x (two o a b) z h = refl
+  stored2 x (choice c a b) z h = refl
+  stored2 x (many o ts) z h = refl
+
+  on_stored2 : (o q r : Option Tree) → is_stored q ≡ false → is_falsified p m (on_three o q r en2) ≡ false
+  on_stored2 (Some x) (Some s) (Some z) h = free_none p m _ (stored2 x s z h)
+  on_stored2 (Some x) (Some s) None h = free_none p m None refl
+  on_stored2 (Some x) None r h = free_none p m None refl
+  on_stored2 None q r h = free_none p m None refl
+
+  pub prune2s : (x s z : ℕ) → is_stored (term_of p s) ≡ false → IsFree p m (En2 x s z)
+  prune2s x s z = on_stored2 (term_of p x) (term_of p s) (term_of p z)
+
+  -- ---- EN3
+
+  tag3 : (a b : Tree) → is_tag (Some a) ≡ false → en3 a b ≡ None
+  tag3 (two (binary.Tag s) e k) b h = absurd cc
+  tag3 _ b h = refl
+
+  on_tag3 : (o q : Option Tree) → is_tag o ≡ false → is_falsified p m (on_two o q en3) ≡ false
+  on_tag3 (Some a) (Some b) h = free_none p m _ (tag3 a b h)
+  on_tag3 (Some a) None h = free_none p m None refl
+  on_tag3 None q h = free_none p m None refl
+
+  pub prune3 : (a b : ℕ) → is_tag (term_of p a) ≡ false → IsFree p m (En3 a b)
+  prune3 a b = on_tag3 (term_of p a) (term_of p b)
+
+  -- ---- EN5
+
+  head5 : (e f x u : Tree) → is_head_out p m (en5 e f f u) ≡ false → is_falsified p m (en5 e f x u) ≡ false
+  head5 e f x (one (unary.Ancestors k) g) h =
+      given_head (tree_eq f g) (unless (member f (above (tree_sort f) e))) (unless (member x (above k g)) ∷ so (member x (above k e)) ∷ []) (unless (member f (above k g)) ∷ so (member f (above k e)) ∷ []) h
+  head5 e f x _ h = free_none p m None refl
+
+  on_head5 : (o q r t : Option Tree) → is_head_out p m (on_four o q q t en5) ≡ false → is_falsified p m (on_four o q r t en5) ≡ false
+  on_head5 (Some e) (Some f) (Some x) (Some u) h = head5 e f x u h
+  on_head5 (Some e) (Some f) (Some x) None h = free_none p m None refl
+  on_head5 (Some e) (Some f) None t h = free_none p m None refl
+  on_head5 (Some e) None r t h = free_none p m None refl
+  on_head5 None q r t h = free_none p m None refl
+
+  pub prune5 : (e f x u : ℕ) → is_head_out p m (entity_said p (En5 e f f u)) ≡ false → IsFree p m (En5 e f x u)
+  prune5 e f x u = on_head5 (term_of p e) (term_of p f) (term_of p x) (term_of p u)
+
+  given_said : (test : Bool) (parts others : List Signed) → is_some (count_of (given test others)) ≡ false → is_falsified p m (given test parts) ≡ false
+  given_said true parts others h = absurd cc
+  given_said false parts others h = free_none p m None refl
+
+  said5 : (e f x u : Tree) → is_some (count_of (en5 u f u u)) ≡ false → is_falsified p m (en5 e f x u) ≡ false
+  said5 e f x (one (unary.Ancestors k) g) h =
+      given_said (tree_eq f g) (unless (member f (above (tree_sort f) e)) ∷ unless (member x (above k g)) ∷ so (member x (above k e)) ∷ [])
+      (unless (member f (above (tree_sort f) (above k g))) ∷ unless (member (above k g) (above k g)) ∷ so (member (above k g) (above k (above k g))) ∷ []) h
+  said5 e f x _ h = free_none p m None refl
+
+  on_said5 : (o q r t : Option Tree) → is_some (count_of (on_four t q t t en5)) ≡ false → is_falsified p m (on_four o q r t en5) ≡ false
+  on_said5 (Some e) (Some f) (Some x) (Some u) h = said5 e f x u h
+  on_said5 (Some e) (Some f) (Some x) None h = free_none p m None refl
+  on_said5 (Some e) (Some f) None t h = free_none p m None refl
+  on_said5 (Some e) None r t h = free_none p m None refl
+  on_said5 None q r t h = free_none p m None refl
+
+  pub prune5f : (e f x u : ℕ) → is_some (count_of (entity_said p (En5 u f u u))) ≡ false → IsFree p m (En5 e f x u)
+  prune5f e f x u = on_said5 (term_of p e) (term_of p f) (term_of p x) (term_of p u)
+
+  stored5 : (e f x u : Tree) → is_stored (Some u) ≡ false → en5 e f x u ≡ None
+  stored5 e f x (one o g) h = absurd cc
+  stored5 e f x (leaf l) h = refl
+  stored5 e f x (two o a b) h = refl
+  stored5 e f x (choice c a b) h = refl
+  stored5 e f x (many o ts) h = refl
+
+  on_stored5 : (o q r t : Option Tree) → is_stored t ≡ false → is_falsified p m (on_four o q r t en5) ≡ false
+  on_stored5 (Some e) (Some f) (Some x) (Some u) h = free_none p m _ (stored5 e f x u h)
+  on_stored5 (Some e) (Some f) (Some x) None h = free_none p m None refl
+  on_stored5 (Some e) (Some f) None t h = free_none p m None refl
+  on_stored5 (Some e) None r t h = free_none p m None refl
+  on_stored5 None q r t h = free_none p m None refl
+
+  pub prune5u : (e f x u : ℕ) → is_stored (term_of p u) ≡ false → IsFree p m (En5 e f x u)
+  prune5u e f x u = on_stored5 (term_of p e) (term_of p f) (term_of p x) (term_of p u)
+
+  -- ---- EN7
+
+  stored7 : (s x : Tree) → is_stored (Some s) ≡ false → en7 p.schema s x ≡ None
+  stored7 (one o g) x h = absurd cc
+  stored7 (leaf l) x h = refl
+  stored7 (two o a b) x h = refl
+  stored7 (choice c a b) x h = refl
+  stored7 (many o ts) x h = refl
+
+  on_stored7 : (o q : Option Tree) → is_stored o ≡ false → is_falsified p m (on_two o q (en7 p.schema)) ≡ false
+  on_stored7 (Some s) (Some x) h = free_none p m _ (stored7 s x h)
+  on_stored7 (Some s) None h = free_none p m None refl
+  on_stored7 None q h = free_none p m None refl
+
+  pub prune7 : (s x : ℕ) → is_stored (term_of p s) ≡ false → IsFree p m (En7 s x)
+  prune7 s x = on_stored7 (term_of p s) (term_of p x)

@@ -1,0 +1,9 @@
+//! The theory of entities: EN1 to EN8, on what is stored of entities that are equal, on ancestors,
+//! tags and declared actions.
+#![tactic(auto)]
+
+mod finding;
+mod testing;
+mod theory;
+
+pub use theory::Entities;

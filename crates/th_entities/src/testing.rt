@@ -1,0 +1,84 @@
+//! Tests that are taken before many instances are looked at.
+ghost use Rattle.std.specs.Prelude.{◌≡◌, ◌&&◌, ℕ, None, false, is_some};
+ghost use Rattle.sc_footprint.specs.Problems.{term_of};
+ghost use Rattle.sc_instances.specs.declared.rule.EntityRule.TheVariants.{En1};
+ghost use Rattle.sc_instances.specs.Instances.{entity_said};
+ghost use Rattle.sc_instances.specs.Saying.{count_of};
+ghost use Rattle.th_entities.specs.Free.{is_head_out as head_test, is_out as out_test, is_stored as stored_test, is_tag as tag_test};
+
+use sc_clauses::{Assignment, Lit, is_false, is_same};
+use sc_entity_rows::Said;
+use sc_footprint::Problem;
+use sc_instances::{EntityRule, Saying, TRUE, attributes};
+use sc_nodes::{BinaryOp, Node};
+
+/// Whether a literal is asked and false.
+fn is_out(m: &Assignment, lit: Lit) -> bool
+    ensures { result ≡ out_test m.now lit }
+{
+    lit.atom != 0 && !is_same(lit, TRUE) && is_false(m, lit)
+}
+
+/// Whether an instance is of its rule's form.
+pub(crate) fn is_said(problem: &Problem<'_>, rule: EntityRule) -> bool
+    ensures { result ≡ is_some (count_of (entity_said problem.now rule)) }
+{
+    let said = Said { problem, rule };
+    match said.count() {
+        Some(_) => true,
+        None => false,
+    }
+}
+
+/// Whether the first literal of an instance is asked and false.
+pub(crate) fn is_head_out(problem: &Problem<'_>, m: &Assignment, rule: EntityRule) -> bool
+    ensures { result ≡ head_test problem.now m.now (entity_said problem.now rule) }
+{
+    let said = Said { problem, rule };
+    let Some(count) = said.count() else {
+        return false;
+    };
+    if count == 0 {
+        return false;
+    }
+    is_out(m, said.literal(0))
+}
+
+/// Whether an entity has closed attributes.
+pub(crate) fn has_attributes(problem: &Problem<'_>, e: u64) -> bool
+    ensures { result ≡ false → (f : ℕ) → entity_said problem.now (En1 e f) ≡ None }
+{
+    let Some(at) = problem.term(e) else {
+        return false;
+    };
+    match attributes(problem, at) {
+        Some(_) => true,
+        None => false,
+    }
+}
+
+/// Whether a closed term is stored of an entity.
+pub(crate) fn is_stored(problem: &Problem<'_>, s: u64) -> bool
+    ensures { result ≡ stored_test (term_of problem.now s) }
+{
+    let Some(at) = problem.term(s) else {
+        return false;
+    };
+    match problem.terms().node(at) {
+        Node::One(_, _) => true,
+        _ => false,
+    }
+}
+
+/// Whether a closed term is a tag.
+pub(crate) fn is_tag(problem: &Problem<'_>, a: u64) -> bool
+    ensures { result ≡ tag_test (term_of problem.now a) }
+{
+    let Some(at) = problem.term(a) else {
+        return false;
+    };
+    match problem.terms().node(at) {
+        Node::Two(BinaryOp::Tag(_), _, _) => true,
+        _ => false,
+    }
+}
