@@ -9,10 +9,10 @@ use Rattle.sc_clauses.specs.declared.lit.Lit.{Lit}
 use Rattle.sc_clauses.specs.declared.step.Instance.{Instance}
 use Rattle.sc_clauses.specs.declared.step.Step.{Step}
 use Rattle.sc_clauses.specs.Clauses.{Clause}
-use Rattle.sc_boolean_footprint.specs.Problems.{Posed, atoms}
-use Rattle.sc_boolean_footprint.specs.Definitions.{defining}
-use Rattle.sc_boolean_footprint.specs.Theories.{IsListed, IsClauseOf}
-use Rattle.sc_boolean_footprint.specs.Truths.{truths, IsWorldOf, IsTrueIn, Satisfies, IsUnsatisfiable}
+use Rattle.sc_footprint.specs.Problems.{Posed, atoms}
+use Rattle.sc_footprint.specs.Definitions.{defining}
+use Rattle.sc_footprint.specs.Theories.{IsListed, IsClauseOf}
+use Rattle.sc_footprint.specs.Truths.{truths, IsWorldOf, IsTrueIn, Satisfies, IsUnsatisfiable}
 use Rattle.sc_checker.specs.Refutations.{is_listed, are_listed}
 use Rattle.sc_checker.specs.declared.checking.Verdict.{Verdict}
 use Rattle.sc_checker.specs.declared.checking.Verdict.TheVariants.{Refuted}

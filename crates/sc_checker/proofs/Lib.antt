@@ -5,7 +5,9 @@ pub mod RejectionLaws
 pub mod Soundness
 pub mod AcceptedLaws
 pub mod TextLaws
+pub mod NumberLaws
 pub mod WordLaws
+pub mod LineWordLaws
 pub mod LineLaws
 pub mod LineStepLaws
 pub mod ReadingLaws

@@ -1,13 +1,13 @@
 -- Laws of the words of a step's line.
-use Rattle.std.proofs.Common.{◌≡◌, ◌+◌, ◌-◌, ◌<◌, ◌≤◌, ◌==◌, ℕ, zero, suc, List, [], ◌∷◌, ◌++◌, map, take, drop, get_or, length, Bool, true, false, not, ◌||◌, nat_le, nat_lt, ⊎_elim, Option, Some, None, refl, sym, ap, ◌∙◌, subst, arith, add-one}
+use Rattle.std.proofs.Common.{◌≡◌, ◌<◌, ◌≤◌, ◌==◌, ℕ, zero, suc, List, [], ◌∷◌, ◌++◌, map, drop, get_or, length, Bool, true, false, not, ◌||◌, nat_le, nat_lt, ⊎_elim, Option, Some, None, refl, sym, ap, ◌∙◌, subst, arith}
+use Rattle.std.proofs.Math.Dec.{eqb-suc-zero}
 use Rattle.std.specs.List.{list_all, join_with_byte, slice_split, All}
 use Rattle.std.specs.Fmt.{decimal}
 use Rattle.std.specs.Str.{IsUtf8, IsAscii, bytes_eq}
-use Rattle.std.proofs.lemmas.Bool.{and_parts, and_from, leb-true, ltb-true, lt-ltb, not-true, both_ways, eq-eqb, ne_eqb, or_cases, true≢false}
+use Rattle.std.proofs.lemmas.Bool.{and_parts, and_from, leb-true, ltb-true, lt-ltb, both_ways, eq-eqb, ne_eqb, or_cases, true≢false}
 use Rattle.std.proofs.lemmas.Fmt.{decimal_injective, decimal_digit, decimal_is_IsNumeral}
 use Rattle.std.proofs.lemmas.Str.{IsUtf8-from_ascii}
 use Rattle.std.specs.Str.Parse.{AllDigits}
-use Rattle.std.proofs.lemmas.List.{take_rest}
 use Rattle.std.proofs.lemmas.List.Folds.{list_all-append}
 use Rattle.std.proofs.lemmas.List.Splits.{slice_split_none, slice_split_at, join_with_byte-slice_split}
 use Rattle.std.proofs.lemmas.Slice.Eq.{bytes_eq-Decides}
@@ -18,10 +18,12 @@ use Rattle.sc_clauses.specs.declared.step.Step.{Step}
 use Rattle.sc_clauses.specs.declared.step.Step.TheVariants.{Instance, Learned}
 use Rattle.sc_clauses.specs.declared.step.Instance as instance
 use Rattle.sc_clauses.specs.declared.step.Learned as learned
-use Rattle.sc_checker.specs.Writable.{is_number, is_between, is_letter_or_digit, is_rule_word, is_word, is_lit, is_hint, are_hints, is_instance, is_learned, is_writable}
-use Rattle.sc_checker.specs.Texts.{sign_text, word_text, lit_text, zero_text, has_no_zero, instance_words, hint_words, learned_words, step_words, step_line}
+use Rattle.sc_checker.specs.Writable.{is_lit, is_hint, are_hints, is_learned, is_writable}
+use Rattle.sc_footprint.specs.Written.{is_number, is_between, is_letter_or_digit, is_rule_word, is_word, is_instance}
+use Rattle.sc_checker.specs.Texts.{ended_words, sign_text, word_text, lit_text, zero_text, has_no_zero, instance_words, hint_words, learned_words, step_words, step_line}
 use Rattle.sc_checker.specs.Readings.{Reads}
-use Rattle.sc_checker.proofs.WordLaws.{number_small, hint_number, digit_at_least}
+use Rattle.sc_checker.proofs.NumberLaws.{number_small, digit_at_least}
+use Rattle.sc_checker.proofs.WordLaws.{hint_number}
 
 -- ---- bytes above the space
 
@@ -80,24 +82,6 @@ rest_same e = ap (drop 1) e
 pub cons_same : {X : Type 0} {x y : X} {a b : List X} → x ≡ y → a ≡ b → x ∷ a ≡ y ∷ b
 cons_same p q = λ i. p i ∷ q i
 
-pub snoc_same : {X : Type 0} (a b : List X) (x y : X) → a ++ x ∷ [] ≡ b ++ y ∷ [] → (a ≡ b) × (x ≡ y)
-snoc_same [] [] x y e = (refl, cc)
-snoc_same [] (c ∷ []) x y e = absurd cc
-snoc_same [] (c ∷ d ∷ b) x y e = absurd cc
-snoc_same (c ∷ []) [] x y e = absurd cc
-snoc_same (c ∷ d ∷ a) [] x y e = absurd cc
-snoc_same (c ∷ a) (d ∷ b) x y e =
-    let rest : a ++ x ∷ [] ≡ b ++ y ∷ [] = cc in
-    let first : c ≡ d = cc in
-    let parts = snoc_same a b x y rest in
-    (cons_same first parts.0, parts.1)
-
-pub map_last : {X Y : Type 0} (f : X → Y) (xs : List X) (n : ℕ) (d : X) → length xs ≡ n + 1 → map f xs ≡ map f (take n xs) ++ f (get_or xs n d) ∷ []
-map_last f [] n d e = absurd (omega arith)
-map_last f (x ∷ []) zero d e = refl
-map_last f (x ∷ y ∷ xs) zero d e = absurd (omega arith)
-map_last f (x ∷ xs) (suc n) d e = ap (λ ys. f x ∷ ys) (map_last f xs n d (omega arith))
-
 -- ---- literals, `0`, hints, `0`
 
 lit_no_zero_at : (n : ℕ) (b : Bool) → is_lit (record { atom = n; negated = b }) ≡ true → lit_text (record { atom = n; negated = b }) ≡ zero_text → ⊥
@@ -121,63 +105,88 @@ lits_no_zero (l ∷ c) e =
     let parts = and_parts (is_lit l) (list_all is_lit c) e in
     and_from _ (has_no_zero (map lit_text c)) (text_no_zero (lit_text l) _ refl (lit_no_zero l parts.0)) (lits_no_zero c parts.1)
 
-zero_not : (w : List ℕ) → not (bytes_eq w zero_text) ≡ true → w ≡ zero_text → ⊥
-zero_not w h e = true≢false (sym ((bytes_eq-Decides w zero_text).1 e) ∙ not-true (bytes_eq w zero_text) h)
+pub hint_no_zero : (h : ℕ) → is_hint h ≡ true → decimal h ≡ zero_text → ⊥
+hint_no_zero h t e = lit_no_zero (record { atom = h; negated = false }) t e
 
--- the literals end at the first `0`
-pub lits_end : (c : List Lit) (a b tail : List (List ℕ)) → list_all is_lit c ≡ true → has_no_zero a ≡ true → map lit_text c ++ zero_text ∷ tail ≡ a ++ zero_text ∷ b → (map lit_text c ≡ a) × (tail ≡ b)
-lits_end [] [] b tail t h e = (refl, cc)
-lits_end [] (w ∷ a) b tail t h e =
-    let same : w ≡ zero_text = cc in
-    absurd (zero_not w (and_parts (not (bytes_eq w zero_text)) (has_no_zero a) h).0 same)
-lits_end (l ∷ c) [] b tail t h e =
-    let same : lit_text l ≡ zero_text = cc in
-    absurd (lit_no_zero l (and_parts (is_lit l) (list_all is_lit c) t).0 same)
-lits_end (l ∷ c) (w ∷ a) b tail t h e =
-    let first : lit_text l ≡ w = cc in
-    let later : map lit_text c ++ zero_text ∷ tail ≡ a ++ zero_text ∷ b = cc in
-    let parts = lits_end c a b tail (and_parts (is_lit l) (list_all is_lit c) t).1 (and_parts (not (bytes_eq w zero_text)) (has_no_zero a) h).1 later in
-    (cons_same first parts.0, parts.1)
+-- ---- values, `0`, and further words
 
-pub learned_no_lits : (words a b : List (List ℕ)) → words ≡ a ++ zero_text ∷ b → has_no_zero a ≡ true → Reads (list_all is_lit) (map lit_text) a None → Reads is_learned learned_words words None
-learned_no_lits words a b is h none l t e =
-    let lits = (and_parts (list_all is_lit l.clause) (are_hints l.hints) t).0 in
-    none l.clause lits (lits_end l.clause a b (hint_words l.hints) lits h (e ∙ is)).0
+module _ {X : Type 0} (test : X → Bool) (text : X → List ℕ) (never : (x : X) → test x ≡ true → text x ≡ zero_text → ⊥) where
+  abbrev AreEnded : List (List ℕ) → Option (List X × List (List ℕ)) → Type 0
+  AreEnded words o = Reads (λ p. list_all test p.0) (ended_words text) words o
 
-pub learned_no_hints : (words a b : List (List ℕ)) → words ≡ a ++ zero_text ∷ b → has_no_zero a ≡ true → Reads are_hints hint_words b None → Reads is_learned learned_words words None
-learned_no_hints words a b is h none l t e =
+  -- what follows the first `0`
+  same_left : (xs ys : List X) (a b : List (List ℕ)) → list_all test xs ≡ true → list_all test ys ≡ true → map text xs ++ zero_text ∷ a ≡ map text ys ++ zero_text ∷ b → a ≡ b
+  same_left [] [] a b s t e = rest_same e
+  same_left [] (y ∷ ys) a b s t e = absurd (never y (and_parts (test y) (list_all test ys) t).0 (sym (first_same e)))
+  same_left (x ∷ xs) [] a b s t e = absurd (never x (and_parts (test x) (list_all test xs) s).0 (first_same e))
+  same_left (x ∷ xs) (y ∷ ys) a b s t e = same_left xs ys a b (and_parts (test x) (list_all test xs) s).1 (and_parts (test y) (list_all test ys) t).1 (rest_same e)
+
+  behind : (xs ys : List X) (words left : List (List ℕ)) → AreEnded words None → list_all test xs ≡ true → list_all test ys ≡ true → map text ys ++ zero_text ∷ left ≡ map text xs ++ words → ⊥
+  behind [] ys words left none s t e = none (ys, left) t e
+  behind (x ∷ xs) [] words left none s t e = never x (and_parts (test x) (list_all test xs) s).0 (sym (first_same e))
+  behind (x ∷ xs) (y ∷ ys) words left none s t e = behind xs ys words left none (and_parts (test x) (list_all test xs) s).1 (and_parts (test y) (list_all test ys) t).1 (rest_same e)
+
+  -- where no `0` ends the words behind some that are read, none ends all of them
+  more_none : (all words : List (List ℕ)) (xs : List X) → all ≡ map text xs ++ words → list_all test xs ≡ true → AreEnded words None → AreEnded all None
+  more_none all words xs is s none p t e = behind xs p.0 words p.1 none s t (e ∙ is)
+
+  other_word : (w : List ℕ) (ws left : List (List ℕ)) (ys : List X) → bytes_eq w zero_text ≡ false → Reads test text w None → list_all test ys ≡ true → map text ys ++ zero_text ∷ left ≡ w ∷ ws → ⊥
+  other_word w ws left [] f none t e = both_ways (bytes_eq w zero_text) f ((bytes_eq-Decides w zero_text).1 (sym (first_same e)))
+  other_word w ws left (y ∷ ys) f none t e = none y (and_parts (test y) (list_all test ys) t).0 (first_same e)
+
+  no_word : (left : List (List ℕ)) (ys : List X) → map text ys ++ zero_text ∷ left ≡ [] → ⊥
+  no_word left [] e = absurd cc
+  no_word left (y ∷ ys) e = absurd cc
+
+  -- a word that is neither `0` nor a value's
+  pub ended_none : (all words ws : List (List ℕ)) (w : List ℕ) (xs : List X) → all ≡ map text xs ++ words → words ≡ w ∷ ws → list_all test xs ≡ true → bytes_eq w zero_text ≡ false → Reads test text w None → AreEnded all None
+  ended_none all words ws w xs is next s f none = more_none all words xs is s (λ p t e. other_word w ws p.1 p.0 f none t (e ∙ next))
+
+  -- no word is left
+  pub ended_never : (all words : List (List ℕ)) (xs : List X) → all ≡ map text xs ++ words → words ≡ [] → list_all test xs ≡ true → AreEnded all None
+  ended_never all words xs is end s = more_none all words xs is s (λ p t e. no_word p.1 p.0 (e ∙ end))
+
+-- ---- the hints that end a line
+
+abbrev pub AreHints : List (List ℕ) → Option (List ℕ × List (List ℕ)) → Type 0
+AreHints words o = Reads (λ p. list_all is_hint p.0) (ended_words decimal) words o
+
+pub hints_none : (words : List (List ℕ)) → AreHints words None → Reads are_hints hint_words words None
+hints_none words none hints t e = none (hints, []) (and_parts _ (list_all is_hint hints) t).1 e
+
+pub hints_nothing : (words left : List (List ℕ)) (hints : List ℕ) → AreHints words (Some (hints, left)) → true ≡ (length hints == 0) → Reads are_hints hint_words words None
+hints_nothing words left (h ∷ hints) read none = absurd (true≢false (none ∙ eqb-suc-zero (length hints)))
+hints_nothing words left [] read none = λ hints t e. by hints t (e ∙ sym read.1) where
+  by : (hints : List ℕ) → are_hints hints ≡ true → hint_words hints ≡ zero_text ∷ left → ⊥
+  by [] t e = true≢false (sym t)
+  by (h ∷ hints) t e = hint_no_zero h (and_parts (is_hint h) (list_all is_hint hints) (and_parts _ (list_all is_hint (h ∷ hints)) t).1).0 (first_same e)
+
+pub hints_read : (words left : List (List ℕ)) (hints : List ℕ) → AreHints words (Some (hints, left)) → false ≡ (length hints == 0) → left ≡ [] → Reads are_hints hint_words words (Some hints)
+hints_read words left hints read some end =
+    (and_from _ (list_all is_hint hints) (ap not (sym some)) read.0, ap (λ (ws : List (List ℕ)). map decimal hints ++ zero_text ∷ ws) (sym end) ∙ read.1)
+
+pub hints_more : (words left : List (List ℕ)) (hints : List ℕ) (w : List ℕ) (ws : List (List ℕ)) → AreHints words (Some (hints, left)) → left ≡ w ∷ ws → Reads are_hints hint_words words None
+hints_more words left hints w ws read more others t e =
+    let end : [] ≡ left = same_left is_hint decimal hint_no_zero others hints [] left (and_parts _ (list_all is_hint others) t).1 read.0 (e ∙ sym read.1) in
+    absurd cc
+
+-- ---- the words of a learned clause
+
+abbrev pub AreLits : List (List ℕ) → Option (List Lit × List (List ℕ)) → Type 0
+AreLits words o = Reads (λ p. list_all is_lit p.0) (ended_words lit_text) words o
+
+pub learned_no_lits : (words : List (List ℕ)) → AreLits words None → Reads is_learned learned_words words None
+learned_no_lits words none l t e = none (l.clause, hint_words l.hints) (and_parts (list_all is_lit l.clause) (are_hints l.hints) t).0 e
+
+pub learned_no_hints : (words left : List (List ℕ)) (c : List Lit) → AreLits words (Some (c, left)) → Reads are_hints hint_words left None → Reads is_learned learned_words words None
+learned_no_hints words left c read none l t e =
     let parts = and_parts (list_all is_lit l.clause) (are_hints l.hints) t in
-    none l.hints parts.1 (lits_end l.clause a b (hint_words l.hints) parts.0 h (e ∙ is)).1
+    none l.hints parts.1 (same_left is_lit lit_text lit_no_zero l.clause c (hint_words l.hints) left parts.0 read.0 (e ∙ sym read.1))
 
--- ---- words cut from a list
-
-map_cut : {Y : Type 0} (f : Y → List ℕ) (ys : List Y) (i : ℕ) (d : Y) → i < length ys → map f ys ≡ map f (take i ys) ++ f (get_or ys i d) ∷ map f (drop (suc i) ys)
-map_cut f [] i d h = absurd (omega arith)
-map_cut f (y ∷ ys) zero d h = refl
-map_cut f (y ∷ ys) (suc i) d h = cons_same refl (map_cut f ys i d (omega arith))
-
--- the words around a `0`
-pub around_zero : {Y : Type 0} (f : Y → List ℕ) (ys : List Y) (i : ℕ) (d : Y) → i < length ys → bytes_eq (f (get_or ys i d)) zero_text ≡ true
-    → map f ys ≡ map f (take i ys) ++ zero_text ∷ map f (take (length ys - (i + 1)) (drop (i + 1) ys))
-around_zero f ys i d h e =
-    map_cut f ys i d h
-    ∙ ap (λ w. map f (take i ys) ++ w ∷ map f (drop (suc i) ys)) ((bytes_eq-Decides (f (get_or ys i d)) zero_text).0 e)
-    ∙ ap (λ k. map f (take i ys) ++ zero_text ∷ map f (drop k ys)) (sym (add-one i))
-    ∙ ap (λ zs. map f (take i ys) ++ zero_text ∷ map f zs) (sym (take_rest ys (i + 1)))
-
--- the words before a last `0`
-pub before_zero : {Y : Type 0} (f : Y → List ℕ) (ys : List Y) (d : Y) → 1 ≤ length ys → bytes_eq (f (get_or ys (length ys - 1) d)) zero_text ≡ true
-    → map f ys ≡ map f (take (length ys - 1) ys) ++ zero_text ∷ []
-before_zero f ys d h e =
-    map_last f ys (length ys - 1) d (omega arith)
-    ∙ ap (λ w. map f (take (length ys - 1) ys) ++ w ∷ []) ((bytes_eq-Decides (f (get_or ys (length ys - 1) d)) zero_text).0 e)
-
--- the words after a first one
-pub after_first : {Y : Type 0} (f : Y → List ℕ) (ys : List Y) (d : Y) (w : List ℕ) → 1 ≤ length ys → bytes_eq (f (get_or ys 0 d)) w ≡ true → w ∷ map f (take (length ys - 1) (drop 1 ys)) ≡ map f ys
-after_first f ys d w h e =
-    ap (λ zs. w ∷ map f zs) (take_rest ys 1)
-    ∙ ap (λ v. v ∷ map f (drop 1 ys)) (sym ((bytes_eq-Decides (f (get_or ys 0 d)) w).0 e))
-    ∙ sym (map_cut f ys 0 d (omega arith))
+pub learned_read : (words left : List (List ℕ)) (c : List Lit) (hints : List ℕ) → AreLits words (Some (c, left)) → Reads are_hints hint_words left (Some hints)
+    → Reads is_learned learned_words words (Some (record { clause = c; hints = hints }))
+learned_read words left c hints lits read =
+    (and_from (list_all is_lit c) (are_hints hints) lits.0 read.0, ap (λ (ws : List (List ℕ)). map lit_text c ++ zero_text ∷ ws) read.1 ∙ lits.1)
 
 -- ---- a line and its words
 
@@ -190,10 +199,11 @@ visible_digits (b ∷ bs) h =
 decimal_visible : (n : ℕ) → is_number n ≡ true → is_visible (decimal n) ≡ true
 decimal_visible n e = visible_digits (decimal n) (decimal_is_IsNumeral n (number_small n e)).0.1
 
-signs_visible : (signs : List Bool) → is_visible (map sign_text signs) ≡ true
+signs_visible : (signs : List (Option Bool)) → is_visible (map sign_text signs) ≡ true
 signs_visible [] = refl
-signs_visible (true ∷ signs) = signs_visible signs
-signs_visible (false ∷ signs) = signs_visible signs
+signs_visible (Some true ∷ signs) = signs_visible signs
+signs_visible (Some false ∷ signs) = signs_visible signs
+signs_visible (None ∷ signs) = signs_visible signs
 
 word_visible : (w : Word) → is_word w ≡ true → is_visible (word_text w) ≡ true
 word_visible (Number n) e = decimal_visible n e
@@ -251,7 +261,23 @@ pub line_split : (s : Step) → is_writable s ≡ true → slice_split (λ b. b 
 line_split (Instance i) e = words_split (116 ∷ []) (instance_words i) (step_visible (Instance i) e)
 line_split (Learned l) e = words_split (108 ∷ []) (learned_words l) (step_visible (Learned l) e)
 
--- what is read of a line's words is read of the line
-pub line_reads : (line : List ℕ) (words : List (List ℕ)) (o : Option Step) → words ≡ slice_split (λ b. b == 32) line → Reads is_writable step_words words o → Reads is_writable step_line line o
-line_reads line words (Some s) is read = (read.0, ap (join_with_byte 32) (read.1 ∙ is) ∙ join_with_byte-slice_split 32 line)
-line_reads line words None is none = λ s t e. none s t (sym (line_split s t) ∙ ap (slice_split (λ b. b == 32)) e ∙ sym is)
+-- what is read of the words behind a line's first one is read of the line
+pub line_reads : {X : Type 0} (make : X → Step) (test : X → Bool) (text : X → List (List ℕ)) (kind line : List ℕ) (words left : List (List ℕ)) (o : Option X)
+    → ((x : X) → is_writable (make x) ≡ test x) → ((x : X) → step_words (make x) ≡ kind ∷ text x)
+    → words ≡ slice_split (λ b. b == 32) line → words ≡ kind ∷ left → Reads test text left o → Reads test (λ x. step_line (make x)) line o
+line_reads make test text kind line words left (Some x) fits spelled cut is read =
+    (read.0, ap (join_with_byte 32) (spelled x ∙ ap (λ (ws : List (List ℕ)). kind ∷ ws) read.1 ∙ sym is ∙ cut) ∙ join_with_byte-slice_split 32 line)
+line_reads make test text kind line words left None fits spelled cut is none = λ x t e.
+    none x t (rest_same (sym (spelled x) ∙ sym (line_split (make x) (fits x ∙ t)) ∙ ap (slice_split (λ b. b == 32)) e ∙ sym cut ∙ is))
+
+-- a line with another first word
+pub line_none : {X : Type 0} (make : X → Step) (test : X → Bool) (text : X → List (List ℕ)) (kind line : List ℕ) (words : List (List ℕ))
+    → ((x : X) → is_writable (make x) ≡ test x) → ((x : X) → step_words (make x) ≡ kind ∷ text x)
+    → words ≡ slice_split (λ b. b == 32) line → ((rest : List (List ℕ)) → ¬ (words ≡ kind ∷ rest)) → Reads test (λ x. step_line (make x)) line None
+line_none make test text kind line words fits spelled cut other x t e =
+    other (text x) (cut ∙ ap (slice_split (λ b. b == 32)) (sym e) ∙ line_split (make x) (fits x ∙ t) ∙ spelled x)
+
+-- a line of neither kind
+pub neither_read : (line : List ℕ) → Reads is_learned (λ l. step_line (Learned l)) line None → Reads is_instance (λ i. step_line (Instance i)) line None → Reads is_writable step_line line None
+neither_read line no_learned no_instance (Instance i) t e = no_instance i t e
+neither_read line no_learned no_instance (Learned l) t e = no_learned l t e

@@ -14,11 +14,13 @@ use Rattle.sc_clauses.specs.declared.step.Step.{Step}
 use Rattle.sc_clauses.specs.declared.step.Step.TheVariants.{Instance, Learned}
 use Rattle.sc_clauses.specs.declared.step.Instance as instance
 use Rattle.sc_clauses.specs.declared.step.Learned as learned
-use Rattle.sc_checker.specs.LineSteps.{begins_with, likely_word, likely_lit, before_zero, after_zero, likely_learned, likely_instance, likely_step, step_of}
+use Rattle.sc_checker.specs.LineSteps.{begins_with, likely_sign, likely_word, likely_lit, before_zero, after_zero, likely_learned, likely_instance, likely_step, step_of}
 use Rattle.sc_checker.specs.Readings.{Reads}
 use Rattle.sc_checker.specs.Texts.{sign_text, word_text, lit_text, zero_text, has_no_zero, instance_words, hint_words, learned_words, step_words, step_line}
-use Rattle.sc_checker.specs.Writable.{is_number, is_rule_word, is_word, is_lit, is_hint, are_hints, is_instance, is_learned, is_writable}
-use Rattle.sc_checker.proofs.WordLaws.{number_small, hint_number, decimal_begins}
+use Rattle.sc_checker.specs.Writable.{is_lit, is_hint, are_hints, is_learned, is_writable}
+use Rattle.sc_footprint.specs.Written.{is_number, is_rule_word, is_word, is_instance}
+use Rattle.sc_checker.proofs.NumberLaws.{number_small, decimal_begins}
+use Rattle.sc_checker.proofs.WordLaws.{hint_number}
 use Rattle.sc_checker.proofs.LineLaws.{cons_same, lit_no_zero, lits_no_zero, text_no_zero, line_split}
 
 -- ---- words
@@ -31,25 +33,30 @@ no_sign : (sign n : ℕ) (w : List ℕ) → sign < 48 → is_number n ≡ true �
 no_sign sign n [] h e is = refl
 no_sign sign n (b ∷ w) h e is = let digit : 48 ≤ b = decimal_begins n w b e is in ne_eqb b sign (λ (q : b ≡ sign). absurd (omega arith))
 
-signs_back : (signs : List Bool) → map (λ b. b == 43) (map sign_text signs) ≡ signs
+signs_back : (signs : List (Option Bool)) → map likely_sign (map sign_text signs) ≡ signs
 signs_back [] = refl
-signs_back (true ∷ signs) = cons_same refl (signs_back signs)
-signs_back (false ∷ signs) = cons_same refl (signs_back signs)
+signs_back (Some true ∷ signs) = cons_same refl (signs_back signs)
+signs_back (Some false ∷ signs) = cons_same refl (signs_back signs)
+signs_back (None ∷ signs) = cons_same refl (signs_back signs)
 
-neither : {X : Type 0} (a b : Bool) (x y : X) → a ≡ false → b ≡ false → cond (a || b) x y ≡ y
-neither true b x y e f = absurd (true≢false e)
-neither false true x y e f = absurd (true≢false f)
-neither false false x y e f = refl
+neither : {X : Type 0} (a b c : Bool) (x y : X) → a ≡ false → b ≡ false → c ≡ false → cond (a || b || c) x y ≡ y
+neither true b c x y e f g = absurd (true≢false e)
+neither false true c x y e f g = absurd (true≢false f)
+neither false false true x y e f g = absurd (true≢false g)
+neither false false false x y e f g = refl
 
 otherwise : {X : Type 0} (a : Bool) (x y : X) → a ≡ false → cond a x y ≡ y
 otherwise true x y e = absurd (true≢false e)
 otherwise false x y e = refl
 
 word_back : (w : Word) → is_word w ≡ true → likely_word (word_text w) ≡ w
-word_back (Number n) e = neither _ _ _ _ (no_sign 43 n (decimal n) (omega arith) e refl) (no_sign 45 n (decimal n) (omega arith) e refl) ∙ ap Number (value_back n e)
+word_back (Number n) e =
+    neither _ _ _ _ _ (no_sign 43 n (decimal n) (omega arith) e refl) (no_sign 45 n (decimal n) (omega arith) e refl) (no_sign 46 n (decimal n) (omega arith) e refl)
+    ∙ ap Number (value_back n e)
 word_back (Signs []) e = absurd (true≢false (sym e))
-word_back (Signs (true ∷ signs)) e = ap Signs (signs_back (true ∷ signs))
-word_back (Signs (false ∷ signs)) e = ap Signs (signs_back (false ∷ signs))
+word_back (Signs (Some true ∷ signs)) e = ap Signs (signs_back (Some true ∷ signs))
+word_back (Signs (Some false ∷ signs)) e = ap Signs (signs_back (Some false ∷ signs))
+word_back (Signs (None ∷ signs)) e = ap Signs (signs_back (None ∷ signs))
 
 abbrev lit_at : Bool → ℕ → Lit
 lit_at b n = record { atom = n; negated = b }

@@ -7,18 +7,23 @@ use Rattle.sc_lists.proofs.ListLaws.{all_element}
 use Rattle.sc_lists.specs.Members.{Has}
 use Rattle.sc_lists.proofs.MemberLaws.{Contains-from_Has, Has-last}
 use Rattle.sc_clauses.specs.Clauses.{Clause}
+use Rattle.sc_clauses.specs.declared.step.Instance.{Instance}
+use Rattle.sc_clauses.specs.declared.step.Learned as learned
 use Rattle.sc_clauses.specs.declared.step.Step.{Step}
-use Rattle.sc_boolean_footprint.specs.Definitions.{defining}
-use Rattle.sc_boolean_footprint.specs.Problems.{Posed, atoms}
-use Rattle.sc_boolean_footprint.specs.Theories.{IsClauseOf}
-use Rattle.sc_boolean_footprint.specs.Truths.{truths, IsTrueIn, IsUnsatisfiable}
+use Rattle.sc_clauses.specs.declared.step.Step.TheVariants.{Instance as Taken, Learned}
+use Rattle.sc_world.specs.declared.world.World.{World}
+use Rattle.sc_footprint.specs.Definitions.{defining}
+use Rattle.sc_footprint.specs.Problems.{Posed, atoms, goal_literal}
+use Rattle.sc_footprint.specs.Theories.{IsClauseOf}
+use Rattle.sc_footprint.specs.Truths.{truths, IsTrueIn, IsWorldOf, IsUnsatisfiable}
+use Rattle.th_defs.specs.Laws.{before, defining_is}
 use Rattle.sc_checker.specs.declared.checking.Reason.{Reason}
 use Rattle.sc_checker.specs.declared.checking.Verdict.{Verdict}
 use Rattle.sc_checker.specs.declared.checking.Verdict.TheVariants.{Refuted}
-use Rattle.sc_checker.specs.Progress.{Progress, start, failed, taken, unless_at_fault, after_step, after_steps, verdict_at, verdict_of, IsChecked}
+use Rattle.sc_checker.specs.Progress.{Progress, start, failed, counted, grown, taken, unless_at_fault, after_step, after_steps, verdict_at, verdict_of, IsChecked}
 use Rattle.sc_checker.specs.Refutations.{is_nil}
-use Rattle.sc_checker.specs.Verdicts.{Rules, added, next, verdict_from, verdict}
-use Rattle.sc_checker.proofs.AcceptedLaws.{AreDefined, AreSound, all_hold, defining_listed}
+use Rattle.sc_checker.specs.Verdicts.{Rules, added, of_learned, next, verdict_from, verdict}
+use Rattle.sc_checker.proofs.AcceptedLaws.{AreDefined, AreSound, all_hold, defining_listed, rules_listed}
 use Rattle.sc_checker.proofs.Soundness.{added-holds, all-push}
 use Rattle.sc_checker.proofs.VerdictLaws.{AreListed, listed_more, nil_is}
 
@@ -49,6 +54,11 @@ stays_at_fault rules g s h = stays_by rules g s g.fault refl h
 -- a step that is taken, as one of its two kinds
 pub taken_step : (rules : Rules) (g h : Progress) (s t : Step) → false ≡ is_some g.fault → s ≡ t → h ≡ taken (added rules g.listed g.clauses t) g → h ≡ after_step rules g s
 taken_step rules g h s t e same is = is ∙ (ap (λ (x : Step). taken (added rules g.listed g.clauses x) g) (sym same) ∙ sym (no_fault rules g s (none_is g.fault e)))
+
+-- a learned clause whose literals and hints are handed on
+pub learned_taken : (g h : Progress) (clause : Clause) (hints : List ℕ) (l : learned.Learned) → clause ≡ l.clause → hints ≡ l.hints
+    → h ≡ taken (of_learned g.listed g.clauses (record { clause = clause; hints = hints })) g → h ≡ taken (of_learned g.listed g.clauses l) g
+learned_taken g h clause hints l same same' is = is ∙ (λ i. taken (of_learned g.listed g.clauses (record { clause = same i; hints = same' i })) g)
 
 -- ---- verdicts
 
@@ -86,7 +96,7 @@ pub start_checked : (p : Posed) → ((c : Clause) → Contains (defining p) c �
 start_checked p lawful defined = record {
   count = refl;
   fit = defining_listed p lawful;
-  room = λ e. one_at_least _ _;
+  room = λ e. subst (λ (cs : List Clause). 0 < length cs) (sym (defining_is p)) (one_at_least (before p) (goal_literal p ∷ []));
   hold = λ w s. all_hold p w (λ c h. defined w c s h);
   last = λ e. absurd (true≢false (sym e));
 }
@@ -142,3 +152,23 @@ pub verdict_is : (rules : Rules) (p : Posed) (log steps : List Step) (g h : Prog
 verdict_is rules p log steps g h v first same is told =
     told ∙ (ap verdict_of is ∙ (ap (λ (x : Progress). verdict_of (after_steps rules x steps)) first
     ∙ (ap (λ (ss : List Step). verdict_of (after_steps rules (start p) ss)) same ∙ start_verdict rules p log)))
+
+-- ---- instances of a theory
+
+-- the clause of an instance is one of the problem, and true in each well-formed world
+pub instance_checked : (p : Posed) (g : Progress) (i : Instance) (c : Clause) → IsClauseOf p c → ((w : World) → IsWorldOf p w → IsTrueIn p w c) → IsChecked p g → g.fault ≡ None
+    → IsChecked p (grown c (counted g))
+instance_checked p g i c lawful sound k e =
+    let one : Rules = record { accepts = λ j. true; clause_of = λ j. c } in
+    taken_checked p one g (Taken i) (Ok c) (rules_listed p one (λ j h. lawful)) (λ j w h formed. sound w formed) k e refl
+
+pub refused_checked : (p : Posed) (g : Progress) (number : ℕ) (reason : Reason) → IsChecked p g → IsChecked p (failed number reason (counted g))
+refused_checked p g number reason k = record { count = k.count; fit = k.fit; room = λ e. absurd cc; hold = k.hold; last = k.last }
+
+-- no instance is needed for what a learned clause gives
+abbrev pub no_rules : Rules
+no_rules = record { accepts = λ i. false; clause_of = λ i. [] }
+
+pub learned_checked : (p : Posed) (g h : Progress) (s : Step) (l : learned.Learned) → IsChecked p g → false ≡ is_some g.fault → s ≡ Learned l → h ≡ taken (of_learned g.listed g.clauses l) g → IsChecked p h
+learned_checked p g h s l k e same is =
+    checked_after p no_rules g h s (λ i f. absurd (true≢false (sym f))) (λ i w f formed. absurd (true≢false (sym f))) k (taken_step no_rules g h s (Learned l) e same is)

@@ -4,19 +4,24 @@ use Rattle.std.proofs.Math.Dec.{eqb-suc-zero}
 use Rattle.std.specs.Str.{bytes_eq}
 use Rattle.std.proofs.lemmas.Bool.{and_parts, and_from, not-true, eqb-true, true≢false}
 use Rattle.std.proofs.lemmas.List.{append-nil}
+use Rattle.sc_clauses.specs.declared.step.Instance as instance
+use Rattle.sc_clauses.specs.declared.step.Learned as learned
 use Rattle.sc_clauses.specs.declared.step.Step.{Step}
-use Rattle.sc_boolean_footprint.specs.Problems.{Posed}
+use Rattle.sc_clauses.specs.declared.step.Step.TheVariants.{Instance, Learned}
+use Rattle.sc_footprint.specs.Problems.{Posed}
 use Rattle.sc_checker.specs.declared.checking.Reason.{Reason}
 use Rattle.sc_checker.specs.declared.checking.Reason.TheVariants.{Malformed}
 use Rattle.sc_checker.specs.LineSteps.{step_of}
-use Rattle.sc_checker.specs.Progress.{Progress, start, failed, unless_at_fault, after_step, after_steps}
-use Rattle.sc_checker.specs.Readings.{AreWritable}
+use Rattle.sc_checker.specs.Progress.{Progress, start, failed, taken, unless_at_fault, after_step, after_steps}
+use Rattle.sc_checker.specs.Readings.{AreWritable, Reads}
 use Rattle.sc_checker.specs.Streams.{Checking, unread, first_words, after_reading, after_first, ended_line, after_byte, after}
 use Rattle.sc_checker.specs.Texts.{has_no_newline, step_line, steps_text, first_line}
-use Rattle.sc_checker.specs.Verdicts.{Rules}
-use Rattle.sc_checker.specs.Writable.{is_writable}
+use Rattle.sc_checker.specs.Verdicts.{Rules, of_instance, of_learned}
+use Rattle.sc_checker.specs.Writable.{is_learned, is_writable}
+use Rattle.sc_footprint.specs.Written.{is_instance}
+use Rattle.sc_checker.proofs.LineLaws.{neither_read}
 use Rattle.sc_checker.proofs.LineStepLaws.{step_is}
-use Rattle.sc_checker.proofs.ProgressLaws.{fault_stays, none_is}
+use Rattle.sc_checker.proofs.ProgressLaws.{fault_stays, no_fault, none_is}
 use Rattle.sc_checker.proofs.ReadingLaws.{line_first, line_no_newline}
 
 abbrev pub held : Bool → List ℕ → Progress → Checking
@@ -114,11 +119,19 @@ first_read line g e = ap (λ (t : Bool). cond t (between g) (not_begun g)) e
 pub first_refused : (line : List ℕ) (g : Progress) → false ≡ bytes_eq line first_words → not_begun g ≡ after_first line g
 first_refused line g e = ap (λ (t : Bool). cond t (between g) (not_begun g)) e
 
-pub reading_some : (rules : Rules) (line : List ℕ) (g h : Progress) (o : Option Step) (s : Step) → o ≡ step_of line → o ≡ Some s → h ≡ after_step rules g s → h ≡ after_reading rules g (step_of line)
-reading_some rules line g h o s is here e = e ∙ ap (after_reading rules g) (sym here ∙ is)
+-- the line of a learned clause, that of an instance, and a line of neither
+pub learned_line : (rules : Rules) (line : List ℕ) (g h : Progress) (l : learned.Learned) → g.fault ≡ None → Reads is_learned (λ k. step_line (Learned k)) line (Some l)
+    → h ≡ taken (of_learned g.listed g.clauses l) g → h ≡ after_reading rules g (step_of line)
+learned_line rules line g h l none read is = is ∙ (sym (no_fault rules g (Learned l) none) ∙ ap (after_reading rules g) (step_is line (Some (Learned l)) read))
 
-pub reading_none : (rules : Rules) (line : List ℕ) (g h : Progress) (o : Option Step) → o ≡ step_of line → o ≡ None → h ≡ failed (g.steps + 1) Malformed g → h ≡ after_reading rules g (step_of line)
-reading_none rules line g h o is here e = e ∙ ap (after_reading rules g) (sym here ∙ is)
+pub instance_line : (rules : Rules) (line : List ℕ) (g h : Progress) (i : instance.Instance) → g.fault ≡ None → Reads is_instance (λ k. step_line (Instance k)) line (Some i)
+    → h ≡ taken (of_instance rules i) g → h ≡ after_reading rules g (step_of line)
+instance_line rules line g h i none read is = is ∙ (sym (no_fault rules g (Instance i) none) ∙ ap (after_reading rules g) (step_is line (Some (Instance i)) read))
+
+pub other_line : (rules : Rules) (line : List ℕ) (g h : Progress) (number : ℕ) → Reads is_learned (λ k. step_line (Learned k)) line None → Reads is_instance (λ k. step_line (Instance k)) line None
+    → number ≡ g.steps + 1 → h ≡ failed number Malformed g → h ≡ after_reading rules g (step_of line)
+other_line rules line g h number no_learned no_instance next is =
+    is ∙ (ap (λ (n : ℕ). failed n Malformed g) next ∙ ap (after_reading rules g) (step_is line None (neither_read line no_learned no_instance)))
 
 -- a line of a log, by what the checker held
 pub line_taken : (rules : Rules) (begun : Bool) (kept line : List ℕ) (g h : Progress) → begun ≡ true → kept ≡ [] → h ≡ after_reading rules g (step_of line)

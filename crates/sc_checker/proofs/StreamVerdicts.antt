@@ -6,9 +6,9 @@ use Rattle.std.proofs.lemmas.List.{append-nil, length-append}
 use Rattle.std.proofs.lemmas.Slice.Eq.{bytes_eq-Decides}
 use Rattle.sc_clauses.specs.Clauses.{Clause}
 use Rattle.sc_clauses.specs.declared.step.Step.{Step}
-use Rattle.sc_boolean_footprint.specs.Definitions.{defining}
-use Rattle.sc_boolean_footprint.specs.Problems.{Posed, atoms}
-use Rattle.sc_boolean_footprint.specs.Truths.{IsUnsatisfiable}
+use Rattle.sc_footprint.specs.Definitions.{defining}
+use Rattle.sc_footprint.specs.Problems.{Posed, atoms}
+use Rattle.sc_footprint.specs.Truths.{IsUnsatisfiable}
 use Rattle.sc_checker.specs.declared.checking.Reason.{Reason}
 use Rattle.sc_checker.specs.declared.checking.Reason.TheVariants.{Malformed}
 use Rattle.sc_checker.specs.declared.checking.Verdict.{Verdict}

@@ -5,8 +5,8 @@ use Rattle.std.specs.List.{list_all}
 use Rattle.std.proofs.lemmas.List.Folds.{list_all-append}
 use Rattle.std.proofs.lemmas.Bool.{and_parts, and_from, true≢false}
 use Rattle.sc_clauses.specs.Clauses.{Clause, negation, is_in}
-use Rattle.sc_boolean_footprint.specs.Problems.{Posed, atoms}
-use Rattle.sc_boolean_footprint.specs.Definitions.{defining}
+use Rattle.sc_footprint.specs.Problems.{Posed, atoms}
+use Rattle.sc_footprint.specs.Definitions.{defining}
 use Rattle.sc_clauses.specs.declared.step.Instance as instance
 use Rattle.sc_clauses.specs.declared.step.Step.{Step}
 use Rattle.sc_clauses.specs.declared.step.Step.TheVariants.{Instance, Learned}

@@ -1,38 +1,17 @@
 -- Laws of words and of lists of words.
-use Rattle.std.proofs.Common.{◌≡◌, ◌<◌, ◌≤◌, ◌==◌, ◌^◌, ℕ, zero, suc, List, [], ◌∷◌, map, get_or, length, Bool, true, false, not, cond, ◌&&◌, Option, Some, None, option_map, Result, Ok, Err, nat_lt, refl, sym, ap, ◌∙◌, subst, arith}
+use Rattle.std.proofs.Common.{◌≡◌, ◌<◌, ◌≤◌, ◌==◌, ℕ, zero, suc, List, [], ◌∷◌, ◌++◌, map, get_or, length, Bool, true, false, not, Option, Some, None, option_map, refl, sym, ap, ◌∙◌, subst, arith}
 use Rattle.std.specs.List.{list_all}
 use Rattle.std.specs.Fmt.{decimal}
-use Rattle.std.specs.Str.{IsUtf8, bytes_eq}
-use Rattle.std.specs.Str.Parse.{ParsesUnsigned, AllDigits}
-use Rattle.std.specs.Char.{digit_value}
-use Rattle.std.proofs.lemmas.Bool.{and_parts, and_from, ltb-true, ltb-false, true≢false}
-use Rattle.std.proofs.lemmas.Fmt.{IsAscii-decimal, parse-decimal, decimal_is_IsNumeral, decimal_injective}
-use Rattle.std.proofs.lemmas.Str.{IsUtf8-from_ascii}
-use Rattle.std.proofs.lemmas.Slice.Eq.{bytes_eq-Decides}
+use Rattle.std.proofs.lemmas.Bool.{and_parts, true≢false}
+use Rattle.std.proofs.lemmas.Fmt.{decimal_injective}
 use Rattle.sc_lists.proofs.ListLaws.{map_itself}
-use Rattle.sc_checker.specs.Writable.{is_number, is_hint, is_lit}
+use Rattle.sc_checker.specs.Writable.{is_hint, is_lit}
+use Rattle.sc_footprint.specs.Written.{is_number}
 use Rattle.sc_checker.specs.Texts.{sign_text, lit_text}
 use Rattle.sc_checker.specs.Readings.{Reads}
+use Rattle.sc_checker.proofs.NumberLaws.{number_small, decimal_begins}
 
--- ---- numbers
-
-pub number_small : (n : ℕ) → is_number n ≡ true → n < 2 ^ 64
-number_small n e = let small : n < 10 ^ 18 = ltb-true n (10 ^ 18) e in omega arith
-
-pub number_not_text : (word : List ℕ) → ¬ IsUtf8 word → Reads is_number decimal word None
-number_not_text word h n t e = h (subst IsUtf8 e (IsUtf8-from_ascii (decimal n) (IsAscii-decimal n (number_small n t))))
-
-pub number_not_parsed : {E : Type 0} (word text : List ℕ) (r : Result ℕ E) (error : E) → text ≡ word → ParsesUnsigned 64 10 text r → r ≡ Err error → Reads is_number decimal word None
-number_not_parsed word text r error same h is n t e =
-    let parsed : r ≡ Ok n = parse-decimal 64 n text r (number_small n t) (number_small n t) (same ∙ sym e) h in
-    absurd cc
-
-pub number_not_written : {E : Type 0} (word text : List ℕ) (r : Result ℕ E) (m : ℕ) → text ≡ word → ParsesUnsigned 64 10 text r → r ≡ Ok m → is_number m && bytes_eq (decimal m) word ≡ false → Reads is_number decimal word None
-number_not_written word text r m same h is f n t e =
-    let parsed : r ≡ Ok n = parse-decimal 64 n text r (number_small n t) (number_small n t) (same ∙ sym e) h in
-    let equal : n ≡ m = cc in
-    true≢false (sym (and_from (is_number m) (bytes_eq (decimal m) word) (subst (λ (k : ℕ). is_number k ≡ true) equal t)
-    (subst (λ (k : ℕ). bytes_eq (decimal k) word ≡ true) equal ((bytes_eq-Decides (decimal n) word).1 e))) ∙ f)
+-- ---- hints
 
 pub hint_number : (n : ℕ) → is_hint n ≡ true → is_number n ≡ true
 hint_number n e = (and_parts _ (is_number n) e).1
@@ -43,21 +22,6 @@ hint_not_positive word m s w f n t e =
     true≢false (sym (subst (λ (k : ℕ). is_hint k ≡ true) same t) ∙ f)
 
 -- ---- literals
-
-digit_at : (b x : ℕ) (t : Bool) → nat_lt b 48 ≡ t → cond t 36 x < 10 → 48 ≤ b
-digit_at b x true e h = absurd (omega arith)
-digit_at b x false e h = ltb-false b 48 e
-
-pub digit_at_least : (b : ℕ) → digit_value b < 10 → 48 ≤ b
-digit_at_least b h = digit_at b _ (nat_lt b 48) refl h
-
-digits_begin : (bs rest : List ℕ) (b : ℕ) → bs ≡ b ∷ rest → AllDigits 10 bs → digit_value b < 10
-digits_begin [] rest b e h = absurd cc
-digits_begin (c ∷ bs) rest b e h = let same : c ≡ b = cc in subst (λ (x : ℕ). digit_value x < 10) same h.0
-
--- a number's text begins with a digit
-pub decimal_begins : (n : ℕ) (rest : List ℕ) (b : ℕ) → is_number n ≡ true → decimal n ≡ b ∷ rest → 48 ≤ b
-decimal_begins n rest b e h = digit_at_least b (digits_begin (decimal n) rest b h (decimal_is_IsNumeral n (number_small n e)).0.1)
 
 pub decimal_no_minus : (n : ℕ) (rest : List ℕ) → is_number n ≡ true → decimal n ≡ 45 ∷ rest → ⊥
 decimal_no_minus n rest e h = let least : 48 ≤ 45 = decimal_begins n rest 45 e h in absurd (omega arith)
@@ -79,6 +43,16 @@ each_none test text f (y ∷ ys) zero d h none [] t e = absurd cc
 each_none test text f (y ∷ ys) zero d h none (x ∷ xs) t e = none x (and_parts (test x) (list_all test xs) t).0 cc
 each_none test text f (y ∷ ys) (suc i) d h none [] t e = absurd cc
 each_none test text f (y ∷ ys) (suc i) d h none (x ∷ xs) t e = each_none test text f ys i d (omega arith) none xs (and_parts (test x) (list_all test xs) t).1 cc
+
+-- so where the first one behind some that are read has none
+behind : {X T : Type 0} (test : X → Bool) (text : X → T) (ws : List T) (w : T) (xs ys : List X) → Reads test text w None → list_all test ys ≡ true → map text ys ≡ map text xs ++ w ∷ ws → ⊥
+behind test text ws w [] [] none t e = absurd cc
+behind test text ws w [] (y ∷ ys) none t e = none y (and_parts (test y) (list_all test ys) t).0 cc
+behind test text ws w (x ∷ xs) [] none t e = absurd cc
+behind test text ws w (x ∷ xs) (y ∷ ys) none t e = behind test text ws w xs ys none (and_parts (test y) (list_all test ys) t).1 cc
+
+pub next_none : {X T : Type 0} (test : X → Bool) (text : X → T) (all words ws : List T) (w : T) (xs : List X) → all ≡ map text xs ++ words → words ≡ w ∷ ws → Reads test text w None → Reads (list_all test) (map text) all None
+next_none test text all words ws w xs is next none ys t e = behind test text ws w xs ys none t (e ∙ (is ∙ ap (λ (us : List _). map text xs ++ us) next))
 
 all_true : {X : Type 0} (xs : List X) → list_all (λ x. true) xs ≡ true
 all_true [] = refl

@@ -1,5 +1,5 @@
 -- The step whose line some bytes are.
-use Rattle.std.specs.Prelude.{◌&&◌, ◌||◌, ◌==◌, ℕ, List, [], ◌∷◌, map, drop, get_or, Bool, true, false, Option, Some, None, if◌then◌else◌}
+use Rattle.std.specs.Prelude.{◌&&◌, ◌||◌, ◌==◌, ℕ, List, [], ◌∷◌, map, drop, get_or, length, Bool, true, false, not, nat_lt, nat_le, Option, Some, None, if◌then◌else◌}
 use Rattle.std.specs.List.{slice_split}
 use Rattle.std.specs.Str.{bytes_eq}
 use Rattle.std.specs.Str.Parse.{digits_value}
@@ -13,14 +13,29 @@ use Rattle.sc_clauses.specs.declared.step.Step.TheVariants.{Instance, Learned}
 use Rattle.sc_checker.specs.Texts.{zero_text, step_line}
 use Rattle.sc_checker.specs.Writable.{is_writable}
 
+-- ---- the words of a line
+
+-- the words of what is left of a line; behind its end there are none
+abbrev pub words_in : Option (List ℕ) → List (List ℕ)
+words_in None = []
+words_in (Some rest) = slice_split (λ b. b == 32) rest
+
 -- ---- what a text could only be, where it is one at all
 
 abbrev pub begins_with : ℕ → List ℕ → Bool
 begins_with byte [] = false
 begins_with byte (b ∷ bs) = b == byte
 
+-- as many bytes as a number has digits, of which the first is `0` only where there is one
+abbrev pub has_number_form : List ℕ → Bool
+has_number_form w = nat_lt 0 (length w) && nat_le (length w) 18 && (length w == 1 || not (begins_with 48 w))
+
+abbrev pub likely_sign : ℕ → Option Bool
+likely_sign b = if b == 46 then None else Some (b == 43)
+
+-- a word that begins with `+`, `-` or `.` could only be signs
 abbrev pub likely_word : List ℕ → Word
-likely_word w = if begins_with 43 w || begins_with 45 w then Signs (map (λ b. b == 43) w) else Number (digits_value 10 w)
+likely_word w = if begins_with 43 w || begins_with 45 w || begins_with 46 w then Signs (map likely_sign w) else Number (digits_value 10 w)
 
 abbrev pub likely_lit : List ℕ → Lit
 likely_lit w = if begins_with 45 w then record { atom = digits_value 10 (drop 1 w); negated = true } else record { atom = digits_value 10 w; negated = false }

@@ -4,9 +4,9 @@ use Rattle.std.specs.List.{AllByRecursion, Contains}
 use Rattle.sc_clauses.specs.Clauses.{Clause}
 use Rattle.sc_clauses.specs.declared.step.Step.{Step}
 use Rattle.sc_world.specs.declared.world.World.{World}
-use Rattle.sc_boolean_footprint.specs.Problems.{Posed, atoms}
-use Rattle.sc_boolean_footprint.specs.Definitions.{defining}
-use Rattle.sc_boolean_footprint.specs.Truths.{IsTrueIn, Satisfies}
+use Rattle.sc_footprint.specs.Problems.{Posed, atoms}
+use Rattle.sc_footprint.specs.Definitions.{defining}
+use Rattle.sc_footprint.specs.Truths.{IsTrueIn, Satisfies}
 use Rattle.sc_checker.specs.declared.checking.Reason.{Reason}
 use Rattle.sc_checker.specs.declared.checking.Reason.TheVariants.{NotEmpty}
 use Rattle.sc_checker.specs.declared.checking.Verdict.{Verdict}

@@ -3,8 +3,8 @@ use Rattle.std.specs.Prelude.{◌≡◌, ◌≢◌, ◌==◌, ◌+◌, ℕ, List
 use Rattle.std.specs.Str.{bytes_eq}
 use Rattle.sc_clauses.specs.Clauses.{Clause}
 use Rattle.sc_clauses.specs.declared.step.Step.{Step}
-use Rattle.sc_boolean_footprint.specs.Problems.{Posed, atoms}
-use Rattle.sc_boolean_footprint.specs.Definitions.{defining}
+use Rattle.sc_footprint.specs.Problems.{Posed, atoms}
+use Rattle.sc_footprint.specs.Definitions.{defining}
 use Rattle.sc_checker.specs.declared.checking.Reason.TheVariants.{Malformed}
 use Rattle.sc_checker.specs.declared.checking.Verdict.{Verdict}
 use Rattle.sc_checker.specs.declared.checking.Verdict.TheVariants.{Rejected}

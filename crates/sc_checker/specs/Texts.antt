@@ -1,5 +1,5 @@
 -- The text of a log.
-use Rattle.std.specs.Prelude.{◌==◌, ℕ, List, [], ◌∷◌, ◌++◌, map, Bool, true, false, not, codes, if◌then◌else◌}
+use Rattle.std.specs.Prelude.{◌==◌, ℕ, List, [], ◌∷◌, ◌++◌, map, Bool, true, false, not, Option, Some, None, codes, if◌then◌else◌}
 use Rattle.std.specs.Str.{bytes_eq}
 use Rattle.std.specs.Fmt.{decimal}
 use Rattle.std.specs.List.{flat_map, list_all, join_with_byte}
@@ -11,10 +11,11 @@ use Rattle.sc_clauses.specs.declared.step.Learned as learned
 use Rattle.sc_clauses.specs.declared.step.Step.{Step}
 use Rattle.sc_clauses.specs.declared.step.Step.TheVariants.{Instance, Learned}
 
--- `+` or `-`
-abbrev pub sign_text : Bool → ℕ
-sign_text true = 43
-sign_text false = 45
+-- `+`, `-`, or `.` where there is no sign
+abbrev pub sign_text : Option Bool → ℕ
+sign_text (Some true) = 43
+sign_text (Some false) = 45
+sign_text None = 46
 
 abbrev pub word_text : Word → List ℕ
 word_text (Number n) = decimal n
@@ -35,6 +36,10 @@ has_no_zero words = list_all (λ w. not (bytes_eq w zero_text)) words
 abbrev pub instance_words : instance.Instance → List (List ℕ)
 instance_words i = i.rule ∷ map word_text i.words
 
+-- the words of values, `0`, and further words
+abbrev pub ended_words : {X : Type 0} → (X → List ℕ) → List X × List (List ℕ) → List (List ℕ)
+ended_words text p = map text p.0 ++ zero_text ∷ p.1
+
 -- the hints, `0`
 abbrev pub hint_words : List ℕ → List (List ℕ)
 hint_words hints = map decimal hints ++ zero_text ∷ []
@@ -52,8 +57,12 @@ step_words (Learned l) = (108 ∷ []) ∷ learned_words l
 abbrev pub step_line : Step → List ℕ
 step_line s = join_with_byte 32 (step_words s)
 
+-- no byte is this one
+abbrev pub lacks : ℕ → List ℕ → Bool
+lacks byte bytes = list_all (λ b. not (b == byte)) bytes
+
 abbrev pub has_no_newline : List ℕ → Bool
-has_no_newline bytes = list_all (λ b. not (b == 10)) bytes
+has_no_newline bytes = lacks 10 bytes
 
 -- a line of its own for each step; a newline ends it
 abbrev pub steps_text : List Step → List ℕ

@@ -1,8 +1,8 @@
 -- Which logs are accepted, and the verdict on a log.
-use Rattle.std.specs.Prelude.{◌≡◌, ◌≢◌, ◌&&◌, ◌+◌, ℕ, List, [], ◌∷◌, ◌++◌, Bool, false, Result, Ok, Err, length, if◌then◌else◌}
+use Rattle.std.specs.Prelude.{◌≡◌, ◌≢◌, ◌↔◌, ◌&&◌, IsTrue, ◌+◌, ℕ, List, [], ◌∷◌, ◌++◌, Bool, false, Result, Ok, Err, length, if◌then◌else◌}
 use Rattle.sc_clauses.specs.Clauses.{Clause}
-use Rattle.sc_boolean_footprint.specs.Problems.{Posed, atoms}
-use Rattle.sc_boolean_footprint.specs.Definitions.{defining}
+use Rattle.sc_footprint.specs.Problems.{Posed, atoms}
+use Rattle.sc_footprint.specs.Definitions.{defining}
 use Rattle.sc_clauses.specs.declared.step.Instance as instance
 use Rattle.sc_clauses.specs.declared.step.Learned as learned
 use Rattle.sc_clauses.specs.declared.step.Step.{Step}
@@ -18,9 +18,10 @@ pub record Rules : Type 0 where
   pub accepts : instance.Instance → Bool
   pub clause_of : instance.Instance → Clause
 
--- those of a theory at a problem, by which instances it has and the clause of each
-abbrev pub rules_at : {S : Type 0} → (S → Posed → instance.Instance → Bool) → (S → Posed → instance.Instance → Clause) → S → Posed → Rules
-rules_at has_instance clause_of rules p = record { accepts = has_instance rules p; clause_of = clause_of rules p }
+-- a test that tells just which instances a theory has at a problem, and their clauses
+pub record AreRules {S : Type 0} (has_instance : S → Posed → instance.Instance → Type 0) (clause_of : S → Posed → instance.Instance → Clause) (theory : S) (p : Posed) (rules : Rules) : Type 0 where
+  pub decides : (i : instance.Instance) → IsTrue (rules.accepts i) ↔ has_instance theory p i
+  pub clauses : (i : instance.Instance) → rules.clause_of i ≡ clause_of theory p i
 
 -- the clause of an instance, where the rules have it
 abbrev pub of_instance : Rules → instance.Instance → Result Clause Reason

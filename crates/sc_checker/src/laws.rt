@@ -6,7 +6,7 @@ ghost use Rattle.sc_checker.specs.Streams.{Checking as AnyChecking, unread, afte
 ghost use Rattle.sc_checker.specs.Texts.{step_line};
 ghost use Rattle.sc_checker.specs.Verdicts.{Rules as AnyRules};
 ghost use Rattle.sc_checker.specs.Writable.{is_writable};
-ghost use Rattle.sc_boolean_footprint.specs.Problems.{Posed};
+ghost use Rattle.sc_footprint.specs.Problems.{Posed};
 
 use crate::checking::Verdict;
 

@@ -3,15 +3,20 @@
 #![tactic(auto)]
 
 mod checking;
+mod cutting;
 mod known;
 mod laws;
 mod line_checker;
+mod line_words;
 mod lines;
 mod log;
+mod numbers;
 mod reading;
 mod refuting;
 mod steps;
 mod stream;
+#[cfg(test)]
+mod tests;
 mod words;
 mod writing;
 

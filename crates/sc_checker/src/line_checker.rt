@@ -5,13 +5,13 @@ ghost use Rattle.sc_checker.specs.LineSteps.{step_of};
 ghost use Rattle.sc_checker.specs.Progress.{IsChecked};
 ghost use Rattle.sc_checker.specs.Streams.{unread, first_words, after_reading, ended_line, line_number, after, ended};
 ghost use Rattle.sc_checker.specs.Texts.{has_no_newline};
-ghost use Rattle.sc_checker.specs.Verdicts.{Rules as AnyRules, rules_at};
+ghost use Rattle.sc_checker.specs.Verdicts.{Rules as AnyRules, AreRules};
 
 use crate::checking::{Reason, Verdict};
-use crate::lines::read_step;
+use crate::lines::{Room, read_instance, read_learned};
 use crate::reading::cut_line;
 use crate::steps::StepChecker;
-use sc_boolean_footprint::{Problem, Theory};
+use sc_footprint::{Problem, Theory};
 use std::alloc::{AllocError, Global};
 use std::marker::Model;
 use std::mem;
@@ -21,6 +21,7 @@ use std::mem;
 pub(crate) struct LineChecker {
     begun: bool,
     line: Vec<u8>,
+    room: Room,
     steps: StepChecker,
 }
 
@@ -42,6 +43,7 @@ fn is_first(line: &[u8]) -> bool
 /// Takes the step of a line.
 fn take_line<T: Theory>(
     steps: &mut StepChecker,
+    room: &mut Room,
     alloc: Global,
     rules: &T,
     problem: &Problem<'_>,
@@ -49,12 +51,15 @@ fn take_line<T: Theory>(
 ) -> Result<(), AllocError>
     requires checked { IsChecked problem.now steps.old }
     requires going { steps.old.fault ≡ None }
-    ensures taken { OnOk result (steps.new ≡ after_reading
-        (rules_at T.has_instance T.clause_of rules.now problem.now) steps.old (step_of line.now)) }
+    ensures taken { OnOk result ((tests : AnyRules) → AreRules T.has_instance T.clause_of rules.now problem.now tests
+        → steps.new ≡ after_reading tests steps.old (step_of line.now)) }
     ensures checked { OnOk result (IsChecked problem.now steps.new) }
 {
-    match read_step(alloc, line)? {
-        Some(step) => steps.take(alloc, rules, problem, &step),
+    if read_learned(line, room)? {
+        return steps.take_learned(room.clause.as_slice(), room.hints.as_slice());
+    }
+    match read_instance(alloc, line)? {
+        Some(instance) => steps.take_instance(alloc, rules, problem, &instance),
         None => {
             steps.fail(steps.next_number(), Reason::Malformed);
             Ok(())
@@ -72,6 +77,7 @@ impl LineChecker {
         Ok(LineChecker {
             begun: false,
             line: Vec::new(alloc),
+            room: Room::new(alloc),
             steps,
         })
     }
@@ -87,12 +93,13 @@ impl LineChecker {
         requires checked { IsChecked problem.now self.old.progress }
         requires going { self.old.progress.fault ≡ None }
         requires nothing { self.old.line ≡ [] }
-        ensures taken { OnOk result (self.new ≡ ended_line
-            (rules_at T.has_instance T.clause_of rules.now problem.now) self.old.begun line.now self.old.progress) }
+        ensures taken { OnOk result ((tests : AnyRules)
+            → AreRules T.has_instance T.clause_of rules.now problem.now tests
+            → self.new ≡ ended_line tests self.old.begun line.now self.old.progress) }
         ensures checked { OnOk result (IsChecked problem.now self.new.progress) }
     {
         if self.begun {
-            return take_line(&mut self.steps, alloc, rules, problem, line);
+            return take_line(&mut self.steps, &mut self.room, alloc, rules, problem, line);
         }
         if is_first(line) {
             self.begun = true;
@@ -112,8 +119,8 @@ impl LineChecker {
     ) -> Result<(), AllocError>
         requires checked { IsChecked problem.now self.old.progress }
         requires end { IsTrue (has_no_newline end.now) }
-        ensures read { OnOk result (self.new ≡ after
-            (rules_at T.has_instance T.clause_of rules.now problem.now) self.old (end.now ++ 10 ∷ [])) }
+        ensures read { OnOk result ((tests : AnyRules) → AreRules T.has_instance T.clause_of rules.now problem.now tests
+            → self.new ≡ after tests self.old (end.now ++ 10 ∷ [])) }
         ensures checked { OnOk result (IsChecked problem.now self.new.progress) }
     {
         if self.steps.is_at_fault() {
@@ -149,8 +156,8 @@ impl LineChecker {
         piece: &[u8],
     ) -> Result<(), AllocError>
         requires { IsChecked problem.now self.old.progress }
-        ensures read { OnOk result (self.new
-            ≡ after (rules_at T.has_instance T.clause_of rules.now problem.now) self.old piece.now) }
+        ensures read { OnOk result ((tests : AnyRules) → AreRules T.has_instance T.clause_of rules.now problem.now tests
+            → self.new ≡ after tests self.old piece.now) }
         ensures checked { OnOk result (IsChecked problem.now self.new.progress) }
     {
         let mut rest = piece;

@@ -1,30 +1,51 @@
 //! Reads the line of a step.
-ghost use Rattle.std.specs.Prelude.{◌≡◌, [], ◌∷◌, ◌++◌, ◌==◌, ℕ, List, map, IfOk, IsTrue, MatchOption};
-ghost use Rattle.std.specs.List.{slice_split};
+ghost use Rattle.std.specs.Prelude.{◌≡◌, ◌∷◌, ℕ, List, false, IfOk, IsTrue, MatchBool, if◌then◌else◌};
 ghost use Rattle.std.specs.Str.{bytes_eq};
-ghost use Rattle.sc_checker.specs.LineSteps.{step_of};
 ghost use Rattle.sc_checker.specs.Readings.{Reads};
-ghost use Rattle.sc_checker.specs.Texts.{zero_text, has_no_zero, instance_words, hint_words, learned_words, step_words, step_line};
-ghost use Rattle.sc_checker.specs.Writable.{is_rule_word, is_instance, are_hints, is_learned, is_writable};
+ghost use Rattle.sc_checker.specs.Texts.{instance_words, hint_words, learned_words, step_line};
+ghost use Rattle.sc_checker.specs.Writable.{are_hints, is_learned, is_writable};
+ghost use Rattle.sc_footprint.specs.Written.{is_rule_word, is_instance};
 
+use crate::line_words::LineWords;
 use crate::log::is_rule_word;
-use crate::words::{hints_of, lits_of, words_of};
-use sc_clauses::{Instance, Learned, Step};
+use crate::words::{read_hints, read_lits, words_of};
+use sc_clauses::{Instance, Learned, Lit, Step};
 use sc_lists::{Seq, Text};
 use std::alloc::{AllocError, Global};
 use std::str;
 
-/// The words of a line, which single spaces separate.
-fn split_words(alloc: Global, line: &[u8]) -> Result<Vec<&[u8]>, AllocError>
-    ensures { IfOk result (λ words. map (λ w. w.now) words.items ≡ slice_split (λ b. b == 32) line.now) }
-{
-    line.split(|byte| *byte == b' ').collect(alloc)
+/// Memory for the literals and the hints of a learned clause, which serves one line after another.
+#[derive(Drop)]
+pub(crate) struct Room {
+    pub(crate) clause: Vec<Lit>,
+    pub(crate) hints: Vec<u64>,
+}
+
+impl Room {
+    /// No memory yet.
+    pub(crate) fn new(alloc: Global) -> Room {
+        Room {
+            clause: Vec::new(alloc),
+            hints: Vec::new(alloc),
+        }
+    }
 }
 
 fn is_same(a: &[u8], b: &[u8]) -> bool
     ensures { result ≡ bytes_eq a.now b.now }
 {
     a == b
+}
+
+/// Takes the first word of a line, and tells whether it is this one.
+fn begins(words: &mut LineWords<'_>, first: &[u8]) -> bool
+    ensures { MatchBool result (words.old ≡ first.now ∷ words.new) ((rest : List (List ℕ))
+        → ¬ (words.old ≡ first.now ∷ rest)) }
+{
+    match words.next_word() {
+        Some(word) => is_same(word, first),
+        None => false,
+    }
 }
 
 /// The rule's word, which is letters and digits.
@@ -41,105 +62,91 @@ fn rule_of(alloc: Global, word: &[u8]) -> Result<Option<Text>, AllocError>
     Ok(Some(rule))
 }
 
-fn instance_of(alloc: Global, words: &[&[u8]]) -> Result<Option<Instance>, AllocError>
-    ensures { IfOk result (Reads is_instance instance_words (map (λ w. w.now) words.now)) }
+fn instance_of(alloc: Global, words: &mut LineWords<'_>) -> Result<Option<Instance>, AllocError>
+    ensures { IfOk result (Reads is_instance instance_words words.old) }
 {
-    let [first, rest @ ..] = words else {
+    let Some(first) = words.next_word() else {
         return Ok(None);
     };
     let Some(rule) = rule_of(alloc, first)? else {
         return Ok(None);
     };
-    let Some(words) = words_of(alloc, rest)? else {
+    let Some(words) = words_of(alloc, words)? else {
         return Ok(None);
     };
     Ok(Some(Instance { rule, words }))
 }
 
-/// The words before a last word `0`.
-fn before_last_zero<'w, 'b>(words: &'w [&'b [u8]]) -> Option<&'w [&'b [u8]]>
-    ensures { MatchOption result ((before : List (List ℕ))
-        → ¬ (map (λ w. w.now) words.now ≡ before ++ zero_text ∷ [])) (λ r. map (λ w. w.now) words.now
-        ≡ map (λ w. w.now) r.now ++ zero_text ∷ []) }
+/// The instance whose line this is, without its newline.
+pub(crate) fn read_instance(alloc: Global, line: &[u8]) -> Result<Option<Instance>, AllocError>
+    ensures { IfOk result (Reads is_instance (λ i. step_line (Step.Instance i)) line.now) }
 {
-    match words {
-        [before @ .., last] if is_same(last, b"0") => Some(before),
-        _ => None,
+    let mut words = LineWords::new(line);
+    if !begins(&mut words, b"t") {
+        return Ok(None);
     }
+    instance_of(alloc, &mut words)
 }
 
-/// The hints, which `0` ends.
-fn ended_hints_of(alloc: Global, words: &[&[u8]]) -> Result<Option<Seq<u64>>, AllocError>
-    ensures { IfOk result (Reads are_hints hint_words (map (λ w. w.now) words.now)) }
+/// Reads the hints that end a line, one at least, and the `0` after them. Tells whether there are
+/// such.
+fn read_last_hints(words: &mut LineWords<'_>, hints: &mut Vec<u64>) -> Result<bool, AllocError>
+    ensures { IfOk result (λ found. Reads are_hints hint_words words.old
+        (if found then Some hints.new.items else None)) }
 {
-    let Some(hints) = before_last_zero(words) else {
-        return Ok(None);
-    };
+    if !read_hints(words, hints)? {
+        return Ok(false);
+    }
     if hints.is_empty() {
-        return Ok(None);
+        return Ok(false);
     }
-    let Some(hints) = hints_of(alloc, hints)? else {
-        return Ok(None);
-    };
-    Ok(Some(hints))
+    match words.next_word() {
+        None => Ok(true),
+        Some(_) => Ok(false),
+    }
 }
 
-/// The words before the first `0`, and those after it.
-fn around_first_zero<'w, 'b>(words: &'w [&'b [u8]]) -> Option<(&'w [&'b [u8]], &'w [&'b [u8]])>
-    ensures { MatchOption result (IsTrue (has_no_zero (map (λ w. w.now) words.now))) (λ p. (map (λ w. w.now) words.now
-        ≡ map (λ w. w.now) p.0.now ++ zero_text ∷ map (λ w. w.now) p.1.now)
-        × IsTrue (has_no_zero (map (λ w. w.now) p.0.now))) }
+/// Reads a learned clause and its hints. Tells whether the words are such.
+fn read_clause(words: &mut LineWords<'_>, room: &mut Room) -> Result<bool, AllocError>
+    ensures { IfOk result (λ found. Reads is_learned learned_words words.old
+        (if found then Some (record { clause = room.new.clause.items; hints = room.new.hints.items }) else None)) }
 {
-    for (i, word) in words.iter().enumerate() {
-        if is_same(word, b"0") {
-            return Some((&words[..i], &words[i + 1..]));
-        }
+    if !read_lits(words, &mut room.clause)? {
+        return Ok(false);
     }
-    None
+    if !read_last_hints(words, &mut room.hints)? {
+        return Ok(false);
+    }
+    Ok(true)
 }
 
-fn learned_of(alloc: Global, words: &[&[u8]]) -> Result<Option<Learned>, AllocError>
-    ensures { IfOk result (Reads is_learned learned_words (map (λ w. w.now) words.now)) }
+/// Reads a learned clause and its hints. Tells whether this is the line of such, without its
+/// newline.
+pub(crate) fn read_learned(line: &[u8], room: &mut Room) -> Result<bool, AllocError>
+    ensures { IfOk result (λ found. Reads is_learned (λ l. step_line (Step.Learned l)) line.now
+        (if found then Some (record { clause = room.new.clause.items; hints = room.new.hints.items }) else None)) }
 {
-    let Some((lits, rest)) = around_first_zero(words) else {
-        return Ok(None);
-    };
-    let Some(clause) = lits_of(alloc, lits)? else {
-        return Ok(None);
-    };
-    let Some(hints) = ended_hints_of(alloc, rest)? else {
-        return Ok(None);
-    };
-    Ok(Some(Learned { clause, hints }))
-}
-
-fn step_of(alloc: Global, words: &[&[u8]]) -> Result<Option<Step>, AllocError>
-    ensures { IfOk result (Reads is_writable step_words (map (λ w. w.now) words.now)) }
-{
-    let [kind, rest @ ..] = words else {
-        return Ok(None);
-    };
-    if is_same(kind, b"t") {
-        let Some(instance) = instance_of(alloc, rest)? else {
-            return Ok(None);
-        };
-        return Ok(Some(Step::Instance(instance)));
+    let mut words = LineWords::new(line);
+    if !begins(&mut words, b"l") {
+        return Ok(false);
     }
-    if is_same(kind, b"l") {
-        let Some(learned) = learned_of(alloc, rest)? else {
-            return Ok(None);
-        };
-        return Ok(Some(Step::Learned(learned)));
-    }
-    Ok(None)
+    read_clause(&mut words, room)
 }
 
 /// The step whose line this is, without its newline.
 pub(crate) fn read_step(alloc: Global, line: &[u8]) -> Result<Option<Step>, AllocError>
-    ensures read { IfOk result (Reads is_writable step_line line.now) }
-    ensures value { IfOk result (λ step. step ≡ step_of line.now) }
+    ensures { IfOk result (Reads is_writable step_line line.now) }
 {
-    let words = split_words(alloc, line)?;
-    let step = step_of(alloc, words.as_slice())?;
-    Ok(step)
+    let mut room = Room::new(alloc);
+    if read_learned(line, &mut room)? {
+        let Room { clause, hints } = room;
+        return Ok(Some(Step::Learned(Learned {
+            clause: Seq::from_vec(clause),
+            hints: Seq::from_vec(hints),
+        })));
+    }
+    match read_instance(alloc, line)? {
+        Some(instance) => Ok(Some(Step::Instance(instance))),
+        None => Ok(None),
+    }
 }

@@ -1,7 +1,8 @@
 //! Logs of a refutation.
 ghost use Rattle.std.specs.Prelude.{◌≡◌, IsTrue};
 ghost use Rattle.std.specs.List.{list_all};
-ghost use Rattle.sc_checker.specs.Writable.{is_number, is_letter_or_digit, is_rule_word, is_word, is_lit, is_hint, are_hints, is_instance, is_learned, is_writable};
+ghost use Rattle.sc_checker.specs.Writable.{is_lit, is_hint, are_hints, is_learned, is_writable};
+ghost use Rattle.sc_footprint.specs.Written.{is_number, is_letter_or_digit, is_rule_word, is_word, is_instance};
 
 use sc_clauses::{Instance, Learned, Lit, Step, Word};
 use sc_lists::Seq;

@@ -6,6 +6,7 @@ ghost use Rattle.sc_checker.specs.Readings.{Reads, IfTold, AreWritable, BeginsWi
 ghost use Rattle.sc_checker.specs.Texts.{has_no_newline, step_line, steps_text, first_line, log_text};
 ghost use Rattle.sc_checker.specs.Writable.{is_writable};
 
+use crate::cutting::cut_at;
 use crate::lines::read_step;
 use crate::log::Log;
 use sc_clauses::Step;
@@ -25,12 +26,7 @@ pub(crate) fn cut_line(bytes: &[u8]) -> Option<(&[u8], &[u8])>
     ensures { MatchOption result (IsTrue (has_no_newline bytes.now)) (λ p. (bytes.now ≡ p.0.now ++ 10 ∷ p.1.now)
         × IsTrue (has_no_newline p.0.now)) }
 {
-    for (i, byte) in bytes.iter().enumerate() {
-        if *byte == b'\n' {
-            return Some((&bytes[..i], &bytes[i + 1..]));
-        }
-    }
-    None
+    cut_at(bytes, b'\n')
 }
 
 /// The step of the first line, and what follows that line.

@@ -4,17 +4,17 @@ ghost use Rattle.std.specs.Option.{is_some};
 ghost use Rattle.sc_lists.specs.Told.{Gives};
 ghost use Rattle.sc_checker.specs.Progress.{IsChecked, start, failed, counted, grown, taken, after_step, verdict_of};
 ghost use Rattle.sc_checker.specs.Refutations.{are_listed, is_clause, refutes, negated};
-ghost use Rattle.sc_checker.specs.Verdicts.{rules_at, of_instance, of_learned};
+ghost use Rattle.sc_checker.specs.Verdicts.{Rules as AnyRules, AreRules, of_instance, of_learned};
 
 use crate::checking::{Reason, Verdict};
 use crate::known::Known;
 use crate::refuting::{assume_false, follow};
-use sc_boolean_footprint::{Problem, Theory};
-use sc_clauses::{Clause, Clauses, Instance, Learned, Lit, Step};
+use sc_clauses::{Clause, Clauses, Instance, Lit, Step};
+use sc_footprint::{Problem, Theory, problem_laws};
 use sc_lists::Fault;
 use std::alloc::{AllocError, Global};
 use std::marker::Model;
-use th_boolean_defs::{defining, defining_laws};
+use th_defs::{defining, defining_laws};
 
 /// Takes one step after another, up to the first at fault. Contracts see what it holds of them.
 #[derive(Drop)]
@@ -37,17 +37,6 @@ impl Model for StepChecker {
     ghost invariant = { λ c. c.known.step ≤ c.steps };
 }
 
-/// The clauses of a `Vec` in one array.
-fn clauses_of(alloc: Global, clauses: Vec<Clause>) -> Result<Clauses, AllocError>
-    ensures { IfOk result (λ c. c ≡ clauses.items) }
-{
-    let mut array = Clauses::new(alloc);
-    for clause in clauses.as_slice() {
-        array.push(clause.as_slice())?;
-    }
-    Ok(array)
-}
-
 /// The clause of an instance that the rules have.
 fn instance_clause<T: Theory>(
     alloc: Global,
@@ -55,28 +44,41 @@ fn instance_clause<T: Theory>(
     problem: &Problem<'_>,
     instance: &Instance,
 ) -> Result<Clause, Fault<Reason>>
-    ensures { Gives result (of_instance (rules_at T.has_instance T.clause_of rules.now problem.now) instance.now) }
+    ensures told { (tests : AnyRules) → AreRules T.has_instance T.clause_of rules.now problem.now tests
+        → Gives result (of_instance tests instance.now) }
+    ensures has { IfOk result (λ c. T.has_instance rules.now problem.now instance.now) }
+    ensures clause { IfOk result (λ c. c ≡ T.clause_of rules.now problem.now instance.now) }
 {
-    if !rules.accepts(alloc, problem, instance)? {
-        return Err(Fault::Told(Reason::NoInstance));
+    match rules.accepts(alloc, problem, instance) {
+        Ok(true) => match rules.clause(alloc, problem, instance) {
+            Ok(clause) => Ok(clause),
+            Err(_) => Err(Fault::NoMemory),
+        },
+        Ok(false) => Err(Fault::Told(Reason::NoInstance)),
+        Err(_) => Err(Fault::NoMemory),
     }
-    Ok(rules.clause(alloc, problem, instance)?)
 }
 
 /// Whether a learned clause is shown by its hints.
-fn is_shown(known: &mut Known, number: u64, clauses: &Clauses, learned: &Learned) -> bool
+fn is_shown(
+    known: &mut Known,
+    number: u64,
+    clauses: &Clauses,
+    clause: &[Lit],
+    hints: &[u64],
+) -> bool
     requires later { known.old.step < number }
     requires listed { IsTrue (are_listed (length known.old.marks.items) clauses.now) }
-    ensures shown { result ≡ is_clause (length known.old.marks.items) learned.now.clause
-        && refutes clauses.now (negated learned.now.clause) learned.now.hints }
+    ensures shown { result ≡ is_clause (length known.old.marks.items) clause.now
+        && refutes clauses.now (negated clause.now) hints.now }
     ensures count { length known.new.marks.items ≡ length known.old.marks.items }
     ensures number { known.new.step ≡ number }
 {
     known.begin(number);
-    if !assume_false(known, learned.clause.as_slice()) {
+    if !assume_false(known, clause) {
         return false;
     }
-    follow(known, clauses, learned.hints.as_slice())
+    follow(known, clauses, hints)
 }
 
 impl StepChecker {
@@ -87,8 +89,7 @@ impl StepChecker {
     {
         defining_laws();
         problem.laws();
-        let definitions = defining(alloc, problem)?;
-        let clauses = clauses_of(alloc, definitions)?;
+        let clauses = defining(alloc, problem)?;
         let known = Known::new(alloc, problem.atom_count())?;
         Ok(StepChecker {
             known,
@@ -131,15 +132,15 @@ impl StepChecker {
     }
 
     /// Counts one step more, and tells whether its clause is shown by its hints.
-    fn shows(&mut self, learned: &Learned) -> bool
+    fn shows(&mut self, clause: &[Lit], hints: &[u64]) -> bool
         requires room { self.old.steps < length self.old.clauses }
         requires listed { IsTrue (are_listed self.old.listed self.old.clauses) }
         ensures counted { self.new ≡ counted self.old }
-        ensures shown { result ≡ is_clause self.old.listed learned.now.clause
-            && refutes self.old.clauses (negated learned.now.clause) learned.now.hints }
+        ensures shown { result ≡ is_clause self.old.listed clause.now
+            && refutes self.old.clauses (negated clause.now) hints.now }
     {
         self.steps = self.next_number();
-        is_shown(&mut self.known, self.steps, &self.clauses, learned)
+        is_shown(&mut self.known, self.steps, &self.clauses, clause, hints)
     }
 
     /// Adds the clause of the last step.
@@ -152,17 +153,24 @@ impl StepChecker {
     }
 
     /// Takes an instance.
-    fn take_instance<T: Theory>(
+    pub(crate) fn take_instance<T: Theory>(
         &mut self,
         alloc: Global,
         rules: &T,
         problem: &Problem<'_>,
         instance: &Instance,
     ) -> Result<(), AllocError>
-        requires { self.old.steps < length self.old.clauses }
-        ensures { OnOk result (self.new ≡ taken (of_instance
-            (rules_at T.has_instance T.clause_of rules.now problem.now) instance.now) self.old) }
+        requires checked { IsChecked problem.now self.old }
+        requires going { self.old.fault ≡ None }
+        ensures taken { OnOk result ((tests : AnyRules)
+            → AreRules T.has_instance T.clause_of rules.now problem.now tests
+            → self.new ≡ taken (of_instance tests instance.now) self.old) }
+        ensures checked { OnOk result (IsChecked problem.now self.new) }
     {
+        // The clauses of the rules have literals of listed atoms and are true in well-formed worlds,
+        // since this is a problem of a goal.
+        problem.laws();
+        problem_laws();
         self.count();
         match instance_clause(alloc, rules, problem, instance) {
             Ok(clause) => self.add(clause.as_slice()),
@@ -174,14 +182,15 @@ impl StepChecker {
         }
     }
 
-    /// Takes a learned clause.
-    fn take_learned(&mut self, learned: &Learned) -> Result<(), AllocError>
+    /// Takes a learned clause and its hints.
+    pub(crate) fn take_learned(&mut self, clause: &[Lit], hints: &[u64]) -> Result<(), AllocError>
         requires room { self.old.steps < length self.old.clauses }
         requires listed { IsTrue (are_listed self.old.listed self.old.clauses) }
-        ensures { OnOk result (self.new ≡ taken (of_learned self.old.listed self.old.clauses learned.now) self.old) }
+        ensures { OnOk result (self.new ≡ taken (of_learned self.old.listed self.old.clauses
+            (record { clause = clause.now; hints = hints.now })) self.old) }
     {
-        if self.shows(learned) {
-            return self.add(learned.clause.as_slice());
+        if self.shows(clause, hints) {
+            return self.add(clause);
         }
         self.fail(self.steps, Reason::NotRefuted);
         Ok(())
@@ -196,18 +205,19 @@ impl StepChecker {
         step: &Step,
     ) -> Result<(), AllocError>
         requires { IsChecked problem.now self.old }
-        ensures taken { OnOk result (self.new
-            ≡ after_step (rules_at T.has_instance T.clause_of rules.now problem.now) self.old step.now) }
+        ensures taken { OnOk result ((tests : AnyRules)
+            → AreRules T.has_instance T.clause_of rules.now problem.now tests
+            → self.new ≡ after_step tests self.old step.now) }
         ensures checked { OnOk result (IsChecked problem.now self.new) }
     {
-        // The clauses of the rules have literals of listed atoms, since this is a problem of a goal.
-        problem.laws();
         if self.is_at_fault() {
             return Ok(());
         }
         match step {
             Step::Instance(instance) => self.take_instance(alloc, rules, problem, instance),
-            Step::Learned(learned) => self.take_learned(learned),
+            Step::Learned(learned) => {
+                self.take_learned(learned.clause.as_slice(), learned.hints.as_slice())
+            }
         }
     }
 

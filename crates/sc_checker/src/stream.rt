@@ -2,12 +2,12 @@
 ghost use Rattle.std.specs.Prelude.{◌≡◌, false, OnOk, OnErr, IfOk, IfErr, IsTrue};
 ghost use Rattle.sc_checker.specs.Progress.{IsChecked};
 ghost use Rattle.sc_checker.specs.Streams.{unread, after, ended};
-ghost use Rattle.sc_checker.specs.Verdicts.{rules_at};
-ghost use Rattle.sc_boolean_footprint.specs.Truths.{IsUnsatisfiable};
+ghost use Rattle.sc_checker.specs.Verdicts.{Rules as AnyRules, AreRules};
+ghost use Rattle.sc_footprint.specs.Truths.{IsUnsatisfiable};
 
 use crate::checking::Verdict;
 use crate::line_checker::LineChecker;
-use sc_boolean_footprint::{Problem, Theory};
+use sc_footprint::{Problem, Theory};
 use std::alloc::{AllocError, Global};
 use std::marker::Model;
 
@@ -63,12 +63,13 @@ impl<'c, 'p, T: Theory> LogChecker<'c, 'p, T> {
     /// Reads a further piece of the text. Its one fault is want of memory: then all calls are refused.
     pub fn feed(&mut self, piece: &[u8]) -> Result<(), AllocError>
         // What is held after the piece.
-        ensures fed { OnOk result (self.new ≡ record {
-          rules = self.old.rules;
-          problem = self.old.problem;
-          state = after (rules_at T.has_instance T.clause_of self.old.rules self.old.problem) self.old.state piece.now;
-          refuses = false;
-        }) }
+        ensures fed { OnOk result ((tests : AnyRules)
+            → AreRules T.has_instance T.clause_of self.old.rules self.old.problem tests → self.new ≡ record {
+              rules = self.old.rules;
+              problem = self.old.problem;
+              state = after tests self.old.state piece.now;
+              refuses = false;
+            }) }
         // A refusal is the last answer but refusals.
         ensures refused { OnErr result (IsTrue self.new.refuses) }
         ensures refuses { OnOk result (self.old.refuses ≡ false) }

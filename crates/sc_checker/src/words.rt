@@ -1,43 +1,18 @@
 //! Reads the words of a step's line.
-ghost use Rattle.std.specs.Prelude.{◌≡◌, ◌∷◌, ◌&&◌, ◌==◌, map, not, length, decimal, option_map, true, IfOk, MatchOption, ℕ, List};
+ghost use Rattle.std.specs.Prelude.{◌≡◌, ◌∷◌, ◌==◌, map, not, length, decimal, option_map, true, IfOk, MatchOption, ℕ, List, if◌then◌else◌};
 ghost use Rattle.std.specs.List.{list_all};
 ghost use Rattle.std.specs.Str.{bytes_eq};
 ghost use Rattle.sc_checker.specs.Readings.{Reads};
-ghost use Rattle.sc_checker.specs.Texts.{sign_text, word_text, lit_text};
-ghost use Rattle.sc_checker.specs.Writable.{is_number, is_word, is_lit, is_hint};
+ghost use Rattle.sc_checker.specs.Texts.{sign_text, word_text, lit_text, zero_text, ended_words};
+ghost use Rattle.sc_checker.specs.Writable.{is_lit, is_hint};
+ghost use Rattle.sc_footprint.specs.Written.{is_word};
 
-use crate::log::{is_hint, is_number};
-use itoa::Buffer;
-use sc_clauses::{Clause, Lit, Word};
+use crate::line_words::LineWords;
+use crate::log::is_hint;
+use crate::numbers::number_of;
+use sc_clauses::{Lit, Word};
 use sc_lists::Seq;
 use std::alloc::{AllocError, Global};
-use std::str;
-
-/// Whether a word is the text of a number, which has at most 18 digits.
-fn is_written(number: u64, word: &[u8]) -> bool
-    ensures { result ≡ (is_number number && bytes_eq (decimal number) word.now) }
-{
-    let mut buffer = Buffer::new();
-    let is_same = buffer.format(number).as_bytes() == word;
-    is_number(number) && is_same
-}
-
-/// The number that a word is. A number has one text only: that it is written as.
-fn number_of(word: &[u8]) -> Option<u64>
-    ensures { Reads is_number decimal word.now result }
-{
-    let Ok(text) = str::from_utf8(word) else {
-        return None;
-    };
-    let Ok(number) = text.parse::<u64>() else {
-        return None;
-    };
-    if is_written(number, word) {
-        Some(number)
-    } else {
-        None
-    }
-}
 
 fn hint_of(word: &[u8]) -> Option<u64>
     ensures { Reads is_hint decimal word.now result }
@@ -74,17 +49,19 @@ fn lit_of(word: &[u8]) -> Option<Lit>
     }
 }
 
-fn sign_of(byte: u8) -> Option<bool>
+/// The sign that a byte is: `+`, `-`, or `.` for none.
+fn sign_of(byte: u8) -> Option<Option<bool>>
     ensures { Reads (λ _. true) sign_text byte result }
 {
     match byte {
-        b'+' => Some(true),
-        b'-' => Some(false),
+        b'+' => Some(Some(true)),
+        b'-' => Some(Some(false)),
+        b'.' => Some(None),
         _ => None,
     }
 }
 
-fn signs_of(alloc: Global, word: &[u8]) -> Result<Option<Seq<bool>>, AllocError>
+fn signs_of(alloc: Global, word: &[u8]) -> Result<Option<Seq<Option<bool>>>, AllocError>
     ensures { IfOk result (Reads (λ signs. not (length signs == 0)) (map sign_text) word.now) }
 {
     let mut signs = Seq::new(alloc);
@@ -112,11 +89,15 @@ fn word_of(alloc: Global, word: &[u8]) -> Result<Option<Word>, AllocError>
     }
 }
 
-pub(crate) fn words_of(alloc: Global, words: &[&[u8]]) -> Result<Option<Seq<Word>>, AllocError>
-    ensures { IfOk result (Reads (list_all is_word) (map word_text) (map (λ w. w.now) words.now)) }
+/// The words of an instance, up to the end of its line.
+pub(crate) fn words_of(
+    alloc: Global,
+    words: &mut LineWords<'_>,
+) -> Result<Option<Seq<Word>>, AllocError>
+    ensures { IfOk result (Reads (list_all is_word) (map word_text) words.old) }
 {
     let mut read = Seq::new(alloc);
-    for word in words {
+    while let Some(word) = words.next_word() {
         let Some(next) = word_of(alloc, word)? else {
             return Ok(None);
         };
@@ -125,28 +106,48 @@ pub(crate) fn words_of(alloc: Global, words: &[&[u8]]) -> Result<Option<Seq<Word
     Ok(Some(read))
 }
 
-pub(crate) fn lits_of(alloc: Global, words: &[&[u8]]) -> Result<Option<Clause>, AllocError>
-    ensures { IfOk result (Reads (list_all is_lit) (map lit_text) (map (λ w. w.now) words.now)) }
+/// Whether a word is `0`, which ends literals and hints.
+fn is_zero(word: &[u8]) -> bool
+    ensures { result ≡ bytes_eq word.now zero_text }
 {
-    let mut lits = Seq::new(alloc);
-    for word in words {
+    word == b"0".as_slice()
+}
+
+/// Reads literals up to a word `0`, which it takes. Tells whether there are such.
+pub(crate) fn read_lits(words: &mut LineWords<'_>, lits: &mut Vec<Lit>) -> Result<bool, AllocError>
+    ensures { IfOk result (λ found. Reads (λ p. list_all is_lit p.0) (ended_words lit_text) words.old
+        (if found then Some (lits.new.items, words.new) else None)) }
+{
+    lits.clear();
+    while let Some(word) = words.next_word() {
+        if is_zero(word) {
+            return Ok(true);
+        }
         let Some(lit) = lit_of(word) else {
-            return Ok(None);
+            return Ok(false);
         };
         lits.push(lit)?;
     }
-    Ok(Some(lits))
+    Ok(false)
 }
 
-pub(crate) fn hints_of(alloc: Global, words: &[&[u8]]) -> Result<Option<Seq<u64>>, AllocError>
-    ensures { IfOk result (Reads (list_all is_hint) (map decimal) (map (λ w. w.now) words.now)) }
+/// Reads hints up to a word `0`, which it takes. Tells whether there are such.
+pub(crate) fn read_hints(
+    words: &mut LineWords<'_>,
+    hints: &mut Vec<u64>,
+) -> Result<bool, AllocError>
+    ensures { IfOk result (λ found. Reads (λ p. list_all is_hint p.0) (ended_words decimal) words.old
+        (if found then Some (hints.new.items, words.new) else None)) }
 {
-    let mut hints = Seq::new(alloc);
-    for word in words {
+    hints.clear();
+    while let Some(word) = words.next_word() {
+        if is_zero(word) {
+            return Ok(true);
+        }
         let Some(hint) = hint_of(word) else {
-            return Ok(None);
+            return Ok(false);
         };
         hints.push(hint)?;
     }
-    Ok(Some(hints))
+    Ok(false)
 }

@@ -24,11 +24,21 @@ fn write_lit(text: &mut String, lit: Lit) -> Result<(), AllocError>
     write_number(text, lit.atom)
 }
 
-fn write_signs(text: &mut String, signs: &[bool]) -> Result<(), AllocError>
+fn sign_word(sign: Option<bool>) -> &'static str
+    ensures { result.now ≡ sign_text sign ∷ [] }
+{
+    match sign {
+        Some(true) => "+",
+        Some(false) => "-",
+        None => ".",
+    }
+}
+
+fn write_signs(text: &mut String, signs: &[Option<bool>]) -> Result<(), AllocError>
     ensures { OnOk result (string_bytes text.new ≡ string_bytes text.old ++ map sign_text signs.now) }
 {
     for sign in signs {
-        text.push_str(if *sign { "+" } else { "-" })?;
+        text.push_str(sign_word(*sign))?;
     }
     Ok(())
 }

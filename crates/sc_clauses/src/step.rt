@@ -8,8 +8,8 @@ use sc_lists::{Seq, Text};
 pub enum Word {
     /// A number.
     Number(u64),
-    /// Signs, each `+` or `-`; true is `+`.
-    Signs(Seq<bool>),
+    /// Signs, each `+` (true), `-` (false) or `.` (none: a pattern that isn't asked).
+    Signs(Seq<Option<bool>>),
 }
 
 /// An instance of a rule: the rule's word, and what the rule is applied to.

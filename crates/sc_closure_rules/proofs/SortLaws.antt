@@ -59,7 +59,7 @@ module _ (d : Declarations) (env : Env) (written : List Uid) (lawful : IsLawful 
   written_declared : (u : Uid) → Contains written u → IsDeclared d u.type_name
   written_declared u h = (declared_is d u.type_name).0 (all_element (IsDeclaredUid d) written u declared h).of_type
 
-  principal_declared : IsEntityType d env.principal
+  pub principal_declared : IsEntityType d env.principal
   principal_declared =
       let a = joined_from environments_for d.actions env among in
       let p = joined_from (λ p. map (environment a.0 p) a.0.resources) a.0.principals env a.2 in
@@ -67,7 +67,7 @@ module _ (d : Declarations) (env : Env) (written : List Uid) (lawful : IsLawful 
       all_element (IsEntityType d) a.0.principals env.principal (lawful_action d lawful a.0 a.1).principal_types.declared
       (subst (Contains a.0.principals) (ap (λ (e : Env). e.principal) r.2) p.1)
 
-  resource_declared : IsEntityType d env.resource
+  pub resource_declared : IsEntityType d env.resource
   resource_declared =
       let a = joined_from environments_for d.actions env among in
       let p = joined_from (λ p. map (environment a.0 p) a.0.resources) a.0.principals env a.2 in

@@ -1,3 +1,4 @@
+mod AscendingLaws
 mod FoundLaws
 pub mod GraphLaws
 pub mod KeyLaws

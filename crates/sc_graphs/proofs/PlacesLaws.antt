@@ -24,7 +24,7 @@ places_less i j h = grind (arith, nat_tests)
 
 -- ---- which they are
 
-has_last : (ns : List ℕ) (m n : ℕ) → has (ns ++ m ∷ []) n ≡ (has ns n || (is_at (nat_cmp n) m || false))
+pub has_last : (ns : List ℕ) (m n : ℕ) → has (ns ++ m ∷ []) n ≡ (has ns n || (is_at (nat_cmp n) m || false))
 has_last ns m n = list_any-append (is_at (nat_cmp n)) ns (m ∷ [])
 
 pub places_first : {K : Type 0} (all : List K) → ArePlaces all [] []

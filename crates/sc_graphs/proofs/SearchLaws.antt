@@ -1,50 +1,63 @@
 -- What a search keeps, and what it has found where it ends.
-use Rattle.std.proofs.Common.{◌≡◌, ◌≤◌, ◌<◌, ◌+◌, ◌||◌, ◌↔◌, ◌⊎◌, inl, inr, ℕ, zero, suc, List, [], ◌∷◌, Bool, true, false, IsTrue, length, get_or, refl, sym, ap, subst, ◌∙◌, arith}
-use Rattle.std.proofs.lemmas.Bool.Decides.{nat_tests}
+use Rattle.std.proofs.Common.{◌≡◌, ◌≤◌, ◌<◌, ◌+◌, ◌||◌, ◌↔◌, ◌⊎◌, inl, inr, ℕ, zero, suc, List, [], ◌∷◌, Bool, true, false, IsTrue, length, get_or, refl, sym, ap, subst, ◌∙◌, arith, Option, Some, None}
 use Rattle.std.proofs.Math.Nat.{eq-or-lt_of_le}
+use Rattle.std.proofs.lemmas.Bool.{or_cases, or_left, or_right, eqb-true}
+use Rattle.std.proofs.lemmas.List.Folds.{list_any_at}
+use Rattle.std.proofs.lemmas.Option.{slice_get_cases}
 use Rattle.std.specs.BTreeMap.{is_at}
-use Rattle.std.specs.BTreeSet.{BTreeSet}
+use Rattle.std.specs.List.{slice_get}
 use Rattle.std.specs.Ordering.{nat_cmp}
-use Rattle.std.proofs.lemmas.Bool.{or_cases, or_left, or_right}
+use Rattle.sc_lists.proofs.BoolLaws.{or_false}
+use Rattle.sc_lists.proofs.OrderingLaws.{is_at_same, is_at_itself}
 use Rattle.sc_graphs.specs.Reaching.{Reaches, step, on}
 use Rattle.sc_graphs.specs.Graphs.{has, successors, Follows}
-use Rattle.sc_graphs.specs.Searches.{IsListed, IsSearched}
+use Rattle.sc_graphs.specs.Searches.{is_node, is_put, IsSearched}
 use Rattle.sc_graphs.proofs.ReachesLaws.{then_one}
 
 -- these nodes were put on the list
-pub record IsVisited (found : BTreeSet ℕ) (old nodes order : List ℕ) : Type 0 where
-  pub listed : IsListed found order
+pub record IsVisited (old nodes order : List ℕ) : Type 0 where
   pub more : length old ≤ length order
   pub kept : (k : ℕ) → k < length old → get_or order k 0 ≡ get_or old k 0
   pub members : (n : ℕ) → has order n ≡ (has old n || has nodes n)
 
+-- ---- where a number stands on a list
+
 -- where on a list a number stands
 abbrev pub Stands : List ℕ → ℕ → Type 0
 Stands ns n = (k : ℕ) × (k < length ns) × (get_or ns k 0 ≡ n)
-
-level_same : (n m : ℕ) → is_at (nat_cmp n) m ≡ true → n ≡ m
-level_same n m h = grind (arith, nat_tests)
-
-level_itself : (n m : ℕ) → n ≡ m → is_at (nat_cmp n) m ≡ true
-level_itself n m h = grind (arith, nat_tests)
 
 stands_next : (m : ℕ) (ns : List ℕ) (n : ℕ) → Stands ns n → Stands (m ∷ ns) n
 stands_next m ns n s = (suc s.0, omega (arith), s.2)
 
 pub stands : (ns : List ℕ) (n : ℕ) → has ns n ≡ true → Stands ns n
 stands [] n h = absurd cc
-stands (m ∷ ns) n h = look (is_at (nat_cmp n) m) (level_same n m) h (stands ns n) where
-  look : (b : Bool) → (b ≡ true → n ≡ m) → (b || has ns n) ≡ true → (has ns n ≡ true → Stands ns n) → Stands (m ∷ ns) n
-  look true same found rest = (zero, omega (arith), sym (same refl))
+stands (m ∷ ns) n h = look (is_at (nat_cmp n) m) (is_at_same n m) h (stands ns n) where
+  look : (b : Bool) → (b ≡ true → m ≡ n) → (b || has ns n) ≡ true → (has ns n ≡ true → Stands ns n) → Stands (m ∷ ns) n
+  look true same found rest = (zero, omega (arith), same refl)
   look false same found rest = stands_next m ns n (rest found)
 
 pub has_one : (ns : List ℕ) (k : ℕ) → k < length ns → has ns (get_or ns k 0) ≡ true
-has_one [] k h = absurd (omega (arith))
-has_one (m ∷ ns) zero h = ap (λ (b : Bool). b || has ns m) (level_itself m m refl)
-has_one (m ∷ ns) (suc k) h = later (is_at (nat_cmp (get_or ns k 0)) m) (has ns (get_or ns k 0)) (has_one ns k (omega (arith))) where
-  later : (b c : Bool) → c ≡ true → (b || c) ≡ true
-  later true c e = refl
-  later false c e = e
+has_one ns k h = list_any_at (is_at (nat_cmp (get_or ns k 0))) ns k 0 h (is_at_itself (get_or ns k 0))
+
+-- a node that stands at its place is on the list, so the list with it is the list
+put_is_there : (order : List ℕ) (n : ℕ) (place : Option ℕ) → is_put order n place ≡ true → has order n ≡ true
+put_is_there order n None h = absurd cc
+put_is_there order n (Some place) h = look (slice_get_cases order place).1 where
+  look : ((m : ℕ) × (place < length order) × (slice_get order place ≡ Some m) × (get_or order place m ≡ m)) ⊎ ((length order ≤ place) × (slice_get order place ≡ None)) → has order n ≡ true
+  look (inl found) = list_any_at (is_at (nat_cmp n)) order place found.0 found.1
+      (let same : found.0 ≡ n = eqb-true found.0 n (ap (is_node n) (sym found.2) ∙ h) in rw (found.3, same) (is_at_itself n))
+  look (inr past) = (let no : false ≡ true = ap (is_node n) (sym past.1) ∙ h in absurd cc)
+
+pub has_already : (order : List ℕ) (node : ℕ) (place : Option ℕ) → is_put order node place ≡ true → (n : ℕ) → has order n ≡ (has order n || has (node ∷ []) n)
+has_already order node place put n = look (is_at (nat_cmp n) node) (is_at_same n node) where
+  there : has order node ≡ true
+  there = put_is_there order node place put
+
+  look : (b : Bool) → (b ≡ true → node ≡ n) → has order n ≡ (has order n || (b || false))
+  look true same = rw (subst (λ m. has order m ≡ true) (same refl) there)
+  look false same = sym (or_false (has order n))
+
+-- ---- the search
 
 pub searched_first : (graph : List (List ℕ)) (start : ℕ) (order : List ℕ) → ((n : ℕ) → has order n ≡ (has [] n || has (successors graph start) n)) → IsSearched graph start order 0
 searched_first graph start order members =
@@ -92,7 +105,6 @@ found_all s (on a b c h r) = closed_under s r (s.begun b h)
 shortened : {graph : List (List ℕ)} {start : ℕ} {order : List ℕ} {at : ℕ} → IsSearched graph start order at → length order ≤ at → IsSearched graph start order (length order)
 shortened s end = record { sound = s.sound; begun = s.begun; closed = λ k n below h. s.closed k n (omega (arith)) h }
 
-pub searched_last : (graph : List (List ℕ)) (start : ℕ) (found nodes order : List ℕ) (at : ℕ) → IsSearched graph start order at → length order ≤ at
-    → ((n : ℕ) → has found n ≡ has order n) → nodes ≡ found → (n : ℕ) → IsTrue (has nodes n) ↔ Reaches (Follows graph) start n
-searched_last graph start found nodes order at s end listed same n =
-    (λ h. s.sound n (sym (listed n) ∙ (ap (λ ns. has ns n) (sym same) ∙ h)), λ r. ap (λ ns. has ns n) same ∙ (listed n ∙ found_all (shortened s end) r))
+pub searched_last : (graph : List (List ℕ)) (start : ℕ) (nodes order : List ℕ) (at : ℕ) → IsSearched graph start order at → length order ≤ at
+    → ((n : ℕ) → has nodes n ≡ has order n) → (n : ℕ) → IsTrue (has nodes n) ↔ Reaches (Follows graph) start n
+searched_last graph start nodes order at s end same n = (λ h. s.sound n (sym (same n) ∙ h), λ r. same n ∙ found_all (shortened s end) r)

@@ -2,6 +2,7 @@
 //! lies on a cycle.
 #![tactic(auto)]
 
+mod ascending;
 mod cycles;
 mod path;
 mod reaching;
@@ -9,4 +10,4 @@ mod reaching;
 mod tests;
 
 pub use cycles::least_cycle;
-pub use reaching::reachable;
+pub use reaching::Reachability;

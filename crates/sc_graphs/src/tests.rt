@@ -1,7 +1,7 @@
 //! Tests of what can be reached.
 #![tactic(auto)]
 
-use crate::{least_cycle, reachable};
+use crate::{Reachability, least_cycle};
 use sc_lists::Seq;
 use std::alloc::{AllocError, Global};
 use std::test::Fail;
@@ -14,7 +14,8 @@ fn nodes(alloc: Global, numbers: &[usize]) -> Result<Seq<usize>, AllocError> {
     Ok(list)
 }
 
-/// 0 goes to 2 and 1, 1 to 3, 3 back to 1 and to a node past the lists, 2 to none, 4 to itself.
+/// 0 goes to 2 and 1, 1 to 3, 3 back to 1 and to a node past the lists, 2 to none, 4 to itself, 5 to
+/// nodes past the lists alone, to one of them twice, 6 to nodes of the lists alone.
 fn graph(alloc: Global) -> Result<Seq<Seq<usize>>, AllocError> {
     let mut graph = Seq::new(alloc);
     graph.push(nodes(alloc, &[2, 1])?)?;
@@ -22,35 +23,62 @@ fn graph(alloc: Global) -> Result<Seq<Seq<usize>>, AllocError> {
     graph.push(nodes(alloc, &[])?)?;
     graph.push(nodes(alloc, &[1, 9])?)?;
     graph.push(nodes(alloc, &[4])?)?;
+    graph.push(nodes(alloc, &[9, 7, 9])?)?;
+    graph.push(nodes(alloc, &[4, 2, 4])?)?;
     Ok(graph)
 }
 
-fn reaches(alloc: Global, start: usize, wanted: &[usize]) -> Result<bool, AllocError> {
+/// Whether searches from these nodes, one after another, find just the nodes beside them.
+fn reach(alloc: Global, searches: &[(usize, &[usize])]) -> Result<bool, AllocError> {
     let graph = graph(alloc)?;
-    let found = reachable(alloc, graph.as_slice(), start)?;
-    Ok(found.as_slice() == wanted)
+    let mut reachability = Reachability::new(alloc);
+    let mut all = true;
+    for &(start, wanted) in searches {
+        let found = reachability.of(alloc, graph.as_slice(), start)?;
+        all &= found.as_slice() == wanted;
+    }
+    Ok(all)
 }
 
 #[test]
 fn a_node_reaches_what_follows_it_and_what_follows_that(rt: HostRuntime) -> Result<(), Fail> {
     let alloc = rt.alloc();
-    assert!(rt; reaches(alloc, 0, &[1, 2, 3, 9])?);
+    assert!(rt; reach(alloc, &[(0, &[1, 2, 3, 9])])?);
     Ok(())
 }
 
 #[test]
 fn a_node_reaches_itself_on_a_cycle_alone(rt: HostRuntime) -> Result<(), Fail> {
     let alloc = rt.alloc();
-    assert!(rt; reaches(alloc, 1, &[1, 3, 9])?);
-    assert!(rt; reaches(alloc, 4, &[4])?);
+    assert!(rt; reach(alloc, &[(1, &[1, 3, 9])])?);
+    assert!(rt; reach(alloc, &[(4, &[4])])?);
     Ok(())
 }
 
 #[test]
 fn a_node_that_the_graph_does_not_list_reaches_none(rt: HostRuntime) -> Result<(), Fail> {
     let alloc = rt.alloc();
-    assert!(rt; reaches(alloc, 9, &[])?);
-    assert!(rt; reaches(alloc, 2, &[])?);
+    assert!(rt; reach(alloc, &[(9, &[]), (2, &[])])?);
+    assert!(rt; reach(alloc, &[(5, &[7, 9]), (6, &[2, 4])])?);
+    Ok(())
+}
+
+/// Searches one after another, each with what it finds.
+const SEARCHES: &[(usize, &[usize])] = &[
+    (0, &[1, 2, 3, 9]),
+    (3, &[1, 3, 9]),
+    (4, &[4]),
+    (2, &[]),
+    (1, &[1, 3, 9]),
+    (5, &[7, 9]),
+    (6, &[2, 4]),
+    (0, &[1, 2, 3, 9]),
+];
+
+#[test]
+fn a_search_finds_the_same_after_others(rt: HostRuntime) -> Result<(), Fail> {
+    let alloc = rt.alloc();
+    assert!(rt; reach(alloc, SEARCHES)?);
     Ok(())
 }
 

@@ -1,9 +1,9 @@
-mod LiteralLaws
+pub mod LiteralLaws
 pub mod KnownLaws
 pub mod FalseLaws
-mod LookupLaws
-mod PartLaws
-mod SayingLaws
+pub mod LookupLaws
+pub mod PartLaws
+pub mod SayingLaws
 mod NameLaws
 mod RulesHold
 pub mod InstanceLaws

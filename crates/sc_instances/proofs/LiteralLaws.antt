@@ -52,7 +52,7 @@ one_more_within : (k n : ℕ) → k ≤ n → one_more k ≤ suc n
 one_more_within zero n h = omega arith
 one_more_within (suc k) n h = let some : (suc k == 0) ≡ false = grind (arith, nat_tests) in rw some (omega (arith, h))
 
-number_within : (ts : List Tree) (t : Tree) → number_among ts t ≤ length ts
+pub number_within : (ts : List Tree) (t : Tree) → number_among ts t ≤ length ts
 number_within [] t = omega arith
 number_within (x ∷ xs) t = by (tree_eq x t) (number_within xs t)
   where
@@ -60,12 +60,12 @@ number_within (x ∷ xs) t = by (tree_eq x t) (number_within xs t)
     by true h = omega arith
     by false h = one_more_within (number_among xs t) (length xs) h
 
-one_more_some : (k : ℕ) → one_more k ≢ 0 → k ≢ 0
+pub one_more_some : (k : ℕ) → one_more k ≢ 0 → k ≢ 0
 one_more_some zero h e = h refl
 one_more_some (suc k) h e = omega (arith, e)
 
 -- what has a number is there
-number_there : (ts : List Tree) (t : Tree) → number_among ts t ≢ 0 → Has ts t
+pub number_there : (ts : List Tree) (t : Tree) → number_among ts t ≢ 0 → Has ts t
 number_there [] t = λ h. absurd (h refl)
 number_there (x ∷ xs) t = by (tree_eq x t) refl (number_there xs t)
   where

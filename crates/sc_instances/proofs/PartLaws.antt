@@ -28,7 +28,7 @@ use Rattle.sc_instances.proofs.LiteralLaws.{not_in_table}
 -- ---- the first that passes a test
 
 -- the first of those that pass another test, which all pass that pass this one
-find_kept : (test keep : Tree → Bool) → ((t : Tree) → test t ≡ true → keep t ≡ true) → (ts : List Tree) → find test (filter keep ts) ≡ find test ts
+pub find_kept : (test keep : Tree → Bool) → ((t : Tree) → test t ≡ true → keep t ≡ true) → (ts : List Tree) → find test (filter keep ts) ≡ find test ts
 find_kept test keep within [] = refl
 find_kept test keep within (t ∷ ts) = by (keep t) (test t) refl refl (find_kept test keep within ts)
   where
@@ -38,7 +38,7 @@ find_kept test keep within (t ∷ ts) = by (keep t) (test t) refl refl (find_kep
     by false false e f rest = rest
 
 -- what is found passes the test, and where nothing is found nothing passes it
-find_passes : (test : Tree → Bool) (ts : List Tree) (t : Tree) → find test ts ≡ Some t → test t ≡ true
+pub find_passes : (test : Tree → Bool) (ts : List Tree) (t : Tree) → find test ts ≡ Some t → test t ≡ true
 find_passes test [] t = λ e. absurd cc
 find_passes test (u ∷ us) t = by (test u) refl (find_passes test us t)
   where
@@ -46,7 +46,7 @@ find_passes test (u ∷ us) t = by (test u) refl (find_passes test us t)
     by true f rest e = let same : u ≡ t = cc in ap test (sym same) ∙ f
     by false f rest e = rest e
 
-find_none : (test : Tree → Bool) (ts : List Tree) (t : Tree) → find test ts ≡ None → test t ≡ true → ¬ Has ts t
+pub find_none : (test : Tree → Bool) (ts : List Tree) (t : Tree) → find test ts ≡ None → test t ≡ true → ¬ Has ts t
 find_none test [] t e f h = h
 find_none test (u ∷ us) t e f h = by (test u) refl (find_none test us t) e h
   where

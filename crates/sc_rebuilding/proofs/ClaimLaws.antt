@@ -1,12 +1,13 @@
 -- Closed terms have equal values just where their equation is true: of truth values, of what has bits, and of what has names.
 use Rattle.std.proofs.Common.{◌≡◌, ◌<◌, ◌+◌, inl, inr, ℕ, zero, suc, arith, Bool, true, false, not, ℤ, List, [], map, Option, Some, None, refl, sym, ap, ◌∙◌, subst}
 use Rattle.std.specs.Int.{w64}
-use Rattle.std.specs.Prelude.{⊤, IfSome, FitsSigned}
+use Rattle.std.specs.Prelude.{⊤, ◌↔◌, IfSome, FitsSigned, IsTrue}
 use Rattle.std.specs.List.{list_all}
+use Rattle.std.specs.Str.{IsUtf8}
 use Rattle.sc_lists.proofs.MemberLaws.{Has-map, map-Has}
 use Rattle.sc_lists.specs.Members.{Has}
 use Rattle.sc_ip.specs.declared.ip.Ip.{Ip}
-use Rattle.sc_ip.specs.Addresses.{IsIp}
+use Rattle.sc_ip.specs.Addresses.{IsIp, is_in_range}
 use Rattle.sc_names.specs.declared.uid.Uid.{Uid}
 use Rattle.sc_schema.specs.declared.declarations.Env.{Env}
 use Rattle.sc_schema.specs.Declarations.{Declarations}
@@ -26,7 +27,7 @@ use Rattle.sc_nodes.specs.declared.node.BinaryOp.TheVariants as binary
 use Rattle.sc_bits.specs.Adders.{differ}
 use Rattle.sc_bits.specs.Addresses.{ip_bit, ip_of}
 use Rattle.sc_bits.specs.Bits.{bit64, of_bits64}
-use Rattle.sc_bits.specs.Blocks.{AreBlockBits}
+use Rattle.sc_bits.specs.Blocks.{AgreeInRange, AreBlockBits}
 use Rattle.sc_bits.proofs.IntegerLaws.{of_bits-bit64, of_bits-same, bit64-of_bits}
 use Rattle.sc_terms.specs.Trees.{Tree, leaf, two}
 use Rattle.sc_terms.specs.TreeSorts.{tree_sort}
@@ -62,6 +63,7 @@ pub record AreAddresses : Type 0 where
   pub bits : (f : ℕ → Bool) → AreBlockBits f → (k : ℕ) → k < 257 → ip_bit (ip_of f) k ≡ f k
   pub only : (a b : Ip) → IsIp a → IsIp b → ((k : ℕ) → k < 257 → ip_bit a k ≡ ip_bit b k) → a ≡ b
   pub clauses : (a : Ip) → IsIp a → AreBlockBits (ip_bit a)
+  pub range : (f g : ℕ → Bool) → AreBlockBits f → AreBlockBits g → IsTrue (is_in_range (ip_of f) (ip_of g)) ↔ AgreeInRange f g
 
 -- ---- truth values
 
@@ -96,7 +98,7 @@ one_same true false e = absurd cc
 one_same false true e = absurd cc
 one_same false false e = refl
 
-counted_below : (n from i : ℕ) → Has (counted from n) i → i < from + n
+pub counted_below : (n from i : ℕ) → Has (counted from n) i → i < from + n
 unfolding counted
 counted_below zero from i h = absurd h
 counted_below (suc n) from i (inl is) = let less : from < from + suc n = omega arith in subst (λ (k : ℕ). k < from + suc n) is less
@@ -151,17 +153,18 @@ no_truth k x e n = by (constant x) refl where
       let both : true ≡ false = ap bool_level (sym out_Bool) ∙ ap is_bool (sym one) ∙ n in
       absurd cc
 
--- what is kept of numbers and addresses in literals
-abbrev Holds : Literal → Type 0
+-- what is kept of numbers, texts and addresses in literals
+abbrev pub Holds : Literal → Type 0
 Holds (literal.Long n) = FitsSigned w64 n
+Holds (literal.String t) = IsUtf8 t
 Holds (literal.Decimal n) = FitsSigned w64 n
 Holds (literal.Ip a) = IsIp a
 Holds _ = ⊤
 
-literal_kept : (d : Declarations) (env : Env) (written : List Uid) (k : Sort) (l : Literal) → IsTermOf d env written k (leaf (leafs.Literal l)) → Holds l
+pub literal_kept : (d : Declarations) (env : Env) (written : List Uid) (k : Sort) (l : Literal) → IsTermOf d env written k (leaf (leafs.Literal l)) → Holds l
 literal_kept d env written _ _ (judged.of_truth b) = tt
 literal_kept d env written _ _ (judged.of_number n h) = h
-literal_kept d env written _ _ (judged.of_text text h) = tt
+literal_kept d env written _ _ (judged.of_text text h) = h
 literal_kept d env written _ _ (judged.of_decimal_number n h) = h
 literal_kept d env written _ _ (judged.of_address ip h) = h
 literal_kept d env written _ _ (judged.of_uid u h) = tt
@@ -259,19 +262,20 @@ module _ (d : Declarations) (env : Env) (literals : List Uid) (goal : Tree) (add
       let both : Some bool.0 ≡ None = ap constant (ap literal_term (sym bool.1) ∙ sym h) ∙ n in
       absurd cc
 
-  plain_bools : (x y : Tree) → tree_sort x ≡ sort.Bool → tree_sort y ≡ sort.Bool → constant x ≡ None → constant y ≡ None → Closed d env goal (equal_term x y)
-      → lit m.truths (equal_term x y) ≡ not (differ (lit m.truths x) (lit m.truths y))
-  plain_bools x y e f a b c = by (equal_term x y) refl c (equation_of x y a b) where
-    by : (z : Tree) → equal_term x y ≡ z → Closed d env goal z → Equation x y z → lit m.truths z ≡ not (differ (lit m.truths x) (lit m.truths y))
-    by _ q c (is_one h) = lit_truth m.truths true ∙ same_truth (lit m.truths x) ∙ ap (λ z. not (differ (lit m.truths x) (lit m.truths z))) h
-    by _ q c (are_literals k l h i) = absurd (literal_constant x k h e a)
-    by _ q c (is_straight h) = straight_bools x y e c
-    by _ q c (is_turned h) = straight_bools y x f c ∙ same_turned (lit m.truths y) (lit m.truths x)
+  plain_bools : (x y : Tree) → tree_sort x ≡ sort.Bool → tree_sort y ≡ sort.Bool → constant x ≡ None → constant y ≡ None
+      → (constant (equal_term x y) ≡ None → Closed d env goal (equal_term x y)) → lit m.truths (equal_term x y) ≡ not (differ (lit m.truths x) (lit m.truths y))
+  plain_bools x y e f a b c = by (equal_term x y) refl (equation_of x y a b) where
+    by : (z : Tree) → equal_term x y ≡ z → Equation x y z → lit m.truths z ≡ not (differ (lit m.truths x) (lit m.truths y))
+    by _ q (is_one h) = lit_truth m.truths true ∙ same_truth (lit m.truths x) ∙ ap (λ z. not (differ (lit m.truths x) (lit m.truths z))) h
+    by _ q (are_literals k l h i) = absurd (literal_constant x k h e a)
+    by _ q (is_straight h) = straight_bools x y e (subst (Closed d env goal) q (c (ap constant q)))
+    by _ q (is_turned h) = straight_bools y x f (subst (Closed d env goal) q (c (ap constant q))) ∙ same_turned (lit m.truths y) (lit m.truths x)
 
-  pub lit_equal : (x y : Tree) → tree_sort x ≡ sort.Bool → tree_sort y ≡ sort.Bool → Closed d env goal (equal_term x y)
+  -- an equation that folds to a truth value needn't be closed
+  pub lit_equal_unless : (x y : Tree) → tree_sort x ≡ sort.Bool → tree_sort y ≡ sort.Bool → (constant (equal_term x y) ≡ None → Closed d env goal (equal_term x y))
       → lit m.truths (equal_term x y) ≡ not (differ (lit m.truths x) (lit m.truths y))
   unfolding equal_term
-  lit_equal x y e f c = by (constant x) (constant y) refl refl where
+  lit_equal_unless x y e f c = by (constant x) (constant y) refl refl where
     by : (o p : Option Bool) → constant x ≡ o → constant y ≡ p → lit m.truths (equal_term x y) ≡ not (differ (lit m.truths x) (lit m.truths y))
     by (Some true) p a b =
         ap (λ (o : Option Bool). lit m.truths (equal_by o (constant y) x y)) a ∙ same_true (lit m.truths x) (lit m.truths y) (lit_constant m.truths x true a)
@@ -284,6 +288,10 @@ module _ (d : Declarations) (env : Env) (literals : List Uid) (goal : Tree) (add
         (λ i. lit m.truths (equal_by (a i) (b i) x y)) ∙ lit_not m.truths x ∙ same_false (lit m.truths y) (lit m.truths x) (lit_constant m.truths y false b)
         ∙ same_turned (lit m.truths y) (lit m.truths x)
     by None None a b = plain_bools x y e f a b c
+
+  pub lit_equal : (x y : Tree) → tree_sort x ≡ sort.Bool → tree_sort y ≡ sort.Bool → Closed d env goal (equal_term x y)
+      → lit m.truths (equal_term x y) ≡ not (differ (lit m.truths x) (lit m.truths y))
+  lit_equal x y e f c = lit_equal_unless x y e f (λ n. c)
 
   pub bool_step : Claim sort.Bool
   bool_step x y p c =

@@ -1,8 +1,9 @@
 -- Which terms are closed with a closed term, one law for each rule.
-use Rattle.std.proofs.Common.{◌≡◌, ◌+◌, ◌++◌, ◌<◌, inl, inr, ℕ, zero, suc, arith, Bool, false, List, [], ◌∷◌, map, flat_map, refl, sym, ap, ◌∙◌, subst}
+use Rattle.std.proofs.Common.{◌≡◌, ◌+◌, ◌++◌, ◌<◌, inl, inr, ℕ, zero, suc, arith, false, List, [], ◌∷◌, map, flat_map, refl, sym, ap, ◌∙◌, subst}
 use Rattle.sc_lists.proofs.MemberLaws.{Has-left, Has-right, Has-map, Has-flat_map, Contains-from_Has}
 use Rattle.sc_lists.specs.Members.{Has}
 use Rattle.sc_names.specs.declared.uid.Uid.{Uid}
+use Rattle.sc_pattern.specs.declared.part.Part.{Part}
 use Rattle.sc_schema.specs.declared.declarations.Env.{Env}
 use Rattle.sc_schema.specs.Declarations.{Declarations}
 use Rattle.sc_sorts.specs.declared.sort.Sort.{Sort, Sort-F, out-Sort}
@@ -16,10 +17,10 @@ use Rattle.sc_nodes.specs.declared.node.BinaryOp.TheVariants as binary
 use Rattle.sc_nodes.specs.declared.node.ManyOp.TheVariants as manys
 use Rattle.sc_terms.specs.Trees.{Tree, one, two, choice, many, Trees}
 use Rattle.sc_terms.specs.TreeSorts.{tree_sort}
-use Rattle.sc_terms.specs.Folds.{equal_term, field_term, present_term, held_term, default_term, bit_term}
+use Rattle.sc_terms.specs.Folds.{equal_term, field_term, present_term, held_term, default_term, bit_term, like_term}
 use Rattle.sc_definitions.specs.Definitions.{counted, inputs_of}
 use Rattle.sc_term_laws.specs.Tests.{bool_level}
-use Rattle.sc_closure_rules.specs.Closure.{Closed, next, pair, Role, named, candidate, set, inside, inside_by, choices, beside, branches, equations, parts, trees_in, follow, follow_pair, half, meet, roles, roles_by, roles_in, one_sort, is_over, equated_by, members_by}
+use Rattle.sc_closure_rules.specs.Closure.{Closed, next, pair, Role, named, candidate, set, pattern, inside, inside_by, choices, beside, branches, equations, parts, trees_in, follow, follow_pair, half, meet, roles, roles_by, roles_in, one_sort, is_over, equated_by, members_by, matches_by}
 
 -- from a number on, so many
 pub counted_has : (n from i : ℕ) → i < n → Has (counted from n) (from + i)
@@ -191,6 +192,14 @@ module _ (d : Declarations) (env : Env) (goal : Tree) where
   strings_equation x y e f c h =
       met x y (equal_term x y) (named x) (named y) c h (role_at x sort.String s.String (named x) e out_String (inl refl))
       (role_at y sort.String s.String (named y) f out_String (inl refl)) (of_one_sort x y x y (e ∙ sym f))
+
+  -- no rule brings in a pattern, but each string is asked each of them
+  pub like_closed : (x y : Tree) (p : List Part) → tree_sort x ≡ sort.String → Closed d env goal x → Closed d env goal (one (unary.Like p) y)
+      → Closed d env goal (like_term x p)
+  like_closed x y p e c h =
+      met x (one (unary.Like p) y) (like_term x p) (named x) (pattern p) c h (role_at x sort.String s.String (named x) e out_String (inl refl))
+      (role_in (one (unary.Like p) y) (pattern p) (inl refl))
+      (subst (λ (l : Sort-F Sort). Has (matches_by l x p) (like_term x p)) (sym (ap out-Sort e ∙ out_String)) (inl refl))
 
   pub entities_equation : (name : List ℕ) (us : List Uid) (x y : Tree) → tree_sort x ≡ sort.Entity name us → tree_sort y ≡ sort.Entity name us
       → Closed d env goal x → Closed d env goal y → Closed d env goal (equal_term x y)

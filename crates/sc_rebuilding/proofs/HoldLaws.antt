@@ -28,7 +28,7 @@ module _ (m : Assignment) where
   unfolding some_hold
   only b x ps h e = only_by b (lit m x) (some_hold m ps) h e
 
-  none_holds : some_hold m [] ≡ false
+  pub none_holds : some_hold m [] ≡ false
   unfolding some_hold
   none_holds = refl
 

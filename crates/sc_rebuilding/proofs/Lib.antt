@@ -9,8 +9,20 @@ mod CompositeClaims
 mod RowLaws
 mod ManyRows
 mod SumRows
+mod CarryRows
+mod FoldedBits
+mod RangeRows
+mod ProductRows
 mod TermLaws
+mod CoveredLaws
 mod ClassLaws
+mod CountLaws
+mod CrowdLaws
+mod EqualityLaws
+mod BoundLaws
+mod NameLaws
 mod ModelLaws
+mod TextNames
 mod TruthLaws
 pub mod RebuildLaws
+mod Examples

@@ -1,7 +1,8 @@
 -- The names of classes under a consistent assignment are those of a model.
-use Rattle.std.proofs.Common.{◌≡◌, ◌↔◌, ◌&&◌, inl, inr, Bool, true, false, cond, List, [], ◌∷◌, Option, Some, None, refl, ap, sym, ◌∙◌, subst}
-use Rattle.std.specs.Cmp.Derive.{both_true}
-use Rattle.std.specs.List.{filter}
+use Rattle.std.proofs.Common.{◌≡◌, ◌↔◌, Bool, true, false, List, [], Option, Some, None, refl, ap, sym, ◌∙◌}
+use Rattle.std.specs.Str.{chars}
+use Rattle.sc_pattern.specs.Language.{is_match}
+use Rattle.sc_rules.specs.Strings.{Pattern}
 use Rattle.sc_lists.proofs.OptionLaws.{same_some}
 use Rattle.sc_lists.specs.Members.{Has}
 use Rattle.sc_names.specs.declared.uid.Uid.{Uid}
@@ -16,61 +17,30 @@ use Rattle.sc_sorts.specs.Inside.{name_in}
 use Rattle.sc_sorts.proofs.OrderLaws.{sort_eq_decides}
 use Rattle.sc_sorts.proofs.OutLaws.{out_String, out_Entity}
 use Rattle.sc_nodes.specs.declared.node.Leaf.TheVariants as leafs
-use Rattle.sc_nodes.specs.declared.node.Literal.{Literal}
+use Rattle.sc_nodes.specs.declared.node.UnaryOp.TheVariants.{Like}
 use Rattle.sc_nodes.specs.declared.node.Literal.TheVariants as literals
-use Rattle.sc_nodes.specs.Literals.{same_entity}
 use Rattle.sc_terms.specs.Trees.{Tree, leaf, one, two, choice, many}
 use Rattle.sc_terms.specs.TreeSorts.{tree_sort}
-use Rattle.sc_terms.specs.Order.{tree_eq}
-use Rattle.sc_terms.specs.Folds.{constant, literal_of, literal_term, literals_same, equal_term, other_equal}
-use Rattle.sc_terms.specs.Values.{it, truth, text_in, text_seen, uid_in, uid_seen, literal_value}
-use Rattle.sc_terms.proofs.OrderLaws.{tree_eq-itself}
-use Rattle.sc_terms.proofs.FoldValues.{literal_is, truth_is, truth_yes}
+use Rattle.sc_terms.specs.Folds.{constant, literal_of, literal_term, equal_term, like_term}
+use Rattle.sc_terms.specs.Values.{text_in, text_seen, uid_in, uid_seen}
 use Rattle.sc_term_laws.specs.Tests.{bool_level, is_bool, name_of}
-use Rattle.sc_rules.specs.Signed.{Signed, so, unless, is_true}
 use Rattle.sc_rules.specs.Terms.{is_named, is_named_level}
-use Rattle.sc_rules.specs.Equal.{eq1}
-use Rattle.sc_rules.proofs.EquationLaws.{is_equal, equal_so}
+use Rattle.sc_rules.proofs.MemberLaws.{filter_within, filter_passes, filter_kept}
 use Rattle.sc_closure_rules.specs.Closure.{Closed}
 use Rattle.sc_rebuilding.specs.Assignments.{Assignment, lit}
-use Rattle.sc_rebuilding.specs.Consistent.{IsConsistent, IsRuleAt, of_eq1}
+use Rattle.sc_rebuilding.specs.Consistent.{IsConsistent}
 use Rattle.sc_rebuilding.specs.Models.{IsModel}
-use Rattle.sc_rebuilding.specs.Names.{Name, literal_text, literal_id, of_sort, are_equal, class_name, id_of, model_of}
-use Rattle.sc_rebuilding.proofs.ClaimLaws.{nowhere, no_truth, sort_of_literal}
+use Rattle.sc_rebuilding.specs.Names.{Name, Named, Texts, literal_text, literal_id, of_sort, are_equal, or_fresh, class_name, literal_entries, names_of, text_of, id_of, model_of}
+use Rattle.sc_rebuilding.specs.Texts.{IsString, ArePatterns, AreTextsOf}
+use Rattle.sc_rebuilding.proofs.ClaimLaws.{no_truth, sort_of_literal}
 use Rattle.sc_rebuilding.proofs.ClassLaws.{IsClassed, one_class, of_one_name, literal_name}
-use Rattle.sc_rebuilding.proofs.ClosedLaws.{strings_equation, entities_equation}
-use Rattle.sc_rebuilding.proofs.EquationTerms.{equal_plain, equal_sym, lit_truth}
-use Rattle.sc_rebuilding.proofs.HoldLaws.{third}
-
--- ---- filters
-
-module _ {X : Type 0} (p : X → Bool) where
-  kept_first : (x : X) (xs : List X) (b : Bool) → b ≡ true → Has (cond b (x ∷ filter p xs) (filter p xs)) x
-  kept_first x xs true e = inl refl
-  kept_first x xs false e = absurd cc
-
-  kept_later : (x y : X) (xs : List X) (b : Bool) → Has (filter p xs) y → Has (cond b (x ∷ filter p xs) (filter p xs)) y
-  kept_later x y xs true h = inr h
-  kept_later x y xs false h = h
-
-  pub has_filter : (xs : List X) (x : X) → Has xs x → p x ≡ true → Has (filter p xs) x
-  has_filter [] x h e = absurd h
-  has_filter (y ∷ xs) x (inl is) e = subst (λ z. Has (filter p (y ∷ xs)) z) is (kept_first y xs (p y) (ap p is ∙ e))
-  has_filter (y ∷ xs) x (inr later) e = kept_later y x xs (p y) (has_filter xs x later e)
-
-  first_or_later : (x y : X) (xs : List X) (b : Bool) → p x ≡ b → Has (cond b (x ∷ filter p xs) (filter p xs)) y
-      → (Has (filter p xs) y → Has xs y × (p y ≡ true)) → Has (x ∷ xs) y × (p y ≡ true)
-  first_or_later x y xs true e (inl is) f = (inl is, ap p (sym is) ∙ e)
-  first_or_later x y xs true e (inr h) f = let r = f h in (inr r.0, r.1)
-  first_or_later x y xs false e h f = let r = f h in (inr r.0, r.1)
-
-  pub filter_has : (xs : List X) (x : X) → Has (filter p xs) x → Has xs x × (p x ≡ true)
-  filter_has [] x h = absurd h
-  filter_has (y ∷ ys) x h = first_or_later y x ys (p y) refl h (filter_has ys x)
+use Rattle.sc_rebuilding.proofs.ClosedLaws.{entities_equation}
+use Rattle.sc_rebuilding.proofs.EqualityLaws.{AreEquated, strings_equated, equal_itself, equal_back, literals_one, equal_through}
+use Rattle.sc_rebuilding.proofs.NameLaws.{AreNames, name_found, name_some, likes_agree, all_named, named_kept, named_each, literals_named, literal_entered}
 
 -- ---- literals
 
-text_is : (x : Tree) (n : Name) → literal_text x ≡ Some n → x ≡ literal_term (literals.String n)
+pub text_is : (x : Tree) (n : Name) → literal_text x ≡ Some n → x ≡ literal_term (literals.String n)
 text_is (leaf (leafs.Literal (literals.String t))) n e = ap (λ (z : Name). literal_term (literals.String z)) (same_some e)
 text_is (leaf (leafs.Literal (literals.Bool b))) n e = absurd cc
 text_is (leaf (leafs.Literal (literals.Long z))) n e = absurd cc
@@ -116,42 +86,12 @@ module _ (d : Declarations) (env : Env) (goal : Tree) (closed : List Tree) (m : 
   of_sort_is : (k : Sort) (x : Tree) → Has (of_sort k closed) x → Closed d env goal x × (tree_sort x ≡ k)
   unfolding of_sort
   of_sort_is k x h =
-      let r = filter_has (λ (z : Tree). sorts.eq (tree_sort z) k) closed x h in
-      ((listed x).0 r.0, (sort_eq_decides (tree_sort x) k).0 r.1)
+      let test : Tree → Bool = λ z. sorts.eq (tree_sort z) k in
+      ((listed x).0 (filter_within test closed x h), (sort_eq_decides (tree_sort x) k).0 (filter_passes test closed x h))
 
   is_of_sort : (k : Sort) (x : Tree) → Closed d env goal x → tree_sort x ≡ k → Has (of_sort k closed) x
   unfolding of_sort
-  is_of_sort k x c e = has_filter (λ (z : Tree). sorts.eq (tree_sort z) k) closed x ((listed x).1 c) ((sort_eq_decides (tree_sort x) k).1 e)
-
-  -- ---- equations of what is no truth value
-
-  equal_itself : (x : Tree) → constant x ≡ None → lit m (equal_term x x) ≡ true
-  equal_itself x n =
-      ap (lit m) (equal_plain x x n n ∙ ap (λ (t : Bool). other_equal t (literals_same (literal_of x) (literal_of x)) x x) (tree_eq-itself x)) ∙ lit_truth m true
-
-  -- of two literals the equation is a truth value, which is the same in any world
-  literals_fold : (x y : Tree) (k l : Literal) → constant x ≡ None → constant y ≡ None → literal_of x ≡ Some k → literal_of y ≡ Some l
-      → lit m (equal_term x y) ≡ is_true (equal_term x y) nowhere
-  literals_fold x y k l a b e f =
-      let is_plain : equal_term x y ≡ other_equal (tree_eq x y) (Some (same_entity k l)) x y =
-      equal_plain x y a b ∙ (λ i. other_equal (tree_eq x y) (literals_same (e i) (f i)) x y) in
-      ap (lit m) is_plain ∙ by (tree_eq x y) ∙ sym (ap (λ (t : Tree). is_true t nowhere) is_plain) where
-        by : (t : Bool) → lit m (other_equal t (Some (same_entity k l)) x y) ≡ is_true (other_equal t (Some (same_entity k l)) x y) nowhere
-        by true = lit_truth m true ∙ sym (ap truth (truth_is true nowhere) ∙ truth_yes true)
-        by false = lit_truth m (same_entity k l) ∙ sym (ap truth (truth_is (same_entity k l) nowhere) ∙ truth_yes (same_entity k l))
-
-  equal_back : (x y : Tree) → constant x ≡ None → constant y ≡ None → lit m (equal_term x y) ≡ true → lit m (equal_term y x) ≡ true
-  equal_back x y a b t = by (literal_of x) (literal_of y) refl refl where
-    by : (o p : Option Literal) → literal_of x ≡ o → literal_of y ≡ p → lit m (equal_term y x) ≡ true
-    by None p e f = ap (lit m) (sym (equal_sym x y e b)) ∙ t
-    by (Some k) None e f = ap (lit m) (equal_sym y x f a) ∙ t
-    by (Some k) (Some l) e f =
-        literals_fold y x l k b a f e ∙ equal_so nowhere y x (sym (is_equal nowhere x y (sym (literals_fold x y k l a b e f) ∙ t)))
-
-  literals_one : (x y : Tree) (k l : Literal) → constant x ≡ None → constant y ≡ None → literal_of x ≡ Some k → literal_of y ≡ Some l → lit m (equal_term x y) ≡ true
-      → it (literal_value k) ≡ it (literal_value l)
-  literals_one x y k l a b e f t =
-      sym (literal_is x k nowhere e) ∙ is_equal nowhere x y (sym (literals_fold x y k l a b e f) ∙ t) ∙ literal_is y l nowhere f
+  is_of_sort k x c e = filter_kept (λ (z : Tree). sorts.eq (tree_sort z) k) closed x ((listed x).1 c) ((sort_eq_decides (tree_sort x) k).1 e)
 
   -- ---- classes
 
@@ -173,16 +113,12 @@ module _ (d : Declarations) (env : Env) (goal : Tree) (closed : List Tree) (m : 
         let a = of_sort_is k x h in
         let b = of_sort_is k y i in
         let c = of_sort_is k z j in
-        let parts : List Signed = unless (equal_term x y) ∷ unless (equal_term y z) ∷ so (equal_term x z) ∷ [] in
-        let test : (is_named x && (is_named y && is_named z)) ≡ true = both_true (named_at x a.1) (both_true (named_at y b.1) (named_at z c.1)) in
-        let said : eq1 x y z ≡ Some parts = ap (λ (q : Bool). cond q (Some parts) None) test in
-        third m false false true (equal_term x y) (equal_term y z) (equal_term x z)
-        (is.rules parts (subst (IsRuleAt d (Closed d env goal)) said (of_eq1 x y z a.0 b.0 c.0)) (closed_pair x y h i, (closed_pair y z i j, (closed_pair x z h j, tt)))) t u
+        equal_through d env goal m is x y z a.0 b.0 c.0 (named_at x a.1) (named_at y b.1) (named_at z c.1) (closed_pair x y h i) (closed_pair y z i j) (closed_pair x z h j) t u
 
     classed : IsClassed (are_equal m) literal (of_sort k closed)
     classed = record {
-      itself = λ x h. equal_itself x (no_bool x h);
-      turned = λ x y h i t. equal_back x y (no_bool x h) (no_bool y i) t;
+      itself = λ x h. equal_itself m x (no_bool x h);
+      turned = λ x y h i t. equal_back m x y (no_bool x h) (no_bool y i) t;
       through = through_class;
       one_literal = λ x y n h i e f. one_term x y n (of_sort_is k x h).1 (of_sort_is k y i).1 e f;
       one_name = λ x y n o h i e f t. one_said x y n o (of_sort_is k x h).1 (of_sort_is k y i).1 e f t;
@@ -203,20 +139,11 @@ module _ (d : Declarations) (env : Env) (goal : Tree) (closed : List Tree) (m : 
   string_plain : is_bool sort.String ≡ false
   string_plain = ap bool_level out_String
 
-  string_named : is_named_level (out-Sort sort.String) ≡ true
-  string_named = ap is_named_level out_String
-
-  one_text : (x y : Tree) (n : Name) → tree_sort x ≡ sort.String → tree_sort y ≡ sort.String → literal_text x ≡ Some n → literal_text y ≡ Some n → x ≡ y
-  one_text x y n h i e f = text_is x n e ∙ sym (text_is y n f)
-
   said_text : (x y : Tree) (n o : Name) → tree_sort x ≡ sort.String → tree_sort y ≡ sort.String → literal_text x ≡ Some n → literal_text y ≡ Some o → lit m (equal_term x y) ≡ true → n ≡ o
   said_text x y n o h i e f t =
-      let one = literals_one x y (literals.String n) (literals.String o) (no_truth sort.String x h string_plain) (no_truth sort.String y i string_plain)
+      let one = literals_one m x y (literals.String n) (literals.String o) (no_truth sort.String x h string_plain) (no_truth sort.String y i string_plain)
       (ap literal_of (text_is x n e)) (ap literal_of (text_is y o f)) t in
       sym (ap text_seen (out.out_String n)) ∙ ap text_in one ∙ ap text_seen (out.out_String o)
-
-  string_pair : (x y : Tree) → tree_sort x ≡ sort.String → tree_sort y ≡ sort.String → Closed d env goal x → Closed d env goal y → Closed d env goal (equal_term x y)
-  string_pair x y h i c e = strings_equation d env goal x y h i c e
 
   -- ---- entities
 
@@ -242,7 +169,7 @@ module _ (d : Declarations) (env : Env) (goal : Tree) (closed : List Tree) (m : 
     said_uid x y n o h i e f t =
         let a = id_is x n e in
         let b = id_is y o f in
-        let one_value = literals_one x y (literals.Entity a.0 a.1) (literals.Entity b.0 b.1) (no_truth (sort.Entity name us) x h entity_plain) (no_truth (sort.Entity name us) y i entity_plain)
+        let one_value = literals_one m x y (literals.Entity a.0 a.1) (literals.Entity b.0 b.1) (no_truth (sort.Entity name us) x h entity_plain) (no_truth (sort.Entity name us) y i entity_plain)
         (ap literal_of a.2) (ap literal_of b.2) t in
         let uids : a.0 ≡ b.0 = sym (ap uid_seen (out.out_Entity a.0)) ∙ ap uid_in one_value ∙ ap uid_seen (out.out_Entity b.0) in
         sym a.3 ∙ ap (λ (u : Uid). u.id) uids ∙ b.3
@@ -257,6 +184,75 @@ module _ (d : Declarations) (env : Env) (goal : Tree) (closed : List Tree) (m : 
     entity_said : (x : Tree) (n : Name) → Closed d env goal x → tree_sort x ≡ sort.Entity name us → literal_id x ≡ Some n → class_name (are_equal m) literal_id (of_sort (sort.Entity name us) closed) x ≡ n
     entity_said x n c h e = literal_said (sort.Entity name us) entity_plain entity_named literal_id one_uid said_uid entity_pair x n c h e
 
+  -- ---- the names of strings
+
+  module _ (qs : List Pattern) (patterns : ArePatterns d env goal qs) (texts : Texts) (texts_are : AreTextsOf d env goal m qs texts) where
+    equal : AreEquated d env goal m
+    equal = strings_equated d env goal m is
+
+    abbrev strings : List Tree
+    strings = of_sort sort.String closed
+
+    abbrev names : Named
+    names = names_of m qs texts closed
+
+    are_strings : (x : Tree) → Has (of_sort sort.String closed) x → IsString d env goal x
+    are_strings x h = of_sort_is sort.String x h
+
+    said : (x y : Tree) (n o : Name) → IsString d env goal x → IsString d env goal y → literal_text x ≡ Some n → literal_text y ≡ Some o → lit m (equal_term x y) ≡ true → n ≡ o
+    said x y n o s t e f g = said_text x y n o s.1 t.1 e f g
+
+    names_are : AreNames d env goal m is qs patterns (strings_equated d env goal m is) texts texts_are (names_of m qs texts closed)
+    names_are =
+        all_named d env goal m is qs patterns (strings_equated d env goal m is) texts texts_are (literal_entries (of_sort sort.String closed)) (of_sort sort.String closed)
+        (literals_named d env goal m is qs patterns (strings_equated d env goal m is) texts texts_are text_is said (of_sort sort.String closed) are_strings) are_strings
+
+    -- a string has the name of one that equals it
+    record IsNamed (x : Tree) : Type 0 where
+      entry : Tree × Name
+      there : Has (names_of m qs texts closed) entry
+      same : lit m (equal_term x entry.0) ≡ true
+      is_name : text_of m qs texts closed x ≡ entry.1
+
+    string_named : (x : Tree) → IsString d env goal x → IsNamed x
+    string_named x s =
+        let own = named_each d env goal m is qs patterns equal texts texts_are (literal_entries (of_sort sort.String closed)) (of_sort sort.String closed) x (is_of_sort sort.String x s.0 s.1) in
+        let some = name_some (are_equal m) (names_of m qs texts closed) x (x, own.0) own.1 (equal.itself x s) in
+        let found = name_found (are_equal m) (names_of m qs texts closed) x some.0 some.1 in
+        record { entry = found.0; there = found.1; same = found.2; is_name = ap (λ (o : Option Name). or_fresh o []) some.1 ∙ sym found.3 }
+
+    texts_named : (x y : Tree) → IsString d env goal x → IsString d env goal y → (text_of m qs texts closed x ≡ text_of m qs texts closed y) ↔ (lit m (equal_term x y) ≡ true)
+    texts_named x y s t =
+        let a = string_named x s in
+        let b = string_named y t in
+        let p = names_are.strings a.entry a.there in
+        let q = names_are.strings b.entry b.there in (
+          λ e.
+              let one : lit m (equal_term a.entry.0 b.entry.0) ≡ true = names_are.alone a.entry b.entry a.there b.there (sym a.is_name ∙ e ∙ b.is_name) in
+              equal.through x a.entry.0 y s p t a.same (equal.through a.entry.0 b.entry.0 y p q t one (equal.turned y b.entry.0 t q b.same)),
+          λ e.
+              let one : lit m (equal_term a.entry.0 b.entry.0) ≡ true = equal.through a.entry.0 x b.entry.0 p s q (equal.turned x a.entry.0 s p a.same) (equal.through x y b.entry.0 s t q e b.same) in
+              a.is_name ∙ names_are.one a.entry b.entry a.there b.there one ∙ sym b.is_name,
+        )
+
+    text_said : (t : Name) → Closed d env goal (literal_term (literals.String t)) → text_of m qs texts closed (literal_term (literals.String t)) ≡ t
+    text_said t c =
+        let x : Tree = literal_term (literals.String t) in
+        let s : IsString d env goal (literal_term (literals.String t)) = (c, sort_of_literal (literals.String t)) in
+        let a = string_named (literal_term (literals.String t)) s in
+        let own = named_kept d env goal m is qs patterns equal texts texts_are (literal_entries (of_sort sort.String closed)) (of_sort sort.String closed) (literal_term (literals.String t), t)
+        (literal_entered d env goal m is qs patterns equal texts texts_are text_is said (of_sort sort.String closed) are_strings (literal_term (literals.String t)) t
+        (is_of_sort sort.String (literal_term (literals.String t)) c s.1) refl) in
+        a.is_name ∙ sym (names_are.one (literal_term (literals.String t), t) a.entry own a.there a.same)
+
+    text_likes : (p : Pattern) (x y : Tree) → IsString d env goal x → Closed d env goal (one (Like p) y) → is_match p (chars (text_of m qs texts closed x)) ≡ lit m (like_term x p)
+    text_likes p x y s h =
+        let a = string_named x s in
+        let there = patterns.asked p y h in
+        let string = names_are.strings a.entry a.there in
+        ap (λ (t : Name). is_match p (chars t)) a.is_name ∙ names_are.likes a.entry a.there p there
+        ∙ likes_agree d env goal m is qs patterns a.entry.0 x p string s there (equal.turned x a.entry.0 s string a.same) a.same
+
   -- ---- the model
 
   id_at : (x : Tree) (k : Sort) → tree_sort x ≡ k → id_of m closed x ≡ class_name (are_equal m) literal_id (of_sort k closed) x
@@ -265,34 +261,34 @@ module _ (d : Declarations) (env : Env) (goal : Tree) (closed : List Tree) (m : 
   type_at : (x : Tree) (name : Name) (us : List Uid) → tree_sort x ≡ sort.Entity name us → name_of (tree_sort x) ≡ name
   type_at x name us e = ap name_in (ap out-Sort e ∙ out_Entity name us)
 
-  uids_named : (name : Name) (us : List Uid) (x y : Tree) → Closed d env goal x → Closed d env goal y → tree_sort x ≡ sort.Entity name us → tree_sort y ≡ sort.Entity name us
-      → ((model_of closed m).uid x ≡ (model_of closed m).uid y) ↔ (lit m (equal_term x y) ≡ true)
-  uids_named name us x y c e h i =
-      let apart = entities_apart name us x y c e h i in (
-        λ t. apart.0 (sym (id_at x (sort.Entity name us) h) ∙ ap (λ (u : Uid). u.id) t ∙ id_at y (sort.Entity name us) i),
-        λ t.
-            let types : name_of (tree_sort x) ≡ name_of (tree_sort y) = type_at x name us h ∙ sym (type_at y name us i) in
-            let ids : id_of m closed x ≡ id_of m closed y = id_at x (sort.Entity name us) h ∙ apart.1 t ∙ sym (id_at y (sort.Entity name us) i) in
-            λ j. record { type_name = types j; id = ids j },
-      )
+  module _ (qs : List Pattern) (patterns : ArePatterns d env goal qs) (texts : Texts) (texts_are : AreTextsOf d env goal m qs texts) where
+    uids_named : (name : Name) (us : List Uid) (x y : Tree) → Closed d env goal x → Closed d env goal y → tree_sort x ≡ sort.Entity name us → tree_sort y ≡ sort.Entity name us
+        → ((model_of qs texts closed m).uid x ≡ (model_of qs texts closed m).uid y) ↔ (lit m (equal_term x y) ≡ true)
+    uids_named name us x y c e h i =
+        let apart = entities_apart name us x y c e h i in (
+          λ t. apart.0 (sym (id_at x (sort.Entity name us) h) ∙ ap (λ (u : Uid). u.id) t ∙ id_at y (sort.Entity name us) i),
+          λ t.
+              let types : name_of (tree_sort x) ≡ name_of (tree_sort y) = type_at x name us h ∙ sym (type_at y name us i) in
+              let ids : id_of m closed x ≡ id_of m closed y = id_at x (sort.Entity name us) h ∙ apart.1 t ∙ sym (id_at y (sort.Entity name us) i) in
+              λ j. record { type_name = types j; id = ids j },
+        )
 
-  uid_said : (u : Uid) (us : List Uid) → Closed d env goal (literal_term (literals.Entity u us)) → (model_of closed m).uid (literal_term (literals.Entity u us)) ≡ u
-  uid_said u us c =
-      let h : tree_sort (literal_term (literals.Entity u us)) ≡ sort.Entity u.type_name us = sort_of_literal (literals.Entity u us) in
-      let types : name_of (tree_sort (literal_term (literals.Entity u us))) ≡ u.type_name = type_at (literal_term (literals.Entity u us)) u.type_name us h in
-      let ids : id_of m closed (literal_term (literals.Entity u us)) ≡ u.id =
-      id_at (literal_term (literals.Entity u us)) (sort.Entity u.type_name us) h ∙ entity_said u.type_name us (literal_term (literals.Entity u us)) u.id c h refl in
-      λ j. record { type_name = types j; id = ids j }
+    uid_said : (u : Uid) (us : List Uid) → Closed d env goal (literal_term (literals.Entity u us)) → (model_of qs texts closed m).uid (literal_term (literals.Entity u us)) ≡ u
+    uid_said u us c =
+        let h : tree_sort (literal_term (literals.Entity u us)) ≡ sort.Entity u.type_name us = sort_of_literal (literals.Entity u us) in
+        let types : name_of (tree_sort (literal_term (literals.Entity u us))) ≡ u.type_name = type_at (literal_term (literals.Entity u us)) u.type_name us h in
+        let ids : id_of m closed (literal_term (literals.Entity u us)) ≡ u.id =
+        id_at (literal_term (literals.Entity u us)) (sort.Entity u.type_name us) h ∙ entity_said u.type_name us (literal_term (literals.Entity u us)) u.id c h refl in
+        λ j. record { type_name = types j; id = ids j }
 
-  pub is_model : IsModel d env goal (model_of closed m)
-  is_model = record {
-    consistent = is;
-    listed = listed;
-    texts = λ x y c e. named_apart sort.String string_plain string_named literal_text one_text said_text string_pair x y c.0 e.0 c.1 e.1;
-    literal_text = λ t c.
-        literal_said sort.String string_plain string_named literal_text one_text said_text string_pair (literal_term (literals.String t)) t c
-        (sort_of_literal (literals.String t)) refl;
-    uids = λ name us x y c e. uids_named name us x y c.0 e.0 c.1 e.1;
-    typed = λ name us x e. type_at x name us e;
-    literal_uid = uid_said;
-  }
+    pub is_model : IsModel d env goal (model_of qs texts closed m)
+    is_model = record {
+      consistent = is;
+      listed = listed;
+      texts = λ x y c e. texts_named qs patterns texts texts_are x y c e;
+      literal_text = λ t c. text_said qs patterns texts texts_are t c;
+      likes = λ p x y c e h. text_likes qs patterns texts texts_are p x y (c, e) h;
+      uids = λ name us x y c e. uids_named name us x y c.0 e.0 c.1 e.1;
+      typed = λ name us x e. type_at x name us e;
+      literal_uid = uid_said;
+    }

@@ -1,14 +1,16 @@
 -- A term has its value in a world in which its parts have theirs: one law for each row.
-use Rattle.std.proofs.Common.{◌≡◌, ◌&&◌, ◌||◌, inl, inr, ℕ, Bool, true, false, not, cond, List, [], ◌∷◌, flat_map, is_some, Option, Some, None, refl, sym, ap, ◌∙◌, subst}
+use Rattle.std.proofs.Common.{◌≡◌, ◌&&◌, ◌||◌, inl, inr, ℕ, Bool, true, false, not, cond, List, [], ◌∷◌, flat_map, is_some, Some, None, refl, sym, ap, ◌∙◌, subst}
 use Rattle.std.specs.Cmp.{both_ways}
 use Rattle.std.specs.List.{list_all, list_any}
 use Rattle.std.specs.Map.{lookup}
-use Rattle.std.specs.Str.{bytes_eq}
+use Rattle.std.specs.Str.{bytes_eq, chars}
 use Rattle.std.proofs.lemmas.Map.Views.{Contains-from_lookup}
 use Rattle.sc_lists.proofs.MemberLaws.{Has-from_Contains}
 use Rattle.sc_lists.proofs.TextLaws.{bytes_eq_true}
 use Rattle.sc_lists.specs.Members.{Has}
 use Rattle.sc_names.specs.declared.uid.Uid.{Uid}
+use Rattle.sc_pattern.specs.declared.part.Part.{Part}
+use Rattle.sc_pattern.specs.Language.{is_match}
 use Rattle.sc_schema.specs.declared.declarations.Env.{Env}
 use Rattle.sc_schema.specs.Declarations.{Declarations}
 use Rattle.sc_values.specs.declared.value.Value.{Value}
@@ -33,7 +35,7 @@ use Rattle.std.specs.Int.{w64}
 use Rattle.sc_terms.specs.Trees.{Tree, leaf, one, two, choice}
 use Rattle.sc_terms.specs.TreeSorts.{tree_sort}
 use Rattle.sc_terms.specs.Folds.{literal_term, equal_term, field_term, present_term, held_term}
-use Rattle.sc_terms.specs.Values.{Val, it, yes, val, seen, bool_seen, truth, value_in, members_in, members_seen, record_in, fields_seen, field_of, set_from, not_value, option_in, level, bit_seen, field_seen, field_value, has_member, and_seen, and_value, or_seen, or_value, equal_value, choice_value, val_eq}
+use Rattle.sc_terms.specs.Values.{Val, it, yes, val, seen, bool_seen, truth, value_in, members_in, members_seen, record_in, fields_seen, field_of, set_from, not_value, option_in, level, bit_seen, like_seen, field_seen, field_value, has_member, and_seen, and_value, or_seen, or_value, equal_value, choice_value, val_eq}
 use Rattle.sc_terms.proofs.FoldValues.{leaf_is, one_is, two_is, seen_yes, not_yes, truth_yes}
 use Rattle.sc_terms.proofs.EqualValues.{equal_bools, equal_others, val_eq-exact}
 use Rattle.sc_definitions.specs.Definitions.{definition, table, chosen_of}
@@ -43,7 +45,7 @@ use Rattle.sc_term_laws.specs.Judging as judged
 use Rattle.sc_term_laws.specs.Tests.{bool_level, is_bool}
 use Rattle.sc_term_laws.specs.Unfolded.{stays_equal, stays_field, stays_option, stays_literal}
 use Rattle.sc_term_laws.proofs.JudgingLaws.{field_of_record, member_of}
-use Rattle.sc_term_laws.proofs.UnfoldedLaws.{equal_stays, field_stays, present_stays, bit_stays}
+use Rattle.sc_term_laws.proofs.UnfoldedLaws.{equal_stays, field_stays, present_stays, bit_stays, like_stays}
 use Rattle.sc_rules.specs.Signed.{so, unless}
 use Rattle.sc_rules.specs.Equal.{eq2}
 use Rattle.sc_rules.specs.Sets.{se6, se7}
@@ -61,7 +63,7 @@ use Rattle.sc_rebuilding.proofs.ClosedLaws.{of_part, first_branch, second_branch
 use Rattle.sc_rebuilding.proofs.CompositeClaims.{ruled, claims, fields_differ, field_sorted, member_plain, IsSet, member_has, has_member as member_in_set, candidate_of, membership, moves, included, inclusion, members_of, val_members}
 use Rattle.sc_rebuilding.proofs.EquationTerms.{lit_negation}
 use Rattle.sc_rebuilding.proofs.HoldLaws.{second, third}
-use Rattle.sc_rebuilding.proofs.ValLaws.{val_out, val_Bool, val_Long, val_Decimal, val_Ip, val_Option, val_Record, shown, is_it}
+use Rattle.sc_rebuilding.proofs.ValLaws.{val_out, val_Bool, val_Long, val_String, val_Decimal, val_Ip, val_Option, val_Record, shown, is_it}
 
 -- ---- connectives of truth values
 
@@ -257,6 +259,16 @@ module _ (d : Declarations) (env : Env) (literals : List Uid) (goal : Tree) (add
       (one_is (unary.Bit i) a w
       ∙ ap yes (ap (λ v. bit_seen (level v) i) (at_sort sort.Ip a e r ∙ val_Ip m a) ∙ ap (λ l. bit_seen l i) (out.out_Ip (ip_of (bits_of m a))) ∙ addresses.bits (bits_of m a) (is.consistent.addresses a c e) i h))
       (ap (lit m.truths) (bit_stays a i stays))
+
+  -- ---- patterns
+
+  pub right_like : (p : List Part) (a : Tree) → tree_sort a ≡ sort.String → stays_literal a ≡ true → Closed d env goal (one (unary.Like p) a) → IsRight m w a → IsRight m w (one (unary.Like p) a)
+  unfolding tree_sort
+  right_like p a e stays c r =
+      right_truth (one (unary.Like p) a) (is_match p (chars (m.text a))) refl
+      (one_is (unary.Like p) a w
+      ∙ ap yes (ap (λ v. like_seen (level v) p) (at_sort sort.String a e r ∙ val_String m a) ∙ ap (λ l. like_seen l p) (out.out_String (m.text a))))
+      (is.likes p a a (of_part d env goal (one (unary.Like p) a) a c (inl refl)) e c ∙ ap (lit m.truths) (like_stays a p stays))
 
   -- ---- fields and options
 

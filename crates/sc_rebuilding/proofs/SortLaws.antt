@@ -1,16 +1,12 @@
 -- The sort of a term is one of the schema's values.
-use Rattle.std.proofs.Common.{◌≡◌, ℕ, inl, inr, List, ◌∷◌, [], Bool, false, Some, Contains, map, refl, sym, ap, subst}
+use Rattle.std.proofs.Common.{◌≡◌, ℕ, inl, inr, List, [], Some, Contains, map, refl, sym, ap, subst}
 use Rattle.std.specs.List.{AllByRecursion}
-use Rattle.std.specs.List.Sorted.{IsStrictlySortedBy}
-use Rattle.std.specs.Map.{lookup, keys_of}
+use Rattle.std.specs.Map.{lookup}
 use Rattle.std.specs.Str.{bytes_eq}
 use Rattle.std.proofs.lemmas.Map.Views.{Contains-from_lookup}
-use Rattle.std.proofs.lemmas.Slice.Eq.{bytes_eq-Decides}
 use Rattle.sc_lists.proofs.ListLaws.{all_element, contains_from_map, joined_from}
 use Rattle.sc_lists.proofs.TextLaws.{bytes_eq_true}
-use Rattle.sc_lists.specs.Members.{Has}
 use Rattle.sc_names.specs.declared.uid.Uid.{Uid}
-use Rattle.sc_names.specs.Uids.{text_cmp}
 use Rattle.sc_schema.specs.declared.declarations.Env.{Env}
 use Rattle.sc_schema.specs.Declarations.{Declarations, environment, environments, environments_for}
 use Rattle.sc_schema.specs.Lawful.{IsLawful, IsEntityType}
@@ -27,10 +23,8 @@ use Rattle.sc_term_laws.specs.Judging.{IsTermOf, HaveFields}
 use Rattle.sc_term_laws.specs.Judging as judged
 use Rattle.sc_term_laws.specs.LawfulSorts.{IsDeclared, IsSortLevel, IsSortOf}
 use Rattle.sc_term_laws.proofs.ChoicesLaws.{declared_is}
-use Rattle.sc_term_laws.proofs.FitRecords.{all_apart}
 use Rattle.sc_term_laws.proofs.FitVals.{no_option_at}
 use Rattle.sc_term_laws.proofs.SortsLawful.{lawful_action, above_declared, attrs_lawful, tags_lawful, context_lawful, type_lawful, declared_action}
-use Rattle.sc_closure_rules.proofs.SortLaws.{key_at, found}
 
 -- ---- a field is found by its name, where names ascend
 

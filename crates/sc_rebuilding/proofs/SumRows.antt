@@ -1,5 +1,5 @@
 -- Sums, differences and comparisons of numbers have their values where their parts have theirs.
-use Rattle.std.proofs.Common.{◌≡◌, ◌<◌, ◌≤◌, ◌+◌, ◌-◌, inl, inr, ℕ, zero, suc, arith, true, false, ℤ, ◌+ℤ◌, ◌-ℤ◌, int_lt, List, [], ◌∷◌, refl, sym, ap, ◌∙◌, subst}
+use Rattle.std.proofs.Common.{◌≡◌, ◌<◌, ◌≤◌, ◌+◌, ◌-◌, inl, inr, ℕ, zero, suc, arith, true, false, ◌+ℤ◌, ◌-ℤ◌, int_lt, List, [], ◌∷◌, refl, sym, ap, ◌∙◌, subst}
 use Rattle.std.specs.Int.{w64, int_wrap}
 use Rattle.sc_lists.specs.Members.{Has}
 use Rattle.sc_names.specs.declared.uid.Uid.{Uid}
@@ -38,7 +38,7 @@ use Rattle.sc_rebuilding.proofs.ValLaws.{val_Long, val_Decimal}
 
 module _ (d : Declarations) (env : Env) (literals : List Uid) (goal : Tree) (addresses : AreAddresses) (terms : AreTerms d env literals goal) (m : Model) (is : IsModel d env goal m) (w : World) where
   -- the number that a term has
-  long_number : (a : Tree) → tree_sort a ≡ sort.Long → IsRight m w a → number_in (val a w) ≡ of_bits64 (bits_of m a)
+  pub long_number : (a : Tree) → tree_sort a ≡ sort.Long → IsRight m w a → number_in (val a w) ≡ of_bits64 (bits_of m a)
   long_number a e r =
       ap number_in (at_sort d env literals goal addresses terms m is w sort.Long a e r ∙ val_Long m a) ∙ ap number_seen (out.out_Long (of_bits64 (bits_of m a)))
 
@@ -46,7 +46,7 @@ module _ (d : Declarations) (env : Env) (literals : List Uid) (goal : Tree) (add
   decimal_number a e r =
       ap number_in (at_sort d env literals goal addresses terms m is w sort.Decimal a e r ∙ val_Decimal m a) ∙ ap number_seen (out.out_Decimal (of_bits64 (bits_of m a)))
 
-  number_right : (k : Sort) (a : Tree) → IsNumberSort k → tree_sort a ≡ k → IsRight m w a → number_in (val a w) ≡ of_bits64 (bits_of m a)
+  pub number_right : (k : Sort) (a : Tree) → IsNumberSort k → tree_sort a ≡ k → IsRight m w a → number_in (val a w) ≡ of_bits64 (bits_of m a)
   number_right _ a judged.long e r = long_number a e r
   number_right _ a judged.decimal e r = decimal_number a e r
 
@@ -186,7 +186,7 @@ module _ (d : Declarations) (env : Env) (literals : List Uid) (goal : Tree) (add
       let sum : n ≡ n - i + i = omega (arith, h) in
       lower a b (n - i) i (subst (λ (j : ℕ). Closed d env goal (two (binary.Low j) a b)) sum c)
 
-  lows : (a b : Tree) (n : ℕ) → Closed d env goal (two (binary.Low n) a b) → IsLow n (bits_of m a) (bits_of m b) (λ i. lit m.truths (two (binary.Low i) a b))
+  pub lows : (a b : Tree) (n : ℕ) → Closed d env goal (two (binary.Low n) a b) → IsLow n (bits_of m a) (bits_of m b) (λ i. lit m.truths (two (binary.Low i) a b))
   unfolding tree_sort
   lows a b n c = record {
     start = by_definition d env literals goal addresses terms m is (two (binary.Low 0) a b) (low_at a b 0) refl (low_is a b 0) (low_there a b n 0 (omega arith) c);

@@ -18,8 +18,9 @@ use Rattle.sc_nodes.specs.declared.node.BinaryOp.{BinaryOp}
 use Rattle.sc_nodes.specs.declared.node.BinaryOp.TheVariants as binary
 use Rattle.sc_nodes.specs.declared.node.ManyOp.TheVariants as manys
 use Rattle.sc_sorts.specs.Defaults.{default_uid}
-use Rattle.sc_terms.specs.Trees.{Tree, one, two, choice, many, Trees, part}
+use Rattle.sc_terms.specs.Trees.{Tree, one, two, choice, many, Trees}
 use Rattle.sc_terms.specs.TreeSorts.{tree_sort}
+use Rattle.sc_definitions.specs.Definitions.{product_row}
 use Rattle.sc_term_laws.specs.Judging.{IsTermOf, HaveFields, HaveSort, IsPick}
 use Rattle.sc_term_laws.specs.Judging as judged
 use Rattle.sc_term_laws.proofs.JudgingLaws.{sort_is}
@@ -29,7 +30,10 @@ use Rattle.sc_rebuilding.specs.Models.{IsModel}
 use Rattle.sc_rebuilding.specs.Rows.{IsRight, HoldsModel, covers_two, is_covered, are_covered}
 use Rattle.sc_rebuilding.proofs.ClaimLaws.{AreTerms, AreAddresses}
 use Rattle.sc_rebuilding.proofs.ClosedLaws.{of_part}
-use Rattle.sc_rebuilding.proofs.RowLaws.{right_literal, right_none, right_not, right_and, right_or, right_choice, right_equal, right_bit, right_field, right_present, right_member, right_subset, right_common}
+use Rattle.sc_rebuilding.proofs.RowLaws.{right_literal, right_none, right_not, right_and, right_or, right_choice, right_equal, right_bit, right_like, right_field, right_present, right_member, right_subset, right_common}
+use Rattle.sc_rebuilding.proofs.CarryRows.{right_carry, right_low}
+use Rattle.sc_rebuilding.proofs.ProductRows.{right_multiply, right_multiply_overflows, right_row, right_product_carry}
+use Rattle.sc_rebuilding.proofs.RangeRows.{right_in_range}
 use Rattle.sc_rebuilding.proofs.SumRows.{right_add, right_subtract, right_add_overflows, right_subtract_overflows, right_less}
 use Rattle.sc_rebuilding.proofs.ManyRows.{right_record, right_set, right_held}
 
@@ -50,6 +54,12 @@ module _ (d : Declarations) (env : Env) (literals : List Uid) (goal : Tree) (add
 
   right_part : (o : BinaryOp) (a b : Tree) → Closed d env goal (two o a b) → Closed d env goal b
   right_part o a b c = of_part d env goal (two o a b) b c (inr (inl refl))
+
+  record AreOperands (a b : Tree) : Type 0 where
+    first_sort : tree_sort a ≡ sort.Long
+    second_sort : tree_sort b ≡ sort.Long
+    first : IsRight m w a
+    second : IsRight m w b
 
   mutual
     unfolding is_covered
@@ -102,8 +112,14 @@ module _ (d : Declarations) (env : Env) (literals : List Uid) (goal : Tree) (add
         right_subtract_overflows d env literals goal addresses terms m is w a b (sorted sort.Long a g) (sorted sort.Long b h) c
         (right sort.Long a g (and_first (is_covered a) (is_covered b) p) (left binary.SubtractOverflows a b c))
         (right sort.Long b h (and_second (is_covered a) (is_covered b) p) (right_part binary.SubtractOverflows a b c))
-    right _ _ (judged.of_arithmetic _ a b judged.multiplication g h) p c = absurd cc
-    right _ _ (judged.of_overflow _ a b judged.multiplication_overflow g h) p c = absurd cc
+    right _ _ (judged.of_arithmetic _ a b judged.multiplication g h) p c =
+        right_multiply d env literals goal addresses terms m is w a b (sorted sort.Long a g) (sorted sort.Long b h)
+        (right sort.Long a g (and_first (is_covered a) (is_covered b) p) (left binary.Multiply a b c))
+        (right sort.Long b h (and_second (is_covered a) (is_covered b) p) (right_part binary.Multiply a b c)) c
+    right _ _ (judged.of_overflow _ a b judged.multiplication_overflow g h) p c =
+        right_multiply_overflows d env literals goal addresses terms m is w a b (sorted sort.Long a g) (sorted sort.Long b h)
+        (right sort.Long a g (and_first (is_covered a) (is_covered b) p) (left binary.MultiplyOverflows a b c))
+        (right sort.Long b h (and_second (is_covered a) (is_covered b) p) (right_part binary.MultiplyOverflows a b c)) c
     right _ _ (judged.of_less k a b i g h) p c =
         right_less d env literals goal addresses terms m is w k a b i (sorted k a g) (sorted k b h) c
         (right k a g (and_first (is_covered a) (is_covered b) p) (left binary.Less a b c))
@@ -111,11 +127,26 @@ module _ (d : Declarations) (env : Env) (literals : List Uid) (goal : Tree) (add
     right _ _ (judged.of_bit k i a q g e) p c =
         let part = of_part d env goal (one (unary.Bit i) a) a c (inl refl) in
         right_bit d env literals goal addresses terms m is w k i a q (sorted k a g) e part (right k a g p part)
-    right _ _ (judged.of_in_range a b g h) p c = absurd cc
-    right _ _ (judged.of_carry o i a b q r g) p c = absurd cc
-    right _ _ (judged.of_low k i a b q r g h) p c = absurd cc
-    right _ _ (judged.of_row i j a b q r g) p c = absurd cc
-    right _ _ (judged.of_product_carry i j a b q r g) p c = absurd cc
+    right _ _ (judged.of_in_range a b g h) p c =
+        right_in_range d env literals goal addresses terms m is w a b (sorted sort.Ip a g) (sorted sort.Ip b h) c
+        (right sort.Ip a g (and_first (is_covered a) (is_covered b) p) (left binary.InRange a b c))
+        (right sort.Ip b h (and_second (is_covered a) (is_covered b) p) (right_part binary.InRange a b c))
+    right _ _ (judged.of_carry _ i a b judged.addition r g) p c =
+        let both = sum_operands sort.Long a b g p (of_part d env goal (one (unary.CarryIn i) (two binary.Add a b)) (two binary.Add a b) c (inl refl)) in
+        right_carry d env literals goal addresses terms m is w binary.Add i a b judged.addition r both.first_sort both.second_sort c both.first both.second
+    right _ _ (judged.of_carry _ i a b judged.subtraction r g) p c =
+        let both = difference_operands sort.Long a b g p (of_part d env goal (one (unary.CarryIn i) (two binary.Subtract a b)) (two binary.Subtract a b) c (inl refl)) in
+        right_carry d env literals goal addresses terms m is w binary.Subtract i a b judged.subtraction r both.first_sort both.second_sort c both.first both.second
+    right _ _ (judged.of_low k i a b q r g h) p c =
+        right_low d env literals goal addresses terms m is w k i a b q r (sorted k a g) (sorted k b h) c
+        (right k a g (and_first (is_covered a) (is_covered b) p) (left (binary.Low i) a b c))
+        (right k b h (and_second (is_covered a) (is_covered b) p) (right_part (binary.Low i) a b c))
+    right _ _ (judged.of_row i j a b q r g) p c =
+        let both = product_operands sort.Long a b g p (of_part d env goal (product_row a b i j) (two binary.Multiply a b) c (inl refl)) in
+        right_row d env literals goal addresses terms m is w a b both.first_sort both.second_sort both.first both.second i j q r c
+    right _ _ (judged.of_product_carry i j a b q r g) p c =
+        let both = product_operands sort.Long a b g p (of_part d env goal (one (unary.ProductCarry i j) (two binary.Multiply a b)) (two binary.Multiply a b) c (inl refl)) in
+        right_product_carry d env literals goal addresses terms m is w a b both.first_sort both.second_sort both.first both.second i j q r c
     right _ _ (judged.of_attributes name t a e g) p c =
         holds.stored (unary.Attributes (sort_of t)) a refl c (right (entity_sort d name) a g p (of_part d env goal (one (unary.Attributes (sort_of t)) a) a c (inl refl)))
     right _ _ (judged.of_ancestors name above names a e i g) p c =
@@ -152,7 +183,43 @@ module _ (d : Declarations) (env : Env) (literals : List Uid) (goal : Tree) (add
         (right (sort.Set k) a g (and_first (is_covered a) (is_covered b) p) (left binary.Common a b c))
         (right (sort.Set k) b h (and_second (is_covered a) (is_covered b) p) (right_part binary.Common a b c))
     right _ _ (judged.of_pick o k a b i g h) p c = absurd (not_covered (covers_two o) (is_covered a && is_covered b) (no_pick o i) p)
-    right _ _ (judged.of_like q a g e) p c = absurd cc
+    right _ _ (judged.of_like q a g e) p c =
+        right_like d env literals goal addresses terms m is w q a (sorted sort.String a g) e c
+        (right sort.String a g p (of_part d env goal (one (unary.Like q) a) a c (inl refl)))
+
+    -- the parts of a sum, a difference or a product, whose bits and carries are terms of their own
+    sum_operands : (k : Sort) (a b : Tree) → IsTermOf d env literals k (two binary.Add a b) → (is_covered a && is_covered b) ≡ true → Closed d env goal (two binary.Add a b) → AreOperands a b
+    sum_operands _ a b (judged.of_arithmetic _ _ _ _ g h) p c = record {
+      first_sort = sorted sort.Long a g;
+      second_sort = sorted sort.Long b h;
+      first = right sort.Long a g (and_first (is_covered a) (is_covered b) p) (left binary.Add a b c);
+      second = right sort.Long b h (and_second (is_covered a) (is_covered b) p) (right_part binary.Add a b c);
+    }
+    sum_operands _ a b (judged.of_overflow _ _ _ i g h) p c = elim i [ ]
+    sum_operands _ a b (judged.of_sets _ k _ _ i g h) p c = elim i [ ]
+    sum_operands _ a b (judged.of_pick _ k _ _ i g h) p c = elim i [ ]
+
+    difference_operands : (k : Sort) (a b : Tree) → IsTermOf d env literals k (two binary.Subtract a b) → (is_covered a && is_covered b) ≡ true → Closed d env goal (two binary.Subtract a b) → AreOperands a b
+    difference_operands _ a b (judged.of_arithmetic _ _ _ _ g h) p c = record {
+      first_sort = sorted sort.Long a g;
+      second_sort = sorted sort.Long b h;
+      first = right sort.Long a g (and_first (is_covered a) (is_covered b) p) (left binary.Subtract a b c);
+      second = right sort.Long b h (and_second (is_covered a) (is_covered b) p) (right_part binary.Subtract a b c);
+    }
+    difference_operands _ a b (judged.of_overflow _ _ _ i g h) p c = elim i [ ]
+    difference_operands _ a b (judged.of_sets _ k _ _ i g h) p c = elim i [ ]
+    difference_operands _ a b (judged.of_pick _ k _ _ i g h) p c = elim i [ ]
+
+    product_operands : (k : Sort) (a b : Tree) → IsTermOf d env literals k (two binary.Multiply a b) → (is_covered a && is_covered b) ≡ true → Closed d env goal (two binary.Multiply a b) → AreOperands a b
+    product_operands _ a b (judged.of_arithmetic _ _ _ _ g h) p c = record {
+      first_sort = sorted sort.Long a g;
+      second_sort = sorted sort.Long b h;
+      first = right sort.Long a g (and_first (is_covered a) (is_covered b) p) (left binary.Multiply a b c);
+      second = right sort.Long b h (and_second (is_covered a) (is_covered b) p) (right_part binary.Multiply a b c);
+    }
+    product_operands _ a b (judged.of_overflow _ _ _ i g h) p c = elim i [ ]
+    product_operands _ a b (judged.of_sets _ k _ _ i g h) p c = elim i [ ]
+    product_operands _ a b (judged.of_pick _ k _ _ i g h) p c = elim i [ ]
 
     right_fields : (fs : SortFields) (ts : Trees) → HaveFields d env literals fs ts → are_covered ts ≡ true → ((t : Tree) → Has (trees_in ts) t → Closed d env goal t) → (t : Tree) → Has (trees_in ts) t → IsRight m w t
     right_fields _ _ judged.no_field p c t n = absurd n

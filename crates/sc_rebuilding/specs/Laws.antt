@@ -1,5 +1,6 @@
 -- Closed terms have the values that a consistent assignment gives them.
-use Rattle.std.specs.Prelude.{◌≡◌, ◌↔◌, true, List}
+use Rattle.std.specs.Prelude.{◌≡◌, ◌≤◌, ◌↔◌, Bool, true, false, List, length}
+use Rattle.std.specs.Str.{IsUtf8}
 use Rattle.sc_lists.specs.Members.{Has}
 use Rattle.sc_names.specs.declared.uid.Uid.{Uid}
 use Rattle.sc_schema.specs.declared.declarations.Env.{Env}
@@ -13,13 +14,15 @@ use Rattle.sc_terms.specs.TreeSorts.{tree_sort}
 use Rattle.sc_terms.specs.Folds.{equal_term}
 use Rattle.sc_terms.specs.Values.{val, yes}
 use Rattle.sc_closure_rules.specs.Closure.{Closed}
-use Rattle.sc_closure_rules.specs.Goals.{IsGoal}
+use Rattle.sc_closure_rules.specs.Goals.{has_pick, IsGoal}
 use Rattle.sc_rules.specs.Signed.{is_true}
+use Rattle.sc_rules.specs.Strings.{Pattern}
 use Rattle.sc_rebuilding.specs.Assignments.{Assignment, lit}
 use Rattle.sc_rebuilding.specs.Consistent.{IsConsistent}
 use Rattle.sc_rebuilding.specs.Vals.{Model, val_of}
 use Rattle.sc_rebuilding.specs.Models.{IsModel}
-use Rattle.sc_rebuilding.specs.Names.{model_of}
+use Rattle.sc_rebuilding.specs.Names.{Name, Texts, signs_of, text_of, model_of}
+use Rattle.sc_rebuilding.specs.Texts.{IsString, AreOthers, ArePatterns, AreTextsOf}
 use Rattle.sc_rebuilding.specs.Rows.{HoldsModel, is_covered}
 
 -- two closed terms of a sort, whose equation is closed, have one value just where their equation is true
@@ -35,16 +38,40 @@ TermsAreRight = (d : Declarations) (env : Env) (literals : List Uid) (goal : Tre
     → IsLawful d → IsGoal d env literals goal → IsModel d env goal m → HoldsModel d env goal m w → Closed d env goal x
     → is_covered x ≡ true → val x w ≡ val_of m (tree_sort x) x
 
+-- as is each term in which no member is picked
+abbrev pub PlainIsCovered : Type 0
+PlainIsCovered = (x : Tree) → has_pick x ≡ false → is_covered x ≡ true
+
 -- so each such truth value has its truth
 abbrev pub TruthsAreRight : Type 0
 TruthsAreRight = (d : Declarations) (env : Env) (literals : List Uid) (goal : Tree) (m : Model) (w : World) (x : Tree)
     → IsLawful d → IsGoal d env literals goal → IsModel d env goal m → HoldsModel d env goal m w → Closed d env goal x
     → tree_sort x ≡ sort.Bool → is_covered x ≡ true → val x w ≡ yes (lit m.truths x)
 
--- A consistent assignment has a model: strings and entities are named by classes of equal terms.
+-- ---- models
+
+-- Where each closed string with some signs equals one of a few, no more of them differ. So a search for that many texts
+-- looks for enough of them.
+abbrev pub ClassesBound : Type 0
+ClassesBound = (d : Declarations) (env : Env) (goal : Tree) (m : Assignment) (qs : List Pattern) (signs : List Bool)
+    (xs ts : List Tree) → IsConsistent d env goal m
+    → ((x : Tree) → IsString d env goal x → signs_of m qs x ≡ signs
+    → (y : Tree) × Has xs y × IsString d env goal y × (lit m (equal_term x y) ≡ true))
+    → AreOthers d env goal m qs signs ts → length ts ≤ length xs
+
+-- A consistent assignment has a model: strings and entities are named by classes of equal terms, strings by texts that
+-- have their signs, of which there are as many as there are such strings that differ.
 abbrev pub HasModel : Type 0
-HasModel = (d : Declarations) (env : Env) (goal : Tree) (closed : List Tree) (m : Assignment)
-    → IsConsistent d env goal m → ((x : Tree) → Has closed x ↔ Closed d env goal x) → IsModel d env goal (model_of closed m)
+HasModel = (d : Declarations) (env : Env) (goal : Tree) (closed : List Tree) (m : Assignment) (qs : List Pattern)
+    (texts : Texts) → IsConsistent d env goal m → ((x : Tree) → Has closed x ↔ Closed d env goal x) → ArePatterns d env goal qs
+    → AreTextsOf d env goal m qs texts → IsModel d env goal (model_of qs texts closed m)
+
+-- the names of its strings are texts
+abbrev pub NamesAreTexts : Type 0
+NamesAreTexts = (d : Declarations) (env : Env) (literals : List Uid) (goal : Tree) (closed : List Tree) (m : Assignment)
+    (qs : List Pattern) (texts : Texts) → IsLawful d → IsGoal d env literals goal
+    → ((x : Tree) → Has closed x ↔ Closed d env goal x) → ((signs : List Bool) (t : Name) → Has (texts signs) t → IsUtf8 t)
+    → (x : Tree) → IsUtf8 (text_of m qs texts closed x)
 
 -- ---- and back
 

@@ -39,28 +39,17 @@ pub record HoldsModel (d : Declarations) (env : Env) (goal : Tree) (m : Model) (
   pub tags : (own : Sort) (e k : Tree) → Closed d env goal (two (binary.Tag own) e k) → IsRight m w e → IsRight m w k
       → IsRight m w (two (binary.Tag own) e k)
 
--- products, ranges of addresses, tests of lowest bits, carries and rows, and patterns aren't covered
-abbrev pub covers_one : UnaryOp → Bool
-covers_one (unary.CarryIn i) = false
-covers_one (unary.ProductRow i j) = false
-covers_one (unary.ProductCarry i j) = false
-covers_one (unary.Like p) = false
-covers_one _ = true
-
+-- picks aren't covered
 abbrev pub covers_two : BinaryOp → Bool
-covers_two binary.Multiply = false
-covers_two binary.MultiplyOverflows = false
-covers_two binary.InRange = false
-covers_two (binary.Low i) = false
 covers_two binary.DifferencePick = false
 covers_two binary.CommonPick = false
 covers_two _ = true
 
 unfoldable mutual
-  -- no term in it is a pick, nor of an operator that isn't covered
+  -- no term in it is a pick
   pub is_covered : Tree → Bool
   is_covered (leaf l) = true
-  is_covered (one o a) = covers_one o && is_covered a
+  is_covered (one o a) = is_covered a
   is_covered (two o a b) = covers_two o && (is_covered a && is_covered b)
   is_covered (choice c a b) = is_covered c && (is_covered a && is_covered b)
   is_covered (many o ts) = are_covered ts

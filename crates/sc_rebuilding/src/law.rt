@@ -1,5 +1,5 @@
 //! Laws of the values that an assignment gives to closed terms.
-ghost use Rattle.sc_rebuilding.specs.Laws.{EquationsAgree, TermsAreRight, TruthsAreRight, HasModel, TruthsAreConsistent, TruthsAreTold};
+ghost use Rattle.sc_rebuilding.specs.Laws.{EquationsAgree, TermsAreRight, PlainIsCovered, TruthsAreRight, ClassesBound, HasModel, NamesAreTexts, TruthsAreConsistent, TruthsAreTold};
 
 use sc_bits::address_laws;
 use sc_closure_rules::closed_laws;
@@ -11,16 +11,23 @@ use sc_definitions::definition_laws;
 pub fn rebuilding_laws()
     ensures equations { EquationsAgree }
     ensures terms { TermsAreRight }
+    ensures covered { PlainIsCovered }
     ensures truths { TruthsAreRight }
 {
     address_laws();
     closed_laws();
 }
 
-/// A consistent assignment has a model: equal strings and entities have one name, and others differ.
-pub fn model_law()
-    ensures { HasModel }
-{}
+/// A consistent assignment has a model: equal strings and entities have one name, and others differ. A string is named
+/// by a text that matches just the patterns which it is to match, out of those that a search for as many as there are
+/// classes of such strings finds.
+pub fn model_laws()
+    ensures bounded { ClassesBound }
+    ensures model { HasModel }
+    ensures texts { NamesAreTexts }
+{
+    closed_laws();
+}
 
 /// The truths of a well-formed world are a consistent assignment, under which each closed term has
 /// its truth.
@@ -28,7 +35,6 @@ pub fn converse_laws()
     ensures consistent { TruthsAreConsistent }
     ensures told { TruthsAreTold }
 {
-    address_laws();
     closed_laws();
     definition_laws();
 }

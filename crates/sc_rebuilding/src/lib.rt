@@ -4,4 +4,4 @@
 
 mod law;
 
-pub use law::{converse_laws, model_law, rebuilding_laws};
+pub use law::{converse_laws, model_laws, rebuilding_laws};

@@ -11,23 +11,25 @@ use Rattle.sc_ast.specs.declared.policy.Policy.{Policy}
 use Rattle.sc_ast.specs.Literals.{literals}
 use Rattle.sc_constructs.specs.First.{unsupported, first_from}
 use Rattle.sc_clauses.specs.declared.step.Step.{Step}
-use Rattle.sc_boolean_footprint.specs.Problems.{Posed, IsPosed, IsProblemOf, IsOverLimit, atoms, most_atoms}
-use Rattle.sc_boolean_footprint.specs.Problems as problem
-use Rattle.sc_boolean_footprint.specs.Truths.{Satisfies, IsUnsatisfiable, is_true}
+use Rattle.sc_closure.specs.Atoms.{IsOverLimit}
+use Rattle.sc_footprint.specs.Problems.{Posed, IsPosed, IsProblemOf}
+use Rattle.sc_footprint.specs.Problems as problem
+use Rattle.sc_definitions.specs.Truths.{is_true}
+use Rattle.sc_footprint.specs.Truths.{Satisfies, IsUnsatisfiable}
 use Rattle.sc_goal.specs.Goals.{all_compiled, goal_term}
 use Rattle.sc_goal.specs.Properties.{has}
 use Rattle.sc_goal.specs.Queries.{Asked as Query, IsAsked, second}
 use Rattle.sc_inputs.specs.Readings.{ReadsAll}
-use Rattle.sc_inputs.specs.Refusals.{Content, Side, policies_side, against_side, on, in_against, first_fault, AreServed}
+use Rattle.sc_inputs.specs.Refusals.{Content, Side, policies_side, against_side, on, in_against, first_fault, AreServed, HasAgainst}
 use Rattle.sc_inputs.specs.Serving.{Aim, Serves, Task, asking, checking, logging, replaying, reporting}
 use Rattle.sc_inputs.specs.declared.inputs.Asking.{Asking}
 use Rattle.sc_names.specs.declared.uid.Uid.{Uid}
+use Rattle.sc_parser.specs.Spelling.{Spells}
 use Rattle.sc_question.specs.declared.question.Question.{Question}
 use Rattle.sc_schema.specs.declared.declarations.Env.{Env}
 use Rattle.sc_schema.specs.Declarations.{Declarations, environments}
 use Rattle.sc_schema.specs.Lawful.{IsLawful}
-use Rattle.sc_solver.specs.Solutions.{rules_of}
-use Rattle.sc_solver.specs.Units.{IsSpent}
+use Rattle.sc_solver.specs.Solutions.{rules_of, IsSpent}
 use Rattle.sc_nodes.specs.declared.node.Node.{Node}
 use Rattle.sc_terms.specs.Tables.{StandsFor}
 use Rattle.sc_terms.specs.Trees.{Tree}
@@ -37,7 +39,7 @@ use Rattle.sc_typing.specs.Names.{name_fault}
 use Rattle.sc_world.specs.declared.world.World.{World}
 use Rattle.sc_world.specs.Named.{IsDeclared}
 use Rattle.sc_world.specs.WellFormed.{IsWellFormed}
-use Rattle.sc_reports.specs.Analyses.{asked, asked_of, asked_within, most_units, IsAnswer, IsGoalOf, IsQueryOf, MayBeAsked}
+use Rattle.sc_reports.specs.Analyses.{asked, asked_of, asked_within, most_units, HaveProper, IsAnswer, IsGoalOf, IsQueryOf, MayBeAsked}
 use Rattle.sc_reports.specs.View.{IsPrintable}
 use Rattle.sc_reports.specs.declared.analysing.EnvAnswer.{EnvAnswer}
 use Rattle.sc_reports.specs.declared.analysing.EnvAnswer.TheVariants.{Holds, Violated, Spent, OverLimit}
@@ -141,7 +143,7 @@ query-problem s env q budget p t asked posed goal is = record {
   goal_is = record { is = goal ∙ ap Some (sym is.goal_is) };
 }
 
-pub query-too-large : (s : Declarations) (env : Env) (q : Query) (budget : ℕ) (t : Tree) → IsGoalOf s env q t → IsOverLimit env t → IsTooLarge (asked_of s q budget) env
+pub query-too-large : (s : Declarations) (env : Env) (q : Query) (budget : ℕ) (t : Tree) → IsGoalOf s env q t → IsOverLimit s env t → IsTooLarge (asked_of s q budget) env
 query-too-large s env q budget t goal over = record { goal = t; is_goal = record { is = goal }; over_limit = over }
 
 -- ---- verdicts
@@ -175,12 +177,12 @@ satisfied-violates right fewer q env p w lawful is found =
     let world = to-question fewer q env p w is found.well_formed in
     record { well_formed = world; lacks = not_true (has_property q w) (sym found.goal_true ∙ goal-truth right q env p w lawful is world) }
 
-pub has-room : (q : Asked) (env : Env) (p : Posed) → IsProblem q env p → length (atoms p) ≤ most_atoms → HasRoom q env
-has-room q env p is few = record { posed = p; is_problem = is; few = few }
+pub has-room : (q : Asked) (env : Env) (p : Posed) → IsProblem q env p → HasRoom q env
+has-room q env p is = record { posed = p; is_problem = is; few = is.posed.few }
 
-pub spent-undecided : (q : Asked) (env : Env) (p : Posed) (log : List Step) → IsProblem q env p → length (atoms p) ≤ most_atoms → IsSpent (rules_of p) p q.budget log
+pub spent-undecided : (q : Asked) (env : Env) (p : Posed) (log : List Step) → IsProblem q env p → IsSpent (rules_of p) p q.budget log
     → (q.budget ≡ q.budget) × IsUndecided q env q.budget log × HasRoom q env
-spent-undecided q env p log is few spent = (refl, record { posed = p; is_problem = is; spent = spent }, has-room q env p is few)
+spent-undecided q env p log is spent = (refl, record { posed = p; is_problem = is; spent = spent }, has-room q env p is)
 
 -- ---- what a command asks
 
@@ -206,9 +208,26 @@ most-of-aim content words s question first against aim read =
     let c = reaches.command in
     subst TaskHasMost reaches.task (most-of-task words c.schema c.policies c.task reaches.commands)
 
+-- the constants of policies that a file spells are values
+abbrev Spelled : Type 0
+Spelled = (bytes : List ℕ) (ps : List Policy) → Spells bytes ps → HaveProper ps
+
+against-proper : Spelled → (content : Content) (name : Option (List ℕ)) (against : Option (List Policy)) → HasAgainst content name against → HaveProper (unwrap_or against [])
+against-proper spelled content None None h = tt
+against-proper spelled content None (Some ps) h = absurd h
+against-proper spelled content (Some name) None h = absurd h
+against-proper spelled content (Some name) (Some ps) h = spelled h.bytes ps h.spelled
+
 -- what is read may be asked
-pub may-be-asked : (content : Content) (words : List (List ℕ)) (i : Asking) (aim : Aim) → ReadsAll content words i.schema i.question i.policies i.against aim → MayBeAsked i
-may-be-asked content words i aim read = record { served = read.reached.served; sets = read.sets }
+pub may-be-asked : Spelled → (content : Content) (words : List (List ℕ)) (i : Asking) (aim : Aim) → ReadsAll content words i.schema i.question i.policies i.against aim → MayBeAsked i
+may-be-asked spelled content words i aim read =
+    let reaches = read.reached.reaches in
+    record {
+      served = read.reached.served;
+      sets = read.sets;
+      first_proper = spelled reaches.policies.bytes i.policies reaches.policies.spelled;
+      second_proper = against-proper spelled content reaches.name i.against reaches.others;
+    }
 
 -- the query of a command asks what the command does
 pub asked-same : (i : Asking) (budget : ℕ) (q : Query) → IsQueryOf i q → asked_of i.schema q budget ≡ asked_within i budget
@@ -220,6 +239,12 @@ asked-same i budget q is =
 pub query-served : (i : Asking) (q : Query) → IsQueryOf i q → MayBeAsked i → AreServed i.schema q.first q.against
 query-served i q is may =
     subst (λ ps. AreServed i.schema ps q.against) (sym is.first) (subst (λ o. AreServed i.schema i.policies o) (sym is.against) may.served)
+
+pub query-first : (i : Asking) (q : Query) → IsQueryOf i q → MayBeAsked i → HaveProper q.first
+query-first i q is may = subst HaveProper (sym is.first) may.first_proper
+
+pub query-second : (i : Asking) (q : Query) → IsQueryOf i q → MayBeAsked i → HaveProper (second q)
+query-second i q is may = subst (λ (o : Option (List Policy)). HaveProper (unwrap_or o [])) (sym is.against) may.second_proper
 
 pub query-answered : (i : Asking) (budget : ℕ) (q : Query) (env : Env) (a : EnvAnswer) → IsQueryOf i q → IsAnswer (asked_of i.schema q budget) env a → IsAnswer (asked_within i budget) env a
 query-answered i budget q env a is answer = subst (λ x. IsAnswer x env a) (asked-same i budget q is) answer

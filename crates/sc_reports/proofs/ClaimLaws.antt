@@ -5,7 +5,7 @@ use Rattle.sc_checker.specs.Streams.{Checker, HasVerdict, IsAcceptedText, after,
 use Rattle.sc_checker.specs.Verdicts.{Rules}
 use Rattle.sc_checker.specs.declared.checking.Verdict.{Verdict}
 use Rattle.sc_checker.specs.declared.checking.Verdict.TheVariants.{Refuted, Rejected}
-use Rattle.sc_boolean_footprint.specs.Problems.{Posed}
+use Rattle.sc_footprint.specs.Problems.{Posed}
 use Rattle.sc_outside.specs.Writes.{appended, Writes}
 use Rattle.sc_outside.specs.declared.faults.SinkFault.{SinkFault}
 use Rattle.sc_outside.specs.declared.faults.SinkFault.TheVariants.{Failed, NoMemory}

@@ -1,3 +1,4 @@
+pub mod PosedLaws
 pub mod AnalysisLaws
 pub mod ClaimLaws
 pub mod LogReadingLaws

@@ -4,7 +4,7 @@ use Rattle.std.specs.Bool.{⊤}
 use Rattle.sc_outside.specs.Pieces.{Left, behind}
 use Rattle.sc_checker.specs.Streams.{Checker, Checking, after, after_byte, unread}
 use Rattle.sc_checker.specs.Verdicts.{Rules}
-use Rattle.sc_boolean_footprint.specs.Problems.{Posed}
+use Rattle.sc_footprint.specs.Problems.{Posed}
 use Rattle.sc_inputs.specs.Refusals.{Content, Refusal, RefusesLog, log_limit, log_long, log_unread}
 use Rattle.sc_solver.specs.Solutions.{rules_of}
 use Rattle.sc_solver.specs.declared.rules.Rules.{Rules as AllRules}
@@ -136,9 +136,16 @@ pub log-fails : (content : Content) (name : List ℕ) (left : Left) (risen rose 
 log-fails content name left risen rose since e _ (piece_unread h) = log_unread (since h)
 log-fails content name left risen rose since e _ (piece_long far) = log_long (subst (λ (l : Left). IfSome l (λ told. IfSome told (λ rest. log_limit < length rest))) e far)
 
--- a checker that has taken a piece holds what comes after it
-pub held-fed : (old new : Checker AllRules) (piece : List ℕ) → new.problem ≡ old.problem → new.state ≡ after (rules_of old.problem) old.state piece → held_after (Some new) [] ≡ held_after (Some old) piece
-held-fed old new piece same fed = ap Some fed
+-- a checker that has taken a piece checks the same problem, and holds what comes after the piece
+abbrev IsFed : Checker AllRules → List ℕ → Checker AllRules → Type 0
+IsFed old piece new = new ≡ record { rules = old.rules; problem = old.problem; state = after (rules_of old.problem) old.state piece; refuses = false }
+
+pub fed-same : (held : Held) (old new : Checker AllRules) (piece : List ℕ) → held ≡ Some old → IsFed old piece new → SameProblem held (Some new)
+fed-same held old new piece is fed = subst (λ (h : Held). SameProblem h (Some new)) (sym is) (ap (λ (c : Checker AllRules). c.problem) fed)
+
+pub fed-holds : (held : Held) (old new : Checker AllRules) (piece : List ℕ) → held ≡ Some old → IsFed old piece new → held_after (Some new) [] ≡ held_after held piece
+fed-holds held old new piece is fed =
+    ap (λ (c : Checker AllRules). held_after (Some c) []) fed ∙ ap (λ (h : Held). held_after h piece) (sym is)
 
 -- a checker that began with nothing holds what the whole text leads to
 pub held-whole : (p : Posed) (first last : Checker AllRules) (text : List ℕ) → first.problem ≡ p → first.state ≡ unread p → held_after (Some last) [] ≡ held_after (Some first) text → last.state ≡ after (rules_of p) (unread p) text

@@ -1,8 +1,11 @@
 -- What analysing an environment asks, and what its answer means.
+use Rattle.sc_ast.specs.Conditions.{condition}
+use Rattle.sc_eval.specs.Written.{HasProperConstants}
+use Rattle.std.specs.List.{AllByRecursion}
 use Rattle.std.specs.Prelude.{◌≡◌, ◌≤◌, ℕ, List, [], Option, Some, is_some, length, unwrap_or, ⊤}
 use Rattle.sc_checker.specs.Verdicts.{IsAccepted}
 use Rattle.sc_clauses.specs.declared.step.Step.{Step}
-use Rattle.sc_boolean_footprint.specs.Problems.{Posed}
+use Rattle.sc_footprint.specs.Problems.{Posed}
 use Rattle.sc_goal.specs.Goals.{goal_term}
 use Rattle.sc_ast.specs.declared.policy.Policy.{Policy}
 use Rattle.sc_goal.specs.Queries.{Asked as Query, second}
@@ -61,10 +64,16 @@ asked_in i = asked_within i.asking i.budget
 abbrev pub most_units : ℕ
 most_units = 1000000000
 
+-- the constants of policies are values: numbers of 64 bits, and texts of scalar values
+abbrev pub HaveProper : List Policy → Type 0
+HaveProper ps = AllByRecursion (λ p. HasProperConstants (condition p)) ps
+
 -- these may be asked
 pub record MayBeAsked (i : Asking) : Type 0 where
   pub served : AreServed i.schema i.policies i.against
   pub sets : is_some i.against ≡ takes_two i.question
+  pub first_proper : HaveProper i.policies
+  pub second_proper : HaveProper (unwrap_or i.against [])
 
 -- the query of these inputs
 pub record IsQueryOf (i : Asking) (q : Query) : Type 0 where

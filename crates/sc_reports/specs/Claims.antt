@@ -7,7 +7,7 @@ use Rattle.sc_checker.specs.declared.checking.Reason.{Reason}
 use Rattle.sc_checker.specs.declared.checking.Reason.TheVariants as reason
 use Rattle.sc_checker.specs.declared.checking.Verdict.{Verdict}
 use Rattle.sc_checker.specs.declared.checking.Verdict.TheVariants.{Refuted, Rejected}
-use Rattle.sc_boolean_footprint.specs.Problems.{Posed}
+use Rattle.sc_footprint.specs.Problems.{Posed}
 use Rattle.sc_inputs.specs.Refusals.{log_limit}
 use Rattle.sc_schema.specs.declared.declarations.Env.{Env}
 use Rattle.sc_solver.specs.Solutions.{rules_of}

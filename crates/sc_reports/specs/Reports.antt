@@ -9,10 +9,10 @@ use Rattle.sc_question.specs.declared.question.Question.{Question}
 use Rattle.sc_clauses.specs.declared.step.Step.{Step}
 use Rattle.sc_goal.specs.Properties.{has}
 use Rattle.sc_goal.specs.Goals.{goal_term}
-use Rattle.sc_boolean_footprint.specs.Problems.{Posed, IsPosed, IsOverLimit, atoms, most_atoms}
-use Rattle.sc_boolean_footprint.specs.Problems as problem
-use Rattle.sc_solver.specs.Solutions.{rules_of}
-use Rattle.sc_solver.specs.Units.{IsSpent}
+use Rattle.sc_closure.specs.Atoms.{IsOverLimit, most_atoms}
+use Rattle.sc_footprint.specs.Problems.{Posed, IsPosed, atoms}
+use Rattle.sc_footprint.specs.Problems as problem
+use Rattle.sc_solver.specs.Solutions.{rules_of, IsSpent}
 use Rattle.sc_inputs.specs.FaultTexts.{env_text}
 use Rattle.sc_schema.specs.declared.declarations.Env.{Env}
 use Rattle.sc_schema.specs.Declarations.{Declarations}
@@ -76,7 +76,7 @@ pub record HasRoom (q : Asked) (env : Env) : Type 0 where
 pub record IsTooLarge (q : Asked) (env : Env) : Type 0 where
   pub goal : Tree
   pub is_goal : IsGoal q env goal
-  pub over_limit : IsOverLimit env goal
+  pub over_limit : IsOverLimit q.schema env goal
 
 pub data Verdict : Type 0 where
   holds : Verdict

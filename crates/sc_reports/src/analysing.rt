@@ -1,18 +1,22 @@
 //! Analyses one environment.
-ghost use Rattle.std.specs.Prelude.{◌≡◌, ◌≤◌, Contains, length, IfOk, IfErr};
+ghost use Rattle.std.specs.Prelude.{◌≡◌, ◌≤◌, Contains, IfOk, IfErr};
 ghost use Rattle.sc_schema.specs.Declarations.{environments};
-ghost use Rattle.sc_boolean_footprint.specs.Problems.{IsProblemOf, IsRefused, atoms, most_atoms};
+ghost use Rattle.sc_closure.specs.Atoms.{IsRefused};
+ghost use Rattle.sc_footprint.specs.Problems.{IsProblemOf};
+ghost use Rattle.sc_goal.specs.Queries.{second};
 ghost use Rattle.sc_inputs.specs.Refusals.{AreServed};
+ghost use Rattle.sc_solver.specs.Kinds.{IsBooleanGoal};
 ghost use Rattle.sc_terms.specs.Trees.{Tree};
-ghost use Rattle.sc_reports.specs.Analyses.{asked_of, IsAnswer, IsFound, IsGoalOf, most_units};
+ghost use Rattle.sc_reports.specs.Analyses.{asked_of, HaveProper, IsAnswer, IsFound, IsGoalOf, most_units};
 ghost use Rattle.sc_reports.specs.Reports.{IsProblem};
 
-use sc_boolean_footprint::{OverLimit, Problem, close};
 use sc_boolean_goals::boolean_goals;
 use sc_checker::Log;
 use sc_declared::{declared_laws, literal_laws};
+use sc_footprint::{OverLimit, Problem, close};
 use sc_goal::{Query, goal, goal_laws};
 use sc_lists::Fault;
+use sc_posed_goals::posed_goals;
 use sc_schema::{Env, Schema};
 use sc_solver::{Solved, solve};
 use sc_terms::Terms;
@@ -42,15 +46,18 @@ pub(crate) fn problem_of<'a>(
 ) -> Result<Problem<'a>, Fault<OverLimit>>
     requires environment { Contains (environments schema.now) env.now }
     requires served { AreServed schema.now query.now.first query.now.against }
+    requires first_proper { HaveProper query.now.first }
+    requires second_proper { HaveProper (second query.now) }
     ensures ok { IfOk result (λ p. (t : Tree) → IsGoalOf schema.now env.now query.now t
         → IsProblemOf schema.now env.now query.now.literals t p) }
     ensures err { IfErr result (λ fault. (t : Tree) → IsGoalOf schema.now env.now query.now t
-        → IsRefused env.now t fault) }
+        → IsRefused schema.now env.now t fault) }
 {
     goal_laws();
-    boolean_goals();
+    posed_goals();
     declared_laws();
     query.laws();
+    schema.laws();
     let mut terms = Terms::new(alloc)?;
     let goal = goal(alloc, &mut terms, schema, query, env)?;
     close(alloc, terms, goal, schema, env, query.lits())
@@ -67,11 +74,14 @@ pub fn analyse_env(
 ) -> Result<EnvAnswer, AllocError>
     requires environment { Contains (environments schema.now) env.now }
     requires served { AreServed schema.now query.now.first query.now.against }
+    requires first_proper { HaveProper query.now.first }
+    requires second_proper { HaveProper (second query.now) }
     requires units { budget ≤ most_units }
     ensures answer { IfOk result (IsAnswer (asked_of schema.now query.now budget) env.now) }
     ensures found { IfOk result (IsFound (asked_of schema.now query.now budget) env.now) }
 {
     goal_laws();
+    boolean_goals();
     query.laws();
     match problem_of(alloc, schema, env, query) {
         Ok(problem) => {
@@ -93,7 +103,7 @@ fn solved(
     budget: u64,
 ) -> Result<EnvAnswer, AllocError>
     requires problem { IsProblem (asked_of schema.now query.now budget) env.now problem.now }
-    requires few { length (atoms problem.now) ≤ most_atoms }
+    requires boolean { IsBooleanGoal problem.now }
     requires units { budget ≤ most_units }
     ensures answer { IfOk result (IsAnswer (asked_of schema.now query.now budget) env.now) }
     ensures found { IfOk result (IsFound (asked_of schema.now query.now budget) env.now) }

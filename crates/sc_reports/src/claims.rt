@@ -1,7 +1,6 @@
 //! Checks a log that was kept.
 ghost use Rattle.std.specs.Prelude.{◌≡◌, ◌<◌, ◌≤◌, Some, length, slice_get, IfErr, IfOk, IfSome, OnOk};
-ghost use Rattle.sc_boolean_footprint.specs.Problems.{atoms, most_atoms};
-ghost use Rattle.sc_boolean_footprint.specs.Truths.{IsUnsatisfiable};
+ghost use Rattle.sc_footprint.specs.Truths.{IsUnsatisfiable};
 ghost use Rattle.sc_inputs.specs.Readings.{FailsWith, IsUnread};
 ghost use Rattle.sc_inputs.specs.Refusals.{RefusesLog};
 ghost use Rattle.sc_outside.specs.Counts.{Rose};
@@ -15,9 +14,9 @@ use crate::analysing::problem_of;
 use crate::environment::environment_at;
 use crate::log_reading::read_log;
 use crate::reporting::query_of;
-use sc_boolean_footprint::Problem;
 use sc_checker::{LogChecker, Reason, Verdict, stream_laws};
 use sc_declared::literal_laws;
+use sc_footprint::Problem;
 use sc_goal::{Query, goal_laws};
 use sc_inputs::{Claim, Refusal};
 use sc_lists::Fault;
@@ -107,7 +106,6 @@ fn check_problem<F: Files>(
     name: &str,
 ) -> Result<Answer, Fault<Refusal>>
     requires problem { IsProblem (asked_of schema.now query.now 0) env.now problem.now }
-    requires few { length (atoms problem.now) ≤ most_atoms }
     ensures claims { IfOk result (λ a. Claims (F.content files.old name.now) (asked_of schema.now query.now 0) env.now
         (answer_view a)) }
     ensures short { OnOk result (IsShort (F.content files.old name.now)) }

@@ -10,10 +10,10 @@ use std::test::Fail;
 
 const LOGS: &str = "log --schema s --policies p --query always-denies --budget 10000 --env 0";
 
-const CHECKS: &str = "check --schema s --policies p --query always-denies --env 0 --log l";
+pub const CHECKS: &str = "check --schema s --policies p --query always-denies --env 0 --log l";
 
 /// A log of the goal `false`, whose clauses 1 and 2 are the atom `true` and its negation.
-const REFUTES: &str = "log 1\nl 0 1 2 0\n";
+pub const REFUTES: &str = "log 1\nl 0 1 2 0\n";
 
 /// Whether a check of a log over this schema and these policies ends so.
 fn checks(

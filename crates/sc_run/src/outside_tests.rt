@@ -1,3 +1,4 @@
+use crate::log_tests::{CHECKS, REFUTES};
 use crate::replay_tests::WORLD;
 use crate::running::run;
 use crate::tests::{
@@ -125,6 +126,38 @@ fn cut_ends(
 fn output_that_cannot_be_written(rt: HostRuntime) -> Result<(), Fail> {
     for (words, schema, call, text) in CUT {
         assert!(rt; cut_ends(rt.alloc(), words, schema, call, text)?, "{text}");
+    }
+    Ok(())
+}
+
+/// Logs, and of what is said of each the front that is written, of so many bytes.
+const SAID: [(&str, usize, &str); 3] = [
+    (REFUTES, 4, "acce"),
+    (REFUTES, 0, ""),
+    ("", 13, "error 14 step"),
+];
+
+/// Whether this front of what is said of a log is written where the one call keeps so many bytes and
+/// fails.
+fn said_is_cut(alloc: Global, log: &str, kept: usize, text: &str) -> Result<bool, AllocError> {
+    let mut failing = Vec::new(alloc);
+    failing.push((0, kept))?;
+    let words = words_of(alloc, CHECKS)?;
+    let held = [
+        ("s", SCHEMA.as_bytes()),
+        ("p", b"".as_slice()),
+        ("l", log.as_bytes()),
+    ];
+    let mut files = MemFiles::new(files_of(alloc, &held)?, Vec::new(alloc));
+    let mut out = MemSink::new(alloc, failing);
+    let status = run(alloc, &words, &mut files, &mut out);
+    Ok(status.code == 21 && out.text() == text.as_bytes())
+}
+
+#[test]
+fn what_is_said_of_a_log_is_cut(rt: HostRuntime) -> Result<(), Fail> {
+    for (log, kept, text) in SAID {
+        assert!(rt; said_is_cut(rt.alloc(), log, kept, text)?, "{text}");
     }
     Ok(())
 }

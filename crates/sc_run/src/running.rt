@@ -14,6 +14,7 @@ use sc_lists::Fault;
 use sc_outside::{Files, Sink, SinkFault};
 use sc_reports::{Status, check_claim, put_said, report, report_log};
 use sc_schema_json::spelling_laws;
+use sc_spelled_constants::constant_laws;
 use sc_world_breaks::break_laws;
 use sc_world_json::reading_laws;
 use std::alloc::Global;
@@ -58,6 +59,7 @@ fn ends<F: Files, O: Sink>(alloc: Global, words: &[String], files: &mut F, out: 
     ensures read_told { F.faults files.old < F.faults files.new → MustBe 20 result.code }
     ensures write_told { O.faults out.old < O.faults out.new → result.code ≡ 21 }
 {
+    constant_laws();
     match inputs_of(alloc, words, files) {
         Ok(Inputs::Asked(analysis)) => report(alloc, &analysis, out),
         Ok(Inputs::Logged(logging)) => report_log(alloc, &logging, out),

@@ -7,7 +7,7 @@ ghost use Rattle.sc_schema_hierarchy.specs.Above.{AreAbove, NamesKeys};
 ghost use Rattle.sc_schema_hierarchy.specs.Graphs.{IsGraphOf};
 
 use crate::key::Key;
-use sc_graphs::reachable;
+use sc_graphs::Reachability;
 use sc_lists::Seq;
 use std::alloc::{AllocError, Global};
 
@@ -20,7 +20,7 @@ fn keys_at<K: Key>(
     requires { All (λ n. n < length links.now) places.now }
     ensures { IfOk result (λ keys. map Some keys ≡ map (slice_get (keys_of links.now)) places.now) }
 {
-    let mut keys = Seq::new(alloc);
+    let mut keys = Seq::from_vec(Vec::with_capacity(alloc, places.len())?);
     for place in places.as_slice() {
         put_key(alloc, &mut keys, links, *place)?;
     }
@@ -47,6 +47,7 @@ pub(crate) fn keys_above<K: Key>(
     alloc: Global,
     links: &[(K, Seq<K>)],
     graph: &[Seq<usize>],
+    reachability: &mut Reachability,
     at: usize,
 ) -> Result<Seq<K>, AllocError>
     requires ascending { IsStrictlySortedBy K.order (keys_of links.now) }
@@ -55,7 +56,7 @@ pub(crate) fn keys_above<K: Key>(
     ensures { IfOk result (λ keys. (key : K) (above : List K) → slice_get links.now at ≡ Some (key, above)
         → AreAbove K.order links.now key keys) }
 {
-    let places = reachable(alloc, graph, at)?;
+    let places = reachability.of(alloc, graph, at)?;
     let keys = keys_at(alloc, links, &places)?;
     Ok(keys)
 }

@@ -13,6 +13,7 @@ use crate::above::keys_above;
 use crate::graph::graph_of;
 use crate::key::copies;
 use crate::sorting::{actions_in_order, names_in_order};
+use sc_graphs::Reachability;
 use sc_lists::Seq;
 use sc_names::Uid;
 use sc_schema::Action;
@@ -44,9 +45,16 @@ fn actions_with_ancestors(
 {
     let links = links_of(alloc, declared.as_slice())?;
     let graph = graph_of(alloc, links.as_slice())?;
+    let mut reachability = Reachability::new(alloc);
     let mut actions = Seq::new(alloc);
     for action in declared.into_vec() {
-        let ancestors = keys_above(alloc, links.as_slice(), graph.as_slice(), actions.len())?;
+        let ancestors = keys_above(
+            alloc,
+            links.as_slice(),
+            graph.as_slice(),
+            &mut reachability,
+            actions.len(),
+        )?;
         actions.push(with_ancestors(action, ancestors))?;
     }
     Ok(actions)

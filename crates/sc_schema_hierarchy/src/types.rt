@@ -12,6 +12,7 @@ use crate::above::keys_above;
 use crate::graph::graph_of;
 use crate::key::copies;
 use crate::sorting::types_in_order;
+use sc_graphs::Reachability;
 use sc_lists::Seq;
 use sc_names::Name;
 use sc_schema::EntityType;
@@ -43,9 +44,16 @@ fn types_with_ancestors(
 {
     let links = links_of(alloc, declared.as_slice())?;
     let graph = graph_of(alloc, links.as_slice())?;
+    let mut reachability = Reachability::new(alloc);
     let mut types = Seq::new(alloc);
     for entity_type in declared.into_vec() {
-        let ancestors = keys_above(alloc, links.as_slice(), graph.as_slice(), types.len())?;
+        let ancestors = keys_above(
+            alloc,
+            links.as_slice(),
+            graph.as_slice(),
+            &mut reachability,
+            types.len(),
+        )?;
         types.push(with_ancestors(entity_type, ancestors))?;
     }
     Ok(types)

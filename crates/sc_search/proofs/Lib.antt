@@ -9,3 +9,4 @@ mod AnalysisLaws
 mod BackjumpLaws
 mod DueLaws
 mod SearchLaws
+mod CopyLaws

@@ -107,10 +107,10 @@ some-value (Implied n q r) ne = refl
 pub has-value : (cells : List Cell) → AreAllSet cells → (a : ℕ) → 0 < a → a < length cells → IsSome (value_of (map cell_value (drop 1 cells)) a)
 has-value cells full a some lt = subst (λ (v : Option Bool). IsSome v) (sym (value-cell cells a some)) (some-value (get_or cells a Free) (full a some lt))
 
-module _ (accepts : instance.Instance → Bool) (clause_of : instance.Instance → Clause) where
+module _ (has_instance : instance.Instance → Type 0) (clause_of : instance.Instance → Clause) where
   -- an assignment that falsifies nothing
   pub consistent-found : (n atoms : ℕ) (s : Solver) → n ≡ atoms + 1 → IsReady n s → IsTotal s → (m : Assignment) → m ≡ map cell_value (drop 1 s.trail.cells.items)
-      → ((i : instance.Instance) → accepts i ≡ true → falsifies m (clause_of i) ≡ false) → IsConsistent atoms accepts clause_of s.clauses.items m
+      → ((i : instance.Instance) → has_instance i → falsifies m (clause_of i) ≡ false) → IsConsistent atoms has_instance clause_of s.clauses.items m
   consistent-found n atoms s e ready total m is none =
       let cells = s.trail.cells.items in
       let size : length cells ≡ atoms + 1 = ready.trail.sized ∙ e in
@@ -136,7 +136,7 @@ module _ (accepts : instance.Instance → Bool) (clause_of : instance.Instance �
             (subst (λ (w : Lit). T w ≡ false) (negation_twice l) (consistent cells p (negation l) (all l has))),
       )
 
-  module _ (atoms : ℕ) (s : Solver) (ready : IsReady (atoms + 1) s) (total : IsTotal s) (i : instance.Instance) (accepted : accepts i ≡ true)
+  module _ (atoms : ℕ) (s : Solver) (ready : IsReady (atoms + 1) s) (total : IsTotal s) (i : instance.Instance) (accepted : has_instance i)
       (falsified : falsifies (map cell_value (drop 1 s.trail.cells.items)) (clause_of i) ≡ true) where
     all-false : (l : Lit) → Contains (clause_of i) l → true_before s.trail.cells.items (length s.trail.lits.items) (negation l) ≡ true
     all-false = falsified-on-trail s.trail.cells.items s.trail.lits.items (clause_of i) ready.trail.agree falsified
@@ -144,14 +144,14 @@ module _ (accepts : instance.Instance → Bool) (clause_of : instance.Instance �
     pub told-in-cells : AllInCells (length s.trail.cells.items) (clause_of i)
     told-in-cells = in-cells-of-false s.trail.cells.items s.trail.lits.items (length s.trail.lits.items) (clause_of i) ready.trail.agree all-false
 
-    pub told-lawful : IsLawful atoms accepts clause_of s.clauses.items (Instance i)
+    pub told-lawful : IsLawful atoms has_instance clause_of s.clauses.items (Instance i)
     told-lawful = (accepted, clause-of-false s.trail.cells.items s.trail.lits.items (length s.trail.lits.items) atoms (clause_of i) ready.trail.sized ready.trail.agree all-false)
 
     -- one more step is due
-    pub told-due : IsDue accepts clause_of s.clauses.items
+    pub told-due : IsDue has_instance clause_of s.clauses.items
     told-due = inr (i, accepted, falls (atoms + 1) s.clauses.items s.trail.cells.items s.trail.lits.items s.trail.levels.items ready.trail (clause_of i) all-false)
 
-    pub told-unit : clause_of i ≢ [] → IsUnit atoms accepts clause_of s.clauses.items (Instance i)
+    pub told-unit : clause_of i ≢ [] → IsUnit atoms has_instance clause_of s.clauses.items (Instance i)
     told-unit some =
         let is_new = new-of-false s total (clause_of i) all-false some in
         record { is_lawful = told-lawful; some = some; uncovered = uncovered s.clauses.items (clause_of i) is_new; is_new = is_new }
@@ -159,7 +159,7 @@ module _ (accepts : instance.Instance → Bool) (clause_of : instance.Instance �
   not-nil : (C : Clause) (cs : List Clause) → IsNew cs C → C ≢ []
   not-nil C cs (l, (has, not_given, no_conflict)) e = contains_nothing l (subst (λ (d : Clause). Contains d l) e has)
 
-  pub learned-added : (n atoms : ℕ) (cs : List Clause) (ss : List Step) (s : Solver) → n ≡ atoms + 1 → HasLearned n cs ss s → HasAdded atoms accepts clause_of cs ss s
+  pub learned-added : (n atoms : ℕ) (cs : List Clause) (ss : List Step) (s : Solver) → n ≡ atoms + 1 → HasLearned n cs ss s → HasAdded atoms has_instance clause_of cs ss s
   learned-added n atoms cs ss s e h = record {
     step = Learned h.step;
     is_unit = record { is_lawful = h.is_shown atoms e; some = not-nil h.step.clause cs h.is_new; uncovered = uncovered cs h.step.clause h.is_new; is_new = h.is_new };
@@ -168,41 +168,41 @@ module _ (accepts : instance.Instance → Bool) (clause_of : instance.Instance �
     ready = subst (λ (k : ℕ). IsReady k s) e h.ready;
   }
 
-  pub refuted-ended : (atoms : ℕ) (cs : List Clause) (ss : List Step) (s : Solver) → HasRefuted cs ss s → HasEnded atoms accepts clause_of cs ss s
+  pub refuted-ended : (atoms : ℕ) (cs : List Clause) (ss : List Step) (s : Solver) → HasRefuted cs ss s → HasEnded atoms has_instance clause_of cs ss s
   refuted-ended atoms cs ss s h = record { step = Learned h.step; is_lawful = h.is_shown atoms; is_empty = h.is_empty; steps_more = h.steps_more }
 
   module _ (atoms : ℕ) where
     -- units go on at their end
-    pub units-more : (cs : List Clause) (ss : List Step) (s : Step) → AreUnits atoms accepts clause_of cs ss → IsUnit atoms accepts clause_of (after clause_of cs ss) s → AreUnits atoms accepts clause_of cs (ss ++ s ∷ [])
+    pub units-more : (cs : List Clause) (ss : List Step) (s : Step) → AreUnits atoms has_instance clause_of cs ss → IsUnit atoms has_instance clause_of (after clause_of cs ss) s → AreUnits atoms has_instance clause_of cs (ss ++ s ∷ [])
     units-more cs _ s (no_step _) unit =
-        first_step cs s [] (subst (λ (ds : List Clause). IsUnit atoms accepts clause_of ds s) (append-nil cs) unit) (no_step (cs ++ added clause_of s ∷ []))
+        first_step cs s [] (subst (λ (ds : List Clause). IsUnit atoms has_instance clause_of ds s) (append-nil cs) unit) (no_step (cs ++ added clause_of s ∷ []))
     units-more cs _ s (first_step _ t ss is more) unit =
         first_step cs t (ss ++ s ∷ []) is
-        (units-more (cs ++ added clause_of t ∷ []) ss s more (subst (λ (ds : List Clause). IsUnit atoms accepts clause_of ds s) (sym (append_assoc cs (added clause_of t ∷ []) (map (added clause_of) ss))) unit))
+        (units-more (cs ++ added clause_of t ∷ []) ss s more (subst (λ (ds : List Clause). IsUnit atoms has_instance clause_of ds s) (sym (append_assoc cs (added clause_of t ∷ []) (map (added clause_of) ss))) unit))
 
     after-more : (cs : List Clause) (ss : List Step) (s : Step) → after clause_of cs (ss ++ s ∷ []) ≡ after clause_of cs ss ++ added clause_of s ∷ []
     after-more cs ss s = ap (λ (ds : List Clause). cs ++ ds) (map-append (added clause_of) ss (s ∷ [])) ∙ sym (append_assoc cs (map (added clause_of) ss) (added clause_of s ∷ []))
 
-    module _ (given : List Clause) (budget : ℕ) (old new : Solver) (h : IsSearching atoms accepts clause_of given budget old) where
+    module _ (given : List Clause) (budget : ℕ) (old new : Solver) (h : IsSearching atoms has_instance clause_of given budget old) where
       -- a unit more
-      pub searching-more : HasAdded atoms accepts clause_of old.clauses.items old.steps.items new → length old.steps.items ≢ budget → IsSearching atoms accepts clause_of given budget new
+      pub searching-more : HasAdded atoms has_instance clause_of old.clauses.items old.steps.items new → length old.steps.items ≢ budget → IsSearching atoms has_instance clause_of given budget new
       searching-more more ne =
           let le = h.within in
-          let unit = subst (λ (ds : List Clause). IsUnit atoms accepts clause_of ds more.step) h.clauses_are more.is_unit in
+          let unit = subst (λ (ds : List Clause). IsUnit atoms has_instance clause_of ds more.step) h.clauses_are more.is_unit in
           let len : length new.steps.items ≡ length old.steps.items + 1 = ap length more.steps_more ∙ length-append old.steps.items (more.step ∷ []) in
           record {
             ready = more.ready;
             clauses_are =
                 more.clauses_more ∙ ap (λ (ds : List Clause). ds ++ added clause_of more.step ∷ []) h.clauses_are ∙ sym (after-more given old.steps.items more.step) ∙ ap (λ (ss : List Step). after clause_of given ss) (sym more.steps_more);
-            are_units = subst (λ (ss : List Step). AreUnits atoms accepts clause_of given ss) (sym more.steps_more) (units-more given old.steps.items more.step h.are_units unit);
+            are_units = subst (λ (ss : List Step). AreUnits atoms has_instance clause_of given ss) (sym more.steps_more) (units-more given old.steps.items more.step h.are_units unit);
             within = omega arith;
           }
 
-      pub count-more : HasAdded atoms accepts clause_of old.clauses.items old.steps.items new → length new.steps.items ≡ length old.steps.items + 1
+      pub count-more : HasAdded atoms has_instance clause_of old.clauses.items old.steps.items new → length new.steps.items ≡ length old.steps.items + 1
       count-more more = ap length more.steps_more ∙ length-append old.steps.items (more.step ∷ [])
 
       -- the empty clause at last
-      pub refutation : HasEnded atoms accepts clause_of old.clauses.items old.steps.items new → length old.steps.items ≢ budget → IsRefutation atoms accepts clause_of given budget new.steps.items
+      pub refutation : HasEnded atoms has_instance clause_of old.clauses.items old.steps.items new → length old.steps.items ≢ budget → IsRefutation atoms has_instance clause_of given budget new.steps.items
       refutation end ne =
           let le = h.within in
           let len : length new.steps.items ≡ length old.steps.items + 1 = ap length end.steps_more ∙ length-append old.steps.items (end.step ∷ []) in
@@ -210,21 +210,21 @@ module _ (accepts : instance.Instance → Bool) (clause_of : instance.Instance �
             units = old.steps.items;
             last = end.step;
             are_units = h.are_units;
-            is_lawful = subst (λ (ds : List Clause). IsLawful atoms accepts clause_of ds end.step) h.clauses_are end.is_lawful;
+            is_lawful = subst (λ (ds : List Clause). IsLawful atoms has_instance clause_of ds end.step) h.clauses_are end.is_lawful;
             is_empty = end.is_empty;
             are_all = end.steps_more;
             within = omega arith;
           }
 
-      pub spent : new.steps.items ≡ old.steps.items → length old.steps.items ≡ budget → IsDue accepts clause_of old.clauses.items → IsSpent atoms accepts clause_of given budget new.steps.items
+      pub spent : new.steps.items ≡ old.steps.items → length old.steps.items ≡ budget → IsDue has_instance clause_of old.clauses.items → IsSpent atoms has_instance clause_of given budget new.steps.items
       spent e count due = record {
         count = ap length e ∙ count;
-        are_units = subst (λ (ss : List Step). AreUnits atoms accepts clause_of given ss) (sym e) h.are_units;
-        due = subst (λ (ss : List Step). IsDue accepts clause_of (after clause_of given ss)) (sym e) (subst (λ (cs : List Clause). IsDue accepts clause_of cs) h.clauses_are due);
+        are_units = subst (λ (ss : List Step). AreUnits atoms has_instance clause_of given ss) (sym e) h.are_units;
+        due = subst (λ (ss : List Step). IsDue has_instance clause_of (after clause_of given ss)) (sym e) (subst (λ (cs : List Clause). IsDue has_instance clause_of cs) h.clauses_are due);
       }
 
       -- what falsifies none of all clauses falsifies none of those given
-      pub consistent-given : (m : Assignment) → IsConsistent atoms accepts clause_of old.clauses.items m → IsConsistent atoms accepts clause_of given m
+      pub consistent-given : (m : Assignment) → IsConsistent atoms has_instance clause_of old.clauses.items m → IsConsistent atoms has_instance clause_of given m
       consistent-given m k = record {
         count = k.count;
         total = k.total;
@@ -233,27 +233,27 @@ module _ (accepts : instance.Instance → Bool) (clause_of : instance.Instance �
       }
 
 -- what a settled conflict is to a turn of the search
-pub settled-turn : (accepts : instance.Instance → Bool) (clause_of : instance.Instance → Clause) (n atoms : ℕ) (cs cs' : List Clause) (ss ss' : List Step) (budget : ℕ) (s : Solver) (t : Turn) → n ≡ atoms + 1 → cs' ≡ cs → ss' ≡ ss
-    → HasSettled n cs' ss' budget s t → IsTurn atoms accepts clause_of cs ss budget s t
-settled-turn accepts clause_of n atoms cs cs' ss ss' budget s t e same_cs same_ss h = by t (subst (λ (ds : List Clause). HasSettled n ds ss budget s t) same_cs (subst (λ (xs : List Step). HasSettled n cs' xs budget s t) same_ss h)) where
-  by : (u : Turn) → HasSettled n cs ss budget s u → IsTurn atoms accepts clause_of cs ss budget s u
-  by turn.Added k = (learned-added accepts clause_of n atoms cs ss s e k.0, k.1)
-  by turn.Refuted k = (refuted-ended accepts clause_of atoms cs ss s k.0, k.1)
+pub settled-turn : (has_instance : instance.Instance → Type 0) (clause_of : instance.Instance → Clause) (n atoms : ℕ) (cs cs' : List Clause) (ss ss' : List Step) (budget : ℕ) (s : Solver) (t : Turn) → n ≡ atoms + 1 → cs' ≡ cs → ss' ≡ ss
+    → HasSettled n cs' ss' budget s t → IsTurn atoms has_instance clause_of cs ss budget s t
+settled-turn has_instance clause_of n atoms cs cs' ss ss' budget s t e same_cs same_ss h = by t (subst (λ (ds : List Clause). HasSettled n ds ss budget s t) same_cs (subst (λ (xs : List Step). HasSettled n cs' xs budget s t) same_ss h)) where
+  by : (u : Turn) → HasSettled n cs ss budget s u → IsTurn atoms has_instance clause_of cs ss budget s u
+  by turn.Added k = (learned-added has_instance clause_of n atoms cs ss s e k.0, k.1)
+  by turn.Refuted k = (refuted-ended has_instance clause_of atoms cs ss s k.0, k.1)
   by (turn.Consistent m) k = absurd k
   by turn.Spent k = (k.0, k.1, inl k.2)
 
-pub settled-result : {E : Type 0} (accepts : instance.Instance → Bool) (clause_of : instance.Instance → Clause) (n atoms : ℕ) (cs cs' : List Clause) (ss ss' : List Step) (budget : ℕ) (s : Solver) (r : Result Turn E) → n ≡ atoms + 1 → cs' ≡ cs → ss' ≡ ss
-    → IfOk r (λ t. HasSettled n cs' ss' budget s t) → IfOk r (λ t. IsTurn atoms accepts clause_of cs ss budget s t)
-settled-result accepts clause_of n atoms cs cs' ss ss' budget s (Ok t) e same_cs same_ss h = settled-turn accepts clause_of n atoms cs cs' ss ss' budget s t e same_cs same_ss h
-settled-result accepts clause_of n atoms cs cs' ss ss' budget s (Err x) e same_cs same_ss h = h
+pub settled-result : {E : Type 0} (has_instance : instance.Instance → Type 0) (clause_of : instance.Instance → Clause) (n atoms : ℕ) (cs cs' : List Clause) (ss ss' : List Step) (budget : ℕ) (s : Solver) (r : Result Turn E) → n ≡ atoms + 1 → cs' ≡ cs → ss' ≡ ss
+    → IfOk r (λ t. HasSettled n cs' ss' budget s t) → IfOk r (λ t. IsTurn atoms has_instance clause_of cs ss budget s t)
+settled-result has_instance clause_of n atoms cs cs' ss ss' budget s (Ok t) e same_cs same_ss h = settled-turn has_instance clause_of n atoms cs cs' ss ss' budget s t e same_cs same_ss h
+settled-result has_instance clause_of n atoms cs cs' ss ss' budget s (Err x) e same_cs same_ss h = h
 
 pub listed-in-cells : (atoms : ℕ) (given : List Clause) → ((c : Clause) → Contains given c → AreListed atoms c) → AreInCells (atoms + 1) given
 listed-in-cells atoms given listed c has l lit = let h = listed c has l lit in let le : l.atom ≤ atoms = h.1 in (h.0, omega arith)
 
 -- the search before its first turn
-pub searching-begins : (accepts : instance.Instance → Bool) (clause_of : instance.Instance → Clause) (atoms : ℕ) (given : List Clause) (budget : ℕ) (s : Solver) → ((c : Clause) → Contains given c → AreListed atoms c)
-    → ListsAll (atoms + 1) given s.occurrences → HoldsTrail (atoms + 1) given s.trail → AreSeenBut given s.trail s.pending → s.clauses.items ≡ given → s.steps.items ≡ [] → IsSearching atoms accepts clause_of given budget s
-searching-begins accepts clause_of atoms given budget s listed lists holds seen clauses steps = record {
+pub searching-begins : (has_instance : instance.Instance → Type 0) (clause_of : instance.Instance → Clause) (atoms : ℕ) (given : List Clause) (budget : ℕ) (s : Solver) → ((c : Clause) → Contains given c → AreListed atoms c)
+    → ListsAll (atoms + 1) given s.occurrences → HoldsTrail (atoms + 1) given s.trail → AreSeenBut given s.trail s.pending → s.clauses.items ≡ given → s.steps.items ≡ [] → IsSearching atoms has_instance clause_of given budget s
+searching-begins has_instance clause_of atoms given budget s listed lists holds seen clauses steps = record {
   ready = record {
     in_cells = subst (λ (cs : List Clause). AreInCells (atoms + 1) cs) (sym clauses) (listed-in-cells atoms given listed);
     listed = subst (λ (cs : List Clause). ListsAll (atoms + 1) cs s.occurrences) (sym clauses) lists;
@@ -261,7 +261,7 @@ searching-begins accepts clause_of atoms given budget s listed lists holds seen 
     seen = subst (λ (cs : List Clause). AreSeenBut cs s.trail s.pending) (sym clauses) seen;
   };
   clauses_are = clauses ∙ sym (append-nil given) ∙ ap (λ (ss : List Step). after clause_of given ss) (sym steps);
-  are_units = subst (λ (ss : List Step). AreUnits atoms accepts clause_of given ss) (sym steps) (no_step given);
+  are_units = subst (λ (ss : List Step). AreUnits atoms has_instance clause_of given ss) (sym steps) (no_step given);
   within = let none : length s.steps.items ≡ 0 = ap length steps in omega arith;
 }
 

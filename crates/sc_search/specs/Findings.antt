@@ -1,5 +1,5 @@
 -- What a search finds.
-use Rattle.std.specs.Prelude.{◌≡◌, ◌≢◌, ◌≤◌, ◌⊎◌, ◌++◌, ⊤, ℕ, List, [], ◌∷◌, Bool, true, false, IsSome, length}
+use Rattle.std.specs.Prelude.{◌≡◌, ◌≢◌, ◌≤◌, ◌⊎◌, ◌++◌, ⊤, ℕ, List, [], ◌∷◌, false, IsSome, length}
 use Rattle.std.specs.List.{Contains}
 use Rattle.sc_clauses.specs.declared.step.Instance.{Instance}
 use Rattle.sc_clauses.specs.declared.step.Step.{Step}
@@ -11,44 +11,44 @@ use Rattle.sc_search.specs.Propagation.{IsNew, FallsBy, HasConflict}
 use Rattle.sc_search.specs.Steps.{added, after, IsLawful}
 
 -- A unit: a lawful step, whose clause isn't empty, has not all literals of a clause before it, and is new to propagation.
-pub record IsUnit (atoms : ℕ) (accepts : Instance → Bool) (clause_of : Instance → Clause) (clauses : List Clause) (s : Step) : Type 0 where
-  pub is_lawful : IsLawful atoms accepts clause_of clauses s
+pub record IsUnit (atoms : ℕ) (has_instance : Instance → Type 0) (clause_of : Instance → Clause) (clauses : List Clause) (s : Step) : Type 0 where
+  pub is_lawful : IsLawful atoms has_instance clause_of clauses s
   pub some : added clause_of s ≢ []
   pub uncovered : (c : Clause) → Contains clauses c → contained c (added clause_of s) ≡ false
   pub is_new : IsNew clauses (added clause_of s)
 
 -- each step is a unit after the clauses given and those of the steps before it
-pub data AreUnits (atoms : ℕ) (accepts : Instance → Bool) (clause_of : Instance → Clause) : List Clause → List Step → Type 0 where
-  no_step : (clauses : List Clause) → AreUnits atoms accepts clause_of clauses []
-  first_step : (clauses : List Clause) (s : Step) (steps : List Step) → IsUnit atoms accepts clause_of clauses s
-      → AreUnits atoms accepts clause_of (clauses ++ added clause_of s ∷ []) steps → AreUnits atoms accepts clause_of clauses (s ∷ steps)
+pub data AreUnits (atoms : ℕ) (has_instance : Instance → Type 0) (clause_of : Instance → Clause) : List Clause → List Step → Type 0 where
+  no_step : (clauses : List Clause) → AreUnits atoms has_instance clause_of clauses []
+  first_step : (clauses : List Clause) (s : Step) (steps : List Step) → IsUnit atoms has_instance clause_of clauses s
+      → AreUnits atoms has_instance clause_of (clauses ++ added clause_of s ∷ []) steps → AreUnits atoms has_instance clause_of clauses (s ∷ steps)
 
 -- units, and at last a lawful step whose clause is empty; as many steps as the budget at most
-pub record IsRefutation (atoms : ℕ) (accepts : Instance → Bool) (clause_of : Instance → Clause) (clauses : List Clause) (budget : ℕ) (steps : List Step) : Type 0 where
+pub record IsRefutation (atoms : ℕ) (has_instance : Instance → Type 0) (clause_of : Instance → Clause) (clauses : List Clause) (budget : ℕ) (steps : List Step) : Type 0 where
   pub units : List Step
   pub last : Step
-  pub are_units : AreUnits atoms accepts clause_of clauses units
-  pub is_lawful : IsLawful atoms accepts clause_of (after clause_of clauses units) last
+  pub are_units : AreUnits atoms has_instance clause_of clauses units
+  pub is_lawful : IsLawful atoms has_instance clause_of (after clause_of clauses units) last
   pub is_empty : added clause_of last ≡ []
   pub are_all : steps ≡ units ++ last ∷ []
   pub within : length steps ≤ budget
 
 -- One more step is due: decisions and unit propagation falsify one of the clauses, or that of an accepted instance.
-abbrev pub IsDue : (Instance → Bool) → (Instance → Clause) → List Clause → Type 0
-IsDue accepts clause_of clauses = HasConflict clauses ⊎ ((i : Instance) × (accepts i ≡ true) × FallsBy clauses (clause_of i))
+abbrev pub IsDue : (Instance → Type 0) → (Instance → Clause) → List Clause → Type 0
+IsDue has_instance clause_of clauses = HasConflict clauses ⊎ ((i : Instance) × has_instance i × FallsBy clauses (clause_of i))
 
 -- as many units as the budget, after which one more step is due
-pub record IsSpent (atoms : ℕ) (accepts : Instance → Bool) (clause_of : Instance → Clause) (clauses : List Clause) (budget : ℕ) (steps : List Step) : Type 0 where
+pub record IsSpent (atoms : ℕ) (has_instance : Instance → Type 0) (clause_of : Instance → Clause) (clauses : List Clause) (budget : ℕ) (steps : List Step) : Type 0 where
   pub count : length steps ≡ budget
-  pub are_units : AreUnits atoms accepts clause_of clauses steps
-  pub due : IsDue accepts clause_of (after clause_of clauses steps)
+  pub are_units : AreUnits atoms has_instance clause_of clauses steps
+  pub due : IsDue has_instance clause_of (after clause_of clauses steps)
 
 -- each atom has a value, and neither a clause given nor that of an accepted instance is falsified
-pub record IsConsistent (atoms : ℕ) (accepts : Instance → Bool) (clause_of : Instance → Clause) (clauses : List Clause) (m : Assignment) : Type 0 where
+pub record IsConsistent (atoms : ℕ) (has_instance : Instance → Type 0) (clause_of : Instance → Clause) (clauses : List Clause) (m : Assignment) : Type 0 where
   pub count : length m ≡ atoms
   pub total : (n : ℕ) → 1 ≤ n → n ≤ atoms → IsSome (value_of m n)
   pub keeps_clauses : (c : Clause) → Contains clauses c → falsifies m c ≡ false
-  pub keeps_instances : (i : Instance) → accepts i ≡ true → falsifies m (clause_of i) ≡ false
+  pub keeps_instances : (i : Instance) → has_instance i → falsifies m (clause_of i) ≡ false
 
 abbrev pub IfRefuted : (List Step → Type 0) → Found → Type 0
 IfRefuted P (Refuted steps) = P steps

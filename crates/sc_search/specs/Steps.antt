@@ -1,5 +1,5 @@
 -- Which steps are lawful, and which are units.
-use Rattle.std.specs.Prelude.{◌≡◌, ◌≢◌, ◌-◌, ◌^◌, ◌<◌, ◌≤◌, ◌++◌, ℕ, List, [], ◌∷◌, Bool, true, length, map}
+use Rattle.std.specs.Prelude.{◌≡◌, ◌≢◌, ◌-◌, ◌^◌, ◌<◌, ◌≤◌, ◌++◌, ℕ, List, [], ◌∷◌, length, map}
 use Rattle.std.specs.List.{Contains, slice_index_or}
 use Rattle.sc_clauses.specs.declared.lit.Lit.{Lit}
 use Rattle.sc_clauses.specs.declared.step.Instance as instance
@@ -56,6 +56,6 @@ abbrev pub after : (instance.Instance → Clause) → List Clause → List Step 
 after clause_of clauses steps = clauses ++ map (added clause_of) steps
 
 -- an accepted instance whose literals are of listed atoms, or a clause that hints show
-abbrev pub IsLawful : ℕ → (instance.Instance → Bool) → (instance.Instance → Clause) → List Clause → Step → Type 0
-IsLawful atoms accepts clause_of clauses (Instance i) = (accepts i ≡ true) × IsClause atoms (clause_of i)
-IsLawful atoms accepts clause_of clauses (Learned s) = IsShown atoms clauses s
+abbrev pub IsLawful : ℕ → (instance.Instance → Type 0) → (instance.Instance → Clause) → List Clause → Step → Type 0
+IsLawful atoms has_instance clause_of clauses (Instance i) = has_instance i × IsClause atoms (clause_of i)
+IsLawful atoms has_instance clause_of clauses (Learned s) = IsShown atoms clauses s

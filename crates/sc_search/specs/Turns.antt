@@ -63,31 +63,31 @@ HasSettled n clauses steps budget s (turn.Consistent m) = ⊥
 HasSettled n clauses steps budget s turn.Spent = (s.steps.items ≡ steps) × (length steps ≡ budget) × HasConflict clauses
 
 -- one unit more
-pub record HasAdded (atoms : ℕ) (accepts : instance.Instance → Bool) (clause_of : instance.Instance → Clause) (clauses : List Clause) (steps : List Step) (s : Solver) : Type 0 where
+pub record HasAdded (atoms : ℕ) (has_instance : instance.Instance → Type 0) (clause_of : instance.Instance → Clause) (clauses : List Clause) (steps : List Step) (s : Solver) : Type 0 where
   pub step : Step
-  pub is_unit : IsUnit atoms accepts clause_of clauses step
+  pub is_unit : IsUnit atoms has_instance clause_of clauses step
   pub clauses_more : s.clauses.items ≡ clauses ++ added clause_of step ∷ []
   pub steps_more : s.steps.items ≡ steps ++ step ∷ []
   pub ready : IsReady (atoms + 1) s
 
 -- one lawful step more, whose clause is empty
-pub record HasEnded (atoms : ℕ) (accepts : instance.Instance → Bool) (clause_of : instance.Instance → Clause) (clauses : List Clause) (steps : List Step) (s : Solver) : Type 0 where
+pub record HasEnded (atoms : ℕ) (has_instance : instance.Instance → Type 0) (clause_of : instance.Instance → Clause) (clauses : List Clause) (steps : List Step) (s : Solver) : Type 0 where
   pub step : Step
-  pub is_lawful : IsLawful atoms accepts clause_of clauses step
+  pub is_lawful : IsLawful atoms has_instance clause_of clauses step
   pub is_empty : added clause_of step ≡ []
   pub steps_more : s.steps.items ≡ steps ++ step ∷ []
 
-abbrev pub IsTurn : ℕ → (instance.Instance → Bool) → (instance.Instance → Clause) → List Clause → List Step → ℕ → Solver → Turn → Type 0
-IsTurn atoms accepts clause_of clauses steps budget s turn.Added = HasAdded atoms accepts clause_of clauses steps s × (length steps ≢ budget)
-IsTurn atoms accepts clause_of clauses steps budget s turn.Refuted = HasEnded atoms accepts clause_of clauses steps s × (length steps ≢ budget)
-IsTurn atoms accepts clause_of clauses steps budget s (turn.Consistent m) = IsConsistent atoms accepts clause_of clauses m
-IsTurn atoms accepts clause_of clauses steps budget s turn.Spent = (s.steps.items ≡ steps) × (length steps ≡ budget) × IsDue accepts clause_of clauses
+abbrev pub IsTurn : ℕ → (instance.Instance → Type 0) → (instance.Instance → Clause) → List Clause → List Step → ℕ → Solver → Turn → Type 0
+IsTurn atoms has_instance clause_of clauses steps budget s turn.Added = HasAdded atoms has_instance clause_of clauses steps s × (length steps ≢ budget)
+IsTurn atoms has_instance clause_of clauses steps budget s turn.Refuted = HasEnded atoms has_instance clause_of clauses steps s × (length steps ≢ budget)
+IsTurn atoms has_instance clause_of clauses steps budget s (turn.Consistent m) = IsConsistent atoms has_instance clause_of clauses m
+IsTurn atoms has_instance clause_of clauses steps budget s turn.Spent = (s.steps.items ≡ steps) × (length steps ≡ budget) × IsDue has_instance clause_of clauses
 
 -- the search so far: units after the clauses given, as many as the budget at most
-pub record IsSearching (atoms : ℕ) (accepts : instance.Instance → Bool) (clause_of : instance.Instance → Clause) (clauses : List Clause) (budget : ℕ) (s : Solver) : Type 0 where
+pub record IsSearching (atoms : ℕ) (has_instance : instance.Instance → Type 0) (clause_of : instance.Instance → Clause) (clauses : List Clause) (budget : ℕ) (s : Solver) : Type 0 where
   pub ready : IsReady (atoms + 1) s
   pub clauses_are : s.clauses.items ≡ after clause_of clauses s.steps.items
-  pub are_units : AreUnits atoms accepts clause_of clauses s.steps.items
+  pub are_units : AreUnits atoms has_instance clause_of clauses s.steps.items
   pub within : length s.steps.items ≤ budget
 
 abbrev pub cell_value : Cell → Option Bool

@@ -7,9 +7,9 @@ ghost use Rattle.sc_search.specs.Findings.{IsRefutation, IsConsistent, IsSpent, 
 ghost use Rattle.sc_search.specs.Steps.{AreListed};
 ghost use Rattle.sc_search.specs.Turns.{IsReady, IsTotal, IsTurn, cell_value};
 
-use crate::solver::{Solver, Turn};
+use crate::solver::{Solver, Turn, copy_of};
 use crate::source::Source;
-use sc_clauses::{Assignment, Clause, Instance, Step};
+use sc_clauses::{Assignment, Clause, Clauses, Instance, Step};
 use sc_lists::Seq;
 use std::alloc::{AllocError, Global};
 
@@ -30,21 +30,58 @@ pub fn search<S: Source>(
     alloc: Global,
     source: &S,
     atoms: u64,
+    clauses: &Clauses,
+    budget: u64,
+) -> Result<Found, AllocError>
+    requires listed { (c : Clause) → Contains clauses.now c → AreListed atoms c }
+    // Each number of a literal or of a clause has 18 digits at most.
+    requires few_atoms { atoms < 10 ^ 18 }
+    requires few_clauses { length clauses.now + budget < 10 ^ 18 }
+    // The steps refute the clauses, and each but the last is a unit.
+    ensures refuted { IfOk result (λ f. IfRefuted (IsRefutation atoms (S.has_instance source.now)
+        (S.clause_of source.now) clauses.now budget) f) }
+    // The assignment is total, and falsifies neither a clause given nor one of the source.
+    ensures consistent { IfOk result (λ f. IfConsistent (IsConsistent atoms (S.has_instance source.now)
+        (S.clause_of source.now) clauses.now) f) }
+    // The steps are as many units as the budget, and one more is due: the search has made all literals of a clause false.
+    ensures spent { IfOk result (λ f. IfSpent (IsSpent atoms (S.has_instance source.now)
+        (S.clause_of source.now) clauses.now budget) f) }
+{
+    let clauses = copies(alloc, clauses)?;
+    turns_over(alloc, source, atoms, clauses, budget)
+}
+
+/// A copy of each of these clauses.
+fn copies(alloc: Global, clauses: &Clauses) -> Result<Seq<Clause>, AllocError>
+    ensures { IfOk result (λ copies. copies ≡ clauses.now) }
+{
+    // There are fewer than 2^64 clauses, which `len` tells.
+    let _count = clauses.len();
+    let mut copies = Seq::new(alloc);
+    let mut place = 0;
+    while let Some(clause) = clauses.get(place) {
+        copies.push(copy_of(alloc, clause)?)?;
+        place += 1;
+    }
+    Ok(copies)
+}
+
+/// The same over clauses that the search keeps.
+fn turns_over<S: Source>(
+    alloc: Global,
+    source: &S,
+    atoms: u64,
     clauses: Seq<Clause>,
     budget: u64,
 ) -> Result<Found, AllocError>
     requires listed { (c : Clause) → Contains clauses c → AreListed atoms c }
-    // Each number of a literal or of a clause has 18 digits at most.
     requires few_atoms { atoms < 10 ^ 18 }
     requires few_clauses { length clauses + budget < 10 ^ 18 }
-    // The steps refute the clauses, and each but the last is a unit.
-    ensures refuted { IfOk result (λ f. IfRefuted (IsRefutation atoms (S.accepts source.now)
+    ensures refuted { IfOk result (λ f. IfRefuted (IsRefutation atoms (S.has_instance source.now)
         (S.clause_of source.now) clauses budget) f) }
-    // The assignment is total, and falsifies neither a clause given nor one of the source.
-    ensures consistent { IfOk result (λ f. IfConsistent (IsConsistent atoms (S.accepts source.now)
+    ensures consistent { IfOk result (λ f. IfConsistent (IsConsistent atoms (S.has_instance source.now)
         (S.clause_of source.now) clauses) f) }
-    // The steps are as many units as the budget, and one more is due: the search has made all literals of a clause false.
-    ensures spent { IfOk result (λ f. IfSpent (IsSpent atoms (S.accepts source.now)
+    ensures spent { IfOk result (λ f. IfSpent (IsSpent atoms (S.has_instance source.now)
         (S.clause_of source.now) clauses budget) f) }
 {
     let mut solver = Solver::new(alloc, atoms, clauses)?;
@@ -70,7 +107,7 @@ impl Solver {
         requires some { 0 < length self.old.trail.cells.items }
         requires few_cells { length self.old.trail.cells.items ≤ 10 ^ 18 }
         requires few_clauses { length self.old.steps.items ≢ budget → length self.old.clauses.items < 10 ^ 18 }
-        ensures { IfOk result (λ t. IsTurn (length self.old.trail.cells.items - 1) (S.accepts source.now)
+        ensures { IfOk result (λ t. IsTurn (length self.old.trail.cells.items - 1) (S.has_instance source.now)
             (S.clause_of source.now) self.old.clauses.items self.old.steps.items budget self.new t) }
     {
         if let Some(conflict) = self.rest()? {
@@ -93,10 +130,10 @@ impl Solver {
         requires ready { IsReady (length self.old.trail.cells.items) self.old }
         requires some { 0 < length self.old.trail.cells.items }
         requires total { IsTotal self.old }
-        requires accepted { S.accepts source.now instance ≡ true }
+        requires accepted { S.has_instance source.now instance }
         requires falsified { falsifies (map cell_value (drop 1 self.old.trail.cells.items))
             (S.clause_of source.now instance) ≡ true }
-        ensures { IfOk result (λ t. IsTurn (length self.old.trail.cells.items - 1) (S.accepts source.now)
+        ensures { IfOk result (λ t. IsTurn (length self.old.trail.cells.items - 1) (S.has_instance source.now)
             (S.clause_of source.now) self.old.clauses.items self.old.steps.items budget self.new t) }
     {
         if self.is_spent(budget) {

@@ -41,7 +41,7 @@ pub(crate) struct Solver {
 }
 
 /// A copy of a clause.
-fn copy_of(alloc: Global, lits: &[Lit]) -> Result<Clause, AllocError>
+pub(crate) fn copy_of(alloc: Global, lits: &[Lit]) -> Result<Clause, AllocError>
     ensures { IfOk result (λ c. c ≡ lits.now) }
 {
     Ok(Seq::from_vec(Vec::from_slice(alloc, lits)?))

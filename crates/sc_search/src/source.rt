@@ -1,5 +1,5 @@
 //! Where clauses come from besides those of a list.
-ghost use Rattle.std.specs.Prelude.{◌≡◌, Bool, true, false, None, IfOk, IfSome};
+ghost use Rattle.std.specs.Prelude.{◌≡◌, true, false, None, IfOk, IfSome};
 ghost use Rattle.sc_clauses.specs.Assignments.{falsifies};
 ghost use Rattle.sc_clauses.specs.Clauses.{Clause};
 ghost use Rattle.sc_clauses.specs.declared.step.Instance.{Instance};
@@ -11,19 +11,20 @@ use std::alloc::AllocError;
 /// many of them to list, so a search asks for one that an assignment falsifies.
 pub trait Source {
     /// Which instances it has.
-    ghost accepts: { Self → Instance → Bool };
+    ghost has_instance: { Self → Instance → Type 0 };
 
     /// The clause of each of its instances.
     ghost clause_of: { Self → Instance → Clause };
 
     /// An instance whose clause an assignment falsifies, or none where there is none. Want of memory is its one fault.
     fn violated(&self, m: &Assignment) -> Result<Option<Instance>, AllocError>
-        ensures accepted { IfOk result (λ o. IfSome o (λ i. accepts self.now i ≡ true)) }
+        ensures accepted { IfOk result (λ o. IfSome o (has_instance self.now)) }
         ensures falsified { IfOk result (λ o. IfSome o (λ i. falsifies m.now (clause_of self.now i) ≡ true)) }
-        ensures none { IfOk result (λ o. o ≡ None → (i : Instance) → accepts self.now i ≡ true
+        ensures none { IfOk result (λ o. o ≡ None → (i : Instance) → has_instance self.now i
             → falsifies m.now (clause_of self.now i) ≡ false) };
 
     /// The clause of an instance that it has. Want of memory is its one fault.
     fn clause(&self, instance: &Instance) -> Result<Clause, AllocError>
-        ensures { IfOk result (λ c. accepts self.now instance.now ≡ true → c ≡ clause_of self.now instance.now) };
+        requires { has_instance self.now instance.now }
+        ensures { IfOk result (λ c. c ≡ clause_of self.now instance.now) };
 }

@@ -1,5 +1,5 @@
 -- The numbers of atoms: the atoms ascend, so each has one number.
-use Rattle.std.proofs.Common.{◌≡◌, ◌≢◌, ◌+◌, ◌-◌, ◌<◌, ◌&&◌, ◌↔◌, not, ℕ, zero, suc, Bool, true, false, List, [], ◌∷◌, length, Some, None, slice_get, refl, ap, ◌∙◌, subst, arith, Less}
+use Rattle.std.proofs.Common.{◌≡◌, ◌≢◌, ◌+◌, ◌<◌, ◌&&◌, ◌↔◌, not, ℕ, zero, suc, Bool, true, false, List, [], ◌∷◌, length, Some, None, slice_get, refl, ap, ◌∙◌, subst, arith, Less}
 use Rattle.std.specs.declared.cmp.Ordering.TheVariants.{Equal}
 use Rattle.std.specs.Ordering.{is_eq}
 use Rattle.std.specs.List.Sorted.{IsStrictlySortedBy}
@@ -13,8 +13,10 @@ use Rattle.sc_terms.specs.Tables.{tree}
 use Rattle.sc_terms.specs.Folds.{truth_term}
 use Rattle.sc_terms.specs.Order.{tree_cmp, tree_eq}
 use Rattle.sc_terms.specs.Finding.{IsFound}
-use Rattle.sc_boolean_footprint.specs.Closure.{Closed}
-use Rattle.sc_boolean_footprint.specs.Problems.{Posed, IsPosed, goal_term, closed_terms, is_bool, is_opposite, is_atom, atoms, atom_number, number_among, one_more, numbered, literal}
+use Rattle.sc_closure.specs.Atoms.{is_bool, is_opposite, is_atom}
+use Rattle.sc_closure.specs.Places.{one_more}
+use Rattle.sc_closure_rules.specs.Closure.{Closed}
+use Rattle.sc_footprint.specs.Problems.{Posed, IsPosed, goal_term, closed_terms, atoms, atom_number, number_among, numbered, literal}
 use Rattle.sc_solver.proofs.ListLaws.{Has, here, there, has_of, contains_of, of_get, each_at, has_filter, filter_has, map_has}
 
 -- two terms are level in the order exactly where they are one
@@ -82,11 +84,11 @@ module _ (level : IsLevel) (p : Posed) (posed : IsPosed p) where
   atoms_ascend = IsStrictlySortedBy-filter tree_cmp is_atom (closed_terms p) posed.are_closed.ordered
 
   -- a closed term that is an atom is listed
-  pub listed : (t : Tree) → Closed p.env (goal_term p) t → is_atom t ≡ true → Has (atoms p) t
+  pub listed : (t : Tree) → Closed p.schema p.env (goal_term p) t → is_atom t ≡ true → Has (atoms p) t
   listed t c a = has_filter is_atom (closed_terms p) t (has_of (closed_terms p) t ((posed.are_closed.just t).1 c)) a
 
   -- a listed atom is closed, and an atom
-  pub atom_closed : (t : Tree) → Has (atoms p) t → Closed p.env (goal_term p) t × (is_atom t ≡ true)
+  pub atom_closed : (t : Tree) → Has (atoms p) t → Closed p.schema p.env (goal_term p) t × (is_atom t ≡ true)
   atom_closed t h = let (k, a) = filter_has is_atom (closed_terms p) t h in ((posed.are_closed.just t).0 (contains_of (closed_terms p) t k), a)
 
   pub atom_is_plain : (t : Tree) → is_atom t ≡ true → is_opposite t ≡ false

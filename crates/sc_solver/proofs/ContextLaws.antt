@@ -30,7 +30,7 @@ use Rattle.sc_values.proofs.EveryLaws.{every_Bool, every_Record}
 use Rattle.sc_world.specs.Conforms.{Test, conforms, passes, shape_of}
 use Rattle.sc_world.proofs.ConformsLaws.{conforms_Record, conforms_Bool}
 use Rattle.sc_term_laws.specs.Booleans.{names_of, attribute_term}
-use Rattle.sc_boolean_footprint.specs.Problems.{Posed, atom_number}
+use Rattle.sc_footprint.specs.Problems.{Posed, atom_number}
 use Rattle.sc_solver.specs.Rebuilding.{truth_at, assigned}
 use Rattle.sc_solver.specs.Contexts.{IsContext}
 use Rattle.sc_solver.proofs.ListLaws.{Has, of_any, of_all, all_at, has_map, map_has}

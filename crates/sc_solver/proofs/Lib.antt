@@ -1,10 +1,10 @@
 pub mod ListLaws
 pub mod LitLaws
-pub mod StepLaws
-pub mod UnitLaws
 pub mod TableLaws
 pub mod AtomLaws
 pub mod KindLaws
+pub mod TypeLaws
+pub mod ClosedLaws
 pub mod FoundLaws
 pub mod AssignedLaws
 pub mod ValueLaws

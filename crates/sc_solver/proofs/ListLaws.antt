@@ -25,10 +25,6 @@ module _ {X : Type 0} where
   contains_of _ _ (here x xs) = (zero, omega arith, refl)
   contains_of _ _ (there x y xs h) = let (k, lt, e) = contains_of xs y h in (suc k, omega arith, e)
 
-  pub get_of : (xs : List X) (x : X) → Has xs x → (k : ℕ) × (slice_get xs k ≡ Some x)
-  get_of _ _ (here x xs) = (zero, refl)
-  get_of _ _ (there x y xs h) = let (k, e) = get_of xs y h in (suc k, e)
-
   pub of_get : (xs : List X) (k : ℕ) (x : X) → slice_get xs k ≡ Some x → Has xs x
   of_get [] k x e = absurd cc
   of_get (y ∷ ys) zero x e = let f : y ≡ x = cc in subst (λ z. Has (y ∷ ys) z) f (here y ys)
@@ -41,15 +37,6 @@ module _ {X : Type 0} where
   pub has_right : (xs ys : List X) (x : X) → Has ys x → Has (xs ++ ys) x
   has_right [] ys x h = h
   has_right (z ∷ xs) ys x h = there z x (xs ++ ys) (has_right xs ys x h)
-
-  pub has_either : (xs ys : List X) (x : X) → Has (xs ++ ys) x → Has xs x ⊎ Has ys x
-  has_either [] ys x h = inr h
-  has_either (z ∷ xs) ys _ (here _ _) = inl (here z xs)
-  has_either (z ∷ xs) ys _ (there _ x _ h) = elim (has_either xs ys x h) [ inl a ↦ inl (there z x xs a) | inr b ↦ inr b ]
-
-  pub has_only : (x y : X) → Has (x ∷ []) y → x ≡ y
-  has_only x _ (here _ _) = refl
-  has_only x _ (there _ y _ h) = elim h [ ]
 
   pub each_at : (P : X → Type 0) (xs : List X) (x : X) → AllByRecursion P xs → Has xs x → P x
   each_at P _ _ all (here x xs) = all.0

@@ -1,5 +1,5 @@
 -- What is promised of a rebuilt world, from what is promised of the world for its request.
-use Rattle.std.proofs.Common.{◌≡◌, List, Some, Result, Ok, Err, IfOk, ap, refl, sym, ◌∙◌, subst}
+use Rattle.std.proofs.Common.{◌≡◌, List, Some, Result, Ok, Err, IfOk, ap, refl, ◌∙◌, subst}
 use Rattle.std.proofs.lemmas.Result.{IfOk-weaker}
 use Rattle.sc_clauses.specs.Assignments.{Assignment}
 use Rattle.sc_names.specs.declared.uid.Uid.{Uid}
@@ -9,14 +9,14 @@ use Rattle.sc_world.specs.declared.world.Request.{Request}
 use Rattle.sc_world.specs.declared.world.World.{World}
 use Rattle.sc_world.specs.Named.{AreDefaults, StoresNamed, IsRequestAmong}
 use Rattle.sc_world.specs.WellFormed.{IsWellFormed}
-use Rattle.sc_boolean_footprint.specs.Problems.{Posed, IsPosed}
-use Rattle.sc_boolean_footprint.specs.Truths.{IsWorldOf}
+use Rattle.sc_footprint.specs.Problems.{Posed, IsPosed}
+use Rattle.sc_footprint.specs.Truths.{IsWorldOf, Satisfies}
 use Rattle.sc_checker.specs.Verdicts.{Rules}
-use Rattle.sc_solver.specs.Rebuilding.{IsConsistent, rebuilt_request, IsRebuilt, HasTruths}
+use Rattle.sc_solver.specs.Rebuilding.{IsConsistent, rebuilt_request, HasTruths}
 use Rattle.sc_solver.proofs.AtomLaws.{IsLevel}
 use Rattle.sc_solver.proofs.AssignedLaws.{AreLawful, valued, defined_hold}
 use Rattle.sc_solver.specs.Contexts.{IsContext}
-use Rattle.sc_solver.proofs.TruthLaws.{IsKnown, truths_are}
+use Rattle.sc_solver.proofs.TruthLaws.{IsKnown, truths_are, goal_is_true}
 
 -- what is promised of the world for a request
 pub record IsWorldFor {E : Type 0} (s : Declarations) (request : Request) (literals : List Uid) (r : Result World E) : Type 0 where
@@ -36,22 +36,22 @@ of_problem p m s request literals r of_schema of_request of_literals h =
 request_among : (p : Posed) (m : Assignment) → IsPosed p → IsContext p.schema p.env (rebuilt_request p m).context → IsRequestAmong p.schema p.env (rebuilt_request p m) p.literals
 request_among p m posed context =
     record {
-      environment = posed.environment;
+      environment = posed.goal_is.environment;
       request = record { principal = refl; action = refl; resource = refl; context = context.conform };
       context = context.proper;
-      declared = posed.declared;
+      declared = posed.goal_is.declared;
     }
 
 module _ {E : Type 0} (p : Posed) (m : Assignment) (r : Result World E) (h : IsWorldFor p.schema (rebuilt_request p m) p.literals r) where
-  pub is_rebuilt : IfOk r (IsRebuilt p m)
-  is_rebuilt = by r h where
-    by : (r : Result World E) → IsWorldFor p.schema (rebuilt_request p m) p.literals r → IfOk r (IsRebuilt p m)
-    by (Err e) h = tt
-    by (Ok w) h = record { request = h.of_request; defaults = h.value; stored = subst (λ (q : Request). StoresNamed p.schema q p.literals w.store) (sym h.of_request) h.exact }
-
   pub is_well_formed : IsPosed p → IsContext p.schema p.env (rebuilt_request p m).context → IfOk r (IsWorldOf p)
   is_well_formed posed context = h.well_formed p.env (request_among p m posed context)
 
   pub has_truths : (rules : Rules) → IsLevel → AreLawful p → IsPosed p → IsKnown p → IsConsistent rules p m → IfOk r (HasTruths p m)
   has_truths rules level lawful posed known c =
       IfOk-weaker r _ _ (λ w is n least most. valued rules p m lawful c n least most ∙ ap Some (truths_are level p posed known m (defined_hold rules p m lawful c) w is n least most)) h.of_request
+
+  pub satisfies : (rules : Rules) → IsLevel → AreLawful p → IsPosed p → IsKnown p → IsConsistent rules p m → IsContext p.schema p.env (rebuilt_request p m).context → IfOk r (Satisfies p)
+  satisfies rules level lawful posed known c context = by r h.of_request (is_well_formed posed context) where
+    by : (r : Result World E) → IfOk r (λ w. w.request ≡ rebuilt_request p m) → IfOk r (IsWorldOf p) → IfOk r (Satisfies p)
+    by (Err e) is formed = tt
+    by (Ok w) is formed = record { well_formed = formed; goal_true = goal_is_true level p posed known m (defined_hold rules p m lawful c) w is }

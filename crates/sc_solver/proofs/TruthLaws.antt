@@ -1,5 +1,5 @@
 -- The listed atoms have their assigned truth in the rebuilt world.
-use Rattle.std.proofs.Common.{◌≡◌, ◌-◌, ◌<◌, ◌≤◌, ◌&&◌, ◌||◌, ℕ, zero, suc, not, Bool, true, false, cond, List, [], ◌∷◌, length, Option, Some, slice_get, Contains, refl, ap, sym, ◌∙◌, arith}
+use Rattle.std.proofs.Common.{◌≡◌, ◌-◌, ◌<◌, ◌≤◌, ◌&&◌, inl, inr, ℕ, zero, suc, not, Bool, true, false, cond, List, [], ◌∷◌, length, Option, Some, slice_get, Contains, refl, ap, sym, ◌∙◌, arith}
 use Rattle.std.proofs.Math.Dec.{eqb-suc-zero}
 use Rattle.std.specs.declared.cmp.Ordering.{Ordering}
 use Rattle.std.specs.declared.cmp.Ordering.TheVariants.{Less, Equal as Level, Greater}
@@ -7,14 +7,12 @@ use Rattle.std.specs.Fmt.{decimal, digits}
 use Rattle.std.specs.Ordering.{is_eq}
 use Rattle.std.specs.Str.{bytes_eq}
 use Rattle.std.proofs.lemmas.Slice.Eq.{bytes_eq-Decides}
-use Rattle.sc_boolean_footprint.proofs.TruthLaws.{atom_is}
-use Rattle.sc_boolean_footprint.proofs.GoalLaws.{boolean_sort, attribute_sort, principal_sort, resource_sort}
+use Rattle.sc_footprint.proofs.TruthLaws.{atom_is}
 use Rattle.sc_terms.proofs.FoldValues.{seen_yes}
 use Rattle.sc_clauses.specs.Clauses.{bool_eq, holds}
 use Rattle.sc_clauses.specs.Assignments.{Assignment}
 use Rattle.sc_names.specs.declared.uid.Uid.{Uid}
 use Rattle.sc_schema.specs.Declarations.{context_of}
-use Rattle.sc_schema.specs.declared.declarations.Env.{Env}
 use Rattle.sc_schema.specs.declared.ty.Ty.{Ty}
 use Rattle.sc_sorts.specs.declared.sort.Sort.{Sort, Sort-F, out-Sort}
 use Rattle.sc_sorts.specs.declared.sort.Sort.TheOpen as s
@@ -35,32 +33,25 @@ use Rattle.sc_terms.specs.TreeSorts.{tree_sort}
 use Rattle.sc_terms.specs.Folds.{truth_term, field_term}
 use Rattle.sc_term_laws.specs.Booleans.{names_of, is_connective, IsBoolean, of_truth, of_attribute, of_not, of_two, attribute_term, context_term}
 use Rattle.sc_terms.specs.Values.{it, val, seen, value_eq, field_value}
-use Rattle.sc_boolean_footprint.specs.Closure.{Closed, next, of_goal, principal_term, resource_term, follow}
-use Rattle.sc_boolean_footprint.specs.Problems.{Posed, IsPosed, goal_term, closed_terms, atoms, atom_number, is_bool_in, is_bool, is_opposite, is_atom, literal, literal_in, numbered}
-use Rattle.sc_boolean_footprint.specs.Definitions.{defining}
-use Rattle.sc_boolean_footprint.specs.Truths.{is_true, is_true_at, truths}
+use Rattle.sc_lists.specs.Members.{Has as Member}
+use Rattle.sc_sorts.specs.Entities.{choices_of}
+use Rattle.sc_closure.specs.Atoms.{is_bool_in, is_bool, is_opposite, is_atom}
+use Rattle.sc_closure_rules.specs.Closure.{Closed, of_goal, principal_term, resource_term, parts}
+use Rattle.sc_footprint.specs.Problems.{Posed, IsPosed, goal_term, atoms, atom_number, literal, literal_in, numbered}
+use Rattle.sc_footprint.specs.Definitions.{defining}
+use Rattle.sc_definitions.specs.Truths.{is_true}
+use Rattle.sc_footprint.specs.Truths.{is_true_at, truths}
 use Rattle.sc_solver.specs.Rebuilding.{truth_at, nameless, one_entity, assigned, context_by, context_of_type, rebuilt_request}
-use Rattle.sc_solver.proofs.ListLaws.{Has, here, there, has_of, contains_of, of_get}
+use Rattle.sc_solver.proofs.ListLaws.{Has, has_of, of_get}
 use Rattle.sc_clauses.proofs.LitLaws.{holds_negation}
-use Rattle.sc_solver.proofs.StepLaws.{AllHold}
-use Rattle.sc_solver.proofs.TableLaws.{table_says}
+use Rattle.sc_solver.proofs.LitLaws.{AllHold}
 use Rattle.sc_solver.proofs.AtomLaws.{IsLevel, literal_of_atom, listed, atom_closed, atom_is_plain, number_at, truth_listed, truth_first}
-use Rattle.sc_boolean_footprint.specs.Kinds.{IsOfGoal, of_boolean, of_context, of_principal, of_resource, of_entities}
-use Rattle.sc_solver.proofs.KindLaws.{are_plain, sort_context, one_entity_is}
-use Rattle.sc_solver.proofs.AssignedLaws.{truth_holds, and_holds, or_holds, equal_holds, goal_holds}
+use Rattle.sc_solver.specs.Kinds.{IsBooleanGoal, IsOfGoal, is_boolean, is_context, is_principal, is_resource, is_equation}
+use Rattle.sc_solver.proofs.KindLaws.{are_plain, sort_context, attribute_sort, boolean_sort, principal_sort, resource_sort, one_entity_is}
+use Rattle.sc_solver.proofs.ClosedLaws.{of_closed, closed_part}
+use Rattle.sc_solver.proofs.TypeLaws.{principal_free, resource_free}
+use Rattle.sc_solver.proofs.AssignedLaws.{truth_holds, and_says, or_says, equal_says, goal_holds}
 use Rattle.sc_solver.proofs.ValueLaws.{truth_seen, not_seen_as, and_seen_as, or_seen_as, equal_seen_as, one_entity_seen, field_told, field_seen_as}
-
--- ---- parts of closed terms
-
-module _ (env : Env) (goal : Tree) where
-  part_of_not : (a : Tree) → Closed env goal (one Not a) → Closed env goal a
-  part_of_not a c = next (one Not a) a c (contains_of (follow (one Not a)) a (here _ _))
-
-  left_of_two : (o : _) (a b : Tree) → Closed env goal (two o a b) → Closed env goal a
-  left_of_two o a b c = next (two o a b) a c (contains_of (follow (two o a b)) a (here _ _))
-
-  right_of_two : (o : _) (a b : Tree) → Closed env goal (two o a b) → Closed env goal b
-  right_of_two o a b c = next (two o a b) b c (contains_of (follow (two o a b)) b (there _ _ _ (here _ _)))
 
 -- ---- kinds of atoms
 
@@ -103,10 +94,10 @@ same_number n k true false e f =
     (λ g. zero_is_not_one (same_id (nameless n 0) (nameless k 1) g))
 same_number n k false b e f = absurd cc
 
--- what is known of a problem: its first atom is `true`, and of which kind its closed terms are
+-- what is known of a problem: its first atom is `true`, and its goal is of the fragment
 pub record IsKnown (p : Posed) : Type 0 where
   pub first : numbered (atoms p) 1 ≡ Some (truth_term true)
-  pub kinds : (t : Tree) → Contains (closed_terms p) t → IsOfGoal p.env (context_of p.schema p.env.action) t
+  pub boolean : IsBooleanGoal p
 
 -- ---- the rebuilt world
 
@@ -115,7 +106,13 @@ module _ (level : IsLevel) (p : Posed) (posed : IsPosed p) (known : IsKnown p) (
   type_of_context = context_of p.schema p.env.action
 
   abbrev IsClosed : Tree → Type 0
-  IsClosed t = Closed p.env (goal_term p) t
+  IsClosed t = Closed p.schema p.env (goal_term p) t
+
+  principal_is : choices_of p.schema p.env.principal ≡ []
+  principal_is = principal_free p.schema p.env posed.lawful posed.goal_is.environment
+
+  resource_is : choices_of p.schema p.env.resource ≡ []
+  resource_is = resource_free p.schema p.env posed.lawful posed.goal_is.environment
 
   -- the truth that the literal of a term is assigned
   abbrev assigned_truth : Tree → Bool
@@ -165,28 +162,27 @@ module _ (level : IsLevel) (p : Posed) (posed : IsPosed p) (known : IsKnown p) (
   says_two : (o : _) (a b : Tree) → is_connective o ≡ true → IsBoolean type_of_context a → IsBoolean type_of_context b → IsClosed (two o a b) → Says a → Says b → Says (two o a b)
   unfolding val
   says_two And a b e h k c x y =
-      and_seen_as (val a w) (val b w) (assigned_truth a) (assigned_truth b) x y
-      ∙ ap Some (sym (table_says (truth_at m) (λ t u. t && u) (literal_in p (two And a b)) (literal_in p a) (literal_in p b) (and_holds p (truth_at m) hold a b (two_atom And a b (of_two And a b e h k) c))))
+      and_seen_as (val a w) (val b w) (assigned_truth a) (assigned_truth b) x y ∙ ap Some (sym (and_says p (truth_at m) hold a b (two_atom And a b (of_two And a b e h k) c)))
   says_two Or a b e h k c x y =
-      or_seen_as (val a w) (val b w) (assigned_truth a) (assigned_truth b) x y
-      ∙ ap Some (sym (table_says (truth_at m) (λ t u. t || u) (literal_in p (two Or a b)) (literal_in p a) (literal_in p b) (or_holds p (truth_at m) hold a b (two_atom Or a b (of_two Or a b e h k) c))))
+      or_seen_as (val a w) (val b w) (assigned_truth a) (assigned_truth b) x y ∙ ap Some (sym (or_says p (truth_at m) hold a b (two_atom Or a b (of_two Or a b e h k) c)))
   says_two Equal a b e h k c x y =
       equal_seen_as (val a w) (val b w) (assigned_truth a) (assigned_truth b) x y
-      ∙ ap Some (sym (table_says (truth_at m) bool_eq (literal_in p (two Equal a b)) (literal_in p a) (literal_in p b)
-      (equal_holds p (truth_at m) hold a b (two_atom Equal a b (of_two Equal a b e h k) c) (bool_of a s.Bool (boolean_sort type_of_context a h) refl))))
+      ∙ ap Some (sym (equal_says p (truth_at m) hold a b (two_atom Equal a b (of_two Equal a b e h k) c) (boolean_sort type_of_context a h)))
   says_two _ a b e h k c x y = cc
+
+  part_of : (x y : Tree) → IsClosed x → Member (parts x) y → IsClosed y
+  part_of x y c h = closed_part p.schema p.env (goal_term p) x y c h
 
   -- a closed term of the fragment has the truth that its literal is assigned
   says : (t : Tree) → IsBoolean type_of_context t → IsClosed t → Says t
   says _ (of_truth b) c = says_truth b
   says _ (of_attribute type fields name e f h) c = says_attribute type fields name e f h
-  says _ (of_not a h) c = says_not a (says a h (part_of_not p.env (goal_term p) a c))
-  says _ (of_two o a b e h k) c =
-      says_two o a b e h k c (says a h (left_of_two p.env (goal_term p) o a b c)) (says b k (right_of_two p.env (goal_term p) o a b c))
+  says _ (of_not a h) c = says_not a (says a h (part_of (one Not a) a c (inl refl)))
+  says _ (of_two o a b e h k) c = says_two o a b e h k c (says a h (part_of (two o a b) a c (inl refl))) (says b k (part_of (two o a b) b c (inr (inl refl))))
 
   -- ---- whether principal and resource are one
 
-  says_one : p.env.principal ≡ p.env.resource → Says (two Equal (principal_term p.env) (resource_term p.env))
+  says_one : p.env.principal ≡ p.env.resource → Says (two Equal (principal_term p.schema p.env) (resource_term p.schema p.env))
   unfolding val
   says_one e =
       let same : bytes_eq p.env.principal p.env.resource ≡ true = (bytes_eq-Decides p.env.principal p.env.resource).1 e in
@@ -194,23 +190,23 @@ module _ (level : IsLevel) (p : Posed) (posed : IsPosed p) (known : IsKnown p) (
       ∙ ap Some
       (ap (λ (r : Request). value_eq (value.Entity r.principal) (value.Entity r.resource)) request
       ∙ same_number p.env.principal p.env.resource (bytes_eq p.env.principal p.env.resource) (truth_at m (one_entity p)) e same
-      ∙ ap (λ (t : Tree). truth_at m (atom_number p t)) (one_entity_is p.env)
-      ∙ sym (atom_truth (two Equal (principal_term p.env) (resource_term p.env)) refl)
+      ∙ ap (λ (t : Tree). truth_at m (atom_number p t)) (one_entity_is p.schema p.env)
+      ∙ sym (atom_truth (two Equal (principal_term p.schema p.env) (resource_term p.schema p.env)) refl)
       )
 
-  says_kind : (t : Tree) → IsOfGoal p.env type_of_context t → IsClosed t → is_atom t ≡ true → Says t
-  says_kind _ (of_boolean t h) c a = says t h c
-  says_kind _ of_principal c a = absurd (no_atom (principal_term p.env) (s.Entity p.env.principal []) (principal_sort p.env) refl a)
-  says_kind _ of_resource c a = absurd (no_atom (resource_term p.env) (s.Entity p.env.resource []) (resource_sort p.env) refl a)
-  says_kind _ (of_context type fields e f) c a = absurd (no_atom (context_term type) _ (sort_context type fields (are_plain type fields f).is) refl a)
-  says_kind _ (of_entities e) c a = says_one e
+  says_kind : (t : Tree) → IsOfGoal p.schema p.env type_of_context t → IsClosed t → is_atom t ≡ true → Says t
+  says_kind _ (is_boolean t h) c a = says t h c
+  says_kind _ is_principal c a = absurd (no_atom (principal_term p.schema p.env) (s.Entity p.env.principal []) (principal_sort p.schema p.env principal_is) refl a)
+  says_kind _ is_resource c a = absurd (no_atom (resource_term p.schema p.env) (s.Entity p.env.resource []) (resource_sort p.schema p.env resource_is) refl a)
+  says_kind _ (is_context type fields e f) c a = absurd (no_atom (context_term type) _ (sort_context type fields (are_plain type fields f).is) refl a)
+  says_kind _ (is_equation e) c a = says_one e
 
   -- ---- all listed atoms
 
   number_truth : (n : ℕ) (t : Tree) → numbered (atoms p) n ≡ Some t → Has (atoms p) t → atom_number p t ≡ n → truth_at m n ≡ truths p w n
   number_truth n t at h number =
       let (c, a) = atom_closed level p posed t h in
-      let kind = known.kinds t ((posed.are_closed.just t).1 c) in
+      let kind = of_closed level p.schema p.env type_of_context principal_is resource_is (goal_term p) known.boolean c in
       ap (truth_at m) (sym number) ∙ sym (atom_truth t (atom_is_plain level p posed t a)) ∙ sym (truth_seen (val t w) (assigned_truth t) (says_kind t kind c a)) ∙ sym (ap (λ (o : Option Tree). is_true_at o w) at)
 
   there_is : {X : Type 0} (xs : List X) (i : ℕ) → i < length xs → (x : X) × (slice_get xs i ≡ Some x)
@@ -228,4 +224,4 @@ module _ (level : IsLevel) (p : Posed) (posed : IsPosed p) (known : IsKnown p) (
 
   -- the goal is true
   pub goal_is_true : is_true (goal_term p) w ≡ true
-  goal_is_true = truth_seen (val (goal_term p) w) (assigned_truth (goal_term p)) (says (goal_term p) posed.boolean of_goal) ∙ goal_holds p (truth_at m) hold
+  goal_is_true = truth_seen (val (goal_term p) w) (assigned_truth (goal_term p)) (says (goal_term p) known.boolean of_goal) ∙ goal_holds p (truth_at m) hold

@@ -11,7 +11,7 @@ use Rattle.sc_sorts.proofs.OutLaws as sorts
 use Rattle.sc_values.specs.declared.value.Value.{Value, out-Value}
 use Rattle.sc_values.specs.declared.value.Value.TheVariants as value
 use Rattle.sc_values.specs.Records.{Fields, field}
-use Rattle.sc_values.proofs.OutLaws.{out_Bool, out_Entity, out_Record}
+use Rattle.sc_values.proofs.OutLaws.{out_Entity, out_Record}
 use Rattle.sc_term_laws.specs.Booleans.{names_of}
 use Rattle.sc_terms.specs.Values.{Val, it, seen, bool_seen, truth, fields_seen, not_value, and_value, or_value, equal_value, value_eq, field_value}
 use Rattle.sc_solver.proofs.ListLaws.{Has, here, there}
@@ -49,10 +49,6 @@ one_entity_seen a b =
     rw (first, second) (seen_yes (value_eq (value.Entity a) (value.Entity b)))
 
 -- ---- an attribute of the context
-
-taken : (x : Value) (o : Option Value) (b : Bool) → b ≡ true → cond b (Some x) o ≡ Some x
-taken x o true e = refl
-taken x o false e = absurd cc
 
 found_by : (g : List ℕ → Bool) (name n : List ℕ) (o : Option Value) (b : Bool) → bytes_eq name n ≡ b → (b ≡ false → o ≡ Some (value.Bool (g name))) → cond b (Some (value.Bool (g n))) o ≡ Some (value.Bool (g name))
 found_by g name n o true e f = ap (λ k. Some (value.Bool (g k))) (sym ((bytes_eq-Decides name n).0 e))

@@ -1,4 +1,5 @@
 pub mod Rebuilding
 pub mod Contexts
-pub mod Units
+pub mod Kinds
+pub mod Others
 pub mod Solutions

@@ -1,10 +1,8 @@
 -- The world that an assignment of the listed atoms stands for.
-use Rattle.std.specs.Prelude.{◌≡◌, ◌&&◌, ◌≤◌, ℕ, List, map, Bool, false, true, not, Option, Some, None, unwrap_or, IsSome, length, if◌then◌else◌}
+use Rattle.std.specs.Prelude.{◌≡◌, ◌&&◌, ◌≤◌, ℕ, List, map, Bool, false, not, Option, Some, None, unwrap_or, IsTrue, length, if◌then◌else◌}
 use Rattle.std.specs.Fmt.{decimal}
-use Rattle.std.specs.List.{Contains}
 use Rattle.std.specs.Str.{bytes_eq}
-use Rattle.sc_clauses.specs.Clauses.{Clause}
-use Rattle.sc_clauses.specs.Assignments.{Assignment, value_of, falsifies}
+use Rattle.sc_clauses.specs.Assignments.{Assignment, value_of}
 use Rattle.sc_clauses.specs.declared.step.Instance.{Instance}
 use Rattle.sc_names.specs.declared.uid.Uid.{Uid}
 use Rattle.sc_schema.specs.declared.declarations.Env.{Env}
@@ -19,17 +17,15 @@ use Rattle.sc_world.specs.Named.{AreDefaults, StoresNamed}
 use Rattle.sc_sorts.specs.Plain.{Field, plain_fields}
 use Rattle.sc_terms.specs.Folds.{equal_term}
 use Rattle.sc_term_laws.specs.Booleans.{attribute_term}
-use Rattle.sc_boolean_footprint.specs.Closure.{principal_term, resource_term}
-use Rattle.sc_boolean_footprint.specs.Problems.{Posed, atoms, atom_number}
-use Rattle.sc_boolean_footprint.specs.Definitions.{defining}
-use Rattle.sc_boolean_footprint.specs.Truths.{truths}
+use Rattle.sc_closure_rules.specs.Closure.{principal_term, resource_term}
+use Rattle.sc_footprint.specs.Problems.{Posed, atoms, atom_number}
+use Rattle.sc_footprint.specs.Truths.{truths}
 use Rattle.sc_checker.specs.Verdicts.{Rules}
+use Rattle.sc_finding.specs.Findings as found
 
 -- each listed atom has a value, and neither a defining clause nor the clause of an instance of the rules is falsified
-pub record IsConsistent (rules : Rules) (p : Posed) (m : Assignment) : Type 0 where
-  pub total : (n : ℕ) → 1 ≤ n → n ≤ length (atoms p) → IsSome (value_of m n)
-  pub defined : (c : Clause) → Contains (defining p) c → falsifies m c ≡ false
-  pub ruled : (i : Instance) → rules.accepts i ≡ true → falsifies m (rules.clause_of i) ≡ false
+abbrev pub IsConsistent : Rules → Posed → Assignment → Type 0
+IsConsistent rules p m = found.IsConsistent (λ (i : Instance). IsTrue (rules.accepts i)) rules.clause_of p m
 
 -- the value of an atom, `false` where it has none
 abbrev pub truth_at : Assignment → ℕ → Bool
@@ -44,7 +40,7 @@ is_one_type env = bytes_eq env.principal env.resource
 
 -- the number of the atom that principal and resource are one entity
 abbrev pub one_entity : Posed → ℕ
-one_entity p = atom_number p (equal_term (principal_term p.env) (resource_term p.env))
+one_entity p = atom_number p (equal_term (principal_term p.schema p.env) (resource_term p.schema p.env))
 
 -- the resource's number: it is the principal, unless it has another type or the assignment says that they are two
 abbrev pub resource_number : Posed → Assignment → ℕ

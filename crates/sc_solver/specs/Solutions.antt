@@ -1,16 +1,33 @@
 -- What an answer of the solver means.
-use Rattle.std.specs.Prelude.{◌≤◌, ℕ, length}
-use Rattle.sc_boolean_footprint.specs.Problems.{Posed}
-use Rattle.sc_boolean_footprint.specs.Truths.{Satisfies, IsUnsatisfiable}
-use Rattle.sc_checker.specs.Verdicts.{Rules, IsAccepted}
-use Rattle.th_boolean_defs.specs.Instances.{is_definition, definition_clause}
+use Rattle.std.specs.Prelude.{◌≡◌, ◌≤◌, ◌++◌, ℕ, List, length}
+use Rattle.std.specs.List.{Contains}
+use Rattle.sc_world.specs.declared.world.World.{World}
+use Rattle.sc_clauses.specs.Clauses.{Clause}
+use Rattle.sc_clauses.specs.declared.step.Step.{Step}
+use Rattle.sc_search.specs.Propagation.{HasConflict}
+use Rattle.sc_footprint.specs.Definitions.{defining}
+use Rattle.sc_footprint.specs.Problems.{Posed, atoms}
+use Rattle.sc_footprint.specs.Truths.{IsTrueIn, Satisfies, IsUnsatisfiable}
+use Rattle.sc_checker.specs.Verdicts.{Rules, Adds, IsAccepted}
+use Rattle.sc_finding.specs.Units.{AreUnits}
+use Rattle.th_defs.specs.Instances.{is_definition, definition_clause}
 use Rattle.sc_solver.specs.declared.solving.Solved.{Solved}
 use Rattle.sc_solver.specs.declared.solving.Solved.TheVariants.{Refuted, Violated, Spent}
-use Rattle.sc_solver.specs.Units.{IsSpent}
 
 -- the rules of a problem: its defining clauses but the goal's, and so far no others
 abbrev pub rules_of : Posed → Rules
 rules_of p = record { accepts = is_definition p; clause_of = definition_clause p }
+
+-- A log of just so many units: each step is lawful, its clause is a unit after the defining ones and those of the steps before it, and
+-- true in each well-formed world in which the goal is. One more step is due: decisions and unit propagation over all these clauses make
+-- all literals of one of them false.
+pub record IsSpent (rules : Rules) (p : Posed) (budget : ℕ) (steps : List Step) : Type 0 where
+  pub clauses : List Clause
+  pub steps_add : Adds rules (length (atoms p)) (defining p) steps clauses
+  pub count : length steps ≡ budget
+  pub are_units : AreUnits (defining p) clauses
+  pub hold : (w : World) (c : Clause) → Satisfies p w → Contains clauses c → IsTrueIn p w c
+  pub due : HasConflict (defining p ++ clauses)
 
 -- an accepted log of at most so many steps, so that the goal is true in no well-formed world; a well-formed world in which it is; or a
 -- log of as many units as the budget, where one more is due

@@ -1,7 +1,7 @@
 //! The context of a rebuilt world: as it is assigned where it has required truth values alone, and
 //! else as it is by default.
 ghost use Rattle.std.specs.Prelude.{◌≡◌, ◌<◌, Some, length, IfOk, IfSome};
-ghost use Rattle.sc_boolean_footprint.specs.Problems.{atom_number};
+ghost use Rattle.sc_footprint.specs.Problems.{atom_number};
 ghost use Rattle.sc_schema.specs.Declarations.{context_of as type_of_context};
 ghost use Rattle.sc_schema.specs.declared.ty.Ty.{Ty as AnyTy};
 ghost use Rattle.sc_sorts.specs.Plain.{plain_fields as plain_fields_of};
@@ -12,8 +12,8 @@ ghost use Rattle.sc_terms.specs.Finding.{IsFound};
 ghost use Rattle.sc_world.specs.Defaults.{default_fields};
 
 use crate::truth::truth_of;
-use sc_boolean_footprint::Problem;
 use sc_clauses::Assignment;
+use sc_footprint::Problem;
 use sc_lists::{Seq, Text};
 use sc_nodes::{Leaf, Node, UnaryOp};
 use sc_schema::{Presence, Ty, context_of};

@@ -1,34 +1,26 @@
 //! Principal and resource, by what an assignment says of them.
-ghost use Rattle.std.specs.Prelude.{◌≡◌, [], IfOk};
-ghost use Rattle.sc_boolean_footprint.specs.Closure.{principal_term, resource_term};
+ghost use Rattle.std.specs.Prelude.{◌≡◌, IfOk};
+ghost use Rattle.sc_closure_rules.specs.Closure.{principal_term, resource_term};
 ghost use Rattle.sc_solver.specs.Rebuilding as rebuilt;
-ghost use Rattle.sc_sorts.specs.declared.sort.Sort.TheVariants.{Entity};
 ghost use Rattle.sc_terms.specs.Tables.{StandsFor};
 
 use crate::truth::truth_of;
-use sc_boolean_footprint::Problem;
 use sc_clauses::Assignment;
-use sc_lists::{Seq, Text};
+use sc_footprint::Problem;
+use sc_lists::Text;
 use sc_names::{Name, Uid};
 use sc_nodes::{BinaryOp, Leaf, Node};
 use sc_schema::Env;
-use sc_sorts::Sort;
+use sc_sorts::entity_sort;
 use sc_term_laws::order_laws;
 use std::alloc::{AllocError, Global};
 
-/// The sort of entities of a type that isn't one of actions.
-fn entity_sort(alloc: Global, name: &Name) -> Result<Sort, AllocError>
-    ensures { IfOk result (λ s. s ≡ Entity name.now []) }
-{
-    Ok(Sort::Entity(name.try_clone(alloc)?, Seq::new(alloc)))
-}
-
 /// The number of the principal in the table of terms.
 fn principal(alloc: Global, problem: &Problem<'_>) -> Result<u64, AllocError>
-    ensures { IfOk result (λ n. StandsFor problem.now.nodes n (principal_term problem.now.env)) }
+    ensures { IfOk result (λ n. StandsFor problem.now.nodes n (principal_term problem.now.schema problem.now.env)) }
 {
     problem.laws();
-    let sort = entity_sort(alloc, &problem.env().principal)?;
+    let sort = entity_sort(alloc, problem.schema(), &problem.env().principal)?;
     let node = Node::Leaf(Leaf::Principal(sort));
     match problem.terms().find(&node) {
         Some(n) => Ok(n),
@@ -38,10 +30,10 @@ fn principal(alloc: Global, problem: &Problem<'_>) -> Result<u64, AllocError>
 
 /// The number of the resource in the table of terms.
 fn resource(alloc: Global, problem: &Problem<'_>) -> Result<u64, AllocError>
-    ensures { IfOk result (λ n. StandsFor problem.now.nodes n (resource_term problem.now.env)) }
+    ensures { IfOk result (λ n. StandsFor problem.now.nodes n (resource_term problem.now.schema problem.now.env)) }
 {
     problem.laws();
-    let sort = entity_sort(alloc, &problem.env().resource)?;
+    let sort = entity_sort(alloc, problem.schema(), &problem.env().resource)?;
     let node = Node::Leaf(Leaf::Resource(sort));
     match problem.terms().find(&node) {
         Some(n) => Ok(n),

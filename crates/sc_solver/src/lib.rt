@@ -1,13 +1,13 @@
-//! The solver: of a problem it finds a log that refutes its goal, or a well-formed world in which
-//! the goal is true, or it spends its budget.
+//! The solver: of a problem whose goal is of the fragment of Booleans it finds a log that refutes the
+//! goal, or a well-formed world in which the goal is true, or it spends its budget.
 #![tactic(auto)]
 
 mod context;
 mod entities;
+mod others;
 mod rebuilding;
 mod rules;
 mod solving;
-mod source;
 mod truth;
 
 pub use rebuilding::rebuild;

@@ -1,10 +1,11 @@
 //! The rules of problems: the theories that there are.
-ghost use Rattle.th_boolean_defs.specs.Instances.{is_definition, definition_clause};
+ghost use Rattle.std.specs.Prelude.{IsTrue};
+ghost use Rattle.th_defs.specs.Instances.{is_definition, definition_clause};
 
-use sc_boolean_footprint::{Problem, Theory};
 use sc_clauses::{Assignment, Clause, Instance};
+use sc_footprint::{Problem, Theory};
 use std::alloc::{AllocError, Global};
-use th_boolean_defs::Defs;
+use th_defs::Defs;
 
 /// All rules of problems. So far the defining clauses are all that there are.
 #[derive(Drop)]
@@ -21,9 +22,9 @@ impl Rules {
 
 /// An instance is handed to the theory that it belongs to.
 impl Theory for Rules {
-    ghost use Rattle.th_boolean_defs.specs.Laws.{instance_sound, instance_lawful};
+    ghost use Rattle.th_defs.specs.Laws.{instance_sound, instance_lawful, instance_written};
 
-    ghost has_instance = { λ r. is_definition };
+    ghost has_instance = { λ r p i. IsTrue (is_definition p i) };
 
     ghost clause_of = { λ r. definition_clause };
 
@@ -57,4 +58,6 @@ impl Theory for Rules {
     ghost sound = { λ r. instance_sound };
 
     ghost lawful = { λ r. instance_lawful };
+
+    ghost written = { λ r. instance_written };
 }

@@ -1,12 +1,13 @@
 //! The truth that an assignment gives to terms.
 ghost use Rattle.std.specs.Prelude.{◌≡◌, ◌<◌, false, length, IfSome};
-ghost use Rattle.sc_boolean_footprint.specs.Problems.{is_opposite, atom_number};
+ghost use Rattle.sc_closure.specs.Atoms.{is_opposite};
+ghost use Rattle.sc_footprint.specs.Problems.{atom_number};
 ghost use Rattle.sc_solver.specs.Rebuilding.{truth_at};
 ghost use Rattle.sc_terms.specs.Finding.{IsFound};
 ghost use Rattle.sc_terms.specs.Trees.{Tree};
 
-use sc_boolean_footprint::Problem;
 use sc_clauses::{Assignment, Atom};
+use sc_footprint::Problem;
 use sc_term_laws::order_laws;
 
 /// The value of an atom, `false` where it has none.

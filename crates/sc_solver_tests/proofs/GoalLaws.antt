@@ -1,5 +1,5 @@
 -- What is made of goals is a goal, and stays one.
-use Rattle.std.proofs.Common.{◌≡◌, ◌∙◌, ◌<◌, arith, ap, ℕ, List, Some, Bool, option_map, slice_get, get_or, length, Contains, refl, sym, subst}
+use Rattle.std.proofs.Common.{◌≡◌, ◌∙◌, ◌<◌, arith, ap, ℕ, List, [], Option, Some, Bool, false, option_map, slice_get, get_or, length, Contains, refl, sym, subst}
 use Rattle.sc_schema.specs.declared.ty.Ty.{Ty}
 use Rattle.sc_sorts.specs.Plain.{Field, plain_fields}
 use Rattle.sc_sorts.specs.OfTypes.{sort_of}
@@ -9,9 +9,24 @@ use Rattle.sc_nodes.specs.declared.node.Node.{Node}
 use Rattle.sc_terms.specs.Trees.{Tree, leaf}
 use Rattle.sc_terms.specs.Tables.{tree, Keeps, StandsFor}
 use Rattle.sc_terms.specs.Folds.{truth_term, not_term, and_term, or_term, equal_term, field_term}
-use Rattle.sc_term_laws.specs.Booleans.{IsBoolean, of_truth, of_attribute, attribute_term, names_of}
+use Rattle.sc_term_laws.specs.Booleans.{IsBoolean, of_truth, of_attribute, of_not, of_two, attribute_term, names_of}
 use Rattle.sc_term_laws.proofs.BooleansLaws.{not_boolean, and_boolean, or_boolean, equal_boolean, field_attribute}
 use Rattle.std.proofs.lemmas.Option.{slice_get-map, slice_get_read, slice_get_within, get_or_from_slice_get}
+use Rattle.std.specs.List.{AllByRecursion}
+use Rattle.sc_lists.proofs.ListLaws.{contains_nothing}
+use Rattle.sc_names.specs.declared.uid.Uid.{Uid}
+use Rattle.sc_schema.specs.declared.declarations.Env.{Env}
+use Rattle.sc_schema.specs.Declarations.{Declarations, environments}
+use Rattle.sc_world.specs.Named.{IsDeclared}
+use Rattle.sc_sorts.specs.declared.sort.Sort.{roll-Sort, roll-out-Sort}
+use Rattle.sc_sorts.specs.declared.sort.Sort.TheVariants as sort
+use Rattle.sc_sorts.specs.declared.sort.Sort.TheVariants.{rolls-Bool}
+use Rattle.sc_nodes.specs.declared.node.BinaryOp.TheVariants as binary
+use Rattle.sc_terms.specs.TreeSorts.{tree_sort}
+use Rattle.sc_term_laws.specs.Judging.{IsTerm, IsTermOf}
+use Rattle.sc_closure_rules.specs.Goals as closing
+use Rattle.sc_closure_rules.specs.Goals.{has_pick, uids_of}
+use Rattle.sc_solver.proofs.KindLaws.{boolean_sort}
 use Rattle.sc_solver_tests.specs.Goals.{IsGoal}
 
 goal_of : (type : Ty) (nodes : List Node) (n : ℕ) (t : Tree) → StandsFor nodes n t → IsBoolean (Some type) t → IsGoal type nodes n
@@ -51,3 +66,35 @@ equal_goal type xs ys a b n g h s = goal_of type ys n (equal_term (tree xs a) (t
 -- what is a goal in a table is one in what the table grows to
 pub goal_kept : (type : Ty) (old new : List Node) (n : ℕ) → Keeps old new → IsGoal type old n → IsGoal type new n
 goal_kept type old new n kept g = record { within = omega (arith, kept.longer, g.within); boolean = subst (IsBoolean (Some type)) (sym (kept.same n g.within)) g.boolean }
+
+-- ---- a goal that is a term as the constructors make it may be closed
+
+picks_none : (context : Option Ty) (t : Tree) → IsBoolean context t → has_pick t ≡ false
+unfolding has_pick field_term
+picks_none context _ (of_truth b) = refl
+picks_none context _ (of_attribute type fields name e f h) = refl
+picks_none context _ (of_not a h) = picks_none context a h
+picks_none context _ (of_two binary.And a b e h k) = rw (picks_none context a h, picks_none context b k) refl
+picks_none context _ (of_two binary.Or a b e h k) = rw (picks_none context a h, picks_none context b k) refl
+picks_none context _ (of_two binary.Equal a b e h k) = rw (picks_none context a h, picks_none context b k) refl
+picks_none context _ (of_two _ a b e h k) = absurd cc
+
+writes_none : (context : Option Ty) (t : Tree) → IsBoolean context t → uids_of t ≡ []
+unfolding uids_of field_term
+writes_none context _ (of_truth b) = refl
+writes_none context _ (of_attribute type fields name e f h) = refl
+writes_none context _ (of_not a h) = writes_none context a h
+writes_none context _ (of_two o a b e h k) = rw (writes_none context a h, writes_none context b k) refl
+
+pub closing_goal : (d : Declarations) (env : Env) (ls : List Uid) (type : Ty) (nodes : List Node) (n : ℕ) → Contains (environments d) env → ls ≡ [] → IsGoal type nodes n → IsTerm d env ls (tree nodes n)
+    → closing.IsGoal d env ls (tree nodes n)
+closing_goal d env ls type nodes n among none goal term =
+    let t = tree nodes n in
+    let sorted : tree_sort t ≡ sort.Bool = sym (roll-out-Sort (tree_sort t)) ∙ ap roll-Sort (boolean_sort (Some type) t goal.boolean) ∙ rolls-Bool in
+    record {
+      environment = among;
+      term = subst (λ (k : Sort). IsTermOf d env ls k t) sorted term;
+      plain = picks_none (Some type) t goal.boolean;
+      written = λ u k. absurd (contains_nothing u (subst (λ (us : List Uid). Contains us u) (writes_none (Some type) t goal.boolean) k));
+      declared = subst (AllByRecursion (IsDeclared d)) (sym none) tt;
+    }

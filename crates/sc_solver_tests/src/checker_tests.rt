@@ -3,14 +3,14 @@
 
 use crate::problems::{Question, is_so};
 use crate::schemas::USER_DOC;
-use sc_boolean_footprint::Problem;
 use sc_checker::{
     Learned, Log, Reason, Step, Verdict, are_writable, check, is_writable, read_log, write_log,
 };
+use sc_footprint::Problem;
 use sc_lists::{Fault, Seq};
 use std::alloc::{AllocError, Global};
 use std::test::Fail;
-use th_boolean_defs::Defs;
+use th_defs::Defs;
 
 /// Whether a log's text has this verdict.
 #[derive(Drop)]

@@ -4,17 +4,16 @@
 
 use crate::problems::{Question, is_lit, is_so};
 use crate::schemas::USER_DOC;
-use sc_boolean_footprint::{Problem, Theory};
-use sc_clauses::{Assignment, Clause, Instance, Word};
+use sc_clauses::{Assignment, Clauses, Instance, Lit, Word};
+use sc_footprint::{Problem, Theory};
 use sc_lists::{Seq, Text};
 use std::alloc::{AllocError, Global};
 use std::test::Fail;
-use th_boolean_defs::{Defs, defining};
+use th_defs::{Defs, defining};
 
 // ---- defining clauses
 
-fn is_clause(clause: &Clause, numbers: &[i64]) -> bool {
-    let lits = clause.as_slice();
+fn is_clause(lits: &[Lit], numbers: &[i64]) -> bool {
     lits.len() == numbers.len()
         && lits
             .iter()
@@ -22,12 +21,23 @@ fn is_clause(clause: &Clause, numbers: &[i64]) -> bool {
             .all(|pair| is_lit(*pair.0, *pair.1))
 }
 
-fn are_clauses(clauses: &[Clause], wanted: &[&[i64]]) -> bool {
-    clauses.len() == wanted.len()
-        && clauses
-            .iter()
-            .zip(wanted.iter())
-            .all(|pair| is_clause(pair.0, *pair.1))
+fn has_clause(clauses: &Clauses, place: usize, numbers: &[i64]) -> bool {
+    match clauses.get(place) {
+        Some(lits) => is_clause(lits, numbers),
+        None => false,
+    }
+}
+
+fn are_clauses(clauses: &Clauses, wanted: &[&[i64]]) -> bool {
+    if clauses.len() != wanted.len() {
+        return false;
+    }
+    for place in 0..wanted.len() {
+        if !has_clause(clauses, place, wanted[place]) {
+            return false;
+        }
+    }
+    true
 }
 
 /// Whether these clauses, each by its literals, define a problem.

@@ -2,7 +2,7 @@
 
 use crate::problems::{Question, is_lit, is_so};
 use crate::schemas::{TEAM_TEAM, USER_DOC};
-use sc_boolean_footprint::Problem;
+use sc_footprint::Problem;
 use std::alloc::{AllocError, Global};
 use std::test::Fail;
 

@@ -1,22 +1,46 @@
 //! Questions about the problems of goals.
-ghost use Rattle.std.specs.Prelude.{◌≡◌, ◌≤◌, [], Contains, length, IfOk};
-ghost use Rattle.sc_boolean_footprint.specs.Problems.{atoms, most_atoms};
+ghost use Rattle.std.specs.Prelude.{◌≡◌, [], Contains, IfOk, IsTrue};
+ghost use Rattle.sc_closure_rules.specs.Goals as closing;
 ghost use Rattle.sc_schema.specs.Declarations.{environments};
+ghost use Rattle.sc_solver.specs.Kinds.{IsBooleanGoal};
+ghost use Rattle.sc_solver_tests.specs.Goals.{IsGoal};
+ghost use Rattle.sc_terms.specs.Tables.{tree};
 
 use crate::goals::number_of;
 use crate::schemas::schema;
-use sc_boolean_footprint::{OverLimit, Problem, close};
 use sc_clauses::Lit;
+use sc_footprint::{OverLimit, Problem, close};
 use sc_lists::Fault;
 use sc_names::Lits;
-use sc_schema::{Env, Schema, context_of, environments};
+use sc_schema::{Env, Schema, Ty, context_of, environments};
+use sc_term_laws::is_term;
 use sc_terms::Terms;
 use std::alloc::{AllocError, Global};
 
 /// A question about a problem, to be answered by yes.
 pub(crate) trait Question {
     fn ask(&self, alloc: Global, problem: &Problem<'_>) -> Result<bool, AllocError>
-        requires { length (atoms problem.now) ≤ most_atoms };
+        requires { IsBooleanGoal problem.now };
+}
+
+/// Whether a number of a goal stands for a term as the constructors make it.
+#[tactic(auto, using(crate::proofs::GoalLaws::closing_goal))]
+fn is_made(
+    alloc: Global,
+    schema: &Schema,
+    env: &Env,
+    literals: &Lits,
+    ty: &Ty,
+    terms: &Terms,
+    n: u64,
+) -> Result<bool, AllocError>
+    requires environment { Contains (environments schema.now) env.now }
+    requires none { literals.now ≡ [] }
+    requires boolean { IsGoal ty.now terms.now n }
+    ensures { IfOk result (λ b. IsTrue b → closing.IsGoal schema.now env.now literals.now (tree terms.now n)) }
+{
+    let _ = ty;
+    is_term(alloc, schema, env, literals, terms, n)
 }
 
 /// The problem of a goal, which is written.
@@ -29,13 +53,16 @@ fn problem_of<'a>(
 ) -> Result<Problem<'a>, Fault<OverLimit>>
     requires environment { Contains (environments schema.now) env.now }
     requires none { literals.now ≡ [] }
-    ensures { IfOk result (λ p. length (atoms p) ≤ most_atoms) }
+    ensures { IfOk result IsBooleanGoal }
 {
     let Some(ty) = context_of(schema, &env.action) else {
         return Err(Fault::NoMemory);
     };
     let mut terms = Terms::new(alloc)?;
     let number = number_of(alloc, &mut terms, ty, goal)?;
+    if !is_made(alloc, schema, env, literals, ty, &terms, number)? {
+        return Err(Fault::NoMemory);
+    }
     close(alloc, terms, number, schema, env, literals)
 }
 

@@ -2,9 +2,9 @@
 
 use crate::problems::{Question, is_so};
 use crate::schemas::{USER_DOC, USER_USER};
-use sc_boolean_footprint::{Problem, Theory};
 use sc_checker::{Log, Verdict, check};
 use sc_clauses::{Assignment, Instance, Word};
+use sc_footprint::{Problem, Theory};
 use sc_lists::{Seq, Text};
 use sc_names::Uid;
 use sc_solver::{Rules, Solved, solve};

@@ -3,11 +3,11 @@
 
 use crate::problems::{Question, is_so};
 use crate::schemas::USER_DOC;
-use sc_boolean_footprint::Problem;
 use sc_checker::{LogChecker, Reason, Verdict};
+use sc_footprint::Problem;
 use std::alloc::{AllocError, Global};
 use std::test::Fail;
-use th_boolean_defs::Defs;
+use th_defs::Defs;
 
 /// Whether a log's text, byte by byte, has this verdict.
 #[derive(Drop)]

@@ -1,9 +1,9 @@
 //! What the search finds of small problems whose answers are known.
-ghost use Rattle.std.specs.Prelude.{◌≡◌, ◌∷◌, ◌+◌, ◌^◌, ◌<◌, [], true, length, IsTrue};
+ghost use Rattle.std.specs.Prelude.{◌≡◌, ◌∷◌, ◌+◌, ◌^◌, ◌<◌, [], true, length, IfOk, IsTrue};
 ghost use Rattle.std.specs.List.{list_all};
 ghost use Rattle.sc_term_tests.specs.Listed.{all_listed, is_listed};
 
-use sc_clauses::{Assignment, Clause, Instance, Lit, Step};
+use sc_clauses::{Assignment, Clause, Clauses, Instance, Lit, Step};
 use sc_lists::{Seq, Text};
 use sc_search::{Found, Source, search};
 use std::alloc::{AllocError, Global};
@@ -17,7 +17,7 @@ struct Told {
 }
 
 impl Source for Told {
-    ghost accepts = { λ s _. s.first_is_false };
+    ghost has_instance = { λ s _. IsTrue s.first_is_false };
 
     ghost clause_of = { λ _ _. record { atom = 1; negated = true } ∷ [] };
 
@@ -66,6 +66,17 @@ fn clauses_of(alloc: Global, written: &[&[i64]]) -> Result<Seq<Clause>, AllocErr
         clauses.push(clause(alloc, numbers)?)?;
     }
     Ok(clauses)
+}
+
+/// The same clauses in one array.
+fn array_of(alloc: Global, clauses: &[Clause]) -> Result<Clauses, AllocError>
+    ensures { IfOk result (λ array. array ≡ clauses.now) }
+{
+    let mut array = Clauses::new(alloc);
+    for clause in clauses {
+        array.push(clause.as_slice())?;
+    }
+    Ok(array)
 }
 
 fn is_listed(lit: Lit, atoms: u64) -> bool
@@ -148,7 +159,8 @@ fn finds(
     if !all_listed(&clauses, atoms) {
         return Ok(false);
     }
-    let found = search(told.alloc, told, atoms, clauses, budget)?;
+    let array = array_of(told.alloc, clauses.as_slice())?;
+    let found = search(told.alloc, told, atoms, &array, budget)?;
     Ok(is_wanted(&found, wanted))
 }
 

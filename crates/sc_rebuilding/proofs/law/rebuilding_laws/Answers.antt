@@ -1,3 +1,4 @@
+use Rattle.sc_rebuilding.proofs.CoveredLaws.{plain_covered}
 use Rattle.sc_rebuilding.proofs.RebuildLaws.{equations_agree, terms_are_right, truths_are_right}
 use Rattle.sc_rebuilding.proofs.law.rebuilding_laws.Goals as goal
 
@@ -7,6 +8,7 @@ returns-clause-equations c = equations_agree c.closed_laws.ensures.judged (recor
   bits = c.address_laws.ensures.bits;
   only = c.address_laws.ensures.only;
   clauses = c.address_laws.ensures.clauses;
+  range = c.address_laws.ensures.rebuilt_range;
 })
 
 pub returns-clause-terms : goal.returns-clause-terms
@@ -15,7 +17,11 @@ returns-clause-terms c = terms_are_right c.closed_laws.ensures.judged (record {
   bits = c.address_laws.ensures.bits;
   only = c.address_laws.ensures.only;
   clauses = c.address_laws.ensures.clauses;
+  range = c.address_laws.ensures.rebuilt_range;
 })
+
+pub returns-clause-covered : goal.returns-clause-covered
+returns-clause-covered c = plain_covered
 
 pub returns-clause-truths : goal.returns-clause-truths
 returns-clause-truths c = truths_are_right c.closed_laws.ensures.judged (record {
@@ -23,4 +29,5 @@ returns-clause-truths c = truths_are_right c.closed_laws.ensures.judged (record 
   bits = c.address_laws.ensures.bits;
   only = c.address_laws.ensures.only;
   clauses = c.address_laws.ensures.clauses;
+  range = c.address_laws.ensures.rebuilt_range;
 })

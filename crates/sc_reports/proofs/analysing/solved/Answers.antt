@@ -7,7 +7,7 @@ returns-in-Refuted-clause-answer c =
     let solution = rw c.in-Refuted.is at c.in_ok-log.ensures in
     let q = asked_of c.args.schema.now c.args.query.now c.args.budget in (
       refuted-holds c.goal_laws.ensures.right c.literal_laws.ensures q c.args.env.now c.args.problem.now c.laws.ensures.lawful c.requires.problem solution.2,
-      has-room q c.args.env.now c.args.problem.now c.requires.problem c.requires.few,
+      has-room q c.args.env.now c.args.problem.now c.requires.problem,
     )
 
 pub returns-in-Refuted-clause-found : goal.returns-in-Refuted-clause-found
@@ -20,10 +20,10 @@ returns-in-Violated-clause-answer c =
     let solution = rw c.in-Violated.is at c.in_ok-log.ensures in
     let q = asked_of c.args.schema.now c.args.query.now c.args.budget in (
       satisfied-violates c.goal_laws.ensures.right c.literal_laws.ensures q c.args.env.now c.args.problem.now c.in-Violated.world c.laws.ensures.lawful c.requires.problem solution,
-      has-room q c.args.env.now c.args.problem.now c.requires.problem c.requires.few,
+      has-room q c.args.env.now c.args.problem.now c.requires.problem,
     )
 
 pub returns-in-Spent-clause-answer : goal.returns-in-Spent-clause-answer
 returns-in-Spent-clause-answer c =
     let solution = rw c.in-Spent.is at c.in_ok-log.ensures in
-    spent-undecided (asked_of c.args.schema.now c.args.query.now c.args.budget) c.args.env.now c.args.problem.now _ c.requires.problem c.requires.few solution
+    spent-undecided (asked_of c.args.schema.now c.args.query.now c.args.budget) c.args.env.now c.args.problem.now _ c.requires.problem solution

@@ -1,30 +1,27 @@
 use Rattle.std.proofs.Common.{slice_get, sym, subst}
 use Rattle.std.proofs.lemmas.Result.{IfOk-weaker}
 use Rattle.sc_schema.specs.Declarations.{environments}
-use Rattle.sc_reports.proofs.AnalysisLaws.{query-posed, query-problem, query-served, query-too-large, some-goal}
+use Rattle.sc_reports.proofs.AnalysisLaws.{query-first, query-posed, query-problem, query-second, query-served, query-too-large, some-goal}
 use Rattle.sc_reports.proofs.ClaimLaws.{claims-named, named-among}
 use Rattle.sc_reports.specs.Analyses.{asked_of}
 use Rattle.sc_reports.specs.Claims.{Claims, answer_view}
 use Rattle.sc_reports.specs.declared.claims.Answer as code
 use Rattle.sc_reports.proofs.claims.check_claim.Goals as goal
 
-pub check_problem-requires-clause-problem : goal.check_problem-requires-clause-problem
-check_problem-requires-clause-problem g c =
-    let i = c.args.claim.now.asking in
-    let env = c.environment_at-env.result.now in
-    let q = c.in-Ok.query in
-    let among = named-among (environments i.schema) c.args.claim.now.environment env c.environment_at-env.ensures in
-    let posed = some-goal _ (query-posed c.goal_laws.ensures.posed c.goal_laws.ensures.both i.schema env q (query-served i q c.in-Ok.ensures c.requires.allowed) among) in
-    query-problem i.schema env q 0 c.in-Ok-problem_of.problem posed.0 c.laws.ensures c.laws-in-Ok-problem_of.ensures posed.1 (c.in-Ok-problem_of.ensures.ok posed.0 posed.1)
+pub problem_of-requires-clause-first_proper : goal.problem_of-requires-clause-first_proper
+problem_of-requires-clause-first_proper g c = query-first c.args.claim.now.asking c.in-Ok.query c.in-Ok.ensures c.requires.allowed
 
-pub check_problem-requires-clause-few : goal.check_problem-requires-clause-few
-check_problem-requires-clause-few g c =
+pub problem_of-requires-clause-second_proper : goal.problem_of-requires-clause-second_proper
+problem_of-requires-clause-second_proper g c = query-second c.args.claim.now.asking c.in-Ok.query c.in-Ok.ensures c.requires.allowed
+
+pub check_problem-requires : goal.check_problem-requires
+check_problem-requires g c =
     let i = c.args.claim.now.asking in
     let env = c.environment_at-env.result.now in
     let q = c.in-Ok.query in
     let among = named-among (environments i.schema) c.args.claim.now.environment env c.environment_at-env.ensures in
     let posed = some-goal _ (query-posed c.goal_laws.ensures.posed c.goal_laws.ensures.both i.schema env q (query-served i q c.in-Ok.ensures c.requires.allowed) among) in
-    (c.in-Ok-problem_of.ensures.ok posed.0 posed.1).within_limit
+    record { problem = query-problem i.schema env q 0 c.in-Ok-problem_of.problem posed.0 c.laws.ensures c.laws-in-Ok-problem_of.ensures posed.1 (c.in-Ok-problem_of.ensures.ok posed.0 posed.1) }
 
 pub returns-in-Ok-problem_of-clause-claims : goal.returns-in-Ok-problem_of-clause-claims
 returns-in-Ok-problem_of-clause-claims g c =

@@ -1,8 +1,15 @@
 use Rattle.std.proofs.Common.{slice_get}
 use Rattle.sc_schema.specs.Declarations.{environments}
 use Rattle.sc_reports.specs.Analyses.{asked_in}
+use Rattle.sc_reports.proofs.AnalysisLaws.{query-first, query-second}
 use Rattle.sc_reports.proofs.LogLaws.{logged-named}
 use Rattle.sc_reports.proofs.logging.report_log.Goals as goal
+
+pub analyse_env-requires-clause-first_proper : goal.analyse_env-requires-clause-first_proper
+analyse_env-requires-clause-first_proper g c = query-first c.args.inputs.now.analysis.asking c.in-Ok.query c.in-Ok.ensures c.requires.allowed
+
+pub analyse_env-requires-clause-second_proper : goal.analyse_env-requires-clause-second_proper
+analyse_env-requires-clause-second_proper g c = query-second c.args.inputs.now.analysis.asking c.in-Ok.query c.in-Ok.ensures c.requires.allowed
 
 pub returns-in-Ok-analyse_env-clause-reports : goal.returns-in-Ok-analyse_env-clause-reports
 returns-in-Ok-analyse_env-clause-reports g c = λ env at.

@@ -1,11 +1,17 @@
 use Rattle.std.proofs.Common.{◌∙◌}
 use Rattle.sc_reports.specs.Analyses.{asked_in, asked_of}
-use Rattle.sc_reports.proofs.AnalysisLaws.{query-served, query-answered, answer-printable}
+use Rattle.sc_reports.proofs.AnalysisLaws.{query-first, query-second, query-served, query-answered, answer-printable}
 use Rattle.sc_reports.proofs.ReportLaws.{env-reported}
 use Rattle.sc_reports.proofs.reporting.report_env.Goals as goal
 
 pub analyse_env-requires-clause-served : goal.analyse_env-requires-clause-served
 analyse_env-requires-clause-served g c = query-served c.args.inputs.now.asking c.args.query.now c.requires.asked c.requires.allowed
+
+pub analyse_env-requires-clause-first_proper : goal.analyse_env-requires-clause-first_proper
+analyse_env-requires-clause-first_proper g c = query-first c.args.inputs.now.asking c.args.query.now c.requires.asked c.requires.allowed
+
+pub analyse_env-requires-clause-second_proper : goal.analyse_env-requires-clause-second_proper
+analyse_env-requires-clause-second_proper g c = query-second c.args.inputs.now.asking c.args.query.now c.requires.asked c.requires.allowed
 
 pub line_of-requires : goal.line_of-requires
 line_of-requires g c = answer-printable (asked_of c.args.inputs.now.asking.schema c.args.query.now c.args.inputs.now.budget) c.args.env.now c.in-Ok.answer c.in-Ok.ensures.answer

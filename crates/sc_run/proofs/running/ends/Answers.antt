@@ -13,7 +13,7 @@ use Rattle.sc_run.proofs.running.ends.Goals as goal
 pub report-requires-clause-allowed : goal.report-requires-clause-allowed
 report-requires-clause-allowed g c =
     let i = c.in-Ok-Asked.analysis in
-    may-be-asked (g.F.Files.content c.args.files.now) (words_view c.args.words.now) i.asking (reporting i.budget)
+    may-be-asked c.constant_laws.ensures (g.F.Files.content c.args.files.now) (words_view c.args.words.now) i.asking (reporting i.budget)
     (subst (IsRead (g.F.Files.content c.args.files.now) (words_view c.args.words.now)) c.in-Ok-Asked.field-0-is c.in-Ok-Asked.ensures.reads)
 
 pub report-requires-clause-units : goal.report-requires-clause-units
@@ -52,7 +52,7 @@ report_log-requires-clause-environment g c =
 pub report_log-requires-clause-allowed : goal.report_log-requires-clause-allowed
 report_log-requires-clause-allowed g c =
     let i = c.in-Ok-Logged.logging in
-    may-be-asked (g.F.Files.content c.args.files.now) (words_view c.args.words.now) i.analysis.asking (logging i.analysis.budget i.environment)
+    may-be-asked c.constant_laws.ensures (g.F.Files.content c.args.files.now) (words_view c.args.words.now) i.analysis.asking (logging i.analysis.budget i.environment)
     (subst (IsRead (g.F.Files.content c.args.files.now) (words_view c.args.words.now)) c.in-Ok-Logged.field-0-is c.in-Ok-Logged.ensures.reads)
 
 pub report_log-requires-clause-units : goal.report_log-requires-clause-units
@@ -77,7 +77,7 @@ check-requires-clause-environment g c =
 pub check-requires-clause-allowed : goal.check-requires-clause-allowed
 check-requires-clause-allowed g c =
     let i = c.in-Ok-Checked.claim in
-    may-be-asked (g.F.Files.content c.args.files.now) (words_view c.args.words.now) i.asking (checking i.environment i.log.now)
+    may-be-asked c.constant_laws.ensures (g.F.Files.content c.args.files.now) (words_view c.args.words.now) i.asking (checking i.environment i.log.now)
     (subst (IsRead (g.F.Files.content c.args.files.now) (words_view c.args.words.now)) c.in-Ok-Checked.field-0-is c.in-Ok-Checked.ensures.reads)
 
 pub returns-in-Ok-Checked-clause-ends : goal.returns-in-Ok-Checked-clause-ends

@@ -1,15 +1,14 @@
 use Rattle.std.proofs.Common.{◌≡◌, length}
 use Rattle.sc_checker.specs.Progress.{IsChecked}
 use Rattle.sc_checker.specs.Streams.{after}
-use Rattle.sc_checker.specs.Verdicts.{rules_at}
+use Rattle.sc_checker.specs.Verdicts.{Rules, AreRules}
 use Rattle.sc_checker.proofs.line_checker.LineChecker.read.Given as goal
 
 -- the rest leaves what the whole piece leaves
 abbrev pub invariant-loop-line : goal.invariant-loop-line
 invariant-loop-line g l = record {
   checked : IsChecked l.problem l.self.progress;
-  rest : after (rules_at g.T.Theory.has_instance g.T.Theory.clause_of l.rules l.problem) l.self l.rest
-      ≡ after (rules_at g.T.Theory.has_instance g.T.Theory.clause_of l.rules l.problem) l.initial.self l.piece;
+  rest : (tests : Rules) → AreRules g.T.Theory.has_instance g.T.Theory.clause_of l.rules l.problem tests → after tests l.self l.rest ≡ after tests l.initial.self l.piece;
 }
 
 abbrev pub decreases-loop-line : goal.decreases-loop-line

@@ -10,18 +10,18 @@ use Rattle.sc_search.specs.Turns.{IsReady}
 
 pub install-requires-clause-in_cells : goal.install-requires-clause-in_cells
 install-requires-clause-in_cells g c =
-    let A = g.S.Source.accepts c.args.source.now in
+    let A = g.S.Source.has_instance c.args.source.now in
     let K = g.S.Source.clause_of c.args.source.now in
     let s = c.args.self.now in
     let n = length s.trail.cells.items in
     let some : 0 < n = c.requires.some in
     let e : n ≡ n - 1 + 1 = omega arith in
     let ready = subst (λ (m : ℕ). IsReady m s) e c.requires.ready in
-    subst (λ (d : Clause). AllInCells n d) (sym (c.in_ok-clause.ensures c.requires.accepted)) (told-in-cells A K (n - 1) s ready c.requires.total c.args.instance c.requires.accepted c.requires.falsified)
+    subst (λ (d : Clause). AllInCells n d) (sym c.in_ok-clause.ensures) (told-in-cells A K (n - 1) s ready c.requires.total c.args.instance c.requires.accepted c.requires.falsified)
 
 pub returns-then-is_spent : goal.returns-then-is_spent
 returns-then-is_spent g c =
-    let A = g.S.Source.accepts c.args.source.now in
+    let A = g.S.Source.has_instance c.args.source.now in
     let K = g.S.Source.clause_of c.args.source.now in
     let s = c.args.self.now in
     let n = length s.trail.cells.items in
@@ -32,7 +32,7 @@ returns-then-is_spent g c =
 
 pub returns-then-is_empty : goal.returns-then-is_empty
 returns-then-is_empty g c =
-    let A = g.S.Source.accepts c.args.source.now in
+    let A = g.S.Source.has_instance c.args.source.now in
     let K = g.S.Source.clause_of c.args.source.now in
     let s = c.args.self.now in
     let n = length s.trail.cells.items in
@@ -41,7 +41,7 @@ returns-then-is_empty g c =
     let e : n ≡ n - 1 + 1 = omega arith in
     let ready = subst (λ (m : ℕ). IsReady m s) e c.requires.ready in
     let none : length C ≡ 0 = (Decides-eqb (length C) 0).0 (sym c.is_empty-is_empty.ensures ∙ c.if-is_empty.true) in
-    let nil : K c.args.instance ≡ [] = sym (c.in_ok-clause.ensures c.requires.accepted) ∙ nil-of C none in (
+    let nil : K c.args.instance ≡ [] = sym c.in_ok-clause.ensures ∙ nil-of C none in (
       record {
         step = Instance c.args.instance;
         is_lawful = told-lawful A K (n - 1) s ready c.requires.total c.args.instance c.requires.accepted c.requires.falsified;
@@ -53,7 +53,7 @@ returns-then-is_empty g c =
 
 pub returns : goal.returns
 returns g c =
-    let A = g.S.Source.accepts c.args.source.now in
+    let A = g.S.Source.has_instance c.args.source.now in
     let K = g.S.Source.clause_of c.args.source.now in
     let s = c.args.self.now in
     let n = length s.trail.cells.items in
@@ -63,13 +63,13 @@ returns g c =
     let ready = subst (λ (m : ℕ). IsReady m s) e c.requires.ready in
     let test : eqb (length C) 0 ≡ false = sym c.is_empty-is_empty.ensures ∙ c.if-is_empty.false in
     let not_nil = λ (nil : K c.args.instance ≡ []).
-    let is : C ≡ [] = c.in_ok-clause.ensures c.requires.accepted ∙ nil in
+    let is : C ≡ [] = c.in_ok-clause.ensures ∙ nil in
     let none : eqb (length C) 0 ≡ true = (Decides-eqb (length C) 0).1 (ap length is) in
     true≢false (sym none ∙ test) in (
       record {
         step = Instance c.args.instance;
         is_unit = told-unit A K (n - 1) s ready c.requires.total c.args.instance c.requires.accepted c.requires.falsified not_nil;
-        clauses_more = c.in_ok-install.ensures.clauses ∙ ap (λ (d : Clause). s.clauses.items ++ d ∷ []) (c.in_ok-clause.ensures c.requires.accepted);
+        clauses_more = c.in_ok-install.ensures.clauses ∙ ap (λ (d : Clause). s.clauses.items ++ d ∷ []) c.in_ok-clause.ensures;
         steps_more = c.in_ok-install.ensures.steps;
         ready = subst (λ (m : ℕ). IsReady m c.install.new.self) e c.in_ok-install.ensures.ready;
       },

@@ -30,7 +30,7 @@ settle-requires-clause-few_clauses g c =
 
 pub returns-in-Some : goal.returns-in-Some
 returns-in-Some g c =
-    let A = g.S.Source.accepts c.args.source.now in
+    let A = g.S.Source.has_instance c.args.source.now in
     let K = g.S.Source.clause_of c.args.source.now in
     let s = c.rest.new.self in
     let n = length c.args.self.now.trail.cells.items in
@@ -53,7 +53,7 @@ tell-requires-clause-total g c = subst (λ (r : Option ℕ). IsAtRest c.rest.new
 
 pub tell-requires-clause-accepted : goal.tell-requires-clause-accepted
 tell-requires-clause-accepted g c =
-    subst (λ (o : Option Instance). IfSome o (λ i. g.S.Source.accepts c.args.source.now i ≡ true)) c.in-Some-2.is c.in_ok-violated.ensures.accepted
+    subst (λ (o : Option Instance). IfSome o (g.S.Source.has_instance c.args.source.now)) c.in-Some-2.is c.in_ok-violated.ensures.accepted
 
 pub tell-requires-clause-falsified : goal.tell-requires-clause-falsified
 tell-requires-clause-falsified g c =
@@ -62,7 +62,7 @@ tell-requires-clause-falsified g c =
 
 pub returns-in-None : goal.returns-in-None
 returns-in-None g c =
-    let A = g.S.Source.accepts c.args.source.now in
+    let A = g.S.Source.has_instance c.args.source.now in
     let K = g.S.Source.clause_of c.args.source.now in
     let s = c.rest.new.self in
     let n = length c.args.self.now.trail.cells.items in
@@ -74,7 +74,7 @@ returns-in-None g c =
 
 pub returns-in-Some-2 : goal.returns-in-Some-2
 returns-in-Some-2 g c =
-    let A = g.S.Source.accepts c.args.source.now in
+    let A = g.S.Source.has_instance c.args.source.now in
     let K = g.S.Source.clause_of c.args.source.now in
     let s = c.rest.new.self in
     let n = length c.args.self.now.trail.cells.items in

@@ -1,0 +1,7 @@
+mod FoldLaws
+mod OrderLaws
+mod ValueLaws
+mod SaidLaws
+mod GivenLaws
+mod RequestLaws
+mod TellingLaws

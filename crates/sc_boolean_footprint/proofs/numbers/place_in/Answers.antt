@@ -1,8 +1,0 @@
-use Rattle.sc_boolean_footprint.proofs.IndexLaws.{place_found, place_missing}
-use Rattle.sc_boolean_footprint.proofs.numbers.place_in.Goals as goal
-
-pub returns-in-Some : goal.returns-in-Some
-returns-in-Some c = place_found c.args.numbers.now.keys c.args.n c.in-Some.before c.in-Some.ensures.index
-
-pub returns-in-None : goal.returns-in-None
-returns-in-None c = place_missing c.args.numbers.now.keys c.args.n c.in-None.ensures.index

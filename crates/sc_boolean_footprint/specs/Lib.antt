@@ -1,9 +1,0 @@
-pub mod Closure
-pub mod Problems
-pub mod Definitions
-pub mod Truths
-pub mod Theories
-pub mod Indices
-pub mod Following
-pub mod Sorting
-pub mod Kinds

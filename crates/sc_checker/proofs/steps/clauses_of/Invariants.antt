@@ -1,5 +1,0 @@
-use Rattle.std.proofs.Common.{◌≡◌, take}
-use Rattle.sc_checker.proofs.steps.clauses_of.Given as goal
-
-abbrev pub invariant-loop-clause : goal.invariant-loop-clause
-invariant-loop-clause l = l.array ≡ take l.clause-index l.clause-items

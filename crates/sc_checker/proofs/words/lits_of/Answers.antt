@@ -1,7 +1,0 @@
-use Rattle.sc_checker.specs.Texts.{lit_text}
-use Rattle.sc_checker.specs.Writable.{is_lit}
-use Rattle.sc_checker.proofs.WordLaws.{each_none}
-use Rattle.sc_checker.proofs.words.lits_of.Goals as goal
-
-pub returns-in_default : goal.returns-in_default
-returns-in_default c = each_none is_lit lit_text (λ w. w.now) c.args.words.now c.loop-word.word-index _ c.loop-word-test.true c.in_default.ensures

@@ -1,0 +1,11 @@
+mod NumberLaws
+mod PlaceLaws
+mod InstanceLaws
+mod RulesFree
+mod PatternLaws
+mod StringsFree
+mod TruthLaws
+mod CrowdLaws
+mod WrittenStrings
+mod StringsHold
+mod ConsistencyLaws

@@ -1,0 +1,5 @@
+pub mod ListLaws
+pub mod LitLaws
+mod StepLaws
+mod UnitLaws
+mod FindingLaws

@@ -1,0 +1,49 @@
+//! What a search finds of a problem.
+ghost use Rattle.std.specs.Prelude.{◌≡◌, ◌≤◌, false, [], IfOk};
+ghost use Rattle.std.specs.Str.{bytes_eq};
+ghost use Rattle.sc_clauses.specs.declared.step.Instance.{Instance as AnyInstance};
+ghost use Rattle.sc_finding.specs.Findings.{IsFinding};
+
+use sc_checker::Log;
+use sc_clauses::Assignment;
+use sc_footprint::{Problem, Theory, problem_laws};
+use sc_search::{Found, search};
+use sc_sources::RulesAt;
+use std::alloc::{AllocError, Global};
+use th_defs::{defining, defining_laws};
+
+/// What a search finds.
+#[derive(Drop)]
+pub enum Finding {
+    /// The goal is true in no well-formed world; the log shows it.
+    Refuted(Log),
+    /// An assignment that falsifies neither a defining clause nor that of an instance.
+    Consistent(Assignment),
+    /// A log of as many units as the budget, where one more step is due.
+    Spent(Log),
+}
+
+/// What a search finds of a problem under the rules of a theory, whose instances have words. Want of
+/// memory is its one fault.
+pub fn find<T: Theory>(
+    alloc: Global,
+    theory: &T,
+    problem: &Problem<'_>,
+    budget: u64,
+) -> Result<Finding, AllocError>
+    requires budget { budget ≤ 1000000000 }
+    requires words { (i : AnyInstance) → T.has_instance theory.now problem.now i → bytes_eq i.rule [] ≡ false }
+    ensures { IfOk result (IsFinding (T.has_instance theory.now problem.now) (T.clause_of theory.now problem.now)
+        problem.now budget) }
+{
+    problem.laws();
+    problem_laws();
+    defining_laws();
+    let clauses = defining(alloc, problem)?;
+    let source = RulesAt::new(alloc, theory, problem);
+    match search(alloc, &source, problem.atom_count(), &clauses, budget)? {
+        Found::Refuted(steps) => Ok(Finding::Refuted(Log::new(steps))),
+        Found::Consistent(m) => Ok(Finding::Consistent(m)),
+        Found::Spent(steps) => Ok(Finding::Spent(Log::new(steps))),
+    }
+}

@@ -1,0 +1,8 @@
+pub mod ConformingLaws
+pub mod SaidLaws
+pub mod ClosureLaws
+pub mod SortedVals
+pub mod FittingLaws
+pub mod DefaultLaws
+pub mod EntityLaws
+pub mod ActionLaws

@@ -1,0 +1,9 @@
+mod OrderLaws
+mod FirstLaws
+mod SaidLaws
+mod TypeLaws
+mod GivenLaws
+mod EntryLaws
+mod RequestLaws
+mod SoundLaws
+mod RowLaws

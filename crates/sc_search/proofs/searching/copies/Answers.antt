@@ -1,0 +1,24 @@
+use Rattle.std.proofs.Common.{◌++◌, [], ◌∷◌, ◌∙◌, List, sym, ap, arith}
+use Rattle.sc_clauses.specs.Clauses.{Clause}
+use Rattle.sc_search.proofs.CopyLaws.{copied_more, copied_all, place_inside}
+use Rattle.sc_search.proofs.searching.copies.Goals as goal
+
+pub overflow_add-place : goal.overflow_add-place
+overflow_add-place c =
+    let below = place_inside c.args.clauses.now c.loop-clause.place c.in-Some.clause.now (sym c.in-Some.ensures) in
+    record { fits = omega (arith, below, c.len-count.ensures, c.len-count.type_inv) }
+
+pub loop-clause-smaller : goal.loop-clause-smaller
+loop-clause-smaller c = let below = place_inside c.args.clauses.now c.loop-clause.place c.in-Some.clause.now (sym c.in-Some.ensures) in omega (arith, below)
+
+pub loop-clause-preserved : goal.loop-clause-preserved
+loop-clause-preserved c =
+    let below = place_inside c.args.clauses.now c.loop-clause.place c.in-Some.clause.now (sym c.in-Some.ensures) in
+    record {
+      within = omega (arith, below);
+      copied = c.in_ok-push.ensures.ok ∙ ap (λ (d : Clause). c.loop-clause.copies ++ d ∷ []) c.in_ok-copy_of.ensures
+          ∙ ap (λ (l : List Clause). l ++ c.in-Some.clause.now ∷ []) c.loop-clause.invariant.copied ∙ sym (copied_more c.args.clauses.now c.loop-clause.place c.in-Some.clause.now (sym c.in-Some.ensures));
+    }
+
+pub returns : goal.returns
+returns c = c.loop-clause.invariant.copied ∙ copied_all c.args.clauses.now c.loop-clause.place (sym c.in_default.ensures)

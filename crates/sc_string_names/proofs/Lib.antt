@@ -1,0 +1,6 @@
+mod PlaceLaws
+mod TruthLaws
+mod PatternLaws
+mod ClassLaws
+mod TableLaws
+pub mod NamingLaws

@@ -1,0 +1,6 @@
+pub mod Truths
+pub mod Numbers
+pub mod Patterns
+pub mod Classes
+pub mod Tables
+pub mod Naming

@@ -1,0 +1,75 @@
+//! The patterns of a problem: those that closed terms ask, each once, in the order of terms.
+ghost use Rattle.std.specs.Prelude.{◌≡◌, ◌<◌, ◌+◌, length, Some, IfOk, OnOk};
+ghost use Rattle.std.specs.List.{list_any};
+ghost use Rattle.std.specs.Option.{option_copied};
+ghost use Rattle.sc_footprint.specs.Problems.{numbered};
+ghost use Rattle.sc_terms.specs.Tables.{tree};
+ghost use Rattle.sc_pattern.specs.contracts.pattern.PatternPartialEq.TheImpl.{ghosts as same};
+ghost use Rattle.sc_string_rows.specs.Patterns.{asked_of, with_new, patterns as patterns_in};
+
+use sc_footprint::Problem;
+use sc_nodes::{Node, UnaryOp};
+use sc_pattern::Pattern;
+use std::alloc::{AllocError, Global};
+
+/// The closed term of a place, counted from 0, by its number in the table.
+pub fn closed_at(problem: &Problem<'_>, place: u64) -> u64
+    requires { place < length problem.now.closed }
+    ensures within { result < length problem.now.nodes }
+    ensures number { numbered problem.now.closed (place + 1) ≡ Some result }
+{
+    problem.laws();
+    match problem.term(place + 1) {
+        Some(n) => n,
+        None => unreachable!(),
+    }
+}
+
+/// The pattern that a term asks.
+fn asked_at<'a>(problem: &'a Problem<'_>, n: u64) -> Option<&'a Pattern>
+    requires { n < length problem.now.nodes }
+    ensures { option_copied result ≡ asked_of (tree problem.now.nodes n) }
+{
+    match problem.terms().node(n) {
+        Node::One(UnaryOp::Like(pattern), _) => Some(pattern),
+        _ => None,
+    }
+}
+
+/// Whether a pattern is one of some.
+fn is_among(patterns: &[Pattern], pattern: &Pattern) -> bool
+    ensures { result ≡ list_any (same.eq pattern.now) patterns.now }
+{
+    patterns.iter().any(|other| pattern == other)
+}
+
+/// Puts a pattern after the others, if it is a new one.
+fn put_new(
+    alloc: Global,
+    patterns: &mut Vec<Pattern>,
+    asked: Option<&Pattern>,
+) -> Result<(), AllocError>
+    ensures { OnOk result (patterns.new.items ≡ with_new patterns.old.items (option_copied asked.entry)) }
+{
+    let Some(pattern) = asked else {
+        return Ok(());
+    };
+    if is_among(patterns.as_slice(), pattern) {
+        return Ok(());
+    }
+    patterns.push(pattern.try_clone(alloc)?)?;
+    Ok(())
+}
+
+/// The patterns of a problem.
+#[tactic(auto, using(crate::proofs::PatternLaws::asked_more, crate::proofs::PatternLaws::asked_all))]
+pub fn patterns(alloc: Global, problem: &Problem<'_>) -> Result<Vec<Pattern>, AllocError>
+    ensures { IfOk result (λ v. v.items ≡ patterns_in problem.now) }
+{
+    let mut patterns = Vec::new(alloc);
+    for place in 0..problem.closed_count() {
+        let asked = asked_at(problem, closed_at(problem, place));
+        put_new(alloc, &mut patterns, asked)?;
+    }
+    Ok(patterns)
+}

@@ -1,0 +1,5 @@
+pub mod Families
+pub mod Theories
+pub mod FamilyLaws
+pub mod OtherLaws
+pub mod RuleLaws

@@ -1,0 +1,5 @@
+mod NumberLaws
+mod FreeLaws
+mod CompositeLaws
+mod WholeLaws
+mod TheoryLaws

@@ -1,0 +1,28 @@
+//! Equations of the table, and the numbers of closed terms.
+ghost use Rattle.std.specs.Prelude.{◌<◌, length};
+ghost use Rattle.sc_terms.specs.Tables.{tree};
+ghost use Rattle.th_equal.specs.Equations.{AreSidesIf, IsNumberIf};
+
+use sc_footprint::Problem;
+use sc_nodes::{BinaryOp, Node};
+
+/// The sides of an equation, by their numbers in the table. None exactly of another term.
+pub(crate) fn sides(problem: &Problem<'_>, at: u64) -> Option<(u64, u64)>
+    requires { at < length problem.now.nodes }
+    ensures { AreSidesIf problem.now (tree problem.now.nodes at) result }
+{
+    match problem.terms().node(at) {
+        Node::Two(BinaryOp::Equal, a, b) => Some((*a, *b)),
+        _ => None,
+    }
+}
+
+/// The number of a closed term. None exactly of a term that isn't closed.
+pub(crate) fn number(problem: &Problem<'_>, at: u64) -> Option<u64>
+    requires { at < length problem.now.nodes }
+    ensures { IsNumberIf problem.now (tree problem.now.nodes at) result }
+{
+    problem.laws();
+    problem.terms().laws();
+    problem.number_of(at)
+}

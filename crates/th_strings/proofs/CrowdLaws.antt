@@ -1,0 +1,313 @@
+-- Strings that can't all be told apart: each crowd is a falsified instance of ST3, and there is no other.
+use Rattle.std.proofs.Common.{◌≡◌, ◌≢◌, ◌<◌, ◌≤◌, ◌&&◌, ◌==◌, ℕ, zero, suc, Bool, true, false, inl, inr, List, [], ◌∷◌, map, length, slice_get, get_or, Option, Some, None, IfSome, IfNone, unwrap_or, refl, sym, ap, ◌∙◌, subst, arith, eq-eqb}
+use Rattle.std.proofs.lemmas.Bool.{and_parts}
+use Rattle.std.proofs.lemmas.List.{length-map}
+use Rattle.std.proofs.lemmas.List.Elements.{All-from_recursion, recursion_from_All}
+use Rattle.std.proofs.lemmas.List.Kept.{AllPairs-cons}
+use Rattle.std.specs.Bool.{⊤}
+use Rattle.std.specs.List.{All, AllByRecursion, AllPairs, list_all}
+use Rattle.sc_lists.proofs.NumberLaws.{nat_eq_true}
+use Rattle.sc_lists.proofs.OptionLaws.{same_some}
+use Rattle.sc_lists.specs.Members.{Has}
+use Rattle.sc_languages.specs.Strings.{AreDistinct}
+use Rattle.sc_clauses.specs.Assignments.{Assignment}
+use Rattle.sc_terms.specs.Tables.{tree}
+use Rattle.sc_terms.specs.Trees.{Tree}
+use Rattle.sc_footprint.specs.Problems.{Posed, IsPosed, term_of}
+use Rattle.sc_instances.proofs.FalseLaws.{true_isnt_false}
+use Rattle.sc_instances.specs.Known.{is_falsified}
+use Rattle.sc_rules.specs.Signed.{given}
+use Rattle.sc_rules.specs.Strings.{Pattern, Signs, AreFew, crowd, st3}
+use Rattle.sc_rules.specs.Terms.{is_string}
+use Rattle.sc_string_rows.proofs.FewLaws.{few_greater, few_asked, distinct_within}
+use Rattle.sc_string_rows.specs.Instances.{all_at, on_all, with_term}
+use Rattle.sc_string_rows.specs.declared.rule.StringRule.{StringRule}
+use Rattle.sc_string_rows.specs.declared.rule.StringRule.TheVariants.{St3}
+use Rattle.sc_violated.specs.declared.crowds.Crowd.{Crowd}
+use Rattle.sc_violated.specs.Crowds.{Fits, IsCrowd, IsWithin, NoneCrowded}
+use Rattle.th_strings.specs.Known.{few_items, named_at, row_at, row_of, sign_of, truth_of}
+use Rattle.th_strings.specs.Scarce.{AreScarce, IsScarce, IsScarceIf}
+use Rattle.th_strings.specs.Texts.{AreTexts}
+use Rattle.th_strings.specs.Violated.{IsViolated, AreCrowdsFree, IsRuleOf}
+use Rattle.th_strings.proofs.MatchLaws.{string_text}
+use Rattle.th_strings.proofs.TheoryLaws.{rule_out}
+use Rattle.th_strings.proofs.OutLaws.{AreApart, AreAllApart, outs, broken, crowd_out, out_crowd}
+use Rattle.th_strings.proofs.PlaceLaws.{equal_known, few_is, has_place, number_named, named_place, truth_view, truth_is, sign_is}
+
+-- ---- lists
+
+all_map : {X Y : Type 0} (P : Y → Type 0) (f : X → Y) (xs : List X) → AllByRecursion (λ x. P (f x)) xs → AllByRecursion P (map f xs)
+all_map P f [] h = tt
+all_map P f (x ∷ xs) h = (h.0, all_map P f xs h.1)
+
+map_all : {X Y : Type 0} (P : Y → Type 0) (f : X → Y) (xs : List X) → AllByRecursion P (map f xs) → AllByRecursion (λ x. P (f x)) xs
+map_all P f [] h = tt
+map_all P f (x ∷ xs) h = (h.0, map_all P f xs h.1)
+
+all_both : {X : Type 0} (P Q R : X → Type 0) → ((x : X) → P x → Q x → R x) → (xs : List X) → AllByRecursion P xs → AllByRecursion Q xs → AllByRecursion R xs
+all_both P Q R f [] h k = tt
+all_both P Q R f (x ∷ xs) h k = (f x h.0 k.0, all_both P Q R f xs h.1 k.1)
+
+all_strings : (ts : List Tree) → AllByRecursion (λ t. is_string t ≡ true) ts → list_all is_string ts ≡ true
+all_strings [] h = refl
+all_strings (t ∷ ts) h = rw (h.0, all_strings ts h.1) refl
+
+strings_all : (ts : List Tree) → list_all is_string ts ≡ true → AllByRecursion (λ t. is_string t ≡ true) ts
+strings_all [] h = tt
+strings_all (t ∷ ts) h = let r = and_parts (is_string t) (list_all is_string ts) h in (r.0, strings_all ts r.1)
+
+pairs_first : {X : Type 0} (R : X → X → Type 0) (x : X) (xs : List X) → AllPairs R (x ∷ xs) → All (R x) xs
+pairs_first R x xs h = λ i d less. h 0 (suc i) d (omega arith) (omega (arith, less))
+
+pairs_rest : {X : Type 0} (R : X → X → Type 0) (x : X) (xs : List X) → AllPairs R (x ∷ xs) → AllPairs R xs
+pairs_rest R x xs h = λ i j d low high. h (suc i) (suc j) d (omega (arith, low)) (omega (arith, high))
+
+with_view : (o : Option Tree) (q : Option (List Tree)) (us : List Tree) → with_term o q ≡ Some us → (t : Tree) × (ts : List Tree) × (o ≡ Some t) × (q ≡ Some ts) × (us ≡ t ∷ ts)
+with_view (Some t) (Some ts) us e = let same : t ∷ ts ≡ us = cc in (t, ts, refl, refl, sym same)
+with_view (Some t) None us e = absurd cc
+with_view None q us e = absurd cc
+
+all_has : {X : Type 0} (P : X → Type 0) (xs : List X) (x : X) → AllByRecursion P xs → Has xs x → P x
+all_has P [] x h k = absurd k
+all_has P (y ∷ ys) x h (inl e) = subst P e h.0
+all_has P (y ∷ ys) x h (inr k) = all_has P ys x h.1 k
+
+-- ---- ST3 of terms
+
+module _ (p : Posed) (m : Assignment) (qs : List Pattern) (v : Signs) where
+  st3_out : (ts : List Tree) → length v ≡ length qs → AllByRecursion (λ t. is_string t ≡ true) ts → AllByRecursion (λ t. IsWithin v (row_at p m qs t)) ts → AreAllApart p m ts → is_falsified p m (st3 qs v ts) ≡ true
+  unfolding is_falsified
+  st3_out ts size strings fit apart =
+      let same : (length v == length qs) ≡ true = eq-eqb (length v) (length qs) size in
+      rw (same, all_strings ts strings) (broken p m (crowd qs v ts) (crowd_out p m qs v ts fit apart))
+
+  out_st3 : (ts : List Tree) → is_falsified p m (st3 qs v ts) ≡ true
+      → (length v ≡ length qs) × AllByRecursion (λ t. is_string t ≡ true) ts × AllByRecursion (λ t. IsWithin v (row_at p m qs t)) ts × AreAllApart p m ts
+  unfolding is_falsified
+  out_st3 ts = by (length v == length qs) (list_all is_string ts) refl refl
+    where
+      by : (a b : Bool) → (length v == length qs) ≡ a → list_all is_string ts ≡ b → is_falsified p m (given (a && b) (crowd qs v ts)) ≡ true
+          → (length v ≡ length qs) × AllByRecursion (λ t. is_string t ≡ true) ts × AllByRecursion (λ t. IsWithin v (row_at p m qs t)) ts × AreAllApart p m ts
+      by true true e f h =
+          let size : length v ≡ length qs = nat_eq_true (length v) (length qs) e in
+          let r = out_crowd p m qs v ts (omega (arith, size)) (outs p m (crowd qs v ts) h) in
+          (size, strings_all ts f, r.0, r.1)
+      by true false e f h = absurd cc
+      by false b e f h = absurd cc
+
+  all_view : (o : Option (List Tree)) → is_falsified p m (on_all o (st3 qs v)) ≡ true → (ts : List Tree) × (o ≡ Some ts) × (is_falsified p m (st3 qs v ts) ≡ true)
+  unfolding is_falsified
+  all_view (Some ts) h = (ts, refl, h)
+  all_view None h = absurd cc
+
+-- ---- a crowd of numbers of closed terms
+
+module _ (p : Posed) (m : Assignment) (qs : List Pattern) (ns : List ℕ) where
+  abbrev pub rows : List Signs
+  rows = map (λ n. row_of p m qs (term_of p n)) ns
+
+  abbrev pub number : ℕ → ℕ
+  number i = get_or ns i 0
+
+  -- the closed term at a place
+  abbrev at : ℕ → Tree
+  at i = tree p.nodes (unwrap_or (named_at p ns i) 0)
+
+  abbrev IsNamed : ℕ → Type 0
+  IsNamed i = (x : ℕ) × (named_at p ns i ≡ Some x)
+
+  at_named : (i x : ℕ) → named_at p ns i ≡ Some x → at i ≡ tree p.nodes x
+  at_named i x e = ap (λ (o : Option ℕ). tree p.nodes (unwrap_or o 0)) e
+
+  term_at : (i : ℕ) → IsNamed i → term_of p (number i) ≡ Some (at i)
+  term_at i (x, e) = (number_named p m ns i x e).1 ∙ ap Some (sym (at_named i x e))
+
+  terms_at : (items : List ℕ) → AllByRecursion IsNamed items → all_at p (map number items) ≡ Some (map at items)
+  terms_at [] h = refl
+  terms_at (i ∷ items) h = ap (λ (o : Option Tree). with_term o (all_at p (map number items))) (term_at i h.0) ∙ ap (with_term (Some (at i))) (terms_at items h.1)
+
+  apart_at : (i j : ℕ) → truth_of p m ns i j ≡ Some false → AreApart p m (at i) (at j)
+  apart_at i j e =
+      let (x, y, f, g, k) = truth_view p m ns i j false e in
+      ap (λ (t : Tree). equal_known p m t (at j)) (at_named i x f) ∙ ap (equal_known p m (tree p.nodes x)) (at_named j y g) ∙ k
+
+  sign_at : (i j : ℕ) → IsNamed i → sign_of rows i j ≡ get_or (row_at p m qs (at i)) j None
+  sign_at i j (x, e) = sign_is p m ns qs i j x e ∙ ap (λ (t : Tree). get_or (row_at p m qs t) j None) (sym (at_named i x e))
+
+  all_apart : (items : List ℕ) → AllPairs (λ i j. truth_of p m ns i j ≡ Some false) items → AreAllApart p m (map at items)
+  all_apart [] h = tt
+  all_apart (i ∷ items) h = (
+    all_map (AreApart p m (at i)) at items (all_both (λ j. truth_of p m ns i j ≡ Some false) (λ j. ⊤) (λ j. AreApart p m (at i) (at j)) (λ j e k. apart_at i j e) items
+        (recursion_from_All (λ j. truth_of p m ns i j ≡ Some false) items (pairs_first (λ i j. truth_of p m ns i j ≡ Some false) i items h)) (all_true items)),
+    all_apart items (pairs_rest (λ i j. truth_of p m ns i j ≡ Some false) i items h),
+  )
+    where
+      all_true : (xs : List ℕ) → AllByRecursion (λ (j : ℕ). ⊤) xs
+      all_true [] = tt
+      all_true (x ∷ xs) = (tt, all_true xs)
+
+  -- the term of a scarce number is a string
+  scarce_named : (count i : ℕ) → AllByRecursion (IsScarce p m qs count) ns → i < length ns → IsNamed i × (is_string (at i) ≡ true)
+  scarce_named count i each less = by ns i each less refl
+    where
+      place : (xs : List ℕ) (k : ℕ) → AllByRecursion (IsScarce p m qs count) xs → k < length xs → (n : ℕ) × (slice_get xs k ≡ Some n) × IsScarce p m qs count n
+      place [] k h l = absurd (omega (arith, l))
+      place (x ∷ xs) zero h l = (x, refl, h.0)
+      place (x ∷ xs) (suc k) h l = place xs k h.1 (omega (arith, l))
+
+      term_is : (o : Option Tree) → IsScarceIf p m qs count o → (t : Tree) × (o ≡ Some t) × (is_string t ≡ true)
+      term_is (Some t) h = (t, refl, h.0)
+      term_is None h = absurd h
+
+      by : (xs : List ℕ) (k : ℕ) → AllByRecursion (IsScarce p m qs count) xs → k < length xs → xs ≡ ns → IsNamed k × (is_string (at k) ≡ true)
+      by xs k h l same =
+          let (n, there, own) = place xs k h l in
+          let (t, t_is, string) = term_is (term_of p n) own in
+          let (x, named, x_is) = named_place p m ns k n t (subst (λ (ys : List ℕ). slice_get ys k ≡ Some n) same there) t_is in
+          ((x, named), ap is_string (at_named k x named ∙ x_is) ∙ string)
+
+  abbrev pub Crowded : List ℕ → Signs → Type 0
+  Crowded items signs = IsCrowd (truth_of p m ns) (sign_of rows) (AreFew qs) (few_items (length ns)) (length qs) items signs
+
+  module _ (posed : IsPosed p) (count : ℕ) (all : List ℕ) (texts : AreTexts p all) (scarce : AreScarce p m qs count all ns) where
+    size_is : few_items (length ns) ≡ length ns
+    size_is = few_is p (length ns) posed (omega (arith, scarce.few, texts.few))
+
+    pub items_within : (items : List ℕ) (signs : Signs) → Crowded items signs → AllByRecursion (λ i. i < length ns) items
+    items_within items signs c = recursion_from_All (λ i. i < length ns) items (subst (λ k. All (λ i. i < k) items) size_is c.chosen.within)
+
+    pub crowd_found : (items : List ℕ) (signs : Signs) → Crowded items signs → IsViolated p m qs (St3 signs (map number items))
+    crowd_found items signs c =
+        let within = items_within items signs c in
+        let named = all_both (λ i. i < length ns) (λ i. i < length ns) IsNamed (λ i l k. (scarce_named count i scarce.each l).0) items within within in
+        let strings = all_both (λ i. i < length ns) (λ i. i < length ns) (λ i. is_string (at i) ≡ true) (λ i l k. (scarce_named count i scarce.each l).1) items within within in
+        let fit = all_both IsNamed (Fits (sign_of rows) signs) (λ i. IsWithin signs (row_at p m qs (at i))) (λ i n f j s e. sym (sign_at i j n) ∙ f j s e) items named (recursion_from_All (Fits (sign_of rows) signs) items c.chosen.fit) in
+        let out = st3_out p m qs signs (map at items) c.chosen.sized (all_map (λ t. is_string t ≡ true) at items strings) (all_map (λ t. IsWithin signs (row_at p m qs t)) at items fit) (all_apart items c.chosen.apart) in (
+          ap (λ (o : Option (List Tree)). is_falsified p m (on_all o (st3 qs signs))) (terms_at items named) ∙ out,
+          subst (AreFew qs signs) (sym (length-map items number)) c.too_many,
+        )
+
+    -- ---- and there is no other
+
+    has_term : (ks : List ℕ) (ts : List Tree) (k : ℕ) (t : Tree) → all_at p ks ≡ Some ts → term_of p k ≡ Some t → Has ks k → Has ts t
+    has_term [] ts k t e f h = absurd h
+    has_term (l ∷ ks) ts k t e f h =
+        let (u, us, g, i, same) = with_view (term_of p l) (all_at p ks) ts e in
+        subst (λ (vs : List Tree). Has vs t) (sym same)
+        (elim h [ inl is ↦ inl (same_some (sym g ∙ ap (term_of p) is ∙ f)) | inr later ↦ inr (has_term ks us k t i f later) ])
+
+    -- terms that are apart have numbers of their own
+    apart_distinct : (ks : List ℕ) (ts : List Tree) → all_at p ks ≡ Some ts → AreAllApart p m ts → AreDistinct ks
+    apart_distinct [] ts e h = tt
+    apart_distinct (k ∷ ks) ts e h =
+        let (u, us, g, i, same) = with_view (term_of p k) (all_at p ks) ts e in
+        let apart = subst (AreAllApart p m) same h in
+        (λ there. true_isnt_false p m u posed (all_has (AreApart p m u) us u apart.0 (has_term ks us k u i g there)), apart_distinct ks us i apart.1)
+
+    module _ (v : Signs) (less : ℕ) where
+      -- a number of a string that has the signs, where fewer texts have them, is scarce
+      abbrev Own : Tree → Type 0
+      Own t = (is_string t ≡ true) × IsWithin v (row_at p m qs t)
+
+      in_texts : (ks : List ℕ) (ts : List Tree) → all_at p ks ≡ Some ts → AllByRecursion (λ t. is_string t ≡ true) ts → (k : ℕ) → Has ks k → Has all k
+      in_texts [] ts e h k there = absurd there
+      in_texts (l ∷ ks) ts e h k there =
+          let (u, us, g, i, same) = with_view (term_of p l) (all_at p ks) ts e in
+          let strings = subst (AllByRecursion (λ t. is_string t ≡ true)) same h in
+          elim there [ inl is ↦ subst (Has all) is (texts.all l u g (string_text u strings.0)) | inr later ↦ in_texts ks us i strings.1 k later ]
+
+      all_scarce : AreFew qs v less → less ≤ count → (ks : List ℕ) (ts : List Tree) → all_at p ks ≡ Some ts → AllByRecursion (λ t. is_string t ≡ true) ts → AllByRecursion (λ t. IsWithin v (row_at p m qs t)) ts → AllByRecursion (Has ns) ks
+      all_scarce few within [] ts e h k = tt
+      all_scarce few within (l ∷ ks) ts e h k =
+          let (u, us, g, i, same) = with_view (term_of p l) (all_at p ks) ts e in
+          let strings = subst (AllByRecursion (λ t. is_string t ≡ true)) same h in
+          let fit = subst (AllByRecursion (λ t. IsWithin v (row_at p m qs t))) same k in
+          let own : IsScarce p m qs count l = subst (IsScarceIf p m qs count) (sym g) (strings.0, few_greater qs (row_at p m qs u) less count within (few_asked qs v (row_at p m qs u) less fit.0 few)) in
+          (scarce.all l (texts.all l u g (string_text u strings.0)) own, all_scarce few within ks us i strings.1 fit.1)
+
+    -- the places of numbers among the scarce ones
+    places : (ks : List ℕ) → AllByRecursion (Has ns) ks → List ℕ
+    places [] h = []
+    places (k ∷ ks) h = (has_place ns k h.0).0 ∷ places ks h.1
+
+    places_length : (ks : List ℕ) (h : AllByRecursion (Has ns) ks) → length (places ks h) ≡ length ks
+    unfolding places
+    places_length [] h = refl
+    places_length (k ∷ ks) h = ap suc (places_length ks h.1)
+
+    places_within : (ks : List ℕ) (h : AllByRecursion (Has ns) ks) → AllByRecursion (λ i. i < length ns) (places ks h)
+    unfolding places
+    places_within [] h = tt
+    places_within (k ∷ ks) h = ((has_place ns k h.0).1, places_within ks h.1)
+
+    places_named : (ks : List ℕ) (ts : List Tree) → all_at p ks ≡ Some ts → (h : AllByRecursion (Has ns) ks) → AllByRecursion IsNamed (places ks h) × (map at (places ks h) ≡ ts)
+    unfolding places
+    places_named [] ts e h = let same : [] ≡ ts = same_some e in (tt, same)
+    places_named (k ∷ ks) ts e h =
+        let (u, us, g, i, same) = with_view (term_of p k) (all_at p ks) ts e in
+        let (j, j_in, j_at) = has_place ns k h.0 in
+        let (x, named, is) = named_place p m ns (has_place ns k h.0).0 k u (has_place ns k h.0).2 g in
+        let rest = places_named ks us i h.1 in
+        let first : at (has_place ns k h.0).0 ≡ u = at_named (has_place ns k h.0).0 x named ∙ is in
+        (((x, named), rest.0), ap (λ (t : Tree). t ∷ map at (places ks h.1)) first ∙ ap (λ (vs : List Tree). u ∷ vs) rest.1 ∙ sym same)
+
+    known_apart : (i j : ℕ) → IsNamed i → IsNamed j → AreApart p m (at i) (at j) → truth_of p m ns i j ≡ Some false
+    known_apart i j (x, e) (y, f) h =
+        let plain : equal_known p m (tree p.nodes x) (tree p.nodes y) ≡ Some false
+        = ap (λ (t : Tree). equal_known p m t (tree p.nodes y)) (sym (at_named i x e)) ∙ ap (equal_known p m (at i)) (sym (at_named j y f)) ∙ h in
+        let other : x ≢ y = λ same. true_isnt_false p m (tree p.nodes y) posed (subst (λ (n : ℕ). equal_known p m (tree p.nodes n) (tree p.nodes y) ≡ Some false) same plain) in
+        truth_is p m ns i j x y false e f other plain
+
+    apart_pairs : (items : List ℕ) → AllByRecursion IsNamed items → AreAllApart p m (map at items) → AllPairs (λ i j. truth_of p m ns i j ≡ Some false) items
+    apart_pairs [] h k = λ i j d low high. absurd (omega (arith, high))
+    apart_pairs (i ∷ items) h k =
+        AllPairs-cons (λ i j. truth_of p m ns i j ≡ Some false) i items
+        (All-from_recursion (λ j. truth_of p m ns i j ≡ Some false) items (all_both IsNamed (λ j. AreApart p m (at i) (at j)) (λ j. truth_of p m ns i j ≡ Some false) (λ j n a. known_apart i j h.0 n a) items h.1 (map_all (AreApart p m (at i)) at items k.0)))
+        (apart_pairs items h.1 k.1)
+
+    module _ (none : NoneCrowded (truth_of p m ns) (sign_of rows) (AreFew qs) (few_items (length ns)) (length qs)) (is_count : length all ≤ count) where
+      no_crowd : (v : Signs) (ks : List ℕ) (ts : List Tree) → all_at p ks ≡ Some ts → length v ≡ length qs → AllByRecursion (λ t. is_string t ≡ true) ts → AllByRecursion (λ t. IsWithin v (row_at p m qs t)) ts → AreAllApart p m ts
+          → AreFew qs v (length ks) → ⊥
+      no_crowd v ks ts e size strings fit apart few =
+          let fewer = distinct_within ks all (apart_distinct ks ts e apart) (in_texts v (length ks) ks ts e strings) in
+          let there = all_scarce v (length ks) few (omega (arith, fewer, is_count)) ks ts e strings fit in
+          let items = places ks there in
+          let named = places_named ks ts e there in
+          let fits = map_all (λ t. IsWithin v (row_at p m qs t)) at items (subst (AllByRecursion (λ t. IsWithin v (row_at p m qs t))) (sym named.1) fit) in
+          none items v (record {
+            chosen = record {
+              within = subst (λ k. All (λ i. i < k) items) (sym size_is) (All-from_recursion (λ i. i < length ns) items (places_within ks there));
+              apart = apart_pairs items named.0 (subst (AreAllApart p m) (sym named.1) apart);
+              sized = size;
+              fit = All-from_recursion (Fits (sign_of rows) v) items (all_both IsNamed (λ i. IsWithin v (row_at p m qs (at i))) (Fits (sign_of rows) v) (λ i n f j s g. sign_at i j n ∙ f j s g) items named.0 fits);
+            };
+            too_many = subst (AreFew qs v) (sym (places_length ks there)) few;
+          })
+
+      pub crowds_free : AreCrowdsFree p m qs
+      crowds_free v ks (out, few) =
+          let (ts, e, falsified) = all_view p m qs v (all_at p ks) out in
+          let (size, strings, fit, apart) = out_st3 p m qs v ts falsified in
+          no_crowd v ks ts e size strings fit apart few
+
+    -- ---- the same of what is found
+
+    module _ (rs : List Signs) (same : rs ≡ rows) (o : Option Crowd) where
+      abbrev Told : Crowd → Type 0
+      Told c = IsCrowd (truth_of p m ns) (sign_of rs) (AreFew qs) (few_items (length ns)) (length qs) c.items.items c.signs.items
+
+      told : (c : Crowd) → o ≡ Some c → IfSome o Told → Crowded c.items.items c.signs.items
+      told c is found =
+          subst (λ (vs : List Signs). IsCrowd (truth_of p m ns) (sign_of vs) (AreFew qs) (few_items (length ns)) (length qs) c.items.items c.signs.items) same (subst (λ q. IfSome q Told) is found)
+
+      pub crowd_told : (c : Crowd) (rule : StringRule) → o ≡ Some c → IfSome o Told → IsRuleOf c.signs.items (map number c.items.items) rule → IsViolated p m qs rule
+      crowd_told c rule is found e = rule_out p m qs c.signs.items (map number c.items.items) rule e (crowd_found c.items.items c.signs.items (told c is found))
+
+      pub crowd_places : (c : Crowd) → o ≡ Some c → IfSome o Told → AllByRecursion (λ i. i < length ns) c.items.items
+      crowd_places c is found = items_within c.items.items c.signs.items (told c is found)
+
+      pub crowd_none : length all ≤ count → o ≡ None → IfNone o (NoneCrowded (truth_of p m ns) (sign_of rs) (AreFew qs) (few_items (length ns)) (length qs)) → AreCrowdsFree p m qs
+      crowd_none is_count is none =
+          crowds_free
+          (subst (λ (vs : List Signs). NoneCrowded (truth_of p m ns) (sign_of vs) (AreFew qs) (few_items (length ns)) (length qs)) same
+          (subst (λ q. IfNone q (NoneCrowded (truth_of p m ns) (sign_of rs) (AreFew qs) (few_items (length ns)) (length qs))) is none)) is_count

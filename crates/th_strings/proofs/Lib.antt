@@ -1,0 +1,7 @@
+mod TextLaws
+mod ScarceLaws
+mod OutLaws
+mod PlaceLaws
+mod MatchLaws
+mod CrowdLaws
+mod TheoryLaws

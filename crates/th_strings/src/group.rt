@@ -1,0 +1,150 @@
+//! Some closed terms, and what an assignment knows of each two of them, and of each and a pattern.
+ghost use Rattle.std.specs.Prelude.{◌≡◌};
+ghost use Rattle.th_strings.specs.Known.{few_items, truth_of};
+
+use crate::signs::sign;
+use sc_clauses::Assignment;
+use sc_footprint::Problem;
+use sc_instances::{equal, known_literal};
+use sc_lists::Seq;
+use sc_pattern::Pattern;
+use sc_string_rows::are_few;
+use sc_violated::{Equalities, Paths, Texts};
+use std::alloc::{AllocError, Global};
+
+/// Some closed terms, under an assignment.
+#[derive(Clone, Copy)]
+pub(crate) struct Group<'a, 'b> {
+    pub(crate) problem: &'a Problem<'b>,
+    pub(crate) m: &'a Assignment,
+    pub(crate) patterns: &'a [Pattern],
+    /// Their numbers, from 1 on in the order of terms.
+    pub(crate) numbers: &'a [u64],
+    /// Which patterns each of them matches.
+    pub(crate) signs: &'a [Seq<Option<bool>>],
+}
+
+/// A problem has no more closed terms.
+const MOST_NUMBERS: usize = 1_000_000_000_000_000_000;
+
+/// How many numbers there are; a problem has never more than `MOST_NUMBERS`.
+fn few_numbers(count: usize) -> usize
+    ensures { result ≡ few_items count }
+{
+    if count < MOST_NUMBERS { count } else { 0 }
+}
+
+/// Whether two closed terms are equal, as far as it is known.
+fn equated(
+    problem: &Problem<'_>,
+    m: &Assignment,
+    numbers: &[u64],
+    one: usize,
+    other: usize,
+) -> Option<bool>
+    ensures { result ≡ truth_of problem.now m.now numbers.now one other }
+{
+    let a = problem.term(*numbers.get(one)?)?;
+    let b = problem.term(*numbers.get(other)?)?;
+    if a == b {
+        return None;
+    }
+    known_literal(m, equal(problem, a, b))
+}
+
+impl<'a, 'b> Equalities for Group<'a, 'b> {
+    ghost use Rattle.std.specs.Prelude.{length};
+    ghost use Rattle.th_strings.specs.Known.{few_items, truth_of};
+    ghost use Rattle.th_strings.specs.KnownLaws.{truth_turned, truth_itself};
+
+    ghost size = { λ s. few_items (length s.numbers.now) };
+
+    ghost truth = { λ s. truth_of s.problem.now s.m.now s.numbers.now };
+
+    fn len(&self) -> usize {
+        few_numbers(self.numbers.len())
+    }
+
+    fn equal(&self, one: usize, other: usize) -> Option<bool> {
+        equated(self.problem, self.m, self.numbers, one, other)
+    }
+
+    ghost symmetric = { λ s. truth_turned s.problem.now s.m.now s.numbers.now };
+
+    ghost reflexive = { λ s. truth_itself s.problem.now s.m.now s.numbers.now };
+}
+
+/// A start is a string that a middle equals, and an end is a pattern.
+impl<'a, 'b> Paths for Group<'a, 'b> {
+    ghost use Rattle.std.specs.Prelude.{length};
+    ghost use Rattle.th_strings.specs.Known.{sign_of, turned_truth};
+
+    ghost starts = { λ s. length s.numbers.now };
+
+    ghost middles = { λ s. length s.numbers.now };
+
+    ghost ends = { λ s. length s.patterns.now };
+
+    ghost first = { λ s. turned_truth s.problem.now s.m.now s.numbers.now };
+
+    ghost second = { λ s. sign_of s.signs.now };
+
+    ghost third = { λ s. sign_of s.signs.now };
+
+    fn starts(&self) -> usize {
+        self.numbers.len()
+    }
+
+    fn middles(&self) -> usize {
+        self.numbers.len()
+    }
+
+    fn ends(&self) -> usize {
+        self.patterns.len()
+    }
+
+    fn first(&self, start: usize, middle: usize) -> Option<bool> {
+        equated(self.problem, self.m, self.numbers, middle, start)
+    }
+
+    fn second(&self, middle: usize, end: usize) -> Option<bool> {
+        sign(self.signs, middle, end)
+    }
+
+    fn third(&self, start: usize, end: usize) -> Option<bool> {
+        sign(self.signs, start, end)
+    }
+}
+
+impl<'a, 'b> Texts for Group<'a, 'b> {
+    ghost use Rattle.std.specs.Prelude.{length};
+    ghost use Rattle.sc_rules.specs.Strings.{AreFew};
+    ghost use Rattle.sc_string_rows.proofs.FewLaws.{few_none, few_greater, few_asked, few_split};
+    ghost use Rattle.th_strings.specs.Known.{sign_of};
+
+    ghost patterns = { λ s. length s.patterns.now };
+
+    ghost sign = { λ s. sign_of s.signs.now };
+
+    ghost few = { λ s. AreFew s.patterns.now };
+
+    fn patterns(&self) -> usize {
+        self.patterns.len()
+    }
+
+    fn sign(&self, item: usize, pattern: usize) -> Option<bool> {
+        sign(self.signs, item, pattern)
+    }
+
+    fn few(&self, alloc: Global, signs: &[Option<bool>], count: usize) -> Result<bool, AllocError> {
+        are_few(alloc, self.patterns, signs, count as u64)
+    }
+
+    ghost none = { λ s. few_none s.patterns.now };
+
+    ghost greater = { λ s. few_greater s.patterns.now };
+
+    ghost asked = { λ s. few_asked s.patterns.now };
+
+    ghost split = { λ s v p k l size place none. few_split s.patterns.now v p size place none k l };
+}

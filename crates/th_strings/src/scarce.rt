@@ -1,0 +1,174 @@
+//! Strings of whose signs there are few texts. Each string of a crowd is one of these, so only they
+//! are looked at.
+ghost use Rattle.std.specs.Prelude.{◌≡◌, ◌↔◌, ◌<◌, length, IfOk, OnOk, IfSome, IsTrue};
+ghost use Rattle.std.specs.List.{AllByRecursion};
+ghost use Rattle.sc_rules.specs.Strings.{AreFew};
+ghost use Rattle.sc_terms.specs.Tables.{tree};
+ghost use Rattle.th_strings.specs.Scarce.{AreScarce, IsScarce, IsScarceTerm, IsTold};
+
+use crate::signs::row;
+use sc_clauses::Assignment;
+use sc_footprint::Problem;
+use sc_lists::Seq;
+use sc_pattern::Pattern;
+use sc_string_rows::{are_few, is_sort_string};
+use std::alloc::{AllocError, Global};
+
+/// Whether few texts have these signs, once it was told.
+#[derive(Drop)]
+pub(crate) struct Answer {
+    pub(crate) signs: Seq<Option<bool>>,
+    pub(crate) few: bool,
+}
+
+/// Whether two signs are the same.
+fn same_sign(one: Option<bool>, other: Option<bool>) -> bool
+    ensures { IsTrue result → one ≡ other }
+{
+    match (one, other) {
+        (Some(a), Some(b)) => a == b,
+        (None, None) => true,
+        _ => false,
+    }
+}
+
+/// Whether signs are the same.
+fn same_signs(some: &[Option<bool>], others: &[Option<bool>]) -> bool
+    ensures { IsTrue result → some.now ≡ others.now }
+{
+    let mut left = some;
+    let mut right = others;
+    while let Some((one, further)) = left.split_first() {
+        let Some((other, later)) = right.split_first() else {
+            return false;
+        };
+        if !same_sign(*one, *other) {
+            return false;
+        }
+        left = further;
+        right = later;
+    }
+    right.is_empty()
+}
+
+/// Whether fewer than so many texts have some signs, if it was told.
+fn told_few(
+    patterns: &[Pattern],
+    count: u64,
+    answers: &[Answer],
+    signs: &[Option<bool>],
+) -> Option<bool>
+    requires { AllByRecursion (IsTold patterns.now count) answers.now }
+    ensures { IfSome result (λ b. IsTrue b ↔ AreFew patterns.now signs.now count) }
+{
+    let _patterns = patterns;
+    let _count = count;
+    let mut rest = answers;
+    while let Some((answer, later)) = rest.split_first() {
+        if same_signs(answer.signs.as_slice(), signs) {
+            return Some(answer.few);
+        }
+        rest = later;
+    }
+    None
+}
+
+/// A copy of signs.
+fn copied(alloc: Global, signs: &[Option<bool>]) -> Result<Seq<Option<bool>>, AllocError>
+    ensures { IfOk result (λ v. v ≡ signs.now) }
+{
+    let mut copy = Seq::new(alloc);
+    let mut rest = signs;
+    while let Some((sign, later)) = rest.split_first() {
+        copy.push(*sign)?;
+        rest = later;
+    }
+    Ok(copy)
+}
+
+/// Whether fewer than so many texts have some signs. What was told before isn't counted again.
+fn is_few(
+    alloc: Global,
+    patterns: &[Pattern],
+    count: u64,
+    answers: &mut Vec<Answer>,
+    signs: &[Option<bool>],
+) -> Result<bool, AllocError>
+    requires { AllByRecursion (IsTold patterns.now count) answers.old.items }
+    ensures told { OnOk result (AllByRecursion (IsTold patterns.now count) answers.new.items) }
+    ensures few { IfOk result (λ b. IsTrue b ↔ AreFew patterns.now signs.now count) }
+{
+    if let Some(few) = told_few(patterns, count, answers.as_slice(), signs) {
+        return Ok(few);
+    }
+    let few = are_few(alloc, patterns, signs, count)?;
+    let signs = copied(alloc, signs)?;
+    answers.push(Answer { signs, few })?;
+    Ok(few)
+}
+
+/// Whether a term of the table is a string of whose signs there are few texts.
+fn is_scarce_term(
+    alloc: Global,
+    problem: &Problem<'_>,
+    m: &Assignment,
+    patterns: &[Pattern],
+    count: u64,
+    answers: &mut Vec<Answer>,
+    term: u64,
+) -> Result<bool, AllocError>
+    requires term_in { term < length problem.now.nodes }
+    requires told { AllByRecursion (IsTold patterns.now count) answers.old.items }
+    ensures told { OnOk result (AllByRecursion (IsTold patterns.now count) answers.new.items) }
+    ensures scarce { IfOk result (λ b. IsTrue b ↔ IsScarceTerm problem.now m.now patterns.now count (tree
+        problem.now.nodes term)) }
+{
+    if !is_sort_string(problem, term) {
+        return Ok(false);
+    }
+    let signs = row(alloc, problem, m, patterns, term)?;
+    is_few(alloc, patterns, count, answers, signs.as_slice())
+}
+
+/// The same of the closed term of a number.
+fn is_scarce(
+    alloc: Global,
+    problem: &Problem<'_>,
+    m: &Assignment,
+    patterns: &[Pattern],
+    count: u64,
+    answers: &mut Vec<Answer>,
+    number: u64,
+) -> Result<bool, AllocError>
+    requires { AllByRecursion (IsTold patterns.now count) answers.old.items }
+    ensures told { OnOk result (AllByRecursion (IsTold patterns.now count) answers.new.items) }
+    ensures scarce { IfOk result (λ b. IsTrue b ↔ IsScarce problem.now m.now patterns.now count number) }
+{
+    match problem.term(number) {
+        Some(term) => is_scarce_term(alloc, problem, m, patterns, count, answers, term),
+        None => Ok(false),
+    }
+}
+
+/// Those of some numbers whose closed terms are strings of whose signs there are few texts.
+pub(crate) fn scarce_numbers(
+    alloc: Global,
+    problem: &Problem<'_>,
+    m: &Assignment,
+    patterns: &[Pattern],
+    count: u64,
+    numbers: &[u64],
+) -> Result<Vec<u64>, AllocError>
+    ensures { IfOk result (λ v. AreScarce problem.now m.now patterns.now count numbers.now v.items) }
+{
+    let mut answers = Vec::new(alloc);
+    let mut scarce = Vec::new(alloc);
+    let mut rest = numbers;
+    while let Some((n, later)) = rest.split_first() {
+        if is_scarce(alloc, problem, m, patterns, count, &mut answers, *n)? {
+            scarce.push(*n)?;
+        }
+        rest = later;
+    }
+    Ok(scarce)
+}
