@@ -1,5 +1,5 @@
 -- Where a log is accepted by the rules of a theory, the goal is true in no well-formed world.
-use Rattle.std.proofs.Common.{◌≡◌, ℕ, List, length, Bool, true, sym, ◌∙◌}
+use Rattle.std.proofs.Common.{◌≡◌, ℕ, List, length, Bool, true}
 use Rattle.std.specs.List.{Contains, list_all}
 use Rattle.std.proofs.lemmas.Bool.{and_from, lt-ltb, le-leb}
 use Rattle.std.proofs.lemmas.List.Elements.{All-contains_itself, All-weaker, recursion_from_All}
@@ -7,18 +7,15 @@ use Rattle.sc_lists.proofs.ListLaws.{list_all_true}
 use Rattle.sc_world.specs.declared.world.World.{World}
 use Rattle.sc_clauses.specs.declared.lit.Lit.{Lit}
 use Rattle.sc_clauses.specs.declared.step.Instance.{Instance}
-use Rattle.sc_clauses.specs.declared.step.Step.{Step}
 use Rattle.sc_clauses.specs.Clauses.{Clause}
 use Rattle.sc_footprint.specs.Problems.{Posed, atoms}
 use Rattle.sc_footprint.specs.Definitions.{defining}
 use Rattle.sc_footprint.specs.Theories.{IsListed, IsClauseOf}
-use Rattle.sc_footprint.specs.Truths.{truths, IsWorldOf, IsTrueIn, Satisfies, IsUnsatisfiable}
+use Rattle.sc_footprint.specs.Truths.{truths, IsWorldOf, IsTrueIn, Satisfies}
 use Rattle.sc_checker.specs.Refutations.{is_listed, are_listed}
-use Rattle.sc_checker.specs.declared.checking.Verdict.{Verdict}
-use Rattle.sc_checker.specs.declared.checking.Verdict.TheVariants.{Refuted}
-use Rattle.sc_checker.specs.Verdicts.{Rules, IsAccepted, verdict}
-use Rattle.sc_checker.proofs.VerdictLaws.{AreListed, refuted_accepted}
-use Rattle.sc_checker.proofs.Soundness.{AllHold, accepted-sound}
+use Rattle.sc_checker.specs.Verdicts.{Rules}
+use Rattle.sc_checker.proofs.VerdictLaws.{AreListed}
+use Rattle.sc_checker.proofs.Soundness.{AllHold}
 
 -- ---- listed atoms
 
@@ -53,10 +50,3 @@ AreDefined p = (w : World) (c : Clause) → Satisfies p w → Contains (defining
 -- instances of rules are true in each well-formed world
 abbrev pub AreSound : Posed → Rules → Type 0
 AreSound p rules = (i : Instance) (w : World) → rules.accepts i ≡ true → IsWorldOf p w → IsTrueIn p w (rules.clause_of i)
-
-accepted_unsatisfiable : (rules : Rules) (p : Posed) (steps : List Step) → AreDefined p → AreSound p rules → IsAccepted rules p steps → IsUnsatisfiable p
-accepted_unsatisfiable rules p steps defined sound a w s =
-    accepted-sound (truths p w) rules (length (atoms p)) (defining p) steps a.before (λ i e. sound i w e s.well_formed) (all_hold p w (λ c h. defined w c s h)) a.steps_add
-
-pub refuted_unsatisfiable : (rules : Rules) (p : Posed) (steps : List Step) (v : Verdict) → AreDefined p → AreSound p rules → v ≡ verdict rules p steps → v ≡ Refuted → IsUnsatisfiable p
-refuted_unsatisfiable rules p steps v defined sound is refuted = accepted_unsatisfiable rules p steps defined sound ((refuted_accepted rules p steps).0 (sym is ∙ refuted))

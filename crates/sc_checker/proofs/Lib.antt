@@ -14,3 +14,4 @@ pub mod ReadingLaws
 pub mod ProgressLaws
 pub mod StreamLaws
 pub mod StreamVerdicts
+mod Examples

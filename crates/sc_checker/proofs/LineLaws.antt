@@ -161,10 +161,6 @@ hints_nothing words left [] read none = λ hints t e. by hints t (e ∙ sym read
   by [] t e = true≢false (sym t)
   by (h ∷ hints) t e = hint_no_zero h (and_parts (is_hint h) (list_all is_hint hints) (and_parts _ (list_all is_hint (h ∷ hints)) t).1).0 (first_same e)
 
-pub hints_read : (words left : List (List ℕ)) (hints : List ℕ) → AreHints words (Some (hints, left)) → false ≡ (length hints == 0) → left ≡ [] → Reads are_hints hint_words words (Some hints)
-hints_read words left hints read some end =
-    (and_from _ (list_all is_hint hints) (ap not (sym some)) read.0, ap (λ (ws : List (List ℕ)). map decimal hints ++ zero_text ∷ ws) (sym end) ∙ read.1)
-
 pub hints_more : (words left : List (List ℕ)) (hints : List ℕ) (w : List ℕ) (ws : List (List ℕ)) → AreHints words (Some (hints, left)) → left ≡ w ∷ ws → Reads are_hints hint_words words None
 hints_more words left hints w ws read more others t e =
     let end : [] ≡ left = same_left is_hint decimal hint_no_zero others hints [] left (and_parts _ (list_all is_hint others) t).1 read.0 (e ∙ sym read.1) in
@@ -182,11 +178,6 @@ pub learned_no_hints : (words left : List (List ℕ)) (c : List Lit) → AreLits
 learned_no_hints words left c read none l t e =
     let parts = and_parts (list_all is_lit l.clause) (are_hints l.hints) t in
     none l.hints parts.1 (same_left is_lit lit_text lit_no_zero l.clause c (hint_words l.hints) left parts.0 read.0 (e ∙ sym read.1))
-
-pub learned_read : (words left : List (List ℕ)) (c : List Lit) (hints : List ℕ) → AreLits words (Some (c, left)) → Reads are_hints hint_words left (Some hints)
-    → Reads is_learned learned_words words (Some (record { clause = c; hints = hints }))
-learned_read words left c hints lits read =
-    (and_from (list_all is_lit c) (are_hints hints) lits.0 read.0, ap (λ (ws : List (List ℕ)). map lit_text c ++ zero_text ∷ ws) read.1 ∙ lits.1)
 
 -- ---- a line and its words
 
@@ -269,13 +260,6 @@ line_reads make test text kind line words left (Some x) fits spelled cut is read
     (read.0, ap (join_with_byte 32) (spelled x ∙ ap (λ (ws : List (List ℕ)). kind ∷ ws) read.1 ∙ sym is ∙ cut) ∙ join_with_byte-slice_split 32 line)
 line_reads make test text kind line words left None fits spelled cut is none = λ x t e.
     none x t (rest_same (sym (spelled x) ∙ sym (line_split (make x) (fits x ∙ t)) ∙ ap (slice_split (λ b. b == 32)) e ∙ sym cut ∙ is))
-
--- a line with another first word
-pub line_none : {X : Type 0} (make : X → Step) (test : X → Bool) (text : X → List (List ℕ)) (kind line : List ℕ) (words : List (List ℕ))
-    → ((x : X) → is_writable (make x) ≡ test x) → ((x : X) → step_words (make x) ≡ kind ∷ text x)
-    → words ≡ slice_split (λ b. b == 32) line → ((rest : List (List ℕ)) → ¬ (words ≡ kind ∷ rest)) → Reads test (λ x. step_line (make x)) line None
-line_none make test text kind line words fits spelled cut other x t e =
-    other (text x) (cut ∙ ap (slice_split (λ b. b == 32)) (sym e) ∙ line_split (make x) (fits x ∙ t) ∙ spelled x)
 
 -- a line of neither kind
 pub neither_read : (line : List ℕ) → Reads is_learned (λ l. step_line (Learned l)) line None → Reads is_instance (λ i. step_line (Instance i)) line None → Reads is_writable step_line line None

@@ -162,9 +162,6 @@ instance_checked p g i c lawful sound k e =
     let one : Rules = record { accepts = λ j. true; clause_of = λ j. c } in
     taken_checked p one g (Taken i) (Ok c) (rules_listed p one (λ j h. lawful)) (λ j w h formed. sound w formed) k e refl
 
-pub refused_checked : (p : Posed) (g : Progress) (number : ℕ) (reason : Reason) → IsChecked p g → IsChecked p (failed number reason (counted g))
-refused_checked p g number reason k = record { count = k.count; fit = k.fit; room = λ e. absurd cc; hold = k.hold; last = k.last }
-
 -- no instance is needed for what a learned clause gives
 abbrev pub no_rules : Rules
 no_rules = record { accepts = λ i. false; clause_of = λ i. [] }

@@ -1,7 +1,6 @@
 -- What is held after the bytes of lines.
 use Rattle.std.proofs.Common.{◌≡◌, ◌+◌, ◌==◌, ℕ, List, [], ◌∷◌, ◌++◌, length, Bool, true, false, not, cond, Option, Some, None, is_some, refl, sym, ap, ◌∙◌, append_assoc}
 use Rattle.std.proofs.Math.Dec.{eqb-suc-zero}
-use Rattle.std.specs.Str.{bytes_eq}
 use Rattle.std.proofs.lemmas.Bool.{and_parts, and_from, not-true, eqb-true, true≢false}
 use Rattle.std.proofs.lemmas.List.{append-nil}
 use Rattle.sc_clauses.specs.declared.step.Instance as instance
@@ -14,7 +13,7 @@ use Rattle.sc_checker.specs.declared.checking.Reason.TheVariants.{Malformed}
 use Rattle.sc_checker.specs.LineSteps.{step_of}
 use Rattle.sc_checker.specs.Progress.{Progress, start, failed, taken, unless_at_fault, after_step, after_steps}
 use Rattle.sc_checker.specs.Readings.{AreWritable, Reads}
-use Rattle.sc_checker.specs.Streams.{Checking, unread, first_words, after_reading, after_first, ended_line, after_byte, after}
+use Rattle.sc_checker.specs.Streams.{Checking, unread, first_words, after_reading, ended_line, after_byte, after}
 use Rattle.sc_checker.specs.Texts.{has_no_newline, step_line, steps_text, first_line}
 use Rattle.sc_checker.specs.Verdicts.{Rules, of_instance, of_learned}
 use Rattle.sc_checker.specs.Writable.{is_learned, is_writable}
@@ -113,12 +112,6 @@ not_begun g = record { begun = false; line = []; progress = failed 0 Malformed g
 
 -- ---- what the code leaves
 
-pub first_read : (line : List ℕ) (g : Progress) → true ≡ bytes_eq line first_words → between g ≡ after_first line g
-first_read line g e = ap (λ (t : Bool). cond t (between g) (not_begun g)) e
-
-pub first_refused : (line : List ℕ) (g : Progress) → false ≡ bytes_eq line first_words → not_begun g ≡ after_first line g
-first_refused line g e = ap (λ (t : Bool). cond t (between g) (not_begun g)) e
-
 -- the line of a learned clause, that of an instance, and a line of neither
 pub learned_line : (rules : Rules) (line : List ℕ) (g h : Progress) (l : learned.Learned) → g.fault ≡ None → Reads is_learned (λ k. step_line (Learned k)) line (Some l)
     → h ≡ taken (of_learned g.listed g.clauses l) g → h ≡ after_reading rules g (step_of line)
@@ -132,22 +125,6 @@ pub other_line : (rules : Rules) (line : List ℕ) (g h : Progress) (number : �
     → number ≡ g.steps + 1 → h ≡ failed number Malformed g → h ≡ after_reading rules g (step_of line)
 other_line rules line g h number no_learned no_instance next is =
     is ∙ (ap (λ (n : ℕ). failed n Malformed g) next ∙ ap (after_reading rules g) (step_is line None (neither_read line no_learned no_instance)))
-
--- a line of a log, by what the checker held
-pub line_taken : (rules : Rules) (begun : Bool) (kept line : List ℕ) (g h : Progress) → begun ≡ true → kept ≡ [] → h ≡ after_reading rules g (step_of line)
-    → held begun kept h ≡ ended_line rules begun line g
-line_taken rules true kept line g h b k e = λ i. held true (k i) (e i)
-line_taken rules false kept line g h b k e = absurd (true≢false (sym b))
-
-pub first_taken : (rules : Rules) (begun : Bool) (kept line : List ℕ) (g : Progress) → begun ≡ false → kept ≡ [] → true ≡ bytes_eq line first_words
-    → held true kept g ≡ ended_line rules begun line g
-first_taken rules true kept line g b k e = absurd (true≢false b)
-first_taken rules false kept line g b k e = ap (λ (l : List ℕ). held true l g) k ∙ first_read line g e
-
-pub first_failed : (rules : Rules) (begun : Bool) (kept line : List ℕ) (g h : Progress) → begun ≡ false → kept ≡ [] → false ≡ bytes_eq line first_words → h ≡ failed 0 Malformed g
-    → held begun kept h ≡ ended_line rules begun line g
-first_failed rules true kept line g h b k e is = absurd (true≢false b)
-first_failed rules false kept line g h b k e is = ap (λ (l : List ℕ). held false l h) k ∙ (ap (held false []) is ∙ first_refused line g e)
 
 pub stopped_stays : (rules : Rules) (c : Checking) (bytes : List ℕ) → true ≡ is_some c.progress.fault → c ≡ after rules c bytes
 stopped_stays rules c bytes e = by c.progress.fault refl e where

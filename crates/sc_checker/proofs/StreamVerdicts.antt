@@ -8,20 +8,19 @@ use Rattle.sc_clauses.specs.Clauses.{Clause}
 use Rattle.sc_clauses.specs.declared.step.Step.{Step}
 use Rattle.sc_footprint.specs.Definitions.{defining}
 use Rattle.sc_footprint.specs.Problems.{Posed, atoms}
-use Rattle.sc_footprint.specs.Truths.{IsUnsatisfiable}
 use Rattle.sc_checker.specs.declared.checking.Reason.{Reason}
 use Rattle.sc_checker.specs.declared.checking.Reason.TheVariants.{Malformed}
 use Rattle.sc_checker.specs.declared.checking.Verdict.{Verdict}
 use Rattle.sc_checker.specs.declared.checking.Verdict.TheVariants.{Refuted, Rejected}
 use Rattle.sc_checker.specs.LineSteps.{step_of}
-use Rattle.sc_checker.specs.Progress.{Progress, start, failed, taken, unless_at_fault, after_steps, verdict_of, IsChecked}
+use Rattle.sc_checker.specs.Progress.{Progress, start, failed, taken, unless_at_fault, after_steps, verdict_of}
 use Rattle.sc_checker.specs.Readings.{Reads, AreWritable, IsText, BeginsWith, StopsAt}
-use Rattle.sc_checker.specs.Streams.{Checking, unread, first_words, after_reading, after, line_verdict, line_number, ended, first_fault, HasVerdict, of_log, of_no_log, of_no_line, IsAcceptedText}
+use Rattle.sc_checker.specs.Streams.{unread, first_words, after_reading, after, line_number, ended, first_fault, HasVerdict, of_log, of_no_log, of_no_line, IsAcceptedText}
 use Rattle.sc_checker.specs.Texts.{has_no_newline, step_line, steps_text, first_line}
 use Rattle.sc_checker.specs.Verdicts.{Rules, added, next, verdict}
 use Rattle.sc_checker.specs.Writable.{is_writable}
 use Rattle.sc_checker.proofs.LineStepLaws.{step_reads}
-use Rattle.sc_checker.proofs.ProgressLaws.{no_fault, steps_stay, start_verdict, refuted_sound}
+use Rattle.sc_checker.proofs.ProgressLaws.{no_fault, steps_stay, start_verdict}
 use Rattle.sc_checker.proofs.ReadingLaws.{line_first, line_only, next_none, newline_cut}
 use Rattle.sc_checker.proofs.StreamLaws.{not_begun, after_fault, after_part, after_whole, between, after_lines, after_log, Cut, no_end, ends, cut_of, has_newline}
 use Rattle.sc_checker.proofs.VerdictLaws.{refuted_accepted}
@@ -228,13 +227,3 @@ accepted_text rules p bytes = (
   (λ e. refuted_text rules p bytes ((agrees rules p bytes Refuted).0 e)),
   (λ a. (agrees rules p bytes Refuted).1 (of_log a.steps a.writable a.text (sym ((refuted_accepted rules p a.steps).1 a.accepted)))),
 )
-
--- ---- soundness
-
-ended_at : (p : Posed) (g : Progress) (begun : Bool) (line : List ℕ) (o : Option (ℕ × Reason)) → IsChecked p g → g.fault ≡ o → unless_at_fault o (verdict_of g) (line_verdict begun line g) ≡ Refuted → IsUnsatisfiable p
-ended_at p g begun line (Some f) k same e = refuted_sound p g k e
-ended_at p g begun [] None k same e = refuted_sound p g k e
-ended_at p g begun (b ∷ bs) None k same e = absurd cc
-
-pub ended_sound : (p : Posed) (c : Checking) → IsChecked p c.progress → ended c ≡ Refuted → IsUnsatisfiable p
-ended_sound p c k e = ended_at p c.progress c.begun c.line c.progress.fault k refl e

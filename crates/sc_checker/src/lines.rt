@@ -1,5 +1,5 @@
 //! Reads the line of a step.
-ghost use Rattle.std.specs.Prelude.{◌≡◌, ◌∷◌, ℕ, List, false, IfOk, IsTrue, MatchBool, if◌then◌else◌};
+ghost use Rattle.std.specs.Prelude.{◌≡◌, ◌∷◌, ℕ, List, IfOk, MatchBool, if◌then◌else◌};
 ghost use Rattle.std.specs.Str.{bytes_eq};
 ghost use Rattle.sc_checker.specs.Readings.{Reads};
 ghost use Rattle.sc_checker.specs.Texts.{instance_words, hint_words, learned_words, step_line};

@@ -46,7 +46,7 @@ impl Log {
 }
 
 /// Whether a number has at most 18 digits.
-pub(crate) fn is_number(number: u64) -> bool
+fn is_number(number: u64) -> bool
     ensures { result ≡ is_number number }
 {
     number < 1_000_000_000_000_000_000
@@ -75,7 +75,7 @@ fn is_word(word: &Word) -> bool
     }
 }
 
-pub(crate) fn is_lit(lit: Lit) -> bool
+fn is_lit(lit: Lit) -> bool
     ensures { result ≡ is_lit lit }
 {
     0 < lit.atom && is_number(lit.atom)

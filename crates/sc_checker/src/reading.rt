@@ -2,7 +2,7 @@
 ghost use Rattle.std.specs.Prelude.{◌≡◌, ◌∷◌, ◌++◌, ℕ, List, Result, IfOk, IfErr, IsTrue, MatchOption};
 ghost use Rattle.sc_lists.specs.Told.{Gives};
 ghost use Rattle.sc_clauses.specs.declared.step.Step.{Step};
-ghost use Rattle.sc_checker.specs.Readings.{Reads, IfTold, AreWritable, BeginsWith, StopsAt, IsFault, IsText, IsReading};
+ghost use Rattle.sc_checker.specs.Readings.{IfTold, AreWritable, BeginsWith, StopsAt, IsFault, IsText, IsReading};
 ghost use Rattle.sc_checker.specs.Texts.{has_no_newline, step_line, steps_text, first_line, log_text};
 ghost use Rattle.sc_checker.specs.Writable.{is_writable};
 

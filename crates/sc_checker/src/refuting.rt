@@ -1,8 +1,6 @@
 //! Whether the hints of a learned clause show it.
 ghost use Rattle.std.specs.Prelude.{◌≡◌, ◌&&◌, false, not, length, IsTrue};
-ghost use Rattle.std.specs.List.{list_all};
 ghost use Rattle.std.specs.Option.{option_copied};
-ghost use Rattle.sc_clauses.specs.Clauses.{lit_eq};
 ghost use Rattle.sc_checker.specs.Known.{marked};
 ghost use Rattle.sc_checker.specs.Refutations.{residual, open_lits, residual_at, clause_at, is_listed, is_clause, are_listed, negated, refutes};
 

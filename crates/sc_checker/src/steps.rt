@@ -1,5 +1,5 @@
 //! The checker of steps, one after another.
-ghost use Rattle.std.specs.Prelude.{◌≡◌, ◌&&◌, ◌++◌, ◌+◌, ◌<◌, ◌∷◌, [], None, OnOk, IfOk, IsTrue, length};
+ghost use Rattle.std.specs.Prelude.{◌≡◌, ◌&&◌, ◌+◌, ◌<◌, None, OnOk, IfOk, IsTrue, length};
 ghost use Rattle.std.specs.Option.{is_some};
 ghost use Rattle.sc_lists.specs.Told.{Gives};
 ghost use Rattle.sc_checker.specs.Progress.{IsChecked, start, failed, counted, grown, taken, after_step, verdict_of};

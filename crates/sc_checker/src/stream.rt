@@ -70,6 +70,7 @@ impl<'c, 'p, T: Theory> LogChecker<'c, 'p, T> {
               state = after tests self.old.state piece.now;
               refuses = false;
             }) }
+        ensures problem { OnOk result (self.new.problem ≡ self.old.problem) }
         // A refusal is the last answer but refusals.
         ensures refused { OnErr result (IsTrue self.new.refuses) }
         ensures refuses { OnOk result (self.old.refuses ≡ false) }

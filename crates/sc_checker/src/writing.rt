@@ -1,6 +1,6 @@
 //! Writes the text of a log.
-ghost use Rattle.std.specs.Prelude.{◌≡◌, ◌++◌, ◌∷◌, [], map, codes, decimal, string_bytes, IfOk, OnOk};
-ghost use Rattle.sc_checker.specs.Texts.{sign_text, word_text, lit_text, spaced, instance_words, learned_words, step_line, steps_text, log_text};
+ghost use Rattle.std.specs.Prelude.{◌≡◌, ◌++◌, ◌∷◌, [], map, decimal, string_bytes, IfOk, OnOk};
+ghost use Rattle.sc_checker.specs.Texts.{sign_text, word_text, lit_text, spaced, instance_words, learned_words, step_line, log_text};
 ghost use Rattle.std.specs.List.{join_with_byte};
 
 use crate::log::Log;

@@ -8,7 +8,7 @@ use Rattle.sc_schema.specs.Declarations.{Declarations}
 use Rattle.sc_typing.specs.Checking.{refusing}
 use Rattle.sc_inputs.specs.Readings.{FailsWith, Checks}
 use Rattle.sc_inputs.specs.Refusals as spec
-use Rattle.sc_inputs.specs.Refusals.{Side, policies_side, against_side, on, in_against, first_fault, names_fault, types_fault, constructs_fault, AreServed, RefusesQuestion, undeclared, untyped, has_construct}
+use Rattle.sc_inputs.specs.Refusals.{Side, policies_side, against_side, on, in_against, first_fault, names_fault, types_fault, AreServed, RefusesQuestion, undeclared, untyped}
 use Rattle.sc_inputs.specs.declared.refusal.Refusal.{Refusal}
 
 -- no refusal tells that there is no fault
@@ -53,12 +53,11 @@ module _ (s : Declarations) (first : List Policy) (against : Option (List Policy
   untyped_so names (Told r) h = subst (RefusesQuestion s first against) (sym h.2) (untyped h.0.0 h.0.1 names h.1)
   untyped_so names NoMemory h = tt
 
-  pub constructs_so : names_fault s first against ≡ None → types_fault s first against ≡ None → (r : Result (Unit {0}) (Fault Refusal)) → Checks (constructs_fault s first against) (λ x. spec.unsupported x.0 x.1) r
+  pub untyped_if : names_fault s first against ≡ None → (r : Result (Unit {0}) (Fault Refusal)) → Checks (types_fault s first against) (λ x. spec.ill_typed x.0 x.1) r
       → IfErr r (FailsWith (RefusesQuestion s first against))
-  constructs_so names types (Ok x) h = tt
-  constructs_so names types (Err (Told r)) h = subst (RefusesQuestion s first against) (sym h.2) (has_construct h.0.0 h.0.1 names types h.1)
-  constructs_so names types (Err NoMemory) h = tt
+  untyped_if names (Ok x) h = tt
+  untyped_if names (Err f) h = untyped_so names f h
 
-  pub served_so : names_fault s first against ≡ None → types_fault s first against ≡ None → (r : Result (Unit {0}) (Fault Refusal)) → Checks (constructs_fault s first against) (λ x. spec.unsupported x.0 x.1) r → OnOk r (AreServed s first against)
-  served_so names types (Ok x) h = record { declared = names; typed = types; supported = h }
-  served_so names types (Err f) h = tt
+  pub served_so : names_fault s first against ≡ None → (r : Result (Unit {0}) (Fault Refusal)) → Checks (types_fault s first against) (λ x. spec.ill_typed x.0 x.1) r → OnOk r (AreServed s first against)
+  served_so names (Ok x) h = record { declared = names; typed = h }
+  served_so names (Err f) h = tt

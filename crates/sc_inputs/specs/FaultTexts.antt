@@ -15,9 +15,6 @@ use Rattle.sc_typing.specs.declared.ill_typed.IllTyped.{IllTyped}
 use Rattle.sc_typing.specs.declared.name_fault.NameFault.{NameFault}
 use Rattle.sc_typing.specs.declared.name_fault.NameKind.{NameKind}
 use Rattle.sc_typing.specs.declared.name_fault.NameKind.TheVariants as kind
-use Rattle.sc_constructs.specs.declared.construct.Construct.{Construct}
-use Rattle.sc_constructs.specs.declared.construct.Construct.TheVariants as construct
-use Rattle.sc_constructs.specs.declared.unsupported.Unsupported.{Unsupported}
 use Rattle.sc_world_json.specs.declared.fault.WorldFault.{WorldFault}
 use Rattle.sc_world_json.specs.declared.fault.WorldFault.TheVariants as world
 
@@ -95,32 +92,3 @@ rule_name rule.NotIp = codes "NotIp"
 -- a policy without a type: which one, the environment, the rule that it breaks there, and its place
 unfoldable pub type_fault_text : IllTyped → List ℕ
 type_fault_text f = codes "policy" ++ (decimal f.policy ++ (codes " " ++ (env_text f.env ++ (codes " " ++ placed (rule_name f.fault.rule) f.fault.at))))
-
-abbrev pub construct_name : Construct → List ℕ
-construct_name construct.Boolean = codes "boolean"
-construct_name construct.Connective = codes "connective"
-construct_name construct.ContextAttribute = codes "context"
-construct_name construct.NamedAction = codes "action"
-construct_name construct.Variable = codes "variable"
-construct_name construct.StringLiteral = codes "string"
-construct_name construct.Entity = codes "entity"
-construct_name construct.Has = codes "has"
-construct_name construct.Attribute = codes "attribute"
-construct_name construct.Is = codes "is"
-construct_name construct.If = codes "if"
-construct_name construct.Equality = codes "equality"
-construct_name construct.Record = codes "record"
-construct_name construct.Number = codes "number"
-construct_name construct.Arithmetic = codes "arithmetic"
-construct_name construct.Comparison = codes "comparison"
-construct_name construct.Decimal = codes "decimal"
-construct_name construct.Ip = codes "ip"
-construct_name construct.Set = codes "set"
-construct_name construct.In = codes "in"
-construct_name construct.Tag = codes "tag"
-construct_name construct.Like = codes "like"
-construct_name (construct.Type k) = codes "type"
-
--- a construct that isn't supported: the policy that has it, its name, and its place
-unfoldable pub construct_text : Unsupported → List ℕ
-construct_text u = codes "policy" ++ (decimal u.policy ++ (codes " " ++ placed (construct_name u.found.construct) u.found.place))

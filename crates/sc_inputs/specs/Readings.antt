@@ -28,8 +28,7 @@ use Rattle.sc_inputs.specs.declared.refusal.Refusal.TheVariants.{ReadFault}
 -- ---- a command whose files are read
 
 -- the words are a command to ask this question for this aim, its files were read and spell a schema and these policies, which write
--- declared names alone, are typed in each environment, and have supported constructs alone, and the environment that is named is
--- one of the schema; the budget allows some work, and there is a second set where the question takes two
+-- declared names alone and are typed in each environment, and the environment that is named is one of the schema; the budget allows some work, and there is a second set where the question takes two
 pub record ReadsAll (content : spec.Content) (words : List (List ℕ)) (s : Declarations) (question : Question) (first : List Policy) (against : Option (List Policy)) (aim : Aim) : Type 0 where
   pub reached : spec.ReachesAim content words s question first against aim
   pub units : HasUnits aim

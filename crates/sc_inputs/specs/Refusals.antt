@@ -16,9 +16,7 @@ use Rattle.sc_world.specs.declared.world.World.{World}
 use Rattle.sc_world_json.specs.declared.fault.WorldFault.{WorldFault}
 use Rattle.sc_world_json.specs.Reading as world
 use Rattle.sc_inputs.specs.Serving.{Aim, Command, Serves, asking, checking, place_in, replaying}
-use Rattle.sc_inputs.specs.FaultTexts.{fault_text, schema_fault_text, world_fault_text, name_fault_text, type_fault_text, construct_text}
-use Rattle.sc_constructs.specs.declared.unsupported.Unsupported.{Unsupported}
-use Rattle.sc_constructs.specs.First.{unsupported as unsupported_in}
+use Rattle.sc_inputs.specs.FaultTexts.{fault_text, schema_fault_text, world_fault_text, name_fault_text, type_fault_text}
 use Rattle.sc_question.specs.declared.question.Question.{Question}
 
 -- a policy set of a command
@@ -39,7 +37,6 @@ pub data Refusal : Type 0 where
   world_text : WorldFault → Refusal
   unknown_name : Side → NameFault → Refusal
   ill_typed : Side → IllTyped → Refusal
-  unsupported : Side → Unsupported → Refusal
   -- this place is none of so many environments
   no_environment : (place count : ℕ) → Refusal
   read_fault : File → Refusal
@@ -62,7 +59,6 @@ code_of (policy_text side f) = 11
 code_of (world_text f) = 17
 code_of (unknown_name side f) = 13
 code_of (ill_typed side f) = 13
-code_of (unsupported side u) = 15
 code_of (no_environment place count) = 16
 code_of (read_fault f) = 20
 code_of (too_long f) = 22
@@ -82,7 +78,6 @@ refusal_text (policy_text side f) = on_side (codes "error 11 ") side (fault_text
 refusal_text (world_text f) = codes "error 17 " ++ world_fault_text f ++ codes "\n"
 refusal_text (unknown_name side f) = on_side (codes "error 13 ") side (name_fault_text f)
 refusal_text (ill_typed side f) = on_side (codes "error 13 ") side (type_fault_text f)
-refusal_text (unsupported side u) = on_side (codes "error 15 ") side (construct_text u)
 refusal_text (no_environment place count) = place_text place count
 refusal_text (read_fault f) = codes "error 20 " ++ file_name f ++ codes "\n"
 refusal_text (too_long f) = codes "error 22 " ++ file_name f ++ codes "\n"
@@ -169,28 +164,24 @@ in_against fault (Some ps) = on against_side (fault ps)
 abbrev pub first_fault : {F : Type 0} → (List Policy → Option F) → List Policy → Option (List Policy) → Option (Side × F)
 first_fault fault first against = option_or (on policies_side (fault first)) (in_against fault against)
 
--- the first name that isn't declared, the first policy without a type, and the first construct that isn't supported
+-- the first name that isn't declared, and the first policy without a type
 abbrev pub names_fault : Declarations → List Policy → Option (List Policy) → Option (Side × NameFault)
 names_fault s first against = first_fault (name_fault s) first against
 
 abbrev pub types_fault : Declarations → List Policy → Option (List Policy) → Option (Side × IllTyped)
 types_fault s first against = first_fault (type_fault s) first against
 
-abbrev pub constructs_fault : Declarations → List Policy → Option (List Policy) → Option (Side × Unsupported)
-constructs_fault s first against = first_fault (unsupported_in s) first against
-
--- the policies write declared names alone, are typed in each environment, and have supported constructs alone
+-- the policies write declared names alone, and are typed in each environment
 pub record AreServed (s : Declarations) (first : List Policy) (against : Option (List Policy)) : Type 0 where
   pub declared : names_fault s first against ≡ None
   pub typed : types_fault s first against ≡ None
-  pub supported : constructs_fault s first against ≡ None
 
 -- the schema has the environment that is named, where one is
 abbrev pub HasEnvironment : Declarations → Aim → Type 0
 HasEnvironment s aim = IfSome (place_in aim) (λ place. place < length (environments s))
 
--- the words are the command to ask a question, for an aim, of policies that are read, write declared names alone, are typed in each
--- environment, and have supported constructs alone, of a schema with the environment that is named
+-- the words are the command to ask a question, for an aim, of policies that are read, write declared names alone, and are typed in each
+-- environment, of a schema with the environment that is named
 pub record ReachesAim (content : Content) (words : List (List ℕ)) (s : Declarations) (question : Question) (first : List Policy) (against : Option (List Policy)) (aim : Aim) : Type 0 where
   pub reaches : ReachesQuestion content words s question first against aim
   pub served : AreServed s first against
@@ -223,12 +214,10 @@ pub data RefusesLog (content : Content) (name : List ℕ) (rose : Type 0) : Refu
   log_unread : rose → RefusesLog content name rose (read_fault log_file)
   log_long : IsLongLog content name → RefusesLog content name rose (too_long log_file)
 
--- all policy files of a question are read, and its policies are refused: a name isn't declared; or all are, and a policy has no type; or all
--- have, and a construct isn't supported
+-- all policy files of a question are read, and its policies are refused: a name isn't declared; or all are, and a policy has no type
 pub data RefusesQuestion (s : Declarations) (first : List Policy) (against : Option (List Policy)) : Refusal → Type 0 where
   undeclared : (side : Side) (f : NameFault) → names_fault s first against ≡ Some (side, f) → RefusesQuestion s first against (unknown_name side f)
   untyped : (side : Side) (f : IllTyped) → names_fault s first against ≡ None → types_fault s first against ≡ Some (side, f) → RefusesQuestion s first against (ill_typed side f)
-  has_construct : (side : Side) (u : Unsupported) → names_fault s first against ≡ None → types_fault s first against ≡ None → constructs_fault s first against ≡ Some (side, u) → RefusesQuestion s first against (unsupported side u)
 
 -- the environment that is named is none of the schema
 pub data RefusesPlace (s : Declarations) (aim : Aim) : Refusal → Type 0 where

@@ -24,7 +24,6 @@ refusal_view (refusal.PolicyText s f) = spec.policy_text (side_view s) f
 refusal_view (refusal.WorldText f) = spec.world_text f
 refusal_view (refusal.UnknownName s f) = spec.unknown_name (side_view s) f
 refusal_view (refusal.IllTyped s f) = spec.ill_typed (side_view s) f
-refusal_view (refusal.Unsupported s u) = spec.unsupported (side_view s) u
 refusal_view (refusal.NoEnvironment place count) = spec.no_environment place count
 refusal_view (refusal.ReadFault f) = spec.read_fault (file_view f)
 refusal_view (refusal.TooLong f) = spec.too_long (file_view f)

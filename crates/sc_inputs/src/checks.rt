@@ -1,17 +1,15 @@
 //! Checks the policies of a command.
 ghost use Rattle.std.specs.Prelude.{◌≡◌, None, OnOk, IfErr, option_map};
-ghost use Rattle.sc_constructs.specs.First.{unsupported as unsupported_in};
 ghost use Rattle.sc_typing.specs.Checking.{type_fault};
 ghost use Rattle.sc_typing.specs.Names.{name_fault};
 ghost use Rattle.sc_inputs.specs.Readings.{Checks, FailsWith};
-ghost use Rattle.sc_inputs.specs.Refusals.{names_fault, types_fault, constructs_fault, AreServed, HasEnvironment, RefusesPlace, RefusesQuestion, unknown_name, ill_typed, unsupported};
+ghost use Rattle.sc_inputs.specs.Refusals.{names_fault, types_fault, AreServed, HasEnvironment, RefusesPlace, RefusesQuestion, unknown_name, ill_typed};
 ghost use Rattle.sc_inputs.specs.Serving.{aim_view, place_in};
 ghost use Rattle.sc_inputs.specs.View.{side_view};
 
 use crate::refusal::{Refusal, Side};
 use crate::serving::Aim;
 use sc_ast::PolicySet;
-use sc_constructs::first_unsupported;
 use sc_lists::Fault;
 use sc_schema::{Schema, environments};
 use sc_typing::{check_names, check_types};
@@ -45,22 +43,6 @@ fn check_typed(
         Ok(()) => Ok(()),
         Err(Fault::Told(fault)) => Err(Fault::Told(Refusal::IllTyped(side, fault))),
         Err(Fault::NoMemory) => Err(Fault::NoMemory),
-    }
-}
-
-/// Checks that the policies of a set have supported constructs alone.
-fn check_constructs(
-    alloc: Global,
-    schema: &Schema,
-    policies: &PolicySet,
-    side: Side,
-) -> Result<(), Fault<Refusal>>
-    ensures { Checks (unsupported_in schema.now policies.now) (unsupported (side_view side)) result }
-{
-    match first_unsupported(alloc, schema, policies) {
-        Ok(None) => Ok(()),
-        Ok(Some(found)) => Err(Fault::Told(Refusal::Unsupported(side, found))),
-        Err(_) => Err(Fault::NoMemory),
     }
 }
 
@@ -101,27 +83,7 @@ fn typed(
     }
 }
 
-/// Checks that the policies of both sets have supported constructs alone.
-fn supported(
-    alloc: Global,
-    schema: &Schema,
-    policies: &PolicySet,
-    against: Option<&PolicySet>,
-) -> Result<(), Fault<Refusal>>
-    ensures { Checks (constructs_fault schema.now policies.now (option_map (λ ps. ps.now) against.entry))
-        (λ x. unsupported x.0 x.1) result }
-{
-    match check_constructs(alloc, schema, policies, Side::Policies) {
-        Ok(()) => match against {
-            Some(others) => check_constructs(alloc, schema, others, Side::Against),
-            None => Ok(()),
-        },
-        Err(fault) => Err(fault),
-    }
-}
-
-/// Checks the policies of a question: the names of both sets, then their types, then their
-/// constructs.
+/// Checks the policies of a question: the names of both sets, then their types.
 pub fn check_question(
     alloc: Global,
     schema: &Schema,
@@ -133,10 +95,7 @@ pub fn check_question(
         (λ ps. ps.now) against.entry))) }
 {
     match declared(schema, policies, against) {
-        Ok(()) => match typed(alloc, schema, policies, against) {
-            Ok(()) => supported(alloc, schema, policies, against),
-            Err(fault) => Err(fault),
-        },
+        Ok(()) => typed(alloc, schema, policies, against),
         Err(fault) => Err(fault),
     }
 }

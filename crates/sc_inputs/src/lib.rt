@@ -2,7 +2,6 @@
 #![tactic(auto)]
 
 mod checks;
-mod construct_text;
 mod fault_text;
 mod files;
 mod inputs;

@@ -1,14 +1,12 @@
 //! The answers other than a report.
 ghost use Rattle.std.specs.Prelude.{◌≡◌, ◌++◌, OnOk, IfOk, codes};
 ghost use Rattle.sc_inputs.specs.Refusals.{code_of, refusal_text, file_name, place_text, side_name, on_side};
-ghost use Rattle.sc_inputs.specs.FaultTexts.{fault_text, schema_fault_text, world_fault_text, name_fault_text, type_fault_text, construct_text};
+ghost use Rattle.sc_inputs.specs.FaultTexts.{fault_text, schema_fault_text, world_fault_text, name_fault_text, type_fault_text};
 ghost use Rattle.sc_inputs.specs.View.{side_view, file_view, refusal_view};
 
-use crate::construct_text::put_construct;
 use crate::fault_text::{put_fault, put_name_fault, put_schema_fault, put_world_fault};
 use crate::put::{put, put_number};
 use crate::type_text::put_type_fault;
-use sc_constructs::Unsupported;
 use sc_parser::PolicyFault;
 use sc_schema_syntax::SchemaFault;
 use sc_typing::{IllTyped, NameFault};
@@ -52,8 +50,6 @@ pub enum Refusal {
     UnknownName(Side, NameFault),
     /// A policy of a set has no type in an environment.
     IllTyped(Side, IllTyped),
-    /// A policy of a set has a construct that isn't supported.
-    Unsupported(Side, Unsupported),
     /// The environment that is named, by this place, is none of the schema, which has so many.
     NoEnvironment(u64, u64),
     /// A file couldn't be read.
@@ -71,7 +67,6 @@ pub fn code(refusal: &Refusal) -> u8
         Refusal::PolicyText(_, _) => 11,
         Refusal::SchemaText(_) => 12,
         Refusal::UnknownName(_, _) | Refusal::IllTyped(_, _) => 13,
-        Refusal::Unsupported(_, _) => 15,
         Refusal::NoEnvironment(_, _) => 16,
         Refusal::WorldText(_) => 17,
         Refusal::ReadFault(_) => 20,
@@ -166,15 +161,6 @@ fn put_ill_typed(
     put(out, b"\n")
 }
 
-fn put_unsupported(out: &mut Vec<u8>, side: Side, found: Unsupported) -> Result<(), AllocError>
-    ensures { OnOk result (out.new.items ≡ out.old.items
-        ++ on_side (codes "error 15 ") (side_view side) (construct_text found)) }
-{
-    put_side(out, b"error 15 ", side)?;
-    put_construct(out, found)?;
-    put(out, b"\n")
-}
-
 #[tactic(auto, unfolding(crate::specs::Refusals::place_text))]
 fn put_place(out: &mut Vec<u8>, place: u64, count: u64) -> Result<(), AllocError>
     ensures { OnOk result (out.new.items ≡ out.old.items ++ place_text place count) }
@@ -196,7 +182,6 @@ fn put_refusal(alloc: Global, out: &mut Vec<u8>, refusal: &Refusal) -> Result<()
         Refusal::WorldText(fault) => put_world_text(alloc, out, fault),
         Refusal::UnknownName(side, fault) => put_unknown_name(out, *side, fault),
         Refusal::IllTyped(side, fault) => put_ill_typed(alloc, out, *side, fault),
-        Refusal::Unsupported(side, found) => put_unsupported(out, *side, *found),
         Refusal::NoEnvironment(place, count) => put_place(out, *place, *count),
         Refusal::ReadFault(file) => put_error(out, b"error 20 ", *file),
         Refusal::TooLong(file) => put_error(out, b"error 22 ", *file),

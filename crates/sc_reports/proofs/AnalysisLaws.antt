@@ -9,7 +9,6 @@ use Rattle.sc_lists.proofs.BoolLaws.{not_true}
 use Rattle.sc_lists.proofs.ListLaws.{all_of_elements}
 use Rattle.sc_ast.specs.declared.policy.Policy.{Policy}
 use Rattle.sc_ast.specs.Literals.{literals}
-use Rattle.sc_constructs.specs.First.{unsupported, first_from}
 use Rattle.sc_clauses.specs.declared.step.Step.{Step}
 use Rattle.sc_closure.specs.Atoms.{IsOverLimit}
 use Rattle.sc_footprint.specs.Problems.{Posed, IsPosed, IsProblemOf}
@@ -29,7 +28,7 @@ use Rattle.sc_question.specs.declared.question.Question.{Question}
 use Rattle.sc_schema.specs.declared.declarations.Env.{Env}
 use Rattle.sc_schema.specs.Declarations.{Declarations, environments}
 use Rattle.sc_schema.specs.Lawful.{IsLawful}
-use Rattle.sc_solver.specs.Solutions.{rules_of, IsSpent}
+use Rattle.sc_solver.specs.Solutions.{IsSpent}
 use Rattle.sc_nodes.specs.declared.node.Node.{Node}
 use Rattle.sc_terms.specs.Tables.{StandsFor}
 use Rattle.sc_terms.specs.Trees.{Tree}
@@ -89,10 +88,6 @@ empty-typed : (s : Declarations) → type_fault s [] ≡ None
 unfolding fault_from
 empty-typed s = refl
 
-empty-supported : (s : Declarations) → unsupported s [] ≡ None
-unfolding first_from
-empty-supported s = refl
-
 -- ---- the goal of a query
 
 pub query-posed : Compiling → Posing → (s : Declarations) (env : Env) (q : Query) → AreServed s q.first q.against → Contains (environments s) env → IsSome (goal_term s env q.question q.first (second q))
@@ -100,10 +95,6 @@ query-posed compiled posed s env q served among =
     posed s env q.question q.first (second q)
     (compiled s env q.first (first-none (type_fault s) q.first q.against served.typed) among)
     (compiled s env (second q) (second-none (type_fault s) q.first q.against (empty-typed s) served.typed) among)
-
--- both sets are of supported constructs
-pub query-supported : (s : Declarations) (q : Query) → AreServed s q.first q.against → (unsupported s q.first ≡ None) × (unsupported s (second q) ≡ None)
-query-supported s q served = (first-none (unsupported s) q.first q.against served.supported, second-none (unsupported s) q.first q.against (empty-supported s) served.supported)
 
 -- there is one, and it is what a number stands for
 pub some-goal : (o : Option Tree) → IsSome o → (t : Tree) × (o ≡ Some t)
@@ -180,7 +171,7 @@ satisfied-violates right fewer q env p w lawful is found =
 pub has-room : (q : Asked) (env : Env) (p : Posed) → IsProblem q env p → HasRoom q env
 has-room q env p is = record { posed = p; is_problem = is; few = is.posed.few }
 
-pub spent-undecided : (q : Asked) (env : Env) (p : Posed) (log : List Step) → IsProblem q env p → IsSpent (rules_of p) p q.budget log
+pub spent-undecided : (q : Asked) (env : Env) (p : Posed) (log : List Step) → IsProblem q env p → IsSpent p q.budget log
     → (q.budget ≡ q.budget) × IsUndecided q env q.budget log × HasRoom q env
 spent-undecided q env p log is spent = (refl, record { posed = p; is_problem = is; spent = spent }, has-room q env p is)
 

@@ -11,7 +11,7 @@ use Rattle.sc_outside.specs.declared.faults.SinkFault.{SinkFault}
 use Rattle.sc_outside.specs.declared.faults.SinkFault.TheVariants.{Failed, NoMemory}
 use Rattle.sc_schema.specs.declared.declarations.Env.{Env}
 use Rattle.sc_schema.specs.Declarations.{environments}
-use Rattle.sc_solver.specs.Solutions.{rules_of}
+use Rattle.sc_solver.specs.Solutions.{AreRulesOf}
 use Rattle.sc_reports.proofs.AnalysisLaws.{asked-same}
 use Rattle.sc_reports.specs.Analyses.{asked_of, asked_within, IsQueryOf}
 use Rattle.sc_reports.specs.Claims.{Answer, Checked, Claims, IsShort, answer_code, answer_front, answer_text, answer_whole, says_of, unchecked, verdict_on}
@@ -30,11 +30,11 @@ Accepting = (rules : Rules) (p : Posed) (bytes : List ℕ) → (ended (after rul
 
 -- what a verdict says is so
 pub verdict-claims : Agreeing → Accepting → (q : Asked) (env : Env) (p : Posed) (content : Option (List ℕ)) (v : Verdict) → IsProblem q env p → HasRoom q env → (v ≡ Refuted → AlwaysHas q env)
-    → IfSome content (λ text. verdict_on p text ≡ v) → Claims content q env (says_of v)
+    → IfSome content (λ text. (rules : Rules) → AreRulesOf p rules → verdict_on rules p text ≡ v) → Claims content q env (says_of v)
 verdict-claims agrees accepts q env p None Refuted is room sound told = (sound refl, room, tt)
-verdict-claims agrees accepts q env p (Some text) Refuted is room sound told = (sound refl, room, record { posed = p; is_problem = is; accepted_text = (accepts (rules_of p) p text).0 told })
+verdict-claims agrees accepts q env p (Some text) Refuted is room sound told = (sound refl, room, record { posed = p; is_problem = is; accepted_text = λ rules all. (accepts rules p text).0 (told rules all) })
 verdict-claims agrees accepts q env p None (Rejected step why) is room sound told = (room, tt)
-verdict-claims agrees accepts q env p (Some text) (Rejected step why) is room sound told = (room, record { posed = p; is_problem = is; verdict = (agrees (rules_of p) p text (Rejected step why)).0 told })
+verdict-claims agrees accepts q env p (Some text) (Rejected step why) is room sound told = (room, record { posed = p; is_problem = is; verdict = λ rules all. (agrees rules p text (Rejected step why)).0 (told rules all) })
 
 -- a log that was read isn't too long
 pub read-short : (content : Option (List ℕ)) (before now : Held) → IfSome content (HasRead before now) → IsShort content

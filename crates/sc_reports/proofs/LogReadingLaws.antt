@@ -2,13 +2,13 @@
 use Rattle.std.proofs.Common.{◌≡◌, ◌≤◌, ◌<◌, ◌+◌, ◌++◌, ◌∙◌, ℕ, List, [], ◌∷◌, Option, Some, None, IfSome, length, option_map, is_some, true, false, ◌==◌, refl, sym, ap, subst, arith, append_assoc, length-append, unwrap_or}
 use Rattle.std.specs.Bool.{⊤}
 use Rattle.sc_outside.specs.Pieces.{Left, behind}
-use Rattle.sc_checker.specs.Streams.{Checker, Checking, after, after_byte, unread}
-use Rattle.sc_checker.specs.Verdicts.{Rules}
-use Rattle.sc_footprint.specs.Problems.{Posed}
+use Rattle.sc_checker.specs.Streams.{Checker, Checking, after, after_byte}
+use Rattle.sc_checker.specs.Verdicts.{AreRules, Rules}
 use Rattle.sc_inputs.specs.Refusals.{Content, Refusal, RefusesLog, log_limit, log_long, log_unread}
-use Rattle.sc_solver.specs.Solutions.{rules_of}
-use Rattle.sc_solver.specs.declared.rules.Rules.{Rules as AllRules}
-use Rattle.sc_reports.specs.LogReading.{HasRead, HasReadAll, Held, IsOnTheWay, LeadsOn, RefusesPiece, SameProblem, held_after, piece_long, piece_unread}
+use Rattle.sc_solver.specs.Solutions.{AreRulesOf}
+use Rattle.sc_theories.specs.Theories.{HasRule, rule_clause}
+use Rattle.sc_theories.specs.declared.rules.Rules.{Rules as AllRules}
+use Rattle.sc_reports.specs.LogReading.{ComesTo, HasRead, HasReadAll, Held, IsOnTheWay, LeadsOn, RefusesPiece, SameProblem, TellsHeld, held_after, piece_long, piece_unread}
 
 -- what is held after two pieces is what is held after both at once
 pub after-append : (rules : Rules) (c : Checking) (a b : List ℕ) → after rules (after rules c a) b ≡ after rules c (a ++ b)
@@ -30,30 +30,39 @@ split piece rest None e = absurd cc
 split piece rest (Some None) e = absurd cc
 split piece rest (Some (Some more)) e = record { more = more; is_left = refl; parts = ap text_in e }
 
+-- a test of the one problem is one of the other
+tells-on : (before now : Held) (tests : Rules) → SameProblem before now → TellsHeld before tests → TellsHeld now tests
+tells-on None None tests same h = tt
+tells-on None (Some d) tests same h = absurd same
+tells-on (Some c) None tests same h = absurd same
+tells-on (Some c) (Some d) tests same h = subst (λ p. AreRulesOf p tests) (sym same) h
+
 -- a piece that is fed leads on
-pub held-on : (before now later : Held) (piece more text : List ℕ) → SameProblem now later → held_after later [] ≡ held_after now piece → held_after now (piece ++ more) ≡ held_after before text → held_after later more ≡ held_after before text
-held-on before None None piece more text same fed h = h
-held-on before None (Some d) piece more text same fed h = absurd same
-held-on before (Some c) None piece more text same fed h = absurd same
-held-on before (Some c) (Some d) piece more text same fed h =
-    let state : d.state ≡ after (rules_of c.problem) c.state piece = ap (λ (o : Option Checking). unwrap_or o d.state) fed in
-    let there : after (rules_of d.problem) d.state more ≡ after (rules_of c.problem) (after (rules_of c.problem) c.state piece) more =
-    ap (λ p. after (rules_of p) d.state more) same ∙ ap (λ s. after (rules_of c.problem) s more) state in
-    ap Some (there ∙ after-append (rules_of c.problem) c.state piece more) ∙ h
+held-on : (tests : Rules) (now later : Held) (piece more : List ℕ) → SameProblem now later → held_after tests later [] ≡ held_after tests now piece → held_after tests later more ≡ held_after tests now (piece ++ more)
+held-on tests None None piece more same fed = refl
+held-on tests None (Some d) piece more same fed = absurd same
+held-on tests (Some c) None piece more same fed = absurd same
+held-on tests (Some c) (Some d) piece more same fed =
+    let state : d.state ≡ after tests c.state piece = ap (λ (o : Option Checking). unwrap_or o d.state) fed in
+    ap Some (ap (λ s. after tests s more) state ∙ after-append tests c.state piece more)
+
+pub comes-on : (before now later : Held) (text piece more : List ℕ) → SameProblem before now → SameProblem now later → ComesTo now piece later [] → ComesTo before text now (piece ++ more) → ComesTo before text later more
+comes-on before now later text piece more kept same fed h = λ tests tells.
+    held-on tests now later piece more same (fed tests (tells-on before now tests kept tells)) ∙ h tests tells
 
 room-less : (room after_room count size more limit : ℕ) → room ≡ after_room + count → room + size ≡ limit + (count + more) → after_room + size ≡ limit + more
 room-less room after_room count size more limit e f = omega (arith, e, f)
 
 -- with a piece that is read and fed
 pub leads-on : (before now later : Held) (text piece : List ℕ) (room after_room : ℕ) (left next : Left) → LeadsOn before now text room left → left ≡ behind piece next → room ≡ after_room + length piece
-    → SameProblem now later → held_after later [] ≡ held_after now piece → LeadsOn before later text after_room next
-leads-on before now later text piece room after_room left next x front fits same fed =
+    → SameProblem before now → SameProblem now later → ComesTo now piece later [] → LeadsOn before later text after_room next
+leads-on before now later text piece room after_room left next x front fits kept same fed =
     let s = split piece x.rest next (sym x.is_left ∙ front) in
     let size : length x.rest ≡ length piece + length s.more = ap length s.parts ∙ length-append piece s.more in
     record {
       rest = s.more;
       is_left = s.is_left;
-      follows = held-on before now later piece s.more text same fed (ap (held_after now) (sym s.parts) ∙ x.follows);
+      follows = comes-on before now later text piece s.more kept same fed (λ tests tells. ap (held_after tests now) (sym s.parts) ∙ x.follows tests tells);
       counted = room-less room after_room (length piece) (length text) (length s.more) log_limit fits (x.counted ∙ ap (λ n. log_limit + n) size);
     }
 
@@ -61,7 +70,7 @@ leads-on before now later text piece room after_room left next x front fits same
 pub read-whole : (before now : Held) (text : List ℕ) (room : ℕ) (left : Left) → LeadsOn before now text room left → IfSome left (λ told. IfSome told (λ rest. length rest ≡ 0)) → HasRead before now text
 read-whole before now text room left x end =
     let none : length x.rest ≡ 0 = subst (λ (l : Left). IfSome l (λ told. IfSome told (λ rest. length rest ≡ 0))) x.is_left end in
-    record { short = short-text room (length text) (length x.rest) log_limit x.counted none; reached = ap (held_after now) (sym (no-text x.rest none)) ∙ x.follows }
+    record { short = short-text room (length text) (length x.rest) log_limit x.counted none; reached = λ tests tells. ap (held_after tests now) (sym (no-text x.rest none)) ∙ x.follows tests tells }
   where
     short-text : (room size rest limit : ℕ) → room + size ≡ limit + rest → rest ≡ 0 → size ≤ limit
     short-text room size rest limit e f = omega (arith, e, f)
@@ -95,13 +104,13 @@ same-on (Some c) (Some d) (Some e) h k = k ∙ h
 pub way-begins : (start : Left) (held : Held) → IsOnTheWay start held held log_limit start
 way-begins None held = tt
 way-begins (Some None) held = tt
-way-begins (Some (Some text)) held = record { rest = text; is_left = refl; follows = refl; counted = refl }
+way-begins (Some (Some text)) held = record { rest = text; is_left = refl; follows = λ tests tells. refl; counted = refl }
 
 pub way-on : (start : Left) (before now later : Held) (piece : List ℕ) (room after_room : ℕ) (left next : Left) → IsOnTheWay start before now room left → left ≡ behind piece next → room ≡ after_room + length piece
-    → SameProblem now later → held_after later [] ≡ held_after now piece → IsOnTheWay start before later after_room next
-way-on None before now later piece room after_room left next way front fits same fed = tt
-way-on (Some None) before now later piece room after_room left next way front fits same fed = tt
-way-on (Some (Some text)) before now later piece room after_room left next way front fits same fed = leads-on before now later text piece room after_room left next way front fits same fed
+    → SameProblem before now → SameProblem now later → ComesTo now piece later [] → IsOnTheWay start before later after_room next
+way-on None before now later piece room after_room left next way front fits kept same fed = tt
+way-on (Some None) before now later piece room after_room left next way front fits kept same fed = tt
+way-on (Some (Some text)) before now later piece room after_room left next way front fits kept same fed = leads-on before now later text piece room after_room left next way front fits kept same fed
 
 pub way-ends : (start : Left) (before now : Held) (room : ℕ) (left : Left) → IsOnTheWay start before now room left → IfSome left (λ told. IfSome told (λ rest. length rest ≡ 0)) → HasReadAll start before now
 way-ends None before now room left way end = tt
@@ -136,19 +145,14 @@ pub log-fails : (content : Content) (name : List ℕ) (left : Left) (risen rose 
 log-fails content name left risen rose since e _ (piece_unread h) = log_unread (since h)
 log-fails content name left risen rose since e _ (piece_long far) = log_long (subst (λ (l : Left). IfSome l (λ told. IfSome told (λ rest. log_limit < length rest))) e far)
 
--- a checker that has taken a piece checks the same problem, and holds what comes after the piece
-abbrev IsFed : Checker AllRules → List ℕ → Checker AllRules → Type 0
-IsFed old piece new = new ≡ record { rules = old.rules; problem = old.problem; state = after (rules_of old.problem) old.state piece; refuses = false }
+-- a checker that has taken a piece checks the same problem, and holds what comes after the piece by any test of it
+abbrev IsFed : Rules → Checker AllRules → List ℕ → Checker AllRules → Type 0
+IsFed tests old piece new = new ≡ record { rules = old.rules; problem = old.problem; state = after tests old.state piece; refuses = false }
 
-pub fed-same : (held : Held) (old new : Checker AllRules) (piece : List ℕ) → held ≡ Some old → IsFed old piece new → SameProblem held (Some new)
-fed-same held old new piece is fed = subst (λ (h : Held). SameProblem h (Some new)) (sym is) (ap (λ (c : Checker AllRules). c.problem) fed)
+pub fed-same : (held : Held) (old new : Checker AllRules) → held ≡ Some old → new.problem ≡ old.problem → SameProblem held (Some new)
+fed-same held old new is kept = subst (λ (h : Held). SameProblem h (Some new)) (sym is) kept
 
-pub fed-holds : (held : Held) (old new : Checker AllRules) (piece : List ℕ) → held ≡ Some old → IsFed old piece new → held_after (Some new) [] ≡ held_after held piece
-fed-holds held old new piece is fed =
-    ap (λ (c : Checker AllRules). held_after (Some c) []) fed ∙ ap (λ (h : Held). held_after h piece) (sym is)
-
--- a checker that began with nothing holds what the whole text leads to
-pub held-whole : (p : Posed) (first last : Checker AllRules) (text : List ℕ) → first.problem ≡ p → first.state ≡ unread p → held_after (Some last) [] ≡ held_after (Some first) text → last.state ≡ after (rules_of p) (unread p) text
-held-whole p first last text same begun reached =
-    ap (λ (o : Option Checking). unwrap_or o last.state) reached
-    ∙ ap (λ q. after (rules_of q) first.state text) same ∙ ap (λ s. after (rules_of p) s text) begun
+pub fed-comes : (held : Held) (old new : Checker AllRules) (piece : List ℕ) → held ≡ Some old
+    → ((tests : Rules) → AreRules (λ (t : AllRules). HasRule) (λ (t : AllRules). rule_clause) old.rules old.problem tests → IsFed tests old piece new) → ComesTo held piece (Some new) []
+fed-comes held old new piece is fed = subst (λ (h : Held). ComesTo h piece (Some new) []) (sym is)
+    (λ tests tells. ap (λ (c : Checker AllRules). held_after tests (Some c) []) (fed tests (record { decides = tells.decides; clauses = tells.clauses })))

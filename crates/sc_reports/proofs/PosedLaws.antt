@@ -1,4 +1,4 @@
--- The goal of a query is what the closure of problems asks of a goal, and is of the fragment of Booleans.
+-- The goal of a query is what the closure of problems asks of a goal.
 use Rattle.std.proofs.Common.{◌≡◌, inl, inr, Bool, true, false, List, [], ◌∷◌, Some, is_some, Contains, refl, sym, subst}
 use Rattle.std.specs.List.{AllByRecursion}
 use Rattle.std.proofs.lemmas.List.Elements.{Contains-append_left, Contains-append_right}
@@ -7,17 +7,14 @@ use Rattle.sc_names.specs.declared.uid.Uid.{Uid}
 use Rattle.sc_ast.specs.declared.policy.Policy.{Policy}
 use Rattle.sc_ast.specs.Literals.{literals, policy_uids}
 use Rattle.sc_schema.specs.declared.declarations.Env.{Env}
-use Rattle.sc_schema.specs.Declarations.{Declarations, environments, is_action_type, action, entity_type, context_of}
+use Rattle.sc_schema.specs.Declarations.{Declarations, environments, is_action_type, action, entity_type}
 use Rattle.sc_schema.specs.Lawful.{IsLawful}
 use Rattle.sc_typing.specs.Names.{is_declared}
 use Rattle.sc_world.specs.Named.{IsDeclared}
 use Rattle.sc_terms.specs.Trees.{Tree}
-use Rattle.sc_term_laws.specs.Booleans.{IsBoolean}
 use Rattle.sc_term_laws.proofs.ChoicesLaws.{entity_is}
 use Rattle.sc_symlaws.specs.Written.{IsSetting, IsWritten}
 use Rattle.sc_closure_rules.specs.Goals.{IsGoal}
-use Rattle.sc_footprint.specs.Problems.{Posed, goal_term}
-use Rattle.sc_solver.specs.Kinds.{IsBooleanGoal}
 use Rattle.sc_goal.specs.Goals as compiled
 use Rattle.sc_goal.specs.Queries.{Asked as Query, IsAsked, second}
 use Rattle.sc_question.specs.declared.question.Question.{Question}
@@ -48,8 +45,3 @@ query-goal goals s env q t lawful among asked declared first other e =
     goals s env q.literals q.question q.first (second q) t
     (record { lawful = lawful; environment = among; declared = λ u c. passes s u (all_element (IsDeclared s) q.literals u declared c) })
     (set-written q.literals q.first (λ u c. (asked.written u).1 (inl c)) first) (set-written q.literals (second q) (λ u c. (asked.written u).1 (inr c)) other) e
-
--- the goal of a problem of the query is of the fragment
-pub query-boolean : (s : Declarations) (env : Env) (p : Posed) → p.schema ≡ s → p.env ≡ env → IsBoolean (context_of s env.action) (goal_term p) → IsBooleanGoal p
-query-boolean s env p e f h =
-    subst (λ (d : Declarations). IsBoolean (context_of d p.env.action) (goal_term p)) (sym e) (subst (λ (x : Env). IsBoolean (context_of s x.action) (goal_term p)) (sym f) h)

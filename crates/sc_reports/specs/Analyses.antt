@@ -3,7 +3,7 @@ use Rattle.sc_ast.specs.Conditions.{condition}
 use Rattle.sc_eval.specs.Written.{HasProperConstants}
 use Rattle.std.specs.List.{AllByRecursion}
 use Rattle.std.specs.Prelude.{◌≡◌, ◌≤◌, ℕ, List, [], Option, Some, is_some, length, unwrap_or, ⊤}
-use Rattle.sc_checker.specs.Verdicts.{IsAccepted}
+use Rattle.sc_checker.specs.Verdicts.{IsAccepted, Rules}
 use Rattle.sc_clauses.specs.declared.step.Step.{Step}
 use Rattle.sc_footprint.specs.Problems.{Posed}
 use Rattle.sc_goal.specs.Goals.{goal_term}
@@ -16,7 +16,7 @@ use Rattle.sc_inputs.specs.declared.inputs.Analysis.{Analysis}
 use Rattle.sc_inputs.specs.declared.inputs.Asking.{Asking}
 use Rattle.sc_schema.specs.declared.declarations.Env.{Env}
 use Rattle.sc_schema.specs.Declarations.{Declarations}
-use Rattle.sc_solver.specs.Solutions.{rules_of}
+use Rattle.sc_solver.specs.Solutions.{AreRulesOf}
 use Rattle.sc_terms.specs.Trees.{Tree}
 use Rattle.sc_reports.specs.Reports.{Asked, IsProblem, IsVerdict}
 use Rattle.sc_reports.specs.View.{verdict_view}
@@ -35,11 +35,11 @@ IsGoalOf s env q t = goal_term s env q.question q.first (second q) ≡ Some t
 abbrev pub IsAnswer : Asked → Env → EnvAnswer → Type 0
 IsAnswer q env a = IsVerdict q env (verdict_view q.budget a)
 
--- an accepted log of at most as many steps as the budget refutes the environment's problem
+-- a log of at most as many steps as the budget refutes the environment's problem: any test that tells just its instances accepts it
 pub record IsRefuted (q : Asked) (env : Env) (log : List Step) : Type 0 where
   pub posed : Posed
   pub is_problem : IsProblem q env posed
-  pub accepted : IsAccepted (rules_of posed) posed log
+  pub accepted : (rules : Rules) → AreRulesOf posed rules → IsAccepted rules posed log
   pub within : length log ≤ q.budget
 
 -- a log shows that the property holds

@@ -12,7 +12,7 @@ use Rattle.sc_goal.specs.Goals.{goal_term}
 use Rattle.sc_closure.specs.Atoms.{IsOverLimit, most_atoms}
 use Rattle.sc_footprint.specs.Problems.{Posed, IsPosed, atoms}
 use Rattle.sc_footprint.specs.Problems as problem
-use Rattle.sc_solver.specs.Solutions.{rules_of, IsSpent}
+use Rattle.sc_solver.specs.Solutions.{IsSpent}
 use Rattle.sc_inputs.specs.FaultTexts.{env_text}
 use Rattle.sc_schema.specs.declared.declarations.Env.{Env}
 use Rattle.sc_schema.specs.Declarations.{Declarations}
@@ -64,7 +64,7 @@ pub record IsProblem (q : Asked) (env : Env) (p : Posed) : Type 0 where
 pub record IsUndecided (q : Asked) (env : Env) (units : ℕ) (log : List Step) : Type 0 where
   pub posed : Posed
   pub is_problem : IsProblem q env posed
-  pub spent : IsSpent (rules_of posed) posed units log
+  pub spent : IsSpent posed units log
 
 -- the environment's problem lists no more atoms than may be
 pub record HasRoom (q : Asked) (env : Env) : Type 0 where

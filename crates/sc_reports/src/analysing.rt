@@ -5,12 +5,10 @@ ghost use Rattle.sc_closure.specs.Atoms.{IsRefused};
 ghost use Rattle.sc_footprint.specs.Problems.{IsProblemOf};
 ghost use Rattle.sc_goal.specs.Queries.{second};
 ghost use Rattle.sc_inputs.specs.Refusals.{AreServed};
-ghost use Rattle.sc_solver.specs.Kinds.{IsBooleanGoal};
 ghost use Rattle.sc_terms.specs.Trees.{Tree};
 ghost use Rattle.sc_reports.specs.Analyses.{asked_of, HaveProper, IsAnswer, IsFound, IsGoalOf, most_units};
 ghost use Rattle.sc_reports.specs.Reports.{IsProblem};
 
-use sc_boolean_goals::boolean_goals;
 use sc_checker::Log;
 use sc_declared::{declared_laws, literal_laws};
 use sc_footprint::{OverLimit, Problem, close};
@@ -64,7 +62,7 @@ pub(crate) fn problem_of<'a>(
 }
 
 /// Whether each well-formed world of an environment of the schema has the property that is asked about.
-/// The policies are declared, typed, and of supported constructs.
+/// The policies are declared and typed.
 pub fn analyse_env(
     alloc: Global,
     schema: &Schema,
@@ -81,7 +79,6 @@ pub fn analyse_env(
     ensures found { IfOk result (IsFound (asked_of schema.now query.now budget) env.now) }
 {
     goal_laws();
-    boolean_goals();
     query.laws();
     match problem_of(alloc, schema, env, query) {
         Ok(problem) => {
@@ -103,7 +100,6 @@ fn solved(
     budget: u64,
 ) -> Result<EnvAnswer, AllocError>
     requires problem { IsProblem (asked_of schema.now query.now budget) env.now problem.now }
-    requires boolean { IsBooleanGoal problem.now }
     requires units { budget ≤ most_units }
     ensures answer { IfOk result (IsAnswer (asked_of schema.now query.now budget) env.now) }
     ensures found { IfOk result (IsFound (asked_of schema.now query.now budget) env.now) }

@@ -1,6 +1,8 @@
 //! Checks a log that was kept.
 ghost use Rattle.std.specs.Prelude.{◌≡◌, ◌<◌, ◌≤◌, Some, length, slice_get, IfErr, IfOk, IfSome, OnOk};
+ghost use Rattle.sc_checker.specs.Verdicts.{Rules as AnyRules};
 ghost use Rattle.sc_footprint.specs.Truths.{IsUnsatisfiable};
+ghost use Rattle.sc_solver.specs.Solutions.{AreRulesOf};
 ghost use Rattle.sc_inputs.specs.Readings.{FailsWith, IsUnread};
 ghost use Rattle.sc_inputs.specs.Refusals.{RefusesLog};
 ghost use Rattle.sc_outside.specs.Counts.{Rose};
@@ -54,8 +56,8 @@ fn checked<F: Files>(
     name: &str,
     problem: &Problem<'_>,
 ) -> Result<Verdict, Fault<Refusal>>
-    ensures verdict { IfOk result (λ v. IfSome (F.content files.old name.now)
-        (λ text. verdict_on problem.now text ≡ v)) }
+    ensures verdict { IfOk result (λ v. IfSome (F.content files.old name.now) (λ text. (tests : AnyRules)
+        → AreRulesOf problem.now tests → verdict_on tests problem.now text ≡ v)) }
     ensures sound { IfOk result (λ v. v ≡ Verdict.Refuted → IsUnsatisfiable problem.now) }
     ensures short { OnOk result (IsShort (F.content files.old name.now)) }
     ensures fails { IfErr result (FailsWith (RefusesLog (F.content files.old) name.now (Rose (F.faults files.old)

@@ -4,7 +4,7 @@ ghost use Rattle.sc_inputs.specs.Readings.{FailsWith, IsUnread};
 ghost use Rattle.sc_inputs.specs.Refusals.{RefusesLog, log_limit};
 ghost use Rattle.sc_outside.specs.Counts.{Rose};
 ghost use Rattle.sc_outside.specs.Pieces.{IsEnd, behind};
-ghost use Rattle.sc_reports.specs.LogReading.{held_after, HasRead, HasReadAll, RefusesPiece, SameProblem};
+ghost use Rattle.sc_reports.specs.LogReading.{ComesTo, HasRead, HasReadAll, RefusesPiece, SameProblem};
 
 use sc_checker::LogChecker;
 use sc_inputs::{FileName, Refusal};
@@ -53,7 +53,7 @@ fn next_piece<F: Files>(
 /// Hands a piece on, where a log is checked.
 fn feed(checker: &mut Option<LogChecker<'_, '_, Rules>>, piece: &[u8]) -> Result<(), AllocError>
     ensures problem { OnOk result (SameProblem checker.old checker.new) }
-    ensures fed { OnOk result (held_after checker.new [] ≡ held_after checker.old piece.now) }
+    ensures fed { OnOk result (ComesTo checker.old piece.now checker.new []) }
 {
     match checker {
         Some(checker) => checker.feed(piece),

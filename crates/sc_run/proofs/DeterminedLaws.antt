@@ -17,13 +17,13 @@ use Rattle.sc_world_json.specs.Reading as world
 use Rattle.sc_inputs.specs.Serving.{Aim, Command, Serves, asking, checking, logging, place_in, reporting}
 use Rattle.sc_inputs.proofs.ServingLaws.{same_policies, same_schema, same_task, not_both_tasks, one_world_file, one_question}
 use Rattle.sc_inputs.specs.Readings.{ReadsAll, ReadsWorld}
-use Rattle.sc_inputs.specs.Refusals.{Refusal, Side, policies_side, against_side, IsRefusal, no_command, of_schema, of_policies, of_against, of_world, of_names, of_log, of_place, of_question, RefusesLog, log_long, log_unread, RefusesPlace, misplaced, RefusesQuestion, undeclared, untyped, has_construct, unread, long, RefusesSchema, schema_unread, schema_faulty, RefusesPolicies, policies_unread, policies_faulty, RefusesWorld, world_unread, world_faulty, code_of, Content, IsContent, IsTooLong, ReadsSchema, HasPolicies, HasAgainst, HasWorld, AreServed, HasEnvironment, IsLongLog, ReachesAim, ReachesQuestion, ReachesWorld, names_fault, types_fault, constructs_fault, limit, log_limit}
+use Rattle.sc_inputs.specs.Refusals.{Refusal, Side, policies_side, against_side, IsRefusal, no_command, of_schema, of_policies, of_against, of_world, of_names, of_log, of_place, of_question, RefusesLog, log_long, log_unread, RefusesPlace, misplaced, RefusesQuestion, undeclared, untyped, unread, long, RefusesSchema, schema_unread, schema_faulty, RefusesPolicies, policies_unread, policies_faulty, RefusesWorld, world_unread, world_faulty, code_of, Content, IsContent, IsTooLong, ReadsSchema, HasPolicies, HasAgainst, HasWorld, AreServed, HasEnvironment, IsLongLog, ReachesAim, ReachesQuestion, ReachesWorld, names_fault, types_fault, limit, log_limit}
 use Rattle.sc_reports.specs.Claims.{Answer, Checked, IsShort, accepted, answer_code, answer_front, answer_whole, rejected, too_large, unchecked}
 use Rattle.sc_reports.specs.Logs.{Logged, log_first, log_front, log_whole, other_front, other_whole, unlogged}
 use Rattle.sc_reports.specs.Progress.{Reported, whole, cut, cut_none, stopped}
 use Rattle.sc_run.specs.Replays.{Replayed, told_whole, told_front, told_first, untold}
 use Rattle.sc_reports.specs.Reports.{Asked}
-use Rattle.sc_run.specs.Runs.{Run, HasRisen, Ends, refused, refusal_cut, reported, replayed, wrote_log, checked_log, no_memory, scene, IsReadable, IsServed, IsWhole, IsWholeFor, LogIsLong, LogIsTold, MustBe, PlaceIsMissing, SchemaTold, PoliciesTold, AgainstTold, no_file, told_file, AgainstNamed, AllSpelled, WorldTold, WorldSpelled, QuestionSpelled, SchemaIsLong, SchemaIsFaulty, PoliciesAreLong, PoliciesAreFaulty, AgainstIsLong, AgainstIsFaulty, WorldIsLong, WorldIsFaulty, NamesAreUnknown, PoliciesAreUntyped, PoliciesAreUnsupported, IsReplayable, IsReplayed}
+use Rattle.sc_run.specs.Runs.{Run, HasRisen, Ends, refused, refusal_cut, reported, replayed, wrote_log, checked_log, no_memory, scene, IsReadable, IsServed, IsWhole, IsWholeFor, LogIsLong, LogIsTold, MustBe, PlaceIsMissing, SchemaTold, PoliciesTold, AgainstTold, no_file, told_file, AgainstNamed, AllSpelled, WorldTold, WorldSpelled, QuestionSpelled, SchemaIsLong, SchemaIsFaulty, PoliciesAreLong, PoliciesAreFaulty, AgainstIsLong, AgainstIsFaulty, WorldIsLong, WorldIsFaulty, NamesAreUnknown, PoliciesAreUntyped, IsReplayable, IsReplayed}
 use Rattle.sc_reports.specs.Analyses.{asked}
 use Rattle.sc_run.proofs.StatusLaws.{status-code}
 
@@ -401,7 +401,6 @@ module _ (r : Run) (spent : List (List Step)) where
         → (a : Refusal) (s : Declarations) (question : Question) (first : List Policy) (against : Option (List Policy)) (aim : Aim) → ReachesQuestion r.content r.words s question first against aim → RefusesQuestion s first against a → code_of a ≡ 13
     unknown-case t some _ s question first against aim reaches (undeclared side f is) = refl
     unknown-case t some _ s question first against aim reaches (untyped side f declared is) = refl
-    unknown-case t some _ s question first against aim reaches (has_construct side u declared typed is) = absurd (has-some t names_fault s question first against aim some reaches declared)
 
     question-unknown : Ends r spent → (t : AllSpelled r) → names_fault t.before.before.schema t.before.policies t.others ≢ None → (HasRisen r.reads → ⊥) → MustBe 13 r.code
     question-unknown ends t some calm =
@@ -413,24 +412,11 @@ module _ (r : Run) (spent : List (List Step)) where
         → (a : Refusal) (s : Declarations) (question : Question) (first : List Policy) (against : Option (List Policy)) (aim : Aim) → ReachesQuestion r.content r.words s question first against aim → RefusesQuestion s first against a → code_of a ≡ 13
     untyped-case t some _ s question first against aim reaches (undeclared side f is) = refl
     untyped-case t some _ s question first against aim reaches (untyped side f declared is) = refl
-    untyped-case t some _ s question first against aim reaches (has_construct side u declared typed is) = absurd (has-some t types_fault s question first against aim some reaches typed)
 
     pub policies-are-untyped : Ends r spent → PoliciesAreUntyped r → (HasRisen r.reads → ⊥) → MustBe 13 r.code
     policies-are-untyped ends x calm =
         must-be 13 ends (at-question 13 x.0 calm (untyped-case x.0 x.2)
         (λ s question first against aim reaches served. has-some x.0 types_fault s question first against aim x.2 reaches served.typed))
-
-    -- one of them has a construct that isn't supported
-    unsupported-case : (x : PoliciesAreUnsupported r)
-        → (a : Refusal) (s : Declarations) (question : Question) (first : List Policy) (against : Option (List Policy)) (aim : Aim) → ReachesQuestion r.content r.words s question first against aim → RefusesQuestion s first against a → code_of a ≡ 15
-    unsupported-case x _ s question first against aim reaches (undeclared side f is) = absurd (has-none x.0 names_fault (side, f) s question first against aim x.1 reaches is)
-    unsupported-case x _ s question first against aim reaches (untyped side f declared is) = absurd (has-none x.0 types_fault (side, f) s question first against aim x.2 reaches is)
-    unsupported-case x _ s question first against aim reaches (has_construct side u declared typed is) = refl
-
-    pub policies-are-unsupported : Ends r spent → PoliciesAreUnsupported r → (HasRisen r.reads → ⊥) → MustBe 15 r.code
-    policies-are-unsupported ends x calm =
-        must-be 15 ends (at-question 15 x.0 calm (unsupported-case x)
-        (λ s question first against aim reaches served. has-some x.0 constructs_fault s question first against aim x.3 reaches served.supported))
 
     -- ---- policies that are served
 
@@ -438,7 +424,6 @@ module _ (r : Run) (spent : List (List Step)) where
     question-served : (x : IsServed r) → (a : Refusal) (s : Declarations) (question : Question) (first : List Policy) (against : Option (List Policy)) (aim : Aim) → ReachesQuestion r.content r.words s question first against aim → RefusesQuestion s first against a → ⊥
     question-served x _ s question first against aim reaches (undeclared side f is) = has-none x.0 names_fault (side, f) s question first against aim x.1.declared reaches is
     question-served x _ s question first against aim reaches (untyped side f declared is) = has-none x.0 types_fault (side, f) s question first against aim x.1.typed reaches is
-    question-served x _ s question first against aim reaches (has_construct side u declared typed is) = has-none x.0 constructs_fault (side, u) s question first against aim x.1.supported reaches is
 
     -- the aim is the one that the words name, and the schema the one that is spelled
     one-aim : (t : AllSpelled r) (s : Declarations) (question : Question) (first : List Policy) (against : Option (List Policy)) (aim : Aim) → ReachesQuestion r.content r.words s question first against aim → t.before.aim ≡ aim

@@ -31,7 +31,7 @@ use Rattle.sc_inputs.specs.View.{refusal_view}
 use Rattle.sc_inputs.specs.declared.refusal.Refusal as answer
 use Rattle.sc_inputs.specs.declared.refusal.Refusal.TheVariants as refusal
 use Rattle.sc_lists.specs.declared.fault.Fault.TheVariants.{Told}
-use Rattle.sc_inputs.specs.Refusals.{Refusal, policies_side, against_side, usage, schema_text, policy_text, world_text, unknown_name, ill_typed, unsupported, read_fault, too_long, IsRefusal, no_command, of_schema, of_policies, of_against, of_world, of_names, of_log, of_place, of_question, no_environment, AreServed, ReachesAim, RefusesLog, log_unread, RefusesPlace, misplaced, RefusesQuestion, unread, long, RefusesSchema, schema_unread, schema_faulty, RefusesPolicies, policies_unread, RefusesWorld, world_unread, world_faulty, code_of, ReadsSchema, ReachesQuestion, ReachesWorld}
+use Rattle.sc_inputs.specs.Refusals.{Refusal, policies_side, against_side, usage, schema_text, policy_text, world_text, unknown_name, ill_typed, read_fault, too_long, IsRefusal, no_command, of_schema, of_policies, of_against, of_world, of_names, of_log, of_place, of_question, no_environment, AreServed, ReachesAim, RefusesLog, log_unread, RefusesPlace, misplaced, RefusesQuestion, unread, long, RefusesSchema, schema_unread, schema_faulty, RefusesPolicies, policies_unread, RefusesWorld, world_unread, world_faulty, code_of, ReadsSchema, ReachesQuestion, ReachesWorld}
 use Rattle.sc_inputs.specs.Refusals as spec
 use Rattle.sc_reports.specs.Analyses.{asked}
 use Rattle.sc_reports.specs.Claims.{Answer, Checked, Claims, IsShort, accepted, answer_code, answer_front, answer_text, answer_whole, rejected, too_large, unchecked}
@@ -41,7 +41,7 @@ use Rattle.sc_reports.specs.Progress.{Reported, whole, cut, cut_none, stopped}
 use Rattle.sc_run.specs.Replays.{Replayed, told_whole, told_front, told_first, untold}
 use Rattle.sc_outside.specs.Writes.{appended}
 use Rattle.sc_reports.specs.Reports.{Asked, IsReport, line_text, report_text, Line, Verdict, holds, counterexample, unknown, over_limit, IsLine, AlwaysHas, Violates, IsUndecided, is_counterexample, is_open, has_counterexample, has_open, status_by, status_of, log_of, logs_of}
-use Rattle.sc_run.specs.Runs.{Run, HasRisen, Ends, refused, refusal_cut, reported, replayed, wrote_log, checked_log, no_memory, scene, asked_about, asked_for, listed, IsReporting, IsLogging, IsChecking, AsksFor, ChecksLog, WritesLog, LogIsAccepted, LogIsRejected, LogIsWritten, SaysOf, IsMisplaced, log_long, Refuses, MustBe, Reports, AllHold, Tells, IsWell, AllWell, AsksQuestion, ReplaysWorld, SomeFails, SomeOpen, IsLogged, IsBroken, ReachesAgainst, TooLong, schema_long, policies_long, against_long, world_long, IsUnsupported, IsFaulty, policies_faulty, against_faulty, IsFaultySchema, IsFaultyWorld, IsUntyped, undeclared, untyped}
+use Rattle.sc_run.specs.Runs.{Run, HasRisen, Ends, refused, refusal_cut, reported, replayed, wrote_log, checked_log, no_memory, scene, asked_about, asked_for, listed, IsReporting, IsLogging, IsChecking, AsksFor, ChecksLog, WritesLog, LogIsAccepted, LogIsRejected, LogIsWritten, SaysOf, IsMisplaced, log_long, Refuses, MustBe, Reports, AllHold, Tells, IsWell, AllWell, AsksQuestion, ReplaysWorld, SomeFails, SomeOpen, IsLogged, IsBroken, ReachesAgainst, TooLong, schema_long, policies_long, against_long, world_long, IsFaulty, policies_faulty, against_faulty, IsFaultySchema, IsFaultyWorld, IsUntyped, undeclared, untyped}
 
 pub refusal-ends : (r : Run) (spent : List (List Step)) (a : Refusal) (n : ℕ) → IsRefusal r.content r.words (HasRisen r.reads) a → Refuses a r.before r.after (HasRisen r.writes) n → r.code ≡ n → spent ≡ [] → Ends r spent
 refusal-ends r spent a n h e is none =
@@ -87,7 +87,6 @@ unread-code (refusal.PolicyText s f) h = absurd h
 unread-code (refusal.WorldText f) h = absurd h
 unread-code (refusal.UnknownName s f) h = absurd h
 unread-code (refusal.IllTyped s f) h = absurd h
-unread-code (refusal.Unsupported s f) h = absurd h
 unread-code (refusal.NoEnvironment place count) h = absurd h
 unread-code (refusal.ReadFault f) h = refl
 unread-code (refusal.TooLong f) h = absurd h
@@ -135,7 +134,6 @@ refusal-code (policy_text side f) = record { least = omega arith; most = omega a
 refusal-code (world_text f) = record { least = omega arith; most = omega arith; no_write = λ e. absurd (omega (arith, e)) }
 refusal-code (unknown_name side f) = record { least = omega arith; most = omega arith; no_write = λ e. absurd (omega (arith, e)) }
 refusal-code (ill_typed side f) = record { least = omega arith; most = omega arith; no_write = λ e. absurd (omega (arith, e)) }
-refusal-code (unsupported side u) = record { least = omega arith; most = omega arith; no_write = λ e. absurd (omega (arith, e)) }
 refusal-code (no_environment place count) = record { least = omega arith; most = omega arith; no_write = λ e. absurd (omega (arith, e)) }
 refusal-code (read_fault f) = record { least = omega arith; most = omega arith; no_write = λ e. absurd (omega (arith, e)) }
 refusal-code (too_long f) = record { least = omega arith; most = omega arith; no_write = λ e. absurd (omega (arith, e)) }
@@ -610,7 +608,6 @@ not-rejection (policy_text side f) e = omega (arith, e)
 not-rejection (world_text f) e = omega (arith, e)
 not-rejection (unknown_name side f) e = omega (arith, e)
 not-rejection (ill_typed side f) e = omega (arith, e)
-not-rejection (unsupported side u) e = omega (arith, e)
 not-rejection (no_environment place count) e = omega (arith, e)
 not-rejection (read_fault f) e = omega (arith, e)
 not-rejection (too_long f) e = omega (arith, e)
@@ -682,7 +679,6 @@ CauseOf r (policy_text side f) = IsFaulty r
 CauseOf r (world_text f) = IsFaultyWorld r
 CauseOf r (unknown_name side f) = IsUntyped r
 CauseOf r (ill_typed side f) = IsUntyped r
-CauseOf r (unsupported side u) = IsUnsupported r
 CauseOf r (no_environment place count) = IsMisplaced r
 CauseOf r (read_fault f) = (HasRisen r.reads)
 CauseOf r (too_long f) = TooLong r
@@ -713,8 +709,6 @@ question-cause r s question first against aim reaches _ (spec.undeclared side f 
     inr (record { schema = s; question = question; first = first; against = against; aim = aim; reaches = reaches; ill_typed = undeclared side f is })
 question-cause r s question first against aim reaches _ (spec.untyped side f declared is) =
     inr (record { schema = s; question = question; first = first; against = against; aim = aim; reaches = reaches; ill_typed = untyped side f declared is })
-question-cause r s question first against aim reaches _ (spec.has_construct side u declared typed is) =
-    record { schema = s; question = question; first = first; against = against; aim = aim; reaches = reaches; declared = declared; typed = typed; side = side; construct = u; is = is }
 
 place-cause : (r : Run) (s : Declarations) (question : Question) (first : List Policy) (against : Option (List Policy)) (aim : Aim) → ReachesQuestion r.content r.words s question first against aim → AreServed s first against
     → (a : Refusal) → RefusesPlace s aim a → CauseOf r a
@@ -752,8 +746,7 @@ Cause r n =
     (either (n == 13) (IsUntyped r)
     (either (n == 20) (HasRisen r.reads)
     (either (n == 22) (TooLong r)
-    (either (n == 15) (IsUnsupported r)
-    (either (n == 16) (IsMisplaced r) ⊤))))))))
+    (either (n == 16) (IsMisplaced r) ⊤)))))))
 
 cause-at : (r : Run) (a : Refusal) → CauseOf r a → Cause r (code_of a)
 cause-at r usage h = h
@@ -762,7 +755,6 @@ cause-at r (policy_text side f) h = h
 cause-at r (world_text f) h = h
 cause-at r (unknown_name side f) h = h
 cause-at r (ill_typed side f) h = h
-cause-at r (unsupported side u) h = h
 cause-at r (no_environment place count) h = h
 cause-at r (read_fault f) h = h
 cause-at r (too_long f) h = h
@@ -778,9 +770,6 @@ read-rose r spent ends e = told-by r spent 20 ends e (omega arith) (λ h. omega 
 
 pub is-too-long : (r : Run) (spent : List (List Step)) → Ends r spent → r.code ≡ 22 → TooLong r
 is-too-long r spent ends e = told-by r spent 22 ends e (omega arith) (λ h. omega (arith, h)) (λ h. omega (arith, h)) (λ h. omega (arith, h))
-
-pub is-unsupported : (r : Run) (spent : List (List Step)) → Ends r spent → r.code ≡ 15 → IsUnsupported r
-is-unsupported r spent ends e = told-by r spent 15 ends e (omega arith) (λ h. omega (arith, h)) (λ h. omega (arith, h)) (λ h. omega (arith, h))
 
 pub is-faulty : (r : Run) (spent : List (List Step)) → Ends r spent → r.code ≡ 11 → IsFaulty r
 is-faulty r spent ends e = told-by r spent 11 ends e (omega arith) (λ h. omega (arith, h)) (λ h. omega (arith, h)) (λ h. omega (arith, h))

@@ -3,7 +3,7 @@ use Rattle.std.specs.Prelude.{◌≡◌, List}
 use Rattle.std.specs.List.{Contains}
 use Rattle.sc_clauses.specs.declared.step.Step.{Step}
 use Rattle.sc_inputs.specs.Serving.{Command, Serves}
-use Rattle.sc_run.specs.Runs.{Run, HasRisen, WentUp, Ends, AllWell, AllHold, AsksQuestion, ChecksLog, WritesLog, ReplaysWorld, IsMisplaced, IsWell, LogIsAccepted, LogIsLong, LogIsRejected, LogIsWritten, PlaceIsMissing, SomeFails, SomeOpen, IsLogged, IsBroken, IsReadable, IsWholeFor, IsReplayable, IsReplayed, MustBe, TooLong, IsUnsupported, SchemaIsLong, SchemaIsFaulty, PoliciesAreLong, PoliciesAreUnsupported, PoliciesAreFaulty, AgainstIsLong, AgainstIsFaulty, PoliciesAreUntyped, WorldIsLong, WorldIsFaulty, NamesAreUnknown, IsFaulty, IsFaultySchema, IsFaultyWorld, IsUntyped}
+use Rattle.sc_run.specs.Runs.{Run, HasRisen, WentUp, Ends, AllWell, AllHold, AsksQuestion, ChecksLog, WritesLog, ReplaysWorld, IsMisplaced, IsWell, LogIsAccepted, LogIsLong, LogIsRejected, LogIsWritten, PlaceIsMissing, SomeFails, SomeOpen, IsLogged, IsBroken, IsReadable, IsWholeFor, IsReplayable, IsReplayed, MustBe, TooLong, SchemaIsLong, SchemaIsFaulty, PoliciesAreLong, PoliciesAreFaulty, AgainstIsLong, AgainstIsFaulty, PoliciesAreUntyped, WorldIsLong, WorldIsFaulty, NamesAreUnknown, IsFaulty, IsFaultySchema, IsFaultyWorld, IsUntyped}
 
 -- no read failed, and no write did
 abbrev pub AllRead : Run → Type 0
@@ -40,8 +40,8 @@ pub record Promises (r : Run) (logs : List (List Step)) : Type 0 where
   pub spent : (log : List Step) → Contains logs log → IsLogged r log
   -- 3 comes only where a world is replayed, and its report tells what keeps it from being well-formed, first of all.
   pub replayed : r.code ≡ 3 → IsBroken r
-  -- Where all files of a question are told, short enough and spelled, the policies are declared, typed and of supported constructs, and
-  -- no read or write failed, the schema has the environment that is named, where one is, and the log that is to be checked, where one is,
+  -- Where all files of a question are told, short enough and spelled, the policies are declared and typed, and no read or write
+  -- failed, the schema has the environment that is named, where one is, and the log that is to be checked, where one is,
   -- is told and short enough, all that is asked for is written or memory ran out.
   pub complete : (x : IsReadable r) → AllRead r → AllWritten r → IsWholeFor x.served.0.before.aim r.code
   -- Where all files of a replay are so, and the policies write declared names alone, the whole report on the world is written, and the
@@ -50,8 +50,8 @@ pub record Promises (r : Run) (logs : List (List Step)) : Type 0 where
   -- Words that are no command that is served are refused, and nothing else is refused so.
   pub unusable : ((c : Command) → Serves r.words c → ⊥) → MustBe 10 r.code
   pub usage : r.code ≡ 10 → (c : Command) → Serves r.words c → ⊥
-  -- Files that are too long or spell nothing are refused, and so are policies that write undeclared names, are ill-typed or have
-  -- unsupported constructs, where no read failed.
+  -- Files that are too long or spell nothing are refused, and so are policies that write undeclared names or are ill-typed,
+  -- where no read failed.
   pub schema_is_long : SchemaIsLong r → AllRead r → MustBe 22 r.code
   pub schema_is_faulty : SchemaIsFaulty r → AllRead r → MustBe 12 r.code
   pub policies_are_long : PoliciesAreLong r → AllRead r → MustBe 22 r.code
@@ -62,7 +62,6 @@ pub record Promises (r : Run) (logs : List (List Step)) : Type 0 where
   pub world_is_faulty : WorldIsFaulty r → AllRead r → MustBe 17 r.code
   pub names_are_unknown : NamesAreUnknown r → AllRead r → MustBe 13 r.code
   pub policies_are_untyped : PoliciesAreUntyped r → AllRead r → MustBe 13 r.code
-  pub policies_are_unsupported : PoliciesAreUnsupported r → AllRead r → MustBe 15 r.code
   -- An environment that is named and isn't there is refused, and so is a log that is too long.
   pub place_is_missing : PlaceIsMissing r → AllRead r → MustBe 16 r.code
   pub log_is_long : LogIsLong r → AllRead r → MustBe 22 r.code
@@ -73,7 +72,6 @@ pub record Promises (r : Run) (logs : List (List Step)) : Type 0 where
   pub policy_fault : r.code ≡ 11 → IsFaulty r
   pub schema_fault : r.code ≡ 12 → IsFaultySchema r
   pub untyped : r.code ≡ 13 → IsUntyped r
-  pub unsupported : r.code ≡ 15 → IsUnsupported r
   pub misplaced : r.code ≡ 16 → IsMisplaced r
   pub world_fault : r.code ≡ 17 → IsFaultyWorld r
   pub read_fault : r.code ≡ 20 → HasRisen r.reads

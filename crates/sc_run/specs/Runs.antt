@@ -20,7 +20,6 @@ use Rattle.sc_parser.specs.declared.fault.PolicyFault.{PolicyFault}
 use Rattle.sc_parser.specs.Spelling.{Spells, HasFault}
 use Rattle.sc_typing.specs.declared.ill_typed.IllTyped.{IllTyped}
 use Rattle.sc_typing.specs.declared.name_fault.NameFault.{NameFault}
-use Rattle.sc_constructs.specs.declared.unsupported.Unsupported.{Unsupported}
 use Rattle.sc_typing.specs.Names.{name_fault}
 use Rattle.sc_world.specs.declared.world.World.{World}
 use Rattle.sc_world.specs.WellFormed.{IsWellFormed}
@@ -36,7 +35,7 @@ use Rattle.sc_reports.specs.Logs.{Logged, Shows, log_lines}
 use Rattle.sc_reports.specs.Lines.{text_of}
 use Rattle.sc_reports.specs.Progress.{Reported}
 use Rattle.sc_run.specs.Replays.{Finds, Replayed, lines_of}
-use Rattle.sc_inputs.specs.Refusals.{Refusal, Side, IsRefusal, code_of, refusal_text, Content, IsContent, IsTooLong, ReadsSchema, HasPolicies, HasWorld, HasEnvironment, IsLongLog, RefusesLog, ReachesAim, ReachesQuestion, ReachesWorld, names_fault, types_fault, constructs_fault, AreServed, limit, log_limit}
+use Rattle.sc_inputs.specs.Refusals.{Refusal, Side, IsRefusal, code_of, refusal_text, Content, IsContent, IsTooLong, ReadsSchema, HasPolicies, HasWorld, HasEnvironment, IsLongLog, RefusesLog, ReachesAim, ReachesQuestion, ReachesWorld, names_fault, types_fault, AreServed, limit, log_limit}
 use Rattle.sc_reports.specs.Reports.{Asked, Line, counterexample, IsReport, AlwaysHas, Violates, IsUndecided, has_counterexample, has_open, report_text}
 use Rattle.sc_inputs.specs.declared.inputs.Claim.{Claim}
 use Rattle.sc_inputs.specs.declared.inputs.Scene.{Scene}
@@ -311,7 +310,7 @@ pub record AllSpelled (r : Run) : Type 0 where
   pub against : AgainstTold r.content before.name others
 
 -- the words are a command to ask a question, its schema file and policy files are told and short enough, they spell a schema and policies,
--- and the policies write declared names alone, are typed in each environment, and have supported constructs alone
+-- and the policies write declared names alone and are typed in each environment
 abbrev pub IsServed : Run → Type 0
 IsServed r = (t : AllSpelled r) × AreServed t.before.before.schema t.before.policies t.others
 
@@ -379,21 +378,6 @@ pub data TooLong (r : Run) : Type 0 where
   against_long : (name : List ℕ) → ReachesAgainst r.content r.words name → IsTooLong r.content name → TooLong r
   log_long : (s : Declarations) (question : Question) (first : List Policy) (against : Option (List Policy)) (place : ℕ) (name : List ℕ) → ReachesAim r.content r.words s question first against (checking place name) → IsLongLog r.content name → TooLong r
   world_long : (s : Declarations) (ps : List Policy) (name : List ℕ) → ReachesWorld r.content r.words s ps name → IsTooLong r.content name → TooLong r
-
--- a question is asked of policies that write declared names alone and are typed, and one has a construct that isn't supported: that of
--- the first such policy, in the first environment in which it has one, at the least place, is told
-pub record IsUnsupported (r : Run) : Type 0 where
-  pub schema : Declarations
-  pub question : Question
-  pub first : List Policy
-  pub against : Option (List Policy)
-  pub aim : Aim
-  pub reaches : ReachesQuestion r.content r.words schema question first against aim
-  pub declared : names_fault schema first against ≡ None
-  pub typed : types_fault schema first against ≡ None
-  pub side : Side
-  pub construct : Unsupported
-  pub is : constructs_fault schema first against ≡ Some (side, construct)
 
 -- the environment that is named is none of the schema, and all that is asked for is read and served
 pub record IsMisplaced (r : Run) : Type 0 where
@@ -531,12 +515,6 @@ NamesAreUnknown r =
 abbrev pub PoliciesAreUntyped : Run → Type 0
 PoliciesAreUntyped r =
     (t : AllSpelled r) × (names_fault t.before.before.schema t.before.policies t.others ≡ None) × (types_fault t.before.before.schema t.before.policies t.others ≢ None)
-
--- a question is asked of policies that are typed, and one of them has a construct that isn't supported
-abbrev pub PoliciesAreUnsupported : Run → Type 0
-PoliciesAreUnsupported r =
-    (t : AllSpelled r) × (names_fault t.before.before.schema t.before.policies t.others ≡ None) × (types_fault t.before.before.schema t.before.policies t.others ≡ None)
-    × (constructs_fault t.before.before.schema t.before.policies t.others ≢ None)
 
 abbrev pub IsReplayable : Run → Type 0
 IsReplayable r = (t : WorldSpelled r) × (name_fault t.before.schema t.before.policies ≡ None)

@@ -2,6 +2,8 @@
 //! writes the report as it comes.
 #![tactic(auto)]
 
+#[cfg(test)]
+mod construct_tests;
 mod ending;
 #[cfg(test)]
 mod log_tests;

@@ -17,7 +17,7 @@ const UNTYPED_IS_TOLD: &str =
     "error 13 against policy0 env User Action::\"view\" Doc NoAttribute at 50";
 
 /// Questions of one set or of two, with the status and the line for them.
-const ANSWERS: [(&str, &str, &str, u8, &str); 11] = [
+const ANSWERS: [(&str, &str, &str, u8, &str); 13] = [
     ("never-errors", PERMIT, "", 0, HOLDS),
     ("always-allows", PERMIT_ALL, "", 0, HOLDS),
     ("always-allows", "", "", 1, OF_USER_BY_DEFAULT),
@@ -35,10 +35,12 @@ const ANSWERS: [(&str, &str, &str, u8, &str); 11] = [
     ("equivalent --against a", PERMIT, "", 1, OF_USER),
     ("disjoint --against a", PERMIT, "", 0, HOLDS),
     ("disjoint --against a", PERMIT, PERMIT_ALL, 1, OF_USER),
+    ("implies --against a", PERMIT, EQUAL, 0, HOLDS),
+    ("equivalent --against a", EQUAL, PERMIT, 0, HOLDS),
 ];
 
-/// Questions of two sets that are refused: both sets are typed before the constructs of either are asked for.
-const REFUSALS: [(&str, &str, &str, u8, &str); 5] = [
+/// Questions of two sets that are refused: both sets are read and typed before anything is decided.
+const REFUSALS: [(&str, &str, &str, u8, &str); 3] = [
     (
         "implies --against a",
         PERMIT,
@@ -48,20 +50,6 @@ const REFUSALS: [(&str, &str, &str, u8, &str); 5] = [
     ),
     ("implies --against a", PERMIT, UNTYPED, 13, UNTYPED_IS_TOLD),
     ("implies --against a", EQUAL, UNTYPED, 13, UNTYPED_IS_TOLD),
-    (
-        "implies --against a",
-        PERMIT,
-        EQUAL,
-        15,
-        "error 15 against policy0 equality at 55",
-    ),
-    (
-        "implies --against a",
-        EQUAL,
-        EQUAL,
-        15,
-        "error 15 policies policy0 equality at 55",
-    ),
 ];
 
 /// Whether a question of these sets ends with this status and this line.

@@ -70,7 +70,7 @@ fn schemas_have_at_most_ten_thousand_environments(rt: HostRuntime) -> Result<(),
 }
 
 /// Policy files that are refused, with their statuses and lines.
-const POLICIES: [(&str, u8, &str); 9] = [
+const POLICIES: [(&str, u8, &str); 6] = [
     ("x", 11, "error 11 policies Unexpected at 0"),
     (
         "permit(principal, action, resource) when { context.mfa",
@@ -97,21 +97,6 @@ const POLICIES: [(&str, u8, &str); 9] = [
         13,
         "error 13 policies policy0 UnknownEntityType at 65",
     ),
-    (
-        "permit(principal == User::\"a\", action, resource);",
-        15,
-        "error 15 policies policy0 variable at 7",
-    ),
-    (
-        "permit(principal, action in [], resource);",
-        15,
-        "error 15 policies policy0 variable at 18",
-    ),
-    (
-        "permit(principal, action, resource);\nforbid(principal is User, action, resource);",
-        15,
-        "error 15 policies policy1 variable at 44",
-    ),
 ];
 
 #[test]
@@ -134,51 +119,21 @@ const ILL_TYPED: [(&str, &str, &str); 5] = [
     (MANY_KINDS, "principal.nick == \"x\"", "MaybeAbsent at 52"),
 ];
 
-/// Conditions of policies that have types, and their first constructs that aren't supported.
-const UNSUPPORTED: [(&str, &str, &str); 12] = [
-    (SCHEMA, "context.mfa == true", "equality at 55"),
-    (SCHEMA, "context.mfa != true", "equality at 55"),
-    (SCHEMA, "1 + 2 < 3", "number at 43"),
-    (SCHEMA, "\"a\" like \"a*\"", "string at 43"),
-    (SCHEMA, "if context.mfa then true else false", "if at 43"),
-    (SCHEMA, "principal == User::\"a\"", "variable at 43"),
-    (SCHEMA, "User::\"a\" == User::\"a\"", "entity at 43"),
-    (SCHEMA, "context has mfa", "variable at 43"),
-    (SCHEMA, "[1].contains(2)", "set at 43"),
-    (SCHEMA, "{a: 1}.a == 1", "record at 43"),
-    (MANY_KINDS, "context.n < 1", "type at 43"),
-    (MANY_KINDS, "context.name like \"a*\"", "type at 43"),
-];
-
-/// Whether a policy under this condition is refused with this status and this line.
+/// Whether a policy under this condition is refused with this line.
 fn refuses(
     alloc: Global,
     (schema, condition, fault): (&str, &str, &str),
-    code: u8,
-    front: &str,
 ) -> Result<bool, AllocError> {
     let policy = format!(in alloc; "permit(principal, action, resource) when {{ {condition} }};")?;
+    let front = "error 13 policies policy0 env User Action::\"view\" Doc";
     let line = format!(in alloc; "{front} {fault}")?;
-    answers(alloc, DENIES, schema, &policy, (code, &line))
+    answers(alloc, DENIES, schema, &policy, (13, &line))
 }
 
 #[test]
 fn conditions_without_a_type_are_refused(rt: HostRuntime) -> Result<(), Fail> {
-    let front = "error 13 policies policy0 env User Action::\"view\" Doc";
     for row in ILL_TYPED {
-        assert!(rt; refuses(rt.alloc(), row, 13, front)?, "{}", row.1);
-    }
-    Ok(())
-}
-
-#[test]
-fn conditions_that_are_not_supported_are_refused(rt: HostRuntime) -> Result<(), Fail> {
-    for row in UNSUPPORTED {
-        assert!(rt;
-            refuses(rt.alloc(), row, 15, "error 15 policies policy0")?,
-            "{}",
-            row.1
-        );
+        assert!(rt; refuses(rt.alloc(), row)?, "{}", row.1);
     }
     Ok(())
 }

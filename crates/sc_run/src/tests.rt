@@ -42,7 +42,7 @@ const SCOPED: &str =
 
 const EDIT: &str = "permit(principal, action == Action::\"edit\", resource) when { context.mfa };";
 
-/// What is skipped has neither a type nor a construct.
+/// What is skipped has no type.
 const SKIPPED: &str =
     "permit(principal, action, resource) when { context.mfa && (true || 1 + \"a\" < 2) };";
 

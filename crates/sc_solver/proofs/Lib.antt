@@ -1,14 +1,7 @@
-pub mod ListLaws
-pub mod LitLaws
-pub mod TableLaws
-pub mod AtomLaws
-pub mod KindLaws
-pub mod TypeLaws
-pub mod ClosedLaws
-pub mod FoundLaws
-pub mod AssignedLaws
-pub mod ValueLaws
-pub mod TruthLaws
-pub mod ContextLaws
-pub mod RebuiltLaws
-pub mod SolvingLaws
+mod ClauseLaws
+mod NumberLaws
+mod AssignedLaws
+mod ConsistentLaws
+mod RebuiltLaws
+mod SolvingLaws
+mod ConverseLaws

@@ -1,53 +1,66 @@
 //! The world that an assignment of the listed atoms stands for.
-ghost use Rattle.std.specs.Prelude.{◌≡◌, IfOk};
+ghost use Rattle.std.specs.Prelude.{IfOk};
+ghost use Rattle.std.specs.List.{AllByRecursion};
+ghost use Rattle.std.specs.Str.{IsUtf8};
+ghost use Rattle.sc_footprint.specs.Problems.{goal_term};
 ghost use Rattle.sc_footprint.specs.Truths.{IsWorldOf, Satisfies};
-ghost use Rattle.sc_solver.specs.Contexts.{IsContext};
-ghost use Rattle.sc_solver.specs.Kinds.{IsBooleanGoal};
-ghost use Rattle.sc_solver.specs.Rebuilding as rebuilt;
-ghost use Rattle.sc_solver.specs.Solutions.{rules_of};
+ghost use Rattle.sc_models.specs.Models.{model};
+ghost use Rattle.sc_rebuilding.specs.Models.{IsModel};
+ghost use Rattle.sc_solver.specs.Rebuilding.{IsConsistent, HasTruths};
 
-use crate::context::context_under;
-use crate::entities::{nameless, resource_number};
+use sc_assigned_worlds::{given_of, request_of};
 use sc_clauses::Assignment;
-use sc_footprint::{Problem, problem_laws};
-use sc_term_laws::order_laws;
-use sc_world::{Request, World, world_for};
+use sc_consistency::{are_places_small, consistency_laws};
+use sc_footprint::Problem;
+use sc_lists::Text;
+use sc_models::model_laws;
+use sc_naming::names_of;
+use sc_rebuilding::rebuilding_laws;
+use sc_rebuilt_worlds::rebuilt_laws;
+use sc_world::{World, world_with};
 use std::alloc::{AllocError, Global};
 use th_defs::defining_laws;
 
-fn rebuilt_request(
+/// The world of an assignment with names for closed strings and entities.
+fn world_of(
     alloc: Global,
     problem: &Problem<'_>,
     m: &Assignment,
-) -> Result<Request, AllocError>
-    ensures value { IfOk result (λ r. r ≡ rebuilt.rebuilt_request problem.now m.now) }
-    ensures fits { IfOk result (λ r. IsContext problem.now.schema problem.now.env r.context) }
-{
-    let env = problem.env();
-    let number = resource_number(alloc, problem, m)?;
-    Ok(Request {
-        principal: nameless(alloc, &env.principal, 0)?,
-        action: env.action.try_clone(alloc)?,
-        resource: nameless(alloc, &env.resource, number)?,
-        context: context_under(alloc, problem, m)?,
-    })
-}
-
-/// The world in which each listed atom has the truth that the assignment gives it, so that the goal,
-/// which is of the fragment of Booleans, is true. What no atom tells is as it is by default. Want of
-/// memory is its one fault.
-pub fn rebuild(alloc: Global, problem: &Problem<'_>, m: &Assignment) -> Result<World, AllocError>
-    requires consistent { rebuilt.IsConsistent (rules_of problem.now) problem.now m.now }
-    requires boolean { IsBooleanGoal problem.now }
-    ensures rebuilt { IfOk result (rebuilt.IsRebuilt problem.now m.now) }
+    names: &[Text],
+) -> Result<World, AllocError>
+    requires consistent { IsConsistent problem.now m.now }
+    requires named { IsModel problem.now.schema problem.now.env (goal_term problem.now)
+        (model problem.now m.now names.now) }
+    requires texts { AllByRecursion IsUtf8 names.now }
     ensures well_formed { IfOk result (IsWorldOf problem.now) }
-    ensures truths { IfOk result (rebuilt.HasTruths problem.now m.now) }
+    ensures truths { IfOk result (HasTruths problem.now m.now) }
     ensures satisfies { IfOk result (Satisfies problem.now) }
 {
     problem.laws();
-    order_laws();
-    problem_laws();
     defining_laws();
-    let request = rebuilt_request(alloc, problem, m)?;
-    world_for(alloc, problem.schema(), request, problem.lits())
+    rebuilding_laws();
+    rebuilt_laws();
+    let request = request_of(alloc, problem, m, names)?;
+    let given = given_of(alloc, problem, m, names)?;
+    world_with(alloc, problem.schema(), request, given, problem.lits())
+}
+
+/// The well-formed world in which each listed atom in which no member is picked has the truth that the
+/// assignment gives it, so that the goal is true. What no closed term tells is as it is by default. Want
+/// of memory is its one fault; a problem of which no log can write each place counts as such, since no
+/// memory holds one.
+pub fn rebuild(alloc: Global, problem: &Problem<'_>, m: &Assignment) -> Result<World, AllocError>
+    requires consistent { IsConsistent problem.now m.now }
+    ensures well_formed { IfOk result (IsWorldOf problem.now) }
+    ensures truths { IfOk result (HasTruths problem.now m.now) }
+    ensures satisfies { IfOk result (Satisfies problem.now) }
+{
+    problem.laws();
+    consistency_laws();
+    model_laws();
+    if !are_places_small(problem) {
+        return Err(AllocError);
+    }
+    let names = names_of(alloc, problem, m)?;
+    world_of(alloc, problem, m, names.as_slice())
 }

@@ -1,13 +1,12 @@
 //! The solver.
 ghost use Rattle.std.specs.Prelude.{◌≤◌, IfOk};
-ghost use Rattle.sc_solver.specs.Kinds.{IsBooleanGoal};
 ghost use Rattle.sc_solver.specs.Solutions.{IsSolution};
 
-use crate::others::OtherRules;
 use crate::rebuilding::rebuild;
 use sc_checker::Log;
 use sc_finding::{Finding, find};
 use sc_footprint::Problem;
+use sc_theories::OtherRules;
 use sc_world::World;
 use std::alloc::{AllocError, Global};
 
@@ -22,15 +21,14 @@ pub enum Solved {
     Spent(Log),
 }
 
-/// A log that refutes the problem's goal, which is of the fragment of Booleans, or a well-formed
-/// world in which the goal is true, or a log of as many units as the budget, each of them lawful and
-/// new, where one more step is due. Want of memory is its one fault.
+/// A log that refutes the problem's goal, or a well-formed world in which the goal is true, or a log of
+/// as many units as the budget, each of them lawful and new, where one more step is due. Want of memory
+/// is its one fault.
 pub fn solve(alloc: Global, problem: &Problem<'_>, budget: u64) -> Result<Solved, AllocError>
     requires budget { budget ≤ 1000000000 }
-    requires boolean { IsBooleanGoal problem.now }
     ensures { IfOk result (IsSolution problem.now budget) }
 {
-    match find(alloc, &OtherRules, problem, budget)? {
+    match find(alloc, &OtherRules::new(), problem, budget)? {
         Finding::Refuted(log) => Ok(Solved::Refuted(log)),
         Finding::Consistent(m) => Ok(Solved::Violated(rebuild(alloc, problem, &m)?)),
         Finding::Spent(log) => Ok(Solved::Spent(log)),

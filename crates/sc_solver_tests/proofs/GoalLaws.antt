@@ -1,5 +1,5 @@
 -- What is made of goals is a goal, and stays one.
-use Rattle.std.proofs.Common.{◌≡◌, ◌∙◌, ◌<◌, arith, ap, ℕ, List, [], Option, Some, Bool, false, option_map, slice_get, get_or, length, Contains, refl, sym, subst}
+use Rattle.std.proofs.Common.{◌≡◌, ◌∙◌, ◌<◌, arith, ap, ℕ, List, [], Option, Some, Bool, true, false, option_map, slice_get, get_or, length, Contains, refl, sym, subst}
 use Rattle.sc_schema.specs.declared.ty.Ty.{Ty}
 use Rattle.sc_sorts.specs.Plain.{Field, plain_fields}
 use Rattle.sc_sorts.specs.OfTypes.{sort_of}
@@ -18,15 +18,12 @@ use Rattle.sc_names.specs.declared.uid.Uid.{Uid}
 use Rattle.sc_schema.specs.declared.declarations.Env.{Env}
 use Rattle.sc_schema.specs.Declarations.{Declarations, environments}
 use Rattle.sc_world.specs.Named.{IsDeclared}
-use Rattle.sc_sorts.specs.declared.sort.Sort.{roll-Sort, roll-out-Sort}
-use Rattle.sc_sorts.specs.declared.sort.Sort.TheVariants as sort
-use Rattle.sc_sorts.specs.declared.sort.Sort.TheVariants.{rolls-Bool}
 use Rattle.sc_nodes.specs.declared.node.BinaryOp.TheVariants as binary
-use Rattle.sc_terms.specs.TreeSorts.{tree_sort}
 use Rattle.sc_term_laws.specs.Judging.{IsTerm, IsTermOf}
 use Rattle.sc_closure_rules.specs.Goals as closing
 use Rattle.sc_closure_rules.specs.Goals.{has_pick, uids_of}
-use Rattle.sc_solver.proofs.KindLaws.{boolean_sort}
+use Rattle.sc_closure.specs.Atoms.{is_bool}
+use Rattle.sc_footprint.proofs.TruthLaws.{bool_sort}
 use Rattle.sc_solver_tests.specs.Goals.{IsGoal}
 
 goal_of : (type : Ty) (nodes : List Node) (n : ℕ) (t : Tree) → StandsFor nodes n t → IsBoolean (Some type) t → IsGoal type nodes n
@@ -86,14 +83,13 @@ writes_none context _ (of_attribute type fields name e f h) = refl
 writes_none context _ (of_not a h) = writes_none context a h
 writes_none context _ (of_two o a b e h k) = rw (writes_none context a h, writes_none context b k) refl
 
-pub closing_goal : (d : Declarations) (env : Env) (ls : List Uid) (type : Ty) (nodes : List Node) (n : ℕ) → Contains (environments d) env → ls ≡ [] → IsGoal type nodes n → IsTerm d env ls (tree nodes n)
+pub closing_goal : (d : Declarations) (env : Env) (ls : List Uid) (type : Ty) (nodes : List Node) (n : ℕ) → Contains (environments d) env → ls ≡ [] → IsGoal type nodes n → is_bool (tree nodes n) ≡ true → IsTerm d env ls (tree nodes n)
     → closing.IsGoal d env ls (tree nodes n)
-closing_goal d env ls type nodes n among none goal term =
+closing_goal d env ls type nodes n among none goal bool term =
     let t = tree nodes n in
-    let sorted : tree_sort t ≡ sort.Bool = sym (roll-out-Sort (tree_sort t)) ∙ ap roll-Sort (boolean_sort (Some type) t goal.boolean) ∙ rolls-Bool in
     record {
       environment = among;
-      term = subst (λ (k : Sort). IsTermOf d env ls k t) sorted term;
+      term = subst (λ (k : Sort). IsTermOf d env ls k t) (bool_sort t bool) term;
       plain = picks_none (Some type) t goal.boolean;
       written = λ u k. absurd (contains_nothing u (subst (λ (us : List Uid). Contains us u) (writes_none (Some type) t goal.boolean) k));
       declared = subst (AllByRecursion (IsDeclared d)) (sym none) tt;

@@ -1,8 +1,8 @@
 //! Questions about the problems of goals.
-ghost use Rattle.std.specs.Prelude.{◌≡◌, [], Contains, IfOk, IsTrue};
+ghost use Rattle.std.specs.Prelude.{◌≡◌, ◌<◌, [], Contains, IfOk, IsTrue, length};
+ghost use Rattle.sc_closure.specs.Atoms.{is_bool};
 ghost use Rattle.sc_closure_rules.specs.Goals as closing;
 ghost use Rattle.sc_schema.specs.Declarations.{environments};
-ghost use Rattle.sc_solver.specs.Kinds.{IsBooleanGoal};
 ghost use Rattle.sc_solver_tests.specs.Goals.{IsGoal};
 ghost use Rattle.sc_terms.specs.Tables.{tree};
 
@@ -13,14 +13,21 @@ use sc_footprint::{OverLimit, Problem, close};
 use sc_lists::Fault;
 use sc_names::Lits;
 use sc_schema::{Env, Schema, Ty, context_of, environments};
+use sc_sorts::Sort;
 use sc_term_laws::is_term;
 use sc_terms::Terms;
 use std::alloc::{AllocError, Global};
 
 /// A question about a problem, to be answered by yes.
 pub(crate) trait Question {
-    fn ask(&self, alloc: Global, problem: &Problem<'_>) -> Result<bool, AllocError>
-        requires { IsBooleanGoal problem.now };
+    fn ask(&self, alloc: Global, problem: &Problem<'_>) -> Result<bool, AllocError>;
+}
+
+fn is_truth(terms: &Terms, n: u64) -> bool
+    requires { n < length terms.now }
+    ensures { result ≡ is_bool (tree terms.now n) }
+{
+    matches!(terms.sort(n), Sort::Bool)
 }
 
 /// Whether a number of a goal stands for a term as the constructors make it.
@@ -40,6 +47,9 @@ fn is_made(
     ensures { IfOk result (λ b. IsTrue b → closing.IsGoal schema.now env.now literals.now (tree terms.now n)) }
 {
     let _ = ty;
+    if !is_truth(terms, n) {
+        return Ok(false);
+    }
     is_term(alloc, schema, env, literals, terms, n)
 }
 
@@ -53,7 +63,6 @@ fn problem_of<'a>(
 ) -> Result<Problem<'a>, Fault<OverLimit>>
     requires environment { Contains (environments schema.now) env.now }
     requires none { literals.now ≡ [] }
-    ensures { IfOk result IsBooleanGoal }
 {
     let Some(ty) = context_of(schema, &env.action) else {
         return Err(Fault::NoMemory);

@@ -1,9 +1,4 @@
-use Rattle.std.proofs.Common.{sym, subst}
-use Rattle.sc_goal.specs.Queries.{second}
-use Rattle.sc_schema.specs.Declarations.{context_of}
-use Rattle.sc_term_laws.specs.Booleans.{IsBoolean}
-use Rattle.sc_reports.proofs.AnalysisLaws.{query-posed, query-problem, query-supported, query-too-large, some-goal}
-use Rattle.sc_reports.proofs.PosedLaws.{query-boolean}
+use Rattle.sc_reports.proofs.AnalysisLaws.{query-posed, query-problem, query-too-large, some-goal}
 use Rattle.sc_reports.proofs.analysing.analyse_env.Goals as goal
 
 pub solved-requires-clause-problem : goal.solved-requires-clause-problem
@@ -13,17 +8,6 @@ solved-requires-clause-problem c =
     let q = c.args.query.now in
     let posed = some-goal _ (query-posed c.goal_laws.ensures.posed c.goal_laws.ensures.both s env q c.requires.served c.requires.environment) in
     query-problem s env q c.args.budget _ posed.0 c.laws.ensures c.laws-in-Ok.ensures posed.1 (c.in-Ok.ensures.ok posed.0 posed.1)
-
-pub solved-requires-clause-boolean : goal.solved-requires-clause-boolean
-solved-requires-clause-boolean c =
-    let s = c.args.schema.now in
-    let env = c.args.env.now in
-    let q = c.args.query.now in
-    let posed = some-goal _ (query-posed c.goal_laws.ensures.posed c.goal_laws.ensures.both s env q c.requires.served c.requires.environment) in
-    let supported = query-supported s q c.requires.served in
-    let is = c.in-Ok.ensures.ok posed.0 posed.1 in
-    query-boolean s env c.in-Ok.problem is.schema_is is.env_is
-    (subst (IsBoolean (context_of s env.action)) (sym is.goal_is) (c.boolean_goals.ensures s env q.question q.first (second q) posed.0 supported.0 supported.1 c.requires.environment posed.1))
 
 pub returns-in-Err-Told-clause-answer : goal.returns-in-Err-Told-clause-answer
 returns-in-Err-Told-clause-answer c =

@@ -1,5 +1,5 @@
-use Rattle.sc_run.proofs.StatusLaws.{all-well, all-hold, well-formed, some-fails, some-open, logged, is-broken, no-command, is-faulty-schema, is-faulty, is-faulty-world, is-untyped, read-rose, write-rose, is-too-long, is-unsupported, is-misplaced, is-rejected, log-is-accepted, log-is-written}
-use Rattle.sc_run.proofs.DeterminedLaws.{complete, complete-replay, unusable, schema-is-long, schema-is-faulty, policies-are-long, policies-are-unsupported, against-is-long, against-is-faulty, policies-are-faulty, world-is-long, world-is-faulty, names-are-unknown, policies-are-untyped, place-is-missing, log-is-long}
+use Rattle.sc_run.proofs.StatusLaws.{all-well, all-hold, well-formed, some-fails, some-open, logged, is-broken, no-command, is-faulty-schema, is-faulty, is-faulty-world, is-untyped, read-rose, write-rose, is-too-long, is-misplaced, is-rejected, log-is-accepted, log-is-written}
+use Rattle.sc_run.proofs.DeterminedLaws.{complete, complete-replay, unusable, schema-is-long, schema-is-faulty, policies-are-long, against-is-long, against-is-faulty, policies-are-faulty, world-is-long, world-is-faulty, names-are-unknown, policies-are-untyped, place-is-missing, log-is-long}
 use Rattle.sc_run.proofs.running.run.Goals as goal
 
 pub returns : goal.returns
@@ -29,7 +29,6 @@ returns g c = record {
   world_is_faulty = λ x f. world-is-faulty _ _ c.spelling_laws.ensures c.ends.ensures.ends x f;
   names_are_unknown = λ x f. names-are-unknown _ _ c.spelling_laws.ensures c.reading_laws.ensures.settled c.ends.ensures.ends x f;
   policies_are_untyped = λ x f. policies-are-untyped _ _ c.spelling_laws.ensures c.ends.ensures.ends x f;
-  policies_are_unsupported = λ x f. policies-are-unsupported _ _ c.spelling_laws.ensures c.ends.ensures.ends x f;
   place_is_missing = λ x f. place-is-missing _ _ c.spelling_laws.ensures c.ends.ensures.ends x f;
   log_is_long = λ x f. log-is-long _ _ c.spelling_laws.ensures c.ends.ensures.ends x f;
   read_told = c.ends.ensures.read_told;
@@ -37,7 +36,6 @@ returns g c = record {
   policy_fault = is-faulty _ _ c.ends.ensures.ends;
   schema_fault = is-faulty-schema _ _ c.ends.ensures.ends;
   untyped = is-untyped _ _ c.ends.ensures.ends;
-  unsupported = is-unsupported _ _ c.ends.ensures.ends;
   misplaced = is-misplaced _ _ c.ends.ensures.ends;
   world_fault = is-faulty-world _ _ c.ends.ensures.ends;
   read_fault = read-rose _ _ c.ends.ensures.ends;

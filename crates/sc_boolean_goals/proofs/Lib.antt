@@ -1,6 +1,0 @@
-mod ActedLaws
-mod FreeLaws
-mod PlainLaws
-mod BooleanLaws
-mod PolicyLaws
-mod GoalLaws

@@ -1,9 +1,0 @@
-pub mod ConstructsLaws
-pub mod KindsLaws
-pub mod LeastLaws
-pub mod MembersLaws
-pub mod OrderLaws
-pub mod ScopesLaws
-pub mod SpineLaws
-pub mod SupportedLaws
-pub mod TellingLaws
