@@ -1,0 +1,112 @@
+//! A problem of two texts of the context and one pattern, which one text matches.
+ghost use Rattle.std.specs.Prelude.{◌≡◌, ◌<◌, [], Contains, length, IfOk, IsTrue};
+ghost use Rattle.sc_schema.specs.Declarations.{environments};
+ghost use Rattle.sc_terms.specs.Tables.{tree, Keeps};
+ghost use Rattle.sc_closure_rules.specs.Goals.{IsGoal};
+ghost use Rattle.th_strings_tests.specs.Plain.{IsPlain};
+
+use sc_closure::is_bool;
+use sc_footprint::{Problem, close};
+use sc_lists::Text;
+use sc_names::Lits;
+use sc_pattern::{Part, pattern_of};
+use sc_schema::{Env, Schema, Ty, context_of};
+use sc_schema_json::read_schema;
+use sc_sorts::sort_of;
+use sc_term_laws::is_term;
+use sc_terms::Terms;
+use std::alloc::{AllocError, Global};
+
+const SCHEMA: &str =
+    r#"{"":{"entityTypes":{"Doc":{},"User":{}},"actions":{"view":{"appliesTo":{"principalTypes":["User"],"resourceTypes":["Doc"],"context":{"type":"Record","attributes":{"flag":{"type":"Boolean"},"name":{"type":"String"},"nick":{"type":"String"}}}}}}}}"#;
+
+/// The schema. That its text isn't read counts as want of memory.
+pub(crate) fn schema(alloc: Global) -> Result<Schema, AllocError> {
+    match read_schema(alloc, SCHEMA.as_bytes()) {
+        Ok(schema) => Ok(schema),
+        Err(_) => Err(AllocError),
+    }
+}
+
+/// An attribute of the context.
+#[tactic(auto, using(crate::proofs::GoalLaws::attribute_plain))]
+fn attribute(alloc: Global, terms: &mut Terms, ty: &Ty, name: &str) -> Result<u64, AllocError>
+    ensures plain { IfOk result (λ n. IsPlain terms.new n) }
+    ensures kept { Keeps terms.old terms.new }
+{
+    let context = terms.context(sort_of(alloc, ty)?)?;
+    terms.field(context, Text::from_str(alloc, name)?)
+}
+
+/// Whether the first text is x.
+#[tactic(auto, using(crate::proofs::GoalLaws::like_plain))]
+fn like(alloc: Global, terms: &mut Terms, ty: &Ty) -> Result<u64, AllocError>
+    ensures plain { IfOk result (λ n. IsPlain terms.new n) }
+    ensures kept { Keeps terms.old terms.new }
+{
+    let text = attribute(alloc, terms, ty, "name")?;
+    let pattern = pattern_of(alloc, &[Part::Char('x')])?;
+    terms.like(text, pattern)
+}
+
+/// Whether a number stands for a goal.
+#[tactic(auto, using(crate::proofs::GoalLaws::plain_goal))]
+fn is_goal(
+    alloc: Global,
+    schema: &Schema,
+    env: &Env,
+    literals: &Lits,
+    terms: &Terms,
+    n: u64,
+) -> Result<bool, AllocError>
+    requires environment { Contains (environments schema.now) env.now }
+    requires none { literals.now ≡ [] }
+    requires plain { IsPlain terms.now n }
+    ensures { IfOk result (λ b. IsTrue b → IsGoal schema.now env.now literals.now (tree terms.now n)) }
+{
+    if !is_bool(terms, n) {
+        return Ok(false);
+    }
+    is_term(alloc, schema, env, literals, terms, n)
+}
+
+/// The problem whether the first text is x. That there is none counts as want of memory.
+pub(crate) fn problem<'a>(
+    alloc: Global,
+    schema: &'a Schema,
+    env: &'a Env,
+    literals: &'a Lits,
+) -> Result<Problem<'a>, AllocError>
+    requires environment { Contains (environments schema.now) env.now }
+    requires none { literals.now ≡ [] }
+{
+    let Some(ty) = context_of(schema, &env.action) else {
+        return Err(AllocError);
+    };
+    let mut terms = Terms::new(alloc)?;
+    let goal = like(alloc, &mut terms, ty)?;
+    if !is_goal(alloc, schema, env, literals, &terms, goal)? {
+        return Err(AllocError);
+    }
+    match close(alloc, terms, goal, schema, env, literals) {
+        Ok(problem) => Ok(problem),
+        Err(_) => Err(AllocError),
+    }
+}
+
+/// What the numbers of closed terms are taken for.
+#[derive(Clone, Copy, Debug, PartialEq, Eq)]
+pub(crate) enum Term {
+    /// The first text.
+    Name,
+    /// The second text.
+    Nick,
+    /// The context.
+    Context,
+    /// A truth value.
+    Truth,
+    /// No closed term.
+    Nothing,
+    /// The first pattern, or the one after all.
+    Pattern(u64),
+}
