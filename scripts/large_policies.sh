@@ -1,7 +1,7 @@
 #!/bin/sh
 # Runs the program on large policy files and prints the seconds, the status and the first line of each run, which is stopped after 120 seconds
-# (status 124): 10,000 accesses to a context of 1,000 attributes, in 25 policies and in a hundred; first with a context that holds a number, so
-# that the policies are typed and then refused, then with truth values alone, so that they are compiled and decided as well.
+# (status 124): 10,000 accesses to a context of 1,000 attributes, in 25 policies and in a hundred; first with a context that holds a number
+# as well, then with truth values alone.
 # usage: scripts/large_policies.sh [PROGRAM [DIVISOR]]     with a divisor each policy has only that part of its accesses
 set -u
 cd "$(dirname "$0")/.." || exit 2
