@@ -1,7 +1,6 @@
 -- What is assigned to a set, closed term by closed term, and that its members are closed and of one sort.
-use Rattle.std.proofs.Common.{◌≡◌, ◌<◌, ◌≤◌, ◌+◌, ◌++◌, ◌==◌, ◌-◌, ◌&&◌, ℕ, zero, suc, Bool, true, false, cond, inl, inr, List, [], ◌∷◌, map, flat_map, drop, length, slice_get, Some, None, Contains, refl, sym, ap, ◌∙◌, subst, arith}
+use Rattle.std.proofs.Common.{◌≡◌, ◌<◌, ◌≤◌, ◌+◌, ◌++◌, ◌&&◌, ℕ, zero, suc, Bool, true, false, cond, inl, inr, List, [], ◌∷◌, map, flat_map, drop, length, slice_get, Some, None, Contains, refl, sym, ap, ◌∙◌, subst, arith}
 use Rattle.std.proofs.lemmas.List.{append-nil, append_assoc, map-append}
-use Rattle.std.proofs.lemmas.Bool.Decides.{nat_tests}
 use Rattle.std.specs.List.{AllByRecursion}
 use Rattle.sc_lists.proofs.ListLaws.{all_of_elements, all_element, contains_map, contains_from_map}
 use Rattle.sc_lists.proofs.MemberLaws.{Has-from_Contains, Contains-from_Has, flat_map-Has}
@@ -26,17 +25,10 @@ use Rattle.sc_models.specs.Models.{model, truth_in}
 use Rattle.sc_model_values.proofs.ClosureLaws.{of_part}
 use Rattle.sc_rebuilding.specs.Assignments.{Assignment, lit}
 use Rattle.sc_rebuilding.specs.Vals.{assigned, member_in}
+use Rattle.sc_instances.proofs.PartLaws.{number_suc}
 use Rattle.sc_assigned_values.specs.Parts.{IsOf}
 
 -- ---- one closed term after the other
-
-isnt_zero : (k : ℕ) → (suc k == 0) ≡ false
-isnt_zero k = grind (arith, nat_tests)
-
-number_suc : (ns : List ℕ) (k : ℕ) → numbered ns (suc k) ≡ slice_get ns k
-number_suc ns k =
-    let back : suc k - 1 ≡ k = omega arith in
-    rw (isnt_zero k) (ap (slice_get ns) back)
 
 drop_at : (ns : List ℕ) (i n : ℕ) → slice_get ns i ≡ Some n → drop i ns ≡ n ∷ drop (i + 1) ns
 drop_at [] i n e = absurd cc

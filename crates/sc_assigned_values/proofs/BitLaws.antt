@@ -5,6 +5,7 @@ use Rattle.sc_bits.specs.Bits.{number, of_bits64}
 use Rattle.sc_bits.proofs.IntegerLaws.{fits-of_bits}
 use Rattle.sc_bits.specs.Blocks.{width_by, length_below}
 use Rattle.sc_bits.specs.Addresses.{ip_of}
+use Rattle.sc_bits.proofs.NumberLaws.{number-same}
 use Rattle.sc_definitions.specs.Definitions.{counted}
 
 module _ (f : ℕ → Bool) where
@@ -49,14 +50,6 @@ read_back n f e = to_z-of_z w64 n (subst (SFits w64) (sym e) (fits-of_bits w64 f
 
 -- ---- addresses
 
-number_only : (f g : ℕ → Bool) (n : ℕ) → ((i : ℕ) → i < n → f i ≡ g i) → number f n ≡ number g n
-unfolding number
-number_only f g zero h = refl
-number_only f g (suc n) h =
-    let rest : number f n ≡ number g n = number_only f g n (λ i k. h i (omega (arith, k))) in
-    let last : f n ≡ g n = h n (omega arith) in
-    rw (rest, last) refl
-
 length_only : (f g : ℕ → Bool) (n : ℕ) → ((i : ℕ) → i < n → f i ≡ g i) → length_below f n ≡ length_below g n
 unfolding length_below
 length_only f g zero h = refl
@@ -74,7 +67,7 @@ ip_only f g h =
     let first : f 0 ≡ g 0 = h 0 (omega arith) in
     let small : width_by (g 0) ≤ 128 = width_small (g 0) in
     let address : number (λ i. f (129 + (width_by (g 0) - 1 - i))) (width_by (g 0)) ≡ number (λ i. g (129 + (width_by (g 0) - 1 - i))) (width_by (g 0)) =
-    number_only (λ i. f (129 + (width_by (g 0) - 1 - i))) (λ i. g (129 + (width_by (g 0) - 1 - i))) (width_by (g 0)) (λ i k. h (129 + (width_by (g 0) - 1 - i)) (omega (arith, small, k))) in
+    number-same (λ i. f (129 + (width_by (g 0) - 1 - i))) (λ i. g (129 + (width_by (g 0) - 1 - i))) (width_by (g 0)) (λ i k. h (129 + (width_by (g 0) - 1 - i)) (omega (arith, small, k))) in
     let prefix : length_below (λ j. f (1 + j)) 128 ≡ length_below (λ j. g (1 + j)) 128 =
     length_only (λ j. f (1 + j)) (λ j. g (1 + j)) 128 (λ i k. h (1 + i) (omega (arith, k))) in
     rw (first, address, prefix) refl

@@ -23,6 +23,7 @@ use Rattle.sc_closure_rules.specs.Closure.{Closed, inside, inside_by, field_term
 use Rattle.sc_closure_rules.proofs.SortLaws.{found, names_ascend}
 use Rattle.sc_footprint.specs.Problems.{Posed, IsPosed, goal_term}
 use Rattle.sc_footprint.specs.Theories.{ClosedAreTerms}
+use Rattle.sc_instances.proofs.FollowLaws.{field_place}
 use Rattle.sc_assigned_values.specs.Parts.{IsOf}
 
 -- ---- by the sort
@@ -60,9 +61,6 @@ module _ (x : Tree) (h : Sort) (e : tree_sort x ≡ sort.Option h) where
 
 -- ---- records
 
-field_at : (fs : SortFields) (x : Tree) (i : ℕ) (f : SortField) → slice_get fs i ≡ Some f → slice_get (field_terms fs x) i ≡ Some (field_term f.0 x)
-field_at fs x i f g = slice_get-map (λ (u : SortField). field_term u.0 x) fs i ∙ ap (option_map (λ (u : SortField). field_term u.0 x)) g
-
 fields_some : (fs : SortFields) (x : Tree) (i : ℕ) → i < length fs → IsSome (slice_get (field_terms fs x) i)
 fields_some [] x i h = absurd (omega (arith, h))
 fields_some (f ∷ fs) x zero h = refl
@@ -76,7 +74,7 @@ module _ (x : Tree) (fs : SortFields) (e : tree_sort x ≡ sort.Record fs) where
   field_there i h = some_at x (sort.Record fs) (s.Record fs) e (out_Record fs) i (fields_some fs x i h)
 
   pub field_is : (i : ℕ) (f : SortField) (t : Tree) → slice_get fs i ≡ Some f → slice_get (inside x) i ≡ Some t → t ≡ field_term f.0 x
-  field_is i f t h g = part_at x (sort.Record fs) (s.Record fs) e (out_Record fs) i t (field_term f.0 x) g (field_at fs x i f h)
+  field_is i f t h g = part_at x (sort.Record fs) (s.Record fs) e (out_Record fs) i t (field_term f.0 x) g (field_place fs x i f h)
 
 -- ---- bits
 

@@ -2,6 +2,6 @@ mod TruthLaws
 mod PlaceLaws
 mod InsideLaws
 mod BitLaws
-mod AssignedLaws
+pub mod AssignedLaws
 mod ValueLaws
 mod NameLaws

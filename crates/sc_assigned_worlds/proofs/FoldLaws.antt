@@ -1,8 +1,8 @@
 -- Terms by their numbers in the table.
-use Rattle.std.proofs.Common.{◌≡◌, ◌<◌, ◌+◌, ◌-◌, ◌++◌, ◌==◌, ℕ, zero, suc, false, List, [], ◌∷◌, map, flat_map, take, length, slice_get, get_or, Some, None, Contains, refl, sym, ap, ◌∙◌, subst, arith}
-use Rattle.std.proofs.lemmas.Bool.Decides.{nat_tests}
+use Rattle.std.proofs.Common.{◌≡◌, ◌<◌, ◌+◌, ◌-◌, ◌++◌, ℕ, zero, suc, List, [], ◌∷◌, map, flat_map, take, length, slice_get, get_or, Some, Contains, refl, sym, ap, ◌∙◌, subst, arith}
 use Rattle.std.proofs.lemmas.List.{map_more}
 use Rattle.sc_lists.proofs.ListLaws.{all_of_elements, all_element}
+use Rattle.sc_lists.proofs.NumberLaws.{suc_isnt_zero}
 use Rattle.sc_terms.specs.Trees.{Tree}
 use Rattle.sc_footprint.specs.Problems.{Posed, IsPosed, numbered}
 use Rattle.sc_assigned_worlds.specs.Listed.{IsListed, AreListed}
@@ -20,14 +20,11 @@ map_trees f tree_at ns ms ts e h = composed ns ∙ ap (λ (ks : List ℕ). map f
 
 -- ---- one closed term after the other
 
-isnt_zero : (k : ℕ) → (suc k == 0) ≡ false
-isnt_zero k = grind (arith, nat_tests)
-
 at_place : (ns : List ℕ) (i : ℕ) → slice_get ns i ≡ numbered ns (i + 1)
 at_place ns i =
     let next : i + 1 ≡ suc i = omega arith in
     let back : suc i - 1 ≡ i = omega arith in
-    sym (ap (numbered ns) next ∙ rw (isnt_zero i) (ap (slice_get ns) back))
+    sym (ap (numbered ns) next ∙ rw (suc_isnt_zero i) (ap (slice_get ns) back))
 
 pub one_more : (xs done : List ℕ) (i x : ℕ) → done ≡ take i xs → numbered xs (i + 1) ≡ Some x → done ++ x ∷ [] ≡ take (i + 1) xs
 one_more xs done i x e h = ap (λ (ys : List ℕ). ys ++ x ∷ []) e ∙ by xs i (at_place xs i ∙ h)
@@ -36,14 +33,6 @@ one_more xs done i x e h = ap (λ (ys : List ℕ). ys ++ x ∷ []) e ∙ by xs i
     by [] j f = absurd cc
     by (y ∷ ys) zero f = let same : y ≡ x = cc in ap (λ (z : ℕ). z ∷ []) (sym same)
     by (y ∷ ys) (suc j) f = let next : suc j + 1 ≡ suc (j + 1) = omega arith in rw next (ap (λ (zs : List ℕ). y ∷ zs) (by ys j f))
-
-pub each_there : (xs : List ℕ) (i : ℕ) → i < length xs → numbered xs (i + 1) ≡ None → ⊥
-each_there xs i h e = by xs i h (at_place xs i ∙ e)
-  where
-    by : (ys : List ℕ) (j : ℕ) → j < length ys → slice_get ys j ≡ None → ⊥
-    by [] j k f = absurd (omega (arith, k))
-    by (y ∷ ys) zero k f = absurd cc
-    by (y ∷ ys) (suc j) k f = by ys j (omega (arith, k)) f
 
 pub all_listed : (p : Posed) (ns : List ℕ) → IsPosed p → ns ≡ p.closed → AreListed p ns
 all_listed p ns posed e = all_of_elements (IsListed p) ns (λ n has. record {

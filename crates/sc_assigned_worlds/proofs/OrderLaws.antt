@@ -1,7 +1,6 @@
 -- Members are put in order from the last one on.
-use Rattle.std.proofs.Common.{◌≡◌, ◌++◌, List, [], ◌∷◌, length, refl, sym, ap, ◌∙◌, subst, arith}
+use Rattle.std.proofs.Common.{◌≡◌, ◌++◌, List, [], ◌∷◌, length, refl, sym, ap, ◌∙◌, arith}
 use Rattle.std.specs.BTreeSet.{insert_key}
-use Rattle.std.specs.List.Sorted.{IsStrictlySortedBy}
 use Rattle.std.specs.declared.cmp.Ordering.{Ordering}
 use Rattle.sc_rebuilt_worlds.specs.Rebuilt.{in_order}
 
@@ -27,7 +26,3 @@ ordered_step {K} cmp done new xs ys whole x e put so_far =
 pub ordered_done : {K : Type 0} (cmp : K → K → Ordering) (done xs whole : List K) → length xs ≡ 0 → ordered_from cmp done xs ≡ in_order cmp whole → done ≡ in_order cmp whole
 ordered_done cmp done [] whole none so_far = so_far
 ordered_done cmp done (x ∷ xs) whole none so_far = absurd (omega (arith, none))
-
-pub none_ascends : {K : Type 0} (cmp : K → K → Ordering) (xs : List K) → xs ≡ [] → IsStrictlySortedBy cmp xs
-unfolding IsStrictlySortedBy
-none_ascends cmp xs e = subst (IsStrictlySortedBy cmp) (sym e) tt

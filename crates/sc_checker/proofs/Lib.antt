@@ -9,6 +9,7 @@ pub mod NumberLaws
 pub mod WordLaws
 pub mod LineWordLaws
 pub mod LineLaws
+pub mod WholeLineLaws
 pub mod LineStepLaws
 pub mod ReadingLaws
 pub mod ProgressLaws

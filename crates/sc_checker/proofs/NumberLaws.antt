@@ -1,5 +1,5 @@
 -- Laws of numbers and their digits.
-use Rattle.std.proofs.Common.{◌≡◌, ◌+◌, ◌-◌, ◌*◌, ◌<◌, ◌≤◌, ◌==◌, ◌^◌, ℕ, zero, suc, List, [], ◌∷◌, take, get_or, length, Bool, true, false, not, cond, ◌&&◌, ◌||◌, nat_lt, nat_le, ⊎_elim, Option, Some, None, MatchOption, refl, sym, ap, ◌∙◌, subst, arith}
+use Rattle.std.proofs.Common.{◌≡◌, ◌+◌, ◌-◌, ◌*◌, ◌<◌, ◌≤◌, ◌==◌, ◌^◌, ℕ, zero, suc, List, [], ◌∷◌, ◌++◌, take, drop, get_or, length, Bool, true, false, not, cond, ◌&&◌, ◌||◌, nat_lt, nat_le, ⊎_elim, Option, Some, None, MatchOption, refl, sym, ap, ◌∙◌, subst, arith}
 use Rattle.std.specs.Char.{digit_value}
 use Rattle.std.specs.Fmt.{decimal}
 use Rattle.std.specs.Int.{IsInRange}
@@ -7,7 +7,7 @@ use Rattle.std.specs.Str.Parse.{AllDigits, digits_value}
 use Rattle.std.proofs.lemmas.Bool.{and_parts, and_from, or_cases, or_left, or_right, ltb-true, ltb-false, lt-ltb, leb-true, le-leb, eq-eqb, eqb-true, ne_eqb, true≢false}
 use Rattle.std.proofs.lemmas.Fmt.{decimal-digits_value, decimal_is_IsNumeral, decimal_digit, decimal_nonempty, first_decimal, length-decimal-le}
 use Rattle.std.proofs.lemmas.Int.Digits.{digits_value_more}
-use Rattle.std.proofs.lemmas.List.{length-take-le}
+use Rattle.std.proofs.lemmas.List.{length-take-le, take-append-drop}
 use Rattle.std.proofs.lemmas.Str.{digit_value_digit}
 use Rattle.std.proofs.lemmas.Str.Parse.{IsNumeralModel, digits_value_short, digit_from_value}
 use Rattle.sc_checker.specs.LineSteps.{begins_with, has_number_form}
@@ -50,7 +50,7 @@ digit_at (b ∷ bs) zero h digits = digit_from_value b digits.0
 digit_at (b ∷ bs) (suc i) h digits = digit_at bs i (omega arith) digits.1
 
 -- fewer than 18 digits leave room for a further one
-pub value_small : (n i : ℕ) (bs : List ℕ) → n ≡ digits_value 10 (take i bs) → AllDigits 10 (take i bs) → i < length bs → length bs ≤ 18 → n < 10 ^ 17
+pub value_small : (n i : ℕ) (bs : List ℕ) → n ≡ digits_value 10 (take i bs) → AllDigits 10 (take i bs) → i < length bs → i < 18 → n < 10 ^ 17
 value_small n i bs e digits h few =
     let long = length-take-le i bs (omega arith) in
     subst (λ (m : ℕ). m < 10 ^ 17) (sym e) (digits_value_short model (take i bs) 17 digits (omega (arith, long)))
@@ -106,3 +106,10 @@ number_read word n form digits is =
 pub value_reads : (word : List ℕ) (o : Option ℕ) → true ≡ has_number_form word → MatchOption o (¬ AllDigits 10 word) (λ n. AllDigits 10 word × (n ≡ digits_value 10 word)) → Reads is_number decimal word o
 value_reads word (Some n) form read = number_read word n (sym form) read.0 read.1
 value_reads word None form none = digits_none word none
+
+-- digits that bytes begin with, of this form, are a number's text
+pub number_begins : (bytes digits rest : List ℕ) (place n : ℕ) → digits ≡ take place bytes → rest ≡ drop place bytes → true ≡ has_number_form digits
+    → AllDigits 10 (take place bytes) → n ≡ digits_value 10 (take place bytes) → (is_number n ≡ true) × (bytes ≡ decimal n ++ rest)
+number_begins bytes digits rest place n front back form are is =
+    let read = number_read (take place bytes) n (sym (form ∙ ap has_number_form front)) are is in
+    (read.0, sym (take-append-drop place bytes) ∙ (ap (λ (w : List ℕ). w ++ drop place bytes) (sym read.1) ∙ ap (λ (w : List ℕ). decimal n ++ w) (sym back)))

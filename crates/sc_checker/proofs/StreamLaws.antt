@@ -1,8 +1,8 @@
 -- What is held after the bytes of lines.
-use Rattle.std.proofs.Common.{◌≡◌, ◌+◌, ◌==◌, ℕ, List, [], ◌∷◌, ◌++◌, length, Bool, true, false, not, cond, Option, Some, None, is_some, refl, sym, ap, ◌∙◌, append_assoc}
+use Rattle.std.proofs.Common.{◌≡◌, ◌+◌, ◌<◌, ◌==◌, ℕ, suc, List, [], ◌∷◌, ◌++◌, length, Bool, true, false, not, cond, Option, Some, None, is_some, refl, sym, ap, ◌∙◌, append_assoc, arith}
 use Rattle.std.proofs.Math.Dec.{eqb-suc-zero}
 use Rattle.std.proofs.lemmas.Bool.{and_parts, and_from, not-true, eqb-true, true≢false}
-use Rattle.std.proofs.lemmas.List.{append-nil}
+use Rattle.std.proofs.lemmas.List.{append-nil, length-append}
 use Rattle.sc_clauses.specs.declared.step.Instance as instance
 use Rattle.sc_clauses.specs.declared.step.Learned as learned
 use Rattle.sc_clauses.specs.declared.step.Step.{Step}
@@ -121,6 +121,20 @@ pub instance_line : (rules : Rules) (line : List ℕ) (g h : Progress) (i : inst
     → h ≡ taken (of_instance rules i) g → h ≡ after_reading rules g (step_of line)
 instance_line rules line g h i none read is = is ∙ (sym (no_fault rules g (Instance i) none) ∙ ap (after_reading rules g) (step_is line (Some (Instance i)) read))
 
+-- a learned clause whose line bytes begin with, where a line begins
+pub whole_taken : (rules : Rules) (begun : Bool) (line : List ℕ) (c : Checking) (g h : Progress) (bytes later : List ℕ) (l : learned.Learned) → held begun line g ≡ c → c ≡ between c.progress → c.progress.fault ≡ None
+    → is_learned l ≡ true → bytes ≡ step_line (Learned l) ++ 10 ∷ later → h ≡ taken (of_learned g.listed g.clauses l) g → after rules (held begun line h) later ≡ after rules c bytes
+whole_taken rules begun line c g h bytes later l is start none fits text next =
+    let has_begun : begun ≡ true = ap (λ (k : Checking). k.begun) (is ∙ start) in
+    let nothing : line ≡ [] = ap (λ (k : Checking). k.line) (is ∙ start) in
+    let going : g.fault ≡ None = ap (λ (k : Checking). k.progress.fault) is ∙ none in
+    let taken_is : h ≡ after_step rules g (Learned l) = next ∙ sym (no_fault rules g (Learned l) going) in
+    let here : between g ≡ c = (λ i. held (sym has_begun i) (sym nothing i) g) ∙ is in
+    let there : held begun line h ≡ between (after_step rules g (Learned l)) = λ i. held (has_begun i) (nothing i) (taken_is i) in
+    ap (λ (k : Checking). after rules k later) there
+    ∙ (sym (step_line_at rules g (Learned l) later None fits going)
+    ∙ (ap (after rules (between g)) (sym text) ∙ ap (λ (k : Checking). after rules k bytes) here))
+
 pub other_line : (rules : Rules) (line : List ℕ) (g h : Progress) (number : ℕ) → Reads is_learned (λ k. step_line (Learned k)) line None → Reads is_instance (λ k. step_line (Instance k)) line None
     → number ≡ g.steps + 1 → h ≡ failed number Malformed g → h ≡ after_reading rules g (step_of line)
 other_line rules line g h number no_learned no_instance next is =
@@ -150,6 +164,12 @@ piece_more rules c d line later rest is e =
     ap (λ (x : Checking). after rules x later) e
     ∙ (after_cut rules c (line ++ 10 ∷ []) later
     ∙ ap (after rules c) (append_assoc line (10 ∷ []) later ∙ sym is))
+
+-- bytes behind a newline are fewer
+pub line_shorter : (bytes line later : List ℕ) → bytes ≡ line ++ 10 ∷ later → length later < length bytes
+line_shorter bytes line later is =
+    let long : length bytes ≡ length line + suc (length later) = ap length is ∙ length-append line (10 ∷ later) in
+    omega (arith, long)
 
 -- ---- where a line ends
 

@@ -17,6 +17,7 @@ mod steps;
 mod stream;
 #[cfg(test)]
 mod tests;
+mod whole_lines;
 mod words;
 mod writing;
 

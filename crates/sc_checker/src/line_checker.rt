@@ -1,5 +1,5 @@
 //! The checker of a log's lines, whose bytes come in pieces.
-ghost use Rattle.std.specs.Prelude.{◌≡◌, ◌++◌, ◌∷◌, ◌<◌, [], None, OnOk, IfOk, IsTrue, length};
+ghost use Rattle.std.specs.Prelude.{◌≡◌, ◌++◌, ◌∷◌, ◌<◌, [], None, OnOk, IfOk, IsTrue, MatchOption, true, length};
 ghost use Rattle.std.specs.Str.{bytes_eq};
 ghost use Rattle.sc_checker.specs.LineSteps.{step_of};
 ghost use Rattle.sc_checker.specs.Progress.{IsChecked};
@@ -11,6 +11,7 @@ use crate::checking::{Reason, Verdict};
 use crate::lines::{Room, read_instance, read_learned};
 use crate::reading::cut_line;
 use crate::steps::StepChecker;
+use crate::whole_lines::read_whole;
 use sc_footprint::{Problem, Theory};
 use std::alloc::{AllocError, Global};
 use std::marker::Model;
@@ -147,6 +148,67 @@ impl LineChecker {
         Ok(())
     }
 
+    /// Whether a line of a step may begin here: the first line was read, none is kept, and no step was at fault.
+    fn is_between(&self) -> bool
+        ensures { IsTrue result → (self.now ≡ record { begun = true; line = []; progress = self.now.progress })
+            × (self.now.progress.fault ≡ None) }
+    {
+        self.begun && self.line.is_empty() && !self.steps.is_at_fault()
+    }
+
+    /// Reads the line that bytes begin with. What follows its newline, where it has one.
+    fn read_cut<'b, T: Theory>(
+        &mut self,
+        alloc: Global,
+        rules: &T,
+        problem: &Problem<'_>,
+        bytes: &'b [u8],
+    ) -> Result<Option<&'b [u8]>, AllocError>
+        requires { IsChecked problem.now self.old.progress }
+        ensures read { IfOk result (λ o. MatchOption o (IsTrue (has_no_newline bytes.now) × (self.new ≡ self.old))
+            (λ later. (length later.now < length bytes.now) × ((tests : AnyRules)
+            → AreRules T.has_instance T.clause_of rules.now problem.now tests
+            → after tests self.new later.now ≡ after tests self.old bytes.now))) }
+        ensures checked { OnOk result (IsChecked problem.now self.new.progress) }
+    {
+        match cut_line(bytes) {
+            Some((line, later)) => {
+                self.read_end(alloc, rules, problem, line)?;
+                Ok(Some(later))
+            }
+            None => Ok(None),
+        }
+    }
+
+    /// Reads the line that bytes begin with, that of a learned clause in one pass. What follows its newline, where it
+    /// has one.
+    fn read_line<'b, T: Theory>(
+        &mut self,
+        alloc: Global,
+        rules: &T,
+        problem: &Problem<'_>,
+        bytes: &'b [u8],
+    ) -> Result<Option<&'b [u8]>, AllocError>
+        requires { IsChecked problem.now self.old.progress }
+        ensures read { IfOk result (λ o. MatchOption o (IsTrue (has_no_newline bytes.now) × (self.new ≡ self.old))
+            (λ later. (length later.now < length bytes.now) × ((tests : AnyRules)
+            → AreRules T.has_instance T.clause_of rules.now problem.now tests
+            → after tests self.new later.now ≡ after tests self.old bytes.now))) }
+        ensures checked { OnOk result (IsChecked problem.now self.new.progress) }
+    {
+        if !self.is_between() {
+            return self.read_cut(alloc, rules, problem, bytes);
+        }
+        match read_whole(bytes, &mut self.room)? {
+            Some(later) => {
+                let clause = self.room.clause.as_slice();
+                self.steps.take_learned(clause, self.room.hints.as_slice())?;
+                Ok(Some(later))
+            }
+            None => self.read_cut(alloc, rules, problem, bytes),
+        }
+    }
+
     /// Reads a piece of a log's text.
     pub(crate) fn read<T: Theory>(
         &mut self,
@@ -161,8 +223,7 @@ impl LineChecker {
         ensures checked { OnOk result (IsChecked problem.now self.new.progress) }
     {
         let mut rest = piece;
-        while let Some((line, later)) = cut_line(rest) {
-            self.read_end(alloc, rules, problem, line)?;
+        while let Some(later) = self.read_line(alloc, rules, problem, rest)? {
             rest = later;
         }
         self.keep(rest)

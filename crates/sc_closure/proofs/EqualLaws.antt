@@ -64,7 +64,7 @@ literals_turned (Some l) None = refl
 literals_turned (Some l) (Some m) = ap Some (same_turned l m)
 
 -- a term that is a truth value
-constant_is : (a : Tree) (b : Bool) → constant a ≡ Some b → a ≡ truth_term b
+pub constant_is : (a : Tree) (b : Bool) → constant a ≡ Some b → a ≡ truth_term b
 constant_is (leaf (leafs.Literal (literals.Bool c))) b e = let f : c ≡ b = cc in ap truth_term f
 constant_is (leaf (leafs.Literal (literals.Long n))) b e = cc
 constant_is (leaf (leafs.Literal (literals.String t))) b e = cc

@@ -20,6 +20,7 @@ use Rattle.sc_definitions.specs.Making.{Puts, stood}
 use Rattle.sc_definitions.proofs.MakingLaws.{stood_later}
 use Rattle.sc_definitions.proofs.MemberLaws.{within_later}
 use Rattle.sc_closure_rules.specs.Closure.{Role, named, candidate, attributes, tag, set, pattern, equated_by, one_sort, members_by, matches_by}
+use Rattle.sc_closure_rules.proofs.MetLaws.{equated_is}
 use Rattle.sc_closure.specs.declared.roles.Group.{Group}
 use Rattle.sc_closure.specs.declared.roles.Roles.{Roles}
 use Rattle.sc_closure.specs.declared.roles.Meeting.TheVariants as meeting
@@ -104,19 +105,9 @@ module _ (xs : List Node) (old new : List Group) (key term : ℕ) (j : Joins xs 
 
 -- ---- tests that tell what goes with two
 
-equated_is : (b : Bool) (x y z : Tree) → Has (equated_by b x y) z → (b ≡ true) × (equal_term x y ≡ z)
-equated_is true x y z (inl e) = (refl, e)
-equated_is true x y z (inr h) = absurd h
-equated_is false x y z h = absurd h
-
 is_equated : (b : Bool) (x y : Tree) → b ≡ true → Has (equated_by b x y) (equal_term x y)
 is_equated true x y e = inl refl
 is_equated false x y e = absurd cc
-
-pub member_is : (b : Bool) (x y z : Tree) → Has (members_by b x y) z → (b ≡ true) × (two binary.Member x y ≡ z)
-member_is true x y z (inl e) = (refl, e)
-member_is true x y z (inr h) = absurd h
-member_is false x y z h = absurd h
 
 pub is_member : (b : Bool) (x y : Tree) → b ≡ true → Has (members_by b x y) (two binary.Member x y)
 is_member true x y e = inl refl

@@ -1,6 +1,6 @@
 pub mod PuttingLaws
 pub mod IndexLaws
-mod EqualLaws
+pub mod EqualLaws
 mod GroupLaws
 mod TakingLaws
 mod HeldLaws

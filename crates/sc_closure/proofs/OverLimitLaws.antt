@@ -1,10 +1,11 @@
 -- Where so many atoms are met, more are closed than may be listed.
-use Rattle.std.proofs.Common.{◌≡◌, ℕ, ◌<◌, Bool, true, false, cond, inl, inr, List, [], ◌∷◌, filter, length, nat_eq, refl, arith}
+use Rattle.std.proofs.Common.{◌≡◌, ℕ, ◌<◌, Bool, true, false, cond, inl, inr, List, [], ◌∷◌, length, nat_eq, refl, arith}
 use Rattle.std.proofs.lemmas.Bool.Decides.{nat_tests}
 use Rattle.std.proofs.lemmas.Bool.{false_from_ne_true}
 use Rattle.std.proofs.lemmas.List.{length-map}
 use Rattle.std.specs.List.{AllByRecursion, IsDistinct}
 use Rattle.sc_lists.specs.Members.{Has}
+use Rattle.sc_lists.proofs.ListLaws.{AllByRecursion-filter, IsDistinct-filter}
 use Rattle.sc_schema.specs.declared.declarations.Env.{Env}
 use Rattle.sc_schema.specs.Declarations.{Declarations}
 use Rattle.sc_nodes.specs.declared.node.Node.{Node}
@@ -16,7 +17,6 @@ use Rattle.sc_definitions.specs.Making.{stood}
 use Rattle.sc_closure.specs.Atoms.{is_atom, most_atoms, IsClosedAtom, IsOverLimit}
 use Rattle.sc_closure_rules.specs.Closure.{Closed}
 use Rattle.sc_closure.specs.Following.{atoms_of}
-use Rattle.sc_closure.proofs.PuttingLaws.{filter_all, filter_distinct}
 
 module _ (xs : List Node) (t : IsTable xs) where
   apart : (m n : ℕ) → m < length xs → n < length xs → nat_eq m n ≡ false → tree_eq (tree xs m) (tree xs n) ≡ false
@@ -47,7 +47,7 @@ module _ (d : Declarations) (env : Env) (goal : Tree) (xs : List Node) where
       → most_atoms < length (atoms_of xs ns) → IsOverLimit d env goal
   over_limit t ns within once sound more = record {
     atoms = stood xs (atoms_of xs ns);
-    once = distinct_terms xs t (atoms_of xs ns) (filter_all (λ n. is_atom (tree xs n)) (λ n. n < length xs) ns within) (filter_distinct (λ n. is_atom (tree xs n)) ns once);
+    once = distinct_terms xs t (atoms_of xs ns) (AllByRecursion-filter (λ n. is_atom (tree xs n)) (λ n. n < length xs) ns within) (IsDistinct-filter (λ n. is_atom (tree xs n)) ns once);
     closed = closed_atoms ns sound;
     more = omega (arith, more, length-map (atoms_of xs ns) (tree xs));
   }

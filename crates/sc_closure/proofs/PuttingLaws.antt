@@ -5,7 +5,7 @@ use Rattle.std.proofs.lemmas.List.{take-append-le}
 use Rattle.std.proofs.lemmas.Bool.Decides.{nat_tests}
 use Rattle.std.specs.List.{AllByRecursion, IsDistinct, list_any}
 use Rattle.sc_lists.proofs.BoolLaws.{or_first, or_second}
-use Rattle.sc_lists.proofs.ListLaws.{all_append}
+use Rattle.sc_lists.proofs.ListLaws.{all_append, IsDistinct-filter}
 use Rattle.sc_lists.proofs.MemberLaws.{Has-left, Has-last, Has-push}
 use Rattle.sc_lists.proofs.NumberLaws.{nat_eq_true}
 use Rattle.sc_lists.specs.Members.{Has}
@@ -123,28 +123,11 @@ none_before : (ns : List ℕ) → AllByRecursion (λ n. list_any (nat_eq n) [] �
 none_before [] = tt
 none_before (n ∷ ns) = (refl, none_before ns)
 
-pub filter_all : (p : ℕ → Bool) (P : ℕ → Type 0) (ns : List ℕ) → AllByRecursion P ns → AllByRecursion P (filter p ns)
-filter_all p P [] h = tt
-filter_all p P (n ∷ ns) h = by (p n) (filter_all p P ns h.1)
-  where
-    by : (b : Bool) → AllByRecursion P (filter p ns) → AllByRecursion P (cond b (n ∷ filter p ns) (filter p ns))
-    by true k = (h.0, k)
-    by false k = k
-
-pub filter_distinct : (p : ℕ → Bool) (ns : List ℕ) → IsDistinct nat_eq ns → IsDistinct nat_eq (filter p ns)
-unfolding IsDistinct
-filter_distinct p [] h = tt
-filter_distinct p (n ∷ ns) h = by (p n) (filter_all p (λ m. nat_eq n m ≡ false) ns h.0) (filter_distinct p ns h.1)
-  where
-    by : (b : Bool) → AllByRecursion (λ m. nat_eq n m ≡ false) (filter p ns) → IsDistinct nat_eq (filter p ns) → IsDistinct nat_eq (cond b (n ∷ filter p ns) (filter p ns))
-    by true f k = (f, k)
-    by false f k = k
-
 -- what passes a test has been put
 pub all_listed : (p : ℕ → Bool) (ns rest atoms : List ℕ) → rest ≡ [] → IsDistinct nat_eq ns → put_new atoms (filter p rest) ≡ put_new [] (filter p ns) → atoms ≡ filter p ns
 all_listed p ns rest atoms e h f =
     let done : put_new atoms (filter p rest) ≡ atoms = ap (λ (l : List ℕ). put_new atoms (filter p l)) e in
-    sym done ∙ f ∙ put_distinct (filter p ns) [] (none_before (filter p ns)) (filter_distinct p ns h)
+    sym done ∙ f ∙ put_distinct (filter p ns) [] (none_before (filter p ns)) (IsDistinct-filter p ns h)
 
 -- ---- each number stays there once
 

@@ -17,11 +17,12 @@ use Rattle.sc_definitions.specs.Making.{Puts, stood}
 use Rattle.sc_definitions.proofs.MakingLaws.{stood_later, puts_then, puts_same}
 use Rattle.sc_definitions.proofs.MemberLaws.{within_push}
 use Rattle.sc_closure_rules.specs.Closure.{Role, named, candidate, attributes, tag, set, pattern, meet, equated_by, one_sort, members_by, is_set_over, matches_by}
+use Rattle.sc_closure_rules.proofs.MetLaws.{member_is}
 use Rattle.sc_closure.specs.declared.roles.Roles.{Roles}
 use Rattle.sc_closure.specs.declared.roles.Meeting.TheVariants as meeting
 use Rattle.sc_closure.specs.Following.{put_one, owner, pattern_in, grouped, Held, AreRoles, Joins, is_text, if_any, met_terms, met_among, met_patterns, TakesIn, Takes}
 use Rattle.sc_closure.proofs.GroupLaws.{groups_within, among_stays, among_has, has_among, met_patterns_has, has_met_patterns}
-use Rattle.sc_closure.proofs.HeldLaws.{taken_put, joined_old, joined_there, joined_only, member_is, is_member, match_is, is_match, equation_back, equation_forth, equation_of}
+use Rattle.sc_closure.proofs.HeldLaws.{taken_put, joined_old, joined_there, joined_only, is_member, match_is, is_match, equation_back, equation_forth, equation_of}
 use Rattle.sc_closure.proofs.PuttingLaws.{one_only}
 use Rattle.sc_closure.proofs.TakingLaws.{takes_one}
 

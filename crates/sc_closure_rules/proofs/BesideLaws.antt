@@ -17,7 +17,7 @@ use Rattle.sc_sorts.specs.Inside.{SortField}
 use Rattle.sc_sorts.specs.OfTypes.{sort_of}
 use Rattle.sc_sorts.specs.declared.sort.Sort.{Sort, Sort-F, out-Sort}
 use Rattle.sc_sorts.specs.declared.sort.Sort.TheVariants as sort
-use Rattle.sc_sorts.specs.declared.sort.Sort.TheVariants.{rolls-Bool, rolls-Entity, rolls-Record, rolls-Option, rolls-Set}
+use Rattle.sc_sorts.specs.declared.sort.Sort.TheVariants.{rolls-Bool, rolls-Record, rolls-Option, rolls-Set}
 use Rattle.sc_sorts.specs.declared.sort.Sort.TheOpen as s
 use Rattle.sc_sorts.proofs.OutLaws.{out_Entity}
 use Rattle.sc_nodes.specs.declared.node.Leaf.{Leaf}
@@ -30,12 +30,11 @@ use Rattle.sc_terms.specs.TreeSorts.{tree_sort}
 use Rattle.sc_terms.specs.Folds.{equal_term, field_term, held_term, default_term}
 use Rattle.sc_term_laws.specs.Judging.{IsTermOf, IsTerm}
 use Rattle.sc_term_laws.specs.Judging as judged
-use Rattle.sc_term_laws.proofs.ChoicesLaws.{chosen, action_told}
+use Rattle.sc_term_laws.proofs.ChoicesLaws.{chosen, there_action}
 use Rattle.sc_term_laws.proofs.DefaultMade.{default_made, held_made}
 use Rattle.sc_term_laws.proofs.JudgingLaws.{sort_is}
 use Rattle.sc_term_laws.proofs.SortsLawful.{lawful_action, tags_lawful, type_lawful}
 use Rattle.sc_term_laws.proofs.TestLaws.{at_level}
-use Rattle.sc_term_laws.proofs.ToldLaws.{some_map}
 use Rattle.sc_definitions.specs.Definitions.{definition, inputs_of, chosen_of, over_leaf}
 use Rattle.sc_definitions.specs.Truths.{InputsAreTerms}
 use Rattle.sc_closure_rules.specs.Closure.{uid_term, branches, equations, ancestors_of, declared_members, declared_ancestors, ancestors_by, beside}
@@ -70,9 +69,6 @@ defined_bool (two (binary.Low i) a b) t h = refl
 defined_bool (choice c a b) t h = chosen_bool c a b t (out-Sort (tree_sort a)) refl h
 defined_bool (leaf l) t h = leaf_defined l t h
 defined_bool _ t h = absurd h
-
-there_action : (d : Declarations) (u : Uid) → IsSome (action d u) → Contains (action_uids d) u
-there_action d u h = (action_told d u true (sym (some_map (λ (a : Action). a.ancestors) (action d u) ∙ h))).0 refl
 
 module _ (d : Declarations) (env : Env) (written : List Uid) (lawful : IsLawful d) (among : Contains (environments d) env) (declared : AllByRecursion (IsDeclared d) written) where
   abbrev Of : Sort → Tree → Type 0

@@ -6,7 +6,7 @@ mod PartLaws
 pub mod SortLaws
 mod MadeLaws
 mod BesideLaws
-mod MetLaws
+pub mod MetLaws
 pub mod RoleLaws
 pub mod ClosedTermLaws
 mod Examples

@@ -40,12 +40,12 @@ pub record IsStoredWith (d : Declarations) (env : Env) (written : List Uid) (sto
   pub told : stored d name ≡ Some type
   pub term : IsTermOf d env written (sort_of type) x
 
-equated_is : (b : Bool) (x y t : Tree) → Has (equated_by b x y) t → (b ≡ true) × (equal_term x y ≡ t)
+pub equated_is : (b : Bool) (x y t : Tree) → Has (equated_by b x y) t → (b ≡ true) × (equal_term x y ≡ t)
 equated_is true x y t (inl e) = (refl, e)
 equated_is true x y t (inr m) = absurd m
 equated_is false x y t m = absurd m
 
-member_is : (b : Bool) (x y t : Tree) → Has (members_by b x y) t → (b ≡ true) × (two binary.Member x y ≡ t)
+pub member_is : (b : Bool) (x y t : Tree) → Has (members_by b x y) t → (b ≡ true) × (two binary.Member x y ≡ t)
 member_is true x y t (inl e) = (refl, e)
 member_is true x y t (inr m) = absurd m
 member_is false x y t m = absurd m

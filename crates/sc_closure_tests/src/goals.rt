@@ -4,7 +4,7 @@ ghost use Rattle.std.specs.Prelude.{◌≡◌, ◌<◌, [], Contains, length, If
 ghost use Rattle.sc_schema.specs.Declarations.{environments};
 ghost use Rattle.sc_terms.specs.Tables.{tree, Keeps};
 ghost use Rattle.sc_closure_rules.specs.Goals.{IsGoal};
-ghost use Rattle.sc_closure_tests.specs.Plain.{IsPlain};
+ghost use Rattle.sc_test_goals.specs.Plain.{IsPlain};
 
 use sc_closure::is_bool;
 use sc_lists::Text;
@@ -44,7 +44,7 @@ pub(crate) enum Asked {
 }
 
 /// An attribute of the context.
-#[tactic(auto, using(crate::proofs::GoalLaws::attribute_plain))]
+#[tactic(auto, using(sc_test_goals::proofs::GoalLaws::attribute_plain))]
 fn attribute(alloc: Global, terms: &mut Terms, ty: &Ty, name: &str) -> Result<u64, AllocError>
     ensures plain { IfOk result (λ n. IsPlain terms.new n) }
     ensures kept { Keeps terms.old terms.new }
@@ -53,7 +53,7 @@ fn attribute(alloc: Global, terms: &mut Terms, ty: &Ty, name: &str) -> Result<u6
     terms.field(context, Text::from_str(alloc, name)?)
 }
 
-#[tactic(auto, using(crate::proofs::GoalLaws::like_plain))]
+#[tactic(auto, using(sc_test_goals::proofs::GoalLaws::like_plain))]
 fn like(alloc: Global, terms: &mut Terms, ty: &Ty) -> Result<u64, AllocError>
     ensures plain { IfOk result (λ n. IsPlain terms.new n) }
     ensures kept { Keeps terms.old terms.new }
@@ -132,7 +132,7 @@ pub(crate) fn goal_of(
 }
 
 /// Whether a number stands for a goal.
-#[tactic(auto, using(crate::proofs::GoalLaws::plain_goal))]
+#[tactic(auto, using(sc_test_goals::proofs::GoalLaws::plain_goal))]
 pub(crate) fn is_goal(
     alloc: Global,
     schema: &Schema,

@@ -6,6 +6,5 @@ mod PatternLaws
 mod StringsFree
 mod TruthLaws
 mod CrowdLaws
-mod WrittenStrings
 mod StringsHold
 mod ConsistencyLaws

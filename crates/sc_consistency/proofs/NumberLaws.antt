@@ -1,14 +1,13 @@
 -- Numbers that a log can hold: those of closed terms, and the places of their fields and members.
-use Rattle.std.proofs.Common.{◌≡◌, ◌<◌, ◌≤◌, ◌+◌, ◌^◌, ◌-◌, ◌==◌, ℕ, suc, Bool, true, false, List, [], ◌∷◌, ◌++◌, map, length, slice_get, nat_lt, cond, Some, None, Contains, refl, sym, ap, ◌∙◌, subst, arith, ⊎_elim}
+use Rattle.std.proofs.Common.{◌≡◌, ◌<◌, ◌≤◌, ◌+◌, ◌^◌, ℕ, suc, true, false, List, [], ◌∷◌, ◌++◌, map, length, nat_lt, Some, refl, sym, ap, ◌∙◌, subst, arith, ⊎_elim}
 use Rattle.std.proofs.lemmas.Bool.{cases_lt}
-use Rattle.std.proofs.lemmas.Bool.Decides.{nat_tests}
 use Rattle.std.proofs.lemmas.List.{length-append, length-map}
 use Rattle.std.specs.Cmp.Derive.{both_true}
 use Rattle.std.specs.List.{AllByRecursion, list_all}
 use Rattle.sc_lists.proofs.BoolLaws.{never}
-use Rattle.sc_lists.proofs.ListLaws.{contains_place}
 use Rattle.sc_lists.proofs.OptionLaws.{same_some}
 use Rattle.sc_lists.specs.Members.{Has}
+use Rattle.sc_lists.proofs.NumberLaws.{nat_lt_true}
 use Rattle.sc_schema.specs.Declarations.{Declarations}
 use Rattle.sc_sorts.specs.Inside.{SortFields}
 use Rattle.sc_sorts.specs.declared.sort.Sort.{Sort, Sort-F, out-Sort}
@@ -30,11 +29,8 @@ IsSmall n = is_number n ≡ true
 
 -- ---- whether a number is small
 
-pub less_told : (n k : ℕ) → n < k → nat_lt n k ≡ true
-less_told n k h = grind (arith, nat_tests, h)
-
 pub not_less : (n k : ℕ) → nat_lt n k ≡ false → k ≤ n
-not_less n k h = ⊎_elim (λ less. never _ (sym (less_told n k less) ∙ h)) (λ more. more) (cases_lt n k)
+not_less n k h = ⊎_elim (λ less. never _ (sym (nat_lt_true n k less) ∙ h)) (λ more. more) (cases_lt n k)
 
 pub zero_small : IsSmall 0
 zero_small = refl
@@ -57,19 +53,11 @@ under n a b k h e l = omega (arith, h, e, l)
 
 pub count_small : (p : Posed) → IsPosed p → (n : ℕ) → n ≤ length (closed_terms p) → IsSmall n
 count_small p posed n h =
-    less_told n (10 ^ 18) (under n (length (closed_terms p)) (length p.closed) (10 ^ 18) h (length-map p.closed (tree p.nodes)) posed.small)
+    nat_lt_true n (10 ^ 18) (under n (length (closed_terms p)) (length p.closed) (10 ^ 18) h (length-map p.closed (tree p.nodes)) posed.small)
 
 pub number_small : (p : Posed) → IsPosed p → (n : ℕ) (t : Tree) → term_of p n ≡ Some t → IsSmall n
 number_small p posed n t e =
     count_small p posed n (within_count (closed_terms p) n t (sym (numbered_map (tree p.nodes) p.closed n) ∙ e)).1
-
--- the term of a number is closed
-pub term_closed : (p : Posed) (n : ℕ) (t : Tree) → term_of p n ≡ Some t → Contains (closed_terms p) t
-term_closed p n t e = by (n == 0) (sym (numbered_map (tree p.nodes) p.closed n) ∙ e)
-  where
-    by : (b : Bool) → cond b None (slice_get (closed_terms p) (n - 1)) ≡ Some t → Contains (closed_terms p) t
-    by true f = absurd cc
-    by false f = contains_place (closed_terms p) (n - 1) t f
 
 -- and each closed term has a number
 abbrev pub number : Posed → Tree → ℕ

@@ -11,9 +11,10 @@ use Rattle.sc_terms.specs.Trees.{Tree}
 use Rattle.sc_closure_rules.specs.Closure.{follow}
 use Rattle.sc_footprint.specs.Problems.{Posed, closed_terms, term_of, companion}
 use Rattle.sc_footprint.proofs.NumberingLaws.{numbered_map, within_count}
+use Rattle.sc_instances.proofs.RulesHold.{term_closed}
 use Rattle.sc_consistency.specs.Laws.{HasSmallPlaces}
 use Rattle.sc_consistency.specs.Places.{goes_past}
-use Rattle.sc_consistency.proofs.NumberLaws.{term_closed, number, number_term}
+use Rattle.sc_consistency.proofs.NumberLaws.{number, number_term}
 
 -- the first places of closed terms have no such term
 pub record AreFree (p : Posed) (n : ℕ) : Type 0 where

@@ -26,8 +26,9 @@ use Rattle.sc_instances.specs.declared.rule.SetRule.{SetRule}
 use Rattle.sc_instances.specs.declared.rule.SetRule.TheVariants.{Se1, Se2, Se3, Se4, Se5, Se6, Se7, Se8}
 use Rattle.sc_instances.specs.declared.rule.EntityRule.{EntityRule}
 use Rattle.sc_instances.specs.declared.rule.EntityRule.TheVariants.{En1, En2, En3, En4, En5, En6, En7, En8}
+use Rattle.sc_instances.proofs.RulesHold.{term_closed}
 use Rattle.sc_consistency.specs.Laws.{HasSmallPlaces}
-use Rattle.sc_consistency.proofs.NumberLaws.{IsSmall, zero_small, one_small, two_small, words_small, number_small, term_closed, fields_within, members_within, past_places}
+use Rattle.sc_consistency.proofs.NumberLaws.{IsSmall, zero_small, one_small, two_small, words_small, number_small, fields_within, members_within, past_places}
 use Rattle.sc_consistency.proofs.InstanceLaws.{IsRight, written, rule_free, numbers_back}
 
 module _ (p : Posed) (posed : IsPosed p) (places : HasSmallPlaces p) (m : Assignment) where

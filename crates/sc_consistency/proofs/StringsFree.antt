@@ -23,24 +23,17 @@ use Rattle.sc_instances.specs.Clauses.{said_clause}
 use Rattle.sc_instances.specs.Instances.{on_two, said_by}
 use Rattle.sc_instances.specs.Known.{is_falsified}
 use Rattle.sc_string_rows.specs.Instances.{with_term, all_at, on_all, string_said, IsCrowded, IsInstanceOf, HasString, string_clause}
-use Rattle.sc_string_rows.specs.Names.{is_numeral, number_in, counted_named, string_named, string_rule}
+use Rattle.sc_string_rows.specs.Names.{number_in, counted_named, string_named, string_rule}
 use Rattle.sc_string_rows.specs.Patterns.{patterns}
 use Rattle.sc_string_rows.specs.declared.rule.StringRule.{StringRule}
 use Rattle.sc_string_rows.specs.declared.rule.StringRule.TheVariants.{St1, St3}
 use Rattle.sc_string_rows.proofs.FewLaws.{never_few}
+use Rattle.sc_string_rows.proofs.NameLaws.{all_numerals, numbers_back}
 use Rattle.sc_consistency.proofs.NumberLaws.{IsSmall, words_small, count_small, number_small, number, number_term}
 use Rattle.sc_consistency.proofs.InstanceLaws.{none_falsified, written}
 use Rattle.sc_consistency.proofs.PatternLaws.{patterns_length}
 
 -- ---- the words of a counting rule
-
-all_numerals : (ns : List ℕ) → list_all is_numeral (map Number ns) ≡ true
-all_numerals [] = refl
-all_numerals (n ∷ ns) = all_numerals ns
-
-numbers_back : (ns : List ℕ) → map number_in (map Number ns) ≡ ns
-numbers_back [] = refl
-numbers_back (n ∷ ns) = ap (λ (ms : List ℕ). n ∷ ms) (numbers_back ns)
 
 -- where signs are so many as patterns, and fewer texts have them than so many, there are some
 some_signs : (qs : List Pattern) (v : Signs) (n : ℕ) → length v ≡ length qs → AreFew qs v n → (length v == 0) ≡ false

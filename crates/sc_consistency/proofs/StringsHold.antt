@@ -15,7 +15,7 @@ use Rattle.sc_clauses.specs.Clauses.{Clause}
 use Rattle.sc_clauses.specs.declared.step.Instance.{Instance}
 use Rattle.sc_sorts.specs.declared.sort.Sort.{Sort}
 use Rattle.sc_sorts.specs.declared.sort.Sort.TheVariants as sort
-use Rattle.sc_sorts.proofs.OutLaws.{out_Bool, out_String}
+use Rattle.sc_sorts.proofs.OutLaws.{out_Bool}
 use Rattle.sc_nodes.specs.Literals.{literal_like}
 use Rattle.sc_nodes.specs.declared.node.Leaf.TheVariants.{Literal}
 use Rattle.sc_nodes.specs.declared.node.Literal.{Literal as AnyLiteral}
@@ -45,11 +45,11 @@ use Rattle.sc_string_rows.specs.Instances.{HasString, string_clause}
 use Rattle.sc_string_rows.specs.Patterns.{patterns}
 use Rattle.sc_models.specs.Laws.{IsClosed, AreClosed, StringsHold}
 use Rattle.sc_models.specs.Models.{truth_in}
+use Rattle.sc_models.proofs.WrittenStrings.{IsWritten, literal_at, literal_written, text_bool, written_crowd}
 use Rattle.sc_consistency.proofs.CrowdLaws.{Asks, all_signs, sign_of, asks_value, sign_for, sign_asks, asks_sign, crowd_other, crowd_equal, crowd_all, equal_all}
 use Rattle.sc_consistency.proofs.PatternLaws.{pattern_there, place_of}
 use Rattle.sc_consistency.proofs.StringsFree.{match_free, crowd_free}
 use Rattle.sc_consistency.proofs.TruthLaws.{untrue, one_holds, none_holds, which_holds, there, said_holds}
-use Rattle.sc_consistency.proofs.WrittenStrings.{IsWritten, literal_at, literal_written, written_crowd}
 
 -- ---- terms of `like`
 
@@ -64,10 +64,6 @@ like_bool t q = by (literal_of t)
 like_one : (t : Tree) (q : Pattern) → literal_of t ≡ None → like_term t q ≡ one (Like q) t
 unfolding like_term
 like_one t q e = ap (λ (o : Option AnyLiteral). like_by o t q) e
-
-text_bool : (x : List ℕ) → is_bool (literal_term (literal.String x)) ≡ false
-unfolding tree_sort
-text_bool x = ap is_bool_in out_String
 
 -- ---- some of a few terms is no literal, or all are literals
 

@@ -32,13 +32,13 @@ use Rattle.sc_definitions.proofs.RowLaws.{bit_value, bit_told, row_value}
 
 -- ---- truth values and values that are one
 
-alike : (b c : Bool) → not (differ b c) ≡ true → b ≡ c
+pub alike : (b c : Bool) → not (differ b c) ≡ true → b ≡ c
 alike true true h = refl
 alike true false h = absurd cc
 alike false true h = absurd cc
 alike false false h = refl
 
-alike_back : (b c : Bool) → b ≡ c → not (differ b c) ≡ true
+pub alike_back : (b c : Bool) → b ≡ c → not (differ b c) ≡ true
 alike_back true true h = refl
 alike_back true false h = absurd cc
 alike_back false true h = absurd cc

@@ -4,7 +4,7 @@ pub mod PlaceLaws
 mod Examples
 mod ValueLaws
 mod RowLaws
-mod EquationLaws
+pub mod EquationLaws
 mod TruthLaws
 mod PartLaws
 mod HoldLaws

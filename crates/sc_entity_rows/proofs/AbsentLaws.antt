@@ -1,7 +1,6 @@
 -- Terms that aren't closed, and the literals of what is made of them.
-use Rattle.std.proofs.Common.{◌≡◌, ◌≢◌, ◌&&◌, ℕ, zero, suc, Bool, true, false, cond, inl, inr, List, [], ◌∷◌, Some, None, Contains, refl, sym, ap, ◌∙◌, arith}
+use Rattle.std.proofs.Common.{◌≡◌, ◌&&◌, ℕ, Bool, true, false, cond, inl, inr, List, [], ◌∷◌, Some, None, Contains, refl, sym, ap, ◌∙◌}
 use Rattle.sc_lists.proofs.MemberLaws.{Contains-from_Has}
-use Rattle.sc_lists.specs.Members.{Has}
 use Rattle.sc_clauses.specs.declared.lit.Lit.{Lit}
 use Rattle.sc_clauses.specs.Clauses.{positive, negation}
 use Rattle.sc_nodes.specs.declared.node.BinaryOp.{BinaryOp}
@@ -13,37 +12,16 @@ use Rattle.sc_terms.specs.Folds.{literal_term, truth_term}
 use Rattle.sc_terms.specs.TreeSorts.{tree_sort}
 use Rattle.sc_terms.specs.Trees.{Tree, two}
 use Rattle.sc_terms.specs.Tables.{tree}
-use Rattle.sc_terms.specs.Order.{tree_eq}
-use Rattle.sc_terms.proofs.OrderLaws.{tree_cmp_total, tree_cmp_level, tree_eq-exact, tree_eq-itself}
+use Rattle.sc_terms.proofs.OrderLaws.{tree_cmp_total, tree_cmp_level, tree_eq-itself}
 use Rattle.sc_closure.specs.Atoms.{is_atom, is_bool_in}
-use Rattle.sc_closure.specs.Places.{one_more}
 use Rattle.sc_footprint.specs.Problems.{Posed, IsPosed, closed_terms, atoms, number_among, numbered, atom_number, literal, literal_in}
 use Rattle.sc_footprint.specs.Theories.{TermsHold}
 use Rattle.sc_footprint.proofs.KindLaws.{part_follows}
 use Rattle.sc_footprint.proofs.TruthLaws.{first_atom, follow_closed}
 use Rattle.sc_instances.specs.Lookups.{IsClosedFound}
+use Rattle.sc_instances.proofs.LiteralLaws.{number_none}
 use Rattle.sc_rules.proofs.MemberLaws.{filter_passes, filter_within}
 use Rattle.sc_rules.specs.Terms.{member}
-
--- what has no number isn't there, and what isn't there has number 0
-one_more_some : (k : ℕ) → one_more k ≢ 0 → k ≢ 0
-one_more_some zero h e = h refl
-one_more_some (suc k) h e = omega (arith, e)
-
-number_there : (ts : List Tree) (t : Tree) → number_among ts t ≢ 0 → Has ts t
-number_there [] t = λ h. absurd (h refl)
-number_there (x ∷ xs) t = by (tree_eq x t) refl (number_there xs t)
-  where
-    by : (b : Bool) → tree_eq x t ≡ b → (number_among xs t ≢ 0 → Has xs t) → cond b 1 (one_more (number_among xs t)) ≢ 0 → Has (x ∷ xs) t
-    by true e rest h = inl (tree_eq-exact x t e)
-    by false e rest h = inr (rest (one_more_some (number_among xs t) h))
-
-number_none : (ts : List Tree) (t : Tree) → ¬ Has ts t → number_among ts t ≡ 0
-number_none ts t h = by (number_among ts t) refl
-  where
-    by : (n : ℕ) → number_among ts t ≡ n → n ≡ 0
-    by zero e = refl
-    by (suc n) e = absurd (h (number_there ts t (λ z. (let f : suc n ≡ 0 = sym e ∙ z in omega (arith, f)))))
 
 -- an entity is no truth value, and so no atom
 no_atom : (u : Uid) (us : List Uid) → is_atom (literal_term (literals.Entity u us)) ≡ true → ⊥

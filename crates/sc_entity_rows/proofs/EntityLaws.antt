@@ -3,6 +3,7 @@ use Rattle.std.proofs.Common.{◌≡◌, ℕ, Ordering, Less, Equal, Greater, Bo
 use Rattle.std.specs.Ordering.{is_eq, is_gt, ordering_reverse}
 use Rattle.sc_lists.proofs.MemberLaws.{Has-from_Contains, Contains-from_Has}
 use Rattle.sc_lists.specs.Members.{Has}
+use Rattle.sc_lists.proofs.OrderingLaws.{is_eq_true}
 use Rattle.sc_names.specs.declared.uid.Uid.{Uid}
 use Rattle.sc_names.specs.Uids.{uid_cmp}
 use Rattle.sc_names.proofs.UidLaws.{uid_cmp_total, uid_cmp_level}
@@ -29,19 +30,12 @@ use Rattle.sc_footprint.specs.Theories.{TermsHold}
 use Rattle.sc_footprint.proofs.ProblemLaws.{term_judged}
 use Rattle.sc_instances.specs.Attributes.{is_entity_literal}
 use Rattle.sc_instances.specs.Lookups.{IsFoundAmong, IsNumberAmong}
+use Rattle.sc_instances.proofs.PartLaws.{find_none}
 use Rattle.sc_rules.specs.Terms.{entity}
 use Rattle.sc_entity_rows.specs.Rows.{literal_equal}
 use Rattle.sc_entity_rows.proofs.AbsentLaws.{first_absent, second_absent, literal_truth, entity_number}
 
 -- ---- uids
-
-level : (o : Ordering) → is_eq o ≡ true → o ≡ Equal
-level Equal h = refl
-level Less h = absurd cc
-level Greater h = absurd cc
-
-one_uid : (u v : Uid) → is_eq (uid_cmp u v) ≡ true → u ≡ v
-one_uid u v h = uid_cmp_level u v (level (uid_cmp u v) h)
 
 own_level : (o : Ordering) → o ≡ ordering_reverse o → is_eq o ≡ true
 own_level Equal e = refl
@@ -60,15 +54,6 @@ found_passes test (u ∷ us) t = by (test u) refl (found_passes test us t)
     by : (b : Bool) → test u ≡ b → (find test us ≡ Some t → Has us t × (test t ≡ true)) → cond b (Some u) (find test us) ≡ Some t → Has (u ∷ us) t × (test t ≡ true)
     by true f rest e = let same : u ≡ t = cc in (inl same, ap test (sym same) ∙ f)
     by false f rest e = let r = rest e in (inr r.0, r.1)
-
-found_none : (test : Tree → Bool) (ts : List Tree) (t : Tree) → find test ts ≡ None → test t ≡ true → ¬ Has ts t
-found_none test [] t e f h = h
-found_none test (u ∷ us) t e f h = by (test u) refl (found_none test us t) e h
-  where
-    by : (b : Bool) → test u ≡ b → (find test us ≡ None → test t ≡ true → ¬ Has us t) → cond b (Some u) (find test us) ≡ None → Has (u ∷ us) t → ⊥
-    by true g rest e h = absurd cc
-    by false g rest e (inl same) = let k : true ≡ false = sym (ap test same ∙ f) ∙ g in absurd cc
-    by false g rest e (inr k) = rest e f k
 
 -- the choices of a judged entity are its type's
 choices_are : (d : Declarations) (env : Env) (written : List Uid) (k : Sort) (u : Uid) (us : List Uid) → IsTermOf d env written k (leaf (leafs.Literal (literal.Entity u us))) → us ≡ choices_of d u.type_name
@@ -97,7 +82,7 @@ plain (many o ts) u us e = rw (unlike (many o ts) (literal.Entity u us) e) refl
 module _ (laws : TermsHold) (p : Posed) (posed : IsPosed p) where
   literal_is : (u : Uid) (t : Tree) → is_entity_literal u t ≡ true → Contains (closed_terms p) t → t ≡ entity p.schema u
   literal_is u (leaf (leafs.Literal (literal.Entity v us))) h there =
-      let same : v ≡ u = sym (one_uid u v h) in
+      let same : v ≡ u = sym (uid_cmp_level u v (is_eq_true (uid_cmp u v) h)) in
       let own = choices_are p.schema p.env p.literals (tree_sort (leaf (leafs.Literal (literal.Entity v us)))) v us (term_judged laws p posed (leaf (leafs.Literal (literal.Entity v us))) there) in
       ap (λ (vs : List Uid). literal_term (literal.Entity v vs)) own ∙ ap (λ (w : Uid). literal_term (literal.Entity w (choices_of p.schema w.type_name))) same
   literal_is u _ h there = absurd cc
@@ -155,5 +140,5 @@ module _ (laws : TermsHold) (p : Posed) (posed : IsPosed p) where
       by : (o : Option Tree) → find (is_entity_literal u) (closed_terms p) ≡ o → IsNumberAmong p.nodes o None → positive 0 ≡ literal_in p (equal_term x (entity p.schema u))
       by (Some t) f h = absurd h
       by None f h =
-          nowhere (is_gt (tree_cmp x (entity p.schema u))) x (entity p.schema u) (λ k. found_none (is_entity_literal u) (closed_terms p) (entity p.schema u) f (own_uid u) (Has-from_Contains (closed_terms p) (entity p.schema u) k))
+          nowhere (is_gt (tree_cmp x (entity p.schema u))) x (entity p.schema u) (λ k. find_none (is_entity_literal u) (closed_terms p) (entity p.schema u) f (own_uid u) (Has-from_Contains (closed_terms p) (entity p.schema u) k))
           ∙ ap (literal_in p) (sym (plain x u (choices_of p.schema u.type_name) e))

@@ -1,5 +1,5 @@
 -- With a closed tag go, after what tells its value, the keys of its entity, whether its key is one, and whether it is the default.
-use Rattle.std.proofs.Common.{◌≡◌, ◌<◌, ◌+◌, ◌++◌, ℕ, zero, suc, true, List, [], ◌∷◌, length, slice_get, Option, Some, None, option_map, option_and_then, IfSome, refl, ap, ◌∙◌, arith}
+use Rattle.std.proofs.Common.{◌≡◌, ◌<◌, ◌+◌, ◌++◌, ℕ, suc, true, List, [], ◌∷◌, length, slice_get, Option, Some, None, option_map, option_and_then, IfSome, ap, ◌∙◌, arith}
 use Rattle.std.proofs.lemmas.List.{length-map}
 use Rattle.sc_schema.specs.Declarations.{Declarations}
 use Rattle.sc_sorts.specs.declared.sort.Sort.{Sort, Sort-F, out-Sort}
@@ -11,17 +11,13 @@ use Rattle.sc_terms.specs.TreeSorts.{tree_sort}
 use Rattle.sc_terms.specs.Tables.{tree}
 use Rattle.sc_terms.specs.Folds.{equal_term, default_term, field_term, bit_term}
 use Rattle.sc_definitions.specs.Definitions.{definition, counted}
+use Rattle.sc_definitions.proofs.MakingLaws.{counted_length}
 use Rattle.sc_closure_rules.specs.Closure.{follow, inside, inside_by, choices, choices_by, uid_term, beside, parts, bit_terms}
 use Rattle.sc_footprint.specs.Problems.{Posed, companion}
 use Rattle.sc_entity_rows.specs.declared.closed.Closed.{Closed}
 use Rattle.sc_entity_rows.specs.Rows.{IsClosed, IsThere, inner_level, is_tag, term_at}
 
 -- ---- how many terms tell the value
-
-counted_length : (from n : ℕ) → length (counted from n) ≡ n
-unfolding counted
-counted_length from zero = refl
-counted_length from (suc n) = ap suc (counted_length (suc from) n)
 
 bits_length : (n : ℕ) (x : Tree) → length (bit_terms n x) ≡ n
 bits_length n x = length-map (counted 0 n) (bit_term x) ∙ counted_length 0 n

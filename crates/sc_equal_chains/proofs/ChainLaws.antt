@@ -1,11 +1,11 @@
 -- What an assignment knows of each two strings and entities, and the instances of EQ1 that it falsifies.
-use Rattle.std.proofs.Common.{◌≡◌, ◌≢◌, ◌<◌, ◌≤◌, ◌^◌, ◌&&◌, ◌==◌, ℕ, nat_lt, zero, suc, Bool, true, false, cond, inl, inr, List, [], ◌∷◌, length, slice_get, get_or, Option, Some, None, option_map, option_and_then, refl, sym, ap, ◌∙◌, subst, arith}
+use Rattle.std.proofs.Common.{◌≡◌, ◌≢◌, ◌<◌, ◌≤◌, ◌^◌, ◌&&◌, ◌==◌, ℕ, nat_lt, zero, suc, Bool, true, false, cond, List, [], ◌∷◌, length, slice_get, get_or, Option, Some, None, option_map, option_and_then, refl, sym, ap, ◌∙◌, subst, arith}
 use Rattle.std.proofs.lemmas.Bool.{and_parts, true≢false}
 use Rattle.std.proofs.lemmas.Bool.Decides.{nat_tests}
 use Rattle.std.specs.List.{AllByRecursion}
 use Rattle.sc_lists.proofs.NumberLaws.{nat_eq_true}
 use Rattle.sc_lists.proofs.OptionLaws.{same_some, option_and_then_some, option_map_some}
-use Rattle.sc_lists.specs.Members.{Has}
+use Rattle.sc_lists.proofs.MemberLaws.{Has-place}
 use Rattle.sc_clauses.specs.Assignments.{Assignment, is_false}
 use Rattle.sc_clauses.specs.Clauses.{negation}
 use Rattle.sc_clauses.specs.declared.lit.Lit.{Lit}
@@ -30,11 +30,6 @@ at_place : {X : Type 0} (xs : List X) (i : ℕ) (x d : X) → slice_get xs i ≡
 at_place [] i x d e = absurd cc
 at_place (y ∷ ys) zero x d e = (omega arith, same_some e)
 at_place (y ∷ ys) (suc i) x d e = let r = at_place ys i x d e in (omega (arith, r.0), r.1)
-
-has_place : (ns : List ℕ) (n : ℕ) → Has ns n → (i : ℕ) × (i < length ns) × (slice_get ns i ≡ Some n)
-has_place [] n h = absurd h
-has_place (m ∷ ms) n (inl e) = (0, omega arith, ap Some e)
-has_place (m ∷ ms) n (inr h) = let r = has_place ms n h in (suc r.0, omega (arith, r.1), r.2)
 
 all_at : (P : ℕ → Type 0) (ns : List ℕ) (i n : ℕ) → AllByRecursion P ns → slice_get ns i ≡ Some n → P n
 all_at P [] i n h e = absurd cc
@@ -134,7 +129,7 @@ module _ (p : Posed) (m : Assignment) where
       -- the place of a named term, and its number in the table
       placed : (n : ℕ) (t : Tree) → term_of p n ≡ Some t → is_named t ≡ true → (i : ℕ) × (x : ℕ) × (i < length ns) × (named_at p ns i ≡ Some x) × (tree p.nodes x ≡ t)
       placed n t e f =
-          let there = has_place ns n (are.all n t e f) in
+          let there = Has-place ns n (are.all n t e f) in
           let number = option_map_some (tree p.nodes) (numbered p.closed n) t e in
           (there.0, number.0, there.1, ap (λ (o : Option ℕ). option_and_then (λ (k : ℕ). numbered p.closed k) o) there.2 ∙ number.1, number.2)
 

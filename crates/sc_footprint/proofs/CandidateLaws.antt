@@ -7,7 +7,7 @@ use Rattle.std.proofs.lemmas.List.{map-append}
 use Rattle.std.proofs.lemmas.List.Folds.{list_any-append}
 use Rattle.std.specs.Cmp.{both_ways}
 use Rattle.std.specs.List.{list_any}
-use Rattle.sc_lists.proofs.BoolLaws.{or_false, true_or_false}
+use Rattle.sc_lists.proofs.BoolLaws.{or_false, true_or_false, not_is_true, not_is_false}
 use Rattle.sc_lists.proofs.OptionLaws.{same_some}
 use Rattle.sc_lists.specs.Members.{Has}
 use Rattle.sc_nodes.specs.declared.node.Node.{Node}
@@ -66,19 +66,11 @@ there_some (m ∷ ms) n h = by (m == n) refl h (there_some ms n)
     by false e (inl k) rest = absurd (true≢false (sym (same k) ∙ e))
     by false e (inr k) rest = more (place_among ms n) (rest k)
 
-not_false : (b : Bool) → b ≡ false → not b ≡ true
-not_false true e = sym e
-not_false false e = refl
-
-not_true : (b : Bool) → not b ≡ true → b ≡ false
-not_true true e = sym e
-not_true false e = refl
-
 module _ (xs : List Node) (t : IsTable xs) where
   pub is_placed : (all candidates : List ℕ) (n : ℕ) → n < length xs → AreCandidates xs all candidates → not (place_among candidates n == 0) ≡ is_candidate (stood xs all) (tree xs n)
   is_placed all candidates n h are =
-      both_ways (not (place_among candidates n == 0)) (is_candidate (stood xs all) (tree xs n)) (λ e. (are n h).0 (none_there candidates n (not_true (place_among candidates n == 0) e)))
-      (λ e. not_false (place_among candidates n == 0) (there_some candidates n ((are n h).1 e)))
+      both_ways (not (place_among candidates n == 0)) (is_candidate (stood xs all) (tree xs n)) (λ e. (are n h).0 (none_there candidates n (not_is_true (place_among candidates n == 0) e)))
+      (λ e. not_is_false (place_among candidates n == 0) (there_some candidates n ((are n h).1 e)))
 
   -- ---- one number
 

@@ -5,6 +5,7 @@ use Rattle.std.proofs.Math.Seq.{drop-append_seam}
 use Rattle.std.proofs.lemmas.List.{drop-append-le, length-drop, take-append-le}
 use Rattle.std.proofs.lemmas.Option.{slice_get-map}
 use Rattle.std.specs.List.{AllByRecursion, AllZip}
+use Rattle.std.proofs.lemmas.Slice.Zip.{AllZip-long}
 use Rattle.sc_lists.proofs.ListLaws.{contains_place}
 use Rattle.sc_lists.proofs.MemberLaws.{Has-map, map-Has, Has-from_Contains, Contains-from_Has}
 use Rattle.sc_lists.proofs.OptionLaws.{same_some}
@@ -37,12 +38,6 @@ zip_weaker R S [] [] w h = tt
 zip_weaker R S [] (b ∷ ys) w h = absurd h
 zip_weaker R S (a ∷ xs) [] w h = absurd h
 zip_weaker R S (a ∷ xs) (b ∷ ys) w h = (w.0 b h.0, zip_weaker R S xs ys w.1 h.1)
-
-pub zip_length : {X Y : Type 0} (R : X → Y → Type 0) (xs : List X) (ys : List Y) → AllZip R xs ys → length xs ≡ length ys
-zip_length R [] [] h = refl
-zip_length R [] (b ∷ ys) h = absurd h
-zip_length R (a ∷ xs) [] h = absurd h
-zip_length R (a ∷ xs) (b ∷ ys) h = ap suc (zip_length R xs ys h.1)
 
 -- ---- parts of lists
 
@@ -167,9 +162,6 @@ read_within l [] i h = tt
 read_within l (n ∷ ns) zero h = h.0
 read_within l (n ∷ ns) (suc i) h = read_within l ns i h.1
 
-read_has : {X : Type 0} (xs : List X) (i : ℕ) (x : X) → slice_get xs i ≡ Some x → Has xs x
-read_has xs i x h = Has-from_Contains xs x (contains_place xs i x h)
-
 module _ (p : Posed) (atom_terms : List ℕ) (spans : List Span) (companions : List ℕ) (ss : List Shelf) (kept : IsKept p atom_terms spans companions ss) (n i : ℕ) (some : (n == 0) ≡ false) where
   term_read : (o : Option ℕ) → slice_get p.closed (n - 1) ≡ o → term_of p n ≡ option_map (tree p.nodes) o
   term_read o e = ap (λ (b : Bool). option_map (tree p.nodes) (cond b None (slice_get p.closed (n - 1)))) some ∙ ap (option_map (tree p.nodes)) e
@@ -193,13 +185,13 @@ module _ (p : Posed) (atom_terms : List ℕ) (spans : List Span) (companions : L
     companion_closed table = by (slice_get (between companions s) i) refl companion_within
       where
         x_closed : Closed p.schema p.env (goal_term p) (tree p.nodes at.0)
-        x_closed = (kept.posed.are_closed.just (tree p.nodes at.0)).0 (Contains-from_Has (closed_terms p) (tree p.nodes at.0) (Has-map (tree p.nodes) p.closed at.0 (read_has p.closed (n - 1) at.0 at.1)))
+        x_closed = (kept.posed.are_closed.just (tree p.nodes at.0)).0 (Contains-from_Has (closed_terms p) (tree p.nodes at.0) (Has-map (tree p.nodes) p.closed at.0 (Has-from_Contains p.closed at.0 (contains_place p.closed (n - 1) at.0 at.1))))
 
         by : (o : Option ℕ) → slice_get (between companions s) i ≡ o → IfSome o (λ t. t < length p.nodes) → IfSome o (λ t. Contains p.closed t)
         by None e h = tt
         by (Some t) e h =
             let among : Has (follow p.schema (tree p.nodes at.0)) (tree p.nodes t) =
-            subst (λ (ts : List Tree). Has ts (tree p.nodes t)) at.2.stands (Has-map (tree p.nodes) (between companions s) t (read_has (between companions s) i t e)) in
+            subst (λ (ts : List Tree). Has ts (tree p.nodes t)) at.2.stands (Has-map (tree p.nodes) (between companions s) t (Has-from_Contains (between companions s) t (contains_place (between companions s) i t e))) in
             let closed : Closed p.schema p.env (goal_term p) (tree p.nodes t) = next (tree p.nodes at.0) (tree p.nodes t) x_closed (Contains-from_Has (follow p.schema (tree p.nodes at.0)) (tree p.nodes t) among) in
             let there = map-Has (tree p.nodes) p.closed (tree p.nodes t) (Has-from_Contains (closed_terms p) (tree p.nodes t) ((kept.posed.are_closed.just (tree p.nodes t)).1 closed)) in
             let below : there.0 < length p.nodes = within_Has (length p.nodes) p.closed kept.posed.within there.0 there.1 in
@@ -211,4 +203,4 @@ module _ (p : Posed) (atom_terms : List ℕ) (spans : List Span) (companions : L
       sym (ap (λ (o : Option Tree). option_and_then (λ (x : Tree). slice_get (follow p.schema x) i) o) (term_read None (none_zip (IsSpanOf p.schema p.nodes companions) p.closed spans (n - 1) kept.companions_are.each is)))
 
 pub companions_many : (d : Declarations) (xs : List Node) (terms : List ℕ) (spans : List Span) (ns : List ℕ) → AreListed d xs terms spans ns → length terms ≡ length spans
-companions_many d xs terms spans ns h = zip_length (IsSpanOf d xs ns) terms spans h.each
+companions_many d xs terms spans ns h = sym (AllZip-long (IsSpanOf d xs ns) terms spans h.each)

@@ -13,7 +13,7 @@ use Rattle.sc_world.specs.Conforms.{is_bool as is_truth_value}
 use Rattle.sc_world.specs.Stores.{Entities}
 use Rattle.sc_sorts.specs.declared.sort.Sort.{Sort, Sort-F, out-Sort, map-Sort}
 use Rattle.sc_sorts.specs.declared.sort.Sort.TheVariants as sort
-use Rattle.sc_sorts.specs.Defaults.{is_option, is_option_level}
+use Rattle.sc_sorts.specs.declared.sort.Sort.TheOpen as s
 use Rattle.sc_sorts.proofs.OutLaws.{out_Bool}
 use Rattle.sc_nodes.specs.declared.node.UnaryOp.TheVariants as unary
 use Rattle.sc_terms.specs.Trees.{Tree, one}
@@ -24,6 +24,7 @@ use Rattle.sc_term_laws.proofs.FitLaws.{seen, fits_out}
 use Rattle.sc_term_laws.specs.Fitting.{Test, Seen, fits, fits_step, Fits, as_value, as_option}
 use Rattle.sc_term_laws.specs.Judging.{IsTermOf}
 use Rattle.sc_term_laws.specs.Judging as judged
+use Rattle.sc_term_laws.proofs.FitVals.{no_option_at}
 use Rattle.sc_definitions.specs.Definitions.{inputs_of}
 use Rattle.sc_closure.specs.Atoms.{is_bool, is_bool_in}
 use Rattle.sc_closure_rules.specs.Closure.{inside, choices, beside, parts, follow}
@@ -59,9 +60,6 @@ bool_in : (x : Value-F Value) → is_truth_value x ≡ true → (b : Bool) × (x
 bool_in (v.Bool b) h = (b, refl)
 bool_in _ h = absurd cc
 
-no_option : is_option sort.Bool ≡ false
-no_option = ap (is_option_level Sort) out_Bool
-
 tests : (x : Value) → fits sort.Bool x ≡ is_truth_value (out-Value x)
 tests x = ap (λ (q : Test). q x) (fits_out sort.Bool) ∙ ap (λ (k : Sort-F Sort). fits_step (map-Sort Sort Seen seen k) x) out_Bool
 
@@ -73,4 +71,4 @@ module _ (d : Declarations) (es : Entities) where
 
   pub truth_is : (x : Val) → Fits d es sort.Bool x → x ≡ yes (truth x)
   truth_is _ (as_value x plain is) = let k = value_is x is.of_sort in ap it k.1 ∙ ap yes (sym (truth_yes k.0)) ∙ ap (λ (y : Value). yes (truth (it y))) (sym k.1)
-  truth_is _ (as_option o plain is) = absurd (let no : true ≡ false = sym plain ∙ no_option in cc)
+  truth_is _ (as_option o plain is) = absurd (let no : true ≡ false = sym plain ∙ no_option_at sort.Bool s.Bool out_Bool refl in cc)

@@ -13,6 +13,7 @@ use Rattle.std.specs.List.Sorted.{IsStrictlySortedBy}
 use Rattle.sc_lists.proofs.MemberLaws.{Has-map, map-Has, Has-from_Contains, Contains-from_Has}
 use Rattle.sc_lists.proofs.NumberLaws.{nat_eq_true}
 use Rattle.sc_lists.specs.Members.{Has}
+use Rattle.sc_lists.proofs.ListLaws.{AllByRecursion-filter, IsDistinct-filter}
 use Rattle.sc_names.specs.declared.uid.Uid.{Uid}
 use Rattle.sc_schema.specs.declared.declarations.Env.{Env}
 use Rattle.sc_schema.specs.Declarations.{Declarations}
@@ -52,17 +53,6 @@ listed xs (n ∷ ns) = by (is_atom (tree xs n)) (listed xs ns)
     by true e = ap (λ (l : List Tree). tree xs n ∷ l) e
     by false e = e
 
-filter_all : (p : ℕ → Bool) (P : ℕ → Type 0) (ns : List ℕ) → AllByRecursion P ns → AllByRecursion P (filter p ns)
-filter_all p P [] h = tt
-filter_all p P (n ∷ ns) h = by (p n) (filter_all p P ns h.1)
-  where
-    by : (b : Bool) → AllByRecursion P (filter p ns) → AllByRecursion P (cond b (n ∷ filter p ns) (filter p ns))
-    by true k = (h.0, k)
-    by false k = k
-
-some_within : (p : ℕ → Bool) (l : ℕ) (ns : List ℕ) → AllByRecursion (λ n. n < l) ns → AllByRecursion (λ n. n < l) (filter p ns)
-some_within p l ns h = filter_all p (λ n. n < l) ns h
-
 -- what passes a test
 passed : (p : ℕ → Bool) (ns : List ℕ) (n : ℕ) → Has (filter p ns) n → Has ns n × (p n ≡ true)
 passed p [] n h = absurd h
@@ -82,15 +72,6 @@ passing p (m ∷ ms) n h e = by (p m) refl h (λ k. passing p ms n k e)
     by true f (inr q) rest = inr (rest q)
     by false f (inl q) rest = absurd (true≢false (sym e ∙ ap p (sym q) ∙ f))
     by false f (inr q) rest = rest q
-
-some_distinct : (p : ℕ → Bool) (ns : List ℕ) → IsDistinct nat_eq ns → IsDistinct nat_eq (filter p ns)
-unfolding IsDistinct
-some_distinct p [] h = tt
-some_distinct p (n ∷ ns) h = by (p n) (filter_all p (λ m. nat_eq n m ≡ false) ns h.0) (some_distinct p ns h.1)
-  where
-    by : (b : Bool) → AllByRecursion (λ m. nat_eq n m ≡ false) (filter p ns) → IsDistinct nat_eq (filter p ns) → IsDistinct nat_eq (cond b (n ∷ filter p ns) (filter p ns))
-    by true f k = (f, k)
-    by false f k = k
 
 there_is : (ns : List ℕ) (q : ℕ) → is_member nat_eq ns q ≡ true → Has ns q
 there_is [] q h = absurd (true≢false (sym h))
@@ -172,7 +153,7 @@ module _ (d : Declarations) (env : Env) (literals : List Uid) (old met_in xs : L
   pub few_now : length (atoms_among (stood xs ns)) ≤ most_atoms
   few_now =
       let fewer : length (atoms_of xs ns) ≤ length (atoms_of met_in ms) =
-      length-le_from_is_member nat_eq_equiv (atoms_of xs ns) (atoms_of met_in ms) (some_distinct (λ n. is_atom (tree xs n)) ns once) (λ q h. is_there (atoms_of met_in ms) q (met_atom q (there_is (atoms_of xs ns) q h))) in
+      length-le_from_is_member nat_eq_equiv (atoms_of xs ns) (atoms_of met_in ms) (IsDistinct-filter (λ n. is_atom (tree xs n)) ns once) (λ q h. is_there (atoms_of met_in ms) q (met_atom q (there_is (atoms_of xs ns) q h))) in
       omega (arith, few, fewer, ap length (sym (listed xs ns)), length-map (atoms_of xs ns) (tree xs))
 
   is_posed : IsPosed problem
@@ -189,7 +170,7 @@ module _ (d : Declarations) (env : Env) (literals : List Uid) (old met_in xs : L
   pub is_kept : AreShelves problem ss → IsKept problem ls spans companions ss
   is_kept shelves = record {
     posed = is_posed;
-    atoms_within = subst (AllByRecursion (λ m. m < length xs)) (sym are) (some_within (λ m. is_atom (tree xs m)) (length xs) ns within);
+    atoms_within = subst (AllByRecursion (λ m. m < length xs)) (sym are) (AllByRecursion-filter (λ m. is_atom (tree xs m)) (λ m. m < length xs) ns within);
     atoms_are = atoms_are;
     companions_are = listed_companions;
     shelves_are = shelves;

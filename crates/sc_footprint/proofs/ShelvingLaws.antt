@@ -6,7 +6,7 @@ use Rattle.std.proofs.lemmas.Bool.Decides.{nat_tests}
 use Rattle.std.proofs.lemmas.List.Elements.{filter-append}
 use Rattle.std.proofs.lemmas.Option.{slice_get_read}
 use Rattle.std.specs.List.{AllByRecursion, list_any}
-use Rattle.sc_lists.proofs.BoolLaws.{and_first, and_second, or_first, or_second}
+use Rattle.sc_lists.proofs.BoolLaws.{and_first, and_second, or_first, or_second, and_false}
 use Rattle.sc_lists.proofs.ListLaws.{all_append}
 use Rattle.sc_lists.proofs.OptionLaws.{same_some}
 use Rattle.sc_lists.proofs.SeqLaws.{set_is}
@@ -183,10 +183,6 @@ module _ (sort_is : (k l : Sort) → sorts.eq k l ≡ true ↔ k ≡ l) (xs : Li
         }
 
 -- ---- what is put on no shelf, and tests that are one
-
-and_false : (b : Bool) → (b && false) ≡ false
-and_false true = refl
-and_false false = refl
 
 module _ (xs : List Node) where
   pub not_added : (ss : List Shelf) (n : ℕ) (test : Kind → ℕ → Bool) → AreWithin xs ss → ((k : Kind) (m : ℕ) → test k m ≡ false) → IsAdded xs ss ss n test

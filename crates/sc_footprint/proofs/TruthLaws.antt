@@ -39,7 +39,7 @@ use Rattle.sc_footprint.proofs.NumberingLaws.{Has-filter, numbered_back, within_
 
 -- ---- truth values
 
-holds_positive : (f : ℕ → Bool) (n : ℕ) → holds f (positive n) ≡ f n
+pub holds_positive : (f : ℕ → Bool) (n : ℕ) → holds f (positive n) ≡ f n
 holds_positive f n = by (f n)
   where
     by : (a : Bool) → bool_eq a true ≡ a
@@ -49,7 +49,7 @@ holds_positive f n = by (f n)
 pub atom_is : (x : Tree) → is_bool x ≡ true → is_opposite x ≡ false → is_atom x ≡ true
 atom_is x h k = rw (h, k) refl
 
-truth_sort : (b : Bool) → is_bool (truth_term b) ≡ true
+pub truth_sort : (b : Bool) → is_bool (truth_term b) ≡ true
 unfolding tree_sort
 truth_sort b = ap is_bool_in out_Bool
 

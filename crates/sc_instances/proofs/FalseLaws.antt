@@ -73,6 +73,10 @@ first_value m a = by (a == 1) refl
     by true e = let same : a ≡ 1 = nat_eq_true a 1 e in ap (λ (k : ℕ). only_true (value_of m k)) (sym same)
     by false e = refl
 
+-- what is known is of an atom
+pub known_atom : (m : Assignment) (l : Lit) (b : Bool) → known m l ≡ Some b → l.atom ≢ 0
+known_atom m l b h e = let none : None ≡ Some b = ap (λ (n : ℕ). option_map (λ (v : Bool). bool_eq v (not l.negated)) (seen_value m n)) (sym e) ∙ h in absurd cc
+
 module _ (m : Assignment) where
   pub false_known : (l : Lit) → (is_asked l && is_false m l) ≡ true → known m l ≡ Some false
   false_known l h =
@@ -190,3 +194,11 @@ module _ (m : Assignment) where
   unfolding is_falsified is_instance said_clause
   instance_falsified p None h k = absurd cc
   instance_falsified p (Some parts) h k = all_both (clause_for p parts) (and_parts (list_all is_asked (clause_for p parts)) (not (is_tautology (clause_for p parts))) h).0 k
+
+  -- so a clause whose instance isn't falsified isn't either
+  pub instance_free : (p : Posed) (said : Said) → is_instance p said ≡ true → is_falsified p m said ≡ false → falsifies m (said_clause p said) ≡ false
+  instance_free p said h e = by (falsifies m (said_clause p said)) refl
+    where
+      by : (b : Bool) → falsifies m (said_clause p said) ≡ b → b ≡ false
+      by false f = refl
+      by true f = let never : true ≡ false = sym (instance_falsified p said h f) ∙ e in cc

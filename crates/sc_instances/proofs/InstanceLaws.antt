@@ -31,7 +31,7 @@ use Rattle.sc_instances.proofs.RulesHold.{equal_true, set_true, entity_true}
 -- ---- literals that are asked
 
 -- of an atom, and so of a listed one
-asked_atom : (l : Lit) → is_asked l ≡ true → l.atom ≢ 0
+pub asked_atom : (l : Lit) → is_asked l ≡ true → l.atom ≢ 0
 asked_atom l h e = let f : not (l.atom == 0) ≡ true = (and_parts _ _ h).0 in let g : not (0 == 0) ≡ true = subst (λ (n : ℕ). not (n == 0) ≡ true) e f in cc
 
 -- the literal of a signed term is of the term's atom
@@ -60,7 +60,7 @@ clause_lawful p parts posed h l k =
       not_both (clause_for p parts) l (not_true (is_tautology (clause_for p parts)) (sym both.1)) k,
     )
 
-said_lawful : (p : Posed) (said : Said) → IsPosed p → IsTrue (is_instance p said) → IsClauseOf p (said_clause p said)
+pub said_lawful : (p : Posed) (said : Said) → IsPosed p → IsTrue (is_instance p said) → IsClauseOf p (said_clause p said)
 unfolding is_instance said_clause
 said_lawful p None posed h = absurd cc
 said_lawful p (Some parts) posed h = clause_lawful p parts posed h
@@ -84,7 +84,7 @@ clause_true laws p w (s ∷ parts) posed formed h =
     ap (λ (b : Bool). b || clause_holds (truths p w) (clause_for p parts)) (literal_true laws p w posed formed s both.0)
     ∙ ap (λ (b : Bool). holds_in w s || b) (clause_true laws p w parts posed formed both.1)
 
-said_true : (laws : TermsHold) (p : Posed) (w : World) (said : Said) → IsPosed p → IsWorldOf p w → IsTrue (is_instance p said) → Holds w said → IsTrueIn p w (said_clause p said)
+pub said_true : (laws : TermsHold) (p : Posed) (w : World) (said : Said) → IsPosed p → IsWorldOf p w → IsTrue (is_instance p said) → Holds w said → IsTrueIn p w (said_clause p said)
 unfolding is_instance said_clause
 said_true laws p w None posed formed h e = absurd cc
 said_true laws p w (Some parts) posed formed h e =

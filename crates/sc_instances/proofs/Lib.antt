@@ -3,7 +3,8 @@ pub mod KnownLaws
 pub mod FalseLaws
 pub mod LookupLaws
 pub mod PartLaws
+pub mod FollowLaws
 pub mod SayingLaws
-mod NameLaws
-mod RulesHold
+pub mod NameLaws
+pub mod RulesHold
 pub mod InstanceLaws

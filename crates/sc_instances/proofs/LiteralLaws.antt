@@ -1,10 +1,15 @@
 -- The literals of terms: what they are, that those of an atom with a number are of listed atoms, and that they are true where the terms are.
-use Rattle.std.proofs.Common.{◌≡◌, ◌≢◌, ◌<◌, ◌≤◌, ◌==◌, ℕ, zero, suc, Bool, true, false, not, cond, inl, inr, List, [], ◌∷◌, map, length, Option, Some, None, Contains, refl, sym, ap, ◌∙◌, arith}
+use Rattle.std.proofs.Common.{◌≡◌, ◌≢◌, ◌<◌, ◌≤◌, ℕ, zero, suc, Bool, true, false, not, cond, inl, inr, List, [], ◌∷◌, map, length, Option, Some, None, Contains, refl, sym, ap, ◌∙◌, arith, slice_get, ◌+◌}
 use Rattle.std.proofs.lemmas.Bool.{and_parts}
-use Rattle.std.proofs.lemmas.Bool.Decides.{nat_tests}
 use Rattle.std.specs.List.{AllByRecursion}
+use Rattle.std.specs.List.Sorted.{IsStrictlySortedBy}
+use Rattle.std.specs.Ordering.{is_eq}
+use Rattle.std.specs.declared.cmp.Ordering.TheVariants.{Less}
 use Rattle.sc_lists.proofs.MemberLaws.{Has-from_Contains, Contains-from_Has}
 use Rattle.sc_lists.specs.Members.{Has}
+use Rattle.sc_lists.proofs.ListLaws.{all_element, contains_place}
+use Rattle.sc_lists.proofs.NumberLaws.{suc_isnt_zero}
+use Rattle.sc_lists.proofs.OptionLaws.{same_some}
 use Rattle.sc_rules.proofs.MemberLaws.{filter_passes, filter_within}
 use Rattle.sc_clauses.specs.declared.lit.Lit.{Lit}
 use Rattle.sc_clauses.specs.Clauses.{bool_eq, holds, positive, negation}
@@ -17,7 +22,7 @@ use Rattle.sc_nodes.specs.declared.node.UnaryOp.TheVariants.{Not}
 use Rattle.sc_terms.specs.Trees.{Tree, leaf, one}
 use Rattle.sc_terms.specs.TreeSorts.{tree_sort}
 use Rattle.sc_terms.specs.Tables.{tree}
-use Rattle.sc_terms.specs.Order.{tree_eq}
+use Rattle.sc_terms.specs.Order.{tree_eq, tree_cmp}
 use Rattle.sc_terms.specs.Folds.{truth_term, constant, under_not, not_by, not_term}
 use Rattle.sc_terms.specs.Values.{Val, val, yes, not_value}
 use Rattle.sc_terms.proofs.FoldValues.{seen_yes, truth_yes}
@@ -50,7 +55,7 @@ literal_is number t = of_atom t refl
 
 one_more_within : (k n : ℕ) → k ≤ n → one_more k ≤ suc n
 one_more_within zero n h = omega arith
-one_more_within (suc k) n h = let some : (suc k == 0) ≡ false = grind (arith, nat_tests) in rw some (omega (arith, h))
+one_more_within (suc k) n h = rw (suc_isnt_zero k) (omega (arith, h))
 
 pub number_within : (ts : List Tree) (t : Tree) → number_among ts t ≤ length ts
 number_within [] t = omega arith
@@ -80,6 +85,20 @@ number_none ts t h = by (number_among ts t) refl
     by : (n : ℕ) → number_among ts t ≡ n → n ≡ 0
     by zero e = refl
     by (suc n) e = absurd (h (number_there ts t (λ z. (let f : suc n ≡ 0 = sym e ∙ z in omega (arith, f)))))
+
+-- of ascending terms each has the number after its place
+pub number_at : (ts : List Tree) (k : ℕ) (t : Tree) → IsStrictlySortedBy tree_cmp ts → slice_get ts k ≡ Some t → number_among ts t ≡ suc k
+unfolding IsStrictlySortedBy tree_eq
+number_at [] k t h e = absurd cc
+number_at (x ∷ xs) zero t h e =
+    let same : tree_eq x t ≡ true = ap (tree_eq x) (sym (same_some e)) ∙ tree_eq-itself x in
+    ap (λ (b : Bool). cond b 1 (one_more (number_among xs t))) same
+number_at (x ∷ xs) (suc k) t h e =
+    let less : tree_cmp x t ≡ Less = all_element (λ y. tree_cmp x y ≡ Less) xs t h.0 (contains_place xs k t e) in
+    let apart : tree_eq x t ≡ false = ap is_eq less in
+    let more : suc k + 1 ≡ suc (suc k) = omega arith in
+    ap (λ (b : Bool). cond b 1 (one_more (number_among xs t))) apart ∙ ap one_more (number_at xs k t h.1 e)
+    ∙ ap (λ (b : Bool). cond b 0 (suc k + 1)) (suc_isnt_zero k) ∙ more
 
 -- an atom is closed, and is a truth value
 atom_closed : (p : Posed) (t : Tree) → Has (atoms p) t → Contains (closed_terms p) t

@@ -46,7 +46,7 @@ entity_back = named_back entity_named
 -- ---- texts
 
 -- a rule that has one word, or is another's
-one_word : {R : Type 0} (rule word : List ℕ) (x r : R) (rest : Option R) → is_rule_word word ≡ true → (rest ≡ Some r → is_rule_word rule ≡ true) → cond (is_named rule word) (Some x) rest ≡ Some r
+pub one_word : {R : Type 0} (rule word : List ℕ) (x r : R) (rest : Option R) → is_rule_word word ≡ true → (rest ≡ Some r → is_rule_word rule ≡ true) → cond (is_named rule word) (Some x) rest ≡ Some r
     → is_rule_word rule ≡ true
 one_word {R} rule word x r rest plain others = by (is_named rule word) refl
   where
@@ -54,7 +54,7 @@ one_word {R} rule word x r rest plain others = by (is_named rule word) refl
     by true e h = subst (λ (w : List ℕ). is_rule_word w ≡ true) (sym (bytes_eq_true rule word e)) plain
     by false e h = others h
 
-last_word : {R : Type 0} (rule word : List ℕ) (x r : R) → is_rule_word word ≡ true → cond (is_named rule word) (Some x) None ≡ Some r → is_rule_word rule ≡ true
+pub last_word : {R : Type 0} (rule word : List ℕ) (x r : R) → is_rule_word word ≡ true → cond (is_named rule word) (Some x) None ≡ Some r → is_rule_word rule ≡ true
 last_word rule word x r plain = one_word rule word x r None plain (λ e. absurd cc)
 
 equal_word : (rule : List ℕ) (n : Numbers) (r : EqualRule) → equal_named rule n ≡ Some r → is_rule_word rule ≡ true

@@ -1,10 +1,10 @@
 -- What is found on shelves is what is found among all closed terms.
-use Rattle.std.proofs.Common.{◌≡◌, ◌<◌, ◌≤◌, ◌+◌, ◌-◌, ◌==◌, ◌&&◌, ℕ, zero, suc, Bool, true, false, cond, inl, inr, List, [], ◌∷◌, map, filter, find, drop, length, slice_get, get_or, Option, Some, None, refl, sym, ap, ◌∙◌, subst, arith}
+use Rattle.std.proofs.Common.{◌≡◌, ◌<◌, ◌≤◌, ◌+◌, ◌-◌, ◌&&◌, ℕ, zero, suc, Bool, true, false, cond, inl, inr, List, [], ◌∷◌, map, filter, find, drop, length, slice_get, get_or, Option, Some, None, refl, sym, ap, ◌∙◌, subst, arith}
 use Rattle.std.proofs.lemmas.Bool.{and_parts}
-use Rattle.std.proofs.lemmas.Bool.Decides.{nat_tests}
 use Rattle.std.proofs.lemmas.Option.{slice_get-get_or}
 use Rattle.sc_lists.proofs.MemberLaws.{Has-from_Contains}
 use Rattle.sc_lists.specs.Members.{Has}
+use Rattle.sc_lists.proofs.NumberLaws.{suc_isnt_zero}
 use Rattle.sc_sorts.specs.declared.sort.Sort.{Sort}
 use Rattle.sc_sorts.specs.contracts.sort.SortPartialEq.TheImpl.{ghosts as sorts}
 use Rattle.sc_sorts.proofs.OrderLaws.{sort_eq_decides}
@@ -108,11 +108,10 @@ found_closed p t None posed h = λ there. not_in_table p t posed h (Has-from_Con
 
 -- ---- closed terms one after the other
 
-number_suc : (ns : List ℕ) (k : ℕ) → numbered ns (suc k) ≡ slice_get ns k
+pub number_suc : (ns : List ℕ) (k : ℕ) → numbered ns (suc k) ≡ slice_get ns k
 number_suc ns k =
-    let some : (suc k == 0) ≡ false = grind (arith, nat_tests) in
     let back : suc k - 1 ≡ k = omega arith in
-    rw some (ap (slice_get ns) back)
+    rw (suc_isnt_zero k) (ap (slice_get ns) back)
 
 -- each place has one
 pub number_there : (ns : List ℕ) (place : ℕ) → place < length ns → ¬ (numbered ns (place + 1) ≡ None)

@@ -1,8 +1,5 @@
 -- What is in a list.
-use Rattle.std.proofs.Common.{◌≡◌, ℕ, zero, suc, ◌+◌, ◌<◌, Bool, true, false, ◌||◌, ◌⊎◌, inl, inr, ⊎_elim, List, [], ◌∷◌, ◌++◌, map, take, length, get_or, slice_get, Some, None, nat_eq, refl, sym, ap, arith}
-use Rattle.std.proofs.lemmas.Bool.{eqb-true, eqb-false}
-use Rattle.std.specs.Bool.{MatchBool}
-use Rattle.std.specs.List.{list_any}
+use Rattle.std.proofs.Common.{◌≡◌, ℕ, zero, suc, ◌+◌, ◌<◌, inl, inr, List, [], ◌∷◌, ◌++◌, take, length, get_or, slice_get, Some, None, refl, sym, ap, arith}
 use Rattle.sc_lists.specs.Members.{Has}
 
 -- ---- the first of a list
@@ -40,14 +37,3 @@ pub Has-read : {X : Type 0} (xs : List X) (i : ℕ) (x : X) → i < length xs �
 Has-read [] i x h e = absurd (omega (arith, h))
 Has-read (y ∷ ys) zero x h e = inl (sym e)
 Has-read (y ∷ ys) (suc i) x h e = inr (Has-read ys i x (omega (arith, h)) e)
-
--- ---- the test
-
-has_step : (t : Bool) (xs : List ℕ) (x c : ℕ) (b : Bool) → nat_eq x c ≡ t → MatchBool b (Has xs c) (¬ (Has xs c)) → MatchBool (t || b) (Has (x ∷ xs) c) (¬ (Has (x ∷ xs) c))
-has_step true xs x c b is h = inl (eqb-true x c is)
-has_step false xs x c true is h = inr h
-has_step false xs x c false is h = λ has. elim has [ inl e ↦ eqb-false x c is e | inr k ↦ h k ]
-
-pub among : (xs : List ℕ) (c : ℕ) → MatchBool (list_any (λ y. nat_eq y c) xs) (Has xs c) (¬ (Has xs c))
-among [] c = λ h. h
-among (x ∷ xs) c = has_step (nat_eq x c) xs x c (list_any (λ y. nat_eq y c) xs) refl (among xs c)

@@ -5,13 +5,12 @@ use Rattle.std.proofs.lemmas.List.{take_more, take_all}
 use Rattle.std.specs.Bool.{MatchBool}
 use Rattle.std.specs.List.{list_any}
 use Rattle.std.specs.Char.{IsScalar}
-use Rattle.sc_lists.proofs.MemberLaws.{Has-left, Has-last, Has-push}
+use Rattle.sc_lists.proofs.MemberLaws.{Has-left, Has-last, Has-push, list_any-Has}
 use Rattle.sc_lists.specs.Members.{Has}
 use Rattle.sc_languages.specs.declared.item.Item.{Item}
 use Rattle.sc_languages.specs.declared.item.Item.TheVariants.{Star, Char, End}
 use Rattle.sc_languages.specs.Items.{step}
 use Rattle.sc_languages.specs.Searching.{AreAlike, StandsFor, Covers, HasLetters, AreAmong, IsNoted}
-use Rattle.sc_languages.proofs.ListLaws.{among}
 
 -- characters that are alike are read alike
 pub step_alike : (c d : ℕ) (k a : Bool) (items : List Item) (marks : List Bool) → AreAlike items c d → step c k a items marks ≡ step d k a items marks
@@ -49,7 +48,7 @@ covers_by false items words letters c d h has other =
 
 -- so do the characters of the items and texts, and one other
 pub covers_with : (items : List Item) (words : List (List ℕ)) (letters : List ℕ) (d : ℕ) → HasLetters items words letters → ¬ (Has letters d) → Covers items words (d ∷ letters)
-covers_with items words letters d has other c scalar = covers_by (list_any (λ y. nat_eq y c) letters) items words letters c d (among letters c) has other
+covers_with items words letters d has other c scalar = covers_by (list_any (λ y. nat_eq y c) letters) items words letters c d (list_any-Has letters c) has other
 
 -- one item more
 pub items_next : (items : List Item) (i : ℕ) (d : Item) (old new : List ℕ) → i < length items → ((c : ℕ) → Has (take i items) (Char c) → Has old c)

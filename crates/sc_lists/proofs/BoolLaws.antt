@@ -40,6 +40,22 @@ pub true_or_false : (a : Bool) → (a || false) ≡ true → a ≡ true
 true_or_false true h = refl
 true_or_false false h = absurd cc
 
+pub not_is_true : (a : Bool) → not a ≡ true → a ≡ false
+not_is_true true h = absurd cc
+not_is_true false h = refl
+
+pub not_is_false : (a : Bool) → a ≡ false → not a ≡ true
+not_is_false true h = absurd cc
+not_is_false false h = refl
+
+pub and_false : (a : Bool) → (a && false) ≡ false
+and_false true = refl
+and_false false = refl
+
+pub true_both : (a : Bool) → a ≡ true → a ≡ false → ⊥
+true_both true h k = cc
+true_both false h k = cc
+
 -- two tests of one thing are one
 pub same_truth : {P : Type 0} (b c : Bool) → (IsTrue b ↔ P) → (IsTrue c ↔ P) → b ≡ c
 same_truth true true p q = refl

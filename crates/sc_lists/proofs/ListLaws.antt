@@ -1,6 +1,6 @@
 -- What is in a list, and what holds of each of its elements.
-use Rattle.std.proofs.Common.{◌≡◌, ◌⊎◌, ◌<◌, ◌+◌, ◌-◌, ◌&&◌, ◌||◌, ℕ, zero, suc, List, [], ◌∷◌, ◌++◌, length, take, drop, get_or, map, slice_get, Contains, Bool, true, false, Some, inl, inr, refl, ap, subst, ◌∙◌, arith, sym}
-use Rattle.std.specs.List.{AllByRecursion, list_all, list_any, flat_map}
+use Rattle.std.proofs.Common.{cond, filter, nat_eq, ◌≡◌, ◌⊎◌, ◌<◌, ◌+◌, ◌-◌, ◌&&◌, ◌||◌, ℕ, zero, suc, List, [], ◌∷◌, ◌++◌, length, take, drop, get_or, map, slice_get, Contains, Bool, true, false, Some, inl, inr, refl, ap, subst, ◌∙◌, arith, sym}
+use Rattle.std.specs.List.{AllByRecursion, IsDistinct, list_all, list_any, flat_map}
 use Rattle.std.proofs.Math.Seq.{take-length}
 use Rattle.std.proofs.lemmas.List.Elements.{All-contains, All-from_recursion, Contains-append_left, Contains-append_right, Contains-append_cases}
 use Rattle.std.proofs.lemmas.Option.{slice_get_within, get_or_from_slice_get}
@@ -103,3 +103,22 @@ any_contained {X} test (z ∷ xs) x has h = elim (contains_split z xs x has) [
   | inl same ↦ or_left (test z) (list_any test xs) (subst (λ (w : X). test w ≡ true) (sym same) h)
   | inr later ↦ or_right (test z) (list_any test xs) (any_contained test xs x later h)
 ]
+
+-- ---- what passes a test
+
+pub AllByRecursion-filter : {X : Type 0} (p : X → Bool) (P : X → Type 0) (xs : List X) → AllByRecursion P xs → AllByRecursion P (filter p xs)
+AllByRecursion-filter p P [] h = tt
+AllByRecursion-filter p P (x ∷ xs) h = by (p x) (AllByRecursion-filter p P xs h.1)
+  where
+    by : (b : Bool) → AllByRecursion P (filter p xs) → AllByRecursion P (cond b (x ∷ filter p xs) (filter p xs))
+    by true k = (h.0, k)
+    by false k = k
+
+pub IsDistinct-filter : (p : ℕ → Bool) (ns : List ℕ) → IsDistinct nat_eq ns → IsDistinct nat_eq (filter p ns)
+unfolding IsDistinct
+IsDistinct-filter p [] h = tt
+IsDistinct-filter p (n ∷ ns) h = by (p n) (AllByRecursion-filter p (λ m. nat_eq n m ≡ false) ns h.0) (IsDistinct-filter p ns h.1)
+  where
+    by : (b : Bool) → AllByRecursion (λ m. nat_eq n m ≡ false) (filter p ns) → IsDistinct nat_eq (filter p ns) → IsDistinct nat_eq (cond b (n ∷ filter p ns) (filter p ns))
+    by true f k = (f, k)
+    by false f k = k

@@ -1,5 +1,8 @@
 -- What is in a list that is put together from others.
-use Rattle.std.proofs.Common.{◌≡◌, ◌⊎◌, inl, inr, ⊎_elim, List, [], ◌∷◌, ◌++◌, map, flat_map, refl, sym, ap, subst, ℕ, zero, suc, ◌<◌, length, get_or, Contains, arith}
+use Rattle.std.proofs.Common.{Bool, true, false, ◌||◌, nat_eq, Some, slice_get, ◌≡◌, ◌⊎◌, inl, inr, ⊎_elim, List, [], ◌∷◌, ◌++◌, map, flat_map, refl, sym, ap, subst, ℕ, zero, suc, ◌<◌, length, get_or, Contains, arith}
+use Rattle.std.proofs.lemmas.Bool.{eqb-true, eqb-false}
+use Rattle.std.specs.Bool.{MatchBool}
+use Rattle.std.specs.List.{AllByRecursion, list_any}
 use Rattle.sc_lists.specs.Members.{Has}
 
 pub Has-left : {X : Type 0} (xs ys : List X) (x : X) → Has xs x → Has (xs ++ ys) x
@@ -58,3 +61,29 @@ pub Contains-from_Has : {X : Type 0} (xs : List X) (x : X) → Has xs x → Cont
 Contains-from_Has [] x h = absurd h
 Contains-from_Has (y ∷ ys) x (inl e) = (0, omega arith, e)
 Contains-from_Has (y ∷ ys) x (inr h) = let k = Contains-from_Has ys x h in (suc k.0, omega (arith, k.1), k.2)
+
+-- the place of a member
+pub Has-place : {X : Type 0} (xs : List X) (x : X) → Has xs x → (i : ℕ) × (i < length xs) × (slice_get xs i ≡ Some x)
+Has-place [] x h = absurd h
+Has-place (y ∷ ys) x (inl e) = (0, omega arith, ap Some e)
+Has-place (y ∷ ys) x (inr h) = let r = Has-place ys x h in (suc r.0, omega (arith, r.1), r.2)
+
+-- what holds of all holds of each, and the other way round
+pub AllByRecursion-Has : {X : Type 0} (P : X → Type 0) (xs : List X) (x : X) → AllByRecursion P xs → Has xs x → P x
+AllByRecursion-Has P [] x h k = absurd k
+AllByRecursion-Has P (y ∷ ys) x h (inl e) = subst P e h.0
+AllByRecursion-Has P (y ∷ ys) x h (inr k) = AllByRecursion-Has P ys x h.1 k
+
+pub Has-AllByRecursion : {X : Type 0} (P : X → Type 0) (xs : List X) → ((x : X) → Has xs x → P x) → AllByRecursion P xs
+Has-AllByRecursion P [] h = tt
+Has-AllByRecursion P (x ∷ xs) h = (h x (inl refl), Has-AllByRecursion P xs (λ y k. h y (inr k)))
+
+-- a test of numbers tells whether one is in a list
+any_step : (t : Bool) (xs : List ℕ) (x c : ℕ) (b : Bool) → nat_eq x c ≡ t → MatchBool b (Has xs c) (¬ (Has xs c)) → MatchBool (t || b) (Has (x ∷ xs) c) (¬ (Has (x ∷ xs) c))
+any_step true xs x c b is h = inl (eqb-true x c is)
+any_step false xs x c true is h = inr h
+any_step false xs x c false is h = λ has. elim has [ inl e ↦ eqb-false x c is e | inr k ↦ h k ]
+
+pub list_any-Has : (xs : List ℕ) (c : ℕ) → MatchBool (list_any (λ y. nat_eq y c) xs) (Has xs c) (¬ (Has xs c))
+list_any-Has [] c = λ h. h
+list_any-Has (x ∷ xs) c = any_step (nat_eq x c) xs x c (list_any (λ y. nat_eq y c) xs) refl (list_any-Has xs c)

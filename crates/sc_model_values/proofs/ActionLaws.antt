@@ -1,6 +1,5 @@
 -- An entity of a type of actions is a declared one, and what a model has under its ancestors of a type are the declared ones.
-use Rattle.std.proofs.Common.{◌≡◌, ◌↔◌, ◌==◌, inl, inr, cond, ℕ, Bool, true, false, not, List, [], ◌∷◌, map, length, Option, Some, option_map, unwrap_or, Contains, refl, sym, ap, ◌∙◌, subst}
-use Rattle.std.specs.List.{AllByRecursion}
+use Rattle.std.proofs.Common.{◌≡◌, ◌↔◌, ◌==◌, inl, cond, ℕ, Bool, true, false, not, List, [], ◌∷◌, map, length, Option, Some, option_map, unwrap_or, Contains, refl, sym, ap, ◌∙◌, subst}
 use Rattle.std.specs.Ordering.{is_eq}
 use Rattle.std.proofs.lemmas.Cmp.{tied_itself}
 use Rattle.sc_lists.specs.Members.{Has}
@@ -39,10 +38,11 @@ use Rattle.sc_rebuilding.specs.Assignments.{lit}
 use Rattle.sc_rebuilding.specs.Consistent.{of_en7, of_en8}
 use Rattle.sc_rebuilding.specs.Vals.{Model, assigned}
 use Rattle.sc_rebuilding.specs.Models.{IsModel}
+use Rattle.sc_rebuilding.proofs.HoldLaws.{others, last, some_so}
+use Rattle.sc_rebuilding.proofs.ManyRows.{all_so}
 use Rattle.sc_model_values.proofs.ClosureLaws.{of_part, declared_closed, declared_member, entities_equation}
 use Rattle.sc_model_values.proofs.EntityLaws.{OfAncestors, ancestors_sort, ruled, member_true, true_member, ancestors_move}
 use Rattle.sc_model_values.proofs.FittingLaws.{AreMade, assigned_sorted}
-use Rattle.sc_model_values.proofs.SaidLaws.{others, only, one_of}
 
 -- what is chosen by its type
 pub named_choice : (name : List ℕ) (us : List Uid) (u : Uid) → Has (of_type_name name us) u → Contains us u × (u.type_name ≡ name)
@@ -60,10 +60,6 @@ among_uid us u h = has_any (λ (v : Uid). is_eq (uid_cmp u v)) us u h (ap is_eq 
 literal_among : (us : List Uid) (x : Tree) → is_literal_of us x ≡ true → (u : Uid) × (vs : List Uid) × (x ≡ literal_term (literal.Entity u vs)) × Has us u
 literal_among us (leaf (leafs.Literal (literal.Entity u vs))) e = (u, vs, refl, uid_among us u e)
 literal_among us _ e = absurd cc
-
-all_terms : {X : Type 0} (P : Tree → Type 0) (f : X → Tree) (xs : List X) → ((x : X) → Has xs x → P (f x)) → AllByRecursion (λ (s : Signed). P s.1) (map (λ x. so (f x)) xs)
-all_terms P f [] h = tt
-all_terms P f (x ∷ xs) h = (h x (inl refl), all_terms P f xs (λ y k. h y (inr k)))
 
 some_are : (us : List Uid) → (us ≡ [] → ⊥) → not (length us == 0) ≡ true
 some_are us h = by (length us == 0) refl where
@@ -115,9 +111,9 @@ module _ (d : Declarations) (env : Env) (literals : List Uid) (goal : Tree) (mad
         let listed : en8 d e ≡ en8_of d e (choices_of d p.name) = ap (en8_of d e) (ap choices_level (ap out-Sort p.sorted ∙ out_Entity p.name (choices_of d p.name))) in
         let some = some_are (choices_of d p.name) (λ none. let both : true ≡ false = sym acts ∙ no_actions d p.name none in cc) in
         let said : en8 d e ≡ Some parts = listed ∙ ap (λ (b : Bool). given b parts) some in
-        let found = one_of m.truths (λ u. equal_term e (entity d u)) (choices_of d p.name)
+        let found = some_so m.truths (λ u. equal_term e (entity d u)) (choices_of d p.name)
         (ruled d env literals goal made m model (en8 d e) parts (of_en8 e whole) said
-        (all_terms (Closed d env goal) (λ u. equal_term e (entity d u)) (choices_of d p.name)
+        (all_so (Closed d env goal) (λ u. equal_term e (entity d u)) (choices_of d p.name)
         (λ u h. equated p.name e u (named_choice p.name (action_uids d) u h).1 p.sorted whole (uid_closed u h)))) in
         subst (Has (choices_of d p.name)) (sym (told_uid p.name e found.0 (named_choice p.name (action_uids d) found.0 found.1).1 p.sorted whole (uid_closed found.0 found.1) found.2)) found.1
 
@@ -175,10 +171,10 @@ module _ (d : Declarations) (env : Env) (literals : List Uid) (goal : Tree) (mad
             let parts : List Signed = unless (two binary.Member y set) ∷ rest in
             let said : en7 d set y ≡ Some parts = said_of y ∙ ap (λ (b : Bool). Some (cond b (so (two binary.Member y set) ∷ []) parts)) q in
             let s : tree_sort y ≡ entity_sort d p.above = there.1 ∙ p.own in
-            let found = one_of m.truths (λ v. equal_term y (entity d v)) above_uids
+            let found = some_so m.truths (λ v. equal_term y (entity d v)) above_uids
             (others m.truths false (two binary.Member y set) rest
             (ruled d env literals goal made m model (en7 d set y) parts (of_en7 set y (action_closed u h) there.0) said
-            (t.0, all_terms (Closed d env goal) (λ v. equal_term y (entity d v)) above_uids (λ v g. equated p.above y v (type_of v g) s there.0 (above_closed v g)))) t.1) in
+            (t.0, all_so (Closed d env goal) (λ v. equal_term y (entity d v)) above_uids (λ v g. equated p.above y v (type_of v g) s there.0 (above_closed v g)))) t.1) in
             subst (Has above_uids) (sym (told_uid p.above y found.0 (type_of found.0 found.1) s there.0 (above_closed found.0 found.1) found.2)) found.1
 
       is_listed : (v : Uid) → Has above_uids v → Has (assigned m set) (uid_term (choices_of d p.above) v)
@@ -187,7 +183,7 @@ module _ (d : Declarations) (env : Env) (literals : List Uid) (goal : Tree) (mad
           let said : en7 d set x ≡ Some (so (two binary.Member x set) ∷ []) =
           said_of x ∙ ap (λ (b : Bool). Some (cond b (so (two binary.Member x set) ∷ []) (unless (two binary.Member x set) ∷ map (λ w. so (equal_term x (entity d w))) above_uids))) (among_uid above_uids v g) in
           true_member d env literals goal made m model set x (member_whole v g)
-          (only m.truths true (two binary.Member x set)
+          (last m.truths true (two binary.Member x set)
           (ruled d env literals goal made m model (en7 d set x) (so (two binary.Member x set) ∷ []) (of_en7 set x (action_closed u h) (above_closed v g)) said (member_whole v g, tt)))
 
     pub action_members : (v : Uid) → Has (map m.uid (assigned m (one (unary.Ancestors k) e))) v ↔ Has (of_type_name p.above (unwrap_or (action_ancestors d (m.uid e)) [])) v

@@ -6,7 +6,7 @@ use Rattle.std.specs.Str.{bytes_eq}
 use Rattle.sc_lists.proofs.BoolLaws.{and_first, and_second}
 use Rattle.sc_schema.specs.declared.ty.Presence.{Presence}
 use Rattle.sc_schema.specs.declared.ty.Presence.TheVariants.{Required, Optional}
-use Rattle.sc_schema.specs.declared.ty.Ty.{Ty, Ty-F, roll-Ty, map-Ty, ind-Ty, fold-roll-Ty}
+use Rattle.sc_schema.specs.declared.ty.Ty.{Ty, Ty-F, roll-Ty, map-Ty, ind-Ty}
 use Rattle.sc_schema.specs.declared.ty.Ty.TheOpen as t
 use Rattle.sc_schema.specs.Declarations.{Declarations}
 use Rattle.sc_schema.specs.Lawful.{IsTypeOf, IsTypeLevel}
@@ -14,7 +14,7 @@ use Rattle.sc_schema.proofs.EveryTypeLaws as of_type
 use Rattle.sc_values.specs.declared.value.Value.{Value, Value-F, out-Value}
 use Rattle.sc_values.specs.declared.value.Value.TheOpen as v
 use Rattle.sc_values.specs.Records.{Fields, field}
-use Rattle.sc_world.specs.Conforms.{Test, is_set_of, is_record_of, passes, conforms, conforms_step}
+use Rattle.sc_world.specs.Conforms.{Test, is_record_of, passes, conforms, conforms_step}
 use Rattle.sc_sorts.specs.declared.sort.Sort.{Sort}
 use Rattle.sc_sorts.specs.declared.sort.Sort.TheVariants as sort
 use Rattle.sc_sorts.specs.declared.sort.Sort.TheVariants.{rolls-Bool, rolls-Long, rolls-String, rolls-Decimal, rolls-Ip, rolls-Entity, rolls-Set, rolls-Record}
@@ -23,20 +23,8 @@ use Rattle.sc_sorts.specs.OfTypes.{sort_of, with_presence}
 use Rattle.sc_term_laws.specs.Fitting.{Seen, fits_step, fits}
 use Rattle.sc_term_laws.specs.Fitting as fit
 use Rattle.sc_term_laws.proofs.DefaultTypeLaws.{no_option}
-use Rattle.sc_term_laws.proofs.FitLaws.{seen, seen_fits, seen_Option, seen_option, sort_roll, sights_of}
+use Rattle.sc_term_laws.proofs.FitLaws.{seen, seen_fits, seen_Option, seen_option, sort_roll, sights_of, conforms_roll, set_so}
 use Rattle.sc_term_laws.proofs.FitVals.{fits_at}
-
-conforms_roll : (y : Ty-F Ty) → conforms (roll-Ty y) ≡ conforms_step (map-Ty Ty Test conforms y)
-unfolding conforms
-conforms_roll y = fold-roll-Ty Test conforms_step y
-
-all_back : (p q : Test) → ((x : Value) → p x ≡ true → q x ≡ true) → (xs : List Value) → list_all p xs ≡ true → list_all q xs ≡ true
-all_back p q f [] h = refl
-all_back p q f (x ∷ xs) h = both_true (f x (and_first (p x) (list_all p xs) h)) (all_back p q f xs (and_second (p x) (list_all p xs) h))
-
-set_back : (p q : Test) → ((x : Value) → p x ≡ true → q x ≡ true) → (x : Value-F Value) → is_set_of p x ≡ true → is_set_of q x ≡ true
-set_back p q f (v.Set xs) h = all_back p q f xs h
-set_back p q f _ h = absurd cc
 
 module _ (d : Declarations) where
   abbrev IsBack : Ty → Type 0
@@ -110,7 +98,7 @@ module _ (d : Declarations) where
   inner (t.Set a) =
       let k = sort_of a.0 in
       back_at (t.Set a.0) (sort.Set k) (fits_step (s.Set (seen k))) (sort_roll (t.Set a.0)) (fits_at (sort.Set k) (s.Set k) (rolls-Set k))
-      (λ l x h. set_back (seen k).1 (conforms a.0) (λ z e. a.1 (of_type.every_member (IsTypeLevel d) a.0 l) z (sym (seen_fits k z) ∙ e)) (out-Value x) h)
+      (λ l x h. set_so (seen k).1 (conforms a.0) (λ z e. a.1 (of_type.every_member (IsTypeLevel d) a.0 l) z (sym (seen_fits k z) ∙ e)) (out-Value x) h)
   inner (t.Record bs) =
       let fields = sorts_in (bare bs) in
       back_at (t.Record (bare bs)) (sort.Record fields) (fits_step (s.Record (sights_of fields))) (sort_roll (t.Record (bare bs))) (fits_at (sort.Record fields) (s.Record fields) (rolls-Record fields))

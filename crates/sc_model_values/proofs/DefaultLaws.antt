@@ -6,6 +6,7 @@ use Rattle.std.specs.Map.{lookup}
 use Rattle.std.specs.Ordering.{is_gt}
 use Rattle.std.specs.Str.{bytes_eq}
 use Rattle.sc_lists.specs.Members.{Has}
+use Rattle.sc_lists.proofs.BoolLaws.{true_both}
 use Rattle.sc_ip.specs.declared.ip.Ip.{Ip}
 use Rattle.sc_ip.specs.declared.ip.Ip.TheVariants.{V4}
 use Rattle.sc_ip.specs.Addresses.{IsIp}
@@ -60,9 +61,9 @@ use Rattle.sc_rebuilding.specs.Consistent.{IsRuleAt, of_se2}
 use Rattle.sc_rebuilding.specs.Laws.{EquationsAgree}
 use Rattle.sc_rebuilding.specs.Vals.{Model, assigned, bits_of, val_of}
 use Rattle.sc_rebuilding.specs.Models.{IsModel}
+use Rattle.sc_rebuilding.proofs.HoldLaws.{last}
 use Rattle.sc_model_values.proofs.ClosureLaws.{of_part, field_closed}
 use Rattle.sc_model_values.proofs.FittingLaws.{AreMade, is_assigned, assigned_sorted}
-use Rattle.sc_model_values.proofs.SaidLaws.{only, not_both}
 use Rattle.sc_model_values.proofs.SortedVals.{val_at, entity_val, set_val, fields_at, record_val}
 
 -- what the bits of addresses promise
@@ -166,8 +167,8 @@ module _ (d : Declarations) (env : Env) (literals : List Uid) (goal : Tree) (mad
       let q = assigned_sorted d env literals goal made m model k (many (manys.Set k) no_part) y (empty_sort k) h in
       let said : se2 y (many (manys.Set k) no_part) ≡ Some (unless (two binary.Member y (many (manys.Set k) no_part)) ∷ []) =
       ap (λ (b : Bool). cond b (Some (unless (two binary.Member y (many (manys.Set k) no_part)) ∷ [])) None) ((sort_eq_decides (tree_sort y) k).1 q.1) in
-      not_both (m.truths (two binary.Member y (many (manys.Set k) no_part))) r.1
-      (only m.truths false (two binary.Member y (many (manys.Set k) no_part))
+      true_both (m.truths (two binary.Member y (many (manys.Set k) no_part))) r.1
+      (last m.truths false (two binary.Member y (many (manys.Set k) no_part))
       (model.consistent.rules (unless (two binary.Member y (many (manys.Set k) no_part)) ∷ []) (subst (IsRuleAt d (Closed d env goal)) said (of_se2 y (many (manys.Set k) no_part) q.0 c)) (r.0, tt)))
 
   on_set : (k : Sort) → HasDefault (sort.Set k)
@@ -238,7 +239,7 @@ module _ (d : Declarations) (env : Env) (literals : List Uid) (goal : Tree) (mad
     by : (o : Option Bool) → constant (default_term k) ≡ o → o ≡ None
     by None e = refl
     by (Some b) e =
-        absurd (not_both (is_bool k) (bool_told k (sym (parts_sort k (default_term k) h refl) ∙ constant_sort (default_term k) b e)) n)
+        absurd (true_both (is_bool k) (bool_told k (sym (parts_sort k (default_term k) h refl) ∙ constant_sort (default_term k) b e)) n)
 
   plain_equation : (o : BinaryOp) (a b y : Tree) → constant y ≡ None
       → equal_term (two o a b) y ≡ other_equal (tree_eq (two o a b) y) None (two o a b) y

@@ -7,6 +7,7 @@ use Rattle.sc_lists.specs.Members.{Has}
 use Rattle.sc_lists.proofs.ListLaws.{all_element}
 use Rattle.sc_lists.proofs.MemberLaws.{Has-from_Contains}
 use Rattle.sc_lists.proofs.OptionLaws.{same_some, option_map_some}
+use Rattle.sc_lists.proofs.BoolLaws.{true_both}
 use Rattle.sc_names.specs.declared.uid.Uid.{Uid}
 use Rattle.sc_schema.specs.declared.declarations.EntityType.{EntityType}
 use Rattle.sc_schema.specs.declared.declarations.Env.{Env}
@@ -43,10 +44,10 @@ use Rattle.sc_rebuilding.specs.Consistent.{IsRuleAt, of_se1, of_en1, of_en2, of_
 use Rattle.sc_rebuilding.specs.Laws.{EquationsAgree}
 use Rattle.sc_rebuilding.specs.Vals.{Model, assigned, val_of}
 use Rattle.sc_rebuilding.specs.Models.{IsModel}
+use Rattle.sc_rebuilding.proofs.HoldLaws.{second, third, last}
 use Rattle.sc_model_values.proofs.ClosureLaws.{of_part, tag_keys, tag_key, tag_default, above_closed, strings_equation, entities_equation, attributes_equation, tags_equation, member_closed, above_candidate, member_candidate}
 use Rattle.sc_model_values.proofs.DefaultLaws.{AreAddresses, is_default}
 use Rattle.sc_model_values.proofs.FittingLaws.{AreMade, is_assigned, assigned_is, assigned_sorted, lawful_at}
-use Rattle.sc_model_values.proofs.SaidLaws.{second, third, only, not_both}
 
 module _ (d : Declarations) (env : Env) (literals : List Uid) where
   -- attributes of an entity
@@ -219,9 +220,9 @@ module _ (d : Declarations) (env : Env) (literals : List Uid) (goal : Tree) (mad
       let g = member_closed d env goal k e (one (unary.Ancestors k) e) (above_candidate d env goal k e c) s (ancestors_sort k e) c in
       let same : two binary.Member e (one (unary.Ancestors (tree_sort e)) e) ≡ two binary.Member e (one (unary.Ancestors k) e) = ap (λ (j : Sort). two binary.Member e (one (unary.Ancestors j) e)) s in
       let whole : Closed d env goal (two binary.Member e (one (unary.Ancestors (tree_sort e)) e)) = subst (Closed d env goal) (sym same) g in
-      not_both (lit m.truths (two binary.Member e (one (unary.Ancestors k) e))) (ancestor_true k e y e c a i s g u)
+      true_both (lit m.truths (two binary.Member e (one (unary.Ancestors k) e))) (ancestor_true k e y e c a i s g u)
       (ap (lit m.truths) (sym same)
-      ∙ only m.truths false (two binary.Member e (one (unary.Ancestors (tree_sort e)) e))
+      ∙ last m.truths false (two binary.Member e (one (unary.Ancestors (tree_sort e)) e))
       (ruled (en4 e) (unless (two binary.Member e (one (unary.Ancestors (tree_sort e)) e)) ∷ []) (of_en4 e i) refl (whole, tt)))
 
   -- ---- tags

@@ -1,5 +1,4 @@
 pub mod ConformingLaws
-pub mod SaidLaws
 pub mod ClosureLaws
 pub mod SortedVals
 pub mod FittingLaws

@@ -1,14 +1,15 @@
 -- Where each listed atom has a value, a clause that isn't falsified is true.
-use Rattle.std.proofs.Common.{◌≡◌, ◌<◌, ◌≤◌, ◌||◌, ◌&&◌, ◌==◌, ℕ, zero, suc, Bool, true, false, not, inl, inr, [], ◌∷◌, Option, Some, None, IsSome, unwrap_or, refl, sym, ap, ◌∙◌, arith}
-use Rattle.std.proofs.Math.Dec.{eqb-suc-zero}
+use Rattle.std.proofs.Common.{◌≡◌, ◌≤◌, ◌||◌, ◌&&◌, ◌==◌, ℕ, Bool, true, false, not, inl, inr, [], ◌∷◌, Option, Some, None, IsSome, unwrap_or, refl, sym, ap, ◌∙◌, arith}
 use Rattle.std.specs.List.{list_all}
 use Rattle.sc_lists.proofs.BoolLaws.{never}
 use Rattle.sc_lists.specs.Members.{Has}
+use Rattle.sc_lists.proofs.NumberLaws.{some_isnt_zero}
 use Rattle.sc_clauses.specs.declared.lit.Lit.{Lit}
 use Rattle.sc_clauses.specs.Assignments.{Assignment, value_of, is_false_at, is_false, falsifies}
 use Rattle.sc_clauses.specs.Clauses.{Clause, bool_eq, lit_eq, positive, holds, clause_holds}
 use Rattle.sc_clauses.proofs.LitLaws.{lit_eq-true}
 use Rattle.sc_footprint.specs.Theories.{IsListed}
+use Rattle.sc_footprint.proofs.TruthLaws.{holds_positive}
 use Rattle.sc_instances.specs.Clauses.{is_asked}
 use Rattle.sc_instances.specs.Known.{is_broken}
 
@@ -19,17 +20,6 @@ atom_truth m n = unwrap_or (value_of m n) false
 -- each of the first atoms has a value
 abbrev pub IsTotal : Assignment → ℕ → Type 0
 IsTotal m count = (n : ℕ) → 1 ≤ n → n ≤ count → IsSome (value_of m n)
-
-pub positive_holds : (v : ℕ → Bool) (n : ℕ) → holds v (positive n) ≡ v n
-positive_holds v n = by (v n)
-  where
-    by : (b : Bool) → bool_eq b true ≡ b
-    by true = refl
-    by false = refl
-
-some_atom : (n : ℕ) → 0 < n → (n == 0) ≡ false
-some_atom zero h = absurd (omega (arith, h))
-some_atom (suc n) h = eqb-suc-zero n
 
 -- what isn't true passes a test, and not all pass it
 some_true : (v : ℕ → Bool) (test : Lit → Bool) (c : Clause) → ((l : Lit) → Has c l → holds v l ≡ false → test l ≡ true) → list_all test c ≡ false → clause_holds v c ≡ true
@@ -60,8 +50,8 @@ module _ (m : Assignment) (count : ℕ) (total : IsTotal m count) where
   asked_told first l h e = by (lit_eq l (positive 1)) refl
     where
       by : (b : Bool) → lit_eq l (positive 1) ≡ b → ((not (l.atom == 0) && not b) && is_false m l) ≡ true
-      by true k = never _ (sym (ap (holds (atom_truth m)) (lit_eq-true l (positive 1) k) ∙ positive_holds (atom_truth m) 1 ∙ first) ∙ e)
-      by false k = ap (λ (b : Bool). (not b && true) && is_false m l) (some_atom l.atom h.0) ∙ false_told l h e
+      by true k = never _ (sym (ap (holds (atom_truth m)) (lit_eq-true l (positive 1) k) ∙ holds_positive (atom_truth m) 1 ∙ first) ∙ e)
+      by false k = ap (λ (b : Bool). (not b && true) && is_false m l) (some_isnt_zero l.atom h.0) ∙ false_told l h e
 
   pub unbroken_true : atom_truth m 1 ≡ true → (c : Clause) → ((l : Lit) → Has c l → IsListed count l) → is_broken m c ≡ false → clause_holds (atom_truth m) c ≡ true
   unbroken_true first c listed e = some_true (atom_truth m) (λ (l : Lit). is_asked l && is_false m l) c (λ l i f. asked_told first l (listed l i) f) e

@@ -38,14 +38,14 @@ use Rattle.sc_footprint.specs.Problems.{Posed, IsPosed, closed_terms, goal_term,
 use Rattle.sc_footprint.specs.Definitions.{clauses_by, definition_clauses, mask_clause, short_clauses, address_clauses, is_address, is_address_in, is_other, defining}
 use Rattle.sc_footprint.specs.Theories.{TermsHold}
 use Rattle.sc_footprint.proofs.KindLaws.{bool_is}
-use Rattle.sc_footprint.proofs.TruthLaws.{atom_is}
+use Rattle.sc_footprint.proofs.TruthLaws.{atom_is, holds_positive}
 use Rattle.sc_instances.proofs.LiteralLaws.{literal_truth}
 use Rattle.sc_rebuilding.specs.Assignments.{lit}
 use Rattle.th_defs.specs.ClauseLaws.{IsAs}
 use Rattle.th_defs.specs.Laws.{has_laws, clause_lawful}
 use Rattle.sc_models.specs.Models.{truth_in}
 use Rattle.sc_models.specs.Laws.{IsClosed, FalsifiesNothing}
-use Rattle.sc_models.proofs.ClauseTruths.{atom_truth, positive_holds, clause_true}
+use Rattle.sc_models.proofs.ClauseTruths.{atom_truth, clause_true}
 use Rattle.sc_models.proofs.LiteralTruths.{literal_told, literals_told}
 use Rattle.sc_models.proofs.ShapeLaws.{AllTrue, whole_true, clauses_tell, as_said}
 
@@ -136,7 +136,7 @@ module _ (laws : TermsHold) (bits : BitsAreOfAddresses) (p : Posed) (posed : IsP
   -- atom 1 is `true`
   pub first_true : v 1 ≡ true
   unfolding definition
-  first_true = sym (positive_holds v 1) ∙ ap (holds v) (sym (literal_truth p posed true)) ∙ definition_told (truth_term true) of_true true_atom
+  first_true = sym (holds_positive v 1) ∙ ap (holds v) (sym (literal_truth p posed true)) ∙ definition_told (truth_term true) of_true true_atom
 
   pub as_defined : (x : Tree) → IsClosed p x → tree_sort x ≡ sort.Bool → IfSome (defined (shape_of x) (map (lit M) (inputs_of x))) (λ b. lit M x ≡ b)
   as_defined x c e = by (is_opposite x) refl

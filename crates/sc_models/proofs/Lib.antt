@@ -7,5 +7,6 @@ mod EqualParts
 mod SetParts
 mod EntityParts
 mod RuleTruths
+pub mod WrittenStrings
 mod StringTruths
 pub mod ConsistentLaws

@@ -8,23 +8,24 @@ use Rattle.sc_nodes.specs.declared.node.Literal.TheVariants.{Bool as bool}
 use Rattle.sc_nodes.specs.declared.node.UnaryOp.TheVariants.{Not}
 use Rattle.sc_terms.specs.Trees.{Tree, leaf, one}
 use Rattle.sc_footprint.specs.Problems.{Posed, IsPosed, atom_number, literal, literal_in}
+use Rattle.sc_footprint.proofs.TruthLaws.{holds_positive}
 use Rattle.sc_rules.specs.Signed.{Signed}
 use Rattle.sc_rebuilding.specs.Assignments.{lit, holds_under, some_hold}
 use Rattle.sc_instances.specs.Clauses.{literal_for, clause_for}
 use Rattle.sc_instances.proofs.LiteralLaws.{literal_truth}
 use Rattle.sc_models.specs.Models.{truth_in}
-use Rattle.sc_models.proofs.ClauseTruths.{atom_truth, positive_holds}
+use Rattle.sc_models.proofs.ClauseTruths.{atom_truth}
 
 module _ (p : Posed) (posed : IsPosed p) (m : Assignment) (first : atom_truth m 1 ≡ true) where
   -- of any term
   pub literal_told : (t : Tree) → holds (atom_truth m) (literal_in p t) ≡ lit (truth_in p m) t
   unfolding literal lit
   literal_told (leaf (Literal (bool true))) =
-      ap (holds (atom_truth m)) (literal_truth p posed true) ∙ positive_holds (atom_truth m) 1 ∙ first
+      ap (holds (atom_truth m)) (literal_truth p posed true) ∙ holds_positive (atom_truth m) 1 ∙ first
   literal_told (leaf (Literal (bool false))) =
-      holds_negation (atom_truth m) (positive 1) ∙ ap not (positive_holds (atom_truth m) 1 ∙ first)
+      holds_negation (atom_truth m) (positive 1) ∙ ap not (holds_positive (atom_truth m) 1 ∙ first)
   literal_told (one Not a) = holds_negation (atom_truth m) (literal_in p a) ∙ ap not (literal_told a)
-  literal_told t = positive_holds (atom_truth m) (atom_number p t)
+  literal_told t = holds_positive (atom_truth m) (atom_number p t)
 
   pub literals_told : (ts : List Tree) → map (holds (atom_truth m)) (map (literal_in p) ts) ≡ map (lit (truth_in p m)) ts
   literals_told [] = refl

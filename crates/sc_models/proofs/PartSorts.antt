@@ -17,13 +17,14 @@ use Rattle.sc_nodes.specs.declared.node.Literal.TheVariants.{Bool as bool}
 use Rattle.sc_terms.specs.Trees.{Tree, leaf}
 use Rattle.sc_terms.specs.TreeSorts.{tree_sort}
 use Rattle.sc_terms.specs.Order.{tree_cmp, tree_eq}
-use Rattle.sc_terms.specs.Folds.{truth_term, constant, literal_of, literals_same, equation, other_equal, equal_by, equal_term}
+use Rattle.sc_terms.specs.Folds.{constant, literal_of, literals_same, equation, other_equal, equal_by, equal_term}
 use Rattle.sc_term_laws.specs.Judging.{IsTermOf}
 use Rattle.sc_term_laws.specs.Tests.{is_entity_sort, entity_level}
 use Rattle.sc_term_laws.proofs.JudgingLaws.{sort_is}
 use Rattle.sc_term_laws.proofs.MadeLaws.{equal_made}
 use Rattle.sc_closure.specs.Atoms.{is_bool, is_bool_in}
 use Rattle.sc_footprint.proofs.KindLaws.{bool_is}
+use Rattle.sc_footprint.proofs.TruthLaws.{truth_sort}
 use Rattle.sc_rules.specs.Signed.{Signed, Said, given}
 use Rattle.sc_rules.specs.Terms.{member, subset, common}
 
@@ -46,10 +47,6 @@ entity_plain d t h = plain t (entity_at d (tree_sort t) (out-Sort (tree_sort t))
 
 -- ---- terms that are truth values
 
-pub truth_bool : (b : Bool) → is_bool (truth_term b) ≡ true
-unfolding tree_sort
-truth_bool b = ap is_bool_in out_Bool
-
 pub member_bool : (x s : Tree) → is_bool (member x s) ≡ true
 unfolding tree_sort
 member_bool x s = ap is_bool_in out_Bool
@@ -68,8 +65,8 @@ equation_bool true a b = ap is_bool_in out_Bool
 equation_bool false a b = ap is_bool_in out_Bool
 
 other_bool : (same : Bool) (literals : Option Bool) (a b : Tree) → is_bool (other_equal same literals a b) ≡ true
-other_bool true literals a b = truth_bool true
-other_bool false (Some same) a b = truth_bool same
+other_bool true literals a b = truth_sort true
+other_bool false (Some same) a b = truth_sort same
 other_bool false None a b = equation_bool (is_gt (tree_cmp a b)) a b
 
 pub plain_equal : (a b : Tree) → constant a ≡ None → constant b ≡ None → is_bool (equal_term a b) ≡ true

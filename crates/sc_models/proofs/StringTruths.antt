@@ -1,22 +1,15 @@
 -- Where no closed term is a pattern's, the rules of strings hold: what they speak of is written, or they ask for no pattern,
 -- and there are as many texts as one likes.
-use Rattle.std.proofs.Common.{◌≡◌, ◌<◌, ◌||◌, ◌&&◌, ◌==◌, ℕ, zero, suc, Bool, true, false, not, inl, inr, List, [], ◌∷◌, map, flat_map, length, slice_get, Option, Some, None, refl, sym, ap, ◌∙◌, subst, arith}
+use Rattle.std.proofs.Common.{◌≡◌, ◌<◌, ◌||◌, ◌&&◌, ◌==◌, ℕ, zero, suc, Bool, true, false, not, inl, inr, List, [], ◌∷◌, flat_map, length, slice_get, Option, Some, None, refl, sym, ap, ◌∙◌, subst, arith}
 use Rattle.std.specs.List.{AllByRecursion, list_all}
-use Rattle.std.specs.Str.{IsUtf8}
 use Rattle.sc_lists.proofs.BoolLaws.{and_first, and_second, never}
-use Rattle.sc_lists.proofs.ListLaws.{all_append, all_element, all_of_elements}
-use Rattle.sc_lists.proofs.MemberLaws.{Has-left, Has-flat_map, Has-from_Contains, Contains-from_Has}
+use Rattle.sc_lists.proofs.ListLaws.{all_element}
+use Rattle.sc_lists.proofs.MemberLaws.{Has-left, Has-flat_map, Contains-from_Has}
 use Rattle.sc_lists.proofs.OptionLaws.{same_some}
 use Rattle.sc_lists.specs.Members.{Has}
 use Rattle.sc_languages.specs.Strings.{IsText, AreDistinct}
-use Rattle.sc_names.specs.declared.uid.Uid.{Uid}
-use Rattle.sc_schema.specs.declared.declarations.Env.{Env}
-use Rattle.sc_schema.specs.Declarations.{Declarations}
-use Rattle.sc_world.specs.declared.world.World.{World}
 use Rattle.sc_clauses.specs.Assignments.{Assignment}
-use Rattle.sc_sorts.specs.declared.sort.Sort.{Sort}
 use Rattle.sc_sorts.specs.declared.sort.Sort.TheVariants as sort
-use Rattle.sc_sorts.proofs.OutLaws.{out_Bool, out_Long, out_String, out_Decimal, out_Ip, out_Entity}
 use Rattle.sc_nodes.specs.declared.node.Leaf.TheVariants.{Literal}
 use Rattle.sc_nodes.specs.declared.node.Literal.{Literal as AnyLiteral}
 use Rattle.sc_nodes.specs.declared.node.Literal.TheVariants as literal
@@ -25,29 +18,26 @@ use Rattle.sc_nodes.specs.Literals.{literal_like}
 use Rattle.sc_terms.specs.Trees.{Tree, leaf, one}
 use Rattle.sc_terms.specs.TreeSorts.{tree_sort}
 use Rattle.sc_terms.specs.Order.{tree_eq}
-use Rattle.sc_terms.specs.Folds.{truth_term, literal_term, literal_of, other_equal, not_term, equal_term, like_by, like_term}
-use Rattle.sc_terms.specs.Values.{val}
-use Rattle.sc_terms.proofs.FoldValues.{truth_yes}
+use Rattle.sc_terms.specs.Folds.{literal_term, literal_of, other_equal, not_term, equal_term, like_by, like_term}
 use Rattle.sc_terms.proofs.OrderLaws.{tree_eq-exact}
-use Rattle.sc_term_laws.specs.Judging.{IsTermOf, IsTerm}
+use Rattle.sc_term_laws.specs.Judging.{IsTerm}
 use Rattle.sc_term_laws.specs.Judging as judged
-use Rattle.sc_term_laws.specs.Tests.{string_level}
 use Rattle.sc_term_laws.proofs.JudgingLaws.{sort_is}
-use Rattle.sc_closure.specs.Atoms.{is_atom, is_bool, is_bool_in}
+use Rattle.sc_closure.specs.Atoms.{is_atom}
 use Rattle.sc_footprint.specs.Problems.{Posed, IsPosed, closed_terms, goal_term, atoms}
 use Rattle.sc_footprint.specs.Theories.{TermsHold}
 use Rattle.sc_footprint.proofs.KindLaws.{bool_is, negated_is}
 use Rattle.sc_instances.proofs.LiteralLaws.{number_none}
-use Rattle.sc_rules.specs.Signed.{Signed, so, unless, is_true, some_holds, Holds, given}
+use Rattle.sc_rules.specs.Signed.{Signed, so, unless, given}
 use Rattle.sc_rules.specs.Terms.{is_string}
 use Rattle.sc_rules.specs.Strings.{Pattern, Signs, HasSigns, AreFew, st1_of, other_signs, some_equal, crowd}
 use Rattle.sc_rules.proofs.MemberLaws.{all_has, filter_passes}
-use Rattle.sc_rules.proofs.SortValues.{IsAString}
-use Rattle.sc_rules.proofs.StringSound.{st3_holds}
 use Rattle.sc_rebuilding.specs.Assignments.{lit, some_hold}
 use Rattle.sc_rebuilding.specs.Names.{zeros}
+use Rattle.sc_rebuilding.proofs.ClassLaws.{length_zeros}
 use Rattle.sc_models.specs.Models.{truth_in, without_atom}
 use Rattle.sc_models.specs.Laws.{IsClosed, AreClosed, StringsHold}
+use Rattle.sc_models.proofs.WrittenStrings.{IsWritten, literal_at, text_bool, literal_written, written_crowd}
 
 or_true : (b : Bool) → (b || true) ≡ true
 or_true true = refl
@@ -63,11 +53,6 @@ texts_length : (n : ℕ) → length (texts n) ≡ n
 texts_length zero = refl
 texts_length (suc n) = ap suc (texts_length n)
 
-zeros_length : (n : ℕ) → length (zeros n) ≡ n
-unfolding zeros
-zeros_length zero = refl
-zeros_length (suc n) = ap suc (zeros_length n)
-
 zeros_text : (n : ℕ) → IsText (zeros n)
 unfolding zeros
 zeros_text zero = tt
@@ -75,12 +60,12 @@ zeros_text (suc n) = (refl, zeros_text n)
 
 texts_short : (n : ℕ) (text : List ℕ) → Has (texts n) text → length text < n
 texts_short zero text h = absurd h
-texts_short (suc n) text (inl e) = let long : length text ≡ n = ap (λ (t : List ℕ). length t) (sym e) ∙ zeros_length n in omega (arith, long)
+texts_short (suc n) text (inl e) = let long : length text ≡ n = ap (λ (t : List ℕ). length t) (sym e) ∙ length_zeros n in omega (arith, long)
 texts_short (suc n) text (inr h) = omega (arith, texts_short n text h)
 
 texts_distinct : (n : ℕ) → AreDistinct (texts n)
 texts_distinct zero = tt
-texts_distinct (suc n) = (λ h. omega (arith, texts_short n (zeros n) h, zeros_length n), texts_distinct n)
+texts_distinct (suc n) = (λ h. omega (arith, texts_short n (zeros n) h, length_zeros n), texts_distinct n)
 
 texts_fit : (qs : List Pattern) (v : Signs) → ((text : List ℕ) → HasSigns qs v text) → (n : ℕ) → AllByRecursion (λ text. IsText text × HasSigns qs v text) (texts n)
 texts_fit qs v signs zero = tt
@@ -112,114 +97,6 @@ asked_there (r ∷ qs) [] q t e = absurd cc
 asked_there (r ∷ qs) (None ∷ v) q t e = asked_there qs v q t e
 asked_there (r ∷ qs) (Some true ∷ v) q t e = (false, inl (ap (λ (z : Pattern). (false, like_term t z)) (same_some e)))
 asked_there (r ∷ qs) (Some false ∷ v) q t e = (true, inl (ap (λ (z : Pattern). (true, like_term t z)) (same_some e)))
-
--- ---- terms that are constants
-
-record IsConstant (t : Tree) : Type 0 where
-  value : Bool
-  is : t ≡ truth_term value
-
-abbrev AreConstants : List Signed → Type 0
-AreConstants parts = AllByRecursion (λ (s : Signed). IsConstant s.1) parts
-
-constant_told : (m : Tree → Bool) (w : World) (t : Tree) → IsConstant t → lit m t ≡ is_true t w
-unfolding lit val
-constant_told m w t c = ap (lit m) c.is ∙ sym (ap (λ (z : Tree). is_true z w) c.is ∙ truth_yes c.value)
-
-constants_told : (m : Tree → Bool) (w : World) (parts : List Signed) → AreConstants parts → some_hold m parts ≡ some_holds w parts
-unfolding some_hold some_holds
-constants_told m w [] h = refl
-constants_told m w ((true, t) ∷ parts) h =
-    let first = constant_told m w t h.0 in
-    let rest = constants_told m w parts h.1 in
-    λ i. first i || rest i
-constants_told m w ((false, t) ∷ parts) h =
-    let first = constant_told m w t h.0 in
-    let rest = constants_told m w parts h.1 in
-    λ i. not (first i) || rest i
-
--- ---- strings that are written
-
-record IsWritten (t : Tree) : Type 0 where
-  text : List ℕ
-  is : t ≡ literal_term (literal.String text)
-  utf8 : IsUtf8 text
-
-like_constant : (t : Tree) (q : Pattern) → IsWritten t → IsConstant (like_term t q)
-unfolding like_term
-like_constant t q h = record { value = literal_like (literal.String h.text) q; is = ap (λ (z : Tree). like_term z q) h.is }
-
-signs_constant : (qs : List Pattern) (v : Signs) (t : Tree) → IsWritten t → AreConstants (other_signs qs v t)
-signs_constant [] v t h = tt
-signs_constant (q ∷ qs) [] t h = tt
-signs_constant (q ∷ qs) (None ∷ v) t h = signs_constant qs v t h
-signs_constant (q ∷ qs) (Some true ∷ v) t h = (like_constant t q h, signs_constant qs v t h)
-signs_constant (q ∷ qs) (Some false ∷ v) t h = (like_constant t q h, signs_constant qs v t h)
-
-all_signs_constant : (qs : List Pattern) (v : Signs) (ts : List Tree) → AllByRecursion IsWritten ts → AreConstants (flat_map (other_signs qs v) ts)
-all_signs_constant qs v [] h = tt
-all_signs_constant qs v (t ∷ ts) h =
-    all_append (λ (s : Signed). IsConstant s.1) (other_signs qs v t) (flat_map (other_signs qs v) ts) (signs_constant qs v t h.0) (all_signs_constant qs v ts h.1)
-
-texts_equal : (x y : List ℕ) → IsConstant (equal_term (literal_term (literal.String x)) (literal_term (literal.String y)))
-unfolding equal_term
-texts_equal x y = by (tree_eq (literal_term (literal.String x)) (literal_term (literal.String y)))
-  where
-    by : (same : Bool) → IsConstant (other_equal same (Some false) (literal_term (literal.String x)) (literal_term (literal.String y)))
-    by true = record { value = true; is = refl }
-    by false = record { value = false; is = refl }
-
-equal_constant : (t u : Tree) → IsWritten t → IsWritten u → IsConstant (equal_term t u)
-equal_constant t u h k =
-    subst (λ (z : Tree). IsConstant (equal_term z u)) (sym h.is)
-    (subst (λ (z : Tree). IsConstant (equal_term (literal_term (literal.String h.text)) z)) (sym k.is) (texts_equal h.text k.text))
-
-equal_constants : (t : Tree) (us : List Tree) → IsWritten t → AllByRecursion IsWritten us → AreConstants (map (λ u. so (equal_term t u)) us)
-equal_constants t [] h k = tt
-equal_constants t (u ∷ us) h k = (equal_constant t u h k.0, equal_constants t us h k.1)
-
-some_equal_constant : (ts : List Tree) → AllByRecursion IsWritten ts → AreConstants (some_equal ts)
-some_equal_constant [] h = tt
-some_equal_constant (t ∷ ts) h =
-    all_append (λ (s : Signed). IsConstant s.1) (map (λ u. so (equal_term t u)) ts) (some_equal ts) (equal_constants t ts h.0 h.1) (some_equal_constant ts h.1)
-
-crowd_constant : (qs : List Pattern) (v : Signs) (ts : List Tree) → AllByRecursion IsWritten ts → AreConstants (crowd qs v ts)
-crowd_constant qs v ts h =
-    all_append (λ (s : Signed). IsConstant s.1) (flat_map (other_signs qs v) ts) (some_equal ts) (all_signs_constant qs v ts h) (some_equal_constant ts h)
-
--- in any world a string that is written is a text
-string_of : (w : World) (t : Tree) → IsWritten t → IsAString (val t w)
-unfolding val
-string_of w t h = record { bytes = h.text; is = ap (λ (z : Tree). val z w) h.is; text = h.utf8 }
-
--- some world
-nobody : Uid
-nobody = record { type_name = []; id = [] }
-
-nowhere : World
-nowhere = record { request = record { principal = nobody; action = nobody; resource = nobody; context = [] }; store = [] }
-
-literal_at : (t : Tree) (l : AnyLiteral) → literal_of t ≡ Some l → t ≡ literal_term l
-literal_at (leaf (Literal k)) l e = ap literal_term (same_some e)
-literal_at _ l e = absurd cc
-
-text_bool : (x : List ℕ) → is_bool (literal_term (literal.String x)) ≡ false
-unfolding tree_sort
-text_bool x = ap is_bool_in out_String
-
-module _ (d : Declarations) (env : Env) (written : List Uid) where
-  text_utf8 : (k : Sort) (x : List ℕ) → IsTermOf d env written k (literal_term (literal.String x)) → IsUtf8 x
-  text_utf8 _ _ (judged.of_text x h) = h
-
-  -- a literal of the sort of strings is a text
-  literal_text : (l : AnyLiteral) → IsTerm d env written (literal_term l) → is_string (literal_term l) ≡ true → IsWritten (literal_term l)
-  unfolding tree_sort
-  literal_text (literal.String x) h e = record { text = x; is = refl; utf8 = text_utf8 _ x h }
-  literal_text (literal.Bool b) h e = never _ (sym e ∙ ap string_level out_Bool)
-  literal_text (literal.Long n) h e = never _ (sym e ∙ ap string_level out_Long)
-  literal_text (literal.Decimal n) h e = never _ (sym e ∙ ap string_level out_Decimal)
-  literal_text (literal.Ip ip) h e = never _ (sym e ∙ ap string_level out_Ip)
-  literal_text (literal.Entity u us) h e = never _ (sym e ∙ ap string_level (out_Entity u.type_name us))
 
 -- ---- of a problem
 
@@ -309,7 +186,7 @@ module _ (laws : TermsHold) (p : Posed) (posed : IsPosed p) (m : Assignment) (no
   written_at t q c e h =
       let l = literal_is t q h in
       subst (λ (z : Tree). IsTerm p.schema p.env p.literals z → is_string z ≡ true → IsWritten z) (sym l.1)
-      (literal_text p.schema p.env p.literals l.0) (term t c) e
+      (literal_written p.schema p.env p.literals l.0) (term t c) e
 
   written_all : (qs : List Pattern) (v : Signs) (q : Pattern) (ts : List Tree) → asked qs v ≡ Some q → AllByRecursion (IsClosed p) ts → list_all is_string ts ≡ true
       → AreClosed p (crowd qs v ts) → (t : Tree) → Has ts t → IsWritten t
@@ -328,10 +205,7 @@ module _ (laws : TermsHold) (p : Posed) (posed : IsPosed p) (m : Assignment) (no
       by None e = absurd (not_few qs v (length ts) (none_asked qs v e) few)
       by (Some q) e =
           let written = written_all qs v q ts e all (and_second (length v == length qs) _ test) closed in
-          let each : AllByRecursion IsWritten ts = all_of_elements IsWritten ts (λ t i. written t (Has-from_Contains ts t i)) in
-          constants_told M nowhere (crowd qs v ts) (crowd_constant qs v ts each)
-          ∙ subst (λ (b : Bool). Holds nowhere (given b (crowd qs v ts))) test
-          (st3_holds nowhere qs v ts (λ strings t i. string_of nowhere t (written t i)) few)
+          written_crowd M qs v ts written test few
 
   st3_at : (qs : List Pattern) (v : Signs) (ts : List Tree) (parts : List Signed) → AllByRecursion (IsClosed p) ts → AreFew qs v (length ts)
       → (b : Bool) → ((length v == length qs) && list_all is_string ts) ≡ b → given b (crowd qs v ts) ≡ Some parts → AreClosed p parts → some_hold M parts ≡ true

@@ -1,9 +1,8 @@
 -- With these names a consistent assignment is a model.
-use Rattle.std.proofs.Common.{◌≡◌, ◌↔◌, ◌<◌, ◌≤◌, ◌+◌, ◌^◌, ℕ, Bool, true, not, List, [], map, length, Option, Some, None, unwrap_or, option_map, refl, sym, ap, ◌∙◌, subst, arith}
+use Rattle.std.proofs.Common.{◌≡◌, ◌↔◌, ◌<◌, ◌+◌, ◌^◌, ℕ, true, not, List, [], map, length, Option, Some, unwrap_or, option_map, refl, sym, ap, ◌∙◌, subst, arith}
 use Rattle.std.proofs.lemmas.List.{length-map}
 use Rattle.std.proofs.lemmas.List.Filters.{length-filter_both}
 use Rattle.std.specs.Str.{chars}
-use Rattle.sc_lists.proofs.OptionLaws.{same_some}
 use Rattle.sc_lists.specs.Members.{Has}
 use Rattle.sc_names.specs.declared.uid.Uid.{Uid}
 use Rattle.sc_pattern.specs.Language.{is_match}
@@ -16,7 +15,7 @@ use Rattle.sc_sorts.proofs.OutLaws.{out_String, out_Entity}
 use Rattle.sc_nodes.specs.declared.node.Leaf.TheVariants as leafs
 use Rattle.sc_nodes.specs.declared.node.Literal.TheVariants as literals
 use Rattle.sc_terms.specs.Folds.{literal_term}
-use Rattle.sc_terms.specs.Trees.{Tree, leaf, one, two, choice, many}
+use Rattle.sc_terms.specs.Trees.{Tree}
 use Rattle.sc_terms.specs.TreeSorts.{tree_sort}
 use Rattle.sc_terms.proofs.OrderLaws.{tree_cmp_level}
 use Rattle.sc_term_laws.specs.Tests.{name_of}
@@ -29,11 +28,12 @@ use Rattle.sc_models.specs.Models.{truth_in, name_in, model}
 use Rattle.sc_rebuilding.specs.Consistent.{IsConsistent}
 use Rattle.sc_rebuilding.specs.Laws.{HasModel}
 use Rattle.sc_rebuilding.specs.Models.{IsModel}
-use Rattle.sc_rebuilding.specs.Names.{Name, Named, Texts, literal_id, are_equal, or_fresh, name_in as found_in, text_of, id_of, model_of}
+use Rattle.sc_rebuilding.specs.Names.{Name, Named, literal_id, are_equal, or_fresh, name_in as found_in, text_of, id_of, model_of}
+use Rattle.sc_rebuilding.proofs.ModelLaws.{id_is}
 use Rattle.sc_string_names.specs.Naming.{AreStringNames}
 use Rattle.sc_string_names.specs.Numbers.{Entry, named_terms}
 use Rattle.sc_string_names.proofs.NamingLaws.{listed}
-use Rattle.sc_naming.specs.Ids.{entity_level, is_entity, entities, is_same, id_entries, identified, ids_of}
+use Rattle.sc_naming.specs.Ids.{entity_level, is_entity, entities, is_same, ids_of}
 use Rattle.sc_naming.specs.Namings.{name_by, name_of_term}
 use Rattle.sc_naming.proofs.IdLaws.{ids_told, literal_told}
 
@@ -42,10 +42,6 @@ entity_sort k = by (out-Sort k) refl where
   by : (l : Sort-F Sort) → out-Sort k ≡ l → entity_level l ≡ true → (name : Name) × (us : List Uid) × (k ≡ sort.Entity name us)
   by (s.Entity name us) e h = (name, us, at_level k (s.Entity name us) e ∙ rolls-Entity name us)
   by _ e h = absurd cc
-
-id_is : (x : Tree) (n : Name) → literal_id x ≡ Some n → (u : Uid) × (us : List Uid) × (x ≡ literal_term (literals.Entity u us)) × (u.id ≡ n)
-id_is (leaf (leafs.Literal (literals.Entity u us))) n e = (u, us, refl, same_some e)
-id_is _ n e = absurd cc
 
 module _ (p : Posed) (posed : IsPosed p) (m : Assignment) (is : IsConsistent p.schema p.env (goal_term p) (truth_in p m)) (has : HasModel)
     (strings : List Entry) (named : AreStringNames p m strings) where

@@ -37,6 +37,7 @@ use Rattle.sc_terms.proofs.FoldValues.{literal_is, truth_is, truth_yes}
 use Rattle.sc_terms.proofs.EqualValues.{value_eq-exact, value_eq-same}
 use Rattle.sc_definitions.specs.Definitions.{Definition, definition, equal_of, counted}
 use Rattle.sc_definitions.specs.Truths.{defined}
+use Rattle.sc_definitions.proofs.EquationLaws.{alike, alike_back}
 use Rattle.sc_term_laws.specs.Judging.{IsTermOf}
 use Rattle.sc_term_laws.specs.Judging as judged
 use Rattle.sc_term_laws.specs.LawfulSorts.{IsSortOf}
@@ -85,18 +86,6 @@ same_turned true true = refl
 same_turned true false = refl
 same_turned false true = refl
 same_turned false false = refl
-
-pub same_one : (b c : Bool) → not (differ b c) ≡ true → b ≡ c
-same_one true true e = refl
-same_one true false e = absurd cc
-same_one false true e = absurd cc
-same_one false false e = refl
-
-pub one_same : (b c : Bool) → b ≡ c → not (differ b c) ≡ true
-one_same true true e = refl
-one_same true false e = absurd cc
-one_same false true e = absurd cc
-one_same false false e = refl
 
 pub counted_below : (n from i : ℕ) → Has (counted from n) i → i < from + n
 unfolding counted
@@ -297,8 +286,8 @@ module _ (d : Declarations) (env : Env) (literals : List Uid) (goal : Tree) (add
   bool_step x y p c =
       let whole = lit_equal x y p.first_sort p.second_sort c in
       record {
-        same = λ t. val_Bool m x ∙ ap yes (same_one (lit m.truths x) (lit m.truths y) (sym whole ∙ t)) ∙ sym (val_Bool m y);
-        told = λ t. whole ∙ one_same (lit m.truths x) (lit m.truths y) (sym (truth_yes (lit m.truths x)) ∙ ap truth (sym (val_Bool m x) ∙ t ∙ val_Bool m y) ∙ truth_yes (lit m.truths y));
+        same = λ t. val_Bool m x ∙ ap yes (alike (lit m.truths x) (lit m.truths y) (sym whole ∙ t)) ∙ sym (val_Bool m y);
+        told = λ t. whole ∙ alike_back (lit m.truths x) (lit m.truths y) (sym (truth_yes (lit m.truths x)) ∙ ap truth (sym (val_Bool m x) ∙ t ∙ val_Bool m y) ∙ truth_yes (lit m.truths y));
       }
 
   -- ---- what has bits
@@ -312,7 +301,7 @@ module _ (d : Declarations) (env : Env) (literals : List Uid) (goal : Tree) (add
         (closed : (i : ℕ) → i < n → Closed d env goal (equal_term (bit_term x i) (bit_term y i))) where
       bits_alike : b ≡ true → (i : ℕ) → i < n → bits_of m x i ≡ bits_of m y i
       bits_alike e i h =
-          same_one (bits_of m x i) (bits_of m y i)
+          alike (bits_of m x i) (bits_of m y i)
           (sym (lit_equal (bit_term x i) (bit_term y i) (bit_sort x i) (bit_sort y i) (closed i h))
           ∙ all_has (λ (u : Bool). u) (map (lit m.truths) (map (λ i. equal_term (bit_term x i) (bit_term y i)) (counted 0 n)))
           (lit m.truths (bit_equation i)) (sym whole ∙ e)
@@ -327,7 +316,7 @@ module _ (d : Declarations) (env : Env) (literals : List Uid) (goal : Tree) (add
           let below : j.0 < n = omega (arith, within) in
           sym t.2 ∙ ap (lit m.truths) (sym j.2)
           ∙ lit_equal (bit_term x j.0) (bit_term y j.0) (bit_sort x j.0) (bit_sort y j.0) (closed j.0 below)
-          ∙ one_same (bits_of m x j.0) (bits_of m y j.0) (h j.0 below))
+          ∙ alike_back (bits_of m x j.0) (bits_of m y j.0) (h j.0 below))
 
   pub input_of : (x : Tree) (D : Definition) (t : Tree) → definition x ≡ D → Closed d env goal x → Has D.inputs t → Closed d env goal t
   input_of x D t e c h = of_input d env goal x t c (subst (λ (E : Definition). Has E.inputs t) (sym e) h)

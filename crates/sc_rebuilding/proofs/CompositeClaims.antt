@@ -5,7 +5,7 @@ use Rattle.std.specs.Cmp.Derive.{both_true}
 use Rattle.std.specs.List.{AllByRecursion}
 use Rattle.std.specs.List.Sorted.{IsStrictlySortedBy}
 use Rattle.std.specs.Map.{keys_of}
-use Rattle.sc_lists.proofs.BoolLaws.{and_first, and_second}
+use Rattle.sc_lists.proofs.BoolLaws.{and_first, and_second, true_both}
 use Rattle.sc_lists.proofs.OptionLaws.{same_some}
 use Rattle.sc_lists.proofs.MemberLaws.{Has-map, map-Has, Has-flat_map, flat_map-Has, Has-from_Contains, Contains-from_Has}
 use Rattle.sc_lists.specs.Members.{Has}
@@ -85,10 +85,6 @@ all_unless P f (x ∷ xs) h = (h x (inl refl), all_unless P f xs (λ y k. h y (i
 true_unless : (b : Bool) → (b ≡ false → ⊥) → b ≡ true
 true_unless true h = refl
 true_unless false h = absurd (h refl)
-
-pub true_both : (b : Bool) → b ≡ true → b ≡ false → ⊥
-true_both true e f = cc
-true_both false e f = cc
 
 one_sort_is : (x y : Tree) (k : Sort) → tree_sort x ≡ k → tree_sort y ≡ k → one_sort x y ≡ true
 one_sort_is x y k e f = (sort_eq_decides (tree_sort x) (tree_sort y)).1 (e ∙ sym f)

@@ -8,6 +8,7 @@ use Rattle.std.specs.Str.{chars}
 use Rattle.sc_lists.proofs.BoolLaws.{or_first, or_second}
 use Rattle.sc_lists.proofs.ListLaws.{all_append, all_weaker, list_all_true}
 use Rattle.sc_lists.specs.Members.{Has}
+use Rattle.sc_lists.proofs.MemberLaws.{AllByRecursion-Has}
 use Rattle.sc_schema.specs.declared.declarations.Env.{Env}
 use Rattle.sc_schema.specs.Declarations.{Declarations}
 use Rattle.sc_sorts.specs.declared.sort.Sort.{out-Sort}
@@ -28,15 +29,6 @@ use Rattle.sc_rebuilding.proofs.ClosedLaws.{strings_equation, like_closed}
 use Rattle.sc_rebuilding.proofs.CountLaws.{distinct_within}
 use Rattle.sc_rebuilding.proofs.HoldLaws.{none_holds, fails}
 
-neither : (a b : Bool) → a ≡ false → b ≡ false → (a || b) ≡ false
-neither true b e f = absurd cc
-neither false b e f = f
-
-pub all_at : {X : Type 0} (P : X → Type 0) (xs : List X) (x : X) → AllByRecursion P xs → Has xs x → P x
-all_at P [] x h k = absurd k
-all_at P (y ∷ xs) x h (inl is) = subst P is h.0
-all_at P (y ∷ xs) x h (inr later) = all_at P xs x h.1 later
-
 -- each pattern is asked
 abbrev asked : List Bool → Signs
 asked v = map Some v
@@ -54,7 +46,7 @@ module _ (m : Assignment) where
   unfolding some_hold
   none_joined [] ys e f = f
   none_joined (x ∷ xs) ys e f =
-      neither (holds_under m x) (some_hold m (xs ++ ys)) (or_first (holds_under m x) (some_hold m xs) e) (none_joined xs ys (or_second (holds_under m x) (some_hold m xs) e) f)
+      ap (λ (b : Bool). b || some_hold m (xs ++ ys)) (or_first (holds_under m x) (some_hold m xs) e) ∙ none_joined xs ys (or_second (holds_under m x) (some_hold m xs) e) f
 
   other_fails : (t : Tree) (q : Pattern) (sign : Bool) → lit m (like_term t q) ≡ sign → some_hold m (other_sign t q (Some sign)) ≡ false
   other_fails t q true e = fails m false (like_term t q) [] e (none_holds m)
@@ -149,7 +141,7 @@ module _ (d : Declarations) (env : Env) (goal : Tree) (qs : List Pattern) (patte
         let size : length (map chars texts) ≡ length texts = length-map texts chars in
         let short : length (map chars texts) < are.wanted = omega (arith, enough, size, fewer) in
         let within : length words ≤ length (map chars texts) = distinct_within words (map chars texts) distinct (λ word k.
-        let has = all_at (λ text. IsText text × HasSigns qs (asked (signs_of m qs x)) text) words word all k in
+        let has = AllByRecursion-Has (λ text. IsText text × HasSigns qs (asked (signs_of m qs x)) text) words word all k in
         are.found.all short word has.0 (obeys qs (signs_of m qs x) word has.1)) in
         omega (arith, within, size, fewer))))
         (λ (most : length ts ≤ length texts). most)

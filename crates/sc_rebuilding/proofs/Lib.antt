@@ -2,12 +2,12 @@ mod SortSteps
 mod SortLaws
 mod ValLaws
 mod EquationTerms
-mod HoldLaws
+pub mod HoldLaws
 mod ClosedLaws
 mod ClaimLaws
 mod CompositeClaims
 mod RowLaws
-mod ManyRows
+pub mod ManyRows
 mod SumRows
 mod CarryRows
 mod FoldedBits
@@ -15,13 +15,13 @@ mod RangeRows
 mod ProductRows
 mod TermLaws
 mod CoveredLaws
-mod ClassLaws
+pub mod ClassLaws
 mod CountLaws
 mod CrowdLaws
 mod EqualityLaws
 mod BoundLaws
 mod NameLaws
-mod ModelLaws
+pub mod ModelLaws
 mod TextNames
 mod TruthLaws
 pub mod RebuildLaws

@@ -92,7 +92,7 @@ have_vals no_part w t h = absurd h
 have_vals (part l u ts) w t (inl e) = inl (ap (λ z. value_in (val z w)) e)
 have_vals (part l u ts) w t (inr later) = inr (have_vals ts w t later)
 
-all_so : {X : Type 0} (P : Tree → Type 0) (f : X → Tree) (xs : List X) → ((x : X) → Has xs x → P (f x)) → AllByRecursion (λ (s : Signed). P s.1) (map (λ x. so (f x)) xs)
+pub all_so : {X : Type 0} (P : Tree → Type 0) (f : X → Tree) (xs : List X) → ((x : X) → Has xs x → P (f x)) → AllByRecursion (λ (s : Signed). P s.1) (map (λ x. so (f x)) xs)
 all_so P f [] h = tt
 all_so P f (x ∷ xs) h = (h x (inl refl), all_so P f xs (λ y k. h y (inr k)))
 

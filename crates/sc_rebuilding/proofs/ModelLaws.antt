@@ -56,7 +56,7 @@ text_is (two o a b) n e = absurd cc
 text_is (choice c a b) n e = absurd cc
 text_is (many o ts) n e = absurd cc
 
-id_is : (x : Tree) (n : Name) → literal_id x ≡ Some n → (u : Uid) × (us : List Uid) × (x ≡ literal_term (literals.Entity u us)) × (u.id ≡ n)
+pub id_is : (x : Tree) (n : Name) → literal_id x ≡ Some n → (u : Uid) × (us : List Uid) × (x ≡ literal_term (literals.Entity u us)) × (u.id ≡ n)
 id_is (leaf (leafs.Literal (literals.Entity u us))) n e = (u, us, refl, same_some e)
 id_is (leaf (leafs.Literal (literals.Bool b))) n e = absurd cc
 id_is (leaf (leafs.Literal (literals.Long z))) n e = absurd cc

@@ -28,13 +28,14 @@ use Rattle.sc_terms.proofs.FoldValues.{two_is}
 use Rattle.sc_definitions.specs.Definitions.{Definition, definition, table, counted, product_row, partial_term, row_inputs, row_at, row_carry_at, upper_bits}
 use Rattle.sc_definitions.specs.declared.function.Function.TheVariants.{Itself}
 use Rattle.sc_definitions.specs.declared.function.Shape.TheVariants.{NotAll}
+use Rattle.sc_definitions.proofs.EquationLaws.{alike, alike_back}
 use Rattle.sc_rules.proofs.MemberLaws.{all_has, has_all}
 use Rattle.sc_closure_rules.specs.Closure.{Closed}
 use Rattle.sc_rebuilding.specs.Assignments.{lit}
 use Rattle.sc_rebuilding.specs.Vals.{Model, bits_of}
 use Rattle.sc_rebuilding.specs.Models.{IsModel}
 use Rattle.sc_rebuilding.specs.Rows.{IsRight}
-use Rattle.sc_rebuilding.proofs.ClaimLaws.{AreTerms, AreAddresses, by_definition, input_of, counted_below, lit_equal, one_same, same_one}
+use Rattle.sc_rebuilding.proofs.ClaimLaws.{AreTerms, AreAddresses, by_definition, input_of, counted_below, lit_equal}
 use Rattle.sc_rebuilding.proofs.ClosedLaws.{of_part, counted_has, long_bit}
 use Rattle.sc_rebuilding.proofs.EquationTerms.{Equation, is_one, are_literals, is_straight, is_turned, equation_of}
 use Rattle.sc_rebuilding.proofs.FoldedBits.{partial_told}
@@ -223,7 +224,7 @@ module _ (d : Declarations) (env : Env) (literals : List Uid) (goal : Tree) (add
 
       repeats : list_all (λ (u : Bool). u) (map (lit m.truths) (upper_bits a b)) ≡ true → RepeatsSign (prow left right 128)
       repeats all j p q =
-          sym (same_one (prow left right 128 63) (prow left right 128 j)
+          sym (alike (prow left right 128 63) (prow left right 128 j)
           (sym (upper_told j p q) ∙ all_has (λ (u : Bool). u) (map (lit m.truths) (upper_bits a b)) (lit m.truths (upper j)) all (Has-map (lit m.truths) (upper_bits a b) (upper j) (upper_there j p q))))
 
       all_repeat : RepeatsSign (prow left right 128) → list_all (λ (u : Bool). u) (map (lit m.truths) (upper_bits a b)) ≡ true
@@ -234,7 +235,7 @@ module _ (d : Declarations) (env : Env) (literals : List Uid) (goal : Tree) (add
           let within : j.0 < 64 + 64 = counted_below 64 64 j.0 j.1 in
           let below : j.0 < 128 = omega (arith, within) in
           sym t.2 ∙ ap (lit m.truths) (sym j.2) ∙ upper_told j.0 least below
-          ∙ one_same (prow left right 128 63) (prow left right 128 j.0) (sym (h j.0 least below)))
+          ∙ alike_back (prow left right 128 63) (prow left right 128 j.0) (sym (h j.0 least below)))
 
       leaves_so : leaves64 (x *ℤ y) ≡ lit m.truths (two binary.MultiplyOverflows a b)
       leaves_so =

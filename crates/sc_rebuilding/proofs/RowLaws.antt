@@ -35,8 +35,8 @@ use Rattle.std.specs.Int.{w64}
 use Rattle.sc_terms.specs.Trees.{Tree, leaf, one, two, choice}
 use Rattle.sc_terms.specs.TreeSorts.{tree_sort}
 use Rattle.sc_terms.specs.Folds.{literal_term, equal_term, field_term, present_term, held_term}
-use Rattle.sc_terms.specs.Values.{Val, it, yes, val, seen, bool_seen, truth, value_in, members_in, members_seen, record_in, fields_seen, field_of, set_from, not_value, option_in, level, bit_seen, like_seen, field_seen, field_value, has_member, and_seen, and_value, or_seen, or_value, equal_value, choice_value, val_eq}
-use Rattle.sc_terms.proofs.FoldValues.{leaf_is, one_is, two_is, seen_yes, not_yes, truth_yes}
+use Rattle.sc_terms.specs.Values.{Val, it, yes, val, seen, bool_seen, truth, value_in, members_in, members_seen, record_in, fields_seen, field_of, set_from, not_value, option_in, level, bit_seen, like_seen, field_seen, field_value, has_member, and_value, or_value, equal_value, choice_value, val_eq}
+use Rattle.sc_terms.proofs.FoldValues.{leaf_is, one_is, two_is, not_yes, truth_yes}
 use Rattle.sc_terms.proofs.EqualValues.{equal_bools, equal_others, val_eq-exact}
 use Rattle.sc_definitions.specs.Definitions.{definition, table, chosen_of}
 use Rattle.sc_definitions.specs.declared.function.Function.TheVariants.{Both, Either}
@@ -46,6 +46,7 @@ use Rattle.sc_term_laws.specs.Tests.{bool_level, is_bool}
 use Rattle.sc_term_laws.specs.Unfolded.{stays_equal, stays_field, stays_option, stays_literal}
 use Rattle.sc_term_laws.proofs.JudgingLaws.{field_of_record, member_of}
 use Rattle.sc_term_laws.proofs.UnfoldedLaws.{equal_stays, field_stays, present_stays, bit_stays, like_stays}
+use Rattle.sc_term_laws.proofs.ConnectiveLaws.{both_yes, either_yes}
 use Rattle.sc_rules.specs.Signed.{so, unless}
 use Rattle.sc_rules.specs.Equal.{eq2}
 use Rattle.sc_rules.specs.Sets.{se6, se7}
@@ -66,16 +67,6 @@ use Rattle.sc_rebuilding.proofs.HoldLaws.{second, third}
 use Rattle.sc_rebuilding.proofs.ValLaws.{val_out, val_Bool, val_Long, val_String, val_Decimal, val_Ip, val_Option, val_Record, shown, is_it}
 
 -- ---- connectives of truth values
-
-and_yes : (a b : Bool) → and_value (yes a) (yes b) ≡ yes (a && b)
-unfolding and_value
-and_yes true b = ap (λ o. and_seen o (seen (yes b)) (yes true) (yes b)) (seen_yes true)
-and_yes false b = ap (λ o. and_seen o (seen (yes b)) (yes false) (yes b)) (seen_yes false)
-
-or_yes : (a b : Bool) → or_value (yes a) (yes b) ≡ yes (a || b)
-unfolding or_value
-or_yes true b = ap (λ o. or_seen o (seen (yes b)) (yes true) (yes b)) (seen_yes true)
-or_yes false b = ap (λ o. or_seen o (seen (yes b)) (yes false) (yes b)) (seen_yes false)
 
 held_some : (b : Bool) (v : Val) → is_some (option_in (held_by b v)) ≡ b
 held_some true v = refl
@@ -124,14 +115,14 @@ module _ (d : Declarations) (env : Env) (literals : List Uid) (goal : Tree) (add
   unfolding tree_sort
   right_and a b e f c r q =
       right_truth (two binary.And a b) (lit m.truths a && lit m.truths b) refl
-      (two_is binary.And a b w ∙ (λ i. and_value (truth_right a e r i) (truth_right b f q i)) ∙ and_yes (lit m.truths a) (lit m.truths b))
+      (two_is binary.And a b w ∙ (λ i. and_value (truth_right a e r i) (truth_right b f q i)) ∙ both_yes (lit m.truths a) (lit m.truths b))
       (sym (by_definition d env literals goal addresses terms m is (two binary.And a b) (table Both (a ∷ b ∷ [])) refl (both_definition a b) c))
 
   pub right_or : (a b : Tree) → tree_sort a ≡ sort.Bool → tree_sort b ≡ sort.Bool → Closed d env goal (two binary.Or a b) → IsRight m w a → IsRight m w b → IsRight m w (two binary.Or a b)
   unfolding tree_sort
   right_or a b e f c r q =
       right_truth (two binary.Or a b) (lit m.truths a || lit m.truths b) refl
-      (two_is binary.Or a b w ∙ (λ i. or_value (truth_right a e r i) (truth_right b f q i)) ∙ or_yes (lit m.truths a) (lit m.truths b))
+      (two_is binary.Or a b w ∙ (λ i. or_value (truth_right a e r i) (truth_right b f q i)) ∙ either_yes (lit m.truths a) (lit m.truths b))
       (sym (by_definition d env literals goal addresses terms m is (two binary.Or a b) (table Either (a ∷ b ∷ [])) refl (either_definition a b) c))
 
   -- ---- choices

@@ -1,9 +1,9 @@
 -- The truths of a well-formed world falsify nothing.
-use Rattle.std.proofs.Common.{◌≡◌, ◌||◌, ◌+◌, ◌<◌, ℕ, arith, Bool, true, false, not, inl, inr, cond, List, [], ◌∷◌, map, Some, IfSome, refl, sym, ap, ◌∙◌, subst}
+use Rattle.std.proofs.Common.{◌≡◌, ◌||◌, ◌+◌, ◌<◌, ℕ, arith, Bool, true, false, not, cond, List, [], ◌∷◌, map, Some, IfSome, refl, sym, ap, ◌∙◌, subst}
 use Rattle.std.specs.List.{AllByRecursion, All}
 use Rattle.std.proofs.lemmas.List.Elements.{All-from_recursion}
 use Rattle.sc_lists.proofs.ListLaws.{all_weaker}
-use Rattle.sc_lists.specs.Members.{Has}
+use Rattle.sc_lists.proofs.MemberLaws.{Has-AllByRecursion}
 use Rattle.sc_names.specs.declared.uid.Uid.{Uid}
 use Rattle.sc_schema.specs.declared.declarations.Env.{Env}
 use Rattle.sc_schema.specs.Declarations.{Declarations}
@@ -47,10 +47,6 @@ use Rattle.sc_rebuilding.specs.Consistent.{IsRuleAt, IsConsistent}
 use Rattle.sc_rebuilding.specs.Laws.{truths_in}
 use Rattle.sc_rebuilding.proofs.ClaimLaws.{AreTerms}
 use Rattle.sc_rebuilding.proofs.ClosedLaws.{of_input, ip_bit_closed}
-
-all_has : {X : Type 0} (P : X → Type 0) (xs : List X) → ((x : X) → Has xs x → P x) → AllByRecursion P xs
-all_has P [] h = tt
-all_has P (x ∷ xs) h = (h x (inl refl), all_has P xs (λ y k. h y (inr k)))
 
 -- a value of the sort of truth values is one
 bool_by : (x : Value) (y : Value-F Value) → out-Value x ≡ y → is_bool y ≡ true → (b : Bool) × (seen (it x) ≡ Some b)
@@ -141,7 +137,7 @@ module _ (d : Declarations) (env : Env) (literals : List Uid) (goal : Tree) (ter
     truths_consistent = record {
       definitions = λ x c e.
           let told = hold d env literals w x lawful well (subst (λ (k : Sort). IsTermOf d env literals k x) e (terms.made x c)) in
-          subst (λ (us : List Bool). IfSome (defined (shape_of x) us) (λ b. lit (truths_in w) x ≡ b)) (sym (all_told (inputs_of x) (all_has (Closed d env goal) (inputs_of x) (λ t h. of_input d env goal x t c h))))
+          subst (λ (us : List Bool). IfSome (defined (shape_of x) us) (λ b. lit (truths_in w) x ≡ b)) (sym (all_told (inputs_of x) (Has-AllByRecursion (Closed d env goal) (inputs_of x) (λ t h. of_input d env goal x t c h))))
           (subst (λ (u : Bool). IfSome (defined (shape_of x) (truths_of (inputs_of x) w)) (λ b. u ≡ b)) (sym (closed_told x c)) told);
       addresses = λ x c e. block_told x c e (addressed d env literals w x lawful well (subst (λ (k : Sort). IsTermOf d env literals k x) e (terms.made x c)));
       rules = λ parts r all. signed_told parts all ∙ rule_holds (Some parts) r;

@@ -5,6 +5,7 @@ use Rattle.sc_lists.specs.Members.{Has}
 use Rattle.sc_lists.proofs.ListLaws.{all_weaker}
 use Rattle.sc_lists.proofs.MemberLaws.{Has-flat_map, flat_map-Has}
 use Rattle.sc_lists.proofs.OptionLaws.{some_of}
+use Rattle.sc_lists.proofs.BoolLaws.{true_both}
 use Rattle.sc_names.specs.declared.uid.Uid.{Uid}
 use Rattle.sc_schema.specs.declared.declarations.Env.{Env}
 use Rattle.sc_schema.specs.Declarations.{Declarations, is_action_type}
@@ -28,7 +29,6 @@ use Rattle.sc_closure_rules.specs.Goals.{IsGoal}
 use Rattle.sc_rebuilding.specs.Vals.{Model}
 use Rattle.sc_rebuilding.specs.Models.{IsModel}
 use Rattle.sc_model_values.proofs.FittingLaws.{AreMade, lawful_at}
-use Rattle.sc_model_values.proofs.SaidLaws.{not_both}
 use Rattle.sc_rebuilt_worlds.specs.Rebuilt.{entity_said, data_of, given_from, given_of}
 use Rattle.sc_rebuilt_worlds.proofs.SaidLaws.{entity_told, says_entity}
 
@@ -79,7 +79,7 @@ module _ (d : Declarations) (env : Env) (literals : List Uid) (goal : Tree) (mad
 
   entity_type_by : (name : List ℕ) → IsDeclared d name → is_action_type d name ≡ false → IsEntityType d name
   entity_type_by name (inl h) e = h
-  entity_type_by name (inr h) e = absurd (not_both (is_action_type d name) h e)
+  entity_type_by name (inr h) e = absurd (true_both (is_action_type d name) h e)
 
   pub plain_entity : (u : Uid) → Has listed u → IsPlainEntity u
   plain_entity u h =
@@ -123,7 +123,7 @@ module _ (d : Declarations) (env : Env) (literals : List Uid) (goal : Tree) (mad
     none_given u e = by (stored u (given_of d m)) refl where
       by : (o : Option EntityData) → stored u (given_of d m) ≡ o → unwrap_or o (default_data d u) ≡ default_data d u
       by None f = refl
-      by (Some x) f = absurd (not_both (is_action_type d u.type_name) e (plain_entity u (given_only d m listed u x f).among).no_action)
+      by (Some x) f = absurd (true_both (is_action_type d u.type_name) e (plain_entity u (given_only d m listed u x f).among).no_action)
 
     pub action_stored : (u : Uid) (x : EntityData) → is_action_type d u.type_name ≡ true → stored u es ≡ Some x → x ≡ default_data d u
     action_stored u x e f = of_stored (λ (y : Entry). y.1 ≡ data_with d (given_of d m) y.0) u x es given f ∙ none_given u e

@@ -10,6 +10,7 @@ use Rattle.sc_lists.specs.Members.{Has}
 use Rattle.sc_lists.proofs.MemberLaws.{Has-map, map-Has, Has-flat_map, Has-from_Contains, Contains-from_Has}
 use Rattle.sc_lists.proofs.OptionLaws.{same_some}
 use Rattle.sc_lists.proofs.TextLaws.{bytes_eq_true}
+use Rattle.sc_lists.proofs.BoolLaws.{true_both}
 use Rattle.sc_names.specs.declared.uid.Uid.{Uid}
 use Rattle.sc_names.specs.Uids.{text_cmp, uid_cmp}
 use Rattle.sc_names.proofs.UidLaws.{text_total}
@@ -22,10 +23,10 @@ use Rattle.sc_schema.specs.Lawful.{IsLawful}
 use Rattle.sc_schema.proofs.LookupLaws.{action_found}
 use Rattle.sc_values.specs.declared.value.Value.{Value}
 use Rattle.sc_values.specs.declared.value.Value.TheVariants as value
-use Rattle.sc_values.specs.Order.{value_cmp, by_kind}
+use Rattle.sc_values.specs.Order.{value_cmp}
 use Rattle.sc_values.specs.Records.{Fields, field}
 use Rattle.sc_values.proofs.AscendingLaws.{one_list}
-use Rattle.sc_values.proofs.OrderLaws.{value_cmp_total, value_cmp_exact, value_cmp_by_kind}
+use Rattle.sc_values.proofs.OrderLaws.{value_cmp_total, value_cmp_exact}
 use Rattle.sc_values.proofs.OutLaws as out
 use Rattle.sc_world.specs.declared.entity.EntityData.{EntityData}
 use Rattle.sc_world.specs.declared.world.Request.{Request}
@@ -49,13 +50,13 @@ use Rattle.sc_nodes.specs.declared.node.UnaryOp.TheVariants as unary
 use Rattle.sc_nodes.specs.declared.node.BinaryOp.TheVariants as binary
 use Rattle.sc_terms.specs.Trees.{Tree, leaf, one, two}
 use Rattle.sc_terms.specs.TreeSorts.{tree_sort}
-use Rattle.sc_terms.specs.Values.{Val, it, val, leaf_value, value_in, uid_in, uid_seen, text_in, text_seen, record_in, fields_seen, set_from, default_by, attributes_value, ancestors_value, keys_value, tag_value}
-use Rattle.sc_terms.proofs.FoldValues.{one_is, two_is}
+use Rattle.sc_terms.specs.Values.{Val, it, val, value_in, uid_in, uid_seen, text_in, text_seen, record_in, fields_seen, set_from, default_by, attributes_value, ancestors_value, keys_value, tag_value}
+use Rattle.sc_terms.proofs.FoldValues.{one_is, two_is, leaf_is}
 use Rattle.sc_term_laws.specs.Judging.{IsTermOf}
 use Rattle.sc_term_laws.specs.Judging as judged
 use Rattle.sc_term_laws.proofs.ChoicesLaws.{no_choices}
 use Rattle.sc_term_laws.proofs.DefaultTypeLaws.{no_option}
-use Rattle.sc_term_laws.proofs.FitEntities.{ascend_map}
+use Rattle.sc_term_laws.proofs.FitEntities.{ascend_map, entity_cmp, string_cmp}
 use Rattle.sc_term_laws.proofs.FitSets.{set_ascends}
 use Rattle.sc_term_laws.proofs.SortsLawful.{action_of, lawful_action}
 use Rattle.sc_rules.proofs.MemberTruths.{has_set_from, set_from_has}
@@ -71,7 +72,6 @@ use Rattle.sc_model_values.proofs.ClosureLaws.{of_part, tag_keys, tag_key}
 use Rattle.sc_model_values.proofs.DefaultLaws.{AreAddresses}
 use Rattle.sc_model_values.proofs.EntityLaws.{OfAncestors, of_attributes, of_ancestors, of_keys, of_tag, attributes_sort, ancestors_sort, keys_sort, tag_sort, true_member, named_type, ancestors_move, keys_move, text_key, one_attributes, one_tag, absent_tag}
 use Rattle.sc_model_values.proofs.FittingLaws.{AreMade, assigned_sorted}
-use Rattle.sc_model_values.proofs.SaidLaws.{not_both}
 use Rattle.sc_model_values.proofs.SortedVals.{val_at, entity_val, set_val, record_val, fields_at}
 use Rattle.sc_rebuilt_worlds.specs.Rebuilt.{attributes_said, keys_said, tag_said, context_said, tag_default, tag_at, data_of, request_of, IsRebuilt}
 use Rattle.sc_rebuilt_worlds.proofs.EntryLaws.{is_ancestor, ancestor_is, ancestors_ascend, keys_at, is_key, keys_ascend, context_of_term, context_sort}
@@ -83,12 +83,6 @@ use Rattle.sc_rebuilt_worlds.proofs.SaidLaws.{attributes_told, says_attributes, 
 use Rattle.sc_rebuilt_worlds.proofs.TypeLaws.{attributes_type, action_sort, context_type, no_attributes, record_sort}
 
 -- ---- orders of entities and of strings
-
-entity_cmp : (a b : Uid) → value_cmp (value.Entity a) (value.Entity b) ≡ uid_cmp a b
-entity_cmp a b = value_cmp_by_kind (value.Entity a) (value.Entity b) ∙ (λ i. by_kind (out.out_Entity a i) (out.out_Entity b i))
-
-string_cmp : (a b : List ℕ) → value_cmp (value.String a) (value.String b) ≡ text_cmp a b
-string_cmp a b = value_cmp_by_kind (value.String a) (value.String b) ∙ (λ i. by_kind (out.out_String a i) (out.out_String b i))
 
 -- an ascending list of values is the set of what has the same members
 set_is : (xs ys : List Value) → IsStrictlySortedBy value_cmp xs → ((v : Value) → Has xs v ↔ Has ys v) → xs ≡ set_from ys
@@ -127,7 +121,7 @@ module _ (f : List ℕ → Value) where
   found_at : (k key : List ℕ) (ks : List (List ℕ)) (b : Bool) → bytes_eq key k ≡ b → (Has ks key → field key (keyed ks) ≡ Some (f key)) → Has (k ∷ ks) key
       → cond b (Some (f k)) (field key (keyed ks)) ≡ Some (f key)
   found_at k key ks true e next h = ap (λ (n : List ℕ). Some (f n)) (sym (bytes_eq_true key k e))
-  found_at k key ks false e next (inl same) = absurd (not_both (bytes_eq key k) ((bytes_eq-Decides key k).1 (sym same)) e)
+  found_at k key ks false e next (inl same) = absurd (true_both (bytes_eq key k) ((bytes_eq-Decides key k).1 (sym same)) e)
   found_at k key ks false e next (inr later) = next later
 
   key_found : (ks : List (List ℕ)) (key : List ℕ) → Has ks key → field key (keyed ks) ≡ Some (f key)
@@ -150,10 +144,6 @@ module _ (d : Declarations) (env : Env) (literals : List Uid) where
 
   resource_told : (j k : Sort) → IsTermOf d env literals j (leaf (leafs.Resource k)) → k ≡ entity_sort d env.resource
   resource_told _ _ judged.of_resource = refl
-
-leaf_is : (l : Leaf) (w : World) → val (leaf l) w ≡ leaf_value l w
-unfolding val
-leaf_is l w = refl
 
 no_tags : (d : Declarations) (name : List ℕ) (t : Ty) → tags_of d name ≡ Some t → is_action_type d name ≡ false
 no_tags d name t e = by (is_action_type d name) refl where
@@ -413,7 +403,7 @@ module _ (d : Declarations) (env : Env) (literals : List Uid) (goal : Tree) (mad
         by n false f =
             let none = key_none (λ key. (tag_at d m (m.uid e) key).1) (keys e) (m.text x) (λ h.
             let y = listed_key e (m.text x) keys_closed h in
-            not_both (lit m.truths (two binary.Member x (one unary.Keys e))) (text_key d env literals goal made m model k e x y.0 c y.1 y.2) f) in
+            true_both (lit m.truths (two binary.Member x (one unary.Keys e))) (text_key d env literals goal made m model k e x y.0 c y.1 y.2) f) in
             ap (λ (o : Option Value). it (unwrap_or o (default_of k))) none
             ∙ sym (absent_tag d env literals goal made m model lawful is agree addresses k e x c f ∙ ap (λ (b : Bool). default_by b (default_of k)) n)
 

@@ -4,9 +4,10 @@ use Rattle.std.specs.List.{AllByRecursion}
 use Rattle.std.specs.List.Sorted.{IsStrictlySortedBy}
 use Rattle.std.specs.Str.{IsUtf8}
 use Rattle.sc_lists.specs.Members.{Has}
-use Rattle.sc_lists.proofs.ListLaws.{all_of_elements, all_weaker}
-use Rattle.sc_lists.proofs.MemberLaws.{Has-from_Contains, Contains-from_Has}
+use Rattle.sc_lists.proofs.ListLaws.{all_weaker}
+use Rattle.sc_lists.proofs.MemberLaws.{Has-from_Contains, Contains-from_Has, Has-AllByRecursion}
 use Rattle.sc_lists.proofs.OrderedLaws.{none_ascends}
+use Rattle.sc_lists.proofs.BoolLaws.{true_both}
 use Rattle.sc_ip.specs.Addresses.{IsIp}
 use Rattle.sc_bits.specs.Addresses.{ip_of}
 use Rattle.sc_bits.specs.Blocks.{AreBlockBits}
@@ -34,15 +35,11 @@ use Rattle.sc_rebuilding.specs.Vals.{Model}
 use Rattle.sc_rebuilding.specs.Models.{IsModel}
 use Rattle.sc_model_values.proofs.EntityLaws.{OfAncestors, of_ancestors, ancestors_sort, named_type, acyclic, transitive}
 use Rattle.sc_model_values.proofs.FittingLaws.{AreMade, assigned_sorted}
-use Rattle.sc_model_values.proofs.SaidLaws.{not_both}
 use Rattle.sc_rebuilt_worlds.specs.Laws.{AreTexts}
 use Rattle.sc_rebuilt_worlds.specs.Rebuilt.{entity_said, tag_at, data_of, given_of}
 use Rattle.sc_rebuilt_worlds.proofs.EntryLaws.{IsAncestor, is_ancestor, ancestor_is, ancestors_ascend, keys_at, keys_ascend, tag_keys_are, no_keys, uid_is_text, entity_text, attributes_of_type, tags_of_type, key_text}
 use Rattle.sc_rebuilt_worlds.proofs.GivenLaws.{IsGivenEntry, given_each, given_only, IsPlainEntity, plain_entity}
 use Rattle.sc_rebuilt_worlds.proofs.TypeLaws.{has_attributes}
-
-each_element : {X : Type 0} (P : X → Type 0) (xs : List X) → ((x : X) → Has xs x → P x) → AllByRecursion P xs
-each_element P xs h = all_of_elements P xs (λ x k. h x (Has-from_Contains xs x k))
 
 some_and : {T : Type 0} (o : Option T) (x : T) (P : T → Type 0) → o ≡ Some x → P x → IsSomeAnd o P
 some_and o x P e h = subst (λ (q : Option _). IsSomeAnd q P) (sym e) h
@@ -79,7 +76,7 @@ module _ (d : Declarations) (env : Env) (literals : List Uid) (goal : Tree) (mad
         let names = sym (tag_keys_are d env literals goal made m model lawful is u ks) in
         every.every_Record IsProperLevel (data_of d m u).tags (
           subst (IsStrictlySortedBy text_cmp) names (keys_ascend d env literals goal made m model lawful is u),
-          subst (AllByRecursion IsUtf8) names (each_element IsUtf8 ks (λ key h. key_text d env literals goal made m model lawful is addressed texts u key h)),
+          subst (AllByRecursion IsUtf8) names (Has-AllByRecursion IsUtf8 ks (λ key h. key_text d env literals goal made m model lawful is addressed texts u key h)),
         )
         (all_weaker _ (λ (f : List ℕ × Value). IsProper f.1) (λ f h. h.proper) (data_of d m u).tags (tags_of_type d env literals goal made m model lawful is addressed texts u t e))
 
@@ -97,7 +94,7 @@ module _ (d : Declarations) (env : Env) (literals : List Uid) (goal : Tree) (mad
       attrs = (attributes_of_type d env literals goal made m model lawful is addressed texts u shape.0 shape.1).proper;
       tags = tags_proper_by (tags_of d u.type_name) refl;
       ancestors = ancestors_ascend d env literals goal made m model lawful is u;
-      ancestor_texts = each_element IsUidText (data_of d m u).ancestors ancestor_text;
+      ancestor_texts = Has-AllByRecursion IsUidText (data_of d m u).ancestors ancestor_text;
     }
 
     -- ---- of its type
@@ -121,7 +118,7 @@ module _ (d : Declarations) (env : Env) (literals : List Uid) (goal : Tree) (mad
         let near = is_ancestor d env literals goal made m model lawful is u a h in
         let same = (given_only d m (flat_map (entity_said m) m.closed) a x e).data_is in
         subst (λ (y : EntityData). AllByRecursion (λ b. Contains (data_of d m u).ancestors b) y.ancestors) (sym same)
-        (each_element (Contains (data_of d m u).ancestors) (data_of d m a).ancestors (λ b k.
+        (Has-AllByRecursion (Contains (data_of d m u).ancestors) (data_of d m a).ancestors (λ b k.
         let far = is_ancestor d env literals goal made m model lawful is a b k in
         let plain : is_action_type d (m.uid near.entity).type_name ≡ false = ap (λ (w : Uid). is_action_type d w.type_name) near.named ∙ p.no_action in
         let r = transitive d env literals goal made m model lawful is agree near.own far.own near.entity near.member far.entity far.member plain near.closed near.among far.closed far.among (near.said ∙ sym far.named) in
@@ -143,10 +140,10 @@ module _ (d : Declarations) (env : Env) (literals : List Uid) (goal : Tree) (mad
       attributes = some_and (attrs_of d u.type_name) shape.0 (λ t. IsTrue (conforms t (value.Record (data_of d m u).attrs))) shape.1
           (attributes_of_type d env literals goal made m model lawful is addressed texts u shape.0 shape.1).conform;
       tags = tags_by (tags_of d u.type_name) refl;
-      ancestor_types = each_element _ (data_of d m u).ancestors ancestor_among;
-      transitive = each_element _ (data_of d m u).ancestors (λ a h. above_by a h (stored a (given_of d m)) refl);
+      ancestor_types = Has-AllByRecursion _ (data_of d m u).ancestors ancestor_among;
+      transitive = Has-AllByRecursion _ (data_of d m u).ancestors (λ a h. above_by a h (stored a (given_of d m)) refl);
       acyclic = λ h. own_ancestor (Has-from_Contains (data_of d m u).ancestors u h);
-      action = λ acts. absurd (not_both (is_action_type d u.type_name) acts p.no_action);
+      action = λ acts. absurd (true_both (is_action_type d u.type_name) acts p.no_action);
     }
 
   entry_sound : (x : Entry) → IsGivenEntry d m (flat_map (entity_said m) m.closed) x → IsSoundEntry d (given_of d m) x

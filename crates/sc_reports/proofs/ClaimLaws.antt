@@ -1,20 +1,17 @@
 -- What is said of a log is so.
-use Rattle.std.proofs.Common.{◌≡◌, ◌↔◌, ℕ, List, Option, Some, None, IfSome, Result, Ok, Err, refl, sym, subst, ap, ◌∙◌, unwrap_or, take, slice_get, Contains}
-use Rattle.std.proofs.lemmas.Option.{get_or_from_slice_get, slice_get_within}
-use Rattle.sc_checker.specs.Streams.{Checker, HasVerdict, IsAcceptedText, after, ended, unread}
+use Rattle.std.proofs.Common.{◌≡◌, ◌↔◌, ℕ, List, Option, Some, None, IfSome, Err, refl, sym, subst, ap, ◌∙◌, unwrap_or, take}
+use Rattle.sc_checker.specs.Streams.{HasVerdict, IsAcceptedText, after, ended, unread}
 use Rattle.sc_checker.specs.Verdicts.{Rules}
 use Rattle.sc_checker.specs.declared.checking.Verdict.{Verdict}
 use Rattle.sc_checker.specs.declared.checking.Verdict.TheVariants.{Refuted, Rejected}
 use Rattle.sc_footprint.specs.Problems.{Posed}
 use Rattle.sc_outside.specs.Writes.{appended, Writes}
-use Rattle.sc_outside.specs.declared.faults.SinkFault.{SinkFault}
-use Rattle.sc_outside.specs.declared.faults.SinkFault.TheVariants.{Failed, NoMemory}
+use Rattle.sc_outside.specs.declared.faults.SinkFault.TheVariants.{Failed}
 use Rattle.sc_schema.specs.declared.declarations.Env.{Env}
-use Rattle.sc_schema.specs.Declarations.{environments}
 use Rattle.sc_solver.specs.Solutions.{AreRulesOf}
 use Rattle.sc_reports.proofs.AnalysisLaws.{asked-same}
 use Rattle.sc_reports.specs.Analyses.{asked_of, asked_within, IsQueryOf}
-use Rattle.sc_reports.specs.Claims.{Answer, Checked, Claims, IsShort, answer_code, answer_front, answer_text, answer_whole, says_of, unchecked, verdict_on}
+use Rattle.sc_reports.specs.Claims.{Answer, Checked, Claims, IsShort, answer_code, answer_front, answer_text, answer_whole, says_of, verdict_on}
 use Rattle.sc_reports.specs.LogReading.{HasRead, Held}
 use Rattle.sc_reports.specs.Reports.{AlwaysHas, Asked, HasRoom, IsProblem}
 use Rattle.sc_inputs.specs.declared.inputs.Asking.{Asking}
@@ -42,9 +39,6 @@ read-short None before now h = tt
 read-short (Some text) before now h = h.short
 
 -- ---- the environment that is named
-
-pub named-among : {X : Type 0} (xs : List X) (k : ℕ) (x : X) → slice_get xs k ≡ Some x → Contains xs x
-named-among xs k x e = (k, slice_get_within xs k x e, get_or_from_slice_get xs k x x e)
 
 pub one-of : {X : Type 0} (o : Option X) (x y : X) → o ≡ Some x → o ≡ Some y → x ≡ y
 one-of o x y e f = ap (λ (z : Option _). unwrap_or z x) (sym e ∙ f)

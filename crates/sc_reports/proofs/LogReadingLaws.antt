@@ -1,19 +1,14 @@
 -- A log is read in pieces, and what is held follows.
-use Rattle.std.proofs.Common.{◌≡◌, ◌≤◌, ◌<◌, ◌+◌, ◌++◌, ◌∙◌, ℕ, List, [], ◌∷◌, Option, Some, None, IfSome, length, option_map, is_some, true, false, ◌==◌, refl, sym, ap, subst, arith, append_assoc, length-append, unwrap_or}
-use Rattle.std.specs.Bool.{⊤}
+use Rattle.std.proofs.Common.{◌≡◌, ◌≤◌, ◌<◌, ◌+◌, ◌++◌, ◌∙◌, ℕ, List, [], ◌∷◌, Option, Some, None, IfSome, length, false, refl, sym, ap, subst, arith, length-append, unwrap_or}
 use Rattle.sc_outside.specs.Pieces.{Left, behind}
-use Rattle.sc_checker.specs.Streams.{Checker, Checking, after, after_byte}
+use Rattle.sc_checker.specs.Streams.{Checker, Checking, after}
 use Rattle.sc_checker.specs.Verdicts.{AreRules, Rules}
+use Rattle.sc_checker.proofs.StreamLaws.{after_cut}
 use Rattle.sc_inputs.specs.Refusals.{Content, Refusal, RefusesLog, log_limit, log_long, log_unread}
 use Rattle.sc_solver.specs.Solutions.{AreRulesOf}
 use Rattle.sc_theories.specs.Theories.{HasRule, rule_clause}
 use Rattle.sc_theories.specs.declared.rules.Rules.{Rules as AllRules}
 use Rattle.sc_reports.specs.LogReading.{ComesTo, HasRead, HasReadAll, Held, IsOnTheWay, LeadsOn, RefusesPiece, SameProblem, TellsHeld, held_after, piece_long, piece_unread}
-
--- what is held after two pieces is what is held after both at once
-pub after-append : (rules : Rules) (c : Checking) (a b : List ℕ) → after rules (after rules c a) b ≡ after rules c (a ++ b)
-after-append rules c [] b = refl
-after-append rules c (x ∷ a) b = after-append rules (after_byte rules c x) a b
 
 -- what is left behind a piece is told where what was left is
 record Split (piece rest : List ℕ) (left : Left) : Type 0 where
@@ -44,7 +39,7 @@ held-on tests None (Some d) piece more same fed = absurd same
 held-on tests (Some c) None piece more same fed = absurd same
 held-on tests (Some c) (Some d) piece more same fed =
     let state : d.state ≡ after tests c.state piece = ap (λ (o : Option Checking). unwrap_or o d.state) fed in
-    ap Some (ap (λ s. after tests s more) state ∙ after-append tests c.state piece more)
+    ap Some (ap (λ s. after tests s more) state ∙ after_cut tests c.state piece more)
 
 pub comes-on : (before now later : Held) (text piece more : List ℕ) → SameProblem before now → SameProblem now later → ComesTo now piece later [] → ComesTo before text now (piece ++ more) → ComesTo before text later more
 comes-on before now later text piece more kept same fed h = λ tests tells.

@@ -139,3 +139,55 @@ fn contexts_are_found(rt: HostRuntime) -> Result<(), Fail> {
     }
     Ok(())
 }
+
+/// Users with tags, who may be in groups, view groups.
+const OF_GROUPS: &str =
+    r#"{"":{"entityTypes":{"Group":{},"User":{"memberOfTypes":["Group"],"shape":{"type":"Record","attributes":{"vip":{"type":"Boolean"}}},"tags":{"type":"String"}}},"actions":{"view":{"appliesTo":{"principalTypes":["User"],"resourceTypes":["Group"]}}}}}"#;
+
+/// What is said of a user who views a group, before what is stored of the user.
+const BEFORE_USER: &str =
+    r#"env User Action::"view" Group: counterexample {"entities":[{"attrs":{},"parents":[],"tags":{},"uid":{"id":"view","type":"Action"}},{"attrs":{},"parents":[],"tags":{},"uid":{"id":"0","type":"Group"}},{"#;
+
+/// What is said behind it.
+const BEHIND_USER: &str =
+    r#","uid":{"id":"0","type":"User"}}],"request":{"action":{"id":"view","type":"Action"},"context":{},"principal":{"id":"0","type":"User"},"resource":{"id":"0","type":"Group"}}}"#;
+
+/// Conditions on a user, and what is stored of the user in a counterexample.
+const USERS: [(&str, &str); 5] = [
+    (
+        "principal.vip",
+        r#""attrs":{"vip":true},"parents":[],"tags":{}"#,
+    ),
+    (
+        "principal in resource",
+        r#""attrs":{"vip":false},"parents":[{"id":"0","type":"Group"}],"tags":{}"#,
+    ),
+    (
+        "principal.hasTag(\"k\")",
+        r#""attrs":{"vip":false},"parents":[],"tags":{"k":""}"#,
+    ),
+    (
+        "principal.hasTag(\"k\") && principal.getTag(\"k\") == \"v\"",
+        r#""attrs":{"vip":false},"parents":[],"tags":{"k":"v"}"#,
+    ),
+    (
+        "principal.vip && principal in resource && principal.hasTag(\"k\") && principal.getTag(\"k\") like \"a*\"",
+        r#""attrs":{"vip":true},"parents":[{"id":"0","type":"Group"}],"tags":{"k":"a"}"#,
+    ),
+];
+
+/// Whether this is stored of the user in the counterexample for a policy under this condition.
+fn stores(alloc: Global, condition: &str, user: &str) -> Result<bool, AllocError> {
+    let mut line = String::from_str(alloc, BEFORE_USER)?;
+    line.push_str(user)?;
+    line.push_str(BEHIND_USER)?;
+    decides(alloc, OF_GROUPS, condition, (1, &line))
+}
+
+#[test]
+fn users_are_found(rt: HostRuntime) -> Result<(), Fail> {
+    for (condition, user) in USERS {
+        assert!(rt; stores(rt.alloc(), condition, user)?, "{condition}");
+    }
+    Ok(())
+}

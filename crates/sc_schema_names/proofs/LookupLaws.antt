@@ -1,12 +1,12 @@
 -- What a look-up finds is declared.
-use Rattle.std.proofs.Common.{◌≡◌, ℕ, suc, List, [], ◌∷◌, Bool, true, false, ◌||◌, Some, IfSome, Ordering, Less, Equal, Greater, is_eq, refl, sym, subst, arith}
+use Rattle.std.proofs.Common.{◌≡◌, ℕ, List, [], ◌∷◌, Bool, true, false, ◌||◌, Some, IfSome, Ordering, Less, Equal, Greater, is_eq, refl, sym, subst}
 use Rattle.std.specs.Prelude.{Contains}
 use Rattle.std.specs.List.{find}
 use Rattle.std.specs.BTreeMap.{is_at}
 use Rattle.std.proofs.lemmas.Bool.{cond_both}
 use Rattle.std.proofs.lemmas.Map.Lookups.{CmpEqualImpliesEq, exact_bytes}
 use Rattle.sc_lists.proofs.OrderingLaws.{is_eq_true}
-use Rattle.sc_lists.proofs.ListLaws.{contains_first}
+use Rattle.sc_lists.proofs.ListLaws.{contains_first, contains_rest}
 use Rattle.sc_lists.specs.Ordered.{is_in}
 use Rattle.sc_names.specs.declared.uid.Uid.{Uid}
 use Rattle.sc_names.specs.Uids.{text_cmp, uid_cmp}
@@ -14,13 +14,10 @@ use Rattle.sc_names.proofs.UidLaws.{uid_cmp_level}
 
 -- ---- members of a list
 
-later_contained : {X : Type 0} (y x : X) (xs : List X) → Contains xs x → Contains (y ∷ xs) x
-later_contained y x xs h = (suc h.0, omega (arith, h.1), h.2)
-
 module _ {X : Type 0} (R : X → X → Ordering) (exact : CmpEqualImpliesEq R) where
   either_contained : (b c : Bool) (x y : X) (ys : List X) → (b ≡ true → x ≡ y) → (c ≡ true → Contains ys x) → b || c ≡ true → Contains (y ∷ ys) x
   either_contained true c x y ys h k e = subst (λ z. Contains (y ∷ ys) z) (sym (h refl)) (contains_first y ys)
-  either_contained false c x y ys h k e = later_contained y x ys (k e)
+  either_contained false c x y ys h k e = contains_rest y ys x (k e)
 
   contained : (x : X) (ys : List X) → is_in R x ys ≡ true → Contains ys x
   contained x [] e = absurd cc

@@ -2,11 +2,12 @@ mod LitLaws
 mod NewnessLaws
 mod CellLaws
 mod TrailLaws
-mod OccurrenceLaws
+mod ListedLaws
 mod ReadingLaws
+mod WatchLaws
 mod VisitLaws
 mod AnalysisLaws
-mod BackjumpLaws
+mod RoomLaws
 mod DueLaws
 mod SearchLaws
 mod CopyLaws

@@ -1,5 +1,5 @@
 -- What reading a literal, a clause and all clauses tells.
-use Rattle.std.proofs.Common.{◌≡◌, ◌≢◌, inl, inr, ⊎_elim, ℕ, ◌+◌, ◌<◌, ◌≤◌, List, [], ◌∷◌, ◌++◌, Bool, true, false, not, length, get_or, refl, sym, ap, ◌∙◌, subst, arith, take, Option, Some, None}
+use Rattle.std.proofs.Common.{◌≡◌, ◌≢◌, ⊎_elim, ℕ, ◌+◌, ◌<◌, ◌≤◌, List, [], ◌∷◌, ◌++◌, Bool, true, false, not, length, get_or, refl, sym, ap, ◌∙◌, subst, arith, take, Option, Some, None}
 use Rattle.std.specs.List.{Contains}
 use Rattle.std.proofs.lemmas.List.{get_or-take, length-take-le, take_more}
 use Rattle.std.proofs.lemmas.List.Elements.{Contains-append_left, Contains-push, Contains-push_cases}
@@ -7,9 +7,9 @@ use Rattle.sc_clauses.proofs.LitLaws.{bool_eq-true}
 use Rattle.sc_clauses.specs.Clauses.{negation, Clause, bool_eq}
 use Rattle.sc_clauses.specs.declared.lit.Lit.{Lit}
 use Rattle.sc_search.proofs.CellLaws.{at-before}
-use Rattle.sc_search.specs.Readings.{HasTruth, truth_of, signed, IsSoFar, IsUnitAt}
+use Rattle.sc_search.specs.Readings.{AreTwoOpen, HasTruth, truth_of, signed, IsSoFar, IsUnitAt}
 use Rattle.sc_search.specs.Steps.{At}
-use Rattle.sc_search.specs.Trails.{set_before, cell_of, true_before, set_at, HasPlace, IsQuiet, IsReason, Agree}
+use Rattle.sc_search.specs.Trails.{set_before, cell_of, true_before, set_at, HasPlace, IsReason, Agree}
 use Rattle.sc_search.specs.declared.cell.Cell.{Cell}
 use Rattle.sc_search.specs.declared.cell.Cell.TheVariants.{Free, Decided, Implied}
 
@@ -74,12 +74,11 @@ module _ (cells : List Cell) (p : ℕ) (c : List Lit) (i : ℕ) (l : Lit) (in_ra
   here : Contains c l
   here = (i, in_range, sym is)
 
-  pub sofar-two : (u : Lit) → u ≢ l → IsSoFar cells p (take i c) (Some u) → cell_of cells l ≡ Free → IsQuiet (true_before cells p) c
-  sofar-two u ne h free =
-      inr (u, l, from-take i c u (omega arith) h.0, here, ne, free-before cells p u h.1, free-before cells p l free)
+  pub sofar-two : (u : Lit) → u ≢ l → IsSoFar cells p (take i c) (Some u) → cell_of cells l ≡ Free → AreTwoOpen cells c (record { first = u; second = l })
+  sofar-two u ne h free = (from-take i c u (omega arith) h.0, here, ne, h.1, free)
 
-  pub sofar-true : true_before cells p l ≡ true → IsQuiet (true_before cells p) c
-  sofar-true t = inl (l, here, t)
+  pub sofar-true : true_before cells p l ≡ true → (y : Lit) × Contains c y × (true_before cells p y ≡ true)
+  sofar-true t = (l, here, t)
 
 pub reason-of : (cs : List Clause) (cells : List Cell) (p i : ℕ) (c : Clause) (l : Lit) → At cs i c → IsUnitAt cells p c l → IsReason cs cells l p i
 reason-of cs cells p i c l at u = record { clause = c; at = at; has = u.0; others = u.2 }

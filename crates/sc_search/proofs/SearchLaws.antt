@@ -14,18 +14,17 @@ use Rattle.sc_clauses.specs.declared.step.Instance as instance
 use Rattle.sc_clauses.specs.declared.step.Step.{Step}
 use Rattle.sc_clauses.specs.declared.step.Step.TheVariants.{Instance, Learned}
 use Rattle.sc_search.specs.Findings.{IsUnit, AreUnits, no_step, first_step, IsRefutation, IsSpent, IsConsistent, IsDue}
-use Rattle.sc_search.specs.Occurrences.{ListsAll}
 use Rattle.sc_search.specs.Propagation.{IsNew}
 use Rattle.sc_search.specs.Steps.{AreListed, IsLawful, added, after}
 use Rattle.sc_search.specs.Trails.{true_before, cell_of, set_at, Agree, AreQuiet, AreAllSet, AreInCells, AllInCells, HoldsTrail}
 use Rattle.sc_search.specs.Turns.{IsReady, IsTotal, HasLearned, HasRefuted, HasAdded, HasEnded, HasSettled, IsTurn, IsSearching, cell_value}
-use Rattle.sc_search.specs.Visits.{AreSeenBut}
+use Rattle.sc_search.specs.Visits.{AreSeenBut, IsWellWatched}
 use Rattle.sc_search.specs.declared.cell.Cell.{Cell}
 use Rattle.sc_search.specs.declared.cell.Cell.TheVariants.{Free, Decided, Implied}
 use Rattle.sc_search.specs.declared.solver.Solver.{Solver}
 use Rattle.sc_search.specs.declared.solver.Turn.{Turn}
 use Rattle.sc_search.specs.declared.solver.Turn.TheVariants as turn
-use Rattle.sc_search.proofs.BackjumpLaws.{in-cells-of-false, clause-of-false}
+use Rattle.sc_search.proofs.RoomLaws.{in-cells-of-false, clause-of-false}
 use Rattle.sc_search.proofs.CellLaws.{consistent}
 use Rattle.sc_search.proofs.DueLaws.{falls}
 use Rattle.sc_clauses.proofs.LitLaws.{bool_eq-true, negation_twice}
@@ -252,13 +251,13 @@ listed-in-cells atoms given listed c has l lit = let h = listed c has l lit in l
 
 -- the search before its first turn
 pub searching-begins : (has_instance : instance.Instance → Type 0) (clause_of : instance.Instance → Clause) (atoms : ℕ) (given : List Clause) (budget : ℕ) (s : Solver) → ((c : Clause) → Contains given c → AreListed atoms c)
-    → ListsAll (atoms + 1) given s.occurrences → HoldsTrail (atoms + 1) given s.trail → AreSeenBut given s.trail s.pending → s.clauses.items ≡ given → s.steps.items ≡ [] → IsSearching atoms has_instance clause_of given budget s
-searching-begins has_instance clause_of atoms given budget s listed lists holds seen clauses steps = record {
+    → IsWellWatched (atoms + 1) given s.trail s.watches → HoldsTrail (atoms + 1) given s.trail → AreSeenBut given s.trail s.watches s.pending → s.clauses.items ≡ given → s.steps.items ≡ [] → IsSearching atoms has_instance clause_of given budget s
+searching-begins has_instance clause_of atoms given budget s listed watched holds seen clauses steps = record {
   ready = record {
     in_cells = subst (λ (cs : List Clause). AreInCells (atoms + 1) cs) (sym clauses) (listed-in-cells atoms given listed);
-    listed = subst (λ (cs : List Clause). ListsAll (atoms + 1) cs s.occurrences) (sym clauses) lists;
+    watched = subst (λ (cs : List Clause). IsWellWatched (atoms + 1) cs s.trail s.watches) (sym clauses) watched;
     trail = subst (λ (cs : List Clause). HoldsTrail (atoms + 1) cs s.trail) (sym clauses) holds;
-    seen = subst (λ (cs : List Clause). AreSeenBut cs s.trail s.pending) (sym clauses) seen;
+    seen = subst (λ (cs : List Clause). AreSeenBut cs s.trail s.watches s.pending) (sym clauses) seen;
   };
   clauses_are = clauses ∙ sym (append-nil given) ∙ ap (λ (ss : List Step). after clause_of given ss) (sym steps);
   are_units = subst (λ (ss : List Step). AreUnits atoms has_instance clause_of given ss) (sym steps) (no_step given);

@@ -1,5 +1,5 @@
 -- Each move of the search makes a trail of a trail.
-use Rattle.std.proofs.Common.{◌≡◌, ◌≢◌, ◌⊎◌, inl, inr, ⊎_elim, ℕ, ◌+◌, ◌<◌, ◌≤◌, List, [], ◌∷◌, ◌++◌, Bool, true, false, ◌&&◌, ltb, length, get_or, refl, sym, ap, ◌∙◌, subst, arith, get_or-set_same, get_or-set_other, take, Option, Some, None, MatchOption, replicate}
+use Rattle.std.proofs.Common.{◌≡◌, ◌≢◌, ◌⊎◌, ⊎_elim, ℕ, ◌+◌, ◌<◌, ◌≤◌, List, [], ◌∷◌, ◌++◌, Bool, true, false, ◌&&◌, ltb, length, get_or, refl, sym, ap, ◌∙◌, subst, arith, get_or-set_same, get_or-set_other, take, Option, Some, None, MatchOption, replicate}
 use Rattle.std.specs.List.{Contains}
 use Rattle.std.proofs.Math.ListN.{set, length-set, get_or-append, get_or-eq_default}
 use Rattle.std.proofs.Math.Seq.{get_or-append_seam}
@@ -12,7 +12,7 @@ use Rattle.sc_clauses.specs.Clauses.{negation, Clause, bool_eq}
 use Rattle.sc_clauses.specs.declared.lit.Lit.{Lit}
 use Rattle.sc_search.proofs.CellLaws.{before-set}
 use Rattle.sc_search.specs.Steps.{At}
-use Rattle.sc_search.specs.Trails.{set_before, cell_of, true_before, set_at, HasPlace, IsQuiet, AreQuiet, IsReason, Agree, IsTrail, InCells, IsChoice, AreSetBelow, AreAllSet, one_if_free, free_count}
+use Rattle.sc_search.specs.Trails.{set_before, cell_of, true_before, set_at, HasPlace, IsQuiet, AreQuiet, IsReason, Agree, IsTrail, InCells, IsChoice, AreAllSet, one_if_free, free_count}
 use Rattle.sc_search.specs.declared.cell.Cell.{Cell}
 use Rattle.sc_search.specs.declared.cell.Cell.TheVariants.{Free, Decided, Implied}
 use Rattle.sc_search.proofs.LitLaws.{lit-of, nat-cases, below-or}
@@ -417,22 +417,10 @@ module _ (n : ℕ) (cs : List Clause) (cells : List Cell) (trail : List Lit) (le
   pub before-pop-to : (q : ℕ) → q ≤ p → true_before cells' q ≡ true_before cells q
   before-pop-to q le = rw f (before-pop n cs cells t levels l p (rw e at sound) pop-enough q (let h = pop-enough in omega arith))
 
--- the choice of an atom so far: an atom that has a value is passed over, one that has none may be taken
-pub choice-skip : (cells : List Cell) (i : ℕ) (best : Option ℕ) → get_or cells i Free ≢ Free → MatchOption best (AreSetBelow cells i) (IsChoice cells) → MatchOption best (AreSetBelow cells (i + 1)) (IsChoice cells)
-choice-skip cells i None full h = λ k some lt.
-    ⊎_elim
-    (λ (less : k < i). h k some less)
-    (λ (le : i ≤ k). let e : i ≡ k = omega arith in subst (λ (a : ℕ). get_or cells a Free ≢ Free) e full)
-    (below-or k i)
-choice-skip cells i (Some a) full h = h
-
-pub choice-take : (cells : List Cell) (i r : ℕ) (best : Option ℕ) → 0 < i → i < length cells → get_or cells i Free ≡ Free → (r ≡ i) ⊎ (best ≡ Some r) → MatchOption best (AreSetBelow cells i) (IsChoice cells) → IsChoice cells r
-choice-take cells i r best some lt free (inl e) h = subst (λ (a : ℕ). IsChoice cells a) (sym e) (some, lt, free)
-choice-take cells i r best some lt free (inr e) h = subst (λ (b : Option ℕ). MatchOption b (AreSetBelow cells i) (IsChoice cells)) e h
-
-pub choice-end : (cells : List Cell) (i : ℕ) (best : Option ℕ) → length cells ≤ i → MatchOption best (AreSetBelow cells i) (IsChoice cells) → MatchOption best (AreAllSet cells) (IsChoice cells)
-choice-end cells i None le h = λ k some lt. h k some (omega arith)
-choice-end cells i (Some a) le h = h
+-- where no atom is a choice each has a value
+pub choice-or-all : (cells : List Cell) (r : Option ℕ) → MatchOption r ((a : ℕ) → ¬ IsChoice cells a) (IsChoice cells) → MatchOption r (AreAllSet cells) (IsChoice cells)
+choice-or-all cells None h = λ a some lt e. h a (some, lt, e)
+choice-or-all cells (Some a) h = h
 
 free-all : (n a : ℕ) → get_or (replicate n Free) a Free ≡ Free
 free-all n a =

@@ -4,6 +4,7 @@ pub mod Findings
 pub mod Trails
 pub mod Readings
 pub mod Visits
-pub mod Occurrences
+pub mod Lists
+pub mod Watches
 pub mod Analyses
 pub mod Turns

@@ -1,6 +1,6 @@
 -- What is read from the trail: of a literal, of a clause, of all clauses.
-use Rattle.std.specs.Prelude.{◌≡◌, ◌≢◌, ◌<◌, ℕ, List, Bool, true, false, length, Option, Some, None}
-use Rattle.std.specs.List.{All, Contains, slice_index_or}
+use Rattle.std.specs.Prelude.{◌≡◌, ◌≢◌, ℕ, List, Bool, true, false, Option, Some, None}
+use Rattle.std.specs.List.{Contains}
 use Rattle.sc_clauses.specs.declared.lit.Lit.{Lit}
 use Rattle.sc_clauses.specs.Clauses.{Clause, bool_eq, negation}
 use Rattle.sc_search.specs.declared.cell.Cell.{Cell}
@@ -9,8 +9,9 @@ use Rattle.sc_search.specs.declared.cell.Truth.{Truth}
 use Rattle.sc_search.specs.declared.cell.Truth.TheVariants as truth
 use Rattle.sc_search.specs.declared.propagation.Status.{Status}
 use Rattle.sc_search.specs.declared.propagation.Status.TheVariants as status
+use Rattle.sc_search.specs.declared.watches.Watch.{Watch}
 use Rattle.sc_search.specs.Steps.{At}
-use Rattle.sc_search.specs.Trails.{true_before, cell_of, IsQuiet}
+use Rattle.sc_search.specs.Trails.{true_before, cell_of}
 
 abbrev pub signed : Bool → Truth
 signed true = truth.True
@@ -33,8 +34,13 @@ AreFalse cells p c = (m : Lit) → Contains c m → true_before cells p (negatio
 abbrev pub IsUnitAt : List Cell → ℕ → Clause → Lit → Type 0
 IsUnitAt cells p c l = (Contains c l) × (cell_of cells l ≡ Free) × ((m : Lit) → Contains c m → m ≢ l → true_before cells p (negation m) ≡ true)
 
+-- two literals are open
+abbrev pub AreTwoOpen : List Cell → Clause → Watch → Type 0
+AreTwoOpen cells c w = (Contains c w.first) × (Contains c w.second) × (w.first ≢ w.second) × (cell_of cells w.first ≡ Free) × (cell_of cells w.second ≡ Free)
+
 abbrev pub HasStatus : List Cell → ℕ → Clause → Status → Type 0
-HasStatus cells p c status.Quiet = IsQuiet (true_before cells p) c
+HasStatus cells p c status.Satisfied = (y : Lit) × Contains c y × (true_before cells p y ≡ true)
+HasStatus cells p c (status.Open w) = AreTwoOpen cells c w
 HasStatus cells p c (status.Unit l) = IsUnitAt cells p c l
 HasStatus cells p c status.Falsified = AreFalse cells p c
 
@@ -45,11 +51,3 @@ IsSoFar cells p c (Some l) = IsUnitAt cells p c l
 
 abbrev pub IsFalsified : List Clause → List Cell → ℕ → ℕ → Type 0
 IsFalsified clauses cells p i = (c : Clause) × At clauses i c × AreFalse cells p c
-
--- the literals are false by the places before p
-abbrev pub AreBefore : List Cell → ℕ → Clause → Type 0
-AreBefore cells p c = All (λ m. true_before cells p (negation m) ≡ true) c
-
--- the clause is quiet where each level begins
-abbrev pub HasRoom : List Cell → List ℕ → Clause → Type 0
-HasRoom cells levels c = (k : ℕ) → k < length levels → IsQuiet (true_before cells (slice_index_or levels k 0)) c

@@ -87,13 +87,9 @@ AreInCells n clauses = (c : Clause) → Contains clauses c → AllInCells n c
 abbrev pub IsChoice : List Cell → ℕ → Type 0
 IsChoice cells a = (0 < a) × (a < length cells) × (slice_index_or cells a Free ≡ Free)
 
--- each atom below one has a value
-abbrev pub AreSetBelow : List Cell → ℕ → Type 0
-AreSetBelow cells end = (a : ℕ) → 0 < a → a < end → slice_index_or cells a Free ≢ Free
-
 -- each atom has a value
 abbrev pub AreAllSet : List Cell → Type 0
-AreAllSet cells = AreSetBelow cells (length cells)
+AreAllSet cells = (a : ℕ) → 0 < a → a < length cells → slice_index_or cells a Free ≢ Free
 
 abbrev pub one_if_free : Cell → ℕ
 one_if_free Free = 1

@@ -1,5 +1,7 @@
 -- What a turn of the search does.
-use Rattle.std.specs.Prelude.{◌≡◌, ◌≢◌, ◌+◌, ◌≤◌, ◌++◌, ℕ, List, [], ◌∷◌, Bool, not, length, Option, Some, None}
+use Rattle.std.specs.Prelude.{◌≡◌, ◌≢◌, ◌+◌, ◌<◌, ◌≤◌, ◌++◌, ℕ, List, [], ◌∷◌, Bool, not, length, Option, Some, None}
+use Rattle.std.specs.List.{Contains, slice_index_or}
+use Rattle.sc_clauses.specs.declared.lit.Lit.{Lit}
 use Rattle.sc_clauses.specs.declared.step.Instance as instance
 use Rattle.sc_clauses.specs.declared.step.Learned as learned
 use Rattle.sc_clauses.specs.declared.step.Step.{Step}
@@ -14,16 +16,30 @@ use Rattle.sc_search.specs.Propagation.{IsNew, HasConflict}
 use Rattle.sc_search.specs.Steps.{IsShown, IsLawful, after, added}
 use Rattle.sc_search.specs.Findings.{IsUnit, AreUnits, IsConsistent, IsDue}
 use Rattle.sc_search.specs.Trails.{true_before, AreQuiet, HoldsTrail, AreInCells, AreAllSet}
-use Rattle.sc_search.specs.Occurrences.{ListsAll}
 use Rattle.sc_search.specs.Readings.{IsFalsified}
-use Rattle.sc_search.specs.Visits.{AreSeenBut}
+use Rattle.sc_search.specs.Visits.{AreAlive, AreSeenBut, IsWellWatched}
+use Rattle.sc_search.specs.Watches.{AreOpen, IsWatched}
+use Rattle.sc_search.specs.declared.room.Room.{Room}
+use Rattle.sc_search.specs.declared.watches.Watch.{Watch}
 
--- the solver's clauses, their occurrences and the trail fit; it has n cells, the first of no atom
+-- the solver's clauses, what they watch and the trail fit; it has n cells, the first of no atom
 pub record IsReady (n : ℕ) (s : Solver) : Type 0 where
   pub in_cells : AreInCells n s.clauses.items
-  pub listed : ListsAll n s.clauses.items s.occurrences
+  pub watched : IsWellWatched n s.clauses.items s.trail s.watches
   pub trail : HoldsTrail n s.clauses.items s.trail
-  pub seen : AreSeenBut s.clauses.items s.trail s.pending
+  pub seen : AreSeenBut s.clauses.items s.trail s.watches s.pending
+
+-- two literals of a clause that aren't false before a place
+pub record IsOpenPair (cells : List Cell) (place : ℕ) (c : Clause) (w : Watch) : Type 0 where
+  pub first : Contains c w.first
+  pub second : Contains c w.second
+  pub neither_false : AreOpen (true_before cells place) (Some w)
+
+-- at most so many levels, each of which begins with two literals of the clause that aren't false
+pub record IsRoom (cells : List Cell) (levels : List ℕ) (c : Clause) (most : ℕ) (r : Room) : Type 0 where
+  pub within : r.level ≤ most
+  pub members : (l : Lit) → IsWatched r.watch l → Contains c l
+  pub open_at : (k : ℕ) → k < r.level → AreOpen (true_before cells (slice_index_or levels k 0)) r.watch
 
 -- the clauses and steps are as they were
 pub record IsKept (clauses : List Clause) (steps : List Step) (s : Solver) : Type 0 where
@@ -33,6 +49,7 @@ pub record IsKept (clauses : List Clause) (steps : List Step) (s : Solver) : Typ
 -- each atom has a value, and no clause gives a literal or is falsified
 pub record IsTotal (s : Solver) : Type 0 where
   pub quiet : AreQuiet (true_before s.trail.cells.items (length s.trail.lits.items)) s.clauses.items
+  pub alive : AreAlive s.clauses.items s.trail s.watches
   pub full : AreAllSet s.trail.cells.items
 
 -- a falsified clause, or values of all atoms

@@ -19,6 +19,8 @@ use std::alloc::{AllocError, Global};
 pub(crate) struct Analysis {
     /// Which atoms, by their numbers.
     pub met: Vec<bool>,
+    /// The same atoms in a list, of which nothing is promised.
+    pub atoms: Vec<usize>,
     /// The literals that were false before the level.
     pub lower: Vec<Lit>,
     /// How many of the level are still to be resolved. It only says when it is worth to look whether one is left.
@@ -35,6 +37,7 @@ impl Analysis {
     {
         Ok(Analysis {
             met: Vec::from_elem(alloc, false, cells)?,
+            atoms: Vec::new(alloc),
             lower: Vec::new(alloc),
             left: 0,
             hints: Vec::new(alloc),
@@ -51,8 +54,8 @@ pub(crate) struct Resolvent {
     pub uip: Lit,
     /// The numbers of the clauses that show it, in the order in which they are followed.
     pub hints: Vec<u64>,
-    /// Which atoms were met.
-    pub met: Vec<bool>,
+    /// The atoms that were met.
+    pub met: Vec<usize>,
 }
 
 /// The number of the clause at a place.
@@ -81,6 +84,7 @@ impl Trail {
             return Ok(());
         }
         analysis.met[lit.atom as usize] = true;
+        analysis.atoms.push(lit.atom as usize)?;
         if !self.is_true_before(negation(lit), first) {
             analysis.left = analysis.left.saturating_add(1);
             return Ok(());
@@ -261,7 +265,7 @@ impl Trail {
         let mut analysis = self.begin(alloc, clauses, conflict, first)?;
         let place = self.walk(clauses, &mut analysis, first)?;
         let Analysis {
-            met,
+            atoms: met,
             lower,
             mut hints,
             ..

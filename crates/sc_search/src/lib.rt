@@ -5,16 +5,20 @@
 //! unit propagation over the clauses before it, so none is spent on what was known.
 #![tactic(auto)]
 
-mod activity;
 mod analysis;
-mod backjumping;
 mod cell;
-mod occurrences;
+mod heap;
+mod lists;
+mod order;
+mod places;
 mod propagation;
+mod restarts;
+mod room;
 mod searching;
 mod solver;
 mod source;
 mod trail;
+mod watches;
 
 pub use searching::{Found, search};
 pub use source::Source;

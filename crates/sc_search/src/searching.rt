@@ -141,7 +141,8 @@ impl Solver {
         }
         let clause = source.clause(&instance)?;
         let is_empty = clause.is_empty();
-        self.install(clause, Step::Instance(instance))?;
+        let most = self.trail.levels.len();
+        self.attach(clause, Step::Instance(instance), most)?;
         if is_empty {
             return Ok(Turn::Refuted);
         }

@@ -1,17 +1,17 @@
 //! The state of a search, and the steps that it logs.
 ghost use Rattle.std.specs.Prelude.{◌≡◌, ◌≢◌, ◌↔◌, ◌+◌, ◌-◌, ◌^◌, ◌<◌, ◌≤◌, ◌++◌, [], ◌∷◌, ℕ, length, map, drop, slice_index_or, IfOk, IsTrue};
-ghost use Rattle.sc_search.specs.Occurrences.{ListsAll};
 ghost use Rattle.sc_search.specs.Readings.{IsFalsified};
 ghost use Rattle.sc_search.specs.Trails.{AllInCells, AreInCells, HoldsTrail};
-ghost use Rattle.sc_search.specs.Visits.{AreSeenBut};
+ghost use Rattle.sc_search.specs.Visits.{AreAlive, AreSeenBut, IsWellWatched};
 ghost use Rattle.sc_search.specs.Turns.{IsReady, IsKept, IsAtRest, HasLearned, HasRefuted, HasSettled, cell_value};
 
-use crate::activity::Activity;
 use crate::analysis::Resolvent;
 use crate::cell::{Cell, value_of};
-use crate::occurrences::Occurrences;
+use crate::order::Order;
 use crate::propagation::Pending;
+use crate::restarts::Restarts;
 use crate::trail::Trail;
+use crate::watches::Watches;
 use sc_clauses::{Assignment, Clause, Learned, Lit, Step, negation};
 use sc_lists::Seq;
 use std::alloc::{AllocError, Global};
@@ -34,10 +34,11 @@ pub(crate) enum Turn {
 pub(crate) struct Solver {
     pub clauses: Vec<Clause>,
     pub steps: Vec<Step>,
-    pub occurrences: Occurrences,
+    pub watches: Watches,
     pub trail: Trail,
     pub pending: Pending,
-    pub activity: Activity,
+    pub order: Order,
+    pub restarts: Restarts,
 }
 
 /// A copy of a clause.
@@ -74,23 +75,24 @@ impl Solver {
         requires few_atoms { atoms < 10 ^ 18 }
         requires in_cells { AreInCells (atoms + 1) clauses }
         ensures count { IfOk result (λ s. length s.trail.cells.items ≡ atoms + 1) }
-        ensures listed { IfOk result (λ s. ListsAll (atoms + 1) clauses s.occurrences) }
+        ensures watched { IfOk result (λ s. IsWellWatched (atoms + 1) clauses s.trail s.watches) }
         ensures trail { IfOk result (λ s. HoldsTrail (atoms + 1) clauses s.trail) }
-        ensures seen { IfOk result (λ s. AreSeenBut clauses s.trail s.pending) }
+        ensures seen { IfOk result (λ s. AreSeenBut clauses s.trail s.watches s.pending) }
         ensures clauses { IfOk result (λ s. s.clauses.items ≡ clauses) }
         ensures steps { IfOk result (λ s. s.steps.items ≡ []) }
     {
         let cells = atoms as usize + 1;
-        let occurrences = Occurrences::of(alloc, cells, clauses.as_slice())?;
+        let watches = Watches::new(alloc, cells, clauses.len())?;
         let trail = Trail::new(alloc, cells)?;
-        let activity = Activity::new(alloc, cells)?;
+        let order = Order::new(alloc, cells)?;
         Ok(Solver {
             clauses: clauses.into_vec(),
             steps: Vec::new(alloc),
-            occurrences,
+            watches,
             trail,
             pending: Pending::Each,
-            activity,
+            order,
+            restarts: Restarts::new(),
         })
     }
 
@@ -120,18 +122,20 @@ impl Solver {
         'moves: loop {
             let conflict = self
                 .trail
-                .propagate(&self.clauses, &self.occurrences, self.pending)?;
+                .propagate(&self.clauses, &mut self.watches, self.pending)?;
             if let Some(conflict) = conflict {
+                self.pending = Pending::Each;
                 return Ok(Some(conflict));
             }
             let place = self.trail.lits.len();
             self.pending = Pending::From(place);
-            let Some(atom) = self.trail.choose(&self.activity) else {
+            let Some(atom) = self.trail.choose(&mut self.order) else {
                 return Ok(None);
             };
+            let negated = self.order.is_negated(atom, self.restarts.keeps_phases);
             self.trail.decide(Lit {
                 atom: atom as u64,
-                negated: true,
+                negated,
             })?;
         }
     }
@@ -143,7 +147,7 @@ impl Solver {
         self.steps.len() as u64 == budget
     }
 
-    /// Logs the clause that a falsified one shows, goes back, and makes true what it gives.
+    /// Logs the clause that a falsified one shows, and goes back.
     fn learn(&mut self, alloc: Global, conflict: usize) -> Result<(), AllocError>
         requires ready { IsReady (length self.old.trail.cells.items) self.old }
         requires falsified { IsFalsified self.old.clauses.items self.old.trail.cells.items
@@ -161,23 +165,16 @@ impl Solver {
             hints,
             met,
         } = self.trail.analyse(alloc, &self.clauses, conflict, first)?;
-        self.activity.raise(&met);
-        let level = self.trail.backjump_level(&lower);
-        let given = negation(uip);
+        self.order.raise(&met);
         let mut lits = lower;
-        lits.push(given)?;
+        lits.push(negation(uip))?;
         let clause = copy_of(alloc, &lits)?;
-        self.trail.backtrack(&self.clauses, level);
-        let reason = self.clauses.len();
-        self.occurrences.add(reason, clause.as_slice())?;
-        self.clauses.push(clause)?;
-        self.steps.push(Step::Learned(Learned {
+        let step = Step::Learned(Learned {
             clause: Seq::from_vec(lits),
             hints: Seq::from_vec(hints),
-        }))?;
-        let place = self.trail.lits.len();
-        self.pending = Pending::From(place);
-        self.trail.imply(given, reason)?;
+        });
+        let most = self.restarts.most_levels(self.trail.levels.len() - 1);
+        self.attach(clause, step, most)?;
         Ok(())
     }
 
@@ -224,18 +221,23 @@ impl Solver {
         Ok(Turn::Added)
     }
 
-    /// Logs a step with its clause, and goes back as far as the clause needs.
-    pub fn install(&mut self, clause: Clause, step: Step) -> Result<(), AllocError>
+    /// Logs a step with its clause, and leaves as many levels as the clause has room for, up to so many.
+    pub fn attach(&mut self, clause: Clause, step: Step, most: usize) -> Result<(), AllocError>
         requires ready { IsReady (length self.old.trail.cells.items) self.old }
         requires in_cells { AllInCells (length self.old.trail.cells.items) clause }
+        requires most { most ≤ length self.old.trail.levels.items }
+        requires alive { most ≡ length self.old.trail.levels.items
+            → AreAlive self.old.clauses.items self.old.trail self.old.watches }
         ensures ready { IfOk result (λ _. IsReady (length self.old.trail.cells.items) self.new) }
         ensures clauses { IfOk result (λ _. self.new.clauses.items ≡ self.old.clauses.items ++ clause ∷ []) }
         ensures steps { IfOk result (λ _. self.new.steps.items ≡ self.old.steps.items ++ step ∷ []) }
     {
-        self.trail.make_room(&self.clauses, clause.as_slice());
-        self.pending = Pending::Each;
+        let room = self.trail.room(clause.as_slice(), most);
+        self.trail
+            .go_back(&self.clauses, &mut self.order, room.level);
+        self.watches.add(room.watch)?;
         let place = self.clauses.len();
-        self.occurrences.add(place, clause.as_slice())?;
+        self.pending = Pending::One(place);
         self.clauses.push(clause)?;
         self.steps.push(step)?;
         Ok(())

@@ -5,6 +5,7 @@ ghost use Rattle.sc_search.specs.Readings.{HasTruth};
 ghost use Rattle.sc_search.specs.Trails.{Agree, HoldsTrail, true_before};
 
 use crate::cell::{Cell, Truth, is_set_before, truth_of};
+use crate::order::Order;
 use sc_clauses::{Clause, Lit};
 use std::alloc::{AllocError, Global};
 
@@ -107,8 +108,8 @@ impl Trail {
         lit
     }
 
-    /// Takes back a level and those after it.
-    pub fn backtrack(&mut self, clauses: &[Clause], level: usize)
+    /// Takes back a level and those after it, and their atoms into the order.
+    pub fn backtrack(&mut self, clauses: &[Clause], order: &mut Order, level: usize)
         requires within { level < length self.old.levels.items }
         requires trail { HoldsTrail (length self.old.cells.items) clauses.now self.old }
         ensures trail { HoldsTrail (length self.old.cells.items) clauses.now self.new }
@@ -120,7 +121,8 @@ impl Trail {
         let place = self.levels[level];
         self.levels.truncate(level);
         'back: while self.lits.len() > place {
-            let _taken = self.pop();
+            let taken = self.pop();
+            order.put_back(taken);
         }
     }
 }

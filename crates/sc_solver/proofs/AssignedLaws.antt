@@ -6,7 +6,7 @@ use Rattle.sc_lists.proofs.MemberLaws.{Has-left, Has-right, Has-flat_map, Contai
 use Rattle.sc_lists.specs.Members.{Has}
 use Rattle.sc_clauses.specs.declared.lit.Lit.{Lit}
 use Rattle.sc_clauses.specs.Assignments.{Assignment, value_of, falsifies}
-use Rattle.sc_clauses.specs.Clauses.{Clause, bool_eq, negation, positive, holds, clause_holds}
+use Rattle.sc_clauses.specs.Clauses.{Clause, bool_eq, positive, holds}
 use Rattle.sc_clauses.proofs.LitLaws.{holds_negation}
 use Rattle.sc_nodes.specs.declared.node.Leaf.TheVariants.{Literal}
 use Rattle.sc_nodes.specs.declared.node.Literal.TheVariants.{Bool as bool}
@@ -18,6 +18,7 @@ use Rattle.sc_rules.proofs.MemberLaws.{filter_kept}
 use Rattle.sc_footprint.specs.Problems.{Posed, IsPosed, closed_terms, atoms, atom_number, literal, literal_in, goal_literal}
 use Rattle.sc_footprint.specs.Definitions.{is_tautology, definition_clauses, address_clauses, is_address, defining}
 use Rattle.sc_footprint.specs.Theories.{IsClauseOf}
+use Rattle.sc_footprint.proofs.TruthLaws.{holds_positive}
 use Rattle.sc_instances.proofs.LiteralLaws.{literal_truth}
 use Rattle.sc_instances.proofs.LiteralLaws as literals
 use Rattle.sc_rebuilding.specs.Assignments.{lit}
@@ -28,13 +29,6 @@ use Rattle.sc_solver.proofs.NumberLaws.{atom_there}
 some_value : (o : Option Bool) → IsSome o → o ≡ Some (unwrap_or o false)
 some_value None h = absurd cc
 some_value (Some b) h = refl
-
-pub positive_holds : (v : ℕ → Bool) (n : ℕ) → holds v (positive n) ≡ v n
-positive_holds v n = by (v n)
-  where
-    by : (b : Bool) → bool_eq b true ≡ b
-    by true = refl
-    by false = refl
 
 -- no literal is its negation
 unit_plain : (l : Lit) → is_tautology (l ∷ []) ≡ false
@@ -88,18 +82,18 @@ module _ (p : Posed) (posed : IsPosed p) (lawful : (c : Clause) → Contains (de
 
   first_true : valued_in m 1 ≡ true
   first_true =
-      sym (positive_holds (valued_in m) 1) ∙ ap (holds (valued_in m)) (sym (literal_truth p posed true))
+      sym (holds_positive (valued_in m) 1) ∙ ap (holds (valued_in m)) (sym (literal_truth p posed true))
       ∙ unit_true (literal_in p (truth_term true)) (first_there p posed)
 
   -- the literal of any term has the truth that is assigned to the term
   pub literal_told : (t : Tree) → holds (valued_in m) (literal_in p t) ≡ lit (truth_in p m) t
   unfolding literal lit
   literal_told (leaf (Literal (bool true))) =
-      ap (holds (valued_in m)) (literal_truth p posed true) ∙ positive_holds (valued_in m) 1 ∙ first_true
+      ap (holds (valued_in m)) (literal_truth p posed true) ∙ holds_positive (valued_in m) 1 ∙ first_true
   literal_told (leaf (Literal (bool false))) =
-      holds_negation (valued_in m) (positive 1) ∙ ap not (positive_holds (valued_in m) 1 ∙ first_true)
+      holds_negation (valued_in m) (positive 1) ∙ ap not (holds_positive (valued_in m) 1 ∙ first_true)
   literal_told (one Not a) = holds_negation (valued_in m) (literal_in p a) ∙ ap not (literal_told a)
-  literal_told t = positive_holds (valued_in m) (atom_number p t)
+  literal_told t = holds_positive (valued_in m) (atom_number p t)
 
   pub goal_told : holds (valued_in m) (goal_literal p) ≡ true
   goal_told = unit_true (goal_literal p) (goal_there p)

@@ -37,7 +37,7 @@ use Rattle.sc_footprint.specs.Problems.{Posed, IsPosed, goal_term, closed_terms,
 use Rattle.sc_footprint.specs.Theories.{IsClauseOf}
 use Rattle.sc_footprint.specs.Truths.{is_true_at, truths, IsWorldOf, Satisfies}
 use Rattle.sc_footprint.proofs.NumberingLaws.{within_count}
-use Rattle.sc_footprint.proofs.TruthLaws.{bool_sort}
+use Rattle.sc_footprint.proofs.TruthLaws.{bool_sort, holds_positive}
 use Rattle.sc_instances.proofs.LiteralLaws.{IsLiteral, of_false, of_not, of_atom, literal_is}
 use Rattle.sc_rebuilding.specs.Assignments.{lit}
 use Rattle.sc_rebuilding.specs.Laws.{TruthsAreRight, PlainIsCovered}
@@ -47,7 +47,7 @@ use Rattle.sc_models.specs.Models.{truth_in, model}
 use Rattle.sc_rebuilt_worlds.specs.Laws.{AreTexts, CanBeRebuilt, RebuiltHoldsModel}
 use Rattle.sc_rebuilt_worlds.specs.Rebuilt.{request_of, given_of, IsRebuilt}
 use Rattle.sc_solver.specs.Rebuilding.{IsConsistent, HasTruths}
-use Rattle.sc_solver.proofs.AssignedLaws.{valued_in, valued, positive_holds, literal_told, goal_told}
+use Rattle.sc_solver.proofs.AssignedLaws.{valued_in, valued, literal_told, goal_told}
 use Rattle.sc_solver.proofs.NumberLaws.{atom_there, number_is}
 
 -- ---- names are texts
@@ -145,7 +145,7 @@ module _ (laws : WorldLaws) (p : Posed) (posed : IsPosed p) (lawful : (c : Claus
         atom_literal (atom_number p) t (literal_in p t) (literal_is (atom_number p) t) (not_true (is_opposite t) (sym upright))
         ∙ ap positive (number_is p posed n t e) in
         let value : is_true t w ≡ valued_in m n =
-        told t closed (bool_sort t bool) plain ∙ ap (holds (valued_in m)) literal_is_number ∙ positive_holds (valued_in m) n in
+        told t closed (bool_sort t bool) plain ∙ ap (holds (valued_in m)) literal_is_number ∙ holds_positive (valued_in m) n in
         valued p posed lawful m is.total is.defined n (omega (arith, least)) most
         ∙ ap Some (sym value ∙ sym (ap (λ (o : Option Tree). is_true_at o w) e))
 

@@ -1,7 +1,8 @@
 -- The texts of a table are those of their signs.
-use Rattle.std.proofs.Common.{◌≡◌, ◌⊎◌, ◌++◌, inl, inr, ℕ, Bool, true, false, cond, List, [], ◌∷◌, map, Option, Some, None, unwrap_or, is_some, refl, sym, ap, ◌∙◌, subst}
+use Rattle.std.proofs.Common.{◌≡◌, ◌++◌, inl, inr, ℕ, Bool, true, false, cond, List, [], ◌∷◌, map, Some, None, unwrap_or, is_some, refl, sym, ap, subst}
 use Rattle.std.specs.Str.{chars}
 use Rattle.sc_clauses.specs.Clauses.{bool_eq}
+use Rattle.sc_clauses.proofs.LitLaws.{bool_eq-true}
 use Rattle.sc_languages.specs.Strings.{AreStrings}
 use Rattle.sc_lists.proofs.BoolLaws.{and_first, and_second}
 use Rattle.sc_lists.proofs.ListLaws.{all_append}
@@ -12,16 +13,10 @@ use Rattle.sc_rebuilding.specs.Assignments.{Assignment}
 use Rattle.sc_rebuilding.specs.Names.{Name, signs_of}
 use Rattle.sc_string_names.specs.Tables.{Table, same_signs, texts_at, texts_in, AreFound, IsEntered, AreEntered}
 
-same_sign_true : (b c : Bool) → bool_eq b c ≡ true → b ≡ c
-same_sign_true true true e = refl
-same_sign_true false false e = refl
-same_sign_true true false e = absurd cc
-same_sign_true false true e = absurd cc
-
 same_signs_true : (v w : List Bool) → same_signs v w ≡ true → v ≡ w
 same_signs_true [] [] e = refl
 same_signs_true (b ∷ v) (c ∷ w) e =
-    let sign : b ≡ c = same_sign_true b c (and_first (bool_eq b c) (same_signs v w) e) in
+    let sign : b ≡ c = bool_eq-true b c (and_first (bool_eq b c) (same_signs v w) e) in
     let rest : v ≡ w = same_signs_true v w (and_second (bool_eq b c) (same_signs v w) e) in
     λ i. sign i ∷ rest i
 same_signs_true [] (c ∷ w) e = absurd cc

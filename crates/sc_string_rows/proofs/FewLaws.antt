@@ -6,7 +6,7 @@ use Rattle.std.proofs.lemmas.List.{length-append, length-map}
 use Rattle.std.specs.List.{AllByRecursion}
 use Rattle.sc_lists.specs.Members.{Has}
 use Rattle.sc_lists.proofs.ListLaws.{all_append, all_weaker}
-use Rattle.sc_lists.proofs.MemberLaws.{Has-append}
+use Rattle.sc_lists.proofs.MemberLaws.{Has-append, AllByRecursion-Has, Has-AllByRecursion}
 use Rattle.sc_pattern.specs.Language.{IsMatch}
 use Rattle.sc_languages.specs.Strings.{IsText, AreDistinct, Obeys, AreStrings}
 use Rattle.sc_violated.specs.Crowds.{IsWithin}
@@ -67,11 +67,6 @@ sign_at (q ∷ qs) [] p s text i j h = absurd (omega (arith, j))
 sign_at (q ∷ qs) (a ∷ v) zero s text i j h = h.0
 sign_at (q ∷ qs) (a ∷ v) (suc p) s text i j h = sign_at qs v p s text (omega (arith, i)) (omega (arith, j)) h.1
 
-all_has : {X : Type 0} (P : X → Type 0) (xs : List X) (x : X) → AllByRecursion P xs → Has xs x → P x
-all_has P [] x h k = absurd k
-all_has P (y ∷ ys) x h (inl e) = subst P e h.0
-all_has P (y ∷ ys) x h (inr k) = all_has P ys x h.1 k
-
 -- lists with no common element, joined
 distinct_append : {X : Type 0} (xs ys : List X) → AreDistinct xs → AreDistinct ys → ((x : X) → Has xs x → Has ys x → ⊥) → AreDistinct (xs ++ ys)
 distinct_append [] ys h k apart = k
@@ -101,7 +96,7 @@ module _ (qs : List Pattern) (v : Signs) (p : ℕ) (size : length v ≡ length q
       by : n ≤ length others → (texts : List (List ℕ)) → AreDistinct texts → AllByRecursion (With true) texts → length texts < m
       by more texts apart have =
           let all : length (texts ++ others) < m + n
-          = few (texts ++ others) (distinct_append texts others apart distinct (λ text i j. both text (all_has (With true) texts text have i) (all_has (With false) others text fit j)))
+          = few (texts ++ others) (distinct_append texts others apart distinct (λ text i j. both text (AllByRecursion-Has (With true) texts text have i) (AllByRecursion-Has (With false) others text fit j)))
           (all_append (Fits qs v) texts others (without true texts have) (without false others fit)) in
           omega (arith, all, more, length-append texts others)
 
@@ -148,22 +143,18 @@ obey_signs (q ∷ qs) [] text h = tt
 obey_signs (q ∷ qs) (Some s ∷ v) text h = (h.0, obey_signs qs v text h.1)
 obey_signs (q ∷ qs) (None ∷ v) text h = (tt, obey_signs qs v text h)
 
-all_of_has : {X : Type 0} (P : X → Type 0) (xs : List X) → ((x : X) → Has xs x → P x) → AllByRecursion P xs
-all_of_has P [] h = tt
-all_of_has P (x ∷ xs) h = (h x (inl refl), all_of_has P xs (λ z k. h z (inr k)))
-
 -- where there are fewer, distinct texts with the signs are fewer
 pub enough_of : (qs : List Pattern) (v : Signs) (n : ℕ) (texts : List (List ℕ)) → AreDistinct texts → ((text : List ℕ) → Has texts text → IsText text) → ((text : List ℕ) → Has texts text → Obeys (asked_patterns qs v) (asked_signs v) text)
     → AreFew qs v n → length texts < n
 unfolding AreFew
-enough_of qs v n texts distinct are obey few = few texts distinct (all_of_has (Fits qs v) texts (λ text k. (are text k, obey_signs qs v text (obey text k))))
+enough_of qs v n texts distinct are obey few = few texts distinct (Has-AllByRecursion (Fits qs v) texts (λ text k. (are text k, obey_signs qs v text (obey text k))))
 
 module _ (qs : List Pattern) (v : Signs) (n : ℕ) (texts : List (List ℕ)) (found : AreStrings (asked_patterns qs v) (asked_signs v) n texts) where
   -- where fewer are found there are fewer
   pub few_found : length texts < n → AreFew qs v n
   unfolding AreFew
   few_found less others distinct fit =
-      let within = distinct_within others texts distinct (λ text k. let f = all_has (Fits qs v) others text fit k in found.all less text f.0 (signs_obey qs v text f.1)) in
+      let within = distinct_within others texts distinct (λ text k. let f = AllByRecursion-Has (Fits qs v) others text fit k in found.all less text f.0 (signs_obey qs v text f.1)) in
       omega (arith, less, within)
 
   -- where there are fewer, fewer are found

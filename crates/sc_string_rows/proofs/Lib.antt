@@ -1,8 +1,8 @@
 pub mod FewLaws
 mod PlentyLaws
 mod PatternLaws
-mod NameLaws
+pub mod NameLaws
 mod SaidLaws
 mod ClauseLaws
-mod RulesHold
+pub mod RulesHold
 pub mod InstanceLaws

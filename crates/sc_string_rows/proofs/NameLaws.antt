@@ -1,23 +1,22 @@
 -- What is written is read again, and an instance that names a rule has a text that a log can hold.
-use Rattle.std.proofs.Common.{◌≡◌, ◌&&◌, ℕ, Bool, true, false, List, [], ◌∷◌, map, codes, Option, Some, None, cond, refl, sym, ap, ◌∙◌, subst}
+use Rattle.std.proofs.Common.{◌≡◌, ◌&&◌, ℕ, Bool, true, false, List, [], ◌∷◌, map, codes, Option, Some, None, cond, refl, ap, ◌∙◌}
 use Rattle.std.specs.List.{list_all}
-use Rattle.std.specs.Str.{bytes_eq}
-use Rattle.sc_lists.proofs.TextLaws.{bytes_eq_true}
 use Rattle.sc_clauses.specs.declared.step.Instance.{Instance}
 use Rattle.sc_clauses.specs.declared.step.Word.{Word}
 use Rattle.sc_clauses.specs.declared.step.Word.TheVariants.{Number, Signs as Signed}
 use Rattle.sc_footprint.specs.Written.{is_word, is_rule_word}
 use Rattle.sc_rules.specs.Strings.{Signs}
+use Rattle.sc_instances.proofs.NameLaws.{one_word, last_word}
 use Rattle.sc_string_rows.specs.declared.rule.StringRule.{StringRule}
 use Rattle.sc_string_rows.specs.Names.{is_numeral, number_in, three_numbers, matched, plain_named, counted_named, counted_if, string_named, string_rule}
 
 -- ---- numbers as words are those numbers
 
-all_numerals : (ns : List ℕ) → list_all is_numeral (map Number ns) ≡ true
+pub all_numerals : (ns : List ℕ) → list_all is_numeral (map Number ns) ≡ true
 all_numerals [] = refl
 all_numerals (n ∷ ns) = all_numerals ns
 
-numbers_back : (ns : List ℕ) → map number_in (map Number ns) ≡ ns
+pub numbers_back : (ns : List ℕ) → map number_in (map Number ns) ≡ ns
 numbers_back [] = refl
 numbers_back (n ∷ ns) = ap (λ (ms : List ℕ). n ∷ ms) (numbers_back ns)
 
@@ -36,16 +35,8 @@ counted_back word v ns ws o e h =
 
 -- ---- texts
 
--- a rule that has one word, or is another's
-one_word : (rule word : List ℕ) (x r : StringRule) (rest : Option StringRule) → is_rule_word word ≡ true → (rest ≡ Some r → is_rule_word rule ≡ true) → cond (bytes_eq rule word) (Some x) rest ≡ Some r → is_rule_word rule ≡ true
-one_word rule word x r rest plain others = by (bytes_eq rule word) refl
-  where
-    by : (b : Bool) → bytes_eq rule word ≡ b → cond b (Some x) rest ≡ Some r → is_rule_word rule ≡ true
-    by true e h = subst (λ (w : List ℕ). is_rule_word w ≡ true) (sym (bytes_eq_true rule word e)) plain
-    by false e h = others h
-
 counted_word : (rule : List ℕ) (v : Signs) (ns : List ℕ) (r : StringRule) → counted_named rule v ns ≡ Some r → is_rule_word rule ≡ true
-counted_word rule v ns r = one_word rule (codes "ST2") _ r _ refl (one_word rule (codes "ST3") _ r None refl (λ e. absurd cc))
+counted_word rule v ns r = one_word rule (codes "ST2") _ r _ refl (last_word rule (codes "ST3") _ r refl)
 
 if_word : (rule : List ℕ) (v : Signs) (ws : List Word) (r : StringRule) → counted_if rule v ws ≡ Some r → is_rule_word rule ≡ true
 if_word rule v ws r = by (list_all is_numeral ws)
@@ -55,7 +46,7 @@ if_word rule v ws r = by (list_all is_numeral ws)
     by false = λ e. absurd cc
 
 plain_word : (rule : List ℕ) (o : Option (ℕ × ℕ × ℕ)) (r : StringRule) → plain_named rule o ≡ Some r → is_rule_word rule ≡ true
-plain_word rule (Some (a, b, c)) r = one_word rule (codes "ST1") _ r None refl (λ e. absurd cc)
+plain_word rule (Some (a, b, c)) r = last_word rule (codes "ST1") _ r refl
 plain_word rule None r = λ e. absurd cc
 
 named_word : (rule : List ℕ) (ws : List Word) (r : StringRule) → string_named rule ws ≡ Some r → is_rule_word rule ≡ true

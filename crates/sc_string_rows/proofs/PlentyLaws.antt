@@ -1,15 +1,15 @@
 -- Characters that no pattern names may stand for each other, so that of one text there are many.
-use Rattle.std.proofs.Common.{◌≡◌, ◌≢◌, ◌↔◌, ◌<◌, ◌≤◌, ◌+◌, ◌||◌, ◌==◌, ℕ, zero, suc, Bool, true, false, not, cond, IsTrue, List, [], ◌∷◌, ◌++◌, map, filter, length, nat_eq, inl, inr, refl, sym, ap, ◌∙◌, subst, arith}
+use Rattle.std.proofs.Common.{◌≡◌, ◌≢◌, ◌↔◌, ◌<◌, ◌≤◌, ◌+◌, ◌==◌, ℕ, zero, suc, Bool, true, false, not, cond, IsTrue, List, [], ◌∷◌, ◌++◌, map, filter, length, nat_eq, inl, inr, refl, sym, ap, ◌∙◌, subst, arith}
 use Rattle.std.proofs.Math.Utf8.{low_scalar}
-use Rattle.std.proofs.lemmas.Bool.{eqb-true, eqb-false}
 use Rattle.std.proofs.lemmas.Bool.Decides.{nat_tests}
 use Rattle.std.proofs.lemmas.List.{length-map}
 use Rattle.std.specs.Bool.{MatchBool}
 use Rattle.std.specs.Char.{IsScalar}
 use Rattle.std.specs.List.{list_any}
-use Rattle.sc_lists.proofs.MemberLaws.{Has-left, Has-right, map-Has}
+use Rattle.sc_lists.proofs.MemberLaws.{Has-left, Has-right, map-Has, list_any-Has}
 use Rattle.sc_lists.proofs.NumberLaws.{nat_eq_true, eqb_false}
 use Rattle.sc_lists.specs.Members.{Has}
+use Rattle.sc_lists.proofs.BoolLaws.{not_is_true}
 use Rattle.sc_pattern.proofs.TestLaws.{is_match_decides}
 use Rattle.sc_pattern.specs.Language.{IsMatch, is_match, is_end, somewhere}
 use Rattle.sc_pattern.specs.declared.part.Part.TheVariants.{Star, Char}
@@ -19,17 +19,6 @@ use Rattle.sc_rules.specs.Strings.{Pattern, Signs, AreFew}
 use Rattle.sc_string_rows.specs.Plenty.{pattern_letters, letters_of, having, HasOther, AreMany}
 use Rattle.sc_string_rows.specs.Texts.{asked_patterns, asked_signs}
 use Rattle.sc_string_rows.proofs.FewLaws.{distinct_within, enough_of}
-
--- ---- whether a character is among some
-
-has_step : (t : Bool) (xs : List ℕ) (x c : ℕ) (b : Bool) → nat_eq x c ≡ t → MatchBool b (Has xs c) (¬ (Has xs c)) → MatchBool (t || b) (Has (x ∷ xs) c) (¬ (Has (x ∷ xs) c))
-has_step true xs x c b is h = inl (eqb-true x c is)
-has_step false xs x c true is h = inr h
-has_step false xs x c false is h = λ has. elim has [ inl e ↦ eqb-false x c is e | inr k ↦ h k ]
-
-pub among : (xs : List ℕ) (c : ℕ) → MatchBool (list_any (λ y. nat_eq y c) xs) (Has xs c) (¬ (Has xs c))
-among [] c = λ h. h
-among (x ∷ xs) c = has_step (nat_eq x c) xs x c (list_any (λ y. nat_eq y c) xs) refl (among xs c)
 
 -- ---- a character in place of another
 
@@ -135,10 +124,10 @@ abbrev named : List ℕ → ℕ → Bool
 named letters c = list_any (λ y. nat_eq y c) letters
 
 named_has : (letters : List ℕ) (c : ℕ) → named letters c ≡ true → Has letters c
-named_has letters c e = subst (λ (b : Bool). MatchBool b (Has letters c) (¬ (Has letters c))) e (among letters c)
+named_has letters c e = subst (λ (b : Bool). MatchBool b (Has letters c) (¬ (Has letters c))) e (list_any-Has letters c)
 
 unnamed_has : (letters : List ℕ) (c : ℕ) → named letters c ≡ false → ¬ (Has letters c)
-unnamed_has letters c e = subst (λ (b : Bool). MatchBool b (Has letters c) (¬ (Has letters c))) e (among letters c)
+unnamed_has letters c e = subst (λ (b : Bool). MatchBool b (Has letters c) (¬ (Has letters c))) e (list_any-Has letters c)
 
 -- the first n characters, without those that are named
 abbrev others : List ℕ → ℕ → List ℕ
@@ -150,10 +139,6 @@ others_enough letters n =
     let size = below_length n in
     let few = distinct_within (filter (named letters) (below n)) letters (filter_distinct (named letters) (below n) (below_distinct n)) (λ c h. named_has letters c (filter_passes (named letters) (below n) c h)) in
     omega (arith, whole, size, few)
-
-not_false : (b : Bool) → not b ≡ true → b ≡ false
-not_false true e = absurd cc
-not_false false e = refl
 
 distinct_map : {X Y : Type 0} (f : X → Y) (xs : List X) → ((x y : X) → f x ≡ f y → x ≡ y) → AreDistinct xs → AreDistinct (map f xs)
 distinct_map f [] apart h = tt
@@ -180,7 +165,7 @@ module _ (qs : List Pattern) (signs : List Bool) (c count : ℕ) where
             );
         obey = λ text h. (
             let (d, d_in, is) = map-Has (with_other one.text) (others (letters_of qs) n) text h in
-            let free = unnamed_has (letters_of qs) d (not_false (named (letters_of qs) d) (filter_passes (λ e. not (named (letters_of qs) e)) (below n) d d_in)) in
+            let free = unnamed_has (letters_of qs) d (not_is_true (named (letters_of qs) d) (filter_passes (λ e. not (named (letters_of qs) e)) (below n) d d_in)) in
             subst (Obeys qs signs) is (obeys_moved c d qs signs one.text unnamed free one.obeys)
             );
         enough = omega (arith, enough, size);

@@ -1,18 +1,16 @@
 -- What an instance says holds in every well-formed world of its problem: the rules' laws at closed terms.
-use Rattle.std.proofs.Common.{◌≡◌, ◌-◌, ◌==◌, ℕ, suc, Bool, true, false, List, [], ◌∷◌, length, slice_get, Option, Some, None, cond, Contains, refl, sym, ap, ◌∙◌, subst}
+use Rattle.std.proofs.Common.{◌≡◌, ℕ, suc, List, [], ◌∷◌, length, Option, Some, None, refl, sym, ap, ◌∙◌, subst}
 use Rattle.std.proofs.lemmas.List.Elements.{All-from_recursion}
 use Rattle.std.specs.List.{AllByRecursion}
-use Rattle.sc_lists.proofs.ListLaws.{contains_place}
 use Rattle.sc_world.specs.declared.world.World.{World}
-use Rattle.sc_terms.specs.Tables.{tree}
 use Rattle.sc_terms.specs.Trees.{Tree}
 use Rattle.sc_term_laws.specs.Judging.{IsTerm}
-use Rattle.sc_footprint.specs.Problems.{Posed, IsPosed, closed_terms, term_of}
+use Rattle.sc_footprint.specs.Problems.{Posed, IsPosed, term_of}
 use Rattle.sc_footprint.specs.Theories.{TermsHold}
 use Rattle.sc_footprint.specs.Truths.{IsWorldOf}
-use Rattle.sc_footprint.proofs.NumberingLaws.{numbered_map}
 use Rattle.sc_footprint.proofs.ProblemLaws.{term_judged}
 use Rattle.sc_instances.specs.Instances.{on_two}
+use Rattle.sc_instances.proofs.RulesHold.{term_closed}
 use Rattle.sc_rules.specs.Signed.{Said, Holds}
 use Rattle.sc_rules.specs.Strings.{Pattern, Signs, AreFew, st1}
 use Rattle.sc_rules.proofs.StringSound.{st1_holds}
@@ -20,14 +18,6 @@ use Rattle.sc_rules.proofs.TermsHold.{st2_true, st3_true}
 use Rattle.sc_string_rows.specs.Instances.{with_term, all_at, on_all, said_of, IsCrowded}
 use Rattle.sc_string_rows.specs.declared.rule.StringRule.{StringRule}
 use Rattle.sc_string_rows.specs.declared.rule.StringRule.TheVariants.{St1, St2, St3}
-
--- the term of a number is closed
-term_closed : (p : Posed) (n : ℕ) (t : Tree) → term_of p n ≡ Some t → Contains (closed_terms p) t
-term_closed p n t e = by (n == 0) (sym (numbered_map (tree p.nodes) p.closed n) ∙ e)
-  where
-    by : (b : Bool) → cond b None (slice_get (closed_terms p) (n - 1)) ≡ Some t → Contains (closed_terms p) t
-    by true f = absurd cc
-    by false f = contains_place (closed_terms p) (n - 1) t f
 
 pub with_view : (o : Option Tree) (q : Option (List Tree)) (us : List Tree) → with_term o q ≡ Some us → (t : Tree) × (ts : List Tree) × (o ≡ Some t) × (q ≡ Some ts) × (us ≡ t ∷ ts)
 with_view (Some t) (Some ts) us e = let same : t ∷ ts ≡ us = cc in (t, ts, refl, refl, sym same)

@@ -8,8 +8,9 @@ use Rattle.sc_nodes.specs.declared.node.BinaryOp.TheVariants.{And, Or, Equal}
 use Rattle.sc_terms.specs.Trees.{Tree, one, two}
 use Rattle.sc_terms.specs.Folds.{truth_term, not_term, and_term, or_term, equal_term}
 use Rattle.sc_terms.specs.Joined.{any_of}
-use Rattle.sc_terms.specs.Values.{Val, val, yes, seen, truth, not_value, and_value, and_seen, or_value, or_seen, equal_value, equal_seen}
+use Rattle.sc_terms.specs.Values.{Val, val, yes, seen, truth, not_value, and_value, and_seen, or_value, equal_value, equal_seen}
 use Rattle.sc_terms.proofs.JoinedKeeps.{joined_keeps}
+use Rattle.sc_term_laws.proofs.ConnectiveLaws.{both_yes, either_yes}
 
 -- whether two truth values are one
 abbrev pub same : Bool → Bool → Bool
@@ -25,15 +26,6 @@ and_no x = ap (λ (o : Option Bool). and_seen o (seen x) (yes false) x) (seen_ye
 pub and_yes : (x : Val) → and_value (yes true) x ≡ x
 unfolding and_value
 and_yes x = ap (λ (o : Option Bool). and_seen o (seen x) (yes true) x) (seen_yes true)
-
-both_yes : (a b : Bool) → and_value (yes a) (yes b) ≡ yes (a && b)
-both_yes true b = and_yes (yes b)
-both_yes false b = and_no (yes b)
-
-either_yes : (a b : Bool) → or_value (yes a) (yes b) ≡ yes (a || b)
-unfolding or_value
-either_yes true b = ap (λ (o : Option Bool). or_seen o (seen (yes b)) (yes true) (yes b)) (seen_yes true)
-either_yes false b = ap (λ (o : Option Bool). or_seen o (seen (yes b)) (yes false) (yes b)) (seen_yes false)
 
 equal_yes : (a b : Bool) → equal_value (yes a) (yes b) ≡ yes (same a b)
 unfolding equal_value

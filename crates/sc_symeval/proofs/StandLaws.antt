@@ -31,9 +31,6 @@ use Rattle.sc_codes.proofs.AlongLaws.{code_later}
 
 -- ---- numbers of operands in the table of the construct
 
-pub now : (xs : List Node) (o : Opt) (c : Code) → StandsAs xs o c → IsCode xs o
-now = in_table
-
 pub later : (xs ys : List Node) (o : Opt) (c : Code) → Keeps xs ys → StandsAs xs o c → IsCode ys o
 later xs ys o c kept h = in_table ys o c (as_later xs ys o c kept h)
 

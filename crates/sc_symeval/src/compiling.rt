@@ -216,7 +216,7 @@ fn operated(
 
 /// `a has b.c`.
 #[cycle(compile)]
-#[tactic(auto, using(crate::proofs::StandLaws::now, crate::proofs::StandLaws::path_stands))]
+#[tactic(auto, using(sc_codes::proofs::NumbersLaws::in_table, crate::proofs::StandLaws::path_stands))]
 fn having(
     setting: &Setting<'_>,
     terms: &mut Terms,
@@ -235,7 +235,7 @@ fn having(
 
 /// `a like "pattern"`.
 #[cycle(compile)]
-#[tactic(auto, using(crate::proofs::StandLaws::now, crate::proofs::StandLaws::like_stands))]
+#[tactic(auto, using(sc_codes::proofs::NumbersLaws::in_table, crate::proofs::StandLaws::like_stands))]
 fn matching(
     setting: &Setting<'_>,
     terms: &mut Terms,
@@ -253,7 +253,7 @@ fn matching(
 
 /// `a is T`, which typing decides.
 #[cycle(compile)]
-#[tactic(auto, using(crate::proofs::StandLaws::now, crate::proofs::StandLaws::is_stands))]
+#[tactic(auto, using(sc_codes::proofs::NumbersLaws::in_table, crate::proofs::StandLaws::is_stands))]
 fn tested(
     setting: &Setting<'_>,
     terms: &mut Terms,
@@ -314,7 +314,7 @@ fn tested_among(
 
 /// `a is T` where a isn't of the type T.
 #[cycle(compile)]
-#[tactic(auto, using(crate::proofs::StandLaws::now, crate::proofs::StandLaws::is_stands))]
+#[tactic(auto, using(sc_codes::proofs::NumbersLaws::in_table, crate::proofs::StandLaws::is_stands))]
 fn refused(setting: &Setting<'_>, terms: &mut Terms, a: &TypedExpr) -> Result<Opt, AllocError>
     requires { IsReady terms.old setting.now }
     ensures ok { IfOk result (λ o. StandsAs terms.new o (is_code false (code_in setting.now a.now))) }
@@ -327,7 +327,7 @@ fn refused(setting: &Setting<'_>, terms: &mut Terms, a: &TypedExpr) -> Result<Op
 
 /// A prefix, the call of a method without arguments, or the call of a function.
 #[cycle(compile)]
-#[tactic(auto, using(crate::proofs::StandLaws::now, crate::proofs::StandLaws::unary_stands))]
+#[tactic(auto, using(sc_codes::proofs::NumbersLaws::in_table, crate::proofs::StandLaws::unary_stands))]
 fn applied(
     setting: &Setting<'_>,
     terms: &mut Terms,
@@ -345,7 +345,7 @@ fn applied(
 
 /// `a.name`.
 #[cycle(compile)]
-#[tactic(auto, using(crate::proofs::StandLaws::now, crate::proofs::StandLaws::access_stands))]
+#[tactic(auto, using(sc_codes::proofs::NumbersLaws::in_table, crate::proofs::StandLaws::access_stands))]
 fn accessed(
     setting: &Setting<'_>,
     terms: &mut Terms,

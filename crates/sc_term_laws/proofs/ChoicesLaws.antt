@@ -129,7 +129,7 @@ action_there d u h =
     let a = contains_from_map (λ (b : Action). b.uid) d.actions u h in
     found_some (λ (b : Action). uid_eq u b.uid) d.actions (any_contained (λ (b : Action). uid_eq u b.uid) d.actions a.0 a.1 ((uid_eq-Decides u a.0.uid).1 (sym a.2)))
 
-there_action : (d : Declarations) (u : Uid) → IsSome (action d u) → Contains (action_uids d) u
+pub there_action : (d : Declarations) (u : Uid) → IsSome (action d u) → Contains (action_uids d) u
 there_action d u h =
     let a = some_of (action d u) h in
     let it = action_declared d u a.0 a.1 in

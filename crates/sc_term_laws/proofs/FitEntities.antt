@@ -107,10 +107,10 @@ names_known d es x h = weaker_levels (NamesStoredLevel es) (NamesKnownLevel d es
 
 -- ---- orders of entities and of texts
 
-entity_cmp : (a b : Uid) → value_cmp (value.Entity a) (value.Entity b) ≡ uid_cmp a b
+pub entity_cmp : (a b : Uid) → value_cmp (value.Entity a) (value.Entity b) ≡ uid_cmp a b
 entity_cmp a b = value_cmp_by_kind (value.Entity a) (value.Entity b) ∙ (λ i. by_kind (out.out_Entity a i) (out.out_Entity b i))
 
-string_cmp : (a b : List ℕ) → value_cmp (value.String a) (value.String b) ≡ text_cmp a b
+pub string_cmp : (a b : List ℕ) → value_cmp (value.String a) (value.String b) ≡ text_cmp a b
 string_cmp a b = value_cmp_by_kind (value.String a) (value.String b) ∙ (λ i. by_kind (out.out_String a i) (out.out_String b i))
 
 module _ {X Y : Type 0} (R : X → X → Ordering) (S : Y → Y → Ordering) (f : X → Y) (same : (a b : X) → S (f a) (f b) ≡ R a b) where

@@ -73,7 +73,7 @@ all_so : (p q : Test) → ((x : Value) → p x ≡ true → q x ≡ true) → (x
 all_so p q f [] h = refl
 all_so p q f (x ∷ xs) h = both_so (p x) (list_all p xs) (q x) (list_all q xs) (f x) (all_so p q f xs) h
 
-set_so : (p q : Test) → ((x : Value) → p x ≡ true → q x ≡ true) → (x : Value-F Value) → is_set_of p x ≡ true → is_set_of q x ≡ true
+pub set_so : (p q : Test) → ((x : Value) → p x ≡ true → q x ≡ true) → (x : Value-F Value) → is_set_of p x ≡ true → is_set_of q x ≡ true
 set_so p q f (v.Set xs) h = all_so p q f xs h
 set_so p q f _ h = absurd cc
 
@@ -120,7 +120,7 @@ record_so bs _ h = absurd cc
 
 -- ---- by the type's kind
 
-conforms_roll : (y : Ty-F Ty) → conforms (roll-Ty y) ≡ conforms_step (map-Ty Ty Test conforms y)
+pub conforms_roll : (y : Ty-F Ty) → conforms (roll-Ty y) ≡ conforms_step (map-Ty Ty Test conforms y)
 unfolding conforms
 conforms_roll y = fold-roll-Ty Test conforms_step y
 

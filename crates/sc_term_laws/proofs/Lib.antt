@@ -23,3 +23,4 @@ pub mod FitEntities
 pub mod TermsFitLaws
 mod Examples
 pub mod BooleansLaws
+pub mod ConnectiveLaws

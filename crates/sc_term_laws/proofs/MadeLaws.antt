@@ -30,6 +30,7 @@ use Rattle.sc_term_laws.specs.Judging.{IsTermOf, HaveFields, HasPlace}
 use Rattle.sc_term_laws.specs.Judging as judged
 use Rattle.sc_term_laws.proofs.JudgingLaws.{sort_is}
 use Rattle.std.specs.Cmp.Derive.{both_true}
+use Rattle.sc_lists.proofs.BoolLaws.{not_is_false}
 use Rattle.sc_terms.proofs.FoldValues.{under}
 
 -- ---- what isn't known stays
@@ -37,11 +38,8 @@ use Rattle.sc_terms.proofs.FoldValues.{under}
 lacking : {X : Type 0} (o : Option X) → o ≡ None → lacks o ≡ true
 lacking o e = ap lacks e
 
-apart : (b : Bool) → b ≡ false → not b ≡ true
-apart b e = ap not e
-
 two_stay : (a b : Tree) → constant a ≡ None → constant b ≡ None → tree_eq a b ≡ false → stays_two a b ≡ true
-two_stay a b e f g = both_true (lacking (constant a) e) (both_true (lacking (constant b) f) (apart (tree_eq a b) g))
+two_stay a b e f g = both_true (lacking (constant a) e) (both_true (lacking (constant b) f) (not_is_false (tree_eq a b) g))
 
 other_there : (o p : Option Literal) → literals_same o p ≡ None → (lacks o || lacks p) ≡ true
 other_there None p h = refl
@@ -131,7 +129,7 @@ module _ (d : Declarations) (env : Env) (written : List Uid) where
       by (Some true) s i j = g
       by (Some false) s i j = h
       by None true i j = g
-      by None false i j = judged.of_choice k c a b f g h (both_true (lacking (constant c) i) (apart (tree_eq a b) j))
+      by None false i j = judged.of_choice k c a b f g h (both_true (lacking (constant c) i) (not_is_false (tree_eq a b) j))
 
   bool_of : (k : Sort) (a : Tree) (b : Bool) → Is k a → constant a ≡ Some b → k ≡ sort.Bool
   bool_of k a b h e = sym (sort_is d env written k a h) ∙ constant_sort a b e
@@ -142,11 +140,11 @@ module _ (d : Declarations) (env : Env) (written : List Uid) where
     where
       ordered : (o : Bool) → is_gt (tree_cmp a b) ≡ o → constant a ≡ None → constant b ≡ None → tree_eq a b ≡ false → literals_same (literal_of a) (literal_of b) ≡ None → Is sort.Bool (equation o a b)
       ordered false q i j e l =
-          judged.of_equal k a b g h (both_true (two_stay a b i j e) (both_true (other_there (literal_of a) (literal_of b) l) (apart (is_gt (tree_cmp a b)) q)))
+          judged.of_equal k a b g h (both_true (two_stay a b i j e) (both_true (other_there (literal_of a) (literal_of b) l) (not_is_false (is_gt (tree_cmp a b)) q)))
       ordered true q i j e l =
           let less = turned (tree_cmp a b) (tree_cmp b a) (tree_cmp_total.antisymm b a) q in
           let there = other_there (literal_of b) (literal_of a) (same_flip (literal_of a) (literal_of b) l) in
-          judged.of_equal k b a h g (both_true (two_stay b a j i (level_differs b a less.1)) (both_true there (apart (is_gt (tree_cmp b a)) less.0)))
+          judged.of_equal k b a h g (both_true (two_stay b a j i (level_differs b a less.1)) (both_true there (not_is_false (is_gt (tree_cmp b a)) less.0)))
 
       other : (s : Bool) (l : Option Bool) → tree_eq a b ≡ s → literals_same (literal_of a) (literal_of b) ≡ l → constant a ≡ None → constant b ≡ None → Is sort.Bool (other_equal s l a b)
       other true l e f i j = judged.of_truth true

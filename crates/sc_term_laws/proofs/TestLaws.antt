@@ -7,6 +7,7 @@ use Rattle.std.proofs.lemmas.Bool.Decides.{nat_tests}
 use Rattle.std.proofs.lemmas.Slice.Eq.{bytes_eq-Decides}
 use Rattle.sc_lists.proofs.ListLaws.{contains_first, contains_rest, contains_split, contains_nothing}
 use Rattle.sc_lists.proofs.TextLaws.{bytes_eq_true}
+use Rattle.sc_lists.proofs.NumberLaws.{nat_lt_true}
 use Rattle.sc_schema.specs.declared.ty.Ty.{Ty}
 use Rattle.sc_schema.specs.Declarations.{Declarations, ancestor_types}
 use Rattle.sc_sorts.specs.declared.sort.Sort.{Sort, Sort-F, out-Sort, roll-Sort, roll-out-Sort}
@@ -155,13 +156,10 @@ number_is _ judged.decimal = at_sort number_level sort.Decimal sort.Decimal s.De
 pub number_told : (k l : Sort) → k ≡ l → IsNumberSort l → is_number k ≡ true
 number_told k l e h = ap is_number e ∙ number_is l h
 
-pub below_told : (i n : ℕ) → i < n → nat_lt i n ≡ true
-below_told i n h = grind (arith, nat_tests)
-
 place_is : (k : Sort) (i : ℕ) → HasPlace k i → has_place k i ≡ true
-place_is _ i (judged.of_long h) = at_sort (λ (z : Sort-F Sort). place_level z i) sort.Long sort.Long s.Long refl out_Long (below_told i 64 h)
-place_is _ i (judged.of_decimal h) = at_sort (λ (z : Sort-F Sort). place_level z i) sort.Decimal sort.Decimal s.Decimal refl out_Decimal (below_told i 64 h)
-place_is _ i (judged.of_ip h) = at_sort (λ (z : Sort-F Sort). place_level z i) sort.Ip sort.Ip s.Ip refl out_Ip (below_told i 257 h)
+place_is _ i (judged.of_long h) = at_sort (λ (z : Sort-F Sort). place_level z i) sort.Long sort.Long s.Long refl out_Long (nat_lt_true i 64 h)
+place_is _ i (judged.of_decimal h) = at_sort (λ (z : Sort-F Sort). place_level z i) sort.Decimal sort.Decimal s.Decimal refl out_Decimal (nat_lt_true i 64 h)
+place_is _ i (judged.of_ip h) = at_sort (λ (z : Sort-F Sort). place_level z i) sort.Ip sort.Ip s.Ip refl out_Ip (nat_lt_true i 257 h)
 
 pub place_told : (k l : Sort) (i : ℕ) → k ≡ l → HasPlace l i → has_place k i ≡ true
 place_told k l i e h = ap (λ (z : Sort). has_place z i) e ∙ place_is l i h

@@ -26,7 +26,7 @@ use Rattle.sc_term_laws.proofs.JudgingLaws.{sort_is, arithmetic_sort, field_of_r
 use Rattle.sc_term_laws.proofs.TestLaws as test
 use Rattle.std.specs.Cmp.Derive.{both_true}
 use Rattle.sc_lists.proofs.OptionLaws.{some_is}
-use Rattle.sc_lists.proofs.NumberLaws.{at_most}
+use Rattle.sc_lists.proofs.NumberLaws.{at_most, nat_lt_true}
 
 module _ (d : Declarations) (env : Env) (written : List Uid) where
   abbrev Is : Sort → Tree → Type 0
@@ -154,9 +154,9 @@ module _ (d : Declarations) (env : Env) (written : List Uid) where
   unary_kept _ _ _ (judged.of_bit k i a p h e) = (at_its_sort k a h, both_true (test.place_told _ k i (its k a h) p) e)
   unary_kept _ _ _ (judged.of_carry o i a b p q h) = (at_its_sort sort.Long (two o a b) h, both_true (sum_told o a b p) (test.at_most_told i 64 q))
   unary_kept _ _ _ (judged.of_row i j a b p q h) =
-      (at_its_sort sort.Long (two binary.Multiply a b) h, both_true (test.at_most_told i 128 p) (test.below_told j 128 q))
+      (at_its_sort sort.Long (two binary.Multiply a b) h, both_true (test.at_most_told i 128 p) (nat_lt_true j 128 q))
   unary_kept _ _ _ (judged.of_product_carry i j a b p q h) =
-      (at_its_sort sort.Long (two binary.Multiply a b) h, both_true (test.below_told i 128 p) (test.at_most_told j 128 q))
+      (at_its_sort sort.Long (two binary.Multiply a b) h, both_true (nat_lt_true i 128 p) (test.at_most_told j 128 q))
   unary_kept _ _ _ (judged.of_attributes name t a e h) = (at_its_sort (entity_sort d name) a h, attributes_kept name t a e h)
   unary_kept _ _ _ (judged.of_ancestors name above names a e c h) =
       (at_its_sort (entity_sort d name) a h, ancestors_kept name above names a e (test.above_told d name above names e c) h)

@@ -1,7 +1,7 @@
 -- What stays is what the constructor makes.
-use Rattle.std.proofs.Common.{◌≡◌, ℕ, List, Bool, true, false, ◌||◌, not, Option, Some, None, refl}
+use Rattle.std.proofs.Common.{◌≡◌, ℕ, List, true, false, ◌||◌, Option, Some, None, refl}
 use Rattle.std.specs.Ordering.{is_gt}
-use Rattle.sc_lists.proofs.BoolLaws.{and_first, and_second}
+use Rattle.sc_lists.proofs.BoolLaws.{and_first, and_second, not_is_true}
 use Rattle.sc_pattern.specs.declared.part.Part.{Part}
 use Rattle.sc_nodes.specs.declared.node.Literal.{Literal}
 use Rattle.sc_nodes.specs.declared.node.UnaryOp.TheVariants as unary
@@ -15,10 +15,6 @@ none_of : {X : Type 0} (o : Option X) → lacks o ≡ true → o ≡ None
 none_of None h = refl
 none_of (Some x) h = cc
 
-unlike : (b : Bool) → not b ≡ true → b ≡ false
-unlike true h = cc
-unlike false h = refl
-
 pub not_stays : (a : Tree) → stays_not a ≡ true → not_term a ≡ one unary.Not a
 unfolding not_term
 not_stays a h = rw (none_of (constant a) (and_first (lacks (constant a)) _ h), none_of (under_not a) (and_second (lacks (constant a)) _ h)) refl
@@ -31,7 +27,7 @@ module _ (a b : Tree) (h : stays_two a b ≡ true) where
   second_none = none_of (constant b) (and_first (lacks (constant b)) _ (and_second (lacks (constant a)) _ h))
 
   differ : tree_eq a b ≡ false
-  differ = unlike (tree_eq a b) (and_second (lacks (constant b)) _ (and_second (lacks (constant a)) _ h))
+  differ = not_is_true (tree_eq a b) (and_second (lacks (constant b)) _ (and_second (lacks (constant a)) _ h))
 
   pub and_stays : and_term a b ≡ two binary.And a b
   unfolding and_term
@@ -43,7 +39,7 @@ module _ (a b : Tree) (h : stays_two a b ≡ true) where
 
 pub choice_stays : (c a b : Tree) → stays_choice c a b ≡ true → choice_term c a b ≡ choice c a b
 unfolding choice_term
-choice_stays c a b h = rw (none_of (constant c) (and_first (lacks (constant c)) _ h), unlike (tree_eq a b) (and_second (lacks (constant c)) _ h)) refl
+choice_stays c a b h = rw (none_of (constant c) (and_first (lacks (constant c)) _ h), not_is_true (tree_eq a b) (and_second (lacks (constant c)) _ h)) refl
 
 some_lacks : (o p : Option Literal) → (lacks o || lacks p) ≡ true → literals_same o p ≡ None
 some_lacks None p h = refl
@@ -55,7 +51,7 @@ unfolding equal_term
 equal_stays a b h =
     let two : stays_two a b ≡ true = and_first _ _ h in
     let rest = and_second (stays_two a b) _ h in
-    rw (first_none a b two, second_none a b two, differ a b two, some_lacks (literal_of a) (literal_of b) (and_first (has_other a b) _ rest), unlike (is_gt (tree_cmp a b)) (and_second (has_other a b) _ rest)) refl
+    rw (first_none a b two, second_none a b two, differ a b two, some_lacks (literal_of a) (literal_of b) (and_first (has_other a b) _ rest), not_is_true (is_gt (tree_cmp a b)) (and_second (has_other a b) _ rest)) refl
 
 pub field_stays : (name : List ℕ) (a : Tree) → stays_field name a ≡ true → field_term name a ≡ one (unary.Field name) a
 unfolding field_term

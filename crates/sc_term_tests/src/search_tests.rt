@@ -177,11 +177,37 @@ const PIGEONS: &[&[i64]] = &[
     &[-4, -6],
 ];
 
+/// Four pigeons in three holes: atom 3p + h - 3 says that pigeon p, counted from 1, is in hole h.
+const MORE_PIGEONS: &[&[i64]] = &[
+    &[1, 2, 3],
+    &[4, 5, 6],
+    &[7, 8, 9],
+    &[10, 11, 12],
+    &[-1, -4],
+    &[-1, -7],
+    &[-1, -10],
+    &[-4, -7],
+    &[-4, -10],
+    &[-7, -10],
+    &[-2, -5],
+    &[-2, -8],
+    &[-2, -11],
+    &[-5, -8],
+    &[-5, -11],
+    &[-8, -11],
+    &[-3, -6],
+    &[-3, -9],
+    &[-3, -12],
+    &[-6, -9],
+    &[-6, -12],
+    &[-9, -12],
+];
+
 /// Four clauses over atoms 31 and 32 that contradict one another.
 const FOUR: &[&[i64]] = &[&[31, 32], &[31, -32], &[-31, 32], &[-31, -32]];
 
 /// Clauses, how many atoms there are, the budget, and what is to be found.
-const PROBLEMS: [(&str, &[&[i64]], u64, u64, Wanted); 7] = [
+const PROBLEMS: [(&str, &[&[i64]], u64, u64, Wanted); 10] = [
     (
         "a contradiction beside idle atoms",
         FOUR,
@@ -222,6 +248,27 @@ const PROBLEMS: [(&str, &[&[i64]], u64, u64, Wanted); 7] = [
         &[&[1]],
         2,
         0,
+        Wanted::True(1),
+    ),
+    (
+        "more pigeons are too many",
+        MORE_PIGEONS,
+        12,
+        100,
+        Wanted::Refuted(100),
+    ),
+    (
+        "literals that are written twice",
+        &[&[1, 1], &[-1, 2, 2], &[-2, -2, 3]],
+        3,
+        0,
+        Wanted::True(3),
+    ),
+    (
+        "a literal that is true again after a jump back",
+        &[&[1, 2, 3], &[1, 2, -3], &[1, -2, 4], &[-4, 3], &[-4, -3]],
+        4,
+        9,
         Wanted::True(1),
     ),
     (

@@ -5,6 +5,7 @@ ghost use Rattle.sc_schema.specs.Declarations.{environments};
 use crate::samples::{literal, schema, uid};
 use sc_names::Lits;
 use sc_schema::{Env, Schema, environments};
+use sc_schema_json::read_schema;
 use sc_world::{
     Request, Store, World, default_context, default_world, well_formed, world_for, world_with,
 };
@@ -14,6 +15,14 @@ use std::alloc::{AllocError, Global};
 /// A document and a user, who views it.
 const DEFAULT: &str =
     r#"{"entities":[{"attrs":{},"parents":[],"tags":{},"uid":{"id":"view","type":"Action"}},{"attrs":{},"parents":[],"tags":{},"uid":{"id":"","type":"Doc"}},{"attrs":{},"parents":[{"id":"view","type":"Action"}],"tags":{},"uid":{"id":"buy","type":"Shop::Action"}},{"attrs":{"level":0},"parents":[],"tags":{},"uid":{"id":"","type":"User"}}],"request":{"action":{"id":"view","type":"Action"},"context":{"mfa":false},"principal":{"id":"","type":"User"},"resource":{"id":"","type":"Doc"}}}"#;
+
+/// Users view documents; the context has one truth value.
+const SMALL_SCHEMA: &str =
+    r#"{"":{"entityTypes":{"User":{},"Doc":{}},"actions":{"view":{"appliesTo":{"principalTypes":["User"],"resourceTypes":["Doc"],"context":{"type":"Record","attributes":{"mfa":{"type":"Boolean"}}}}}}}}"#;
+
+/// A document and a user, who views it, and nothing else.
+const OF_SMALL_SCHEMA: &str =
+    r#"{"entities":[{"attrs":{},"parents":[],"tags":{},"uid":{"id":"view","type":"Action"}},{"attrs":{},"parents":[],"tags":{},"uid":{"id":"","type":"Doc"}},{"attrs":{},"parents":[],"tags":{},"uid":{"id":"","type":"User"}}],"request":{"action":{"id":"view","type":"Action"},"context":{"mfa":false},"principal":{"id":"","type":"User"},"resource":{"id":"","type":"Doc"}}}"#;
 
 /// The same with a team.
 const WITH_TEAM: &str =
@@ -153,6 +162,27 @@ fn makes_with_team(alloc: Global, text: &str) -> bool {
         Some(team) => makes(alloc, Call::Default, &team, text),
         None => false,
     }
+}
+
+/// Whether the default world of the first kind of request is the one with this text, where policies write no uid.
+fn begins_with(alloc: Global, schema: &Schema, text: &str) -> bool {
+    match environments(schema).get(0) {
+        Some(env) => makes_in(alloc, Call::Default, schema, env, &Lits::new(alloc), text),
+        None => false,
+    }
+}
+
+/// The same of the schema that a text spells.
+fn begins_by(alloc: Global, schema: &str, text: &str) -> bool {
+    match read_schema(alloc, schema.as_bytes()) {
+        Ok(schema) => begins_with(alloc, &schema, text),
+        Err(_) => false,
+    }
+}
+
+#[test]
+fn world_of_a_small_schema(rt: HostRuntime) {
+    assert!(rt; begins_by(rt.alloc(), SMALL_SCHEMA, OF_SMALL_SCHEMA));
 }
 
 #[test]

@@ -1,18 +1,13 @@
 -- The clauses of items by places: what is read of the terms that go with a closed term is what its definition names.
-use Rattle.std.proofs.Common.{◌≡◌, ℕ, zero, suc, ◌<◌, Bool, cond, List, [], ◌∷◌, ◌++◌, map, length, slice_get, Option, Some, None, option_map, unwrap_or, refl, sym, ap, ◌∙◌, arith}
+use Rattle.std.proofs.Common.{◌≡◌, ℕ, suc, List, [], ◌∷◌, ◌++◌, map, length, slice_get, Option, Some, option_map, unwrap_or, refl, sym, ap, ◌∙◌, arith}
 use Rattle.std.proofs.Common.{append_assoc, length-append}
 use Rattle.sc_clauses.specs.declared.lit.Lit.{Lit}
 use Rattle.sc_clauses.specs.Clauses.{positive}
-use Rattle.sc_terms.proofs.OrderLaws.{tree_cmp_level}
-use Rattle.sc_terms.specs.Tables.{tree, IsTable}
 use Rattle.sc_terms.specs.Trees.{Tree}
 use Rattle.sc_definitions.specs.Definitions.{counted, inputs_of}
-use Rattle.sc_closure.specs.Places.{place_among}
 use Rattle.sc_closure_rules.specs.Closure.{inside, choices, beside, parts, follow}
-use Rattle.sc_footprint.proofs.IndexLaws.{number_is_place}
-use Rattle.sc_footprint.specs.Problems.{Posed, IsPosed, closed_terms, literal_in, term_of, companion, number_among, number_of, if_any}
+use Rattle.sc_footprint.specs.Problems.{Posed, literal_in, term_of, companion}
 use Rattle.th_defs.specs.Items.{companion_or, companions_or}
-use Rattle.th_defs.proofs.PlaceLaws.{zero_isnt}
 
 at_end : (ws : List Tree) (u : Tree) (us : List Tree) → slice_get (ws ++ u ∷ us) (length ws) ≡ Some u
 at_end [] u us = refl
@@ -45,11 +40,3 @@ module _ (p : Posed) (n : ℕ) (x : Tree) (is : term_of p n ≡ Some x) where
   pub inputs_read : companions_or p n (length (inputs_of x)) ≡ map (literal_in p) (inputs_of x)
   unfolding follow
   inputs_read = same_reads (counted 0 (length (inputs_of x))) ∙ read_part (literal_in p) (positive 1) [] (inputs_of x) (inside x ++ (choices x ++ (beside p.schema x ++ parts x)))
-
--- the number of a closed term, by its number in the table
-pub number_told : (p : Posed) (n : ℕ) → IsTable p.nodes → IsPosed p → n < length p.nodes → unwrap_or (number_of p n) 0 ≡ number_among (closed_terms p) (tree p.nodes n)
-number_told p n table posed h = by (place_among p.closed n) ∙ sym (number_is_place p.nodes table tree_cmp_level p.closed n posed.within h)
-  where
-    by : (k : ℕ) → unwrap_or (if_any k) 0 ≡ k
-    by zero = refl
-    by (suc k) = ap (λ (b : Bool). unwrap_or (cond b None (Some (suc k))) 0) (zero_isnt (suc k) (omega arith))

@@ -6,6 +6,7 @@ use Rattle.std.proofs.lemmas.List.{get_or_append_left, get_or-append-add}
 use Rattle.std.proofs.lemmas.List.Elements.{All-from_recursion}
 use Rattle.std.specs.List.{AllByRecursion, slice_index_or}
 use Rattle.sc_lists.proofs.ListLaws.{all_append}
+use Rattle.sc_lists.proofs.NumberLaws.{nat_lt_true}
 use Rattle.sc_clauses.specs.Assignments.{Assignment, falsifies}
 use Rattle.sc_clauses.specs.Clauses.{Clause}
 use Rattle.sc_definitions.specs.Definitions.{counted}
@@ -16,7 +17,7 @@ use Rattle.th_defs.specs.Instances.{is_before_last}
 use Rattle.th_defs.specs.Items.{kept_clauses, item_at, item_count}
 use Rattle.th_defs.specs.Laws.{before, defining_is, at_before}
 use Rattle.th_defs.specs.Places.{IsFirstFalsified}
-use Rattle.th_defs.proofs.ReadLaws.{less, not_less}
+use Rattle.th_defs.proofs.ReadLaws.{not_less}
 use Rattle.th_defs.proofs.WholeLaws.{upto, upto_next, counted_both, joined_append}
 
 -- ---- where the loops over items begin
@@ -58,13 +59,13 @@ module _ (p : Posed) (whole : upto p (item_count p) ≡ before p) where
   long = ap length (defining_is p) ∙ length-append (before p) ((goal_literal p ∷ []) ∷ [])
 
   pub inside : (n : ℕ) → 0 < n → n ≤ length (before p) → is_before_last (defining p) n ≡ true
-  inside n h l = let e = long in rw (less 0 n h, less n (length (defining p)) (omega (arith, l, e))) refl
+  inside n h l = let e = long in rw (nat_lt_true 0 n h, nat_lt_true n (length (defining p)) (omega (arith, l, e))) refl
 
   pub some_number : (n : ℕ) → is_before_last (defining p) n ≡ true → 0 < n
   some_number n h = ltb-true 0 n (and_parts (nat_lt 0 n) (nat_lt n (length (defining p))) h).0
 
   pub outside : (n : ℕ) → length (before p) < n → is_before_last (defining p) n ≡ false
-  outside n h = let e = long in rw (less 0 n (omega (arith, h)), not_less n (length (defining p)) (omega (arith, h, e))) refl
+  outside n h = let e = long in rw (nat_lt_true 0 n (omega (arith, h)), not_less n (length (defining p)) (omega (arith, h, e))) refl
 
   -- those of the items from a place on
   abbrev onward : ℕ → List Clause

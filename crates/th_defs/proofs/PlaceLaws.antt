@@ -14,11 +14,6 @@ use Rattle.sc_footprint.specs.Definitions.{differs, has_value, differ_all, row, 
 use Rattle.th_defs.specs.ClauseLaws.{rows_long}
 use Rattle.th_defs.specs.Items.{turned_if}
 
--- ---- tests of numbers
-
-pub zero_isnt : (i : ℕ) → 0 < i → (i == 0) ≡ false
-zero_isnt i h = grind (arith, nat_tests)
-
 -- ---- lists by places
 
 pub read_counted : {X : Type 0} (f : ℕ → X) (from n i : ℕ) (d : X) → i < n → get_or (map f (counted from n)) i d ≡ f (from + i)

@@ -2,6 +2,7 @@
 use Rattle.std.proofs.Common.{◌≡◌, ◌<◌, ◌≤◌, ◌+◌, ◌-◌, ◌^◌, ◌/◌, ◌%◌, ◌==◌, ◌⊎◌, inl, inr, ℕ, zero, suc, Bool, true, false, cond, List, [], ◌∷◌, map, flat_map, length, get_or, nat_lt, refl, sym, ap, ◌∙◌, subst, arith, length-append}
 use Rattle.std.proofs.lemmas.Bool.Decides.{nat_tests}
 use Rattle.std.proofs.lemmas.List.{length-map, get_or-map, get_or-append-add, get_or_append_left, get_or_past}
+use Rattle.sc_lists.proofs.NumberLaws.{suc_isnt_zero, nat_lt_true}
 use Rattle.sc_clauses.specs.declared.lit.Lit.{Lit}
 use Rattle.sc_clauses.specs.Clauses.{Clause, positive, negation}
 use Rattle.sc_definitions.proofs.MakingLaws.{counted_length}
@@ -20,9 +21,6 @@ use Rattle.th_defs.specs.ClauseLaws.{rows_long}
 
 -- ---- tests of numbers
 
-pub less : (i n : ℕ) → i < n → nat_lt i n ≡ true
-less i n h = grind (arith, nat_tests)
-
 pub not_less : (i n : ℕ) → n ≤ i → nat_lt i n ≡ false
 not_less i n h = grind (arith, nat_tests)
 
@@ -38,9 +36,6 @@ last_or i n h = by (nat_lt i n) refl
     by : (b : Bool) → nat_lt i n ≡ b → (i < n) ⊎ (i ≡ n)
     by true e = inl (below e)
     by false e = inr (let k = above e in omega (arith, h, k))
-
-first_not : (i : ℕ) → (suc i == 0) ≡ false
-first_not i = grind (arith, nat_tests)
 
 -- ---- definitions
 
@@ -79,7 +74,7 @@ module _ (p : Posed) (n : ℕ) (count : ℕ) where
       last = omega arith
 
       by : (k < count) ⊎ (k ≡ count) → length (get_or (conjunction x inputs) k []) ≡ conjunction_literals count k
-      by (inl l) = ap length (conjunction_pair x inputs k (positive 1) (omega (arith, l, long))) ∙ sym (ap (λ (b : Bool). cond b 2 (count + 1)) (less k count l))
+      by (inl l) = ap length (conjunction_pair x inputs k (positive 1) (omega (arith, l, long))) ∙ sym (ap (λ (b : Bool). cond b 2 (count + 1)) (nat_lt_true k count l))
       by (inr e) =
           ap (λ (m : ℕ). length (get_or (conjunction x inputs) m [])) (e ∙ sym long) ∙ ap length (conjunction_last x inputs)
           ∙ ap suc (length-map inputs negation ∙ long) ∙ last ∙ sym (ap (λ (b : Bool). cond b 2 (count + 1)) (not_less k count (omega (arith, e))))
@@ -105,7 +100,7 @@ module _ (p : Posed) (n : ℕ) (count : ℕ) where
       there = row_there k h
 
       by : (i < count) ⊎ (i ≡ count) → literal_of_row p n (Table f t) f x count k i ≡ get_or (get_or (table f x (turned t inputs)) k []) i (positive 1)
-      by (inl l) = let a = less i count l in let r = row_input f t x inputs k there i (positive 1) (omega (arith, l, long)) in let c = input_read i (positive 1) l in rw (a, r, c, long) refl
+      by (inl l) = let a = nat_lt_true i count l in let r = row_input f t x inputs k there i (positive 1) (omega (arith, l, long)) in let c = input_read i (positive 1) l in rw (a, r, c, long) refl
       by (inr e) =
           let a = not_less i count (omega (arith, e)) in
           let r : get_or (get_or (table f x (turned t inputs)) k []) i (positive 1) ≡ has_value x (value_of f (get_or (rows (length inputs)) k [])) =
@@ -114,7 +109,7 @@ module _ (p : Posed) (n : ℕ) (count : ℕ) where
 
   pair_read : (x l : Lit) (i : ℕ) → i < 2 → cond (i == 0) (negation x) l ≡ get_or (negation x ∷ l ∷ []) i (positive 1)
   pair_read x l zero h = refl
-  pair_read x l (suc zero) h = ap (λ (b : Bool). cond b (negation x) l) (first_not 0)
+  pair_read x l (suc zero) h = ap (λ (b : Bool). cond b (negation x) l) (suc_isnt_zero 0)
   pair_read x l (suc (suc i)) h = absurd (omega (arith, h))
 
   last_read : (x : Lit) (i : ℕ) → i < count + 1 → cond (i == 0) x (negation (companion_or p n (i - 1))) ≡ get_or (x ∷ map negation inputs) i (positive 1)
@@ -123,7 +118,7 @@ module _ (p : Posed) (n : ℕ) (count : ℕ) where
       let back : suc i - 1 ≡ i = omega arith in
       let below : i < count = omega (arith, h) in
       let long = inputs_long in
-      ap (λ (b : Bool). cond b x (negation (companion_or p n (suc i - 1)))) (first_not i) ∙ ap (λ (m : ℕ). negation (companion_or p n m)) back
+      ap (λ (b : Bool). cond b x (negation (companion_or p n (suc i - 1)))) (suc_isnt_zero i) ∙ ap (λ (m : ℕ). negation (companion_or p n m)) back
       ∙ sym (get_or-map negation inputs i (positive 1) (positive 1) (omega (arith, below, long)) ∙ ap negation (input_read i (positive 1) below))
 
   conjunction_read : (x : Lit) (k i : ℕ) → k < count + 1 → i < length (get_or (conjunction x inputs) k []) → literal_of_conjunction p n x count k i ≡ get_or (get_or (conjunction x inputs) k []) i (positive 1)
@@ -137,7 +132,7 @@ module _ (p : Posed) (n : ℕ) (count : ℕ) where
 
       by : (k < count) ⊎ (k ≡ count) → literal_of_conjunction p n x count k i ≡ get_or (get_or (conjunction x inputs) k []) i (positive 1)
       by (inl l) =
-          let a = less k count l in
+          let a = nat_lt_true k count l in
           let two : i < 2 = subst (λ (m : ℕ). i < m) (many ∙ ap (λ (b : Bool). cond b 2 (count + 1)) a) j in
           ap (λ (b : Bool). cond b (cond (i == 0) (negation x) (companion_or p n k)) (cond (i == 0) x (negation (companion_or p n (i - 1))))) a ∙ pair_read x (companion_or p n k) i two
           ∙ ap (λ (m : Lit). get_or (negation x ∷ m ∷ []) i (positive 1)) (sym (input_read k (positive 1) l)) ∙ ap (λ (c : Clause). get_or c i (positive 1)) (sym (conjunction_pair x inputs k (positive 1) (omega (arith, l, long))))
@@ -207,7 +202,7 @@ module _ (bit : ℕ → Lit) where
 
   two_read : (l m : Lit) (i : ℕ) → i < 2 → cond (i == 0) l m ≡ get_or (l ∷ m ∷ []) i (positive 1)
   two_read l m zero h = refl
-  two_read l m (suc zero) h = ap (λ (b : Bool). cond b l m) (first_not 0)
+  two_read l m (suc zero) h = ap (λ (b : Bool). cond b l m) (suc_isnt_zero 0)
   two_read l m (suc (suc i)) h = absurd (omega (arith, h))
 
   side : (k : ℕ) → (k < 127) ⊎ (127 ≤ k)
@@ -235,7 +230,7 @@ module _ (bit : ℕ → Lit) where
     where
       by : (k < 127) ⊎ (127 ≤ k) → literal_by k i ≡ get_or (get_or (address_by bit) k []) i (positive 1)
       by (inl l) =
-          ap (λ (b : Bool). cond b (cond (i == 0) (negation (bit (2 + k))) (bit (1 + k))) (cond (i == 0) (bit 0) (negation (bit (later_bit (k - 127)))))) (less k 127 l)
+          ap (λ (b : Bool). cond b (cond (i == 0) (negation (bit (2 + k))) (bit (1 + k))) (cond (i == 0) (bit 0) (negation (bit (later_bit (k - 127)))))) (nat_lt_true k 127 l)
           ∙ two_read (negation (bit (2 + k))) (bit (1 + k)) i j ∙ ap (λ (c : Clause). get_or c i (positive 1)) (sym (mask_at k l))
       by (inr l) =
           ap (λ (b : Bool). cond b (cond (i == 0) (negation (bit (2 + k))) (bit (1 + k))) (cond (i == 0) (bit 0) (negation (bit (later_bit (k - 127)))))) (not_less k 127 l)

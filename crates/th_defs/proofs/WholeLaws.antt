@@ -1,12 +1,13 @@
 -- The clauses of all items, one item after the other, are the defining clauses but the last.
-use Rattle.std.proofs.Common.{◌≡◌, ◌≢◌, ◌<◌, ◌≤◌, ◌+◌, ◌-◌, ◌==◌, ℕ, zero, suc, Bool, true, false, not, cond, ◌&&◌, List, [], ◌∷◌, ◌++◌, map, flat_map, filter, length, slice_get, nat_lt, Option, Some, None, option_map, option_and_then, unwrap_or, Contains, refl, sym, ap, ◌∙◌, arith}
+use Rattle.std.proofs.Common.{◌≡◌, ◌≢◌, ◌<◌, ◌≤◌, ◌+◌, ◌-◌, ◌==◌, ℕ, zero, suc, Bool, true, false, not, cond, List, [], ◌∷◌, ◌++◌, map, flat_map, filter, length, slice_get, nat_lt, Option, Some, None, option_map, option_and_then, unwrap_or, Contains, refl, sym, ap, ◌∙◌, arith}
 use Rattle.std.proofs.Common.{append-nil, append_assoc}
 use Rattle.std.proofs.lemmas.Bool.{and_parts}
 use Rattle.std.proofs.lemmas.Option.{slice_get_within}
 use Rattle.std.specs.List.{AllByRecursion}
 use Rattle.sc_lists.proofs.ListLaws.{all_append, all_element, contains_place, contains_map}
 use Rattle.sc_lists.proofs.MemberLaws.{Has-from_Contains}
-use Rattle.sc_lists.proofs.NumberLaws.{eqb_false}
+use Rattle.sc_lists.proofs.NumberLaws.{eqb_false, some_isnt_zero, nat_lt_true}
+use Rattle.sc_lists.proofs.BoolLaws.{and_false}
 use Rattle.sc_schema.specs.Declarations.{Declarations}
 use Rattle.sc_clauses.specs.declared.lit.Lit.{Lit}
 use Rattle.sc_clauses.specs.Clauses.{Clause, bool_eq, positive, negation}
@@ -34,8 +35,7 @@ use Rattle.th_defs.specs.DefinitionLaws.{IsTruth, IsAddress, all_flat, atoms_are
 use Rattle.th_defs.specs.Items.{companion_or, kept_clauses, definition_of, if_atom, if_address, address_of, item_at, item_count}
 use Rattle.th_defs.specs.Laws.{HasLaws, before, bit_closed, has_laws, ip_sort}
 use Rattle.th_defs.proofs.ItemLaws.{inputs_read}
-use Rattle.th_defs.proofs.ReadLaws.{less, not_less}
-use Rattle.th_defs.proofs.PlaceLaws.{zero_isnt}
+use Rattle.th_defs.proofs.ReadLaws.{not_less}
 
 -- ---- lists by places
 
@@ -80,10 +80,6 @@ joined_filter test g (t ∷ ts) = by (test t) (joined_filter test g ts)
 never_same : (b : Bool) → bool_eq (not b) b ≡ false
 never_same true = refl
 never_same false = refl
-
-and_false : (b : Bool) → (b && false) ≡ false
-and_false true = refl
-and_false false = refl
 
 pub pair_plain : (l m : Lit) → l.atom ≢ m.atom → is_tautology (l ∷ m ∷ []) ≡ false
 pair_plain l m apart =
@@ -204,8 +200,8 @@ module _ (terms : TermsHold) (p : Posed) (posed : IsPosed p) where
       at : (i : ℕ) (x : Tree) → slice_get (atoms p) i ≡ Some x → kept_clauses p (item_at p (0 + i)) ≡ definition_clauses lit x
       at i x e =
           let zero_more : 0 + i ≡ i = omega arith in
-          let below : nat_lt i (length (atoms p)) ≡ true = less i (length (atoms p)) (slice_get_within (atoms p) i x e) in
-          let some : (i + 1 == 0) ≡ false = zero_isnt (i + 1) (omega arith) in
+          let below : nat_lt i (length (atoms p)) ≡ true = nat_lt_true i (length (atoms p)) (slice_get_within (atoms p) i x e) in
+          let some : (i + 1 == 0) ≡ false = some_isnt_zero (i + 1) (omega arith) in
           let back : i + 1 - 1 ≡ i = omega arith in
           let number : numbered (atoms p) (i + 1) ≡ Some x = ap (λ (b : Bool). cond b None (slice_get (atoms p) (i + 1 - 1))) some ∙ ap (slice_get (atoms p)) back ∙ e in
           let is : item_at p (0 + i) ≡ definition_of p x =
@@ -257,7 +253,7 @@ module _ (terms : TermsHold) (p : Posed) (posed : IsPosed p) where
       place = omega arith
 
       some : (i + 1 == 0) ≡ false
-      some = zero_isnt (i + 1) (omega arith)
+      some = some_isnt_zero (i + 1) (omega arith)
 
       back : i + 1 - 1 ≡ i
       back = omega arith

@@ -1,4 +1,3 @@
-mod FalseLaws
 mod FreeLaws
 mod PastLaws
 mod PruneLaws

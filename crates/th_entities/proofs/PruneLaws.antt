@@ -1,23 +1,26 @@
 -- Where a test of some terms fails, no instance with these is falsified.
-use Rattle.std.proofs.Common.{◌≡◌, ◌≢◌, ◌∙◌, ◌&&◌, ℕ, Bool, true, false, List, [], ◌∷◌, Option, Some, None, is_some, refl, ap}
+use Rattle.std.proofs.Common.{◌≡◌, ◌≢◌, ◌≤◌, ◌∙◌, ◌&&◌, ℕ, Bool, true, false, List, [], ◌∷◌, Option, Some, None, is_some, refl, ap, subst, arith}
+use Rattle.sc_lists.proofs.OptionLaws.{same_some}
 use Rattle.sc_clauses.specs.declared.lit.Lit.{Lit}
 use Rattle.sc_clauses.specs.Assignments.{Assignment}
+use Rattle.sc_clauses.specs.Clauses.{negation}
 use Rattle.sc_nodes.specs.declared.node.UnaryOp.TheVariants as unary
 use Rattle.sc_nodes.specs.declared.node.BinaryOp.TheVariants as binary
 use Rattle.sc_terms.specs.Trees.{Tree, leaf, one, two, choice, many}
 use Rattle.sc_terms.specs.TreeSorts.{tree_sort}
 use Rattle.sc_terms.specs.Order.{tree_eq}
 use Rattle.sc_terms.specs.Folds.{equal_term}
-use Rattle.sc_footprint.specs.Problems.{Posed, term_of}
+use Rattle.sc_footprint.specs.Problems.{Posed, literal_in, term_of}
 use Rattle.sc_instances.specs.declared.rule.EntityRule.TheVariants.{En1, En2, En3, En5, En7}
 use Rattle.sc_instances.specs.Clauses.{clause_for, literal_for, said_clause}
 use Rattle.sc_instances.specs.Instances.{entity_said, on_two, on_three, on_four}
-use Rattle.sc_instances.specs.Known.{is_broken, is_falsified}
+use Rattle.sc_instances.proofs.FalseLaws.{false_known, false_negation}
+use Rattle.sc_instances.specs.Known.{is_broken, is_falsified, known}
 use Rattle.sc_instances.specs.Saying.{count_of, literal_of}
 use Rattle.sc_rules.specs.Signed.{Signed, Said, so, unless, given}
 use Rattle.sc_rules.specs.Entities.{en2, en3, en5, en7, same_sets}
 use Rattle.sc_rules.specs.Terms.{above, member}
-use Rattle.th_entities.specs.Free.{IsFree, is_head_out, is_out, is_stored, is_tag}
+use Rattle.th_entities.specs.Free.{IsFree, is_head_out, is_second_out, is_out, is_stored, is_tag}
 use Rattle.th_entities.proofs.PastLaws.{free_none}
 
 module _ (p : Posed) (m : Assignment) where
@@ -35,6 +38,14 @@ module _ (p : Posed) (m : Assignment) where
   head_of None n l b e h f g = absurd cc
   head_of (Some []) n l b e h f g = absurd (let z : n ≡ 0 = cc in h z)
   head_of (Some (s ∷ parts)) n l b e h f g = g ∙ ap (is_out m) f
+
+  -- the second, where it has so many
+  pub second_of : (said : Said) (n : ℕ) (l : Lit) (b : Bool) → Some n ≡ count_of said → 2 ≤ n → l ≡ literal_of p said 1 → b ≡ is_out m l → b ≡ is_second_out p m said
+  unfolding said_clause
+  second_of None n l b e h f g = absurd cc
+  second_of (Some []) n l b e h f g = absurd (let z : n ≡ 0 = same_some e in omega (arith, z, h))
+  second_of (Some (s ∷ [])) n l b e h f g = absurd (let z : n ≡ 1 = same_some e in omega (arith, z, h))
+  second_of (Some (s ∷ t ∷ parts)) n l b e h f g = g ∙ ap (is_out m) f
 
   pub prune1 : (e f : ℕ) → ((g : ℕ) → entity_said p (En1 e g) ≡ None) → IsFree p m (En1 e f)
   prune1 e f h = free_none p m _ (h f)
@@ -62,12 +73,42 @@ module _ (p : Posed) (m : Assignment) where
   pub prune2 : (x s z : ℕ) → is_head_out p m (entity_said p (En2 s s z)) ≡ false → IsFree p m (En2 x s z)
   prune2 x s z = on_head2 (term_of p x) (term_of p s) (term_of p z)
 
+  -- a set and itself have the same members
+  opposed : (a b c : Bool) → (b ≡ true → c ≡ true → ⊥) → (a && (b && (c && true))) ≡ false
+  opposed false b c h = refl
+  opposed true false c h = refl
+  opposed true true false h = refl
+  opposed true true true h = absurd (h refl refl)
+
+  both_out : (l : Lit) → is_out m (negation l) ≡ true → is_out m l ≡ true → ⊥
+  both_out l e f = let one : known m l ≡ Some true = false_negation m l e in let other : known m l ≡ Some false = false_known m l f in absurd cc
+
+  itself : (s : Signed) (t : Tree) → is_falsified p m (Some (s ∷ unless t ∷ so t ∷ [])) ≡ false
+  unfolding is_falsified
+  itself s t = opposed (is_out m (literal_for p s)) (is_out m (literal_for p (unless t))) (is_out m (literal_for p (so t))) (both_out (literal_in p t))
+
+  given_kept : (test : Bool) (parts : List Signed) → is_falsified p m (Some parts) ≡ false → is_falsified p m (given test parts) ≡ false
+  given_kept true parts h = h
+  given_kept false parts h = free_none p m None refl
+
+  same2 : (x s : Tree) → is_falsified p m (en2 x s s) ≡ false
+  same2 x (one o e) = given_kept (same_sets o o) (unless (equal_term e e) ∷ unless (member x (one o e)) ∷ so (member x (one o e)) ∷ []) (itself (unless (equal_term e e)) (member x (one o e)))
+  same2 x _ = free_none p m None refl
+
+  on_same2 : (o q : Option Tree) → is_falsified p m (on_three o q q en2) ≡ false
+  on_same2 (Some x) (Some s) = same2 x s
+  on_same2 (Some x) None = free_none p m None refl
+  on_same2 None q = free_none p m None refl
+
+  pub prune2z : (x s z : ℕ) → s ≡ z → IsFree p m (En2 x s z)
+  prune2z x s z e = subst (λ (n : ℕ). IsFree p m (En2 x s n)) e (on_same2 (term_of p x) (term_of p s))
+
   stored2 : (x s z : Tree) → is_stored (Some s) ≡ false → en2 x s z ≡ None
-  stored2 x (one o e) z h = absurd cc
-  stored2 x (leaf l) z h = refl
-  stored2 x (two o a b) z h = refl
-  stored2 x (choice c a b) z h = refl
-  stored2 x (many o ts) z h = refl
+  stored2 x (one (unary.Ancestors k) e) z h = absurd cc
+  stored2 x (one unary.Keys e) z h = absurd cc
+  stored2 x (one _ e) (one q f) h = refl
+  stored2 x (one _ e) _ h = refl
+  stored2 x _ z h = refl
 
   on_stored2 : (o q r : Option Tree) → is_stored q ≡ false → is_falsified p m (on_three o q r en2) ≡ false
   on_stored2 (Some x) (Some s) (Some z) h = free_none p m _ (stored2 x s z h)
@@ -109,6 +150,33 @@ module _ (p : Posed) (m : Assignment) where
   pub prune5 : (e f x u : ℕ) → is_head_out p m (entity_said p (En5 e f f u)) ≡ false → IsFree p m (En5 e f x u)
   prune5 e f x u = on_head5 (term_of p e) (term_of p f) (term_of p x) (term_of p u)
 
+  no_second : (a b : Bool) → (a && (false && b)) ≡ false
+  no_second true b = refl
+  no_second false b = refl
+
+  second_free : (s t : Signed) (parts : List Signed) → is_out m (literal_for p t) ≡ false → is_falsified p m (Some (s ∷ t ∷ parts)) ≡ false
+  unfolding is_falsified
+  second_free s t parts h =
+      ap (λ (b : Bool). is_out m (literal_for p s) && (b && is_broken m (clause_for p parts))) h ∙ no_second (is_out m (literal_for p s)) (is_broken m (clause_for p parts))
+
+  given_second : (test : Bool) (s t : Signed) (parts : List Signed) → is_second_out p m (given test (s ∷ t ∷ parts)) ≡ false → is_falsified p m (given test (s ∷ t ∷ parts)) ≡ false
+  given_second true s t parts h = second_free s t parts h
+  given_second false s t parts h = free_none p m None refl
+
+  second5 : (e f x u : Tree) → is_second_out p m (en5 e f x u) ≡ false → is_falsified p m (en5 e f x u) ≡ false
+  second5 e f x (one (unary.Ancestors k) g) h = given_second (tree_eq f g) (unless (member f (above (tree_sort f) e))) (unless (member x (above k g))) (so (member x (above k e)) ∷ []) h
+  second5 e f x _ h = free_none p m None refl
+
+  on_second5 : (o q r t : Option Tree) → is_second_out p m (on_four o q r t en5) ≡ false → is_falsified p m (on_four o q r t en5) ≡ false
+  on_second5 (Some e) (Some f) (Some x) (Some u) h = second5 e f x u h
+  on_second5 (Some e) (Some f) (Some x) None h = free_none p m None refl
+  on_second5 (Some e) (Some f) None t h = free_none p m None refl
+  on_second5 (Some e) None r t h = free_none p m None refl
+  on_second5 None q r t h = free_none p m None refl
+
+  pub prune5x : (e f x u : ℕ) → is_second_out p m (entity_said p (En5 e f x u)) ≡ false → IsFree p m (En5 e f x u)
+  prune5x e f x u = on_second5 (term_of p e) (term_of p f) (term_of p x) (term_of p u)
+
   given_said : (test : Bool) (parts others : List Signed) → is_some (count_of (given test others)) ≡ false → is_falsified p m (given test parts) ≡ false
   given_said true parts others h = absurd cc
   given_said false parts others h = free_none p m None refl
@@ -130,11 +198,8 @@ module _ (p : Posed) (m : Assignment) where
   prune5f e f x u = on_said5 (term_of p e) (term_of p f) (term_of p x) (term_of p u)
 
   stored5 : (e f x u : Tree) → is_stored (Some u) ≡ false → en5 e f x u ≡ None
-  stored5 e f x (one o g) h = absurd cc
-  stored5 e f x (leaf l) h = refl
-  stored5 e f x (two o a b) h = refl
-  stored5 e f x (choice c a b) h = refl
-  stored5 e f x (many o ts) h = refl
+  stored5 e f x (one (unary.Ancestors k) g) h = absurd cc
+  stored5 e f x _ h = refl
 
   on_stored5 : (o q r t : Option Tree) → is_stored t ≡ false → is_falsified p m (on_four o q r t en5) ≡ false
   on_stored5 (Some e) (Some f) (Some x) (Some u) h = free_none p m _ (stored5 e f x u h)
@@ -149,11 +214,8 @@ module _ (p : Posed) (m : Assignment) where
   -- ---- EN7
 
   stored7 : (s x : Tree) → is_stored (Some s) ≡ false → en7 p.schema s x ≡ None
-  stored7 (one o g) x h = absurd cc
-  stored7 (leaf l) x h = refl
-  stored7 (two o a b) x h = refl
-  stored7 (choice c a b) x h = refl
-  stored7 (many o ts) x h = refl
+  stored7 (one (unary.Ancestors k) g) x h = absurd cc
+  stored7 _ x h = refl
 
   on_stored7 : (o q : Option Tree) → is_stored o ≡ false → is_falsified p m (on_two o q (en7 p.schema)) ≡ false
   on_stored7 (Some s) (Some x) h = free_none p m _ (stored7 s x h)

@@ -9,7 +9,7 @@ use Rattle.sc_instances.specs.Instances.{HasEntity, said_by, entity_clause, enti
 use Rattle.sc_instances.specs.Known.{is_falsified, NoneFalsified}
 use Rattle.sc_instances.specs.Names.{entity_rule}
 use Rattle.sc_instances.specs.declared.rule.EntityRule.{EntityRule}
-use Rattle.th_entities.proofs.FalseLaws.{falsified_clause, falsified_instance, instance_free}
+use Rattle.sc_instances.proofs.FalseLaws.{falsified_instance, instance_free}
 
 module _ (p : Posed) where
   module _ (i : Instance) where
@@ -39,10 +39,10 @@ module _ (p : Posed) where
       Out rule = is_falsified p m (entity_said p rule) ≡ true
 
       pub written_has : (o : Option EntityRule) (rule : EntityRule) → entity_rule i ≡ Some rule → o ≡ Some rule → IfSome o Out → HasEntity p i
-      written_has o rule e is h = (has_some (entity_rule i) rule refl e).0 (falsified_instance m p (entity_said p rule) (subst (λ q. IfSome q Out) is h))
+      written_has o rule e is h = (has_some (entity_rule i) rule refl e).0 (falsified_instance m p (entity_said p rule) (subst (λ q. IfSome q Out) is h)).0
 
       pub written_false : (o : Option EntityRule) (rule : EntityRule) → entity_rule i ≡ Some rule → o ≡ Some rule → IfSome o Out → falsifies m (entity_clause p i) ≡ true
-      written_false o rule e is h = ap (falsifies m) (sym (clause_some (entity_rule i) rule refl e)) ∙ falsified_clause m p (entity_said p rule) (subst (λ q. IfSome q Out) is h)
+      written_false o rule e is h = ap (falsifies m) (sym (clause_some (entity_rule i) rule refl e)) ∙ (falsified_instance m p (entity_said p rule) (subst (λ q. IfSome q Out) is h)).1
 
       pub none_false : (o : Option EntityRule) → o ≡ None → IfNone o (NoneFalsified entity_said p m) → HasEntity p i → falsifies m (entity_clause p i) ≡ false
       unfolding is_falsified

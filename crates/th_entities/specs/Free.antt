@@ -3,6 +3,7 @@ use Rattle.std.specs.Prelude.{◌≡◌, ◌&&◌, ◌+◌, ◌<◌, ℕ, Bool, 
 use Rattle.sc_clauses.specs.declared.lit.Lit.{Lit}
 use Rattle.sc_clauses.specs.Assignments.{Assignment, is_false}
 use Rattle.sc_nodes.specs.declared.node.BinaryOp.TheVariants as binary
+use Rattle.sc_nodes.specs.declared.node.UnaryOp.TheVariants as unary
 use Rattle.sc_terms.specs.Trees.{Tree, one, two}
 use Rattle.sc_footprint.specs.Problems.{Posed}
 use Rattle.sc_instances.specs.declared.rule.EntityRule.{EntityRule}
@@ -29,9 +30,15 @@ abbrev pub is_head_out : Posed → Assignment → Said → Bool
 is_head_out p m (Some (s ∷ parts)) = is_out m (literal_for p s)
 is_head_out p m _ = false
 
--- a set that is stored of an entity
+-- the second literal is
+abbrev pub is_second_out : Posed → Assignment → Said → Bool
+is_second_out p m (Some (s ∷ t ∷ parts)) = is_out m (literal_for p t)
+is_second_out p m _ = false
+
+-- a set that is stored of an entity: its ancestors of one type, or its keys
 abbrev pub is_stored : Option Tree → Bool
-is_stored (Some (one o e)) = true
+is_stored (Some (one (unary.Ancestors k) e)) = true
+is_stored (Some (one unary.Keys e)) = true
 is_stored _ = false
 
 abbrev pub is_tag : Option Tree → Bool

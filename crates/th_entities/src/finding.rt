@@ -6,7 +6,7 @@ ghost use Rattle.sc_instances.specs.Instances.{entity_said};
 ghost use Rattle.sc_instances.specs.Known.{NoneFalsified, is_falsified as falsified_of};
 ghost use Rattle.th_entities.specs.Free.{IsFree};
 
-use crate::testing::{has_attributes, is_head_out, is_said, is_stored, is_tag};
+use crate::testing::{has_attributes, is_head_out, is_said, is_second_out, is_stored, is_tag};
 use sc_clauses::Assignment;
 use sc_entity_rows::Said;
 use sc_footprint::Problem;
@@ -75,11 +75,15 @@ fn moved_members(problem: &Problem<'_>, m: &Assignment, s: u64, z: u64) -> Optio
     None
 }
 
-/// The same where the two are of entities that are equal.
+/// The same where the two are of entities that are equal. A set and itself have the same members.
+#[tactic(auto, using(crate::proofs::PruneLaws::prune2z))]
 fn equal_sets(problem: &Problem<'_>, m: &Assignment, s: u64, z: u64) -> Option<EntityRule>
     ensures found { IfSome result (λ rule. falsified_of problem.now m.now (entity_said problem.now rule) ≡ true) }
     ensures none { IfNone result ((x : ℕ) → IsFree problem.now m.now (En2 x s z)) }
 {
+    if s == z {
+        return None;
+    }
     if is_head_out(problem, m, EntityRule::En2(s, s, z)) {
         return moved_members(problem, m, s, z);
     }
@@ -160,13 +164,24 @@ fn third_rule(problem: &Problem<'_>, m: &Assignment) -> Option<EntityRule>
     None
 }
 
+/// The instance of EN5 for two entities and an ancestor, if an assignment falsifies it.
+fn top(problem: &Problem<'_>, m: &Assignment, e: u64, f: u64, x: u64, u: u64) -> Option<EntityRule>
+    ensures found { IfSome result (λ rule. falsified_of problem.now m.now (entity_said problem.now rule) ≡ true) }
+    ensures none { IfNone result (IsFree problem.now m.now (En5 e f x u)) }
+{
+    if is_second_out(problem, m, EntityRule::En5(e, f, x, u)) {
+        return if_falsified(problem, m, EntityRule::En5(e, f, x, u));
+    }
+    None
+}
+
 /// An instance of EN5 for two entities and any ancestor.
 fn tops(problem: &Problem<'_>, m: &Assignment, e: u64, f: u64, u: u64) -> Option<EntityRule>
     ensures found { IfSome result (λ rule. falsified_of problem.now m.now (entity_said problem.now rule) ≡ true) }
     ensures none { IfNone result ((x : ℕ) → IsFree problem.now m.now (En5 e f x u)) }
 {
     for n in 0..problem.closed_count() {
-        if let Some(rule) = if_falsified(problem, m, EntityRule::En5(e, f, n + 1, u)) {
+        if let Some(rule) = top(problem, m, e, f, n + 1, u) {
             return Some(rule);
         }
     }

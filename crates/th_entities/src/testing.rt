@@ -4,13 +4,13 @@ ghost use Rattle.sc_footprint.specs.Problems.{term_of};
 ghost use Rattle.sc_instances.specs.declared.rule.EntityRule.TheVariants.{En1};
 ghost use Rattle.sc_instances.specs.Instances.{entity_said};
 ghost use Rattle.sc_instances.specs.Saying.{count_of};
-ghost use Rattle.th_entities.specs.Free.{is_head_out as head_test, is_out as out_test, is_stored as stored_test, is_tag as tag_test};
+ghost use Rattle.th_entities.specs.Free.{is_head_out as head_test, is_second_out as second_test, is_out as out_test, is_stored as stored_test, is_tag as tag_test};
 
 use sc_clauses::{Assignment, Lit, is_false, is_same};
 use sc_entity_rows::Said;
 use sc_footprint::Problem;
 use sc_instances::{EntityRule, Saying, TRUE, attributes};
-use sc_nodes::{BinaryOp, Node};
+use sc_nodes::{BinaryOp, Node, UnaryOp};
 
 /// Whether a literal is asked and false.
 fn is_out(m: &Assignment, lit: Lit) -> bool
@@ -44,6 +44,20 @@ pub(crate) fn is_head_out(problem: &Problem<'_>, m: &Assignment, rule: EntityRul
     is_out(m, said.literal(0))
 }
 
+/// Whether the second literal of an instance is asked and false.
+pub(crate) fn is_second_out(problem: &Problem<'_>, m: &Assignment, rule: EntityRule) -> bool
+    ensures { result ≡ second_test problem.now m.now (entity_said problem.now rule) }
+{
+    let said = Said { problem, rule };
+    let Some(count) = said.count() else {
+        return false;
+    };
+    if count < 2 {
+        return false;
+    }
+    is_out(m, said.literal(1))
+}
+
 /// Whether an entity has closed attributes.
 pub(crate) fn has_attributes(problem: &Problem<'_>, e: u64) -> bool
     ensures { result ≡ false → (f : ℕ) → entity_said problem.now (En1 e f) ≡ None }
@@ -57,7 +71,7 @@ pub(crate) fn has_attributes(problem: &Problem<'_>, e: u64) -> bool
     }
 }
 
-/// Whether a closed term is stored of an entity.
+/// Whether a closed term is the ancestors of an entity, or the keys of its tags.
 pub(crate) fn is_stored(problem: &Problem<'_>, s: u64) -> bool
     ensures { result ≡ stored_test (term_of problem.now s) }
 {
@@ -65,7 +79,8 @@ pub(crate) fn is_stored(problem: &Problem<'_>, s: u64) -> bool
         return false;
     };
     match problem.terms().node(at) {
-        Node::One(_, _) => true,
+        Node::One(UnaryOp::Ancestors(_), _) => true,
+        Node::One(UnaryOp::Keys, _) => true,
         _ => false,
     }
 }

@@ -11,15 +11,15 @@ use Rattle.sc_terms.specs.Trees.{Tree, leaf, one, two, choice, many}
 use Rattle.sc_terms.specs.Tables.{tree}
 use Rattle.sc_footprint.proofs.NumberingLaws.{at_suc, numbered_map}
 use Rattle.sc_footprint.specs.Problems.{Posed, closed_terms, numbered, term_of}
-use Rattle.sc_rules.specs.Equal.{are_options, eq2, eq3, eq3_of, eq4, eq4_of, eq5, eq6, eq7, field_at}
+use Rattle.sc_rules.specs.Equal.{are_options, eq2, eq3, eq3_of, eq4, eq4_of, eq5, eq6, eq7, eq8, field_at}
 use Rattle.sc_rules.specs.Signed.{Signed, Said, given}
 use Rattle.sc_rules.specs.Terms.{fields_of, is_option, one_sort}
 use Rattle.sc_instances.specs.declared.rule.EqualRule.{EqualRule}
-use Rattle.sc_instances.specs.declared.rule.EqualRule.TheVariants.{Eq2, Eq3, Eq4, Eq8}
+use Rattle.sc_instances.specs.declared.rule.EqualRule.TheVariants.{Eq3, Eq4, Eq8}
 use Rattle.sc_instances.specs.Instances.{on_one, on_two}
 use Rattle.sc_instances.specs.Known.{is_falsified}
-use Rattle.th_equal.specs.Equations.{AreSides}
-use Rattle.th_equal.specs.Free.{IsKept, IsFree, AreFieldsFree, AreRecordsFree, AreOptionsFree, IsPairFree, AreSidesFree, IsEquationFree, IsTermFree, AreTermsFree, AreFirstFree}
+use Rattle.th_equal.specs.Equations.{AreSides, is_choice}
+use Rattle.th_equal.specs.Free.{IsKept, IsFree, AreFieldsFree, AreRecordsFree, AreOptionsFree, IsPairFree, AreSidesFree, IsEquationFree, IsChoiceFree, IsTermFree, AreTermsFree, AreFirstFree}
 
 -- ---- what says nothing
 
@@ -37,6 +37,10 @@ no_fields (Some l) e = absurd cc
 past_fields : (fs : Option SortFields) (count i : ℕ) → Some count ≡ option_map (λ (l : SortFields). length l) fs → count ≤ i → field_at fs i ≡ None
 past_fields None count i e h = absurd cc
 past_fields (Some l) count i e h = let same : count ≡ length l = same_some e in slice_get_past l i (omega (arith, same, h))
+
+eq2_none : (t : Tree) (side : ℕ) → is_choice t ≡ false → eq2 t side ≡ None
+eq2_none (choice c a b) side h = absurd cc
+eq2_none _ side h = refl
 
 module _ (t u : Tree) (other : is_option t ≡ false) where
   no_two : are_options t u ≡ false
@@ -163,7 +167,17 @@ module _ (p : Posed) (m : Assignment) where
   no_term None e = record { eq2_free = λ side. nothing_kept; eq8_free = nothing_kept; equation = λ t f. absurd cc }
   no_term (Some t) e = absurd cc
 
-  eq2_all : (o : Option Tree) → IsKept p m (on_one o (λ t. eq2 t 0)) → IsKept p m (on_one o (λ t. eq2 t 1)) → (side : ℕ) → IsKept p m (on_one o (λ t. eq2 t side))
+  -- a rule on one term of which it says nothing
+  mute_one : (o : Option Tree) (t : Tree) (rule : Tree → Said) → o ≡ Some t → rule t ≡ None → IsKept p m (on_one o rule)
+  mute_one o t rule e h = kept_none (on_one o rule) (ap (λ (x : Option Tree). on_one x rule) e ∙ h)
+
+  pub no_choice : (o : Option Tree) (t : Tree) → o ≡ Some t → is_choice t ≡ false → IsChoiceFree p m o
+  no_choice o t e h side = mute_one o t (λ u. eq2 u side) e (eq2_none t side h)
+
+  pub no_option : (o : Option Tree) (t : Tree) → o ≡ Some t → is_option t ≡ false → IsKept p m (on_one o eq8)
+  no_option o t e h = mute_one o t eq8 e (given_none (is_option t) _ h)
+
+  eq2_all : (o : Option Tree) → IsKept p m (on_one o (λ t. eq2 t 0)) → IsKept p m (on_one o (λ t. eq2 t 1)) → IsChoiceFree p m o
   eq2_all o e f zero = e
   eq2_all o e f (suc zero) = f
   eq2_all None e f (suc (suc side)) = nothing_kept
@@ -173,11 +187,14 @@ module _ (p : Posed) (m : Assignment) where
   eq2_all (Some (choice c a b)) e f (suc (suc side)) = nothing_kept
   eq2_all (Some (many op ts)) e f (suc (suc side)) = nothing_kept
 
-  pub term_free : (n : ℕ) (t : Tree) (o : Option EqualRule) → term_of p n ≡ Some t → IsFree p m (Eq2 n 0) → IsFree p m (Eq2 n 1) → IsFree p m (Eq8 n) → IfNone o (IsEquationFree p m t)
-      → IfNone o (IsTermFree p m (term_of p n))
-  term_free n t (Some rule) e f g h k = tt
-  term_free n t None e f g h k = record {
-    eq2_free = eq2_all (term_of p n) f g;
+  pub choice_free : (o : Option Tree) (r : Option EqualRule) → IsKept p m (on_one o (λ t. eq2 t 0)) → IfNone r (IsKept p m (on_one o (λ t. eq2 t 1))) → IfNone r (IsChoiceFree p m o)
+  choice_free o (Some rule) e f = tt
+  choice_free o None e f = eq2_all o e f
+
+  pub term_free : (n : ℕ) (t : Tree) (o : Option EqualRule) → term_of p n ≡ Some t → IsChoiceFree p m (term_of p n) → IsFree p m (Eq8 n) → IfNone o (IsEquationFree p m t) → IfNone o (IsTermFree p m (term_of p n))
+  term_free n t (Some rule) e f h k = tt
+  term_free n t None e f h k = record {
+    eq2_free = f;
     eq8_free = h;
     equation = λ u i. subst (λ (x : Tree). IsEquationFree p m x) (same_some (sym e ∙ i)) k;
   }

@@ -1,11 +1,9 @@
 -- Each falsified instance of EQ2 to EQ8 is named by a closed term, so none is where all that closed terms name are free.
-use Rattle.std.proofs.Common.{◌≡◌, ◌≢◌, ◌⊎◌, ℕ, zero, suc, Bool, true, false, not, inl, inr, List, ◌∷◌, slice_get, Option, Some, None, option_map, Contains, refl, sym, ap, ◌∙◌, subst}
+use Rattle.std.proofs.Common.{◌≡◌, ◌≢◌, ◌⊎◌, ℕ, zero, suc, Bool, true, false, inl, inr, List, ◌∷◌, slice_get, Option, Some, None, Contains, refl, sym, ◌∙◌, subst}
 use Rattle.std.proofs.lemmas.Bool.{and_parts, true≢false}
 use Rattle.sc_lists.proofs.MemberLaws.{Has-from_Contains}
 use Rattle.sc_lists.proofs.OptionLaws.{same_some}
 use Rattle.sc_clauses.specs.Assignments.{Assignment}
-use Rattle.sc_clauses.specs.Clauses.{bool_eq}
-use Rattle.sc_clauses.specs.declared.lit.Lit.{Lit}
 use Rattle.sc_sorts.specs.declared.sort.Sort.{Sort, out-Sort}
 use Rattle.sc_sorts.specs.Inside.{SortField, SortFields}
 use Rattle.sc_nodes.specs.declared.node.BinaryOp.TheVariants.{Equal}
@@ -17,19 +15,15 @@ use Rattle.sc_rules.specs.Equal.{are_options, eq3, eq3_of, eq4, eq4_of, eq5, eq6
 use Rattle.sc_rules.specs.Signed.{Signed, Said, so, unless, given}
 use Rattle.sc_rules.specs.Terms.{fields_of, is_option, one_sort}
 use Rattle.sc_rules.proofs.EqualSound.{one_sort_is}
-use Rattle.sc_instances.proofs.FalseLaws.{asked_equation, false_known, false_negation, true_isnt_false}
+use Rattle.sc_instances.proofs.FalseLaws.{asked_equation, false_known, false_negation, true_isnt_false, known_atom}
 use Rattle.sc_instances.specs.declared.rule.EqualRule.TheVariants.{Eq1, Eq2, Eq3, Eq4, Eq5, Eq6, Eq7, Eq8}
 use Rattle.sc_instances.specs.Instances.{equal_said, on_two}
-use Rattle.sc_instances.specs.Known.{known, seen_value, is_falsified, NoneFalsified}
+use Rattle.sc_instances.specs.Known.{known, is_falsified, NoneFalsified}
 use Rattle.sc_equal_chains.specs.Naming.{IsChainFree}
 use Rattle.th_equal.specs.Free.{IsKept, IsPairFree, AreTermsFree}
 use Rattle.th_equal.proofs.CompositeLaws.{is_composite, is_composite_level, record_composite, option_composite, no_literal, no_constant}
 use Rattle.th_equal.proofs.FreeLaws.{nothing_kept}
 use Rattle.th_equal.proofs.NumberLaws.{closed_number}
-
--- what is known is of an atom
-known_atom : (m : Assignment) (l : Lit) (b : Bool) → known m l ≡ Some b → l.atom ≢ 0
-known_atom m l b h e = let none : None ≡ Some b = ap (λ (n : ℕ). option_map (λ (v : Bool). bool_eq v (not l.negated)) (seen_value m n)) (sym e) ∙ h in absurd cc
 
 -- two records or options of one sort that aren't one, of whose equation something is known
 record AreEquated (p : Posed) (a b : Tree) : Type 0 where

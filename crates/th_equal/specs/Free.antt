@@ -48,12 +48,16 @@ AreSidesFree p m a b =
 
 -- ---- of one closed term
 
+-- EQ2
+abbrev pub IsChoiceFree : Posed → Assignment → Option Tree → Type 0
+IsChoiceFree p m o = (side : ℕ) → IsKept p m (on_one o (λ t. eq2 t side))
+
 -- of the sides of an equation
 abbrev pub IsEquationFree : Posed → Assignment → Tree → Type 0
 IsEquationFree p m t = (a b : Tree) → t ≡ two Equal a b → AreSidesFree p m a b
 
 pub record IsTermFree (p : Posed) (m : Assignment) (o : Option Tree) : Type 0 where
-  pub eq2_free : (side : ℕ) → IsKept p m (on_one o (λ t. eq2 t side))
+  pub eq2_free : IsChoiceFree p m o
   pub eq8_free : IsKept p m (on_one o eq8)
   pub equation : (t : Tree) → o ≡ Some t → IsEquationFree p m t
 

@@ -1,7 +1,7 @@
-//! Equations of the table, and the numbers of closed terms.
-ghost use Rattle.std.specs.Prelude.{◌<◌, length};
+//! Equations and choices of the table, and the numbers of closed terms.
+ghost use Rattle.std.specs.Prelude.{◌≡◌, ◌<◌, length};
 ghost use Rattle.sc_terms.specs.Tables.{tree};
-ghost use Rattle.th_equal.specs.Equations.{AreSidesIf, IsNumberIf};
+ghost use Rattle.th_equal.specs.Equations.{AreSidesIf, IsNumberIf, is_choice as choice_test};
 
 use sc_footprint::Problem;
 use sc_nodes::{BinaryOp, Node};
@@ -14,6 +14,17 @@ pub(crate) fn sides(problem: &Problem<'_>, at: u64) -> Option<(u64, u64)>
     match problem.terms().node(at) {
         Node::Two(BinaryOp::Equal, a, b) => Some((*a, *b)),
         _ => None,
+    }
+}
+
+/// Whether a term is a choice.
+pub(crate) fn is_choice(problem: &Problem<'_>, at: u64) -> bool
+    requires { at < length problem.now.nodes }
+    ensures { result ≡ choice_test (tree problem.now.nodes at) }
+{
+    match problem.terms().node(at) {
+        Node::Choice(_, _, _) => true,
+        _ => false,
     }
 }
 

@@ -4,9 +4,10 @@ ghost use Rattle.sc_terms.specs.Tables.{tree};
 ghost use Rattle.sc_footprint.specs.Problems.{term_of};
 ghost use Rattle.sc_instances.specs.Instances.{equal_said};
 ghost use Rattle.sc_instances.specs.Known.{is_falsified as falsified_of};
-ghost use Rattle.th_equal.specs.Free.{IsFree, AreFieldsFree, AreRecordsFree, AreOptionsFree, IsPairFree, AreSidesFree, IsEquationFree, IsTermFree, AreTermsFree};
+ghost use Rattle.sc_instances.specs.declared.rule.EqualRule.TheVariants.{Eq8};
+ghost use Rattle.th_equal.specs.Free.{IsFree, AreFieldsFree, AreRecordsFree, AreOptionsFree, IsPairFree, AreSidesFree, IsEquationFree, IsChoiceFree, IsTermFree, AreTermsFree};
 
-use crate::equations::{number, sides};
+use crate::equations::{is_choice, number, sides};
 use sc_clauses::Assignment;
 use sc_equal_rows::Said;
 use sc_footprint::Problem;
@@ -126,6 +127,35 @@ fn at_equation(problem: &Problem<'_>, m: &Assignment, at: u64) -> Option<EqualRu
 
 // ---- by any closed term
 
+/// An instance of EQ2, if a closed term is a choice.
+fn at_choice(problem: &Problem<'_>, m: &Assignment, n: u64, at: u64) -> Option<EqualRule>
+    requires at_in { at < length problem.now.nodes }
+    requires term { term_of problem.now n ≡ Some (tree problem.now.nodes at) }
+    ensures found { IfSome result (λ rule. falsified_of problem.now m.now (equal_said problem.now rule) ≡ true) }
+    ensures none { IfNone result (IsChoiceFree problem.now m.now (term_of problem.now n)) }
+{
+    if !is_choice(problem, at) {
+        return None;
+    }
+    if let Some(rule) = if_falsified(problem, m, EqualRule::Eq2(n, 0)) {
+        return Some(rule);
+    }
+    if_falsified(problem, m, EqualRule::Eq2(n, 1))
+}
+
+/// An instance of EQ8, if a closed term is an option.
+fn at_option(problem: &Problem<'_>, m: &Assignment, n: u64, at: u64) -> Option<EqualRule>
+    requires at_in { at < length problem.now.nodes }
+    requires term { term_of problem.now n ≡ Some (tree problem.now.nodes at) }
+    ensures found { IfSome result (λ rule. falsified_of problem.now m.now (equal_said problem.now rule) ≡ true) }
+    ensures none { IfNone result (IsFree problem.now m.now (Eq8 n)) }
+{
+    if !is_sort_option(problem, at) {
+        return None;
+    }
+    if_falsified(problem, m, EqualRule::Eq8(n))
+}
+
 /// An instance that the closed term of a number names.
 fn at_term(problem: &Problem<'_>, m: &Assignment, n: u64) -> Option<EqualRule>
     ensures found { IfSome result (λ rule. falsified_of problem.now m.now (equal_said problem.now rule) ≡ true) }
@@ -134,13 +164,10 @@ fn at_term(problem: &Problem<'_>, m: &Assignment, n: u64) -> Option<EqualRule>
     let Some(at) = problem.term(n) else {
         return None;
     };
-    if let Some(rule) = if_falsified(problem, m, EqualRule::Eq2(n, 0)) {
+    if let Some(rule) = at_choice(problem, m, n, at) {
         return Some(rule);
     }
-    if let Some(rule) = if_falsified(problem, m, EqualRule::Eq2(n, 1)) {
-        return Some(rule);
-    }
-    if let Some(rule) = if_falsified(problem, m, EqualRule::Eq8(n)) {
+    if let Some(rule) = at_option(problem, m, n, at) {
         return Some(rule);
     }
     at_equation(problem, m, at)

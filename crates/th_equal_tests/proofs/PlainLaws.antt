@@ -1,14 +1,9 @@
 -- Terms over plain nodes are plain, and such as are terms of truth values are goals.
 use Rattle.std.proofs.Common.{◌≡◌, ◌<◌, ◌≤◌, ◌+◌, ℕ, true, false, List, [], ◌∷◌, length, Contains, refl, sym, subst, arith, ⊎_elim}
 use Rattle.std.proofs.lemmas.Bool.{cases_lt}
-use Rattle.std.specs.List.{AllByRecursion}
-use Rattle.sc_lists.proofs.ListLaws.{contains_nothing}
 use Rattle.sc_names.specs.declared.uid.Uid.{Uid}
 use Rattle.sc_schema.specs.declared.declarations.Env.{Env}
 use Rattle.sc_schema.specs.Declarations.{Declarations, environments}
-use Rattle.sc_world.specs.Named.{IsDeclared}
-use Rattle.sc_sorts.specs.declared.sort.Sort.{Sort, Sort-F, out-Sort}
-use Rattle.sc_sorts.specs.declared.sort.Sort.TheOpen as s
 use Rattle.sc_nodes.specs.declared.node.BinaryOp.{BinaryOp}
 use Rattle.sc_nodes.specs.declared.node.BinaryOp.TheVariants as binary
 use Rattle.sc_nodes.specs.declared.node.Leaf.TheVariants as leafs
@@ -18,10 +13,9 @@ use Rattle.sc_nodes.specs.declared.node.Node.TheVariants as node
 use Rattle.sc_terms.specs.TreeSorts.{tree_sort}
 use Rattle.sc_terms.specs.Tables.{tree, node_tree, node_parts, Places, AreBelow, PartsAreBelow}
 use Rattle.sc_term_laws.specs.Judging.{IsTermOf}
-use Rattle.sc_term_laws.specs.Tests.{bool_level}
-use Rattle.sc_term_laws.proofs.TestLaws.{bool_sort}
 use Rattle.sc_closure_rules.specs.Goals.{is_pick, has_pick, some_pick, uids_of, all_uids, IsGoal}
-use Rattle.sc_closure.specs.Atoms.{is_bool, is_bool_in}
+use Rattle.sc_closure.specs.Atoms.{is_bool}
+use Rattle.sc_test_goals.proofs.GoalLaws.{plain_goal as goal_of}
 use Rattle.th_equal_tests.specs.Plain.{is_plain_node, IsPlain, ArePlain}
 
 -- ---- the terms of a table, one more at a time
@@ -75,18 +69,8 @@ module _ (xs : List Node) where
 
 -- ---- goals
 
-truth_level : (x : Sort-F Sort) → is_bool_in x ≡ true → bool_level x ≡ true
-truth_level s.Bool h = refl
-truth_level _ h = absurd cc
-
 pub plain_goal : (d : Declarations) (env : Env) (ls : List Uid) (xs : List Node) (n : ℕ) → Contains (environments d) env → ls ≡ [] → n < length xs → ArePlain xs (length xs) → is_bool (tree xs n) ≡ true
     → IsTermOf d env ls (tree_sort (tree xs n)) (tree xs n) → IsGoal d env ls (tree xs n)
 plain_goal d env ls xs n among none within plain truth term =
     let t = plain_at xs n within plain in
-    record {
-      environment = among;
-      term = subst (λ (k : Sort). IsTermOf d env ls k (tree xs n)) (bool_sort (tree_sort (tree xs n)) (truth_level (out-Sort (tree_sort (tree xs n))) truth)) term;
-      plain = t.picks_none;
-      written = λ u k. absurd (contains_nothing u (subst (λ (us : List Uid). Contains us u) t.writes_none k));
-      declared = subst (AllByRecursion (IsDeclared d)) (sym none) tt;
-    }
+    goal_of d env ls xs n among none (record { within = within; picks_none = t.picks_none; writes_none = t.writes_none }) truth term

@@ -9,9 +9,9 @@ use Rattle.sc_instances.specs.Instances.{HasSet, said_by, set_clause, set_said}
 use Rattle.sc_instances.specs.Known.{is_falsified, NoneFalsified}
 use Rattle.sc_instances.specs.Names.{set_rule}
 use Rattle.sc_instances.specs.declared.rule.SetRule.{SetRule}
+use Rattle.sc_instances.proofs.FalseLaws.{falsified_instance, instance_free}
 use Rattle.th_sets.specs.Free.{AreNamedFree}
 use Rattle.th_sets.specs.Moves.{AreMovesFree}
-use Rattle.th_sets.proofs.FalseLaws.{falsified_clause, falsified_instance, instance_free}
 use Rattle.th_sets.proofs.WholeLaws.{none_falsified}
 
 module _ (p : Posed) where
@@ -46,10 +46,10 @@ module _ (p : Posed) where
       Out rule = is_falsified p m (set_said p rule) ≡ true
 
       pub written_has : (o : Option SetRule) (rule : SetRule) → set_rule i ≡ Some rule → o ≡ Some rule → IfSome o Out → HasSet p i
-      written_has o rule e is h = (has_some (set_rule i) rule refl e).0 (falsified_instance m p (set_said p rule) (subst (λ q. IfSome q Out) is h))
+      written_has o rule e is h = (has_some (set_rule i) rule refl e).0 (falsified_instance m p (set_said p rule) (subst (λ q. IfSome q Out) is h)).0
 
       pub written_false : (o : Option SetRule) (rule : SetRule) → set_rule i ≡ Some rule → o ≡ Some rule → IfSome o Out → falsifies m (set_clause p i) ≡ true
-      written_false o rule e is h = ap (falsifies m) (sym (clause_some (set_rule i) rule refl e)) ∙ falsified_clause m p (set_said p rule) (subst (λ q. IfSome q Out) is h)
+      written_false o rule e is h = ap (falsifies m) (sym (clause_some (set_rule i) rule refl e)) ∙ (falsified_instance m p (set_said p rule) (subst (λ q. IfSome q Out) is h)).1
 
       pub none_false : (o : Option SetRule) → o ≡ None → IfNone o (NoneFalsified set_said p m) → HasSet p i → falsifies m (set_clause p i) ≡ false
       unfolding is_falsified

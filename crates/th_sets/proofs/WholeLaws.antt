@@ -17,12 +17,13 @@ use Rattle.sc_instances.specs.Clauses.{literal_for}
 use Rattle.sc_instances.specs.Instances.{on_two, on_three, set_said}
 use Rattle.sc_instances.specs.Known.{is_falsified, NoneFalsified}
 use Rattle.sc_instances.specs.declared.rule.SetRule.TheVariants.{Se1, Se2, Se3, Se4, Se5, Se6, Se7, Se8}
+use Rattle.sc_instances.proofs.InstanceLaws.{asked_atom}
 use Rattle.th_sets.specs.declared.named.Named.{Named}
 use Rattle.th_sets.specs.declared.named.Named.TheVariants.{Member, Subset, Common}
 use Rattle.th_sets.specs.Free.{IsFree, IsBesideFree, IsMemberFree, IsNamedFree, AreNamedFree}
 use Rattle.th_sets.specs.Moves.{AreMovesFree}
 use Rattle.th_sets.specs.Named.{number_in, named_if, named_at}
-use Rattle.th_sets.proofs.FalseLaws.{is_out, asked_some, head_out, tail_out, nothing_out, free_if}
+use Rattle.th_sets.proofs.FalseLaws.{is_out, head_out, tail_out, nothing_out, free_if}
 use Rattle.th_sets.proofs.NumberLaws.{number_back, listed_two}
 
 module _ (p : Posed) (m : Assignment) where
@@ -48,10 +49,10 @@ module _ (p : Posed) (m : Assignment) where
   module _ (posed : IsPosed p) where
     -- an operator on two terms that stands in a falsified instance is closed
     pub so_there : (o : BinaryOp) (a b : Tree) → is_out m (literal_for p (so (two o a b))) ≡ true → (n : ℕ) × (term_of p n ≡ Some (two o a b))
-    so_there o a b h = listed_two p posed o a b (asked_some (literal_for p (so (two o a b))) (and_parts _ _ h).0)
+    so_there o a b h = listed_two p posed o a b (asked_atom (literal_for p (so (two o a b))) (and_parts _ _ h).0)
 
     pub unless_there : (o : BinaryOp) (a b : Tree) → is_out m (literal_for p (unless (two o a b))) ≡ true → (n : ℕ) × (term_of p n ≡ Some (two o a b))
-    unless_there o a b h = listed_two p posed o a b (asked_some (literal_for p (unless (two o a b))) (and_parts _ _ h).0)
+    unless_there o a b h = listed_two p posed o a b (asked_atom (literal_for p (unless (two o a b))) (and_parts _ _ h).0)
 
     named_of : (o : BinaryOp) (K : ℕ → ℕ → Named) → ((a b : Tree) → named_if p (Some (two o a b)) ≡ K (number_in p a) (number_in p b))
         → (n i j : ℕ) (a b : Tree) → term_of p n ≡ Some (two o a b) → term_of p i ≡ Some a → term_of p j ≡ Some b → named_at p n ≡ K i j

@@ -1,6 +1,7 @@
 -- What a closed term names: a membership, an inclusion, or that two sets have a member in common. The parts have the numbers of closed
 -- terms; 0 is the number of none. No public promise speaks of it.
-use Rattle.std.specs.Prelude.{◌+◌, ◌<◌, ℕ, Option, Some, None}
+use Rattle.std.specs.Prelude.{◌≡◌, ◌+◌, ◌++◌, ◌<◌, ⊤, ℕ, List, [], ◌∷◌, Option, Some, None}
+use Rattle.sc_lists.specs.Members.{Has}
 use Rattle.sc_nodes.specs.declared.node.BinaryOp.TheVariants as binary
 use Rattle.sc_terms.specs.Trees.{Tree, two}
 use Rattle.sc_footprint.specs.Problems.{Posed, closed_terms, number_among, term_of}
@@ -27,3 +28,22 @@ named_at p n = named_if p (term_of p n)
 -- it holds of what the first so many closed terms name, by their numbers from 1 on
 unfoldable pub AreFirst : Posed → (Named → Type 0) → ℕ → Type 0
 AreFirst p P count = (n : ℕ) → n < count → P (named_at p (n + 1))
+
+-- ---- all that closed terms name, listed
+
+-- what a closed term names is among these, if that is something
+abbrev pub IsNameAmong : List Named → Named → Type 0
+IsNameAmong names (Member x s) = Has names (Member x s)
+IsNameAmong names (Subset s t) = Has names (Subset s t)
+IsNameAmong names (Common s t) = Has names (Common s t)
+IsNameAmong names Other = ⊤
+
+abbrev pub AreNames : Posed → List Named → Type 0
+AreNames p names = (n : ℕ) → IsNameAmong names (named_at p n)
+
+-- what a closed term names comes after the others, if that is something
+abbrev pub IsNamePut : List Named → Named → List Named → Type 0
+IsNamePut names (Member x s) more = more ≡ names ++ Member x s ∷ []
+IsNamePut names (Subset s t) more = more ≡ names ++ Subset s t ∷ []
+IsNamePut names (Common s t) more = more ≡ names ++ Common s t ∷ []
+IsNamePut names Other more = more ≡ names

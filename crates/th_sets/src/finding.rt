@@ -1,19 +1,20 @@
 //! SE2 to SE8: instances that an assignment falsifies, found at the closed terms that name them.
-ghost use Rattle.std.specs.Prelude.{◌≡◌, ◌<◌, length, true, ℕ, Some, IfSome, IfNone};
+ghost use Rattle.std.specs.Prelude.{◌≡◌, ◌<◌, length, true, ℕ, Some, IfOk, IfSome, IfNone};
 ghost use Rattle.std.specs.List.{AllByRecursion};
 ghost use Rattle.sc_terms.specs.Tables.{tree};
 ghost use Rattle.sc_footprint.specs.Problems.{term_of};
 ghost use Rattle.sc_instances.specs.declared.rule.SetRule.TheVariants.{Se3};
 ghost use Rattle.sc_instances.specs.Instances.{set_said};
 ghost use Rattle.sc_instances.specs.Known.{is_falsified as falsified_of};
-ghost use Rattle.th_sets.specs.Named.{named_at as named_of};
+ghost use Rattle.th_sets.specs.Named.{named_at as named_of, AreNames};
 ghost use Rattle.th_sets.specs.Free.{IsFree, IsBesideFree, IsMemberFree, IsNamedFree, AreNamedFree, by_subset, by_common, member_count as members_of};
 
-use crate::named::{Named, named_at};
+use crate::named::{Named, names};
 use crate::said::Said;
 use sc_clauses::Assignment;
 use sc_footprint::Problem;
 use sc_instances::{SetRule, is_falsified, members};
+use std::alloc::{AllocError, Global};
 
 /// The instance, if an assignment falsifies it.
 fn if_falsified(problem: &Problem<'_>, m: &Assignment, rule: SetRule) -> Option<SetRule>
@@ -96,21 +97,37 @@ fn beside_one(
 }
 
 /// The same with what any closed term names.
-fn beside(problem: &Problem<'_>, m: &Assignment, x: u64, set: u64) -> Option<SetRule>
+fn beside(
+    problem: &Problem<'_>,
+    m: &Assignment,
+    names: &[Named],
+    x: u64,
+    set: u64,
+) -> Option<SetRule>
+    requires { AreNames problem.now names.now }
     ensures found { IfSome result (λ rule. falsified_of problem.now m.now (set_said problem.now rule) ≡ true) }
     ensures none { IfNone result ((n : ℕ) → IsBesideFree problem.now m.now x set (named_of problem.now n)) }
 {
-    for n in 0..problem.closed_count() {
-        if let Some(rule) = beside_one(problem, m, x, set, named_at(problem, n + 1)) {
+    let mut rest = names;
+    while let Some((by, later)) = rest.split_first() {
+        if let Some(rule) = beside_one(problem, m, x, set, *by) {
             return Some(rule);
         }
+        rest = later;
     }
     None
 }
 
 /// An instance that a membership names.
 #[tactic(auto, using(crate::proofs::FreeLaws::free_member))]
-fn at_member(problem: &Problem<'_>, m: &Assignment, x: u64, set: u64) -> Option<SetRule>
+fn at_member(
+    problem: &Problem<'_>,
+    m: &Assignment,
+    names: &[Named],
+    x: u64,
+    set: u64,
+) -> Option<SetRule>
+    requires { AreNames problem.now names.now }
     ensures found { IfSome result (λ rule. falsified_of problem.now m.now (set_said problem.now rule) ≡ true) }
     ensures none { IfNone result (IsMemberFree problem.now m.now x set) }
 {
@@ -120,7 +137,7 @@ fn at_member(problem: &Problem<'_>, m: &Assignment, x: u64, set: u64) -> Option<
     if let Some(rule) = standing(problem, m, x, set) {
         return Some(rule);
     }
-    beside(problem, m, x, set)
+    beside(problem, m, names, x, set)
 }
 
 // ---- by any closed term
@@ -162,27 +179,45 @@ fn at_common(problem: &Problem<'_>, m: &Assignment, s: u64, t: u64) -> Option<Se
     None
 }
 
-fn at_named(problem: &Problem<'_>, m: &Assignment, by: Named) -> Option<SetRule>
+fn at_named(problem: &Problem<'_>, m: &Assignment, names: &[Named], by: Named) -> Option<SetRule>
+    requires { AreNames problem.now names.now }
     ensures found { IfSome result (λ rule. falsified_of problem.now m.now (set_said problem.now rule) ≡ true) }
     ensures none { IfNone result (IsNamedFree problem.now m.now by) }
 {
     match by {
-        Named::Member(x, s) => at_member(problem, m, x, s),
+        Named::Member(x, s) => at_member(problem, m, names, x, s),
         Named::Subset(s, t) => at_subset(problem, m, s, t),
         Named::Common(s, t) => at_common(problem, m, s, t),
         Named::Other => None,
     }
 }
 
-/// An instance of SE2 to SE8 that an assignment falsifies; none where there is none.
-pub(crate) fn falsified_row(problem: &Problem<'_>, m: &Assignment) -> Option<SetRule>
+/// An instance that one of these names.
+fn among(problem: &Problem<'_>, m: &Assignment, names: &[Named]) -> Option<SetRule>
+    requires { AreNames problem.now names.now }
     ensures found { IfSome result (λ rule. falsified_of problem.now m.now (set_said problem.now rule) ≡ true) }
     ensures none { IfNone result (AreNamedFree problem.now m.now) }
 {
-    for n in 0..problem.closed_count() {
-        if let Some(rule) = at_named(problem, m, named_at(problem, n + 1)) {
+    let mut rest = names;
+    while let Some((by, later)) = rest.split_first() {
+        if let Some(rule) = at_named(problem, m, names, *by) {
             return Some(rule);
         }
+        rest = later;
     }
     None
+}
+
+/// An instance of SE2 to SE8 that an assignment falsifies; none where there is none.
+pub(crate) fn falsified_row(
+    alloc: Global,
+    problem: &Problem<'_>,
+    m: &Assignment,
+) -> Result<Option<SetRule>, AllocError>
+    ensures found { IfOk result (λ o. IfSome o (λ rule. falsified_of problem.now m.now (set_said problem.now rule)
+        ≡ true)) }
+    ensures none { IfOk result (λ o. IfNone o (AreNamedFree problem.now m.now)) }
+{
+    let names = names(alloc, problem)?;
+    Ok(among(problem, m, names.as_slice()))
 }

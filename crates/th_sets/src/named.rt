@@ -1,10 +1,11 @@
-//! What a closed term names.
-ghost use Rattle.std.specs.Prelude.{◌≡◌, ◌<◌, length};
+//! What closed terms name.
+ghost use Rattle.std.specs.Prelude.{◌≡◌, ◌<◌, length, IfOk, OnOk};
 ghost use Rattle.sc_terms.specs.Tables.{tree, node_tree, PartsAreBelow};
-ghost use Rattle.th_sets.specs.Named.{number_in, named_in, named_at as named_of};
+ghost use Rattle.th_sets.specs.Named.{number_in, named_in, named_at as named_of, AreNames, IsNamePut};
 
 use sc_footprint::Problem;
 use sc_nodes::{BinaryOp, Node};
+use std::alloc::{AllocError, Global};
 
 /// What a closed term names, its parts by the numbers of closed terms.
 #[derive(Clone, Copy, Debug)]
@@ -55,4 +56,36 @@ pub(crate) fn named_at(problem: &Problem<'_>, n: u64) -> Named
         Some(at) => named_by(problem, problem.terms().node(at)),
         None => Named::Other,
     }
+}
+
+/// Puts a name after the others, if it is one.
+fn put_name(names: &mut Vec<Named>, by: Named) -> Result<(), AllocError>
+    ensures { OnOk result (IsNamePut names.old.items by names.new.items) }
+{
+    match by {
+        Named::Member(_, _) => {
+            names.push(by)?;
+            Ok(())
+        }
+        Named::Subset(_, _) => {
+            names.push(by)?;
+            Ok(())
+        }
+        Named::Common(_, _) => {
+            names.push(by)?;
+            Ok(())
+        }
+        Named::Other => Ok(()),
+    }
+}
+
+/// What the closed terms name.
+pub(crate) fn names(alloc: Global, problem: &Problem<'_>) -> Result<Vec<Named>, AllocError>
+    ensures { IfOk result (λ v. AreNames problem.now v.items) }
+{
+    let mut names = Vec::new(alloc);
+    for n in 0..problem.closed_count() {
+        put_name(&mut names, named_at(problem, n + 1))?;
+    }
+    Ok(names)
 }

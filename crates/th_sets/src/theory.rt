@@ -29,7 +29,7 @@ fn violated_rule(
     problem.laws();
     match broken_move(alloc, problem, m)? {
         Some(rule) => Ok(Some(rule)),
-        None => Ok(falsified_row(problem, m)),
+        None => falsified_row(alloc, problem, m),
     }
 }
 

@@ -1,14 +1,14 @@
 -- Strings that can't all be told apart: each crowd is a falsified instance of ST3, and there is no other.
 use Rattle.std.proofs.Common.{◌≡◌, ◌≢◌, ◌<◌, ◌≤◌, ◌&&◌, ◌==◌, ℕ, zero, suc, Bool, true, false, inl, inr, List, [], ◌∷◌, map, length, slice_get, get_or, Option, Some, None, IfSome, IfNone, unwrap_or, refl, sym, ap, ◌∙◌, subst, arith, eq-eqb}
-use Rattle.std.proofs.lemmas.Bool.{and_parts}
 use Rattle.std.proofs.lemmas.List.{length-map}
 use Rattle.std.proofs.lemmas.List.Elements.{All-from_recursion, recursion_from_All}
 use Rattle.std.proofs.lemmas.List.Kept.{AllPairs-cons}
-use Rattle.std.specs.Bool.{⊤}
 use Rattle.std.specs.List.{All, AllByRecursion, AllPairs, list_all}
 use Rattle.sc_lists.proofs.NumberLaws.{nat_eq_true}
 use Rattle.sc_lists.proofs.OptionLaws.{same_some}
 use Rattle.sc_lists.specs.Members.{Has}
+use Rattle.sc_lists.proofs.MemberLaws.{Has-place, AllByRecursion-Has, Has-AllByRecursion, map-Has, Has-map}
+use Rattle.sc_lists.proofs.ListLaws.{list_all_true}
 use Rattle.sc_languages.specs.Strings.{AreDistinct}
 use Rattle.sc_clauses.specs.Assignments.{Assignment}
 use Rattle.sc_terms.specs.Tables.{tree}
@@ -19,10 +19,12 @@ use Rattle.sc_instances.specs.Known.{is_falsified}
 use Rattle.sc_rules.specs.Signed.{given}
 use Rattle.sc_rules.specs.Strings.{Pattern, Signs, AreFew, crowd, st3}
 use Rattle.sc_rules.specs.Terms.{is_string}
+use Rattle.sc_rules.proofs.MemberLaws.{all_has}
 use Rattle.sc_string_rows.proofs.FewLaws.{few_greater, few_asked, distinct_within}
 use Rattle.sc_string_rows.specs.Instances.{all_at, on_all, with_term}
 use Rattle.sc_string_rows.specs.declared.rule.StringRule.{StringRule}
 use Rattle.sc_string_rows.specs.declared.rule.StringRule.TheVariants.{St3}
+use Rattle.sc_string_rows.proofs.RulesHold.{with_view}
 use Rattle.sc_violated.specs.declared.crowds.Crowd.{Crowd}
 use Rattle.sc_violated.specs.Crowds.{Fits, IsCrowd, IsWithin, NoneCrowded}
 use Rattle.th_strings.specs.Known.{few_items, named_at, row_at, row_of, sign_of, truth_of}
@@ -32,45 +34,15 @@ use Rattle.th_strings.specs.Violated.{IsViolated, AreCrowdsFree, IsRuleOf}
 use Rattle.th_strings.proofs.MatchLaws.{string_text}
 use Rattle.th_strings.proofs.TheoryLaws.{rule_out}
 use Rattle.th_strings.proofs.OutLaws.{AreApart, AreAllApart, outs, broken, crowd_out, out_crowd}
-use Rattle.th_strings.proofs.PlaceLaws.{equal_known, few_is, has_place, number_named, named_place, truth_view, truth_is, sign_is}
+use Rattle.th_strings.proofs.PlaceLaws.{equal_known, few_is, number_named, named_place, truth_view, truth_is, sign_is}
 
 -- ---- lists
-
-all_map : {X Y : Type 0} (P : Y → Type 0) (f : X → Y) (xs : List X) → AllByRecursion (λ x. P (f x)) xs → AllByRecursion P (map f xs)
-all_map P f [] h = tt
-all_map P f (x ∷ xs) h = (h.0, all_map P f xs h.1)
-
-map_all : {X Y : Type 0} (P : Y → Type 0) (f : X → Y) (xs : List X) → AllByRecursion P (map f xs) → AllByRecursion (λ x. P (f x)) xs
-map_all P f [] h = tt
-map_all P f (x ∷ xs) h = (h.0, map_all P f xs h.1)
-
-all_both : {X : Type 0} (P Q R : X → Type 0) → ((x : X) → P x → Q x → R x) → (xs : List X) → AllByRecursion P xs → AllByRecursion Q xs → AllByRecursion R xs
-all_both P Q R f [] h k = tt
-all_both P Q R f (x ∷ xs) h k = (f x h.0 k.0, all_both P Q R f xs h.1 k.1)
-
-all_strings : (ts : List Tree) → AllByRecursion (λ t. is_string t ≡ true) ts → list_all is_string ts ≡ true
-all_strings [] h = refl
-all_strings (t ∷ ts) h = rw (h.0, all_strings ts h.1) refl
-
-strings_all : (ts : List Tree) → list_all is_string ts ≡ true → AllByRecursion (λ t. is_string t ≡ true) ts
-strings_all [] h = tt
-strings_all (t ∷ ts) h = let r = and_parts (is_string t) (list_all is_string ts) h in (r.0, strings_all ts r.1)
 
 pairs_first : {X : Type 0} (R : X → X → Type 0) (x : X) (xs : List X) → AllPairs R (x ∷ xs) → All (R x) xs
 pairs_first R x xs h = λ i d less. h 0 (suc i) d (omega arith) (omega (arith, less))
 
 pairs_rest : {X : Type 0} (R : X → X → Type 0) (x : X) (xs : List X) → AllPairs R (x ∷ xs) → AllPairs R xs
 pairs_rest R x xs h = λ i j d low high. h (suc i) (suc j) d (omega (arith, low)) (omega (arith, high))
-
-with_view : (o : Option Tree) (q : Option (List Tree)) (us : List Tree) → with_term o q ≡ Some us → (t : Tree) × (ts : List Tree) × (o ≡ Some t) × (q ≡ Some ts) × (us ≡ t ∷ ts)
-with_view (Some t) (Some ts) us e = let same : t ∷ ts ≡ us = cc in (t, ts, refl, refl, sym same)
-with_view (Some t) None us e = absurd cc
-with_view None q us e = absurd cc
-
-all_has : {X : Type 0} (P : X → Type 0) (xs : List X) (x : X) → AllByRecursion P xs → Has xs x → P x
-all_has P [] x h k = absurd k
-all_has P (y ∷ ys) x h (inl e) = subst P e h.0
-all_has P (y ∷ ys) x h (inr k) = all_has P ys x h.1 k
 
 -- ---- ST3 of terms
 
@@ -79,7 +51,7 @@ module _ (p : Posed) (m : Assignment) (qs : List Pattern) (v : Signs) where
   unfolding is_falsified
   st3_out ts size strings fit apart =
       let same : (length v == length qs) ≡ true = eq-eqb (length v) (length qs) size in
-      rw (same, all_strings ts strings) (broken p m (crowd qs v ts) (crowd_out p m qs v ts fit apart))
+      rw (same, list_all_true is_string ts strings) (broken p m (crowd qs v ts) (crowd_out p m qs v ts fit apart))
 
   out_st3 : (ts : List Tree) → is_falsified p m (st3 qs v ts) ≡ true
       → (length v ≡ length qs) × AllByRecursion (λ t. is_string t ≡ true) ts × AllByRecursion (λ t. IsWithin v (row_at p m qs t)) ts × AreAllApart p m ts
@@ -91,7 +63,7 @@ module _ (p : Posed) (m : Assignment) (qs : List Pattern) (v : Signs) where
       by true true e f h =
           let size : length v ≡ length qs = nat_eq_true (length v) (length qs) e in
           let r = out_crowd p m qs v ts (omega (arith, size)) (outs p m (crowd qs v ts) h) in
-          (size, strings_all ts f, r.0, r.1)
+          (size, Has-AllByRecursion (λ t. is_string t ≡ true) ts (λ t there. all_has is_string ts t f there), r.0, r.1)
       by true false e f h = absurd cc
       by false b e f h = absurd cc
 
@@ -134,17 +106,17 @@ module _ (p : Posed) (m : Assignment) (qs : List Pattern) (ns : List ℕ) where
   sign_at : (i j : ℕ) → IsNamed i → sign_of rows i j ≡ get_or (row_at p m qs (at i)) j None
   sign_at i j (x, e) = sign_is p m ns qs i j x e ∙ ap (λ (t : Tree). get_or (row_at p m qs t) j None) (sym (at_named i x e))
 
+  -- what is said of each closed term at some places
+  each_at : (P : Tree → Type 0) (items : List ℕ) → ((i : ℕ) → Has items i → P (at i)) → AllByRecursion P (map at items)
+  each_at P items h = Has-AllByRecursion P (map at items) (λ t there. let (i, i_in, same) = map-Has at items t there in subst P same (h i i_in))
+
   all_apart : (items : List ℕ) → AllPairs (λ i j. truth_of p m ns i j ≡ Some false) items → AreAllApart p m (map at items)
   all_apart [] h = tt
   all_apart (i ∷ items) h = (
-    all_map (AreApart p m (at i)) at items (all_both (λ j. truth_of p m ns i j ≡ Some false) (λ j. ⊤) (λ j. AreApart p m (at i) (at j)) (λ j e k. apart_at i j e) items
-        (recursion_from_All (λ j. truth_of p m ns i j ≡ Some false) items (pairs_first (λ i j. truth_of p m ns i j ≡ Some false) i items h)) (all_true items)),
+    each_at (AreApart p m (at i)) items (λ j there. apart_at i j (AllByRecursion-Has (λ j. truth_of p m ns i j ≡ Some false) items j
+        (recursion_from_All (λ j. truth_of p m ns i j ≡ Some false) items (pairs_first (λ i j. truth_of p m ns i j ≡ Some false) i items h)) there)),
     all_apart items (pairs_rest (λ i j. truth_of p m ns i j ≡ Some false) i items h),
   )
-    where
-      all_true : (xs : List ℕ) → AllByRecursion (λ (j : ℕ). ⊤) xs
-      all_true [] = tt
-      all_true (x ∷ xs) = (tt, all_true xs)
 
   -- the term of a scarce number is a string
   scarce_named : (count i : ℕ) → AllByRecursion (IsScarce p m qs count) ns → i < length ns → IsNamed i × (is_string (at i) ≡ true)
@@ -179,10 +151,12 @@ module _ (p : Posed) (m : Assignment) (qs : List Pattern) (ns : List ℕ) where
     pub crowd_found : (items : List ℕ) (signs : Signs) → Crowded items signs → IsViolated p m qs (St3 signs (map number items))
     crowd_found items signs c =
         let within = items_within items signs c in
-        let named = all_both (λ i. i < length ns) (λ i. i < length ns) IsNamed (λ i l k. (scarce_named count i scarce.each l).0) items within within in
-        let strings = all_both (λ i. i < length ns) (λ i. i < length ns) (λ i. is_string (at i) ≡ true) (λ i l k. (scarce_named count i scarce.each l).1) items within within in
-        let fit = all_both IsNamed (Fits (sign_of rows) signs) (λ i. IsWithin signs (row_at p m qs (at i))) (λ i n f j s e. sym (sign_at i j n) ∙ f j s e) items named (recursion_from_All (Fits (sign_of rows) signs) items c.chosen.fit) in
-        let out = st3_out p m qs signs (map at items) c.chosen.sized (all_map (λ t. is_string t ≡ true) at items strings) (all_map (λ t. IsWithin signs (row_at p m qs t)) at items fit) (all_apart items c.chosen.apart) in (
+        let scarce_at : (i : ℕ) → Has items i → IsNamed i × (is_string (at i) ≡ true) = λ i there. scarce_named count i scarce.each (AllByRecursion-Has (λ i. i < length ns) items i within there) in
+        let fits : (i : ℕ) → Has items i → Fits (sign_of rows) signs i = λ i there. AllByRecursion-Has (Fits (sign_of rows) signs) items i (recursion_from_All (Fits (sign_of rows) signs) items c.chosen.fit) there in
+        let named = Has-AllByRecursion IsNamed items (λ i there. (scarce_at i there).0) in
+        let strings = each_at (λ t. is_string t ≡ true) items (λ i there. (scarce_at i there).1) in
+        let fit = each_at (λ t. IsWithin signs (row_at p m qs t)) items (λ i there j s e. sym (sign_at i j (scarce_at i there).0) ∙ fits i there j s e) in
+        let out = st3_out p m qs signs (map at items) c.chosen.sized strings fit (all_apart items c.chosen.apart) in (
           ap (λ (o : Option (List Tree)). is_falsified p m (on_all o (st3 qs signs))) (terms_at items named) ∙ out,
           subst (AreFew qs signs) (sym (length-map items number)) c.too_many,
         )
@@ -202,7 +176,7 @@ module _ (p : Posed) (m : Assignment) (qs : List Pattern) (ns : List ℕ) where
     apart_distinct (k ∷ ks) ts e h =
         let (u, us, g, i, same) = with_view (term_of p k) (all_at p ks) ts e in
         let apart = subst (AreAllApart p m) same h in
-        (λ there. true_isnt_false p m u posed (all_has (AreApart p m u) us u apart.0 (has_term ks us k u i g there)), apart_distinct ks us i apart.1)
+        (λ there. true_isnt_false p m u posed (AllByRecursion-Has (AreApart p m u) us u apart.0 (has_term ks us k u i g there)), apart_distinct ks us i apart.1)
 
     module _ (v : Signs) (less : ℕ) where
       -- a number of a string that has the signs, where fewer texts have them, is scarce
@@ -228,7 +202,7 @@ module _ (p : Posed) (m : Assignment) (qs : List Pattern) (ns : List ℕ) where
     -- the places of numbers among the scarce ones
     places : (ks : List ℕ) → AllByRecursion (Has ns) ks → List ℕ
     places [] h = []
-    places (k ∷ ks) h = (has_place ns k h.0).0 ∷ places ks h.1
+    places (k ∷ ks) h = (Has-place ns k h.0).0 ∷ places ks h.1
 
     places_length : (ks : List ℕ) (h : AllByRecursion (Has ns) ks) → length (places ks h) ≡ length ks
     unfolding places
@@ -238,17 +212,17 @@ module _ (p : Posed) (m : Assignment) (qs : List Pattern) (ns : List ℕ) where
     places_within : (ks : List ℕ) (h : AllByRecursion (Has ns) ks) → AllByRecursion (λ i. i < length ns) (places ks h)
     unfolding places
     places_within [] h = tt
-    places_within (k ∷ ks) h = ((has_place ns k h.0).1, places_within ks h.1)
+    places_within (k ∷ ks) h = ((Has-place ns k h.0).1, places_within ks h.1)
 
     places_named : (ks : List ℕ) (ts : List Tree) → all_at p ks ≡ Some ts → (h : AllByRecursion (Has ns) ks) → AllByRecursion IsNamed (places ks h) × (map at (places ks h) ≡ ts)
     unfolding places
     places_named [] ts e h = let same : [] ≡ ts = same_some e in (tt, same)
     places_named (k ∷ ks) ts e h =
         let (u, us, g, i, same) = with_view (term_of p k) (all_at p ks) ts e in
-        let (j, j_in, j_at) = has_place ns k h.0 in
-        let (x, named, is) = named_place p m ns (has_place ns k h.0).0 k u (has_place ns k h.0).2 g in
+        let (j, j_in, j_at) = Has-place ns k h.0 in
+        let (x, named, is) = named_place p m ns (Has-place ns k h.0).0 k u (Has-place ns k h.0).2 g in
         let rest = places_named ks us i h.1 in
-        let first : at (has_place ns k h.0).0 ≡ u = at_named (has_place ns k h.0).0 x named ∙ is in
+        let first : at (Has-place ns k h.0).0 ≡ u = at_named (Has-place ns k h.0).0 x named ∙ is in
         (((x, named), rest.0), ap (λ (t : Tree). t ∷ map at (places ks h.1)) first ∙ ap (λ (vs : List Tree). u ∷ vs) rest.1 ∙ sym same)
 
     known_apart : (i j : ℕ) → IsNamed i → IsNamed j → AreApart p m (at i) (at j) → truth_of p m ns i j ≡ Some false
@@ -262,7 +236,8 @@ module _ (p : Posed) (m : Assignment) (qs : List Pattern) (ns : List ℕ) where
     apart_pairs [] h k = λ i j d low high. absurd (omega (arith, high))
     apart_pairs (i ∷ items) h k =
         AllPairs-cons (λ i j. truth_of p m ns i j ≡ Some false) i items
-        (All-from_recursion (λ j. truth_of p m ns i j ≡ Some false) items (all_both IsNamed (λ j. AreApart p m (at i) (at j)) (λ j. truth_of p m ns i j ≡ Some false) (λ j n a. known_apart i j h.0 n a) items h.1 (map_all (AreApart p m (at i)) at items k.0)))
+        (All-from_recursion (λ j. truth_of p m ns i j ≡ Some false) items (Has-AllByRecursion (λ j. truth_of p m ns i j ≡ Some false) items (λ j there.
+        known_apart i j h.0 (AllByRecursion-Has IsNamed items j h.1 there) (AllByRecursion-Has (AreApart p m (at i)) (map at items) (at j) k.0 (Has-map at items j there)))))
         (apart_pairs items h.1 k.1)
 
     module _ (none : NoneCrowded (truth_of p m ns) (sign_of rows) (AreFew qs) (few_items (length ns)) (length qs)) (is_count : length all ≤ count) where
@@ -273,13 +248,14 @@ module _ (p : Posed) (m : Assignment) (qs : List Pattern) (ns : List ℕ) where
           let there = all_scarce v (length ks) few (omega (arith, fewer, is_count)) ks ts e strings fit in
           let items = places ks there in
           let named = places_named ks ts e there in
-          let fits = map_all (λ t. IsWithin v (row_at p m qs t)) at items (subst (AllByRecursion (λ t. IsWithin v (row_at p m qs t))) (sym named.1) fit) in
+          let each : (i : ℕ) → Has items i → IsWithin v (row_at p m qs (at i)) = λ i here. AllByRecursion-Has (λ t. IsWithin v (row_at p m qs t)) (map at items) (at i)
+          (subst (AllByRecursion (λ t. IsWithin v (row_at p m qs t))) (sym named.1) fit) (Has-map at items i here) in
           none items v (record {
             chosen = record {
               within = subst (λ k. All (λ i. i < k) items) (sym size_is) (All-from_recursion (λ i. i < length ns) items (places_within ks there));
               apart = apart_pairs items named.0 (subst (AreAllApart p m) (sym named.1) apart);
               sized = size;
-              fit = All-from_recursion (Fits (sign_of rows) v) items (all_both IsNamed (λ i. IsWithin v (row_at p m qs (at i))) (Fits (sign_of rows) v) (λ i n f j s g. sign_at i j n ∙ f j s g) items named.0 fits);
+              fit = All-from_recursion (Fits (sign_of rows) v) items (Has-AllByRecursion (Fits (sign_of rows) v) items (λ i here j s g. sign_at i j (AllByRecursion-Has IsNamed items i named.0 here) ∙ each i here j s g));
             };
             too_many = subst (AreFew qs v) (sym (places_length ks there)) few;
           })

@@ -1,11 +1,10 @@
 -- Equal strings of which one matches a pattern and the other doesn't: each such gap is a falsified instance of ST1, and there is no other.
-use Rattle.std.proofs.Common.{◌≡◌, ◌≢◌, ◌<◌, ◌||◌, ℕ, Bool, true, false, List, [], ◌∷◌, map, length, slice_get, get_or, Option, Some, None, IfSome, IfNone, option_map, is_some, not, Contains, refl, sym, ap, ◌∙◌, subst}
-use Rattle.std.proofs.lemmas.Bool.{true≢false}
+use Rattle.std.proofs.Common.{◌≡◌, ◌≢◌, ◌<◌, ℕ, Bool, true, false, List, [], ◌∷◌, map, length, slice_get, get_or, Option, Some, None, IfSome, IfNone, is_some, Contains, refl, sym, ap, ◌∙◌, subst}
+use Rattle.std.proofs.lemmas.Bool.{true≢false, or_left, or_right}
 use Rattle.std.proofs.lemmas.Option.{slice_get_within}
 use Rattle.sc_lists.proofs.OptionLaws.{same_some}
+use Rattle.sc_lists.proofs.MemberLaws.{Has-place}
 use Rattle.sc_clauses.specs.Assignments.{Assignment}
-use Rattle.sc_clauses.specs.declared.lit.Lit.{Lit}
-use Rattle.sc_clauses.specs.Clauses.{bool_eq}
 use Rattle.sc_names.specs.declared.uid.Uid.{Uid}
 use Rattle.sc_schema.specs.declared.declarations.Env.{Env}
 use Rattle.sc_schema.specs.Declarations.{Declarations}
@@ -26,8 +25,8 @@ use Rattle.sc_footprint.specs.Theories.{TermsHold}
 use Rattle.sc_footprint.proofs.ProblemLaws.{term_judged}
 use Rattle.sc_instances.proofs.LiteralLaws.{number_closed}
 use Rattle.sc_instances.specs.Instances.{on_two}
-use Rattle.sc_instances.specs.Known.{known, seen_value, is_falsified}
-use Rattle.sc_instances.proofs.FalseLaws.{false_known, known_false, false_negation, known_negation}
+use Rattle.sc_instances.specs.Known.{known, is_falsified}
+use Rattle.sc_instances.proofs.FalseLaws.{false_known, known_false, false_negation, known_negation, known_atom}
 use Rattle.sc_rules.specs.Signed.{so, unless}
 use Rattle.sc_rules.specs.Strings.{Pattern, st1, st1_of}
 use Rattle.sc_rules.specs.Terms.{is_string}
@@ -38,28 +37,15 @@ use Rattle.th_strings.specs.Known.{like_known, row_of, sign_of, turned_truth}
 use Rattle.th_strings.specs.Texts.{AreTexts, is_text}
 use Rattle.th_strings.specs.Violated.{IsViolated, AreMatchesFree}
 use Rattle.th_strings.proofs.OutLaws.{outs, broken}
-use Rattle.th_strings.proofs.PlaceLaws.{equal_known, has_place, row_view, row_is, number_named, named_place, truth_view, truth_is, sign_is}
+use Rattle.th_strings.proofs.PlaceLaws.{equal_known, row_view, row_is, number_named, named_place, truth_view, truth_is, sign_is}
 
 -- ---- of what a pattern is asked with a truth that is known, is a text
-
-known_some : (m : Assignment) (l : Lit) (b : Bool) → known m l ≡ Some b → l.atom ≢ 0
-known_some m l b e z =
-    let none : None ≡ Some b = sym (ap (λ (a : ℕ). option_map (λ (v : Bool). bool_eq v (not l.negated)) (seen_value m a)) z) ∙ e in
-    absurd cc
 
 like_inverted : (d : Declarations) (env : Env) (written : List Uid) (k : Sort) (q : Pattern) (t : Tree) → judged.IsTermOf d env written k (one (Like q) t) → judged.IsTermOf d env written sort.String t
 like_inverted d env written _ q t (judged.of_like _ _ h s) = h
 
 string_test : (t : Tree) → tree_sort t ≡ sort.String → is_string t ≡ true
 string_test t e = ap test.is_string e ∙ ap test.string_level out_String
-
-or_true : (a b : Bool) → b ≡ true → (a || b) ≡ true
-or_true true b e = refl
-or_true false b e = e
-
-or_left : (a b : Bool) → a ≡ true → (a || b) ≡ true
-or_left true b e = refl
-or_left false b e = absurd cc
 
 pub string_text : (t : Tree) → is_string t ≡ true → is_text t ≡ true
 string_text t e = or_left (is_string t) (is_some (literal_of t)) e
@@ -74,11 +60,11 @@ module _ (laws : TermsHold) (p : Posed) (m : Assignment) (posed : IsPosed p) whe
   like_text t q b e = by (literal_of t) refl
     where
       by : (o : Option Literal) → literal_of t ≡ o → is_text t ≡ true
-      by (Some l) f = or_true (is_string t) (is_some (literal_of t)) (ap is_some f)
+      by (Some l) f = or_right (is_string t) (is_some (literal_of t)) (ap is_some f)
       by None f =
           let plain : like_term t q ≡ one (Like q) t = rw f refl in
           let asked : known m (literal_in p (one (Like q) t)) ≡ Some b = subst (λ (u : Tree). known m (literal_in p u) ≡ Some b) plain e in
-          or_left (is_string t) (is_some (literal_of t)) (closed_string q t (number_closed p (one (Like q) t) (known_some m (literal_in p (one (Like q) t)) b asked)))
+          or_left (is_string t) (is_some (literal_of t)) (closed_string q t (number_closed p (one (Like q) t) (known_atom m (literal_in p (one (Like q) t)) b asked)))
 
 -- ---- ST1 of two terms
 
@@ -139,8 +125,8 @@ module _ (p : Posed) (m : Assignment) where
     no_gap laws posed are none a b i h =
         let (t, u, t_is, u_is, out) = two_view qs i (term_of p a) (term_of p b) h.0 in
         let (q, q_is, equal, first, second) = out_st1 t u (slice_get qs i) out in
-        let (j, j_in, j_at) = has_place ns a (are.all a t t_is (like_text laws p m posed t q true first)) in
-        let (k, k_in, k_at) = has_place ns b (are.all b u u_is (like_text laws p m posed u q false second)) in
+        let (j, j_in, j_at) = Has-place ns a (are.all a t t_is (like_text laws p m posed t q true first)) in
+        let (k, k_in, k_at) = Has-place ns b (are.all b u u_is (like_text laws p m posed u q false second)) in
         let (x, x_named, x_is) = named_place p m ns j a t j_at t_is in
         let (y, y_named, y_is) = named_place p m ns k b u k_at u_is in
         let like_x : like_known p m (tree p.nodes x) q ≡ Some true = ap (λ (s : Tree). like_known p m s q) x_is ∙ first in

@@ -4,6 +4,7 @@ use Rattle.std.proofs.lemmas.Bool.{and_parts, and_from}
 use Rattle.std.specs.Bool.{⊤}
 use Rattle.std.specs.List.{AllByRecursion, flat_map}
 use Rattle.sc_lists.proofs.ListLaws.{all_append}
+use Rattle.sc_lists.proofs.MemberLaws.{Has-left, Has-right, AllByRecursion-Has, Has-AllByRecursion}
 use Rattle.sc_clauses.specs.Assignments.{Assignment, is_false}
 use Rattle.sc_terms.specs.Folds.{equal_term, like_term}
 use Rattle.sc_terms.specs.Trees.{Tree}
@@ -16,16 +17,19 @@ use Rattle.sc_rules.specs.Strings.{Pattern, Signs, other_sign, other_signs, some
 use Rattle.sc_violated.specs.Crowds.{IsWithin}
 use Rattle.th_strings.specs.Known.{like_known, row_at}
 
-all_split : {X : Type 0} (P : X → Type 0) (xs ys : List X) → AllByRecursion P (xs ++ ys) → AllByRecursion P xs × AllByRecursion P ys
-all_split P [] ys h = (tt, h)
-all_split P (x ∷ xs) ys h = let r = all_split P xs ys h.1 in ((h.0, r.0), r.1)
-
 module _ (p : Posed) (m : Assignment) where
   abbrev is_out : Signed → Bool
   is_out s = is_asked (literal_for p s) && is_false m (literal_for p s)
 
   abbrev pub AreOut : List Signed → Type 0
   AreOut parts = AllByRecursion (λ s. is_out s ≡ true) parts
+
+  -- what is out of two parts
+  out_split : (these those : List Signed) → AreOut (these ++ those) → AreOut these × AreOut those
+  out_split these those h = (
+    Has-AllByRecursion (λ s. is_out s ≡ true) these (λ s there. AllByRecursion-Has (λ s. is_out s ≡ true) (these ++ those) s h (Has-left these those s there)),
+    Has-AllByRecursion (λ s. is_out s ≡ true) those (λ s there. AllByRecursion-Has (λ s. is_out s ≡ true) (these ++ those) s h (Has-right these those s there)),
+  )
 
   pub outs : (parts : List Signed) → is_broken m (clause_for p parts) ≡ true → AreOut parts
   outs [] h = tt
@@ -59,9 +63,9 @@ module _ (p : Posed) (m : Assignment) where
   out_signs qs [] t size h j s e = absurd cc
   out_signs [] (a ∷ v) t size h j s e = absurd (omega (arith, size))
   out_signs (q ∷ qs) (a ∷ v) t size h zero s e =
-      let first = (all_split (λ (s : Signed). is_out s ≡ true) (other_sign t q a) (other_signs qs v t) h).0 in
+      let first = (out_split (other_sign t q a) (other_signs qs v t) h).0 in
       out_other t q s (subst (λ (o : Option Bool). AreOut (other_sign t q o)) e first)
-  out_signs (q ∷ qs) (a ∷ v) t size h (suc j) s e = out_signs qs v t (omega (arith, size)) (all_split (λ (s : Signed). is_out s ≡ true) (other_sign t q a) (other_signs qs v t) h).1 j s e
+  out_signs (q ∷ qs) (a ∷ v) t size h (suc j) s e = out_signs qs v t (omega (arith, size)) (out_split (other_sign t q a) (other_signs qs v t) h).1 j s e
 
   -- ---- equality
 
@@ -88,7 +92,7 @@ module _ (p : Posed) (m : Assignment) where
 
   out_pairs : (ts : List Tree) → AreOut (some_equal ts) → AreAllApart ts
   out_pairs [] h = tt
-  out_pairs (t ∷ ts) h = let r = all_split (λ (s : Signed). is_out s ≡ true) (map (λ u. so (equal_term t u)) ts) (some_equal ts) h in (out_one t ts r.0, out_pairs ts r.1)
+  out_pairs (t ∷ ts) h = let r = out_split (map (λ u. so (equal_term t u)) ts) (some_equal ts) h in (out_one t ts r.0, out_pairs ts r.1)
 
   -- ---- a counting rule
 
@@ -100,10 +104,10 @@ module _ (p : Posed) (m : Assignment) where
     out_all_signs : (ts : List Tree) → length v ≤ length qs → AreOut (flat_map (other_signs qs v) ts) → AllByRecursion (λ t. IsWithin v (row_at p m qs t)) ts
     out_all_signs [] size h = tt
     out_all_signs (t ∷ ts) size h =
-        let r = all_split (λ (s : Signed). is_out s ≡ true) (other_signs qs v t) (flat_map (other_signs qs v) ts) h in (out_signs qs v t size r.0, out_all_signs ts size r.1)
+        let r = out_split (other_signs qs v t) (flat_map (other_signs qs v) ts) h in (out_signs qs v t size r.0, out_all_signs ts size r.1)
 
     pub crowd_out : (ts : List Tree) → AllByRecursion (λ t. IsWithin v (row_at p m qs t)) ts → AreAllApart ts → AreOut (crowd qs v ts)
     crowd_out ts h k = all_append (λ (s : Signed). is_out s ≡ true) (flat_map (other_signs qs v) ts) (some_equal ts) (all_signs_out ts h) (pairs_out ts k)
 
     pub out_crowd : (ts : List Tree) → length v ≤ length qs → AreOut (crowd qs v ts) → AllByRecursion (λ t. IsWithin v (row_at p m qs t)) ts × AreAllApart ts
-    out_crowd ts size h = let r = all_split (λ (s : Signed). is_out s ≡ true) (flat_map (other_signs qs v) ts) (some_equal ts) h in (out_all_signs ts size r.0, out_pairs ts r.1)
+    out_crowd ts size h = let r = out_split (flat_map (other_signs qs v) ts) (some_equal ts) h in (out_all_signs ts size r.0, out_pairs ts r.1)

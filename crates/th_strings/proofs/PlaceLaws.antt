@@ -1,10 +1,9 @@
 -- What stands at the places of numbers of closed terms, and what is known of it.
-use Rattle.std.proofs.Common.{◌≡◌, ◌≢◌, ◌<◌, ◌≤◌, ◌^◌, ◌==◌, ℕ, nat_lt, zero, suc, Bool, true, false, cond, inl, inr, List, [], ◌∷◌, map, length, slice_get, get_or, Option, Some, None, option_map, option_and_then, refl, sym, ap, ◌∙◌, arith}
+use Rattle.std.proofs.Common.{◌≡◌, ◌≢◌, ◌<◌, ◌≤◌, ◌^◌, ◌==◌, ℕ, nat_lt, zero, suc, Bool, true, false, cond, List, [], ◌∷◌, map, length, slice_get, get_or, Option, Some, None, option_map, option_and_then, refl, sym, ap, ◌∙◌, arith}
 use Rattle.std.proofs.lemmas.Bool.Decides.{nat_tests}
 use Rattle.std.proofs.lemmas.Option.{slice_get-map, get_or_from_slice_get, slice_get_within}
 use Rattle.sc_lists.proofs.NumberLaws.{nat_eq_true}
 use Rattle.sc_lists.proofs.OptionLaws.{option_and_then_some, option_map_some}
-use Rattle.sc_lists.specs.Members.{Has}
 use Rattle.sc_clauses.specs.Assignments.{Assignment}
 use Rattle.sc_terms.specs.Folds.{equal_term}
 use Rattle.sc_terms.specs.Tables.{tree}
@@ -13,11 +12,6 @@ use Rattle.sc_footprint.specs.Problems.{Posed, IsPosed, literal_in, numbered, te
 use Rattle.sc_instances.specs.Known.{known}
 use Rattle.sc_rules.specs.Strings.{Pattern, Signs}
 use Rattle.th_strings.specs.Known.{few_items, known_equal, named_at, truth_of, like_known, row_at, row_of, sign_in, sign_by, sign_of}
-
-pub has_place : (ns : List ℕ) (n : ℕ) → Has ns n → (i : ℕ) × (i < length ns) × (slice_get ns i ≡ Some n)
-has_place [] n h = absurd h
-has_place (m ∷ ms) n (inl e) = (0, omega arith, ap Some e)
-has_place (m ∷ ms) n (inr h) = let r = has_place ms n h in (suc r.0, omega (arith, r.1), r.2)
 
 -- of a problem no more numbers are known than there are closed terms
 pub few_is : (p : Posed) (n : ℕ) → IsPosed p → n ≤ length p.closed → few_items n ≡ n

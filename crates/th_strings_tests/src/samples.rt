@@ -3,7 +3,7 @@ ghost use Rattle.std.specs.Prelude.{◌≡◌, ◌<◌, [], Contains, length, If
 ghost use Rattle.sc_schema.specs.Declarations.{environments};
 ghost use Rattle.sc_terms.specs.Tables.{tree, Keeps};
 ghost use Rattle.sc_closure_rules.specs.Goals.{IsGoal};
-ghost use Rattle.th_strings_tests.specs.Plain.{IsPlain};
+ghost use Rattle.sc_test_goals.specs.Plain.{IsPlain};
 
 use sc_closure::is_bool;
 use sc_footprint::{Problem, close};
@@ -29,7 +29,7 @@ pub(crate) fn schema(alloc: Global) -> Result<Schema, AllocError> {
 }
 
 /// An attribute of the context.
-#[tactic(auto, using(crate::proofs::GoalLaws::attribute_plain))]
+#[tactic(auto, using(sc_test_goals::proofs::GoalLaws::attribute_plain))]
 fn attribute(alloc: Global, terms: &mut Terms, ty: &Ty, name: &str) -> Result<u64, AllocError>
     ensures plain { IfOk result (λ n. IsPlain terms.new n) }
     ensures kept { Keeps terms.old terms.new }
@@ -39,7 +39,7 @@ fn attribute(alloc: Global, terms: &mut Terms, ty: &Ty, name: &str) -> Result<u6
 }
 
 /// Whether the first text is x.
-#[tactic(auto, using(crate::proofs::GoalLaws::like_plain))]
+#[tactic(auto, using(sc_test_goals::proofs::GoalLaws::like_plain))]
 fn like(alloc: Global, terms: &mut Terms, ty: &Ty) -> Result<u64, AllocError>
     ensures plain { IfOk result (λ n. IsPlain terms.new n) }
     ensures kept { Keeps terms.old terms.new }
@@ -50,7 +50,7 @@ fn like(alloc: Global, terms: &mut Terms, ty: &Ty) -> Result<u64, AllocError>
 }
 
 /// Whether a number stands for a goal.
-#[tactic(auto, using(crate::proofs::GoalLaws::plain_goal))]
+#[tactic(auto, using(sc_test_goals::proofs::GoalLaws::plain_goal))]
 fn is_goal(
     alloc: Global,
     schema: &Schema,

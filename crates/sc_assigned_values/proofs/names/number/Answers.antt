@@ -1,6 +1,6 @@
 use Rattle.std.proofs.Common.{◌∙◌, ℕ, Option, unwrap_or, ap, subst}
 use Rattle.sc_terms.specs.Tables.{IsTable}
-use Rattle.sc_assigned_values.proofs.NameLaws.{number_told}
+use Rattle.sc_footprint.proofs.IndexLaws.{number_told}
 use Rattle.sc_assigned_values.proofs.names.number.Goals as goal
 
 pub returns : goal.returns

@@ -1,5 +1,5 @@
 use Rattle.std.proofs.Common.{◌∙◌, sym}
-use Rattle.sc_assigned_worlds.proofs.FoldLaws.{each_there}
+use Rattle.sc_assigned_values.proofs.AssignedLaws.{each_there}
 use Rattle.sc_assigned_worlds.proofs.listed.closed_at.Goals as goal
 
 pub unreachable-requires : goal.unreachable-requires

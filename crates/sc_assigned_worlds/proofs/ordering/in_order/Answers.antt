@@ -1,5 +1,6 @@
 use Rattle.std.proofs.Common.{◌∙◌, ap}
-use Rattle.sc_assigned_worlds.proofs.OrderLaws.{ordered_from, ordered_all, none_ascends}
+use Rattle.sc_lists.proofs.OrderedLaws.{none_ascends}
+use Rattle.sc_assigned_worlds.proofs.OrderLaws.{ordered_from, ordered_all}
 use Rattle.sc_assigned_worlds.proofs.ordering.in_order.Goals as goal
 
 pub loop-item-init : goal.loop-item-init

@@ -5,12 +5,12 @@ use Rattle.sc_checker.proofs.numbers.value_of.Goals as goal
 
 pub overflow_mul-value : goal.overflow_mul-value
 overflow_mul-value c =
-    let small : c.loop-byte.value < 10 ^ 17 = value_small _ _ _ c.loop-byte.invariant.value c.loop-byte.invariant.digits c.loop-byte-test.true c.requires in
+    let small : c.loop-byte.value < 10 ^ 17 = value_small _ _ _ c.loop-byte.invariant.value c.loop-byte.invariant.digits c.loop-byte-test.true (omega (arith, c.requires)) in
     omega arith
 
 pub overflow_add-value : goal.overflow_add-value
 overflow_add-value c =
-    let small : c.loop-byte.value < 10 ^ 17 = value_small _ _ _ c.loop-byte.invariant.value c.loop-byte.invariant.digits c.loop-byte-test.true c.requires in
+    let small : c.loop-byte.value < 10 ^ 17 = value_small _ _ _ c.loop-byte.invariant.value c.loop-byte.invariant.digits c.loop-byte-test.true (omega (arith, c.requires)) in
     let digit = c.if-not-is_ascii_digit.ensures.cases in
     omega (arith, digit)
 

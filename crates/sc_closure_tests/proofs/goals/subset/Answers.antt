@@ -1,7 +1,7 @@
 use Rattle.std.proofs.Common.{refl}
 use Rattle.std.proofs.lemmas.Result.{IfOk-weaker}
 use Rattle.sc_nodes.specs.declared.node.BinaryOp.TheVariants as binary
-use Rattle.sc_closure_tests.proofs.GoalLaws.{plain_later, two_plain}
+use Rattle.sc_test_goals.proofs.GoalLaws.{plain_later, two_plain}
 use Rattle.sc_closure_tests.proofs.goals.subset.Goals as goal
 
 pub returns-clause-plain : goal.returns-clause-plain

@@ -1,5 +1,5 @@
 use Rattle.std.proofs.lemmas.Result.{IfOk-weaker}
-use Rattle.sc_closure_tests.proofs.GoalLaws.{principal_plain, ancestors_plain}
+use Rattle.sc_test_goals.proofs.GoalLaws.{principal_plain, ancestors_plain}
 use Rattle.sc_closure_tests.proofs.goals.users_above.Goals as goal
 
 pub returns-clause-plain : goal.returns-clause-plain

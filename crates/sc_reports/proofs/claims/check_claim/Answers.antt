@@ -1,8 +1,9 @@
 use Rattle.std.proofs.Common.{slice_get, sym, subst}
 use Rattle.std.proofs.lemmas.Result.{IfOk-weaker}
+use Rattle.sc_lists.proofs.ListLaws.{contains_place}
 use Rattle.sc_schema.specs.Declarations.{environments}
 use Rattle.sc_reports.proofs.AnalysisLaws.{query-first, query-posed, query-problem, query-second, query-served, query-too-large, some-goal}
-use Rattle.sc_reports.proofs.ClaimLaws.{claims-named, named-among}
+use Rattle.sc_reports.proofs.ClaimLaws.{claims-named}
 use Rattle.sc_reports.specs.Analyses.{asked_of}
 use Rattle.sc_reports.specs.Claims.{Claims, answer_view}
 use Rattle.sc_reports.specs.declared.claims.Answer as code
@@ -19,7 +20,7 @@ check_problem-requires g c =
     let i = c.args.claim.now.asking in
     let env = c.environment_at-env.result.now in
     let q = c.in-Ok.query in
-    let among = named-among (environments i.schema) c.args.claim.now.environment env c.environment_at-env.ensures in
+    let among = contains_place (environments i.schema) c.args.claim.now.environment env c.environment_at-env.ensures in
     let posed = some-goal _ (query-posed c.goal_laws.ensures.posed c.goal_laws.ensures.both i.schema env q (query-served i q c.in-Ok.ensures c.requires.allowed) among) in
     record { problem = query-problem i.schema env q 0 c.in-Ok-problem_of.problem posed.0 c.laws.ensures c.laws-in-Ok-problem_of.ensures posed.1 (c.in-Ok-problem_of.ensures.ok posed.0 posed.1) }
 
@@ -37,7 +38,7 @@ returns-in-Err-Told-clause-claims g c =
     let content = g.F.Files.content c.args.files.now c.args.claim.now.log.now in
     let env = c.environment_at-env.result.now in
     let q = c.in-Ok.query in
-    let among = named-among (environments i.schema) c.args.claim.now.environment env c.environment_at-env.ensures in
+    let among = contains_place (environments i.schema) c.args.claim.now.environment env c.environment_at-env.ensures in
     let posed = some-goal _ (query-posed c.goal_laws.ensures.posed c.goal_laws.ensures.both i.schema env q (query-served i q c.in-Ok.ensures c.requires.allowed) among) in
     let refused = rw (c.in-Err-Told.is, c.in-Err-Told.field-0-is) at c.problem_of.ensures.err in
     IfOk-weaker c.unchecked.result _ _

@@ -15,7 +15,7 @@ turns-init g c =
     let A = g.S.Source.has_instance c.args.source.now in
     let K = g.S.Source.clause_of c.args.source.now in
     let made = c.in_ok-solver.ensures in
-    searching-begins A K c.args.atoms c.args.clauses c.args.budget c.in_ok-solver.solver c.requires.listed made.listed made.trail made.seen made.clauses made.steps
+    searching-begins A K c.args.atoms c.args.clauses c.args.budget c.in_ok-solver.solver c.requires.listed made.watched made.trail made.seen made.clauses made.steps
 
 pub turn-requires-clause-ready : goal.turn-requires-clause-ready
 turn-requires-clause-ready g c =

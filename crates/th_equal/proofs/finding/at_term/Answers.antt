@@ -9,4 +9,4 @@ returns-in_default-clause-none c = no_term c.args.problem.now c.args.m.now (term
 
 pub returns-clause-none : goal.returns-clause-none
 returns-clause-none c =
-    term_free c.args.problem.now c.args.m.now c.args.n (tree c.args.problem.now.nodes c.in-Some.at) c.at_equation.result (ap (option_map (tree c.args.problem.now.nodes)) (sym c.in-Some.ensures.value)) c.in_default-if_falsified.ensures.none c.in_default-if_falsified-2.ensures.none c.in_default-if_falsified-3.ensures.none c.at_equation.ensures.none
+    term_free c.args.problem.now c.args.m.now c.args.n (tree c.args.problem.now.nodes c.in-Some.at) c.at_equation.result (ap (option_map (tree c.args.problem.now.nodes)) (sym c.in-Some.ensures.value)) c.in_default-at_choice.ensures.none c.in_default-at_option.ensures.none c.at_equation.ensures.none

@@ -1,6 +1,6 @@
 use Rattle.std.proofs.Common.{◌∙◌, ℕ, Option, unwrap_or, ap, subst}
 use Rattle.sc_terms.specs.Tables.{IsTable}
-use Rattle.th_sets.proofs.NumberLaws.{number_told}
+use Rattle.sc_footprint.proofs.IndexLaws.{number_told}
 use Rattle.th_sets.proofs.named.number.Goals as goal
 
 pub returns : goal.returns

@@ -5,11 +5,11 @@ use Rattle.sc_checker.specs.Verdicts.{Rules, AreRules}
 use Rattle.sc_checker.proofs.line_checker.LineChecker.read.Given as goal
 
 -- the rest leaves what the whole piece leaves
-abbrev pub invariant-loop-line : goal.invariant-loop-line
-invariant-loop-line g l = record {
+abbrev pub invariant-loop-later : goal.invariant-loop-later
+invariant-loop-later g l = record {
   checked : IsChecked l.problem l.self.progress;
   rest : (tests : Rules) → AreRules g.T.Theory.has_instance g.T.Theory.clause_of l.rules l.problem tests → after tests l.self l.rest ≡ after tests l.initial.self l.piece;
 }
 
-abbrev pub decreases-loop-line : goal.decreases-loop-line
-decreases-loop-line g l = length l.rest
+abbrev pub decreases-loop-later : goal.decreases-loop-later
+decreases-loop-later g l = length l.rest

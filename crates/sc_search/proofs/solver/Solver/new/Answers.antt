@@ -1,11 +1,16 @@
-use Rattle.std.proofs.Common.{◌+◌, List, subst, sym}
-use Rattle.sc_clauses.specs.Clauses.{Clause}
+use Rattle.std.proofs.Common.{◌≡◌, ◌+◌, ℕ, length, subst, ap, arith}
 use Rattle.sc_search.proofs.TrailLaws.{trail-empty}
+use Rattle.sc_search.proofs.WatchLaws.{unset-watching}
 use Rattle.sc_search.proofs.solver.Solver.new.Goals as goal
-use Rattle.sc_search.specs.Trails.{AreInCells}
+use Rattle.sc_search.specs.Watches.{AreUnset}
 
-pub of-requires : goal.of-requires
-of-requires c = subst (λ (ds : List Clause). AreInCells (c.args.atoms + 1) ds) (sym c.as_slice.ensures) c.requires.in_cells
+pub returns-clause-watched : goal.returns-clause-watched
+returns-clause-watched c =
+    let none : length c.in_ok-trail.trail.levels.items ≡ 0 = ap length c.in_ok-trail.ensures.levels in
+    record {
+      watching = unset-watching (c.args.atoms + 1) c.args.clauses c.in_ok-watches.watches (subst (λ (k : ℕ). AreUnset (c.args.atoms + 1) k c.in_ok-watches.watches) c.len.ensures c.in_ok-watches.ensures);
+      alive = λ k lt. absurd (omega arith);
+    }
 
 pub returns-clause-trail : goal.returns-clause-trail
 returns-clause-trail c =

@@ -1,6 +1,6 @@
 use Rattle.std.proofs.Common.{List, [], length, subst, sym}
 use Rattle.sc_clauses.specs.Clauses.{Clause}
-use Rattle.sc_search.proofs.BackjumpLaws.{refuted-shown}
+use Rattle.sc_search.proofs.RoomLaws.{refuted-shown}
 use Rattle.sc_search.proofs.solver.Solver.refute.Goals as goal
 use Rattle.sc_search.specs.Readings.{IsFalsified}
 use Rattle.sc_search.specs.Steps.{Refutes}

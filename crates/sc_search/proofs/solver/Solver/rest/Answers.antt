@@ -4,11 +4,11 @@ use Rattle.sc_clauses.specs.Clauses.{Clause}
 use Rattle.sc_clauses.specs.declared.lit.Lit.{Lit}
 use Rattle.sc_search.proofs.TrailLaws.{trail-decide-to, free-set}
 use Rattle.sc_search.proofs.solver.Solver.rest.Goals as goal
-use Rattle.sc_search.proofs.VisitLaws.{decided-seen, goes-among, quiet-seen, seen-but-on}
-use Rattle.sc_search.specs.Occurrences.{ListsAll}
+use Rattle.sc_search.proofs.VisitLaws.{alive-seen, decided-seen, decided-watched, moves-among}
+use Rattle.sc_search.proofs.WatchLaws.{all-quiet}
 use Rattle.sc_search.specs.Readings.{IsFalsified}
 use Rattle.sc_search.specs.Trails.{AreInCells, AreQuiet, HoldsTrail, InCells, cell_of, free_count, true_before}
-use Rattle.sc_search.specs.Visits.{AreSeenBut, GoesOn, HasPropagated}
+use Rattle.sc_search.specs.Visits.{AreAlive, AreSeenBut, HasPropagated, IsWellWatched, MovesOn}
 use Rattle.sc_search.specs.declared.cell.Cell.TheVariants.{Free, Decided}
 
 pub propagate-requires-clause-in_cells : goal.propagate-requires-clause-in_cells
@@ -24,60 +24,69 @@ propagate-requires-clause-trail c =
     let k : length t.cells.items ≡ n = c.moves.invariant.ready.trail.sized in
     subst (λ (m : ℕ). HoldsTrail m c.deref.result.now t) (sym k) (subst (λ (ds : List Clause). HoldsTrail n ds t) (sym c.deref.ensures.value) c.moves.invariant.ready.trail)
 
-pub propagate-requires-clause-listed : goal.propagate-requires-clause-listed
-propagate-requires-clause-listed c =
+pub propagate-requires-clause-watched : goal.propagate-requires-clause-watched
+propagate-requires-clause-watched c =
     let n = length c.args.self.now.trail.cells.items in
     let s = c.moves.self in
     let k : length s.trail.cells.items ≡ n = c.moves.invariant.ready.trail.sized in
-    subst (λ (m : ℕ). ListsAll m c.deref.result.now s.occurrences) (sym k) (subst (λ (ds : List Clause). ListsAll n ds s.occurrences) (sym c.deref.ensures.value) c.moves.invariant.ready.listed)
+    subst (λ (m : ℕ). IsWellWatched m c.deref.result.now s.trail s.watches) (sym k) (subst (λ (ds : List Clause). IsWellWatched n ds s.trail s.watches) (sym c.deref.ensures.value) c.moves.invariant.ready.watched)
 
 pub propagate-requires-clause-pending : goal.propagate-requires-clause-pending
-propagate-requires-clause-pending c = let s = c.moves.self in subst (λ (ds : List Clause). AreSeenBut ds s.trail s.pending) (sym c.deref.ensures.value) c.moves.invariant.ready.seen
+propagate-requires-clause-pending c = let s = c.moves.self in subst (λ (ds : List Clause). AreSeenBut ds s.trail s.watches s.pending) (sym c.deref.ensures.value) c.moves.invariant.ready.seen
 
 pub returns-in-Some-clause-ready : goal.returns-in-Some-clause-ready
 returns-in-Some-clause-ready c =
     let n = length c.args.self.now.trail.cells.items in
     let was = c.moves.self in
     let ready = c.moves.invariant.ready in
-    let goes : GoesOn n was.clauses.items was.trail c.propagate.new.self =
-    goes-among n _ was.clauses.items c.deref.result.now was.trail c.propagate.new.self ready.trail.sized c.deref.ensures.value c.in_ok-conflict.ensures.goes_on in
+    let moves : MovesOn n was.clauses.items was.trail was.watches c.propagate.new.self c.propagate.new.watches =
+    moves-among n _ was.clauses.items c.deref.result.now was.trail was.watches c.propagate.new.self c.propagate.new.watches ready.trail.sized c.deref.ensures.value c.in_ok-conflict.ensures.moves in
     record {
       in_cells = ready.in_cells;
-      listed = ready.listed;
-      trail = goes.trail;
-      seen = seen-but-on n was.clauses.items was.trail c.propagate.new.self was.pending goes ready.seen;
+      watched = moves.watched;
+      trail = moves.goes_on.trail;
+      seen = tt;
     }
 
 pub returns-in-Some-clause-rest : goal.returns-in-Some-clause-rest
 returns-in-Some-clause-rest c =
     let t = c.propagate.new.self in
     subst (λ (ds : List Clause). IsFalsified ds t.cells.items (length t.lits.items) c.in-Some.conflict) c.deref.ensures.value
-    (subst (λ (r : Option ℕ). HasPropagated c.deref.result.now t.cells.items (length t.lits.items) r) c.in-Some.is c.in_ok-conflict.ensures.done)
+    (subst (λ (r : Option ℕ). HasPropagated c.deref.result.now t c.propagate.new.watches r) c.in-Some.is c.in_ok-conflict.ensures.done)
 
 pub returns-in_default-choose-clause-ready : goal.returns-in_default-choose-clause-ready
 returns-in_default-choose-clause-ready c =
     let n = length c.args.self.now.trail.cells.items in
     let was = c.moves.self in
     let u = c.propagate.new.self in
+    let v = c.propagate.new.watches in
     let ready = c.moves.invariant.ready in
-    let goes : GoesOn n was.clauses.items was.trail u = goes-among n _ was.clauses.items c.deref.result.now was.trail u ready.trail.sized c.deref.ensures.value c.in_ok-conflict.ensures.goes_on in
-    let quiet : AreQuiet (true_before u.cells.items (length u.lits.items)) was.clauses.items =
-    subst (λ (ds : List Clause). AreQuiet (true_before u.cells.items (length u.lits.items)) ds) c.deref.ensures.value
-    (subst (λ (r : Option ℕ). HasPropagated c.deref.result.now u.cells.items (length u.lits.items) r) c.in_default.is c.in_ok-conflict.ensures.done) in
+    let moves : MovesOn n was.clauses.items was.trail was.watches u v = moves-among n _ was.clauses.items c.deref.result.now was.trail was.watches u v ready.trail.sized c.deref.ensures.value c.in_ok-conflict.ensures.moves in
+    let alive : AreAlive was.clauses.items u v =
+    subst (λ (ds : List Clause). AreAlive ds u v) c.deref.ensures.value
+    (subst (λ (r : Option ℕ). HasPropagated c.deref.result.now u v r) c.in_default.is c.in_ok-conflict.ensures.done) in
     let end : c.len-place.result ≡ length u.lits.items = search rules in
     record {
       in_cells = ready.in_cells;
-      listed = ready.listed;
-      trail = goes.trail;
-      seen = quiet-seen was.clauses.items u c.len-place.result end quiet;
+      watched = moves.watched;
+      trail = moves.goes_on.trail;
+      seen = alive-seen was.clauses.items u v c.len-place.result end alive;
     }
 
 pub returns-in_default-choose-clause-rest : goal.returns-in_default-choose-clause-rest
 returns-in_default-choose-clause-rest c =
+    let n = length c.args.self.now.trail.cells.items in
+    let was = c.moves.self in
     let u = c.propagate.new.self in
+    let v = c.propagate.new.watches in
+    let ready = c.moves.invariant.ready in
+    let moves : MovesOn n was.clauses.items was.trail was.watches u v = moves-among n _ was.clauses.items c.deref.result.now was.trail was.watches u v ready.trail.sized c.deref.ensures.value c.in_ok-conflict.ensures.moves in
+    let alive : AreAlive was.clauses.items u v =
+    subst (λ (ds : List Clause). AreAlive ds u v) c.deref.ensures.value
+    (subst (λ (r : Option ℕ). HasPropagated c.deref.result.now u v r) c.in_default.is c.in_ok-conflict.ensures.done) in
     record {
-      quiet = subst (λ (ds : List Clause). AreQuiet (true_before u.cells.items (length u.lits.items)) ds) c.deref.ensures.value
-          (subst (λ (r : Option ℕ). HasPropagated c.deref.result.now u.cells.items (length u.lits.items) r) c.in_default.is c.in_ok-conflict.ensures.done);
+      quiet = all-quiet n was.clauses.items v (true_before u.cells.items (length u.lits.items)) moves.watched.watching alive;
+      alive = alive;
       full = c.in_default-choose.ensures;
     }
 
@@ -85,13 +94,13 @@ pub moves-smaller : goal.moves-smaller
 moves-smaller c =
     let was = c.moves.self.trail in
     let u = c.propagate.new.self in
-    let l : Lit = record { atom = c.in-Some-choose.atom; negated = true } in
+    let l : Lit = record { atom = c.in-Some-choose.atom; negated = c.is_negated-negated.result } in
     let choice = c.in-Some-choose.ensures in
     let within : l.atom < length u.cells.items = choice.1 in
     let free : cell_of u.cells.items l ≡ Free = choice.2 in
     let e : free_count (set u.cells.items l.atom (Decided l.negated (length u.lits.items))) + 1 ≡ free_count u.cells.items = free-set u.cells.items l.atom _ free within refl in
     let f : free_count c.decide.new.self.cells.items ≡ free_count (set u.cells.items l.atom (Decided l.negated (length u.lits.items))) = ap free_count c.in_ok-decide.ensures.cells in
-    let goes = c.in_ok-conflict.ensures.goes_on in
+    let goes = c.in_ok-conflict.ensures.moves.goes_on in
     let counted : free_count u.cells.items + length u.lits.items ≡ free_count was.cells.items + length was.lits.items = goes.counted in
     let longer : length was.lits.items ≤ length u.lits.items = goes.longer in
     let h : free_count c.decide.new.self.cells.items < free_count was.cells.items = omega arith in
@@ -103,14 +112,16 @@ moves-preserved c =
     let was = c.moves.self in
     let cs = was.clauses.items in
     let u = c.propagate.new.self in
+    let w = c.propagate.new.watches in
     let v = c.decide.new.self in
     let ready = c.moves.invariant.ready in
-    let goes : GoesOn n cs was.trail u = goes-among n _ cs c.deref.result.now was.trail u ready.trail.sized c.deref.ensures.value c.in_ok-conflict.ensures.goes_on in
-    let sound : HoldsTrail n cs u = goes.trail in
-    let quiet : AreQuiet (true_before u.cells.items (length u.lits.items)) cs =
-    subst (λ (ds : List Clause). AreQuiet (true_before u.cells.items (length u.lits.items)) ds) c.deref.ensures.value
-    (subst (λ (r : Option ℕ). HasPropagated c.deref.result.now u.cells.items (length u.lits.items) r) c.in_default.is c.in_ok-conflict.ensures.done) in
-    let l : Lit = record { atom = c.in-Some-choose.atom; negated = true } in
+    let moves : MovesOn n cs was.trail was.watches u w = moves-among n _ cs c.deref.result.now was.trail was.watches u w ready.trail.sized c.deref.ensures.value c.in_ok-conflict.ensures.moves in
+    let sound : HoldsTrail n cs u = moves.goes_on.trail in
+    let alive : AreAlive cs u w =
+    subst (λ (ds : List Clause). AreAlive ds u w) c.deref.ensures.value
+    (subst (λ (r : Option ℕ). HasPropagated c.deref.result.now u w r) c.in_default.is c.in_ok-conflict.ensures.done) in
+    let quiet : AreQuiet (true_before u.cells.items (length u.lits.items)) cs = all-quiet n cs w (true_before u.cells.items (length u.lits.items)) moves.watched.watching alive in
+    let l : Lit = record { atom = c.in-Some-choose.atom; negated = c.is_negated-negated.result } in
     let choice = c.in-Some-choose.ensures in
     let within : l.atom < length u.cells.items = choice.1 in
     let free : cell_of u.cells.items l ≡ Free = choice.2 in
@@ -122,9 +133,9 @@ moves-preserved c =
     record {
       ready = record {
         in_cells = ready.in_cells;
-        listed = ready.listed;
+        watched = decided-watched n cs u v w l sound free in_range alive moves.watched decided made.cells made.lits made.levels;
         trail = decided;
-        seen = decided-seen n cs u v l c.len-place.result end sound free in_range quiet decided made.cells made.lits;
+        seen = decided-seen n cs u v w l sound free in_range alive moves.watched decided made.cells made.lits made.levels c.len-place.result end;
       };
       kept = record { clauses_kept = c.moves.invariant.kept.clauses_kept; steps_kept = c.moves.invariant.kept.steps_kept };
     }

@@ -8,8 +8,8 @@ use Rattle.sc_search.proofs.solver.Solver.tell.Goals as goal
 use Rattle.sc_search.specs.Trails.{AllInCells}
 use Rattle.sc_search.specs.Turns.{IsReady}
 
-pub install-requires-clause-in_cells : goal.install-requires-clause-in_cells
-install-requires-clause-in_cells g c =
+pub attach-requires-clause-in_cells : goal.attach-requires-clause-in_cells
+attach-requires-clause-in_cells g c =
     let A = g.S.Source.has_instance c.args.source.now in
     let K = g.S.Source.clause_of c.args.source.now in
     let s = c.args.self.now in
@@ -18,6 +18,9 @@ install-requires-clause-in_cells g c =
     let e : n ≡ n - 1 + 1 = omega arith in
     let ready = subst (λ (m : ℕ). IsReady m s) e c.requires.ready in
     subst (λ (d : Clause). AllInCells n d) (sym c.in_ok-clause.ensures) (told-in-cells A K (n - 1) s ready c.requires.total c.args.instance c.requires.accepted c.requires.falsified)
+
+pub attach-requires-clause-alive : goal.attach-requires-clause-alive
+attach-requires-clause-alive g c = λ e. c.requires.total.alive
 
 pub returns-then-is_spent : goal.returns-then-is_spent
 returns-then-is_spent g c =
@@ -46,7 +49,7 @@ returns-then-is_empty g c =
         step = Instance c.args.instance;
         is_lawful = told-lawful A K (n - 1) s ready c.requires.total c.args.instance c.requires.accepted c.requires.falsified;
         is_empty = nil;
-        steps_more = c.in_ok-install.ensures.steps;
+        steps_more = c.in_ok-attach.ensures.steps;
       },
       λ e. true≢false (sym (c.is_spent.ensures.1 e) ∙ c.if-is_spent.false),
     )
@@ -69,9 +72,9 @@ returns g c =
       record {
         step = Instance c.args.instance;
         is_unit = told-unit A K (n - 1) s ready c.requires.total c.args.instance c.requires.accepted c.requires.falsified not_nil;
-        clauses_more = c.in_ok-install.ensures.clauses ∙ ap (λ (d : Clause). s.clauses.items ++ d ∷ []) c.in_ok-clause.ensures;
-        steps_more = c.in_ok-install.ensures.steps;
-        ready = subst (λ (m : ℕ). IsReady m c.install.new.self) e c.in_ok-install.ensures.ready;
+        clauses_more = c.in_ok-attach.ensures.clauses ∙ ap (λ (d : Clause). s.clauses.items ++ d ∷ []) c.in_ok-clause.ensures;
+        steps_more = c.in_ok-attach.ensures.steps;
+        ready = subst (λ (m : ℕ). IsReady m c.attach.new.self) e c.in_ok-attach.ensures.ready;
       },
       λ e. true≢false (sym (c.is_spent.ensures.1 e) ∙ c.if-is_spent.false),
     )

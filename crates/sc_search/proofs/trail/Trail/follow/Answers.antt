@@ -1,48 +1,40 @@
-use Rattle.std.proofs.Common.{◌≡◌, ◌<◌, ◌≤◌, ◌∙◌, ℕ, List, Option, None, length, subst, sym, ap, rules}
-use Rattle.std.specs.List.{Contains}
-use Rattle.sc_clauses.specs.Clauses.{negation}
-use Rattle.sc_clauses.specs.declared.lit.Lit.{Lit}
-use Rattle.sc_search.proofs.VisitLaws.{all-quiet, goes-farther, seen-next}
+use Rattle.std.proofs.Common.{◌≤◌, ◌+◌, ℕ, Option, length, subst, sym, rules}
+use Rattle.sc_search.proofs.VisitLaws.{all-alive, moves-farther, moves-nowhere}
 use Rattle.sc_search.proofs.trail.Trail.follow.Goals as goal
-use Rattle.sc_search.specs.Occurrences.{places_of}
 use Rattle.sc_search.specs.Trails.{AreInCells}
-use Rattle.sc_search.specs.Visits.{GoesOn, HasVisitedListed}
+use Rattle.sc_search.specs.Visits.{HasFollowed, IsWellWatched, MovesOn}
 
-pub visit_listed-requires-clause-in_cells : goal.visit_listed-requires-clause-in_cells
-visit_listed-requires-clause-in_cells c = subst (λ (m : ℕ). AreInCells m c.args.clauses.now) (sym c.literals.invariant.goes_on.trail.sized) c.requires.in_cells
+pub literals-init : goal.literals-init
+literals-init c = record { moves = moves-nowhere _ c.args.clauses.now c.args.self.now c.args.watches.now c.requires.trail c.requires.watched; seen = c.requires.seen }
 
-pub visit_listed-requires-clause-within : goal.visit_listed-requires-clause-within
-visit_listed-requires-clause-within c = λ i has. c.requires.listed.within c.negation-lit.result i (subst (λ (ps : List ℕ). Contains ps i) c.places_of.ensures has)
+pub visit_watching-requires-clause-in_cells : goal.visit_watching-requires-clause-in_cells
+visit_watching-requires-clause-in_cells c = subst (λ (m : ℕ). AreInCells m c.args.clauses.now) (sym c.literals.invariant.moves.goes_on.trail.sized) c.requires.in_cells
 
-pub returns-in-Some-clause-goes_on : goal.returns-in-Some-clause-goes_on
-returns-in-Some-clause-goes_on c =
+pub visit_watching-requires-clause-watched : goal.visit_watching-requires-clause-watched
+visit_watching-requires-clause-watched c = subst (λ (m : ℕ). IsWellWatched m c.args.clauses.now c.literals.self c.literals.watches) (sym c.literals.invariant.moves.goes_on.trail.sized) c.literals.invariant.moves.watched
+
+pub returns-in-Some-clause-moves : goal.returns-in-Some-clause-moves
+returns-in-Some-clause-moves c =
     let n = length c.args.self.now.cells.items in
     let cs = c.args.clauses.now in
-    let s = c.literals.self in
-    let d = c.visit_listed.new.self in
-    let so_far = c.literals.invariant.goes_on in
-    goes-farther n cs c.args.self.now s d so_far (subst (λ (m : ℕ). GoesOn m cs s d) so_far.trail.sized c.in_ok-conflict.ensures.goes_on)
+    let so_far = c.literals.invariant.moves in
+    moves-farther n cs c.args.self.now c.args.watches.now c.literals.self c.literals.watches c.visit_watching.new.self c.visit_watching.new.watches so_far
+    (subst (λ (m : ℕ). MovesOn m cs c.literals.self c.literals.watches c.visit_watching.new.self c.visit_watching.new.watches) so_far.goes_on.trail.sized c.in_ok-conflict.ensures.moves)
 
 pub literals-preserved : goal.literals-preserved
 literals-preserved c =
     let n = length c.args.self.now.cells.items in
     let cs = c.args.clauses.now in
-    let o = c.args.occurrences.now in
     let s = c.literals.self in
-    let d = c.visit_listed.new.self in
-    let p = c.literals.place in
-    let l = c.index.result.now in
-    let so_far = c.literals.invariant.goes_on in
-    let next : GoesOn n cs s d = subst (λ (m : ℕ). GoesOn m cs s d) so_far.trail.sized c.in_ok-conflict.ensures.goes_on in
-    let within : p < length s.lits.items = search rules in
-    let places : c.places_of.result.now ≡ places_of o (negation l) = c.places_of.ensures ∙ ap (λ (m : Lit). places_of o m) c.negation-lit.ensures in
-    let visited : HasVisitedListed cs (places_of o (negation l)) d (length s.lits.items) None =
-    subst (λ (ps : List ℕ). HasVisitedListed cs ps d (length s.lits.items) None) places
-    (subst (λ (r : Option ℕ). HasVisitedListed cs c.places_of.result.now d (length s.lits.items) r) c.in_default.is c.in_ok-conflict.ensures.visited) in
+    let w = c.literals.watches in
+    let d = c.visit_watching.new.self in
+    let v = c.visit_watching.new.watches in
+    let so_far = c.literals.invariant.moves in
+    let next : MovesOn n cs s w d v = subst (λ (m : ℕ). MovesOn m cs s w d v) so_far.goes_on.trail.sized c.in_ok-conflict.ensures.moves in
     record {
-      goes_on = goes-farther n cs c.args.self.now s d so_far next;
-      seen = seen-next n cs o s d p l c.requires.listed within c.index.ensures next visited c.literals.invariant.seen;
+      moves = moves-farther n cs c.args.self.now c.args.watches.now s w d v so_far next;
+      seen = subst (λ (r : Option ℕ). HasFollowed cs d v (c.literals.place + 1) r) c.in_default.is c.in_ok-conflict.ensures.done;
     }
 
 pub returns-clause-done : goal.returns-clause-done
-returns-clause-done c = let le : length c.literals.self.lits.items ≤ c.literals.place = search rules in all-quiet c.args.clauses.now c.literals.self c.literals.place c.literals.invariant.seen le
+returns-clause-done c = let le : length c.literals.self.lits.items ≤ c.literals.place = search rules in all-alive c.args.clauses.now c.literals.self c.literals.watches c.literals.place c.literals.invariant.seen le

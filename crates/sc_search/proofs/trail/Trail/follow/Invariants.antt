@@ -1,12 +1,12 @@
 use Rattle.std.proofs.Common.{◌+◌, ◌-◌, length}
 use Rattle.sc_search.specs.Trails.{free_count}
-use Rattle.sc_search.specs.Visits.{AreSeen, GoesOn}
+use Rattle.sc_search.specs.Visits.{AreSeen, MovesOn}
 use Rattle.sc_search.proofs.trail.Trail.follow.Given as goal
 
 abbrev pub invariant-literals : goal.invariant-literals
 invariant-literals l = record {
-  goes_on : GoesOn (length l.initial.self.cells.items) l.clauses l.initial.self l.self;
-  seen : AreSeen l.clauses l.self l.place;
+  moves : MovesOn (length l.initial.self.cells.items) l.clauses l.initial.self l.initial.watches l.self l.watches;
+  seen : AreSeen l.clauses l.self l.watches l.place;
 }
 
 abbrev pub decreases-literals : goal.decreases-literals

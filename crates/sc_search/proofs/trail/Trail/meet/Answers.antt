@@ -27,5 +27,5 @@ returns-clause-collected c =
     let m : Lit = c.args.lit in
     let is_false = not-met met m _ c.requires.may_be_met c.index.ensures c.if-index.false in
     let b : true_before cells first (negation m) ≡ true = subst (λ (x : Lit). true_before cells first x ≡ true) c.negation.ensures (sym c.is_true_before.ensures ∙ c.if-not-is_true_before.false) in
-    subst (λ (xs : List Lit). IsCollected n cells first (set met m.atom true) xs) (sym c.in_ok-push.ensures.items)
+    subst (λ (xs : List Lit). IsCollected n cells first (set met m.atom true) xs) (sym c.in_ok-push-2.ensures.items)
     (collected-lower n cells (length c.args.self.now.lits.items) first met c.args.analysis.now.lower.items m c.requires.collected is_false b)

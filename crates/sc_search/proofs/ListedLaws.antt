@@ -1,0 +1,144 @@
+-- What a change of one literal's list changes.
+use Rattle.std.proofs.Common.{◌≡◌, ◌≢◌, ◌⊎◌, inl, inr, ⊎_elim, ℕ, zero, suc, ◌+◌, ◌-◌, ◌<◌, ◌≤◌, List, [], ◌∷◌, Bool, true, false, not, length, get_or, refl, sym, ap, ◌∙◌, subst, arith, get_or-set_same, get_or-set_other, replicate, Result, Ok, Err, IfOk, Vec, Global, Option, Some, None, slice_get}
+use Rattle.std.specs.List.{Contains, swap_remove}
+use Rattle.std.proofs.Math.ListN.{set, length-set, get_or-eq_default}
+use Rattle.std.proofs.lemmas.List.{get_or_default, get_or-replicate, length-replicate, get_or-take, length-take-le}
+use Rattle.sc_lists.proofs.OptionLaws.{same_some}
+use Rattle.sc_clauses.specs.declared.lit.Lit.{Lit}
+use Rattle.sc_search.proofs.LitLaws.{lit-of, nat-cases, below-or, sign-cases}
+use Rattle.sc_search.specs.Lists.{AreEmpty, IsListSet, lists_of, places_of}
+use Rattle.sc_search.specs.Watches.{IsPlaceAt}
+use Rattle.sc_search.specs.declared.lists.Lists.{Lists}
+
+module _ (o new : Lists) (lit : Lit) (ps : List ℕ) (within : lit.atom < length (lists_of o lit.negated))
+    (same_sign : lists_of new lit.negated ≡ set (lists_of o lit.negated) lit.atom ps) (other_sign : lists_of new (not lit.negated) ≡ lists_of o (not lit.negated)) where
+  set-here : places_of new lit ≡ ps
+  set-here = ap (λ (ls : List (List ℕ)). get_or ls lit.atom []) same_sign ∙ get_or-set_same (lists_of o lit.negated) lit.atom ps [] within
+
+  set-elsewhere : (l : Lit) → l ≢ lit → places_of new l ≡ places_of o l
+  set-elsewhere l ne =
+      ⊎_elim
+      (λ (s : l.negated ≡ lit.negated).
+      let apart : l.atom ≢ lit.atom = λ a. ne (lit-of _ _ _ _ s a) in
+      subst (λ (b : Bool). get_or (lists_of new b) l.atom [] ≡ get_or (lists_of o b) l.atom []) (sym s)
+      (ap (λ (ls : List (List ℕ)). get_or ls l.atom []) same_sign ∙ get_or-set_other (lists_of o lit.negated) lit.atom l.atom ps [] apart))
+      (λ (s : l.negated ≡ not lit.negated).
+      subst (λ (b : Bool). get_or (lists_of new b) l.atom [] ≡ get_or (lists_of o b) l.atom []) (sym s) (ap (λ (ls : List (List ℕ)). get_or ls l.atom []) other_sign))
+      (sign-cases l.negated lit.negated)
+
+  set-size : (b : Bool) → (b ≡ lit.negated) ⊎ (b ≡ not lit.negated) → length (lists_of new b) ≡ length (lists_of o b)
+  set-size b (inl s) =
+      subst (λ (t : Bool). length (lists_of new t) ≡ length (lists_of o t)) (sym s)
+      (ap length same_sign ∙ length-set (lists_of o lit.negated) lit.atom ps)
+  set-size b (inr s) = subst (λ (t : Bool). length (lists_of new t) ≡ length (lists_of o t)) (sym s) (ap length other_sign)
+
+  list-set : IsListSet lit ps o new
+  list-set = record { sizes = λ b. set-size b (sign-cases b lit.negated); here = set-here; elsewhere = set-elsewhere }
+
+list-set-by : (b : Bool) (o new : Lists) (lit : Lit) (F : List ℕ → List ℕ) → lit.negated ≡ b → lit.atom < length (lists_of o b) → lists_of new b ≡ set (lists_of o b) lit.atom (F (get_or (lists_of o b) lit.atom []))
+    → lists_of new (not b) ≡ lists_of o (not b) → IsListSet lit (F (places_of o lit)) o new
+list-set-by b o new lit F e within same other =
+    list-set o new lit (F (places_of o lit)) (subst (λ (s : Bool). lit.atom < length (lists_of o s)) (sym e) within)
+    (subst (λ (s : Bool). lists_of new s ≡ set (lists_of o s) lit.atom (F (get_or (lists_of o s) lit.atom []))) (sym e) same)
+    (subst (λ (s : Bool). lists_of new (not s) ≡ lists_of o (not s)) (sym e) other)
+
+pub set-atom : (o : Lists) (lit : Lit) (F : List ℕ → List ℕ) (ls : Vec (List ℕ) Global) → lit.negated ≡ false → lit.atom < length o.atoms.items → ls.items ≡ set o.atoms.items lit.atom (F (get_or o.atoms.items lit.atom []))
+    → IsListSet lit (F (places_of o lit)) o (record { atoms = ls; negations = o.negations })
+set-atom o lit F ls e within is = list-set-by false o (record { atoms = ls; negations = o.negations }) lit F e within is refl
+
+pub set-negation : (o : Lists) (lit : Lit) (F : List ℕ → List ℕ) (ls : Vec (List ℕ) Global) → lit.negated ≡ true → lit.atom < length o.negations.items → ls.items ≡ set o.negations.items lit.atom (F (get_or o.negations.items lit.atom []))
+    → IsListSet lit (F (places_of o lit)) o (record { atoms = o.atoms; negations = ls })
+set-negation o lit F ls e within is = list-set-by true o (record { atoms = o.atoms; negations = ls }) lit F e within is refl
+
+pub set-atom-ok : {E : Type 0} (r : Result Unit E) (o : Lists) (lit : Lit) (F : List ℕ → List ℕ) (ls : Vec (List ℕ) Global) → lit.negated ≡ false → lit.atom < length o.atoms.items
+    → IfOk r (λ _. ls.items ≡ set o.atoms.items lit.atom (F (get_or o.atoms.items lit.atom []))) → IfOk r (λ _. IsListSet lit (F (places_of o lit)) o (record { atoms = ls; negations = o.negations }))
+set-atom-ok (Ok x) o lit F ls e within is = set-atom o lit F ls e within is
+set-atom-ok (Err x) o lit F ls e within is = is
+
+pub set-negation-ok : {E : Type 0} (r : Result Unit E) (o : Lists) (lit : Lit) (F : List ℕ → List ℕ) (ls : Vec (List ℕ) Global) → lit.negated ≡ true → lit.atom < length o.negations.items
+    → IfOk r (λ _. ls.items ≡ set o.negations.items lit.atom (F (get_or o.negations.items lit.atom []))) → IfOk r (λ _. IsListSet lit (F (places_of o lit)) o (record { atoms = o.atoms; negations = ls }))
+set-negation-ok (Ok x) o lit F ls e within is = set-negation o lit F ls e within is
+set-negation-ok (Err x) o lit F ls e within is = is
+
+empty-by : (n : ℕ) (o : Lists) → o.atoms.items ≡ replicate n [] → o.negations.items ≡ replicate n [] → (b : Bool) → lists_of o b ≡ replicate n []
+empty-by n o e f false = e
+empty-by n o e f true = f
+
+none-at : (n a : ℕ) → get_or (replicate {A = List ℕ} n []) a [] ≡ []
+none-at n a =
+    ⊎_elim
+    (λ (lt : a < n). get_or-replicate n a [] [] lt)
+    (λ (le : n ≤ a). get_or-eq_default (replicate n []) [] (let e : length (replicate {A = List ℕ} n []) ≡ n = length-replicate n [] in omega arith))
+    (below-or a n)
+
+pub lists-empty : (n : ℕ) (o : Lists) → o.atoms.items ≡ replicate n [] → o.negations.items ≡ replicate n [] → AreEmpty n o
+lists-empty n o e f = record {
+  sized = λ b. ap length (empty-by n o e f b) ∙ length-replicate n [];
+  empty = λ l. ap (λ (ls : List (List ℕ)). get_or ls l.atom []) (empty-by n o e f l.negated) ∙ none-at n l.atom;
+}
+
+-- what stands at a place
+pub place-at : (ps : List ℕ) (at : ℕ) (r : Option ℕ) → r ≡ slice_get ps at → IsPlaceAt ps at r
+place-at [] at None e = omega arith
+place-at [] at (Some i) e = absurd cc
+place-at (x ∷ ps) zero None e = absurd cc
+place-at (x ∷ ps) zero (Some i) e = (omega arith, sym (same_some e))
+place-at (x ∷ ps) (suc k) None e = let h : length ps ≤ k = place-at ps k None e in omega arith
+place-at (x ∷ ps) (suc k) (Some i) e = let h = place-at ps k (Some i) e in let lt : k < length ps = h.0 in (omega arith, h.1)
+
+-- ---- what stands in a list when one is taken out
+
+stands : (xs : List ℕ) (k i : ℕ) → k < length xs → get_or xs k 0 ≡ i → Contains xs i
+stands xs k i lt e = (k, lt, get_or_default xs k i 0 lt ∙ e)
+
+module _ (xs : List ℕ) (at : ℕ) (lt : at < length xs) where
+  set-length : length (set xs at (get_or xs (length xs - 1) 0)) ≡ length xs
+  set-length = length-set xs at (get_or xs (length xs - 1) 0)
+
+  pub removed-length : length (swap_remove xs at 0) + 1 ≡ length xs
+  removed-length =
+      let e = set-length in
+      let k : length (swap_remove xs at 0) ≡ length xs - 1 = length-take-le (length xs - 1) (set xs at (get_or xs (length xs - 1) 0)) (omega arith) in
+      omega arith
+
+  removed-at : (j : ℕ) → j < length xs - 1 → get_or (swap_remove xs at 0) j 0 ≡ get_or (set xs at (get_or xs (length xs - 1) 0)) j 0
+  removed-at j less = get_or-take (length xs - 1) (set xs at (get_or xs (length xs - 1) 0)) j 0 less
+
+  -- each that stands elsewhere still stands, and not before
+  pub removed-kept : (j i : ℕ) → at ≤ j → j ≢ at → j < length xs → get_or xs j 0 ≡ i → (k : ℕ) × (at ≤ k) × (k < length (swap_remove xs at 0)) × (get_or (swap_remove xs at 0) k 0 ≡ i)
+  removed-kept j i le ne less is =
+      let size = removed-length in
+      ⊎_elim
+      (λ (e : j ≡ length xs - 1).
+      let here : at < length xs - 1 = omega arith in
+      (at, omega arith, omega arith, removed-at at here ∙ get_or-set_same xs at (get_or xs (length xs - 1) 0) 0 lt ∙ ap (λ (k : ℕ). get_or xs k 0) (sym e) ∙ is))
+      (λ (other : j ≢ length xs - 1).
+      let low : j < length xs - 1 = omega arith in
+      (j, le, omega arith, removed-at j low ∙ get_or-set_other xs at j (get_or xs (length xs - 1) 0) 0 ne ∙ is))
+      (nat-cases j (length xs - 1))
+
+  -- each that stands anywhere but there still stands
+  pub removed-has : (i : ℕ) → Contains xs i → i ≢ get_or xs at 0 → Contains (swap_remove xs at 0) i
+  removed-has i (j, less, is) ne =
+      let size = removed-length in
+      let same : get_or xs j 0 ≡ i = get_or_default xs j 0 i less ∙ is in
+      let apart : j ≢ at = λ e. ne (sym same ∙ ap (λ (k : ℕ). get_or xs k 0) e) in
+      ⊎_elim
+      (λ (e : j ≡ length xs - 1).
+      let here : at < length xs - 1 = omega arith in
+      stands (swap_remove xs at 0) at i (omega arith) (removed-at at here ∙ get_or-set_same xs at (get_or xs (length xs - 1) 0) 0 lt ∙ ap (λ (k : ℕ). get_or xs k 0) (sym e) ∙ same))
+      (λ (other : j ≢ length xs - 1).
+      let low : j < length xs - 1 = omega arith in
+      stands (swap_remove xs at 0) j i (omega arith) (removed-at j low ∙ get_or-set_other xs at j (get_or xs (length xs - 1) 0) 0 apart ∙ same))
+      (nat-cases j (length xs - 1))
+
+  -- and nothing else stands
+  pub removed-only : (i : ℕ) → Contains (swap_remove xs at 0) i → Contains xs i
+  removed-only i (j, less, is) =
+      let size = removed-length in
+      let low : j < length xs - 1 = omega arith in
+      let now : get_or (set xs at (get_or xs (length xs - 1) 0)) j 0 ≡ i = sym (removed-at j low) ∙ get_or_default (swap_remove xs at 0) j 0 i less ∙ is in
+      ⊎_elim
+      (λ (e : j ≡ at). stands xs (length xs - 1) i (omega arith) (sym (subst (λ (k : ℕ). get_or (set xs at (get_or xs (length xs - 1) 0)) k 0 ≡ get_or xs (length xs - 1) 0) (sym e) (get_or-set_same xs at (get_or xs (length xs - 1) 0) 0 lt)) ∙ now))
+      (λ (ne : j ≢ at). stands xs j i (omega arith) (sym (get_or-set_other xs at j (get_or xs (length xs - 1) 0) 0 ne) ∙ now))
+      (nat-cases j at)

@@ -1,0 +1,2 @@
+pub mod GoalLaws
+mod KnownLaws

@@ -1,0 +1,274 @@
+"""Families of questions that grow, each as policies for the program and as a script for an SMT solver; see bench.sh."""
+import json
+import os
+import random
+import re
+import resource
+import shutil
+import subprocess
+import sys
+
+PROGRAM, FOLDER, SETS = os.path.abspath(sys.argv[1]), sys.argv[2], sys.argv[3]
+SOLVER = shutil.which("cvc5")
+MOST_SECONDS = 60
+
+
+def schema(context, user=None, doc=None, actions=("view",), tags=None):
+    """A schema in which users, who are in groups, view documents."""
+    record = lambda fields: {"type": "Record", "attributes": fields}
+    applies = {"appliesTo": {"principalTypes": ["User"], "resourceTypes": ["Doc"], "context": record(context)}}
+    entities = {"Group": {"memberOfTypes": ["Group"]}, "User": {"memberOfTypes": ["Group"], "shape": record(user or {})}, "Doc": {"shape": record(doc or {})}}
+    if tags:
+        entities["Doc"]["tags"] = tags
+    return json.dumps({"": {"entityTypes": entities, "actions": {it: applies for it in actions}}})
+
+
+TRUTH, TEXT, LONG = {"type": "Boolean"}, {"type": "String"}, {"type": "Long"}
+USER = {"type": "Entity", "name": "User"}
+
+
+def truths(names):
+    return schema({it: TRUTH for it in names})
+
+
+def permits(conditions):
+    return "".join(f"permit(principal, action, resource) when {{ {it} }};\n" for it in conditions)
+
+
+def smt_or(parts):
+    return f"(or false {' '.join(parts)})"
+
+
+def smt_and(parts):
+    return f"(and true {' '.join(parts)})"
+
+
+def constants(names, sort="Bool"):
+    return "".join(f"(declare-const {it} {sort})\n" for it in names)
+
+
+def script(*lines):
+    return "(set-logic ALL)\n" + "".join(lines) + "(check-sat)\n"
+
+
+class Question:
+    """One question: its files, its words, what is expected, and the script that is unsatisfiable where the property holds."""
+
+    def __init__(self, schema, policies, query, holds, smt, against=None, environments=1):
+        self.schema, self.policies, self.query, self.holds, self.smt, self.against, self.environments = schema, policies, query, holds, smt, against, environments
+
+
+def refactoring(size):
+    """Policies `c && (x || !y)`, against each of them split in two."""
+    draw = random.Random(size)
+    names = [f"a{it}" for it in range(max(6, size // 4))]
+    rows = [draw.sample(names, 3) for _ in range(size)]
+    one = permits(f"context.{c} && (context.{x} || !context.{y})" for c, x, y in rows)
+    two = permits(it for c, x, y in rows for it in (f"context.{c} && context.{x}", f"context.{c} && !context.{y}"))
+    left = smt_or(f"(and {c} (or {x} (not {y})))" for c, x, y in rows)
+    right = smt_or(it for c, x, y in rows for it in (f"(and {c} {x})", f"(and {c} (not {y}))"))
+    return Question(truths(names), one, "equivalent", True, script(constants(names), f"(assert (not (= {left} {right})))\n"), two)
+
+
+def clauses(names, rows, holds):
+    """Whether clauses have a common model, as the question whether a policy under them ever permits."""
+    tests = " && ".join("(" + " || ".join(("!" if sign else "") + "context." + it for sign, it in row) + ")" for row in rows)
+    smt = smt_and(smt_or(f"(not {it})" if sign else it for sign, it in row) for row in rows)
+    return Question(truths(names), permits([tests]), "always-denies", holds, script(constants(names), f"(assert {smt})\n"))
+
+
+def pigeons(size):
+    """Pigeons in holes, one more than there are holes."""
+    name = lambda pigeon, hole: f"p{pigeon}h{hole}"
+    rows = [[(False, name(it, hole)) for hole in range(size)] for it in range(size + 1)]
+    rows += [[(True, name(one, hole)), (True, name(other, hole))] for hole in range(size) for other in range(size + 1) for one in range(other)]
+    return clauses([name(it, hole) for it in range(size + 1) for hole in range(size)], rows, True)
+
+
+def random_clauses(size):
+    """Random clauses of three literals at the threshold."""
+    draw = random.Random(1000 + size)
+    names = [f"a{it}" for it in range(size)]
+    rows = [[(draw.random() < 0.5, it) for it in draw.sample(names, 3)] for _ in range(int(4.26 * size))]
+    return clauses(names, rows, None)
+
+
+def environments(size):
+    """One small question in many environments."""
+    names = ["mfa", "managed"]
+    actions = [f"act{it}" for it in range(size)]
+    old = permits(["context.mfa && context.managed && principal == resource.owner"])
+    new = permits(["!(!context.managed || !context.mfa) && resource.owner == principal"])
+    smt = script(constants(["mfa", "managed"]), constants(["principal", "owner"], "String"), "(assert (not (= (and mfa managed (= principal owner)) (and (not (or (not managed) (not mfa))) (= owner principal)))))\n")
+    return Question(schema({it: TRUTH for it in names}, doc={"owner": USER}, actions=actions), old, "equivalent", True, smt, new, size)
+
+
+def entities(size):
+    """Who may is listed one by one, and in the rewrite from the other end."""
+    some = [f'principal == User::"u{it}"' for it in range(size)]
+    old = permits(f"{it} && resource.owner == principal" for it in some)
+    new = permits([" || ".join(f'resource.owner == User::"u{it}"' for it in reversed(range(size)))])
+    left = smt_or(f'(and (= principal "u{it}") (= owner principal))' for it in range(size))
+    right = smt_or(f'(= owner "u{it}")' for it in range(size))
+    return Question(schema({}, doc={"owner": USER}), old, "implies", True, script(constants(["principal", "owner"], "String"), f"(assert (and {left} (not {right})))\n"), new)
+
+
+def groups(size):
+    """A chain of groups: who is in the first is in the last."""
+    chain = " && ".join(f'Group::"g{it}" in Group::"g{it + 1}"' for it in range(size))
+    old = permits([f'principal in Group::"g0" && {chain}'])
+    new = permits([f'principal in Group::"g{size}"'])
+    lines = ["(declare-fun up (String) (Set String))\n(declare-fun user () (Set String))\n"]
+    for low in range(size + 1):
+        lines.append(f'(assert (not (set.member "g{low}" (up "g{low}"))))\n(assert (=> (set.member "g{low}" user) (set.subset (up "g{low}") user)))\n')
+        lines += [f'(assert (=> (set.member "g{low}" (up "g{it}")) (set.subset (up "g{low}") (up "g{it}"))))\n' for it in range(size + 1) if it != low]
+    steps = smt_and(f'(set.member "g{it + 1}" (up "g{it}"))' for it in range(size))
+    lines.append(f'(assert (and (set.member "g0" user) {steps} (not (set.member "g{size}" user))))\n')
+    return Question(schema({}), old, "implies", True, script(*lines), new)
+
+
+def sets(size):
+    """Roles as sets of texts: all of some, and one by one."""
+    roles = ", ".join(f'"r{it}"' for it in range(size))
+    old = permits([f"context.roles.containsAll([{roles}]) && [{roles}].containsAll(context.asked)"])
+    new = permits(["context.roles.containsAll(context.asked)"])
+    row = f"(set.insert {' '.join(chr(34) + f'r{it}' + chr(34) for it in range(size))} (as set.empty (Set String)))"
+    smt = script(constants(["roles", "asked"], "(Set String)"), f"(assert (and (set.subset {row} roles) (set.subset asked {row}) (not (set.subset asked roles))))\n")
+    texts = {"type": "Set", "element": TEXT}
+    return Question(schema({"roles": texts, "asked": texts}), old, "implies", True, smt, new)
+
+
+def strings(size):
+    """A name that is one of many, none of which is another name."""
+    old = permits([" || ".join(f'context.name == "n{it}"' for it in range(size))])
+    new = permits(['context.name != context.other && context.other == "x"', f'context.other != "x"'])
+    left = smt_or(f'(= name "n{it}")' for it in range(size))
+    return Question(schema({"name": TEXT, "other": TEXT}), old, "implies", True, script(constants(["name", "other"], "String"), f'(assert (and {left} (not (or (and (not (= name other)) (= other "x")) (not (= other "x"))))))\n'), new)
+
+
+def patterns(size):
+    """Folders, of which each excludes the others."""
+    old = permits(f'resource.path like "/f{it}/*" && resource.path like "*.md"' for it in range(size))
+    new = permits(['resource.path like "/f*/*.md"'])
+    like = lambda text: "(str.in_re path (re.++ " + " ".join("(re.* re.allchar)" if it == "*" else f'(str.to_re "{it}")' for it in re.findall(r"\*|[^*]+", text)) + ' (str.to_re "")))'
+    left = smt_or(f"(and {like(f'/f{it}/*')} {like('*.md')})" for it in range(size))
+    return Question(schema({}, doc={"path": TEXT}), old, "implies", True, script(constants(["path"], "String"), f"(assert (and {left} (not {like('/f*/*.md')})))\n"), new)
+
+
+def conditions(size):
+    """One long condition of numbers and texts, against its parts in the other order."""
+    tests = [f"(context.n{it} < {it} || context.t{it})" for it in range(size)]
+    smt = [f"(or (bvslt n{it} (_ bv{it} 64)) t{it})" for it in range(size)]
+    names = {f"n{it}": LONG for it in range(size)} | {f"t{it}": TRUTH for it in range(size)}
+    text = script(constants([f"n{it}" for it in range(size)], "(_ BitVec 64)"), constants(f"t{it}" for it in range(size)), f"(assert (not (= {smt_and(smt)} {smt_and(smt[::-1])})))\n")
+    return Question(schema(names), permits([" && ".join(tests)]), "equivalent", True, text, permits([" && ".join(tests[::-1])]))
+
+
+def products(size):
+    """Products of an unknown number by many factors, one of which is to be 7."""
+    tests = " || ".join(f"context.n * {it + 2} == 7" for it in range(size))
+    over = lambda k: f"(or (bvslt ((_ sign_extend 64) (_ bv9223372036854775807 64)) (bvmul ((_ sign_extend 64) n) (_ bv{k} 128))) (bvslt (bvmul ((_ sign_extend 64) n) (_ bv{k} 128)) ((_ sign_extend 64) (_ bv9223372036854775808 64))))"
+    value, errs = "false", "false"
+    for k in reversed(range(2, size + 2)):
+        is_it = f"(= (bvmul n (_ bv{k} 64)) (_ bv7 64))"
+        value, errs = f"(or {is_it} (and (not {errs}) {value}))", f"(or {over(k)} (and (not {is_it}) {errs}))"
+    return Question(schema({"n": LONG}), permits([tests]), "always-denies", None, script(constants(["n"], "(_ BitVec 64)"), f"(assert (and {value} (not {errs})))\n"))
+
+
+FAMILIES = [(refactoring, (30, 60, 120, 240)), (pigeons, (4, 5, 6, 7)), (random_clauses, (40, 60, 80, 100, 120)), (environments, (1, 10, 100, 1000)), (entities, (10, 20, 40, 80)),
+            (groups, (5, 10, 20)), (sets, (5, 10, 20, 40)), (strings, (10, 20, 40, 80)), (patterns, (2, 4, 8)), (conditions, (5, 10, 20, 40)), (products, (1, 2, 5, 10))]
+
+
+def timed(words):
+    """The fewest seconds of the processor, the start included, of some runs, and what was written; none after MOST_SECONDS."""
+    best, text = None, ""
+    for _ in range(3):
+        with open(f"{FOLDER}/out", "w") as out:
+            run = subprocess.Popen(words, stdout=out, stderr=subprocess.DEVNULL, preexec_fn=lambda: resource.setrlimit(resource.RLIMIT_CPU, (MOST_SECONDS, MOST_SECONDS)))
+            _, status, used = os.wait4(run.pid, 0)
+            run.returncode = os.waitstatus_to_exitcode(status)
+        took = used.ru_utime + used.ru_stime
+        if run.returncode < 0:
+            return None, ""
+        best = took if best is None else min(best, took)
+        if took > 2:
+            break
+    with open(f"{FOLDER}/out") as out:
+        text = out.read()
+    return best, text
+
+
+def write(name, text):
+    with open(f"{FOLDER}/{name}", "w") as out:
+        out.write(text)
+    return f"{FOLDER}/{name}"
+
+
+def verdicts(text):
+    return [re.sub(r"^env .*?: (holds|counterexample|unknown|over limit).*$", r"\1", it) for it in text.splitlines()]
+
+
+def told(answers):
+    return ", ".join(f"{answers.count(it)} {it}" for it in dict.fromkeys(answers)) or "none"
+
+
+def shown(seconds):
+    return f"over {MOST_SECONDS}" if seconds is None else f"{seconds:.3f}"
+
+
+def measure(family, size):
+    question = family(size)
+    words = ["--schema", write("s.json", question.schema), "--policies", write("p.cedar", question.policies), "--query", question.query]
+    if question.against is not None:
+        words += ["--against", write("a.cedar", question.against)]
+    seconds, text = timed([PROGRAM, "analyse", *words, "--budget", "100000"])
+    answers = verdicts(text)
+    units = ""
+    if answers and set(answers) == {"holds"}:
+        log = subprocess.run([PROGRAM, "log", *words, "--budget", "100000", "--env", "0"], capture_output=True, text=True).stdout
+        units = str(max(log.count("\n") - 1, 0))
+    other, said = timed([SOLVER, "--lang=smt2", "--strings-exp", write("q.smt2", question.smt)]) if SOLVER else (None, "")
+    wanted = {"unsat": "holds", "sat": "counterexample"}.get(said.strip())
+    wrong = " WRONG" if question.holds is True and set(answers) - {"holds"} or wanted and set(answers) - {wanted, "unknown"} else ""
+    if SOLVER and other is not None:
+        other *= question.environments
+    print(f"| {family.__name__} | {size} | {told(answers)}{wrong} | {units} | {shown(seconds)} | {shown(other) if SOLVER else ''} |", flush=True)
+
+
+def questions_of(folder):
+    """The words of each question of a policy set, with the answers that are wanted."""
+    found = []
+    with open(f"{folder}/answers.txt") as lines:
+        for line in lines:
+            if line.startswith("question"):
+                found.append((line.split(": ", 1)[1].split(), []))
+            elif line.strip():
+                found[-1][1].append(line.strip().rsplit(": ", 1)[1])
+    return found
+
+
+def measure_set(name):
+    folder = f"{SETS}/{name}"
+    for number, (words, wanted) in enumerate(questions_of(folder)):
+        words = [f"{folder}/{it}" if it.endswith(".cedar") else it for it in words]
+        seconds, text = timed([PROGRAM, "analyse", "--schema", f"{folder}/schema.json", *words, "--budget", "10000"])
+        answers = verdicts(text)
+        scripts = sorted(it for it in os.listdir(f"{folder}/scripts") if it.startswith(f"q{number:02d}-")) if os.path.isdir(f"{folder}/scripts") else []
+        taken = [timed([SOLVER, "--lang=smt2", "--strings-exp", f"{folder}/scripts/{it}"])[0] for it in scripts] if SOLVER else []
+        other = None if not taken or None in taken else sum(taken)
+        wrong = "" if answers == wanted else " WRONG"
+        print(f"| {name} question {number} | {len(wanted)} | {told(answers)}{wrong} | | {shown(seconds)} | {shown(other) if taken else ''} |", flush=True)
+
+
+def main():
+    print("| Family | Size | Answers | Units | Seconds | Seconds of cvc5 |\n|---|---|---|---|---|---|", flush=True)
+    for family, sizes in FAMILIES:
+        for size in sizes:
+            measure(family, size)
+    if SETS:
+        for name in sorted(os.listdir(SETS)):
+            if os.path.isfile(f"{SETS}/{name}/answers.txt"):
+                measure_set(name)
+
+
+main()
