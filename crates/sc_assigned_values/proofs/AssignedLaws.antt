@@ -18,7 +18,7 @@ use Rattle.sc_terms.proofs.OrderLaws.{tree_eq-exact}
 use Rattle.sc_term_laws.proofs.BinaryJudged.{binary_kept}
 use Rattle.sc_term_laws.proofs.JudgingLaws.{member_of}
 use Rattle.sc_term_laws.proofs.TestLaws.{set_sort}
-use Rattle.sc_closure_rules.specs.Closure.{Closed}
+use Rattle.sc_footprint.specs.Closure.{Closed}
 use Rattle.sc_footprint.specs.Problems.{Posed, IsPosed, goal_term, closed_terms, numbered}
 use Rattle.sc_footprint.specs.Theories.{ClosedAreTerms}
 use Rattle.sc_models.specs.Models.{model, truth_in}

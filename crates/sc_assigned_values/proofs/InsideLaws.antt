@@ -3,7 +3,7 @@ use Rattle.std.proofs.Common.{◌≡◌, ◌<◌, ◌+◌, ℕ, zero, suc, false
 use Rattle.std.proofs.lemmas.Option.{slice_get-map}
 use Rattle.sc_lists.proofs.ListLaws.{contains_map, contains_place}
 use Rattle.sc_lists.proofs.MemberLaws.{Has-from_Contains}
-use Rattle.sc_lists.proofs.OptionLaws.{same_some}
+use Rattle.sc_laws.proofs.OptionLaws.{same_some}
 use Rattle.sc_sorts.specs.declared.sort.Sort.{Sort, Sort-F, out-Sort}
 use Rattle.sc_sorts.specs.declared.sort.Sort.TheVariants as sort
 use Rattle.sc_sorts.specs.declared.sort.Sort.TheOpen as s
@@ -18,9 +18,9 @@ use Rattle.sc_term_laws.proofs.DefaultMade.{held_made}
 use Rattle.sc_term_laws.proofs.JudgingLaws.{sort_is}
 use Rattle.sc_term_laws.proofs.MadeLaws.{field_made}
 use Rattle.sc_definitions.specs.Definitions.{bits_in, bit_count, counted}
-use Rattle.sc_closure.specs.Atoms.{is_bool, is_bool_in}
-use Rattle.sc_closure_rules.specs.Closure.{Closed, inside, inside_by, field_terms, bit_terms}
-use Rattle.sc_closure_rules.proofs.SortLaws.{found, names_ascend}
+use Rattle.sc_footprint.specs.Atoms.{is_bool, is_bool_in}
+use Rattle.sc_footprint.specs.Closure.{Closed, inside, inside_by, field_terms, bit_terms}
+use Rattle.sc_footprint.proofs.SortLaws.{found, names_ascend}
 use Rattle.sc_footprint.specs.Problems.{Posed, IsPosed, goal_term}
 use Rattle.sc_footprint.specs.Theories.{ClosedAreTerms}
 use Rattle.sc_instances.proofs.FollowLaws.{field_place}

@@ -1,3 +1,4 @@
+pub use Rattle.sc_model_values.proofs.SortedVals
 mod TruthLaws
 mod PlaceLaws
 mod InsideLaws

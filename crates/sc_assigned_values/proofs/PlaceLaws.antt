@@ -2,14 +2,14 @@
 use Rattle.std.proofs.Common.{◌≡◌, ◌<◌, ℕ, zero, suc, false, cond, length, slice_get, Option, Some, None, IsSome, Contains, option_and_then, refl, sym, ap, ◌∙◌}
 use Rattle.sc_lists.proofs.ListLaws.{all_element, contains_map}
 use Rattle.sc_lists.proofs.MemberLaws.{Has-from_Contains}
-use Rattle.sc_lists.proofs.OptionLaws.{same_some}
-use Rattle.sc_lists.proofs.NumberLaws.{suc_isnt_zero}
+use Rattle.sc_laws.proofs.OptionLaws.{same_some}
+use Rattle.sc_laws.proofs.NumberLaws.{suc_isnt_zero}
 use Rattle.sc_terms.specs.Trees.{Tree}
 use Rattle.sc_terms.specs.Tables.{tree, IsTable}
 use Rattle.sc_terms.proofs.OrderLaws.{tree_cmp_level}
-use Rattle.sc_closure.specs.Atoms.{is_bool}
-use Rattle.sc_closure.specs.Places.{place_among}
-use Rattle.sc_closure_rules.specs.Closure.{follow, inside}
+use Rattle.sc_footprint.specs.Atoms.{is_bool}
+use Rattle.sc_footprint.specs.Places.{place_among}
+use Rattle.sc_footprint.specs.Closure.{follow, inside}
 use Rattle.sc_footprint.specs.Problems.{Posed, IsPosed, closed_terms, numbered, number_of, if_any, term_of, companion}
 use Rattle.sc_footprint.proofs.IndexLaws.{number_is_place}
 use Rattle.sc_footprint.proofs.NumberingLaws.{numbered_map, numbered_back}

@@ -1,6 +1,6 @@
 -- The truth of a term, one negation at a time, and of an atom by its number.
 use Rattle.std.proofs.Common.{◌≡◌, ℕ, Bool, true, false, not, cond, Some, None, unwrap_or, refl, sym, ap, ◌∙◌}
-use Rattle.sc_lists.proofs.BoolLaws.{not_not}
+use Rattle.sc_laws.proofs.BoolLaws.{not_not}
 use Rattle.sc_clauses.specs.Assignments.{value_of}
 use Rattle.sc_clauses.specs.Assignments as assigned
 use Rattle.sc_clauses.specs.declared.lit.Lit.{Lit}

@@ -1,15 +1,14 @@
 //! The closed terms that go with a closed term.
 ghost use Rattle.std.specs.Prelude.{◌≡◌, ◌<◌, Contains, ℕ, List, Some, IsSome, false, length, slice_get};
 ghost use Rattle.sc_assigned_values.specs.Parts.{IsOf};
-ghost use Rattle.sc_closure.specs.Atoms.{is_bool};
-ghost use Rattle.sc_closure_rules.specs.Closure.{inside};
+ghost use Rattle.sc_footprint.specs.Atoms.{is_bool};
+ghost use Rattle.sc_footprint.specs.Closure.{inside};
 ghost use Rattle.sc_sorts.specs.declared.sort.Sort.{Sort as AnySort};
 ghost use Rattle.sc_sorts.specs.declared.sort.Sort.TheVariants as sorts;
 ghost use Rattle.sc_terms.specs.Folds.{field_term, held_term, present_term};
 ghost use Rattle.sc_terms.specs.Tables.{tree};
 
-use sc_closure_rules::closed_laws;
-use sc_footprint::Problem;
+use sc_footprint::{Problem, closed_laws};
 use sc_lists::{Seq, Text};
 use sc_sorts::Sort;
 

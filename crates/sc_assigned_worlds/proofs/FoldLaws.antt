@@ -2,7 +2,7 @@
 use Rattle.std.proofs.Common.{◌≡◌, ◌<◌, ◌+◌, ◌-◌, ◌++◌, ℕ, zero, suc, List, [], ◌∷◌, map, flat_map, take, length, slice_get, get_or, Some, Contains, refl, sym, ap, ◌∙◌, subst, arith}
 use Rattle.std.proofs.lemmas.List.{map_more}
 use Rattle.sc_lists.proofs.ListLaws.{all_of_elements, all_element}
-use Rattle.sc_lists.proofs.NumberLaws.{suc_isnt_zero}
+use Rattle.sc_laws.proofs.NumberLaws.{suc_isnt_zero}
 use Rattle.sc_terms.specs.Trees.{Tree}
 use Rattle.sc_footprint.specs.Problems.{Posed, IsPosed, numbered}
 use Rattle.sc_assigned_worlds.specs.Listed.{IsListed, AreListed}

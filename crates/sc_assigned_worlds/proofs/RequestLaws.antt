@@ -15,7 +15,7 @@ use Rattle.sc_terms.specs.TreeSorts.{tree_sort}
 use Rattle.sc_terms.specs.Tables.{tree}
 use Rattle.sc_term_laws.specs.Judging.{IsTermOf}
 use Rattle.sc_term_laws.specs.Judging as judged
-use Rattle.sc_closure_rules.specs.Closure.{Closed, of_principal, of_resource, principal_term, resource_term}
+use Rattle.sc_footprint.specs.Closure.{Closed, of_principal, of_resource, principal_term, resource_term}
 use Rattle.sc_clauses.specs.Assignments.{Assignment}
 use Rattle.sc_footprint.specs.Problems.{Posed, IsPosed, goal_term, closed_terms}
 use Rattle.sc_footprint.specs.Theories.{ClosedAreTerms}

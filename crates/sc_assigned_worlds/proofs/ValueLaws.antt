@@ -15,7 +15,7 @@ use Rattle.sc_sorts.specs.Defaults.{is_option, is_option_level}
 use Rattle.sc_terms.specs.Trees.{Tree}
 use Rattle.sc_terms.specs.Folds.{present_term, held_term}
 use Rattle.sc_terms.specs.Values.{Val, value_in, fields_seen}
-use Rattle.sc_model_values.proofs.SortedVals.{val_at}
+use Rattle.sc_assigned_values.proofs.SortedVals.{val_at}
 use Rattle.sc_rebuilding.specs.Assignments.{lit}
 use Rattle.sc_rebuilding.specs.Vals.{Model, val_of, val_step, held_by}
 use Rattle.sc_assigned_values.specs.Values.{shown}

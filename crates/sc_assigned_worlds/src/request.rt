@@ -2,7 +2,7 @@
 ghost use Rattle.std.specs.Prelude.{◌≡◌, IfOk};
 ghost use Rattle.sc_assigned_worlds.specs.Listed.{AreListed};
 ghost use Rattle.sc_assigned_worlds.specs.Saying.{uid_in};
-ghost use Rattle.sc_closure_rules.specs.Closure.{principal_term, resource_term};
+ghost use Rattle.sc_footprint.specs.Closure.{principal_term, resource_term};
 ghost use Rattle.sc_models.specs.Models.{model};
 ghost use Rattle.sc_rebuilt_worlds.specs.Rebuilt.{request_of as request_said};
 
@@ -11,8 +11,7 @@ use crate::listed::{closed_of, uid_at};
 use crate::saying::first;
 use crate::sought::Sought;
 use sc_clauses::Assignment;
-use sc_closure_rules::closed_laws;
-use sc_footprint::Problem;
+use sc_footprint::{Problem, closed_laws};
 use sc_lists::Text;
 use sc_names::Uid;
 use sc_world::Request;

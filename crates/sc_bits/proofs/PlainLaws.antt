@@ -5,7 +5,7 @@ use Rattle.std.proofs.lemmas.Nat.{pow-add}
 use Rattle.std.proofs.lemmas.Bool.{cases_lt}
 use Rattle.std.proofs.lemmas.Bool.Decides.{nat_tests}
 use Rattle.std.specs.Int.{w64}
-use Rattle.sc_lists.proofs.BoolLaws.{same_truth}
+use Rattle.sc_laws.proofs.BoolLaws.{same_truth}
 use Rattle.sc_bits.specs.Bits.{digit, number, nat_bit, bit64}
 use Rattle.sc_bits.specs.Adders.{carry, carry_of_sum, carry_of_difference, added, complement}
 use Rattle.sc_bits.specs.Orders.{low}

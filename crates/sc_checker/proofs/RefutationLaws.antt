@@ -5,7 +5,7 @@ use Rattle.std.specs.List.{list_all}
 use Rattle.std.proofs.lemmas.List.{take_more, take-append-drop}
 use Rattle.std.proofs.lemmas.List.Folds.{list_all-append}
 use Rattle.std.proofs.lemmas.Bool.{and_parts, and_from, and_left, and_right, not-true, true≢false, or_right, or_left}
-use Rattle.sc_lists.proofs.BoolLaws.{or_false, or_grouped}
+use Rattle.sc_laws.proofs.BoolLaws.{or_false, or_grouped}
 use Rattle.sc_clauses.specs.declared.lit.Lit.{Lit}
 use Rattle.sc_clauses.specs.Clauses.{Clause, bool_eq, lit_eq, negation, is_in}
 use Rattle.sc_clauses.proofs.LitLaws.{lit_eq-true, lit_eq-itself, negation_twice}

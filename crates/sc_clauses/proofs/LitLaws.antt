@@ -1,7 +1,7 @@
 -- When two literals are one, what is negated twice, and the truth of what is negated.
 use Rattle.std.proofs.Common.{◌≡◌, ◌==◌, ℕ, Bool, true, false, not, refl, sym}
 use Rattle.std.proofs.lemmas.Bool.{eq-eqb, eqb-true, and_parts, and_from, true≢false}
-use Rattle.sc_lists.proofs.BoolLaws.{not_not}
+use Rattle.sc_laws.proofs.BoolLaws.{not_not}
 use Rattle.sc_clauses.specs.declared.lit.Lit.{Lit}
 use Rattle.sc_clauses.specs.Clauses.{bool_eq, lit_eq, negation, holds}
 

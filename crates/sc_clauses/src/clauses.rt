@@ -46,6 +46,7 @@ impl Clauses {
     }
 
     /// The clause at a place, counted from 0. None exactly past the end.
+    #[inline(always)]
     pub fn get(&self, place: usize) -> Option<&[Lit]>
         ensures { option_copied result ≡ slice_get self.now place }
     {
@@ -55,6 +56,7 @@ impl Clauses {
     }
 
     /// Puts a clause after the others.
+    #[inline(always)]
     pub fn push(&mut self, clause: &[Lit]) -> Result<(), AllocError>
         ensures ok { OnOk result (self.new ≡ self.old ++ clause.now ∷ []) }
         ensures err { OnErr result (self.new ≡ self.old) }
@@ -68,6 +70,7 @@ impl Clauses {
 }
 
 /// Where a clause begins, also the next one: where the one before it ends.
+#[inline(always)]
 fn start(ends: &[u64], place: usize) -> usize
     ensures { result ≡ start_at ends.now place }
 {

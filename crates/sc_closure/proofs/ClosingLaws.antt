@@ -9,9 +9,9 @@ use Rattle.sc_schema.specs.Declarations.{Declarations}
 use Rattle.sc_nodes.specs.declared.node.Node.{Node}
 use Rattle.sc_terms.specs.Trees.{Tree}
 use Rattle.sc_terms.specs.Tables.{tree, Keeps}
-use Rattle.sc_definitions.specs.Making.{stood}
-use Rattle.sc_definitions.proofs.MakingLaws.{stood_later}
-use Rattle.sc_definitions.proofs.MemberLaws.{take_sub, take_whole, take_next, within_later, within_Has}
+use Rattle.sc_closure_rules.specs.Making.{stood}
+use Rattle.sc_closure_rules.proofs.MakingLaws.{stood_later}
+use Rattle.sc_closure_rules.proofs.MemberLaws.{take_sub, take_whole, take_next, within_later, within_Has}
 use Rattle.sc_closure_rules.specs.Closure.{follow, half, follow_pair, Role, roles, meet, Closed, of_true, of_goal, of_principal, of_resource, next, pair}
 use Rattle.sc_closure.specs.Following.{put_new, seeds, TakesIn, IsClosing, StandsForClosed}
 use Rattle.sc_closure_rules.proofs.RoleLaws.{half_has, has_half}

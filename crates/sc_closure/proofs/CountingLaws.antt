@@ -12,8 +12,8 @@ use Rattle.sc_schema.specs.Declarations.{Declarations}
 use Rattle.sc_nodes.specs.declared.node.Node.{Node}
 use Rattle.sc_terms.specs.Trees.{Tree}
 use Rattle.sc_terms.specs.Tables.{tree, Keeps}
-use Rattle.sc_definitions.specs.Making.{stood}
-use Rattle.sc_definitions.proofs.MemberLaws.{within_Has}
+use Rattle.sc_closure_rules.specs.Making.{stood}
+use Rattle.sc_closure_rules.proofs.MemberLaws.{within_Has}
 use Rattle.sc_closure.specs.Atoms.{is_atom}
 use Rattle.sc_closure.specs.Following.{put_new, seeds, atoms_of}
 use Rattle.sc_closure.proofs.ClosingLaws.{place_read, nothing_read}

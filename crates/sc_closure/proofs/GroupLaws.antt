@@ -12,10 +12,10 @@ use Rattle.sc_nodes.specs.declared.node.Node.{Node}
 use Rattle.sc_terms.specs.Trees.{Tree}
 use Rattle.sc_terms.specs.TreeSorts.{tree_sort}
 use Rattle.sc_terms.specs.Tables.{tree, Keeps}
-use Rattle.sc_term_laws.proofs.TestLaws.{same_sorts}
-use Rattle.sc_definitions.specs.Making.{Puts, stood}
-use Rattle.sc_definitions.proofs.MakingLaws.{puts_same, stood_later}
-use Rattle.sc_definitions.proofs.MemberLaws.{within_later, within_push}
+use Rattle.sc_closure_rules.proofs.TestLaws.{same_sorts}
+use Rattle.sc_closure_rules.specs.Making.{Puts, stood}
+use Rattle.sc_closure_rules.proofs.MakingLaws.{puts_same, stood_later}
+use Rattle.sc_closure_rules.proofs.MemberLaws.{within_later, within_push}
 use Rattle.sc_closure_rules.specs.Closure.{one_sort}
 use Rattle.sc_closure_rules.proofs.LoopLaws.{all_next, all_end}
 use Rattle.sc_closure.specs.declared.roles.Group.{Group}

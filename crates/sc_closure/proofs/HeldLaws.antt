@@ -15,17 +15,17 @@ use Rattle.sc_terms.specs.Trees.{Tree, two}
 use Rattle.sc_terms.specs.TreeSorts.{tree_sort}
 use Rattle.sc_terms.specs.Tables.{tree, Keeps}
 use Rattle.sc_terms.specs.Folds.{equal_term, like_term}
-use Rattle.sc_term_laws.proofs.TestLaws.{same_sorts}
-use Rattle.sc_definitions.specs.Making.{Puts, stood}
-use Rattle.sc_definitions.proofs.MakingLaws.{stood_later}
-use Rattle.sc_definitions.proofs.MemberLaws.{within_later}
+use Rattle.sc_closure_rules.proofs.TestLaws.{same_sorts}
+use Rattle.sc_closure_rules.specs.Making.{Puts, stood}
+use Rattle.sc_closure_rules.proofs.MakingLaws.{stood_later}
+use Rattle.sc_closure_rules.proofs.MemberLaws.{within_later}
 use Rattle.sc_closure_rules.specs.Closure.{Role, named, candidate, attributes, tag, set, pattern, equated_by, one_sort, members_by, matches_by}
 use Rattle.sc_closure_rules.proofs.MetLaws.{equated_is}
 use Rattle.sc_closure.specs.declared.roles.Group.{Group}
 use Rattle.sc_closure.specs.declared.roles.Roles.{Roles}
 use Rattle.sc_closure.specs.declared.roles.Meeting.TheVariants as meeting
 use Rattle.sc_closure.specs.Following.{owner, pattern_in, grouped, Held, AreGroups, AreRoles, Joins, is_text, met_among, TakesIn, Takes}
-use Rattle.sc_closure.proofs.EqualLaws.{equal_turned}
+use Rattle.sc_terms.proofs.EqualLaws.{equal_turned}
 use Rattle.sc_closure.proofs.GroupLaws.{groups_within, members_within, groups_later, among_has, has_among}
 
 -- ---- roles stay while the table grows

@@ -1,6 +1,11 @@
+pub use Rattle.sc_closure_rules.proofs.FitLaws
+pub use Rattle.sc_closure_rules.proofs.FitVals
+pub use Rattle.sc_closure_rules.proofs.JudgingLaws
+pub use Rattle.sc_closure_rules.proofs.MakingLaws
+pub use Rattle.sc_closure_rules.proofs.MemberLaws
+pub use Rattle.sc_closure_rules.proofs.SortLaws
 pub mod PuttingLaws
 pub mod IndexLaws
-pub mod EqualLaws
 mod GroupLaws
 mod TakingLaws
 mod HeldLaws

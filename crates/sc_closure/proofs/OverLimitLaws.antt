@@ -13,7 +13,7 @@ use Rattle.sc_terms.specs.Trees.{Tree}
 use Rattle.sc_terms.specs.Tables.{tree, IsTable}
 use Rattle.sc_terms.specs.Order.{tree_eq}
 use Rattle.sc_terms.proofs.OrderLaws.{tree_eq-exact}
-use Rattle.sc_definitions.specs.Making.{stood}
+use Rattle.sc_closure_rules.specs.Making.{stood}
 use Rattle.sc_closure.specs.Atoms.{is_atom, most_atoms, IsClosedAtom, IsOverLimit}
 use Rattle.sc_closure_rules.specs.Closure.{Closed}
 use Rattle.sc_closure.specs.Following.{atoms_of}

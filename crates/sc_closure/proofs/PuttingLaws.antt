@@ -4,12 +4,12 @@ use Rattle.std.proofs.Common.{length-append, append_assoc, append-nil}
 use Rattle.std.proofs.lemmas.List.{take-append-le}
 use Rattle.std.proofs.lemmas.Bool.Decides.{nat_tests}
 use Rattle.std.specs.List.{AllByRecursion, IsDistinct, list_any}
-use Rattle.sc_lists.proofs.BoolLaws.{or_first, or_second}
+use Rattle.sc_laws.proofs.BoolLaws.{or_first, or_second}
 use Rattle.sc_lists.proofs.ListLaws.{all_append, IsDistinct-filter}
 use Rattle.sc_lists.proofs.MemberLaws.{Has-left, Has-last, Has-push}
-use Rattle.sc_lists.proofs.NumberLaws.{nat_eq_true}
+use Rattle.sc_laws.proofs.NumberLaws.{nat_eq_true}
 use Rattle.sc_lists.specs.Members.{Has}
-use Rattle.sc_definitions.proofs.MemberLaws.{within_push}
+use Rattle.sc_closure_rules.proofs.MemberLaws.{within_push}
 use Rattle.sc_closure.specs.Following.{put_one, put_new}
 
 Has-any : (ns : List ℕ) (m : ℕ) → list_any (nat_eq m) ns ≡ true → Has ns m

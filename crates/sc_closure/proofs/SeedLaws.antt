@@ -10,7 +10,7 @@ use Rattle.sc_nodes.specs.declared.node.Node.{Node}
 use Rattle.sc_terms.specs.Trees.{leaf}
 use Rattle.sc_terms.specs.Tables.{tree, Keeps, StandsFor}
 use Rattle.sc_terms.specs.Folds.{truth_term}
-use Rattle.sc_definitions.specs.Making.{stood}
+use Rattle.sc_closure_rules.specs.Making.{stood}
 use Rattle.sc_closure.specs.Following.{seeds}
 
 module _ (d : Declarations) (env : Env) (s0 s1 s2 s3 : List Node) (goal truth principal resource : ℕ) (user thing : Sort) (within : goal < length s0) (k1 : Keeps s0 s1) (k2 : Keeps s1 s2) (k3 : Keeps s2 s3)

@@ -13,9 +13,9 @@ use Rattle.sc_terms.specs.Trees.{Tree}
 use Rattle.sc_terms.specs.TreeSorts.{tree_sort}
 use Rattle.sc_terms.specs.Tables.{tree}
 use Rattle.sc_terms.specs.Folds.{like_term}
-use Rattle.sc_definitions.specs.Making.{Puts, stood}
-use Rattle.sc_definitions.proofs.MakingLaws.{stood_later, puts_then, puts_same}
-use Rattle.sc_definitions.proofs.MemberLaws.{within_push}
+use Rattle.sc_closure_rules.specs.Making.{Puts, stood}
+use Rattle.sc_closure_rules.proofs.MakingLaws.{stood_later, puts_then, puts_same}
+use Rattle.sc_closure_rules.proofs.MemberLaws.{within_push}
 use Rattle.sc_closure_rules.specs.Closure.{Role, named, candidate, attributes, tag, set, pattern, meet, equated_by, one_sort, members_by, is_set_over, matches_by}
 use Rattle.sc_closure_rules.proofs.MetLaws.{member_is}
 use Rattle.sc_closure.specs.declared.roles.Roles.{Roles}

@@ -18,9 +18,9 @@ use Rattle.sc_terms.proofs.TableLaws.{keeps_itself, keeps_then}
 use Rattle.sc_terms.specs.Trees.{Tree}
 use Rattle.sc_terms.specs.TreeSorts.{tree_sort}
 use Rattle.sc_terms.specs.Tables.{Places, tree, node_parts, node_tree, AreBelow, PartsAreBelow}
-use Rattle.sc_definitions.specs.Making.{Puts, stood}
-use Rattle.sc_definitions.proofs.MakingLaws.{stood_later}
-use Rattle.sc_definitions.proofs.MemberLaws.{within_later, within_append, read_at, within_at}
+use Rattle.sc_closure_rules.specs.Making.{Puts, stood}
+use Rattle.sc_closure_rules.proofs.MakingLaws.{stood_later}
+use Rattle.sc_closure_rules.proofs.MemberLaws.{within_later, within_append, read_at, within_at}
 use Rattle.sc_closure_rules.specs.Closure.{trees_in, Role, candidate, attributes, tag, pattern, roles, roles_by, roles_in, follow}
 use Rattle.sc_closure.specs.declared.roles.Roles.{Roles}
 use Rattle.sc_closure.specs.declared.taking.Part.{Part}

@@ -19,7 +19,7 @@ use Rattle.sc_terms.specs.Trees.{Tree, one, two}
 use Rattle.sc_terms.specs.Tables.{tree, Keeps}
 use Rattle.sc_terms.specs.TreeSorts.{tree_sort}
 use Rattle.sc_terms.specs.Folds.{truth_term, equal_term, like_term}
-use Rattle.sc_definitions.specs.Making.{stood}
+use Rattle.sc_closure_rules.specs.Making.{stood}
 use Rattle.sc_closure.specs.declared.roles.Group.{Group}
 use Rattle.sc_closure.specs.declared.roles.Meeting.{Meeting}
 use Rattle.sc_closure.specs.declared.roles.Meeting.TheVariants as meeting

@@ -1,3 +1,13 @@
+pub use Rattle.sc_closure_rules.specs.DefinedFunction
+pub use Rattle.sc_closure_rules.specs.DefinedShape
+pub use Rattle.sc_closure_rules.specs.Closure
+pub use Rattle.sc_closure_rules.specs.Definitions
+pub use Rattle.sc_closure_rules.specs.Fitting
+pub use Rattle.sc_closure_rules.specs.Functions
+pub use Rattle.sc_closure_rules.specs.Goals
+pub use Rattle.sc_closure_rules.specs.Judging
+pub use Rattle.sc_closure_rules.specs.Making
+pub use Rattle.sc_closure_rules.specs.Truths
 pub mod Atoms
 pub mod Following
 pub mod Places

@@ -3,7 +3,7 @@
 ghost use Rattle.std.specs.Prelude.{◌≡◌, ◌<◌, ◌≤◌, length, IfOk, IfErr};
 ghost use Rattle.std.specs.List.{AllByRecursion};
 ghost use Rattle.sc_terms.specs.Tables.{tree, Keeps};
-ghost use Rattle.sc_definitions.specs.Making.{stood, IsSomeTerm};
+ghost use Rattle.sc_closure_rules.specs.Making.{stood, IsSomeTerm};
 ghost use Rattle.sc_closure.specs.Atoms.{IsRefused, most_atoms};
 ghost use Rattle.sc_closure.specs.Following.{seeds as seeds_of, atoms_of, AreRoles, StandsForClosed, Follows};
 ghost use Rattle.sc_closure_rules.specs.Goals.{IsGoal};
@@ -14,12 +14,11 @@ use crate::numbers::{number_at, put_all};
 use crate::roles::Roles;
 use crate::taking::take_roles;
 use indexmap::IndexSet;
-use sc_closure_rules::{closed_laws, put_following};
+use sc_closure_rules::{closed_laws, order_laws, put_following};
 use sc_lists::Fault;
 use sc_names::Lits;
 use sc_schema::{Env, Schema};
 use sc_sorts::entity_sort;
-use sc_term_laws::order_laws;
 use sc_terms::Terms;
 use std::alloc::{AllocError, Global};
 

@@ -10,7 +10,7 @@ ghost use Rattle.sc_nodes.specs.declared.node.Node.{Node as AnyNode};
 ghost use Rattle.sc_terms.specs.Folds.{like_term};
 ghost use Rattle.sc_terms.specs.TreeSorts.{tree_sort};
 ghost use Rattle.sc_terms.specs.Tables.{tree, Keeps, StandsFor};
-ghost use Rattle.sc_definitions.specs.Making.{Puts, stood};
+ghost use Rattle.sc_closure_rules.specs.Making.{Puts, stood};
 ghost use Rattle.sc_closure_rules.specs.Closure.{Role, one_sort, is_over as over};
 ghost use Rattle.sc_closure.specs.Following.{AreRoles, Held, IsGroupWithin, Joins, no_group, with_member, group_with, is_met as meets, met_term, met_terms, met_in, met_among, met_patterns, is_text as text, operator_in, asked, pattern_in};
 

@@ -9,10 +9,10 @@ ghost use Rattle.sc_closure.specs.Following.{AreRoles, IsPartOf, Takes, owner, p
 
 use crate::numbers::{place_in, put};
 use crate::roles::{Meeting, Roles, is_pattern_known, join, meet_groups, meet_patterns};
+use sc_closure_rules::order_laws;
 use sc_lists::Seq;
 use sc_nodes::{BinaryOp, ManyOp, Node, Parts, UnaryOp};
 use sc_sorts::Sort;
-use sc_term_laws::order_laws;
 use sc_terms::Terms;
 use std::alloc::{AllocError, Global};
 

@@ -1,3 +1,9 @@
+pub use Rattle.sc_definitions.proofs.MakingLaws
+pub use Rattle.sc_definitions.proofs.MemberLaws
+pub use Rattle.sc_term_laws.proofs.FitLaws
+pub use Rattle.sc_term_laws.proofs.FitVals
+pub use Rattle.sc_term_laws.proofs.JudgingLaws
+pub use Rattle.sc_term_laws.proofs.TestLaws
 pub mod LoopLaws
 mod FollowLaws
 mod InsideLaws

@@ -1,7 +1,7 @@
 -- Where no instance is falsified, no rule is whose numbers a log can hold.
 use Rattle.std.proofs.Common.{◌≡◌, ℕ, Bool, true, false, IsTrue, List, Option, Some, refl, sym, ◌∙◌, subst}
 use Rattle.std.specs.List.{list_all}
-use Rattle.sc_lists.proofs.BoolLaws.{never}
+use Rattle.sc_laws.proofs.BoolLaws.{never}
 use Rattle.sc_clauses.specs.Assignments.{Assignment, falsifies}
 use Rattle.sc_clauses.specs.declared.step.Instance.{Instance}
 use Rattle.sc_clauses.specs.declared.step.Word.{Word}

@@ -1,3 +1,4 @@
+pub use Rattle.sc_instances.proofs.LiteralLaws
 mod NumberLaws
 mod PlaceLaws
 mod InstanceLaws

@@ -4,10 +4,10 @@ use Rattle.std.proofs.lemmas.Bool.{cases_lt}
 use Rattle.std.proofs.lemmas.List.{length-append, length-map}
 use Rattle.std.specs.Cmp.Derive.{both_true}
 use Rattle.std.specs.List.{AllByRecursion, list_all}
-use Rattle.sc_lists.proofs.BoolLaws.{never}
-use Rattle.sc_lists.proofs.OptionLaws.{same_some}
+use Rattle.sc_laws.proofs.BoolLaws.{never}
+use Rattle.sc_laws.proofs.OptionLaws.{same_some}
 use Rattle.sc_lists.specs.Members.{Has}
-use Rattle.sc_lists.proofs.NumberLaws.{nat_lt_true}
+use Rattle.sc_laws.proofs.NumberLaws.{nat_lt_true}
 use Rattle.sc_schema.specs.Declarations.{Declarations}
 use Rattle.sc_sorts.specs.Inside.{SortFields}
 use Rattle.sc_sorts.specs.declared.sort.Sort.{Sort, Sort-F, out-Sort}
@@ -18,7 +18,7 @@ use Rattle.sc_terms.specs.Trees.{Tree, Trees, no_part, part}
 use Rattle.sc_terms.specs.TreeSorts.{tree_sort}
 use Rattle.sc_terms.proofs.OrderLaws.{tree_cmp_level}
 use Rattle.sc_definitions.specs.Definitions.{inputs_of}
-use Rattle.sc_closure_rules.specs.Closure.{trees_in, parts, inside_by, inside, choices, beside, follow}
+use Rattle.sc_footprint.specs.Closure.{trees_in, parts, inside_by, inside, choices, beside, follow}
 use Rattle.sc_footprint.specs.Problems.{Posed, IsPosed, closed_terms, number_among, term_of}
 use Rattle.sc_footprint.specs.Written.{is_number, is_word}
 use Rattle.sc_footprint.proofs.NumberingLaws.{numbered_map, numbered_back, within_count}

@@ -5,7 +5,7 @@ use Rattle.std.proofs.lemmas.List.{length-append}
 use Rattle.std.specs.Cmp.{unsigned_Decides}
 use Rattle.std.specs.Cmp.Lexicographic.{pointwise}
 use Rattle.std.specs.List.{list_any}
-use Rattle.sc_lists.proofs.BoolLaws.{never}
+use Rattle.sc_laws.proofs.BoolLaws.{never}
 use Rattle.sc_lists.proofs.MemberLaws.{Has-left, Has-last, Has-from_Contains}
 use Rattle.sc_lists.specs.Members.{Has}
 use Rattle.sc_pattern.specs.contracts.part.PartPartialEq.TheImpl.{ghosts as parts}

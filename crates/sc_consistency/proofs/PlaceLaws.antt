@@ -3,12 +3,12 @@ use Rattle.std.proofs.Common.{◌≡◌, ◌↔◌, ◌<◌, ◌≤◌, ◌+◌,
 use Rattle.std.proofs.lemmas.Bool.{cases_lt}
 use Rattle.std.proofs.lemmas.List.{length-map}
 use Rattle.std.proofs.lemmas.Option.{slice_get_within, slice_get-get_or}
-use Rattle.sc_lists.proofs.BoolLaws.{never}
+use Rattle.sc_laws.proofs.BoolLaws.{never}
 use Rattle.sc_lists.proofs.MemberLaws.{Has-from_Contains}
-use Rattle.sc_lists.proofs.OptionLaws.{option_and_then_some, some_is}
+use Rattle.sc_laws.proofs.OptionLaws.{option_and_then_some, some_is}
 use Rattle.sc_terms.specs.Tables.{tree}
 use Rattle.sc_terms.specs.Trees.{Tree}
-use Rattle.sc_closure_rules.specs.Closure.{follow}
+use Rattle.sc_footprint.specs.Closure.{follow}
 use Rattle.sc_footprint.specs.Problems.{Posed, closed_terms, term_of, companion}
 use Rattle.sc_footprint.proofs.NumberingLaws.{numbered_map, within_count}
 use Rattle.sc_instances.proofs.RulesHold.{term_closed}

@@ -2,7 +2,7 @@
 use Rattle.std.proofs.Common.{◌≡◌, ℕ, zero, suc, Bool, true, false, List, [], ◌∷◌, codes, map, length, Option, Some, None, Contains, refl, sym, ap, ◌∙◌}
 use Rattle.std.proofs.lemmas.Option.{slice_get_past}
 use Rattle.std.specs.List.{AllByRecursion}
-use Rattle.sc_lists.proofs.BoolLaws.{never}
+use Rattle.sc_laws.proofs.BoolLaws.{never}
 use Rattle.sc_clauses.specs.Assignments.{Assignment}
 use Rattle.sc_clauses.specs.declared.step.Instance.{Instance}
 use Rattle.sc_clauses.specs.declared.step.Word.TheVariants.{Number}

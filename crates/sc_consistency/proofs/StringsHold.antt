@@ -4,10 +4,10 @@ use Rattle.std.proofs.Common.{◌≡◌, ◌≤◌, ◌&&◌, ◌||◌, ◌⊎�
 use Rattle.std.proofs.Math.Bool.{or-true}
 use Rattle.std.proofs.lemmas.List.{length-map}
 use Rattle.std.specs.List.{AllByRecursion, list_all}
-use Rattle.sc_lists.proofs.BoolLaws.{and_second, never, not_not}
+use Rattle.sc_laws.proofs.BoolLaws.{and_second, never, not_not}
 use Rattle.sc_lists.proofs.ListLaws.{all_weaker, all_element}
 use Rattle.sc_lists.proofs.MemberLaws.{Contains-from_Has}
-use Rattle.sc_lists.proofs.OptionLaws.{same_some}
+use Rattle.sc_laws.proofs.OptionLaws.{same_some}
 use Rattle.sc_lists.specs.Members.{Has}
 use Rattle.sc_languages.specs.Strings.{IsText}
 use Rattle.sc_clauses.specs.Assignments.{Assignment, value_of, falsifies}
@@ -30,7 +30,7 @@ use Rattle.sc_term_laws.specs.Judging.{IsTermOf, IsTerm}
 use Rattle.sc_term_laws.proofs.JudgingLaws.{sort_is}
 use Rattle.sc_term_laws.proofs.MadeLaws.{equal_made}
 use Rattle.sc_term_laws.proofs.TestLaws.{string_sort}
-use Rattle.sc_closure.specs.Atoms.{is_bool, is_bool_in}
+use Rattle.sc_footprint.specs.Atoms.{is_bool, is_bool_in}
 use Rattle.sc_footprint.specs.Definitions.{defining}
 use Rattle.sc_footprint.specs.Problems.{Posed, IsPosed, closed_terms, goal_term, atoms}
 use Rattle.sc_footprint.specs.Theories.{TermsHold}

@@ -1,9 +1,9 @@
 -- Where each listed atom has a value, what isn't falsified holds, if it is of closed truth values.
 use Rattle.std.proofs.Common.{◌≡◌, ◌<◌, ◌≤◌, ◌&&◌, ◌||◌, ◌==◌, ℕ, Bool, true, false, not, inl, inr, List, [], ◌∷◌, ◌++◌, map, filter, flat_map, length, Option, Some, None, option_map, IsSome, unwrap_or, Contains, cond, refl, sym, ap, ◌∙◌, subst, arith}
 use Rattle.std.specs.List.{list_all, list_any}
-use Rattle.sc_lists.proofs.BoolLaws.{and_first, never, not_not}
+use Rattle.sc_laws.proofs.BoolLaws.{and_first, never, not_not}
 use Rattle.sc_lists.proofs.MemberLaws.{Has-left, Has-flat_map, Has-from_Contains, Contains-from_Has}
-use Rattle.sc_lists.proofs.NumberLaws.{nat_eq_true}
+use Rattle.sc_laws.proofs.NumberLaws.{nat_eq_true}
 use Rattle.sc_lists.specs.Members.{Has}
 use Rattle.sc_clauses.specs.Assignments.{Assignment, value_of, is_false_at, is_false, falsifies}
 use Rattle.sc_clauses.specs.Clauses.{Clause, bool_eq, positive}
@@ -16,8 +16,8 @@ use Rattle.sc_terms.specs.Trees.{Tree, leaf, one}
 use Rattle.sc_terms.specs.TreeSorts.{tree_sort}
 use Rattle.sc_terms.specs.Folds.{truth_term}
 use Rattle.sc_definitions.specs.Definitions.{definition}
-use Rattle.sc_closure.specs.Atoms.{is_atom, is_bool, is_bool_in}
-use Rattle.sc_closure_rules.specs.Closure.{of_true}
+use Rattle.sc_footprint.specs.Atoms.{is_atom, is_bool, is_bool_in}
+use Rattle.sc_footprint.specs.Closure.{of_true}
 use Rattle.sc_footprint.specs.Definitions.{is_tautology, kept, definition_clauses, is_address, address_clauses, defining}
 use Rattle.sc_footprint.specs.Problems.{Posed, IsPosed, closed_terms, goal_literal, atoms, atom_number, literal, literal_in}
 use Rattle.sc_footprint.specs.Theories.{IsListed, TermsHold}

@@ -4,7 +4,7 @@ use Rattle.std.specs.List.{Contains}
 use Rattle.sc_clauses.specs.Assignments.{Assignment, value_of, falsifies}
 use Rattle.sc_clauses.specs.Clauses.{Clause}
 use Rattle.sc_clauses.specs.declared.step.Instance.{Instance}
-use Rattle.sc_closure_rules.specs.Closure.{follow}
+use Rattle.sc_footprint.specs.Closure.{follow}
 use Rattle.sc_footprint.specs.Definitions.{defining}
 use Rattle.sc_footprint.specs.Problems.{Posed, IsPosed, atoms, closed_terms}
 use Rattle.sc_instances.specs.Instances.{HasEqual, HasSet, HasEntity, equal_clause, set_clause, entity_clause}

@@ -7,3 +7,4 @@ mod places;
 
 pub use law::consistency_laws;
 pub use places::are_places_small;
+pub use sc_models::model_laws;

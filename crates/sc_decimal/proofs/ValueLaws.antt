@@ -6,8 +6,8 @@ use Rattle.std.specs.Char.{digit_value}
 use Rattle.std.specs.Str.Parse.{IsNumeral, AllDigits, digits_value}
 use Rattle.std.proofs.lemmas.Bool.{eqb-true, lt-ltb, ltb-true, le-leb, leb-true, and_parts, and_from}
 use Rattle.std.proofs.lemmas.Option.{cond_some}
-use Rattle.sc_lists.proofs.NumberLaws.{eqb_false}
-use Rattle.sc_lists.proofs.OptionLaws.{option_map_some, option_and_then_some}
+use Rattle.sc_laws.proofs.NumberLaws.{eqb_false}
+use Rattle.sc_laws.proofs.OptionLaws.{option_map_some, option_and_then_some}
 use Rattle.sc_decimal.specs.DecimalText.{IsMagnitude, IsSigned, plain, minus, IsDecimalText}
 use Rattle.sc_decimal.specs.DecimalValue.{are_digits, is_numeral, cut_at_point, sum_of, magnitude_of, in_range, decimal_of}
 use Rattle.sc_decimal.proofs.DecimalLaws.{no_minus}

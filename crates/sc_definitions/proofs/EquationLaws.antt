@@ -3,7 +3,7 @@ use Rattle.std.proofs.Common.{◌≡◌, ◌<◌, ◌≤◌, ◌+◌, ◌↔◌,
 use Rattle.std.specs.List.{list_all}
 use Rattle.std.specs.Prelude.{ℤ, ◌*ℤ◌}
 use Rattle.std.specs.Cmp.Derive.{both_true}
-use Rattle.sc_lists.proofs.BoolLaws.{and_first, and_second, same_truth}
+use Rattle.sc_laws.proofs.BoolLaws.{and_first, and_second, same_truth}
 use Rattle.sc_ip.specs.declared.ip.Ip.{Ip}
 use Rattle.sc_ip.specs.Addresses.{IsIp, is_in_range}
 use Rattle.sc_bits.specs.Adders.{differ, leaves64}

@@ -1,7 +1,7 @@
 -- In a well-formed world of a lawful schema each truth value is what its definition makes of its inputs, and the bits of each address
 -- are those of an address.
 use Rattle.std.proofs.Common.{◌≡◌, ◌<◌, ◌↔◌, ◌&&◌, ℕ, ℤ, zero, suc, true, nat_le, nat_lt, List, IfSome, IsTrue, refl, sym, ◌∙◌, subst, arith}
-use Rattle.sc_lists.proofs.BoolLaws.{and_first}
+use Rattle.sc_laws.proofs.BoolLaws.{and_first}
 use Rattle.sc_names.specs.declared.uid.Uid.{Uid}
 use Rattle.sc_ip.specs.declared.ip.Ip.{Ip}
 use Rattle.sc_ip.specs.Addresses.{IsIp, is_in_range}

@@ -1,7 +1,7 @@
 -- What the parts of a term are that has bits, a sum, a product or a comparison.
 use Rattle.std.proofs.Common.{◌≡◌, ◌&&◌, ◌<◌, ◌≤◌, ℕ, Bool, true, nat_lt, nat_le, List, sym, ap, ◌∙◌, subst}
-use Rattle.sc_lists.proofs.NumberLaws.{at_most}
-use Rattle.sc_lists.proofs.BoolLaws.{and_first, and_second}
+use Rattle.sc_laws.proofs.NumberLaws.{at_most}
+use Rattle.sc_laws.proofs.BoolLaws.{and_first, and_second}
 use Rattle.sc_names.specs.declared.uid.Uid.{Uid}
 use Rattle.sc_schema.specs.declared.declarations.Env.{Env}
 use Rattle.sc_schema.specs.Declarations.{Declarations}

@@ -1,8 +1,8 @@
 -- The row that is read from a node is that of its term.
 use Rattle.std.proofs.Common.{◌≡◌, ◌<◌, ◌≤◌, ◌-◌, ◌&&◌, ℕ, zero, suc, Bool, true, false, List, [], ◌∷◌, length, refl, sym, ap, ◌∙◌, subst, arith}
 use Rattle.std.proofs.Math.Dec.{eqb-suc-zero}
-use Rattle.sc_lists.proofs.NumberLaws.{at_most}
-use Rattle.sc_lists.proofs.BoolLaws.{and_first, and_second}
+use Rattle.sc_laws.proofs.NumberLaws.{at_most}
+use Rattle.sc_laws.proofs.BoolLaws.{and_first, and_second}
 use Rattle.sc_sorts.specs.declared.sort.Sort.{Sort, Sort-F, out-Sort}
 use Rattle.sc_sorts.specs.declared.sort.Sort.TheVariants as sort
 use Rattle.sc_sorts.specs.declared.sort.Sort.TheOpen as s

@@ -13,7 +13,7 @@ use Rattle.sc_terms.specs.TreeSorts.{tree_sort}
 use Rattle.sc_terms.specs.Trees.{Tree, two}
 use Rattle.sc_terms.specs.Tables.{tree}
 use Rattle.sc_terms.proofs.OrderLaws.{tree_cmp_total, tree_cmp_level, tree_eq-itself}
-use Rattle.sc_closure.specs.Atoms.{is_atom, is_bool_in}
+use Rattle.sc_footprint.specs.Atoms.{is_atom, is_bool_in}
 use Rattle.sc_footprint.specs.Problems.{Posed, IsPosed, closed_terms, atoms, number_among, numbered, atom_number, literal, literal_in}
 use Rattle.sc_footprint.specs.Theories.{TermsHold}
 use Rattle.sc_footprint.proofs.KindLaws.{part_follows}

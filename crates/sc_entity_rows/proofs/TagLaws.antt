@@ -12,7 +12,7 @@ use Rattle.sc_terms.specs.Tables.{tree}
 use Rattle.sc_terms.specs.Folds.{equal_term, default_term, field_term, bit_term}
 use Rattle.sc_definitions.specs.Definitions.{definition, counted}
 use Rattle.sc_definitions.proofs.MakingLaws.{counted_length}
-use Rattle.sc_closure_rules.specs.Closure.{follow, inside, inside_by, choices, choices_by, uid_term, beside, parts, bit_terms}
+use Rattle.sc_footprint.specs.Closure.{follow, inside, inside_by, choices, choices_by, uid_term, beside, parts, bit_terms}
 use Rattle.sc_footprint.specs.Problems.{Posed, companion}
 use Rattle.sc_entity_rows.specs.declared.closed.Closed.{Closed}
 use Rattle.sc_entity_rows.specs.Rows.{IsClosed, IsThere, inner_level, is_tag, term_at}

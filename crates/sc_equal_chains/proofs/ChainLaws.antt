@@ -3,8 +3,8 @@ use Rattle.std.proofs.Common.{◌≡◌, ◌≢◌, ◌<◌, ◌≤◌, ◌^◌,
 use Rattle.std.proofs.lemmas.Bool.{and_parts, true≢false}
 use Rattle.std.proofs.lemmas.Bool.Decides.{nat_tests}
 use Rattle.std.specs.List.{AllByRecursion}
-use Rattle.sc_lists.proofs.NumberLaws.{nat_eq_true}
-use Rattle.sc_lists.proofs.OptionLaws.{same_some, option_and_then_some, option_map_some}
+use Rattle.sc_laws.proofs.NumberLaws.{nat_eq_true}
+use Rattle.sc_laws.proofs.OptionLaws.{same_some, option_and_then_some, option_map_some}
 use Rattle.sc_lists.proofs.MemberLaws.{Has-place}
 use Rattle.sc_clauses.specs.Assignments.{Assignment, is_false}
 use Rattle.sc_clauses.specs.Clauses.{negation}

@@ -9,8 +9,8 @@ use Rattle.sc_terms.specs.Trees.{Tree}
 use Rattle.sc_terms.specs.TreeSorts.{tree_sort}
 use Rattle.sc_terms.specs.Tables.{tree}
 use Rattle.sc_terms.specs.Folds.{equal_term, field_term, present_term, held_term, default_term}
-use Rattle.sc_closure.specs.Atoms.{is_bool_in}
-use Rattle.sc_closure_rules.specs.Closure.{follow, inside, inside_by, field_terms}
+use Rattle.sc_footprint.specs.Atoms.{is_bool_in}
+use Rattle.sc_footprint.specs.Closure.{follow, inside, inside_by, field_terms}
 use Rattle.sc_footprint.specs.Problems.{Posed, companion}
 use Rattle.sc_rules.specs.Equal.{are_options, field_at}
 use Rattle.sc_rules.specs.Terms.{fields_of, fields_level, is_option, one_sort}

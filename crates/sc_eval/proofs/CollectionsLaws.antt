@@ -16,7 +16,7 @@ use Rattle.std.proofs.lemmas.Slice.Eq.{bytes_eq-Decides}
 use Rattle.std.proofs.lemmas.List.{reverse-append}
 use Rattle.std.proofs.lemmas.Bool.{or_cases, or_left, or_right, and_from, and_parts}
 use Rattle.sc_lists.proofs.ListLaws.{contains_nothing, contains_split, contains_rest, contains_first}
-use Rattle.sc_lists.proofs.BoolLaws.{or_false, or_assoc, same_truth}
+use Rattle.sc_laws.proofs.BoolLaws.{or_false, or_assoc, same_truth}
 use Rattle.sc_lists.proofs.OrderingLaws.{is_eq_true}
 use Rattle.sc_lists.proofs.OrderedLaws.{none_ascends, no_pair_ascends, is_in-insert_key, ascending-insert_key, ascending-insert_entry, value_at-insert_entry, value_at-insert_entry_other}
 use Rattle.sc_lists.specs.Ordered.{value_at}

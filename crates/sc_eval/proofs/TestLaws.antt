@@ -1,8 +1,8 @@
 -- A test whose truth is told is the one of the definitions.
 use Rattle.std.proofs.Common.{◌≡◌, ◌↔◌, ℤ, ◌<ℤ◌, ◌≤ℤ◌, int_lt, int_le, Bool, IsTrue, arith}
 use Rattle.std.proofs.lemmas.Int.{ints}
-use Rattle.sc_lists.proofs.NumberLaws.{int_lt_decides}
-use Rattle.sc_lists.proofs.BoolLaws.{same_truth}
+use Rattle.sc_laws.proofs.NumberLaws.{int_lt_decides}
+use Rattle.sc_laws.proofs.BoolLaws.{same_truth}
 
 pub le-decides : (m n : ℤ) → IsTrue (int_le m n) ↔ (m ≤ℤ n)
 le-decides m n = (λ t. grind (arith, ints), λ t. grind (arith, ints))

@@ -7,8 +7,8 @@ use Rattle.std.proofs.lemmas.List.{map-append}
 use Rattle.std.proofs.lemmas.List.Folds.{list_any-append}
 use Rattle.std.specs.Cmp.{both_ways}
 use Rattle.std.specs.List.{list_any}
-use Rattle.sc_lists.proofs.BoolLaws.{or_false, true_or_false, not_is_true, not_is_false}
-use Rattle.sc_lists.proofs.OptionLaws.{same_some}
+use Rattle.sc_laws.proofs.BoolLaws.{or_false, true_or_false, not_is_true, not_is_false}
+use Rattle.sc_laws.proofs.OptionLaws.{same_some}
 use Rattle.sc_lists.specs.Members.{Has}
 use Rattle.sc_nodes.specs.declared.node.Node.{Node}
 use Rattle.sc_nodes.specs.declared.node.Node.TheVariants as node
@@ -19,9 +19,9 @@ use Rattle.sc_terms.proofs.OrderLaws.{tree_eq-exact, tree_eq-itself}
 use Rattle.sc_terms.specs.Order.{tree_eq}
 use Rattle.sc_terms.specs.Tables.{tree, node_tree, node_parts, IsTable, PartsAreBelow, AreBelow}
 use Rattle.sc_terms.specs.Trees.{Tree}
-use Rattle.sc_definitions.specs.Making.{stood}
+use Rattle.sc_closure.specs.Making.{stood}
 use Rattle.sc_closure.proofs.PuttingLaws.{put_old, put_there, put_only}
-use Rattle.sc_closure_rules.specs.Closure.{candidate, roles_in, trees_in, one_sort}
+use Rattle.sc_closure.specs.Closure.{candidate, roles_in, trees_in, one_sort}
 use Rattle.sc_closure.specs.Following.{put_new}
 use Rattle.sc_closure.specs.Places.{one_more, place_among}
 use Rattle.sc_footprint.specs.declared.kind.Kind.{Kind}

@@ -8,17 +8,17 @@ use Rattle.std.specs.List.{AllByRecursion, AllZip}
 use Rattle.std.proofs.lemmas.Slice.Zip.{AllZip-long}
 use Rattle.sc_lists.proofs.ListLaws.{contains_place}
 use Rattle.sc_lists.proofs.MemberLaws.{Has-map, map-Has, Has-from_Contains, Contains-from_Has}
-use Rattle.sc_lists.proofs.OptionLaws.{same_some}
+use Rattle.sc_laws.proofs.OptionLaws.{same_some}
 use Rattle.sc_lists.specs.Members.{Has}
 use Rattle.sc_schema.specs.Declarations.{Declarations}
 use Rattle.sc_nodes.specs.declared.node.Node.{Node}
 use Rattle.sc_terms.proofs.TableLaws.{keeps_itself, keeps_then}
 use Rattle.sc_terms.specs.Trees.{Tree}
 use Rattle.sc_terms.specs.Tables.{tree, Keeps, IsTable}
-use Rattle.sc_definitions.proofs.MakingLaws.{stood_later}
-use Rattle.sc_definitions.proofs.MemberLaws.{within_later, within_append, within_push, within_Has}
-use Rattle.sc_definitions.specs.Making.{stood, Puts, IsSomeTerm}
-use Rattle.sc_closure_rules.specs.Closure.{follow, Closed, next}
+use Rattle.sc_closure.proofs.MakingLaws.{stood_later}
+use Rattle.sc_closure.proofs.MemberLaws.{within_later, within_append, within_push, within_Has}
+use Rattle.sc_closure.specs.Making.{stood, Puts, IsSomeTerm}
+use Rattle.sc_closure.specs.Closure.{follow, Closed, next}
 use Rattle.sc_footprint.specs.declared.companions.Span.{Span}
 use Rattle.sc_footprint.specs.declared.shelves.Shelf.{Shelf}
 use Rattle.sc_footprint.specs.Companions.{between, IsSpanOf, AreListed, IsListing}

@@ -4,9 +4,9 @@ use Rattle.sc_clauses.specs.Clauses.{positive, negation}
 use Rattle.sc_nodes.specs.declared.node.UnaryOp.TheVariants.{Not}
 use Rattle.sc_terms.specs.Trees.{Tree, one, choice}
 use Rattle.sc_terms.specs.Folds.{truth_term}
-use Rattle.sc_definitions.specs.declared.function.Function.TheVariants.{Both, Itself}
-use Rattle.sc_definitions.specs.declared.function.Shape.TheVariants.{Table, All, NotAll, Fixed}
-use Rattle.sc_definitions.specs.Functions.{rows}
+use Rattle.sc_closure.specs.DefinedFunction.TheVariants.{Both, Itself}
+use Rattle.sc_closure.specs.DefinedShape.TheVariants.{Table, All, NotAll, Fixed}
+use Rattle.sc_closure.specs.Functions.{rows}
 use Rattle.sc_footprint.specs.Definitions.{is_tautology, clauses_by, mask_clause, short_clauses}
 use Rattle.sc_footprint.specs.Problems.{literal, numbered}
 

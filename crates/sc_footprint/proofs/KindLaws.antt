@@ -21,13 +21,13 @@ use Rattle.sc_terms.specs.TreeSorts.{tree_sort}
 use Rattle.sc_terms.specs.Values.{Val, it, yes, truth}
 use Rattle.sc_terms.proofs.FoldValues.{truth_yes}
 use Rattle.sc_term_laws.proofs.FitLaws.{seen, fits_out}
-use Rattle.sc_term_laws.specs.Fitting.{Test, Seen, fits, fits_step, Fits, as_value, as_option}
-use Rattle.sc_term_laws.specs.Judging.{IsTermOf}
-use Rattle.sc_term_laws.specs.Judging as judged
+use Rattle.sc_closure.specs.Fitting.{Test, Seen, fits, fits_step, Fits, as_value, as_option}
+use Rattle.sc_closure.specs.Judging.{IsTermOf}
+use Rattle.sc_closure.specs.Judging as judged
 use Rattle.sc_term_laws.proofs.FitVals.{no_option_at}
-use Rattle.sc_definitions.specs.Definitions.{inputs_of}
+use Rattle.sc_closure.specs.Definitions.{inputs_of}
 use Rattle.sc_closure.specs.Atoms.{is_bool, is_bool_in}
-use Rattle.sc_closure_rules.specs.Closure.{inside, choices, beside, parts, follow}
+use Rattle.sc_closure.specs.Closure.{inside, choices, beside, parts, follow}
 
 pub bool_is : (t : Tree) → tree_sort t ≡ sort.Bool → is_bool t ≡ true
 bool_is t e = ap (λ (k : Sort). is_bool_in (out-Sort k)) e ∙ ap is_bool_in out_Bool

@@ -1,3 +1,4 @@
+pub use Rattle.sc_closure.proofs.SortLaws
 mod OrderingLaws
 pub mod NumberingLaws
 pub mod IndexLaws

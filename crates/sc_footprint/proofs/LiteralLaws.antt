@@ -1,6 +1,6 @@
 -- The literal of a term, one negation at a time.
 use Rattle.std.proofs.Common.{◌≡◌, ℕ, Bool, true, false, not, Some, None, refl, ap, ◌∙◌}
-use Rattle.sc_lists.proofs.BoolLaws.{not_not}
+use Rattle.sc_laws.proofs.BoolLaws.{not_not}
 use Rattle.sc_clauses.specs.declared.lit.Lit.{Lit}
 use Rattle.sc_clauses.specs.Clauses.{negation}
 use Rattle.sc_nodes.specs.declared.node.Leaf.TheVariants as leafs

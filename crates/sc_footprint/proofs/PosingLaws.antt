@@ -11,7 +11,7 @@ use Rattle.std.specs.List.{AllByRecursion, IsDistinct, list_any}
 use Rattle.std.specs.Set.{is_member}
 use Rattle.std.specs.List.Sorted.{IsStrictlySortedBy}
 use Rattle.sc_lists.proofs.MemberLaws.{Has-map, map-Has, Has-from_Contains, Contains-from_Has}
-use Rattle.sc_lists.proofs.NumberLaws.{nat_eq_true}
+use Rattle.sc_laws.proofs.NumberLaws.{nat_eq_true}
 use Rattle.sc_lists.specs.Members.{Has}
 use Rattle.sc_lists.proofs.ListLaws.{AllByRecursion-filter, IsDistinct-filter}
 use Rattle.sc_names.specs.declared.uid.Uid.{Uid}
@@ -24,14 +24,14 @@ use Rattle.sc_terms.specs.Trees.{Tree}
 use Rattle.sc_terms.specs.Tables.{tree, Keeps}
 use Rattle.sc_terms.specs.Order.{tree_cmp}
 use Rattle.sc_terms.specs.TreeSorts.{tree_sort}
-use Rattle.sc_term_laws.specs.Judging.{IsTermOf}
-use Rattle.sc_definitions.specs.Making.{stood, IsSomeTerm}
-use Rattle.sc_definitions.proofs.MakingLaws.{stood_later}
-use Rattle.sc_definitions.proofs.MemberLaws.{within_later, within_Has}
+use Rattle.sc_closure.specs.Judging.{IsTermOf}
+use Rattle.sc_closure.specs.Making.{stood, IsSomeTerm}
+use Rattle.sc_closure.proofs.MakingLaws.{stood_later}
+use Rattle.sc_closure.proofs.MemberLaws.{within_later, within_Has}
 use Rattle.sc_closure.specs.Atoms.{is_atom, atoms_among, most_atoms}
-use Rattle.sc_closure_rules.specs.Closure.{Closed}
+use Rattle.sc_closure.specs.Closure.{Closed}
 use Rattle.sc_closure.specs.Following.{StandsForClosed, atoms_of}
-use Rattle.sc_closure_rules.specs.Goals.{IsGoal}
+use Rattle.sc_closure.specs.Goals.{IsGoal}
 use Rattle.sc_footprint.proofs.OrderingLaws.{within_moved}
 use Rattle.sc_footprint.specs.declared.companions.Span.{Span}
 use Rattle.sc_footprint.specs.declared.shelves.Shelf.{Shelf}

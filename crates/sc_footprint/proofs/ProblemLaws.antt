@@ -13,9 +13,9 @@ use Rattle.sc_terms.specs.Trees.{Tree, one}
 use Rattle.sc_terms.specs.TreeSorts.{tree_sort}
 use Rattle.sc_terms.specs.Values.{val, yes}
 use Rattle.sc_term_laws.proofs.JudgingLaws.{sort_is}
-use Rattle.sc_term_laws.specs.Judging.{IsTermOf}
-use Rattle.sc_definitions.specs.Definitions.{inputs_of}
-use Rattle.sc_definitions.specs.Truths.{is_true, IsAsDefined}
+use Rattle.sc_closure.specs.Judging.{IsTermOf}
+use Rattle.sc_closure.specs.Definitions.{inputs_of}
+use Rattle.sc_closure.specs.Truths.{is_true, IsAsDefined}
 use Rattle.sc_closure.specs.Atoms.{is_bool}
 use Rattle.sc_footprint.specs.Problems.{Posed, IsPosed, closed_terms, goal_term, atoms, literal_in}
 use Rattle.sc_footprint.specs.Theories.{IsListed, TermsHold}

@@ -6,9 +6,9 @@ use Rattle.std.proofs.lemmas.Bool.Decides.{nat_tests}
 use Rattle.std.proofs.lemmas.List.Elements.{filter-append}
 use Rattle.std.proofs.lemmas.Option.{slice_get_read}
 use Rattle.std.specs.List.{AllByRecursion, list_any}
-use Rattle.sc_lists.proofs.BoolLaws.{and_first, and_second, or_first, or_second, and_false}
+use Rattle.sc_laws.proofs.BoolLaws.{and_first, and_second, or_first, or_second, and_false}
 use Rattle.sc_lists.proofs.ListLaws.{all_append}
-use Rattle.sc_lists.proofs.OptionLaws.{same_some}
+use Rattle.sc_laws.proofs.OptionLaws.{same_some}
 use Rattle.sc_lists.proofs.SeqLaws.{set_is}
 use Rattle.sc_sorts.specs.declared.sort.Sort.{Sort}
 use Rattle.sc_sorts.specs.contracts.sort.SortPartialEq.TheImpl.{ghosts as sorts}
@@ -16,8 +16,8 @@ use Rattle.sc_nodes.specs.declared.node.Node.{Node}
 use Rattle.sc_terms.specs.Trees.{Tree}
 use Rattle.sc_terms.specs.Tables.{tree}
 use Rattle.sc_terms.specs.TreeSorts.{tree_sort}
-use Rattle.sc_definitions.specs.Making.{stood}
-use Rattle.sc_closure_rules.specs.Closure.{one_sort}
+use Rattle.sc_closure.specs.Making.{stood}
+use Rattle.sc_closure.specs.Closure.{one_sort}
 use Rattle.sc_closure.specs.Places.{place_among}
 use Rattle.sc_footprint.proofs.CompanionLaws.{take_all}
 use Rattle.sc_footprint.specs.declared.kind.Kind.{Kind}

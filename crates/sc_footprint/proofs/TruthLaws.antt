@@ -27,11 +27,11 @@ use Rattle.sc_terms.specs.Order.{tree_cmp}
 use Rattle.sc_terms.specs.Folds.{truth_term}
 use Rattle.sc_terms.specs.Values.{Val, val, yes, truth, not_value}
 use Rattle.sc_terms.proofs.FoldValues.{truth_yes, seen_yes}
-use Rattle.sc_term_laws.specs.Judging.{IsTermOf}
-use Rattle.sc_definitions.specs.Truths.{is_true}
+use Rattle.sc_closure.specs.Judging.{IsTermOf}
+use Rattle.sc_closure.specs.Truths.{is_true}
 use Rattle.sc_closure.specs.Atoms.{is_atom, is_bool, is_bool_in, is_opposite}
-use Rattle.sc_closure_rules.specs.Closure.{follow, Closed, of_true, of_goal, next}
-use Rattle.sc_closure_rules.specs.Goals.{IsGoal}
+use Rattle.sc_closure.specs.Closure.{follow, Closed, of_true, of_goal, next}
+use Rattle.sc_closure.specs.Goals.{IsGoal}
 use Rattle.sc_footprint.specs.Problems.{Posed, IsPosed, closed_terms, goal_term, atoms, atom_number, numbered, literal, literal_in}
 use Rattle.sc_footprint.specs.Truths.{is_true_at, truths}
 use Rattle.sc_footprint.specs.Theories.{IsListed}

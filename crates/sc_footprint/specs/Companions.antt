@@ -4,8 +4,8 @@ use Rattle.std.specs.List.{AllByRecursion, AllZip}
 use Rattle.sc_schema.specs.Declarations.{Declarations}
 use Rattle.sc_nodes.specs.declared.node.Node.{Node}
 use Rattle.sc_terms.specs.Tables.{tree, Keeps}
-use Rattle.sc_definitions.specs.Making.{stood, IsSomeTerm}
-use Rattle.sc_closure_rules.specs.Closure.{follow}
+use Rattle.sc_closure.specs.Making.{stood, IsSomeTerm}
+use Rattle.sc_closure.specs.Closure.{follow}
 use Rattle.sc_footprint.specs.declared.companions.Span.{Span}
 
 -- the numbers from one place up to another

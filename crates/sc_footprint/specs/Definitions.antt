@@ -8,11 +8,11 @@ use Rattle.sc_clauses.specs.Clauses.{Clause, negation, is_in}
 use Rattle.sc_terms.specs.Trees.{Tree}
 use Rattle.sc_terms.specs.TreeSorts.{tree_sort}
 use Rattle.sc_terms.specs.Folds.{bit_term, literal_of}
-use Rattle.sc_definitions.specs.declared.function.Function.{Function}
-use Rattle.sc_definitions.specs.declared.function.Shape.{Shape}
-use Rattle.sc_definitions.specs.declared.function.Shape.TheVariants.{Table, All, NotAll, Fixed, Free}
-use Rattle.sc_definitions.specs.Functions.{value_of, rows}
-use Rattle.sc_definitions.specs.Definitions.{counted, shape_of, inputs_of}
+use Rattle.sc_closure.specs.DefinedFunction.{Function}
+use Rattle.sc_closure.specs.DefinedShape.{Shape}
+use Rattle.sc_closure.specs.DefinedShape.TheVariants.{Table, All, NotAll, Fixed, Free}
+use Rattle.sc_closure.specs.Functions.{value_of, rows}
+use Rattle.sc_closure.specs.Definitions.{counted, shape_of, inputs_of}
 use Rattle.sc_footprint.specs.Problems.{Posed, closed_terms, atoms, literal_in, goal_literal}
 
 -- some atom stands in the clause with its negation

@@ -14,8 +14,8 @@ use Rattle.sc_terms.specs.Trees.{Tree, leaf, one, two, choice, many}
 use Rattle.sc_terms.specs.Tables.{tree}
 use Rattle.sc_terms.specs.Order.{tree_cmp, tree_eq}
 use Rattle.sc_closure.specs.Atoms.{is_bool, is_opposite, atoms_among, most_atoms}
-use Rattle.sc_closure_rules.specs.Closure.{follow, Closed}
-use Rattle.sc_closure_rules.specs.Goals.{IsGoal}
+use Rattle.sc_closure.specs.Closure.{follow, Closed}
+use Rattle.sc_closure.specs.Goals.{IsGoal}
 use Rattle.sc_closure.specs.Places.{one_more, place_among}
 
 -- a goal, by its number in a table of terms, the closed terms by theirs, and the uids that are to be stored

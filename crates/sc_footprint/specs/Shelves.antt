@@ -5,7 +5,7 @@ use Rattle.sc_nodes.specs.declared.node.UnaryOp.TheVariants as unary
 use Rattle.sc_nodes.specs.declared.node.BinaryOp.TheVariants as binary
 use Rattle.sc_terms.specs.Trees.{Tree, one, two}
 use Rattle.sc_terms.specs.Order.{tree_eq}
-use Rattle.sc_closure_rules.specs.Closure.{Role, candidate, roles_in, one_sort}
+use Rattle.sc_closure.specs.Closure.{Role, candidate, roles_in, one_sort}
 use Rattle.sc_footprint.specs.declared.kind.Kind.{Kind}
 use Rattle.sc_footprint.specs.declared.kind.Kind.TheVariants as kind
 use Rattle.sc_footprint.specs.Problems.{Posed, closed_terms}

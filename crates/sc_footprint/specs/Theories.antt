@@ -9,11 +9,11 @@ use Rattle.sc_clauses.specs.declared.lit.Lit.{Lit}
 use Rattle.sc_clauses.specs.Clauses.{Clause, negation}
 use Rattle.sc_terms.specs.Trees.{Tree}
 use Rattle.sc_terms.specs.TreeSorts.{tree_sort}
-use Rattle.sc_term_laws.specs.Fitting.{TermsFit}
-use Rattle.sc_term_laws.specs.Judging.{IsTermOf}
-use Rattle.sc_definitions.specs.Truths.{DefinitionsHold, AddressesHold, InputsAreTerms}
-use Rattle.sc_closure_rules.specs.Closure.{Closed}
-use Rattle.sc_closure_rules.specs.Goals.{IsGoal}
+use Rattle.sc_closure.specs.Fitting.{TermsFit}
+use Rattle.sc_closure.specs.Judging.{IsTermOf}
+use Rattle.sc_closure.specs.Truths.{DefinitionsHold, AddressesHold, InputsAreTerms}
+use Rattle.sc_closure.specs.Closure.{Closed}
+use Rattle.sc_closure.specs.Goals.{IsGoal}
 use Rattle.sc_footprint.specs.Problems.{Posed, atoms}
 
 -- the literal is of one of the first atoms

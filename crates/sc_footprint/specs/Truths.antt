@@ -4,7 +4,7 @@ use Rattle.sc_world.specs.declared.world.World.{World}
 use Rattle.sc_world.specs.WellFormed.{IsWellFormed}
 use Rattle.sc_clauses.specs.Clauses.{Clause, clause_holds}
 use Rattle.sc_terms.specs.Trees.{Tree}
-use Rattle.sc_definitions.specs.Truths.{is_true}
+use Rattle.sc_closure.specs.Truths.{is_true}
 use Rattle.sc_footprint.specs.Problems.{Posed, goal_term, atoms, numbered}
 
 abbrev pub is_true_at : Option Tree → World → Bool

@@ -2,7 +2,7 @@
 ghost use Rattle.std.specs.Prelude.{◌<◌, length, IfOk, IfErr};
 ghost use Rattle.sc_terms.specs.Tables.{tree, Keeps};
 ghost use Rattle.sc_closure.specs.Atoms.{IsRefused};
-ghost use Rattle.sc_closure_rules.specs.Goals.{IsGoal};
+ghost use Rattle.sc_closure.specs.Goals.{IsGoal};
 ghost use Rattle.sc_footprint.specs.Indices.{IsKept, problem_of};
 ghost use Rattle.sc_footprint.specs.Problems.{IsProblemOf};
 
@@ -12,8 +12,7 @@ use crate::problem::Problem;
 use crate::shelves::{Shelf, shelves_of};
 use crate::sorting::sort_by_term;
 use indexmap::IndexSet;
-use sc_closure::{OverLimit, closed_terms};
-use sc_closure_rules::closed_laws;
+use sc_closure::{OverLimit, closed_laws, closed_terms};
 use sc_lists::Fault;
 use sc_names::Lits;
 use sc_schema::{Env, Schema};

@@ -2,11 +2,11 @@
 ghost use Rattle.std.specs.Prelude.{◌≡◌, ◌<◌, ◌≤◌, ◌^◌, length, slice_get, IfOk};
 ghost use Rattle.std.specs.List.{AllByRecursion};
 ghost use Rattle.sc_terms.specs.Tables.{tree, Keeps};
-ghost use Rattle.sc_definitions.specs.Making.{IsSomeTerm};
+ghost use Rattle.sc_closure.specs.Making.{IsSomeTerm};
 ghost use Rattle.sc_footprint.specs.Companions.{AreListed, between};
 
 use indexmap::IndexSet;
-use sc_closure_rules::put_following;
+use sc_closure::put_following;
 use sc_schema::Schema;
 use sc_terms::Terms;
 use std::alloc::{AllocError, Global};

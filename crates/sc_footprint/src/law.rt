@@ -9,18 +9,16 @@ ghost use Rattle.sc_terms.specs.Trees.{Tree};
 ghost use Rattle.sc_terms.specs.TreeSorts.{tree_sort};
 ghost use Rattle.sc_terms.specs.Folds.{truth_term};
 ghost use Rattle.sc_terms.specs.Values.{val, yes};
-ghost use Rattle.sc_term_laws.specs.Judging.{IsTermOf};
-ghost use Rattle.sc_definitions.specs.Definitions.{inputs_of};
-ghost use Rattle.sc_definitions.specs.Truths.{is_true};
+ghost use Rattle.sc_closure.specs.Judging.{IsTermOf};
+ghost use Rattle.sc_closure.specs.Definitions.{inputs_of};
+ghost use Rattle.sc_closure.specs.Truths.{is_true};
 ghost use Rattle.sc_closure.specs.Atoms.{atoms_among, is_atom, is_bool, most_atoms, IsOverLimit};
-ghost use Rattle.sc_closure_rules.specs.Closure.{Closed};
+ghost use Rattle.sc_closure.specs.Closure.{Closed};
 ghost use Rattle.sc_footprint.specs.Problems.{Posed, IsPosed, AreClosed, closed_terms, goal_term, atoms, atom_number, numbered, literal_in};
 ghost use Rattle.sc_footprint.specs.Truths.{truths, IsWorldOf};
 ghost use Rattle.sc_footprint.specs.Theories.{IsListed, TermsHold};
 
-use sc_closure_rules::closed_laws;
-use sc_definitions::definition_laws;
-use sc_term_laws::terms_fit;
+use sc_closure::{closed_laws, definition_laws, terms_fit};
 
 /// A goal has one list of closed terms, and where more atoms are closed than may be listed, that
 /// list has more. What holds of each problem: its closed terms are just those of the goal, which is

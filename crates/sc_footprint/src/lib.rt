@@ -17,5 +17,5 @@ pub use closing::close;
 pub use kind::Kind;
 pub use law::problem_laws;
 pub use problem::Problem;
-pub use sc_closure::OverLimit;
+pub use sc_closure::{OverLimit, closed_laws};
 pub use theory::Theory;

@@ -3,7 +3,7 @@ ghost use Rattle.std.specs.Prelude.{◌≡◌, ◌<◌, ◌^◌, length, map, op
 ghost use Rattle.std.specs.List.{AllByRecursion};
 ghost use Rattle.sc_terms.specs.Tables.{tree};
 ghost use Rattle.sc_closure.specs.Atoms.{is_bool as truth_value};
-ghost use Rattle.sc_definitions.specs.Definitions.{inputs_of, shape_of};
+ghost use Rattle.sc_closure.specs.Definitions.{inputs_of, shape_of};
 ghost use Rattle.sc_footprint.specs.Problems.{IsPosed, atoms, numbered, number_of, term_of, companion as companion_of, literal_in, literal_at, goal_literal, atom_number};
 ghost use Rattle.sc_footprint.specs.Shelves.{shelf};
 ghost use Rattle.sc_footprint.specs.Indices.{own_literal};
@@ -13,11 +13,9 @@ use crate::kind::Kind;
 use crate::shelves::{Shelf, shelf_of};
 use indexmap::IndexSet;
 use sc_clauses::{Lit, negation};
-use sc_closure::{is_bool, number_at, place_in};
-use sc_definitions::{Shape, input_count, shape_at};
+use sc_closure::{Shape, input_count, is_bool, number_at, order_laws, place_in, shape_at};
 use sc_names::Lits;
 use sc_schema::{Env, Schema};
-use sc_term_laws::order_laws;
 use sc_terms::Terms;
 use std::marker::Model;
 

@@ -9,7 +9,7 @@ use Rattle.std.specs.List.{AllByRecursion, slice_get}
 use Rattle.std.specs.declared.cmp.Ordering.{Ordering}
 use Rattle.std.specs.declared.cmp.Ordering.TheVariants.{Less, Equal, Greater}
 use Rattle.sc_lists.proofs.ListLaws.{contains_nothing, contains_split, contains_first, contains_rest, contains_place, all_element}
-use Rattle.sc_lists.proofs.OptionLaws.{same_some}
+use Rattle.sc_laws.proofs.OptionLaws.{same_some}
 use Rattle.sc_lists.proofs.OrderingLaws.{less≢equal}
 use Rattle.sc_graphs.specs.Reaching.{Reaches, step, on, IsLeastCycle}
 use Rattle.sc_graphs.proofs.ReachesLaws.{further}

@@ -8,7 +8,7 @@ use Rattle.std.specs.BTreeMap.{is_at}
 use Rattle.std.specs.List.{slice_get}
 use Rattle.std.specs.Ordering.{nat_cmp}
 use Rattle.std.specs.declared.cmp.Ordering.TheVariants.{Less}
-use Rattle.sc_lists.proofs.BoolLaws.{true_or_false}
+use Rattle.sc_laws.proofs.BoolLaws.{true_or_false}
 use Rattle.sc_lists.proofs.ListLaws.{contains_nothing}
 use Rattle.sc_lists.proofs.OrderingLaws.{is_at_same, is_at_itself}
 use Rattle.sc_graphs.specs.Graphs.{has}

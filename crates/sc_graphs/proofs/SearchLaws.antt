@@ -7,7 +7,7 @@ use Rattle.std.proofs.lemmas.Option.{slice_get_cases}
 use Rattle.std.specs.BTreeMap.{is_at}
 use Rattle.std.specs.List.{slice_get}
 use Rattle.std.specs.Ordering.{nat_cmp}
-use Rattle.sc_lists.proofs.BoolLaws.{or_false}
+use Rattle.sc_laws.proofs.BoolLaws.{or_false}
 use Rattle.sc_lists.proofs.OrderingLaws.{is_at_same, is_at_itself}
 use Rattle.sc_graphs.specs.Reaching.{Reaches, step, on}
 use Rattle.sc_graphs.specs.Graphs.{has, successors, Follows}

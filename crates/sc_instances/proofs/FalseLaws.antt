@@ -1,7 +1,7 @@
 -- What an assignment that falsifies an instance knows of its terms, and where equations that it speaks of stand.
 use Rattle.std.proofs.Common.{◌≡◌, ◌≢◌, ◌&&◌, ◌⊎◌, ◌==◌, ℕ, Bool, true, false, not, cond, inl, inr, Option, Some, None, option_map, Contains, refl, sym, ap, ◌∙◌, subst, [], ◌∷◌}
 use Rattle.std.specs.Ordering.{is_gt}
-use Rattle.sc_lists.proofs.NumberLaws.{nat_eq_true}
+use Rattle.sc_laws.proofs.NumberLaws.{nat_eq_true}
 use Rattle.sc_clauses.specs.declared.lit.Lit.{Lit}
 use Rattle.sc_clauses.specs.Assignments.{Assignment, value_of, is_false, is_false_at, falsifies}
 use Rattle.sc_clauses.specs.Clauses.{Clause, bool_eq, is_in, lit_eq, negation}

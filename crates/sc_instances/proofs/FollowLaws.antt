@@ -14,9 +14,9 @@ use Rattle.sc_nodes.specs.declared.node.BinaryOp.TheVariants as binary
 use Rattle.sc_terms.specs.Trees.{Tree, leaf, one, two, choice}
 use Rattle.sc_terms.specs.TreeSorts.{tree_sort}
 use Rattle.sc_terms.specs.Folds.{field_term}
-use Rattle.sc_definitions.specs.Definitions.{definition, inputs_of, chosen_of}
-use Rattle.sc_closure.specs.Atoms.{is_bool, is_bool_in}
-use Rattle.sc_closure_rules.specs.Closure.{follow, inside, choices, beside, parts, field_terms}
+use Rattle.sc_footprint.specs.TermDefinitions.{definition, inputs_of, chosen_of}
+use Rattle.sc_footprint.specs.Atoms.{is_bool, is_bool_in}
+use Rattle.sc_footprint.specs.Closure.{follow, inside, choices, beside, parts, field_terms}
 
 no_bool : {X : Type 0} → is_bool_in (out-Sort sort.Bool) ≡ false → X
 no_bool h = let no : true ≡ false = ap is_bool_in (sym out_Bool) ∙ h in absurd cc

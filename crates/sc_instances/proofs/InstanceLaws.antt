@@ -4,7 +4,7 @@ use Rattle.std.proofs.Common.{◌≡◌, ◌≢◌, ◌||◌, ◌==◌, ℕ, Boo
 use Rattle.std.proofs.lemmas.Bool.{and_parts, true≢false}
 use Rattle.std.specs.List.{list_all}
 use Rattle.std.specs.Str.{bytes_eq}
-use Rattle.sc_lists.proofs.BoolLaws.{not_true}
+use Rattle.sc_laws.proofs.BoolLaws.{not_true}
 use Rattle.sc_lists.proofs.ListLaws.{any_contained, contains_from_map}
 use Rattle.sc_lists.proofs.MemberLaws.{Has-from_Contains}
 use Rattle.sc_rules.proofs.MemberLaws.{all_has}

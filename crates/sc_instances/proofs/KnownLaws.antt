@@ -5,7 +5,7 @@ use Rattle.sc_terms.specs.Trees.{Tree}
 use Rattle.sc_terms.specs.Folds.{truth_term, constant, literal_of, literals_same, not_term, other_equal, equal_by, equal_term}
 use Rattle.sc_terms.proofs.OrderLaws.{tree_cmp_total, tree_eq-itself}
 use Rattle.sc_footprint.specs.Problems.{Posed}
-use Rattle.sc_closure.proofs.EqualLaws.{constant_is, equal_turned as turned}
+use Rattle.sc_terms.proofs.EqualLaws.{constant_is, equal_turned as turned}
 use Rattle.sc_instances.specs.Known.{known_constant, known_of}
 
 -- ---- either way round

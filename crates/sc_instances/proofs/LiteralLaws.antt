@@ -8,8 +8,8 @@ use Rattle.std.specs.declared.cmp.Ordering.TheVariants.{Less}
 use Rattle.sc_lists.proofs.MemberLaws.{Has-from_Contains, Contains-from_Has}
 use Rattle.sc_lists.specs.Members.{Has}
 use Rattle.sc_lists.proofs.ListLaws.{all_element, contains_place}
-use Rattle.sc_lists.proofs.NumberLaws.{suc_isnt_zero}
-use Rattle.sc_lists.proofs.OptionLaws.{same_some}
+use Rattle.sc_laws.proofs.NumberLaws.{suc_isnt_zero}
+use Rattle.sc_laws.proofs.OptionLaws.{same_some}
 use Rattle.sc_rules.proofs.MemberLaws.{filter_passes, filter_within}
 use Rattle.sc_clauses.specs.declared.lit.Lit.{Lit}
 use Rattle.sc_clauses.specs.Clauses.{bool_eq, holds, positive, negation}
@@ -27,10 +27,10 @@ use Rattle.sc_terms.specs.Folds.{truth_term, constant, under_not, not_by, not_te
 use Rattle.sc_terms.specs.Values.{Val, val, yes, not_value}
 use Rattle.sc_terms.proofs.FoldValues.{seen_yes, truth_yes}
 use Rattle.sc_terms.proofs.OrderLaws.{tree_cmp_total, tree_cmp_level, tree_eq-exact, tree_eq-itself}
-use Rattle.sc_definitions.specs.Truths.{is_true}
-use Rattle.sc_closure.specs.Atoms.{is_atom, is_bool, is_bool_in, is_opposite}
-use Rattle.sc_closure.specs.Places.{one_more}
-use Rattle.sc_closure_rules.specs.Closure.{of_true}
+use Rattle.sc_footprint.specs.TermTruths.{is_true}
+use Rattle.sc_footprint.specs.Atoms.{is_atom, is_bool, is_bool_in, is_opposite}
+use Rattle.sc_footprint.specs.Places.{one_more}
+use Rattle.sc_footprint.specs.Closure.{of_true}
 use Rattle.sc_footprint.specs.Problems.{Posed, IsPosed, closed_terms, atoms, numbered, number_among, atom_number, literal, literal_in}
 use Rattle.sc_footprint.specs.Theories.{IsListed, TermsHold}
 use Rattle.sc_footprint.specs.Truths.{truths, is_true_at, IsWorldOf}

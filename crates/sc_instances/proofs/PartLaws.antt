@@ -4,7 +4,7 @@ use Rattle.std.proofs.lemmas.Bool.{and_parts}
 use Rattle.std.proofs.lemmas.Option.{slice_get-get_or}
 use Rattle.sc_lists.proofs.MemberLaws.{Has-from_Contains}
 use Rattle.sc_lists.specs.Members.{Has}
-use Rattle.sc_lists.proofs.NumberLaws.{suc_isnt_zero}
+use Rattle.sc_laws.proofs.NumberLaws.{suc_isnt_zero}
 use Rattle.sc_sorts.specs.declared.sort.Sort.{Sort}
 use Rattle.sc_sorts.specs.contracts.sort.SortPartialEq.TheImpl.{ghosts as sorts}
 use Rattle.sc_sorts.proofs.OrderLaws.{sort_eq_decides}
@@ -15,7 +15,7 @@ use Rattle.sc_terms.specs.Tables.{tree}
 use Rattle.sc_terms.specs.Trees.{Tree, one}
 use Rattle.sc_terms.specs.TreeSorts.{tree_sort}
 use Rattle.sc_terms.proofs.OrderLaws.{tree_eq-exact, tree_eq-itself}
-use Rattle.sc_closure_rules.specs.Closure.{one_sort}
+use Rattle.sc_footprint.specs.Closure.{one_sort}
 use Rattle.sc_footprint.specs.declared.kind.Kind.TheVariants as kind
 use Rattle.sc_footprint.specs.Problems.{Posed, IsPosed, closed_terms, numbered}
 use Rattle.sc_footprint.specs.Shelves.{shelf, is_of_kind, has_key_like, key_of}

@@ -4,7 +4,7 @@ use Rattle.sc_lists.proofs.ListLaws.{contains_place}
 use Rattle.sc_clauses.specs.declared.step.Instance.{Instance}
 use Rattle.sc_world.specs.declared.world.World.{World}
 use Rattle.sc_terms.specs.Trees.{Tree}
-use Rattle.sc_term_laws.specs.Judging.{IsTerm}
+use Rattle.sc_footprint.specs.Judging.{IsTerm}
 use Rattle.sc_terms.specs.Tables.{tree}
 use Rattle.sc_footprint.specs.Problems.{Posed, IsPosed, closed_terms, term_of}
 use Rattle.sc_footprint.specs.Theories.{TermsHold}

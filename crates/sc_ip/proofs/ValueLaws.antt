@@ -14,8 +14,8 @@ use Rattle.std.proofs.lemmas.List.Elements.{All-nil, All-cons}
 use Rattle.std.proofs.lemmas.Bool.{eq-eqb, eqb-true, lt-ltb, ltb-true, le-leb, leb-true, and_parts, and_from}
 use Rattle.std.proofs.lemmas.Option.{cond_some}
 use Rattle.sc_ip.proofs.PrefixLaws.{width-le}
-use Rattle.sc_lists.proofs.NumberLaws.{eqb_false}
-use Rattle.sc_lists.proofs.OptionLaws.{option_map_some, option_and_then_some}
+use Rattle.sc_laws.proofs.NumberLaws.{eqb_false}
+use Rattle.sc_laws.proofs.OptionLaws.{option_map_some, option_and_then_some}
 use Rattle.sc_ip.specs.declared.ip.Ip.{Ip}
 use Rattle.sc_ip.specs.declared.ip.Ip.TheVariants.{V4, V6}
 use Rattle.sc_ip.specs.declared.notation.Notation.{Notation}

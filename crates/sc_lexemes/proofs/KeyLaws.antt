@@ -6,7 +6,7 @@ use Rattle.std.specs.BTreeSet.{BTreeSet, IsEmpty, Updates}
 use Rattle.std.specs.Cmp.Lexicographic.{slice_cmp}
 use Rattle.std.specs.Ordering.{nat_cmp}
 use Rattle.std.specs.Str.{bytes_eq}
-use Rattle.sc_lists.proofs.BoolLaws.{not_true}
+use Rattle.sc_laws.proofs.BoolLaws.{not_true}
 use Rattle.sc_lists.proofs.TextLaws.{bytes_eq_swap}
 use Rattle.sc_ast.specs.declared.expr.Expr.{Expr}
 use Rattle.sc_ast.specs.declared.place.Place.{Place}

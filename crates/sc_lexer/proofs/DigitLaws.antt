@@ -3,7 +3,7 @@ use Rattle.std.proofs.Common.{◌≡◌, ℕ, zero, suc, ◌+◌, ◌*◌, ◌^�
 use Rattle.std.proofs.Math.Nat.{pow-suc}
 use Rattle.std.specs.Char.{is_ascii_hexdigit}
 use Rattle.std.specs.List.{list_all}
-use Rattle.sc_lists.proofs.BoolLaws.{and_second, and_first}
+use Rattle.sc_laws.proofs.BoolLaws.{and_second, and_first}
 
 -- each of some digits is one
 pub digit_at : (ds : List ℕ) (i : ℕ) → list_all is_ascii_hexdigit ds ≡ true → i < length ds → is_ascii_hexdigit (get_or ds i 0) ≡ true

@@ -11,7 +11,7 @@ use Rattle.std.proofs.Math.Seq.{take-append_seam}
 use Rattle.std.proofs.lemmas.List.Sums.{take_while-cons}
 use Rattle.std.proofs.lemmas.Bool.{cases_Bool}
 use Rattle.sc_names.proofs.PartsLaws.{goes_on}
-use Rattle.sc_lists.proofs.BoolLaws.{and_second, and_first}
+use Rattle.sc_laws.proofs.BoolLaws.{and_second, and_first}
 use Rattle.sc_lists.proofs.TextLaws.{take_while_within, take_while_front, take_while_passes}
 use Rattle.sc_lists.proofs.ListLaws.{rest_is}
 use Rattle.sc_names.specs.Names.{begins_word, goes_on_word, is_word}

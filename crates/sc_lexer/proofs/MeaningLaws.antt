@@ -10,7 +10,7 @@ use Rattle.std.proofs.Math.Utf8.{scalars, scalar}
 use Rattle.std.proofs.lemmas.Bool.Decides.{nat_tests, eqb_tells}
 use Rattle.std.proofs.lemmas.List.{drop_at, append_cancel_left, append_cancel_right}
 use Rattle.std.proofs.lemmas.Str.{encodes-append, encodes-IsAscii, chars-encodes, chars-append, chars-IsAscii, IsUtf8-from_ascii, inside_one, encode_ascii, encodes-chars, scalars-chars, is_utf8-from_IsUtf8, IsUtf8-between, IsCharBoundary-after_ascii, IsCharBoundary-before_ascii}
-use Rattle.sc_lists.proofs.BoolLaws.{and_second, and_first}
+use Rattle.sc_laws.proofs.BoolLaws.{and_second, and_first}
 use Rattle.sc_lexer.specs.declared.piece.Piece.{Piece}
 use Rattle.sc_lexer.specs.declared.piece.Piece.TheVariants.{Char, Star}
 use Rattle.sc_lexer.specs.Escapes.{is_letter, IsEscape, letter, star, ascii, code, IsSpelled, ends, plain, escape, ascii_of, braced_of, scalar_of, escape_of}

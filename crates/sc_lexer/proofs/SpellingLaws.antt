@@ -10,10 +10,10 @@ use Rattle.std.proofs.lemmas.List.{take-append-drop, get_or_at, get_or_past, tak
 use Rattle.std.proofs.lemmas.List.Sums.{take_while-cons}
 use Rattle.std.proofs.Math.Utf8.{scalar}
 use Rattle.std.proofs.Math.Seq.{take-add, take-length}
-use Rattle.sc_lists.proofs.BoolLaws.{and_second, and_first}
+use Rattle.sc_laws.proofs.BoolLaws.{and_second, and_first}
 use Rattle.sc_lists.proofs.TextLaws.{take_while_within, take_while_front, take_while_passes}
 use Rattle.sc_lists.proofs.ListLaws.{rest_is}
-use Rattle.sc_lists.proofs.NumberLaws.{nat_eq_true, at_most}
+use Rattle.sc_laws.proofs.NumberLaws.{nat_eq_true, at_most}
 use Rattle.sc_lexer.specs.declared.piece.Piece.{Piece}
 use Rattle.sc_lexer.specs.declared.piece.Piece.TheVariants.{Char, EscapedStar}
 use Rattle.sc_lexer.specs.declared.piece.Escape.{Escape}

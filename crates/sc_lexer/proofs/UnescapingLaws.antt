@@ -9,7 +9,7 @@ use Rattle.std.specs.declared.alloc.AllocError.{AllocError}
 use Rattle.std.proofs.lemmas.Bool.Decides.{nat_tests}
 use Rattle.std.proofs.lemmas.List.{take-append-drop, drop_at, length-take-le, map_more}
 use Rattle.std.proofs.lemmas.Str.{encodes-append, encodes-chars, encodes-IsAscii, chars-append, chars-IsAscii, IsUtf8-from_ascii, IsAscii-append, IsCharBoundary-from_take, is_utf8-from_IsUtf8, IsUtf8-from_is_utf8}
-use Rattle.sc_lists.proofs.BoolLaws.{and_second, and_first}
+use Rattle.sc_laws.proofs.BoolLaws.{and_second, and_first}
 use Rattle.sc_lexer.specs.declared.piece.Piece.{Piece}
 use Rattle.sc_lexer.specs.declared.piece.Piece.TheVariants.{Char, Star, EscapedStar}
 use Rattle.sc_lexer.specs.declared.piece.Escape.{Escape}

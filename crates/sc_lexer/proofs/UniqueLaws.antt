@@ -7,7 +7,7 @@ use Rattle.std.specs.List.{list_all}
 use Rattle.std.proofs.lemmas.Bool.Decides.{nat_tests}
 use Rattle.std.proofs.lemmas.List.{take_at, drop_at}
 use Rattle.std.proofs.lemmas.Str.{encode_same, char_from_byte, utf8_valid_len-IsValidUpTo}
-use Rattle.sc_lists.proofs.BoolLaws.{and_second, and_first}
+use Rattle.sc_laws.proofs.BoolLaws.{and_second, and_first}
 use Rattle.sc_lists.specs.declared.fault.Fault.{Fault}
 use Rattle.sc_lists.specs.declared.fault.Fault.TheVariants.{Told, NoMemory}
 use Rattle.sc_lists.specs.Told.{Gives}

@@ -1,8 +1,5 @@
-pub mod BoolLaws
 pub mod ListLaws
 pub mod MemberLaws
-pub mod NumberLaws
-pub mod OptionLaws
 pub mod OrderedLaws
 pub mod OrderingLaws
 pub mod SeqLaws

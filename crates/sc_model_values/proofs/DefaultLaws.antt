@@ -6,7 +6,7 @@ use Rattle.std.specs.Map.{lookup}
 use Rattle.std.specs.Ordering.{is_gt}
 use Rattle.std.specs.Str.{bytes_eq}
 use Rattle.sc_lists.specs.Members.{Has}
-use Rattle.sc_lists.proofs.BoolLaws.{true_both}
+use Rattle.sc_laws.proofs.BoolLaws.{true_both}
 use Rattle.sc_ip.specs.declared.ip.Ip.{Ip}
 use Rattle.sc_ip.specs.declared.ip.Ip.TheVariants.{V4}
 use Rattle.sc_ip.specs.Addresses.{IsIp}

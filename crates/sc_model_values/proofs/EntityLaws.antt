@@ -6,8 +6,8 @@ use Rattle.std.specs.List.{AllByRecursion}
 use Rattle.sc_lists.specs.Members.{Has}
 use Rattle.sc_lists.proofs.ListLaws.{all_element}
 use Rattle.sc_lists.proofs.MemberLaws.{Has-from_Contains}
-use Rattle.sc_lists.proofs.OptionLaws.{same_some, option_map_some}
-use Rattle.sc_lists.proofs.BoolLaws.{true_both}
+use Rattle.sc_laws.proofs.OptionLaws.{same_some, option_map_some}
+use Rattle.sc_laws.proofs.BoolLaws.{true_both}
 use Rattle.sc_names.specs.declared.uid.Uid.{Uid}
 use Rattle.sc_schema.specs.declared.declarations.EntityType.{EntityType}
 use Rattle.sc_schema.specs.declared.declarations.Env.{Env}

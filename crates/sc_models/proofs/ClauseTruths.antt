@@ -1,9 +1,9 @@
 -- Where each listed atom has a value, a clause that isn't falsified is true.
 use Rattle.std.proofs.Common.{◌≡◌, ◌≤◌, ◌||◌, ◌&&◌, ◌==◌, ℕ, Bool, true, false, not, inl, inr, [], ◌∷◌, Option, Some, None, IsSome, unwrap_or, refl, sym, ap, ◌∙◌, arith}
 use Rattle.std.specs.List.{list_all}
-use Rattle.sc_lists.proofs.BoolLaws.{never}
+use Rattle.sc_laws.proofs.BoolLaws.{never}
 use Rattle.sc_lists.specs.Members.{Has}
-use Rattle.sc_lists.proofs.NumberLaws.{some_isnt_zero}
+use Rattle.sc_laws.proofs.NumberLaws.{some_isnt_zero}
 use Rattle.sc_clauses.specs.declared.lit.Lit.{Lit}
 use Rattle.sc_clauses.specs.Assignments.{Assignment, value_of, is_false_at, is_false, falsifies}
 use Rattle.sc_clauses.specs.Clauses.{Clause, bool_eq, lit_eq, positive, holds, clause_holds}

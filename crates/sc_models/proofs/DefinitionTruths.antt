@@ -2,7 +2,7 @@
 -- those of one.
 use Rattle.std.proofs.Common.{◌≡◌, ◌<◌, ◌≤◌, ◌+◌, ◌-◌, ◌||◌, ℕ, zero, suc, Bool, true, false, not, IsTrue, inl, inr, List, [], ◌∷◌, ◌++◌, map, filter, flat_map, length, IfSome, Contains, refl, sym, ap, ◌∙◌, subst, arith}
 use Rattle.std.specs.Cmp.Derive.{both_true}
-use Rattle.sc_lists.proofs.BoolLaws.{or_false, never}
+use Rattle.sc_laws.proofs.BoolLaws.{or_false, never}
 use Rattle.sc_lists.proofs.MemberLaws.{Has-left, Has-right, Has-map, Has-flat_map, Has-from_Contains, Contains-from_Has}
 use Rattle.sc_lists.specs.Members.{Has}
 use Rattle.sc_names.specs.declared.uid.Uid.{Uid}
@@ -31,8 +31,8 @@ use Rattle.sc_definitions.specs.declared.function.Shape.{Shape}
 use Rattle.sc_definitions.specs.declared.function.Shape.TheVariants.{Free}
 use Rattle.sc_definitions.specs.Definitions.{counted, definition, shape_of, inputs_of}
 use Rattle.sc_definitions.specs.Truths.{defined}
-use Rattle.sc_closure.specs.Atoms.{is_atom, is_opposite}
-use Rattle.sc_closure_rules.specs.Closure.{of_true}
+use Rattle.sc_footprint.specs.Atoms.{is_atom, is_opposite}
+use Rattle.sc_footprint.specs.Closure.{of_true}
 use Rattle.sc_rules.proofs.MemberLaws.{filter_kept}
 use Rattle.sc_footprint.specs.Problems.{Posed, IsPosed, closed_terms, goal_term, goal_literal, atoms, literal_in}
 use Rattle.sc_footprint.specs.Definitions.{clauses_by, definition_clauses, mask_clause, short_clauses, address_clauses, is_address, is_address_in, is_other, defining}

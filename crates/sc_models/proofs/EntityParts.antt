@@ -1,7 +1,7 @@
 -- The rules of what is stored of entities speak of truth values, where they speak of terms.
 use Rattle.std.proofs.Common.{◌≡◌, ◌&&◌, ◌==◌, Bool, true, false, not, List, [], ◌∷◌, map, length, Contains, if◌then◌else◌, Option, Some, None, refl, sym, ap, ◌∙◌, subst}
 use Rattle.std.specs.List.{AllByRecursion}
-use Rattle.sc_lists.proofs.BoolLaws.{and_first, and_second, never}
+use Rattle.sc_laws.proofs.BoolLaws.{and_first, and_second, never}
 use Rattle.sc_lists.specs.Members.{Has}
 use Rattle.sc_names.specs.declared.uid.Uid.{Uid}
 use Rattle.sc_schema.specs.declared.declarations.Env.{Env}
@@ -29,8 +29,8 @@ use Rattle.sc_term_laws.proofs.DefaultMade.{default_made}
 use Rattle.sc_term_laws.proofs.JudgingLaws.{sort_is, member_of}
 use Rattle.sc_term_laws.proofs.TestLaws.{same_sorts}
 use Rattle.sc_term_laws.proofs.UnaryJudged.{unary_kept, of_sort}
-use Rattle.sc_closure.specs.Atoms.{is_bool, is_bool_in}
-use Rattle.sc_closure_rules.proofs.SortLaws.{sort_lawful}
+use Rattle.sc_footprint.specs.Atoms.{is_bool, is_bool_in}
+use Rattle.sc_footprint.proofs.SortLaws.{sort_lawful}
 use Rattle.sc_rules.specs.Signed.{Said, so, unless}
 use Rattle.sc_rules.specs.Terms.{one_sort, member, above, keys, entity, choices_level, choices_in}
 use Rattle.sc_rules.specs.Entities.{are_attributes_of, en1, same_sets, en2, en3, en4, en5, en6, is_literal_of, en7_by, en7, en8}

@@ -1,7 +1,7 @@
 -- The rules of equations, choices, records and options speak of truth values.
 use Rattle.std.proofs.Common.{◌≡◌, ◌&&◌, ℕ, zero, suc, true, false, List, Contains, slice_get, Option, Some, None, refl, sym, ◌∙◌}
 use Rattle.std.specs.List.{AllByRecursion}
-use Rattle.sc_lists.proofs.BoolLaws.{and_first, and_second}
+use Rattle.sc_laws.proofs.BoolLaws.{and_first, and_second}
 use Rattle.sc_lists.proofs.ListLaws.{contains_place}
 use Rattle.sc_lists.proofs.MemberLaws.{Has-from_Contains}
 use Rattle.sc_lists.specs.Members.{Has}
@@ -24,8 +24,8 @@ use Rattle.sc_term_laws.proofs.DefaultMade.{default_made, held_made}
 use Rattle.sc_term_laws.proofs.MadeLaws.{field_made, present_made}
 use Rattle.sc_term_laws.proofs.TestLaws.{at_level, option_sort, same_sorts}
 use Rattle.sc_term_laws.proofs.UnaryJudged.{of_sort}
-use Rattle.sc_closure.specs.Atoms.{is_bool, is_bool_in}
-use Rattle.sc_closure_rules.proofs.SortLaws.{found, names_ascend, held_lawful}
+use Rattle.sc_footprint.specs.Atoms.{is_bool, is_bool_in}
+use Rattle.sc_footprint.proofs.SortLaws.{found, names_ascend, held_lawful}
 use Rattle.sc_rules.specs.Signed.{Said, unless}
 use Rattle.sc_rules.specs.Terms.{one_sort, is_named_level, is_named, is_option, fields_level}
 use Rattle.sc_rules.specs.Equal.{field_equal, eq1, eq2, eq3_of, field_at, eq3, eq4_of, eq4, are_options, eq5, eq6, eq7, eq8}

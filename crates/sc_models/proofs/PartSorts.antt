@@ -3,7 +3,7 @@ use Rattle.std.proofs.Common.{◌≡◌, Bool, true, false, inl, inr, List, [], 
 use Rattle.std.specs.Bool.{⊤}
 use Rattle.std.specs.List.{AllByRecursion}
 use Rattle.std.specs.Ordering.{is_gt}
-use Rattle.sc_lists.proofs.BoolLaws.{never}
+use Rattle.sc_laws.proofs.BoolLaws.{never}
 use Rattle.sc_lists.specs.Members.{Has}
 use Rattle.sc_names.specs.declared.uid.Uid.{Uid}
 use Rattle.sc_schema.specs.declared.declarations.Env.{Env}
@@ -22,7 +22,7 @@ use Rattle.sc_term_laws.specs.Judging.{IsTermOf}
 use Rattle.sc_term_laws.specs.Tests.{is_entity_sort, entity_level}
 use Rattle.sc_term_laws.proofs.JudgingLaws.{sort_is}
 use Rattle.sc_term_laws.proofs.MadeLaws.{equal_made}
-use Rattle.sc_closure.specs.Atoms.{is_bool, is_bool_in}
+use Rattle.sc_footprint.specs.Atoms.{is_bool, is_bool_in}
 use Rattle.sc_footprint.proofs.KindLaws.{bool_is}
 use Rattle.sc_footprint.proofs.TruthLaws.{truth_sort}
 use Rattle.sc_rules.specs.Signed.{Signed, Said, given}

@@ -2,10 +2,10 @@
 use Rattle.std.proofs.Common.{◌≡◌, ◌&&◌, ℕ, Bool, true, false, inl, inr, List, [], ◌∷◌, length, Option, Some, None, refl, sym, ap, ◌∙◌, subst}
 use Rattle.std.specs.Bool.{⊤}
 use Rattle.std.specs.List.{AllByRecursion}
-use Rattle.sc_lists.proofs.BoolLaws.{and_second, never}
+use Rattle.sc_laws.proofs.BoolLaws.{and_second, never}
 use Rattle.sc_lists.proofs.ListLaws.{all_weaker}
 use Rattle.sc_lists.proofs.MemberLaws.{Has-from_Contains, Contains-from_Has}
-use Rattle.sc_lists.proofs.OptionLaws.{same_some}
+use Rattle.sc_laws.proofs.OptionLaws.{same_some}
 use Rattle.sc_lists.specs.Members.{Has}
 use Rattle.sc_clauses.specs.declared.lit.Lit.{Lit}
 use Rattle.sc_clauses.specs.Assignments.{Assignment}
@@ -22,7 +22,7 @@ use Rattle.sc_term_laws.specs.Judging.{IsTerm}
 use Rattle.sc_term_laws.specs.Tests.{is_entity_sort, name_of}
 use Rattle.sc_term_laws.proofs.TestLaws.{type_is}
 use Rattle.sc_term_laws.proofs.UnaryJudged.{unary_kept}
-use Rattle.sc_closure.specs.Atoms.{is_bool}
+use Rattle.sc_footprint.specs.Atoms.{is_bool}
 use Rattle.sc_footprint.specs.Problems.{Posed, IsPosed, closed_terms, goal_term, atoms, number_among, term_of}
 use Rattle.sc_footprint.specs.Theories.{IsListed, TermsHold}
 use Rattle.sc_footprint.proofs.NumberingLaws.{numbered_map, numbered_back}

@@ -1,6 +1,6 @@
 -- The rules of sets speak of truth values, where they speak of terms.
 use Rattle.std.proofs.Common.{◌≡◌, ◌&&◌, ℕ, zero, suc, true, false, inl, inr, List, slice_get, Option, Some, None, refl, sym, ap, ◌∙◌, subst}
-use Rattle.sc_lists.proofs.BoolLaws.{and_first, and_second}
+use Rattle.sc_laws.proofs.BoolLaws.{and_first, and_second}
 use Rattle.sc_lists.proofs.ListLaws.{contains_place}
 use Rattle.sc_lists.proofs.MemberLaws.{Has-from_Contains}
 use Rattle.sc_lists.specs.Members.{Has}
@@ -24,7 +24,7 @@ use Rattle.sc_term_laws.proofs.BinaryJudged.{binary_kept}
 use Rattle.sc_term_laws.proofs.JudgingLaws.{member_of}
 use Rattle.sc_term_laws.proofs.TestLaws.{same_sorts, set_sort}
 use Rattle.sc_term_laws.proofs.UnaryJudged.{of_sort}
-use Rattle.sc_closure.specs.Atoms.{is_bool, is_bool_in}
+use Rattle.sc_footprint.specs.Atoms.{is_bool, is_bool_in}
 use Rattle.sc_rules.specs.Signed.{Said, so}
 use Rattle.sc_rules.specs.Terms.{is_set, member, subset, missing, shared, members}
 use Rattle.sc_rules.specs.Sets.{se1, se2, se3_of, se3, se4, se5, se6, se7, se8}

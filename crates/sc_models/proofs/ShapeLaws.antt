@@ -2,7 +2,7 @@
 use Rattle.std.proofs.Common.{◌≡◌, ◌||◌, ◌&&◌, ℕ, Bool, true, false, not, inl, inr, List, [], ◌∷◌, ◌++◌, map, length, IfSome, Option, Some, None, Contains, refl, sym, ap, ◌∙◌, subst}
 use Rattle.std.proofs.lemmas.List.{length-map}
 use Rattle.std.specs.List.{list_all}
-use Rattle.sc_lists.proofs.BoolLaws.{or_first, or_second, true_or_false, not_not}
+use Rattle.sc_laws.proofs.BoolLaws.{or_first, or_second, true_or_false, not_not}
 use Rattle.sc_lists.proofs.ListLaws.{any_contained}
 use Rattle.sc_lists.proofs.MemberLaws.{Has-left, Has-right, Has-last, Has-map}
 use Rattle.sc_lists.specs.Members.{Has}

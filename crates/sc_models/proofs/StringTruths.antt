@@ -2,10 +2,10 @@
 -- and there are as many texts as one likes.
 use Rattle.std.proofs.Common.{◌≡◌, ◌<◌, ◌||◌, ◌&&◌, ◌==◌, ℕ, zero, suc, Bool, true, false, not, inl, inr, List, [], ◌∷◌, flat_map, length, slice_get, Option, Some, None, refl, sym, ap, ◌∙◌, subst, arith}
 use Rattle.std.specs.List.{AllByRecursion, list_all}
-use Rattle.sc_lists.proofs.BoolLaws.{and_first, and_second, never}
+use Rattle.sc_laws.proofs.BoolLaws.{and_first, and_second, never}
 use Rattle.sc_lists.proofs.ListLaws.{all_element}
 use Rattle.sc_lists.proofs.MemberLaws.{Has-left, Has-flat_map, Contains-from_Has}
-use Rattle.sc_lists.proofs.OptionLaws.{same_some}
+use Rattle.sc_laws.proofs.OptionLaws.{same_some}
 use Rattle.sc_lists.specs.Members.{Has}
 use Rattle.sc_languages.specs.Strings.{IsText, AreDistinct}
 use Rattle.sc_clauses.specs.Assignments.{Assignment}
@@ -23,7 +23,7 @@ use Rattle.sc_terms.proofs.OrderLaws.{tree_eq-exact}
 use Rattle.sc_term_laws.specs.Judging.{IsTerm}
 use Rattle.sc_term_laws.specs.Judging as judged
 use Rattle.sc_term_laws.proofs.JudgingLaws.{sort_is}
-use Rattle.sc_closure.specs.Atoms.{is_atom}
+use Rattle.sc_footprint.specs.Atoms.{is_atom}
 use Rattle.sc_footprint.specs.Problems.{Posed, IsPosed, closed_terms, goal_term, atoms}
 use Rattle.sc_footprint.specs.Theories.{TermsHold}
 use Rattle.sc_footprint.proofs.KindLaws.{bool_is, negated_is}

@@ -2,10 +2,10 @@
 use Rattle.std.proofs.Common.{◌≡◌, ◌||◌, ◌&&◌, ◌==◌, ℕ, Bool, true, false, not, List, [], ◌∷◌, map, flat_map, length, Some, None, refl, sym, ap, ◌∙◌, subst}
 use Rattle.std.specs.List.{AllByRecursion, list_all}
 use Rattle.std.specs.Str.{IsUtf8}
-use Rattle.sc_lists.proofs.BoolLaws.{never}
+use Rattle.sc_laws.proofs.BoolLaws.{never}
 use Rattle.sc_lists.proofs.ListLaws.{all_append, all_of_elements}
 use Rattle.sc_lists.proofs.MemberLaws.{Has-from_Contains}
-use Rattle.sc_lists.proofs.OptionLaws.{same_some}
+use Rattle.sc_laws.proofs.OptionLaws.{same_some}
 use Rattle.sc_lists.specs.Members.{Has}
 use Rattle.sc_names.specs.declared.uid.Uid.{Uid}
 use Rattle.sc_schema.specs.declared.declarations.Env.{Env}
@@ -27,7 +27,7 @@ use Rattle.sc_terms.proofs.FoldValues.{truth_yes}
 use Rattle.sc_term_laws.specs.Judging.{IsTermOf, IsTerm}
 use Rattle.sc_term_laws.specs.Judging as judged
 use Rattle.sc_term_laws.specs.Tests.{string_level}
-use Rattle.sc_closure.specs.Atoms.{is_bool, is_bool_in}
+use Rattle.sc_footprint.specs.Atoms.{is_bool, is_bool_in}
 use Rattle.sc_rules.specs.Signed.{Signed, so, is_true, some_holds, Holds, given}
 use Rattle.sc_rules.specs.Terms.{is_string}
 use Rattle.sc_rules.specs.Strings.{Pattern, Signs, AreFew, other_signs, some_equal, crowd}

@@ -12,7 +12,7 @@ use Rattle.sc_nodes.specs.declared.node.UnaryOp.TheVariants.{Like}
 use Rattle.sc_terms.specs.Trees.{Tree, one}
 use Rattle.sc_rules.specs.Signed.{Signed}
 use Rattle.sc_rules.specs.Strings.{Pattern, Signs, AreFew, st1, st3}
-use Rattle.sc_closure_rules.specs.Closure.{Closed}
+use Rattle.sc_footprint.specs.Closure.{Closed}
 use Rattle.sc_rebuilding.specs.Assignments.{some_hold}
 use Rattle.sc_rebuilding.specs.Consistent.{IsConsistent}
 use Rattle.sc_models.specs.Models.{truth_in}

@@ -21,10 +21,10 @@ use Rattle.sc_terms.proofs.OrderLaws.{tree_cmp_level}
 use Rattle.sc_term_laws.specs.Tests.{name_of}
 use Rattle.sc_term_laws.proofs.TestLaws.{at_level}
 use Rattle.sc_rules.proofs.MemberLaws.{filter_within, filter_passes, filter_kept}
-use Rattle.sc_closure_rules.specs.Closure.{Closed}
+use Rattle.sc_footprint.specs.Closure.{Closed}
 use Rattle.sc_footprint.specs.Problems.{Posed, IsPosed, goal_term, closed_terms, numbered, number_among}
 use Rattle.sc_footprint.proofs.NumberingLaws.{numbered_map, numbered_back}
-use Rattle.sc_models.specs.Models.{truth_in, name_in, model}
+use Rattle.sc_string_names.specs.Models.{truth_in, name_in, model}
 use Rattle.sc_rebuilding.specs.Consistent.{IsConsistent}
 use Rattle.sc_rebuilding.specs.Laws.{HasModel}
 use Rattle.sc_rebuilding.specs.Models.{IsModel}

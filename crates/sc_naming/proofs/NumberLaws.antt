@@ -6,7 +6,7 @@ use Rattle.std.proofs.lemmas.List.{length-map}
 use Rattle.std.proofs.lemmas.Slice.Eq.{bytes_eq-Decides}
 use Rattle.std.specs.Str.{bytes_eq}
 use Rattle.std.specs.Str.Parse.{digits_value}
-use Rattle.sc_lists.proofs.BoolLaws.{and_second}
+use Rattle.sc_laws.proofs.BoolLaws.{and_second}
 use Rattle.sc_lists.proofs.MemberLaws.{Has-map}
 use Rattle.sc_lists.specs.Members.{Has}
 use Rattle.sc_terms.specs.Trees.{Tree}

@@ -4,7 +4,7 @@ ghost use Rattle.std.specs.List.{AllByRecursion};
 ghost use Rattle.std.specs.Option.{option_copied};
 ghost use Rattle.std.specs.Str.{IsUtf8};
 ghost use Rattle.sc_footprint.specs.Problems.{goal_term};
-ghost use Rattle.sc_models.specs.Models.{truth_in, model};
+ghost use Rattle.sc_string_names.specs.Models.{truth_in, model};
 ghost use Rattle.sc_naming.specs.Ids.{is_same};
 ghost use Rattle.sc_naming.specs.Namings.{name_of_term};
 ghost use Rattle.sc_rebuilding.specs.Consistent.{IsConsistent};

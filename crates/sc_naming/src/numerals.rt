@@ -8,8 +8,8 @@ ghost use Rattle.sc_terms.specs.Tables.{tree};
 
 use itoa::Buffer;
 use sc_footprint::Problem;
-use sc_instances::is_one_sort;
 use sc_lists::Text;
+use sc_string_names::is_one_sort;
 use std::alloc::{AllocError, Global};
 
 /// A number in decimal.

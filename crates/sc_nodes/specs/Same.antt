@@ -9,7 +9,7 @@ use Rattle.std.specs.Ordering.{ordering_then, bool_cmp, nat_cmp}
 use Rattle.sc_ip.specs.declared.ip.Ip.{Ip}
 use Rattle.sc_ip.specs.declared.ip.Ip.TheVariants.{V4, V6}
 use Rattle.sc_ip.specs.contracts.ip.IpOrd.TheImpl.{ghosts as ip_ord}
-use Rattle.sc_lists.proofs.NumberLaws.{nat_eq_true}
+use Rattle.sc_laws.proofs.NumberLaws.{nat_eq_true}
 use Rattle.sc_lists.proofs.OrderingLaws.{is_eq_true, ordering_then_equal}
 use Rattle.sc_lists.proofs.TextLaws.{bytes_eq_true}
 use Rattle.sc_names.specs.declared.uid.Uid.{Uid}

@@ -29,6 +29,7 @@ use Rattle.sc_bits.specs.Addresses.{ip_bit, ip_of}
 use Rattle.sc_bits.specs.Bits.{bit64, of_bits64}
 use Rattle.sc_bits.specs.Blocks.{AgreeInRange, AreBlockBits}
 use Rattle.sc_bits.proofs.IntegerLaws.{of_bits-bit64, of_bits-same, bit64-of_bits}
+use Rattle.sc_terms.proofs.EqualLaws.{constant_is}
 use Rattle.sc_terms.specs.Trees.{Tree, leaf, two}
 use Rattle.sc_terms.specs.TreeSorts.{tree_sort}
 use Rattle.sc_terms.specs.Folds.{constant, literal_of, truth_term, literal_term, equal_by, equal_term, bit_by, bit_term}
@@ -50,7 +51,7 @@ use Rattle.sc_rebuilding.specs.Assignments.{lit}
 use Rattle.sc_rebuilding.specs.Vals.{Model, bits_of, val_of}
 use Rattle.sc_rebuilding.specs.Models.{IsModel}
 use Rattle.sc_rebuilding.proofs.ClosedLaws.{counted_place, of_input}
-use Rattle.sc_rebuilding.proofs.EquationTerms.{Equation, is_one, are_literals, is_straight, is_turned, equation_of, constant_is, lit_truth, lit_constant, lit_not}
+use Rattle.sc_rebuilding.proofs.EquationTerms.{Equation, is_one, are_literals, is_straight, is_turned, equation_of, lit_truth, lit_constant, lit_not}
 use Rattle.sc_rebuilding.proofs.ValLaws.{val_Bool, val_Long, val_String, val_Decimal, val_Ip, val_Entity}
 
 -- each closed term is a term, of a sort of the schema

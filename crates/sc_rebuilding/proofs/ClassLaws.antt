@@ -2,7 +2,7 @@
 use Rattle.std.proofs.Common.{◌≡◌, ◌+◌, ◌≤◌, inl, inr, ℕ, zero, suc, Bool, true, false, cond, List, [], ◌∷◌, length, Option, Some, None, refl, ap, sym, ◌∙◌, subst, arith}
 use Rattle.std.specs.Cmp.{both_ways}
 use Rattle.sc_lists.specs.Members.{Has}
-use Rattle.sc_lists.proofs.BoolLaws.{true_both}
+use Rattle.sc_laws.proofs.BoolLaws.{true_both}
 use Rattle.sc_terms.specs.Trees.{Tree}
 use Rattle.sc_rebuilding.specs.Names.{Name, or_name, literal_among, place_among, or_fresh, zeros, length_of, longest, class_name}
 

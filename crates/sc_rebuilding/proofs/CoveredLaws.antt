@@ -1,7 +1,7 @@
 -- A term is covered where no member is picked in it.
 use Rattle.std.proofs.Common.{◌≡◌, ◌||◌, true, false, refl}
 use Rattle.std.specs.Cmp.Derive.{both_true}
-use Rattle.sc_lists.proofs.BoolLaws.{or_first, or_second}
+use Rattle.sc_laws.proofs.BoolLaws.{or_first, or_second}
 use Rattle.sc_nodes.specs.declared.node.BinaryOp.{BinaryOp}
 use Rattle.sc_nodes.specs.declared.node.BinaryOp.TheVariants as binary
 use Rattle.sc_terms.specs.Trees.{Tree, leaf, one, two, choice, many, Trees, no_part, part}

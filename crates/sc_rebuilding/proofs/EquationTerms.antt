@@ -10,6 +10,7 @@ use Rattle.sc_nodes.specs.declared.node.Literal.TheVariants as literals
 use Rattle.sc_nodes.specs.declared.node.UnaryOp.TheVariants as unary
 use Rattle.sc_nodes.specs.declared.node.BinaryOp.TheVariants as binary
 use Rattle.sc_nodes.specs.declared.node.BinaryOp.{BinaryOp}
+use Rattle.sc_terms.proofs.EqualLaws.{constant_is}
 use Rattle.sc_terms.specs.Trees.{Tree, leaf, one, two, choice, many}
 use Rattle.sc_terms.specs.Order.{tree_cmp, tree_eq}
 use Rattle.sc_terms.specs.Folds.{constant, truth_term, literal_term, literal_of, literals_same, under_not, not_by, not_term, equal_term, other_equal, equation}
@@ -45,9 +46,6 @@ constant_literal (one o x) b e = absurd cc
 constant_literal (two o x y) b e = absurd cc
 constant_literal (choice c x y) b e = absurd cc
 constant_literal (many o ts) b e = absurd cc
-
-pub constant_is : (a : Tree) (b : Bool) → constant a ≡ Some b → a ≡ truth_term b
-constant_is a b e = literal_is a (literals.Bool b) (constant_literal a b e)
 
 pub no_constant : (a : Tree) → literal_of a ≡ None → constant a ≡ None
 no_constant a e = by (constant a) refl where

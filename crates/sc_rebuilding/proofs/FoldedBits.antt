@@ -1,6 +1,6 @@
 -- The truth of what is said of bits: negations, conjunctions, disjunctions and equations of bits, some of which fold.
 use Rattle.std.proofs.Common.{◌≡◌, ◌&&◌, ◌||◌, ◌+◌, ◌-◌, inl, inr, ℕ, min, nat_le, Bool, true, false, not, cond, List, [], ◌∷◌, Option, Some, None, refl, sym, ap, ◌∙◌, subst}
-use Rattle.sc_lists.proofs.BoolLaws.{or_false}
+use Rattle.sc_laws.proofs.BoolLaws.{or_false}
 use Rattle.sc_names.specs.declared.uid.Uid.{Uid}
 use Rattle.sc_schema.specs.declared.declarations.Env.{Env}
 use Rattle.sc_schema.specs.Declarations.{Declarations}

@@ -4,9 +4,9 @@ use Rattle.std.specs.Cmp.{both_ways}
 use Rattle.std.specs.List.{AllByRecursion, list_any}
 use Rattle.std.specs.Str.{bytes_eq, chars}
 use Rattle.std.proofs.lemmas.Slice.Eq.{bytes_eq-Decides}
-use Rattle.sc_lists.proofs.BoolLaws.{same_truth}
+use Rattle.sc_laws.proofs.BoolLaws.{same_truth}
 use Rattle.sc_lists.proofs.MemberLaws.{Has-left, Has-last, Has-push, Has-map, Has-flat_map, flat_map-Has}
-use Rattle.sc_lists.proofs.OptionLaws.{same_some}
+use Rattle.sc_laws.proofs.OptionLaws.{same_some}
 use Rattle.sc_lists.proofs.TextLaws.{bytes_eq_true}
 use Rattle.sc_lists.specs.Members.{Has}
 use Rattle.sc_pattern.specs.Language.{is_match}

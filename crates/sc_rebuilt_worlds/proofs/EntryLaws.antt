@@ -7,7 +7,7 @@ use Rattle.std.specs.Str.{IsUtf8}
 use Rattle.std.proofs.lemmas.Map.Lookups.{exact_bytes}
 use Rattle.sc_lists.specs.Members.{Has}
 use Rattle.sc_lists.proofs.MemberLaws.{Has-map, Has-flat_map, flat_map-Has}
-use Rattle.sc_lists.proofs.OptionLaws.{same_some}
+use Rattle.sc_laws.proofs.OptionLaws.{same_some}
 use Rattle.sc_ip.specs.Addresses.{IsIp}
 use Rattle.sc_bits.specs.Addresses.{ip_of}
 use Rattle.sc_bits.specs.Blocks.{AreBlockBits}

@@ -4,8 +4,8 @@ use Rattle.std.specs.List.{AllByRecursion}
 use Rattle.sc_lists.specs.Members.{Has}
 use Rattle.sc_lists.proofs.ListLaws.{all_weaker}
 use Rattle.sc_lists.proofs.MemberLaws.{Has-flat_map, flat_map-Has}
-use Rattle.sc_lists.proofs.OptionLaws.{some_of}
-use Rattle.sc_lists.proofs.BoolLaws.{true_both}
+use Rattle.sc_laws.proofs.OptionLaws.{some_of}
+use Rattle.sc_laws.proofs.BoolLaws.{true_both}
 use Rattle.sc_names.specs.declared.uid.Uid.{Uid}
 use Rattle.sc_schema.specs.declared.declarations.Env.{Env}
 use Rattle.sc_schema.specs.Declarations.{Declarations, is_action_type}

@@ -8,9 +8,9 @@ use Rattle.std.proofs.lemmas.Simd.{map-map}
 use Rattle.std.proofs.lemmas.Slice.Eq.{bytes_eq-Decides}
 use Rattle.sc_lists.specs.Members.{Has}
 use Rattle.sc_lists.proofs.MemberLaws.{Has-map, map-Has, Has-flat_map, Has-from_Contains, Contains-from_Has}
-use Rattle.sc_lists.proofs.OptionLaws.{same_some}
+use Rattle.sc_laws.proofs.OptionLaws.{same_some}
 use Rattle.sc_lists.proofs.TextLaws.{bytes_eq_true}
-use Rattle.sc_lists.proofs.BoolLaws.{true_both}
+use Rattle.sc_laws.proofs.BoolLaws.{true_both}
 use Rattle.sc_names.specs.declared.uid.Uid.{Uid}
 use Rattle.sc_names.specs.Uids.{text_cmp, uid_cmp}
 use Rattle.sc_names.proofs.UidLaws.{text_total}

@@ -7,7 +7,7 @@ use Rattle.sc_lists.specs.Members.{Has}
 use Rattle.sc_lists.proofs.ListLaws.{all_weaker}
 use Rattle.sc_lists.proofs.MemberLaws.{Has-from_Contains, Contains-from_Has, Has-AllByRecursion}
 use Rattle.sc_lists.proofs.OrderedLaws.{none_ascends}
-use Rattle.sc_lists.proofs.BoolLaws.{true_both}
+use Rattle.sc_laws.proofs.BoolLaws.{true_both}
 use Rattle.sc_ip.specs.Addresses.{IsIp}
 use Rattle.sc_bits.specs.Addresses.{ip_of}
 use Rattle.sc_bits.specs.Blocks.{AreBlockBits}

@@ -1,7 +1,7 @@
 -- Types of attributes and of contexts are record types, and a value of such a type is its fields.
 use Rattle.std.proofs.Common.{◌≡◌, cond, ℕ, Bool, true, false, List, [], map, Option, Some, option_map, Contains, refl, sym, ap, ◌∙◌, subst}
 use Rattle.sc_lists.proofs.ListLaws.{contains_from_map, joined_from}
-use Rattle.sc_lists.proofs.OptionLaws.{same_some, some_of, option_map_some}
+use Rattle.sc_laws.proofs.OptionLaws.{same_some, some_of, option_map_some}
 use Rattle.sc_names.specs.declared.uid.Uid.{Uid}
 use Rattle.sc_schema.specs.declared.declarations.Action.{Action}
 use Rattle.sc_schema.specs.declared.declarations.EntityType.{EntityType}

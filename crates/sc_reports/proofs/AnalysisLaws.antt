@@ -5,12 +5,12 @@ use Rattle.std.specs.List.{AllByRecursion}
 use Rattle.std.specs.Option.{option_or}
 use Rattle.std.proofs.lemmas.List.Elements.{Contains-append_left, Contains-append_right, Contains-append_cases}
 use Rattle.std.proofs.lemmas.Bool.{true_from_ne_false}
-use Rattle.sc_lists.proofs.BoolLaws.{not_true}
+use Rattle.sc_laws.proofs.BoolLaws.{not_true}
 use Rattle.sc_lists.proofs.ListLaws.{all_of_elements}
 use Rattle.sc_ast.specs.declared.policy.Policy.{Policy}
 use Rattle.sc_ast.specs.Literals.{literals}
 use Rattle.sc_clauses.specs.declared.step.Step.{Step}
-use Rattle.sc_closure.specs.Atoms.{IsOverLimit}
+use Rattle.sc_footprint.specs.Atoms.{IsOverLimit}
 use Rattle.sc_footprint.specs.Problems.{Posed, IsPosed, IsProblemOf}
 use Rattle.sc_footprint.specs.Problems as problem
 use Rattle.sc_definitions.specs.Truths.{is_true}

@@ -6,8 +6,8 @@ use Rattle.sc_checker.specs.Verdicts.{AreRules, Rules}
 use Rattle.sc_checker.proofs.StreamLaws.{after_cut}
 use Rattle.sc_inputs.specs.Refusals.{Content, Refusal, RefusesLog, log_limit, log_long, log_unread}
 use Rattle.sc_solver.specs.Solutions.{AreRulesOf}
-use Rattle.sc_theories.specs.Theories.{HasRule, rule_clause}
-use Rattle.sc_theories.specs.declared.rules.Rules.{Rules as AllRules}
+use Rattle.sc_solver.specs.Theories.{HasRule, rule_clause}
+use Rattle.sc_solver.specs.AllRules.{Rules as AllRules}
 use Rattle.sc_reports.specs.LogReading.{ComesTo, HasRead, HasReadAll, Held, IsOnTheWay, LeadsOn, RefusesPiece, SameProblem, TellsHeld, held_after, piece_long, piece_unread}
 
 -- what is left behind a piece is told where what was left is

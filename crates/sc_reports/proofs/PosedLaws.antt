@@ -14,7 +14,7 @@ use Rattle.sc_world.specs.Named.{IsDeclared}
 use Rattle.sc_terms.specs.Trees.{Tree}
 use Rattle.sc_term_laws.proofs.ChoicesLaws.{entity_is}
 use Rattle.sc_symlaws.specs.Written.{IsSetting, IsWritten}
-use Rattle.sc_closure_rules.specs.Goals.{IsGoal}
+use Rattle.sc_footprint.specs.Goals.{IsGoal}
 use Rattle.sc_goal.specs.Goals as compiled
 use Rattle.sc_goal.specs.Queries.{Asked as Query, IsAsked, second}
 use Rattle.sc_question.specs.declared.question.Question.{Question}

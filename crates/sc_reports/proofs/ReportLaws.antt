@@ -2,7 +2,7 @@
 use Rattle.std.proofs.Common.{◌≡◌, ◌+◌, ◌<◌, ◌||◌, ℕ, List, [], ◌∷◌, ◌++◌, map, Bool, Option, Some, None, Result, Ok, Err, length, get_or, take, drop, refl, sym, ap, ◌∙◌, subst, arith, append_assoc, ⊎_elim}
 use Rattle.std.specs.List.{AllByRecursion, list_any}
 use Rattle.std.proofs.lemmas.List.{take_more, take_all, take-append-drop}
-use Rattle.sc_lists.proofs.BoolLaws.{or_false, or_grouped}
+use Rattle.sc_laws.proofs.BoolLaws.{or_false, or_grouped}
 use Rattle.sc_outside.specs.Writes.{appended}
 use Rattle.sc_outside.specs.declared.faults.SinkFault.{SinkFault}
 use Rattle.sc_outside.specs.declared.faults.SinkFault.TheVariants.{Failed, NoMemory}

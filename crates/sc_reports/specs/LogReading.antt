@@ -5,7 +5,7 @@ use Rattle.sc_checker.specs.Streams.{Checker, Checking, after}
 use Rattle.sc_inputs.specs.Refusals.{Refusal, log_file, log_limit, read_fault, too_long}
 use Rattle.sc_checker.specs.Verdicts.{Rules as Tests}
 use Rattle.sc_solver.specs.Solutions.{AreRulesOf}
-use Rattle.sc_theories.specs.declared.rules.Rules.{Rules}
+use Rattle.sc_solver.specs.AllRules.{Rules}
 
 -- a piece of a log isn't read: the count rose, or more is left than may be
 pub data RefusesPiece (left : Left) (room : ℕ) (rose : Type 0) : Refusal → Type 0 where

@@ -9,7 +9,7 @@ use Rattle.sc_question.specs.declared.question.Question.{Question}
 use Rattle.sc_clauses.specs.declared.step.Step.{Step}
 use Rattle.sc_goal.specs.Properties.{has}
 use Rattle.sc_goal.specs.Goals.{goal_term}
-use Rattle.sc_closure.specs.Atoms.{IsOverLimit, most_atoms}
+use Rattle.sc_footprint.specs.Atoms.{IsOverLimit, most_atoms}
 use Rattle.sc_footprint.specs.Problems.{Posed, IsPosed, atoms}
 use Rattle.sc_footprint.specs.Problems as problem
 use Rattle.sc_solver.specs.Solutions.{IsSpent}

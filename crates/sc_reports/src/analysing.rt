@@ -1,7 +1,7 @@
 //! Analyses one environment.
 ghost use Rattle.std.specs.Prelude.{◌≡◌, ◌≤◌, Contains, IfOk, IfErr};
 ghost use Rattle.sc_schema.specs.Declarations.{environments};
-ghost use Rattle.sc_closure.specs.Atoms.{IsRefused};
+ghost use Rattle.sc_footprint.specs.Atoms.{IsRefused};
 ghost use Rattle.sc_footprint.specs.Problems.{IsProblemOf};
 ghost use Rattle.sc_goal.specs.Queries.{second};
 ghost use Rattle.sc_inputs.specs.Refusals.{AreServed};

@@ -2,7 +2,7 @@
 use Rattle.std.proofs.Common.{◌≡◌, ◌||◌, Bool, true, false, not, List, [], ◌∷◌, map, inl, inr, refl, ap, sym, ◌∙◌}
 use Rattle.std.proofs.lemmas.Bool.{or_left, or_right}
 use Rattle.sc_lists.specs.Members.{Has}
-use Rattle.sc_lists.proofs.BoolLaws.{or_first, or_second}
+use Rattle.sc_laws.proofs.BoolLaws.{or_first, or_second}
 use Rattle.sc_world.specs.declared.world.World.{World}
 use Rattle.sc_terms.specs.Trees.{Tree}
 use Rattle.sc_rules.specs.Signed.{Signed, so, unless, given, is_true, holds_in, some_holds, Holds}

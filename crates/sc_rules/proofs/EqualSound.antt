@@ -3,7 +3,7 @@
 use Rattle.std.proofs.Common.{◌≡◌, ◌&&◌, ℕ, zero, suc, Bool, true, false, cond, List, [], map, is_some, Option, Some, None, refl, sym, ap, ◌∙◌}
 use Rattle.std.proofs.lemmas.Bool.{and_parts}
 use Rattle.sc_lists.specs.Members.{Has}
-use Rattle.sc_lists.proofs.BoolLaws.{never}
+use Rattle.sc_laws.proofs.BoolLaws.{never}
 use Rattle.sc_values.specs.declared.value.Value.{Value}
 use Rattle.sc_world.specs.declared.world.World.{World}
 use Rattle.sc_sorts.specs.declared.sort.Sort.{Sort}

@@ -5,7 +5,7 @@ use Rattle.std.proofs.lemmas.Bool.{and_parts}
 use Rattle.std.specs.List.{AllByRecursion, flat_map, list_all}
 use Rattle.std.specs.Str.{IsUtf8, chars, encode_utf8_all}
 use Rattle.sc_lists.specs.Members.{Has}
-use Rattle.sc_lists.proofs.BoolLaws.{or_first, or_second, never}
+use Rattle.sc_laws.proofs.BoolLaws.{or_first, or_second, never}
 use Rattle.sc_languages.specs.Strings.{IsText, AreDistinct}
 use Rattle.sc_languages.proofs.TextLaws.{text_chars}
 use Rattle.sc_pattern.specs.Language.{is_match}

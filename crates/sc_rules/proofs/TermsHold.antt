@@ -8,9 +8,9 @@ use Rattle.std.proofs.lemmas.Map.Views.{Contains-from_lookup}
 use Rattle.std.proofs.lemmas.Slice.Eq.{bytes_eq-Decides}
 use Rattle.sc_lists.proofs.MemberLaws.{Has-from_Contains, Contains-from_Has}
 use Rattle.sc_lists.specs.Members.{Has}
-use Rattle.sc_lists.proofs.BoolLaws.{and_first, and_second, never}
+use Rattle.sc_laws.proofs.BoolLaws.{and_first, and_second, never}
 use Rattle.sc_lists.proofs.ListLaws.{all_element, contains_map}
-use Rattle.sc_lists.proofs.OptionLaws.{same_some, some_of, option_map_some}
+use Rattle.sc_laws.proofs.OptionLaws.{same_some, some_of, option_map_some}
 use Rattle.sc_lists.proofs.TextLaws.{bytes_eq_true}
 use Rattle.sc_names.specs.declared.uid.Uid.{Uid}
 use Rattle.sc_schema.specs.declared.declarations.Action.{Action}

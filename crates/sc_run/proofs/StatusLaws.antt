@@ -4,7 +4,7 @@ use Rattle.std.specs.Bool.{⊤}
 use Rattle.std.specs.List.{AllByRecursion}
 use Rattle.std.proofs.lemmas.Bool.{or_cases}
 use Rattle.std.proofs.lemmas.List.Elements.{Contains-append_left}
-use Rattle.sc_lists.proofs.BoolLaws.{or_first, or_second}
+use Rattle.sc_laws.proofs.BoolLaws.{or_first, or_second}
 use Rattle.sc_replay.specs.Reports as outcome
 use Rattle.sc_schema.specs.declared.declarations.Env.{Env}
 use Rattle.sc_schema.specs.Declarations.{Declarations, environments}

@@ -10,7 +10,7 @@ use Rattle.std.specs.Option.{option_map_or}
 use Rattle.std.specs.Ordering.{nat_cmp}
 use Rattle.std.specs.declared.cmp.Ordering.{Ordering}
 use Rattle.sc_lists.proofs.ListLaws.{contains_place}
-use Rattle.sc_lists.proofs.OptionLaws.{same_some}
+use Rattle.sc_laws.proofs.OptionLaws.{same_some}
 use Rattle.sc_lists.proofs.OrderingLaws.{is_at_itself}
 use Rattle.sc_graphs.specs.Reaching.{Reaches}
 use Rattle.sc_graphs.specs.Graphs.{has, Follows}

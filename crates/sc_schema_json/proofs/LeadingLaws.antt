@@ -1,6 +1,6 @@
 -- What leads to what in a finite graph can be tested.
 use Rattle.std.proofs.Common.{◌≡◌, ◌⊎◌, List, [], ◌∷◌, Bool, true, ◌&&◌, ◌||◌, Contains, inl, inr, sym, subst}
-use Rattle.sc_lists.proofs.BoolLaws.{and_first, and_second}
+use Rattle.sc_laws.proofs.BoolLaws.{and_first, and_second}
 use Rattle.sc_lists.proofs.ListLaws.{contains_nothing, contains_split}
 use Rattle.std.specs.Bool.{Decides}
 use Rattle.std.proofs.lemmas.Bool.{or_cases, or_left, or_right, and_from}

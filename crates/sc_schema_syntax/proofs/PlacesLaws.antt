@@ -18,7 +18,7 @@ use Rattle.sc_json_views.specs.Steps.{Step, to_member, to_item, word, pointer, H
 use Rattle.sc_json_views.specs.Trees.{HasTree, no_tree, in_tree, keys, IsTidy, AreTidyItems, AreTidyMembers}
 use Rattle.sc_json_views.proofs.TidyTreeLaws.{tree_tidy}
 use Rattle.sc_json_views.proofs.TreesLaws.{one_tree}
-use Rattle.sc_lists.proofs.OptionLaws.{same_some}
+use Rattle.sc_laws.proofs.OptionLaws.{same_some}
 use Rattle.sc_lists.proofs.TextLaws.{bytes_eq_true}
 use Rattle.sc_names.specs.Uids.{text_cmp}
 use Rattle.sc_schema_syntax.specs.declared.fault.SchemaFault.{SchemaFault}

@@ -5,7 +5,7 @@ use Rattle.std.proofs.lemmas.List.{get_or_default, reverse-append, take_more, le
 use Rattle.std.proofs.Math.ListN.{set, length-set, get_or-eq_default, get_or-map}
 use Rattle.std.proofs.lemmas.List.Elements.{Contains-append_left, Contains-push, Contains-push_cases}
 use Rattle.std.proofs.lemmas.Bool.{false_from_ne_true}
-use Rattle.sc_lists.proofs.BoolLaws.{and_first}
+use Rattle.sc_laws.proofs.BoolLaws.{and_first}
 use Rattle.sc_lists.proofs.ListLaws.{contains_nothing, contains_first}
 use Rattle.sc_clauses.specs.Clauses.{negation, Clause}
 use Rattle.sc_clauses.specs.declared.lit.Lit.{Lit}

@@ -1,7 +1,7 @@
 -- Clauses that are copied one after the other.
 use Rattle.std.proofs.Common.{◌≡◌, ◌+◌, ◌<◌, ℕ, zero, suc, List, [], ◌∷◌, ◌++◌, take, length, slice_get, Some, None, refl, ap, subst, arith}
 use Rattle.std.specs.List.{Contains}
-use Rattle.sc_lists.proofs.OptionLaws.{same_some}
+use Rattle.sc_laws.proofs.OptionLaws.{same_some}
 use Rattle.sc_clauses.specs.Clauses.{Clause}
 use Rattle.sc_search.specs.Steps.{AreListed}
 

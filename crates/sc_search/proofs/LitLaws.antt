@@ -4,7 +4,7 @@ use Rattle.std.specs.List.{Contains}
 use Rattle.std.proofs.lemmas.Bool.Decides.{Decides-eqb, Decides-ltb, nat_tests}
 use Rattle.std.proofs.lemmas.Bool.{or_cases}
 use Rattle.sc_lists.proofs.ListLaws.{contains_first, contains_nothing}
-use Rattle.sc_lists.proofs.BoolLaws.{and_first, and_second}
+use Rattle.sc_laws.proofs.BoolLaws.{and_first, and_second}
 use Rattle.sc_clauses.specs.Clauses.{Clause, lit_eq, is_in, contained}
 use Rattle.sc_clauses.specs.declared.lit.Lit.{Lit}
 use Rattle.sc_clauses.proofs.LitLaws.{lit_eq-true}

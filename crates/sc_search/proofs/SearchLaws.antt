@@ -5,7 +5,7 @@ use Rattle.std.specs.List.{Contains}
 use Rattle.std.proofs.lemmas.Bool.{ne_eqb, false_from_ne_true}
 use Rattle.std.proofs.lemmas.List.{length-append, length-map, length-drop, append-nil, append_assoc, map-append}
 use Rattle.std.proofs.lemmas.List.Elements.{Contains-append_left}
-use Rattle.sc_lists.proofs.BoolLaws.{and_second, and_first}
+use Rattle.sc_laws.proofs.BoolLaws.{and_second, and_first}
 use Rattle.sc_lists.proofs.ListLaws.{contains_nothing}
 use Rattle.sc_clauses.specs.Assignments.{Assignment, value_of, is_false, is_false_at, falsifies}
 use Rattle.sc_clauses.specs.Clauses.{Clause, negation}

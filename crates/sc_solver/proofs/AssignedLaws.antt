@@ -1,7 +1,7 @@
 -- What an assignment that falsifies no defining clause says of terms: `true` is true, a literal has the truth of its term, and the
 -- goal's is true.
 use Rattle.std.proofs.Common.{◌≡◌, ◌≤◌, ◌&&◌, ◌||◌, ◌==◌, ◌++◌, ℕ, Bool, true, false, not, inl, List, [], ◌∷◌, filter, flat_map, length, Contains, Option, Some, None, IsSome, unwrap_or, refl, sym, ap, ◌∙◌}
-use Rattle.sc_lists.proofs.BoolLaws.{true_or_false}
+use Rattle.sc_laws.proofs.BoolLaws.{true_or_false}
 use Rattle.sc_lists.proofs.MemberLaws.{Has-left, Has-right, Has-flat_map, Contains-from_Has}
 use Rattle.sc_lists.specs.Members.{Has}
 use Rattle.sc_clauses.specs.declared.lit.Lit.{Lit}
@@ -19,10 +19,10 @@ use Rattle.sc_footprint.specs.Problems.{Posed, IsPosed, closed_terms, atoms, ato
 use Rattle.sc_footprint.specs.Definitions.{is_tautology, definition_clauses, address_clauses, is_address, defining}
 use Rattle.sc_footprint.specs.Theories.{IsClauseOf}
 use Rattle.sc_footprint.proofs.TruthLaws.{holds_positive}
-use Rattle.sc_instances.proofs.LiteralLaws.{literal_truth}
-use Rattle.sc_instances.proofs.LiteralLaws as literals
+use Rattle.sc_consistency.proofs.LiteralLaws.{literal_truth}
+use Rattle.sc_consistency.proofs.LiteralLaws as literals
 use Rattle.sc_rebuilding.specs.Assignments.{lit}
-use Rattle.sc_models.specs.Models.{truth_in}
+use Rattle.sc_consistency.specs.Models.{truth_in}
 use Rattle.sc_solver.proofs.ClauseLaws.{clause_true}
 use Rattle.sc_solver.proofs.NumberLaws.{atom_there}
 

@@ -1,6 +1,6 @@
 -- Where each listed atom has a value, a clause is falsified just where it isn't true.
 use Rattle.std.proofs.Common.{◌≡◌, ◌≤◌, ◌&&◌, ◌||◌, ℕ, Bool, true, false, not, inl, inr, [], ◌∷◌, length, Option, Some, refl, sym, ap, ◌∙◌, arith}
-use Rattle.sc_lists.proofs.BoolLaws.{not_not}
+use Rattle.sc_laws.proofs.BoolLaws.{not_not}
 use Rattle.sc_lists.proofs.MemberLaws.{Contains-from_Has}
 use Rattle.sc_lists.specs.Members.{Has}
 use Rattle.sc_clauses.specs.declared.lit.Lit.{Lit}

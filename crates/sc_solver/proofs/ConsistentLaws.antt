@@ -3,8 +3,8 @@ use Rattle.std.proofs.Common.{◌≡◌, false, ap, ◌∙◌}
 use Rattle.sc_clauses.specs.Assignments.{Assignment, falsifies}
 use Rattle.sc_footprint.specs.Problems.{Posed, IsPosed, goal_term}
 use Rattle.sc_consistency.specs.Laws.{HasSmallPlaces, FalsifiesNoInstance, InstancesSuffice}
-use Rattle.sc_models.specs.Laws.{TruthsAreConsistent}
-use Rattle.sc_models.specs.Models.{truth_in}
+use Rattle.sc_consistency.specs.ModelLaws.{TruthsAreConsistent}
+use Rattle.sc_consistency.specs.Models.{truth_in}
 use Rattle.sc_rebuilding.specs.Consistent as assigned
 use Rattle.sc_theories.specs.FamilyLaws.{equal_family, set_family, entity_family, string_family}
 use Rattle.sc_theories.specs.OtherLaws.{of_equal, of_set, of_entity, of_string}

@@ -4,7 +4,7 @@ use Rattle.std.specs.List.{AllByRecursion, Contains}
 use Rattle.std.specs.Str.{IsUtf8}
 use Rattle.std.proofs.lemmas.Bool.{and_parts}
 use Rattle.std.proofs.lemmas.Str.{IsUtf8-nil}
-use Rattle.sc_lists.proofs.BoolLaws.{not_true}
+use Rattle.sc_laws.proofs.BoolLaws.{not_true}
 use Rattle.sc_lists.proofs.ListLaws.{all_element, contains_place}
 use Rattle.sc_lists.proofs.MemberLaws.{Contains-from_Has}
 use Rattle.sc_lists.specs.Members.{Has}
@@ -28,9 +28,9 @@ use Rattle.sc_terms.specs.Values.{truth}
 use Rattle.sc_terms.proofs.FoldValues.{truth_yes}
 use Rattle.sc_term_laws.proofs.JudgingLaws.{sort_is}
 use Rattle.sc_definitions.specs.Truths.{is_true}
-use Rattle.sc_closure.specs.Atoms.{is_atom, is_bool, is_opposite}
-use Rattle.sc_closure_rules.specs.Closure.{Closed, of_goal}
-use Rattle.sc_closure_rules.specs.Goals.{has_pick}
+use Rattle.sc_footprint.specs.Atoms.{is_atom, is_bool, is_opposite}
+use Rattle.sc_footprint.specs.Closure.{Closed, of_goal}
+use Rattle.sc_footprint.specs.Goals.{has_pick}
 use Rattle.sc_rules.proofs.MemberLaws.{filter_within, filter_passes}
 use Rattle.sc_footprint.specs.Definitions.{defining}
 use Rattle.sc_footprint.specs.Problems.{Posed, IsPosed, goal_term, closed_terms, atoms, atom_number, numbered, number_among, literal_in}
@@ -38,12 +38,12 @@ use Rattle.sc_footprint.specs.Theories.{IsClauseOf}
 use Rattle.sc_footprint.specs.Truths.{is_true_at, truths, IsWorldOf, Satisfies}
 use Rattle.sc_footprint.proofs.NumberingLaws.{within_count}
 use Rattle.sc_footprint.proofs.TruthLaws.{bool_sort, holds_positive}
-use Rattle.sc_instances.proofs.LiteralLaws.{IsLiteral, of_false, of_not, of_atom, literal_is}
+use Rattle.sc_consistency.proofs.LiteralLaws.{IsLiteral, of_false, of_not, of_atom, literal_is}
 use Rattle.sc_rebuilding.specs.Assignments.{lit}
 use Rattle.sc_rebuilding.specs.Laws.{TruthsAreRight, PlainIsCovered}
 use Rattle.sc_rebuilding.specs.Models.{IsModel}
 use Rattle.sc_rebuilding.specs.Vals.{Model}
-use Rattle.sc_models.specs.Models.{truth_in, model}
+use Rattle.sc_consistency.specs.Models.{truth_in, model}
 use Rattle.sc_rebuilt_worlds.specs.Laws.{AreTexts, CanBeRebuilt, RebuiltHoldsModel}
 use Rattle.sc_rebuilt_worlds.specs.Rebuilt.{request_of, given_of, IsRebuilt}
 use Rattle.sc_solver.specs.Rebuilding.{IsConsistent, HasTruths}

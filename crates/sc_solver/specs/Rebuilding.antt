@@ -2,7 +2,7 @@
 use Rattle.std.specs.Prelude.{◌≡◌, ◌≤◌, ℕ, false, List, Some, IfSome, length}
 use Rattle.sc_world.specs.declared.world.World.{World}
 use Rattle.sc_clauses.specs.Assignments.{Assignment, value_of}
-use Rattle.sc_closure_rules.specs.Goals.{has_pick}
+use Rattle.sc_footprint.specs.Goals.{has_pick}
 use Rattle.sc_footprint.specs.Problems.{Posed, IsPosed, atoms, numbered}
 use Rattle.sc_footprint.specs.Truths.{truths, Satisfies}
 use Rattle.sc_finding.specs.Findings as found

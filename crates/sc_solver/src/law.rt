@@ -2,7 +2,7 @@
 ghost use Rattle.sc_solver.specs.Rebuilding.{TruthsAreConsistent};
 
 use sc_footprint::problem_laws;
-use th_defs::defining_laws;
+use sc_theories::defining_laws;
 
 /// The truths of the listed atoms in a well-formed world in which the goal is true are a consistent
 /// assignment.

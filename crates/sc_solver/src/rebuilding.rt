@@ -4,22 +4,21 @@ ghost use Rattle.std.specs.List.{AllByRecursion};
 ghost use Rattle.std.specs.Str.{IsUtf8};
 ghost use Rattle.sc_footprint.specs.Problems.{goal_term};
 ghost use Rattle.sc_footprint.specs.Truths.{IsWorldOf, Satisfies};
-ghost use Rattle.sc_models.specs.Models.{model};
+ghost use Rattle.sc_consistency.specs.Models.{model};
 ghost use Rattle.sc_rebuilding.specs.Models.{IsModel};
 ghost use Rattle.sc_solver.specs.Rebuilding.{IsConsistent, HasTruths};
 
 use sc_assigned_worlds::{given_of, request_of};
 use sc_clauses::Assignment;
-use sc_consistency::{are_places_small, consistency_laws};
+use sc_consistency::{are_places_small, consistency_laws, model_laws};
 use sc_footprint::Problem;
 use sc_lists::Text;
-use sc_models::model_laws;
 use sc_naming::names_of;
 use sc_rebuilding::rebuilding_laws;
 use sc_rebuilt_worlds::rebuilt_laws;
+use sc_theories::defining_laws;
 use sc_world::{World, world_with};
 use std::alloc::{AllocError, Global};
-use th_defs::defining_laws;
 
 /// The world of an assignment with names for closed strings and entities.
 fn world_of(

@@ -4,11 +4,9 @@ ghost use Rattle.sc_sorts.specs.declared.sort.Sort.{Sort as AnySort};
 ghost use Rattle.sc_sorts.specs.Defaults.{default_field, default_of, default_uid, is_option};
 
 use crate::sort::Sort;
-use sc_decimal::Decimal;
-use sc_ip::Ip;
 use sc_lists::{Seq, Text};
 use sc_names::{Name, Uid};
-use sc_values::{Rec, Value};
+use sc_values::{Decimal, Ip, Rec, Value};
 use std::alloc::{AllocError, Global};
 
 /// The default of a sort: what is false, zero or empty; of entities the least that is listed, and

@@ -1,6 +1,6 @@
 -- `if`, `||` and `&&` of operands that keep what their types say.
 use Rattle.std.proofs.Common.{◌≡◌, [], ◌++◌, Bool, true, false, if◌then◌else◌, Option, Some, unwrap_or, Ok, Err, IfOk, IsTrue, refl, sym, ap, subst, ◌∙◌}
-use Rattle.sc_lists.proofs.BoolLaws.{never}
+use Rattle.sc_laws.proofs.BoolLaws.{never}
 use Rattle.sc_ast.specs.declared.place.Place.{Place}
 use Rattle.sc_schema.specs.declared.ty.Ty.{Ty, Ty-F, out-Ty}
 use Rattle.sc_schema.specs.declared.ty.Ty.TheVariants as types

@@ -5,7 +5,7 @@ use Rattle.std.specs.Option.{option_and_then}
 use Rattle.std.specs.Str.{bytes_eq}
 use Rattle.std.proofs.lemmas.Slice.Eq.{bytes_eq-Decides}
 use Rattle.std.proofs.lemmas.Bool.{or_from, or_parts, false_from_ne_true}
-use Rattle.sc_lists.proofs.BoolLaws.{same_truth}
+use Rattle.sc_laws.proofs.BoolLaws.{same_truth}
 use Rattle.sc_lists.proofs.ListLaws.{list_any_false, contains_nothing, contains_split, contains_rest, contains_first}
 use Rattle.sc_ast.specs.declared.expr.Expr.{Expr, Expr-F, out-Expr, map-Expr, fold_out-Expr}
 use Rattle.sc_ast.specs.declared.expr.Expr.TheOpen as e

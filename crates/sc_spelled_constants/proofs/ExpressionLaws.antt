@@ -8,7 +8,7 @@ use Rattle.std.proofs.lemmas.Str.{IsUtf8-append, IsUtf8-from_ascii}
 use Rattle.std.proofs.lemmas.Str.Ascii.{IsAscii-nil, IsAscii-cons}
 use Rattle.std.specs.Prelude.{codes}
 use Rattle.sc_lists.proofs.ListLaws.{all_append}
-use Rattle.sc_lists.proofs.NumberLaws.{at_most}
+use Rattle.sc_laws.proofs.NumberLaws.{at_most}
 use Rattle.sc_pattern.specs.declared.part.Part.{Part}
 use Rattle.sc_values.specs.Proper.{IsUidText, IsProperLevel}
 use Rattle.sc_values.proofs.LevelLaws as level

@@ -8,7 +8,7 @@ use Rattle.std.proofs.lemmas.Bool.{and_from}
 use Rattle.std.proofs.lemmas.Bool.Decides.{nat_tests}
 use Rattle.std.proofs.lemmas.List.{take-append-drop}
 use Rattle.std.proofs.lemmas.Str.{IsUtf8-nil, IsUtf8-encode, IsUtf8-append, IsUtf8-from_is_utf8, scalars-chars}
-use Rattle.sc_lists.proofs.BoolLaws.{and_first, and_second}
+use Rattle.sc_laws.proofs.BoolLaws.{and_first, and_second}
 use Rattle.sc_lists.proofs.ListLaws.{contains_place, contains_from_map}
 use Rattle.sc_pattern.specs.declared.part.Part.{Part}
 use Rattle.sc_names.specs.Names.{is_word, is_reserved, is_ident}

@@ -12,7 +12,7 @@ use Rattle.sc_terms.specs.Trees.{Tree}
 use Rattle.sc_terms.specs.TreeSorts.{tree_sort}
 use Rattle.sc_rules.specs.Strings.{Pattern}
 use Rattle.sc_rules.proofs.MemberLaws.{filter_kept, filter_passes, filter_within}
-use Rattle.sc_closure_rules.specs.Closure.{Closed}
+use Rattle.sc_footprint.specs.Closure.{Closed}
 use Rattle.sc_footprint.specs.Problems.{Posed, IsPosed, goal_term, closed_terms}
 use Rattle.sc_models.specs.Models.{truth_in}
 use Rattle.sc_rebuilding.specs.Consistent.{IsConsistent}

@@ -2,9 +2,9 @@
 use Rattle.std.proofs.Common.{◌≡◌, ◌↔◌, ◌⊎◌, ◌++◌, inl, inr, Bool, true, false, cond, List, [], ◌∷◌, Option, Some, None, refl, sym, ap, ◌∙◌, subst}
 use Rattle.std.proofs.lemmas.Bool.{eqb-true}
 use Rattle.std.specs.List.{list_any}
-use Rattle.sc_lists.proofs.BoolLaws.{and_first, and_second}
+use Rattle.sc_laws.proofs.BoolLaws.{and_first, and_second}
 use Rattle.sc_lists.proofs.MemberLaws.{Has-left, Has-last, Has-push}
-use Rattle.sc_lists.proofs.OptionLaws.{same_some}
+use Rattle.sc_laws.proofs.OptionLaws.{same_some}
 use Rattle.sc_lists.specs.Members.{Has}
 use Rattle.sc_pattern.specs.declared.part.Part.{Part}
 use Rattle.sc_pattern.specs.declared.part.Part.TheVariants.{Star, Char}
@@ -14,7 +14,7 @@ use Rattle.sc_nodes.specs.declared.node.UnaryOp.TheVariants.{Like}
 use Rattle.sc_terms.specs.Trees.{Tree, one}
 use Rattle.sc_rules.specs.Strings.{Pattern}
 use Rattle.sc_rules.proofs.MemberLaws.{any_first}
-use Rattle.sc_closure_rules.specs.Closure.{Closed}
+use Rattle.sc_footprint.specs.Closure.{Closed}
 use Rattle.sc_rebuilding.specs.Texts.{ArePatterns}
 use Rattle.sc_string_names.specs.Patterns.{pattern_in, same_part, same_pattern, put_pattern, put_if, put_patterns}
 

@@ -1,7 +1,7 @@
 -- The number of a place is the next.
 use Rattle.std.proofs.Common.{◌≡◌, ◌==◌, ◌+◌, ◌-◌, ℕ, zero, suc, Bool, false, cond, List, [], ◌∷◌, Option, Some, None, get_or, slice_get, refl, sym, ap, ◌∙◌, arith}
 use Rattle.std.proofs.lemmas.Bool.Decides.{nat_tests}
-use Rattle.sc_lists.proofs.OptionLaws.{same_some}
+use Rattle.sc_laws.proofs.OptionLaws.{same_some}
 use Rattle.sc_footprint.specs.Problems.{numbered}
 
 got : (ns : List ℕ) (i n : ℕ) → slice_get ns i ≡ Some n → n ≡ get_or ns i n

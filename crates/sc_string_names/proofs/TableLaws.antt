@@ -4,7 +4,7 @@ use Rattle.std.specs.Str.{chars}
 use Rattle.sc_clauses.specs.Clauses.{bool_eq}
 use Rattle.sc_clauses.proofs.LitLaws.{bool_eq-true}
 use Rattle.sc_languages.specs.Strings.{AreStrings}
-use Rattle.sc_lists.proofs.BoolLaws.{and_first, and_second}
+use Rattle.sc_laws.proofs.BoolLaws.{and_first, and_second}
 use Rattle.sc_lists.proofs.ListLaws.{all_append}
 use Rattle.sc_lists.specs.Members.{Has}
 use Rattle.sc_terms.specs.Trees.{Tree}

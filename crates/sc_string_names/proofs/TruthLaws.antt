@@ -1,8 +1,8 @@
 -- The truth of a term is that of its literal.
 use Rattle.std.proofs.Common.{◌≡◌, ◌==◌, ℕ, Bool, true, false, not, cond, Option, Some, None, IfSome, refl, sym, ap, ◌∙◌, arith}
 use Rattle.std.proofs.lemmas.Bool.{eqb-true}
-use Rattle.sc_lists.proofs.BoolLaws.{not_not}
-use Rattle.sc_lists.proofs.OptionLaws.{same_some}
+use Rattle.sc_laws.proofs.BoolLaws.{not_not}
+use Rattle.sc_laws.proofs.OptionLaws.{same_some}
 use Rattle.sc_lists.specs.Members.{Has}
 use Rattle.sc_clauses.specs.declared.lit.Lit.{Lit}
 use Rattle.sc_clauses.specs.Assignments.{Assignment}
@@ -16,7 +16,7 @@ use Rattle.sc_terms.specs.Tables.{tree}
 use Rattle.sc_terms.specs.Trees.{Tree, leaf, one}
 use Rattle.sc_terms.proofs.OrderLaws.{tree_cmp_level}
 use Rattle.sc_rules.specs.Strings.{Pattern}
-use Rattle.sc_closure.specs.Atoms.{is_opposite}
+use Rattle.sc_footprint.specs.Atoms.{is_opposite}
 use Rattle.sc_footprint.specs.Problems.{Posed, IsPosed, atoms, numbered, atom_number, literal, literal_in}
 use Rattle.sc_footprint.proofs.NumberingLaws.{numbered_back}
 use Rattle.sc_instances.proofs.LiteralLaws.{IsLiteral, of_false, of_not, of_atom, literal_is, number_there, not_in_table, not_listed, first, literal_truth as literal_of_truth}

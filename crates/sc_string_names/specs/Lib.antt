@@ -1,3 +1,4 @@
+pub use Rattle.sc_models.specs.Models
 pub mod Truths
 pub mod Numbers
 pub mod Patterns

@@ -7,9 +7,9 @@ use Rattle.std.specs.Bool.{MatchBool}
 use Rattle.std.specs.Char.{IsScalar}
 use Rattle.std.specs.List.{list_any}
 use Rattle.sc_lists.proofs.MemberLaws.{Has-left, Has-right, map-Has, list_any-Has}
-use Rattle.sc_lists.proofs.NumberLaws.{nat_eq_true, eqb_false}
+use Rattle.sc_laws.proofs.NumberLaws.{nat_eq_true, eqb_false}
 use Rattle.sc_lists.specs.Members.{Has}
-use Rattle.sc_lists.proofs.BoolLaws.{not_is_true}
+use Rattle.sc_laws.proofs.BoolLaws.{not_is_true}
 use Rattle.sc_pattern.proofs.TestLaws.{is_match_decides}
 use Rattle.sc_pattern.specs.Language.{IsMatch, is_match, is_end, somewhere}
 use Rattle.sc_pattern.specs.declared.part.Part.TheVariants.{Star, Char}

@@ -1,7 +1,7 @@
 -- `in` of a declared action and of entities that are written: the compiler decides where typing does, and only there.
 use Rattle.std.proofs.Common.{◌≡◌, ◌&&◌, ℕ, List, [], ◌∷◌, map, Bool, true, false, Option, Some, None, option_map, is_some, Ok, IfOk, Result, refl, ap, sym, subst, ◌∙◌}
 use Rattle.std.specs.Option.{option_and_then}
-use Rattle.sc_lists.proofs.BoolLaws.{and_first, and_second}
+use Rattle.sc_laws.proofs.BoolLaws.{and_first, and_second}
 use Rattle.sc_ast.specs.declared.expr.Expr.{Expr, Expr-F, out-Expr, out-roll-Expr}
 use Rattle.sc_ast.specs.declared.expr.Expr.TheOpen as e
 use Rattle.sc_ast.specs.declared.expr.Expr.TheVariants as expr
@@ -33,7 +33,7 @@ use Rattle.sc_typing_laws.specs.Derivations.{Derives}
 use Rattle.sc_nodes.specs.declared.node.Literal.{Literal as Constant}
 use Rattle.sc_symeval.specs.Codes.{text_at, spelled}
 use Rattle.sc_codes.specs.Objects.{uid_at, is_declared_action, is_uid, are_uids, are_some_uids, is_group_in, is_decided}
-use Rattle.sc_lists.proofs.OptionLaws.{some_is}
+use Rattle.sc_laws.proofs.OptionLaws.{some_is}
 
 -- what is derived of a literal is that literal
 abbrev pub LiteralLaw : Type 0

@@ -4,7 +4,7 @@ use Rattle.std.specs.List.{AllByRecursion, list_any, filter}
 use Rattle.std.specs.Str.{bytes_eq}
 use Rattle.std.proofs.lemmas.Bool.{false_from_ne_true}
 use Rattle.std.proofs.lemmas.Slice.Eq.{bytes_eq-Decides}
-use Rattle.sc_lists.proofs.BoolLaws.{same_truth, or_false}
+use Rattle.sc_laws.proofs.BoolLaws.{same_truth, or_false}
 use Rattle.sc_lists.proofs.ListLaws.{any_contained}
 use Rattle.sc_names.specs.declared.uid.Uid.{Uid}
 use Rattle.sc_schema.specs.declared.declarations.Env.{Env}

@@ -11,7 +11,7 @@ use Rattle.sc_ast.specs.declared.operator.UnaryOperator.TheVariants.{Negate, IsE
 use Rattle.sc_ip.specs.Addresses.{is_version_4, is_loopback, is_multicast}
 use Rattle.sc_decimal.specs.DecimalValue.{decimal_of}
 use Rattle.sc_ip.specs.IpValue.{ip_of}
-use Rattle.sc_lists.proofs.BoolLaws.{never}
+use Rattle.sc_laws.proofs.BoolLaws.{never}
 use Rattle.sc_names.specs.declared.uid.Uid.{Uid}
 use Rattle.sc_schema.specs.declared.declarations.Env.{Env}
 use Rattle.sc_schema.specs.declared.ty.Ty.{Ty}

@@ -22,7 +22,7 @@ use Rattle.sc_eval.specs.Outcomes.{Outcome, ◌>>=◌, fits, of_bool, of_long}
 use Rattle.sc_eval.specs.Collections.{is_member}
 use Rattle.sc_eval.specs.Operators.{is_empty}
 use Rattle.sc_eval.proofs.CollectionsLaws.{any-decides}
-use Rattle.sc_lists.proofs.BoolLaws.{same_truth}
+use Rattle.sc_laws.proofs.BoolLaws.{same_truth}
 use Rattle.sc_sorts.specs.Inside.{member_sort}
 use Rattle.sc_nodes.specs.declared.node.Literal.TheVariants as literal
 use Rattle.sc_nodes.specs.declared.node.UnaryOp.TheVariants as unary

@@ -1,6 +1,6 @@
 -- An operator on two terms, and a choice, make a term just where their tests pass.
 use Rattle.std.proofs.Common.{◌≡◌, ◌&&◌, ℕ, List, Bool, true, Some, sym, ap, ◌∙◌, subst}
-use Rattle.sc_lists.proofs.BoolLaws.{and_first, and_second}
+use Rattle.sc_laws.proofs.BoolLaws.{and_first, and_second}
 use Rattle.sc_names.specs.declared.uid.Uid.{Uid}
 use Rattle.sc_schema.specs.declared.declarations.Env.{Env}
 use Rattle.sc_schema.specs.declared.ty.Ty.{Ty}
@@ -22,7 +22,7 @@ use Rattle.sc_term_laws.specs.Tests.{is_bool, is_long, is_string, is_ip, is_numb
 use Rattle.sc_term_laws.proofs.JudgingLaws.{sort_is}
 use Rattle.sc_term_laws.proofs.TestLaws as test
 use Rattle.std.specs.Cmp.Derive.{both_true}
-use Rattle.sc_lists.proofs.NumberLaws.{at_most}
+use Rattle.sc_laws.proofs.NumberLaws.{at_most}
 use Rattle.sc_term_laws.proofs.UnaryJudged.{at_its_sort, of_sort}
 
 module _ (d : Declarations) (env : Env) (written : List Uid) where

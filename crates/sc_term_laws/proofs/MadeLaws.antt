@@ -30,7 +30,7 @@ use Rattle.sc_term_laws.specs.Judging.{IsTermOf, HaveFields, HasPlace}
 use Rattle.sc_term_laws.specs.Judging as judged
 use Rattle.sc_term_laws.proofs.JudgingLaws.{sort_is}
 use Rattle.std.specs.Cmp.Derive.{both_true}
-use Rattle.sc_lists.proofs.BoolLaws.{not_is_false}
+use Rattle.sc_laws.proofs.BoolLaws.{not_is_false}
 use Rattle.sc_terms.proofs.FoldValues.{under}
 
 -- ---- what isn't known stays

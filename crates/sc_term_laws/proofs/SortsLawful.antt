@@ -5,7 +5,7 @@ use Rattle.std.specs.Map.{keys_of}
 use Rattle.std.specs.Str.{bytes_eq, IsUtf8}
 use Rattle.std.proofs.lemmas.Slice.Eq.{bytes_eq-Decides}
 use Rattle.sc_lists.proofs.ListLaws.{all_element, contains_nothing, contains_from_map, joined_from, any_contained}
-use Rattle.sc_lists.proofs.OptionLaws.{same_some, some_of}
+use Rattle.sc_laws.proofs.OptionLaws.{same_some, some_of}
 use Rattle.sc_lists.proofs.TextLaws.{bytes_eq_true}
 use Rattle.sc_names.specs.declared.uid.Uid.{Uid}
 use Rattle.sc_schema.specs.declared.ty.Presence.{Presence}

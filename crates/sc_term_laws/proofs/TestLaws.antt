@@ -7,7 +7,7 @@ use Rattle.std.proofs.lemmas.Bool.Decides.{nat_tests}
 use Rattle.std.proofs.lemmas.Slice.Eq.{bytes_eq-Decides}
 use Rattle.sc_lists.proofs.ListLaws.{contains_first, contains_rest, contains_split, contains_nothing}
 use Rattle.sc_lists.proofs.TextLaws.{bytes_eq_true}
-use Rattle.sc_lists.proofs.NumberLaws.{nat_lt_true}
+use Rattle.sc_laws.proofs.NumberLaws.{nat_lt_true}
 use Rattle.sc_schema.specs.declared.ty.Ty.{Ty}
 use Rattle.sc_schema.specs.Declarations.{Declarations, ancestor_types}
 use Rattle.sc_sorts.specs.declared.sort.Sort.{Sort, Sort-F, out-Sort, roll-Sort, roll-out-Sort}

@@ -1,6 +1,6 @@
 -- An operator on a term makes a term just where its test passes.
 use Rattle.std.proofs.Common.{◌≡◌, ◌&&◌, ℕ, List, Bool, true, Option, Some, nat_le, nat_lt, is_some, refl, sym, ap, ◌∙◌, subst}
-use Rattle.sc_lists.proofs.BoolLaws.{and_first, and_second}
+use Rattle.sc_laws.proofs.BoolLaws.{and_first, and_second}
 use Rattle.sc_names.specs.declared.uid.Uid.{Uid}
 use Rattle.sc_schema.specs.declared.declarations.Env.{Env}
 use Rattle.sc_schema.specs.declared.ty.Ty.{Ty}
@@ -25,8 +25,8 @@ use Rattle.sc_term_laws.specs.Unfolded.{stays_field}
 use Rattle.sc_term_laws.proofs.JudgingLaws.{sort_is, arithmetic_sort, field_of_record}
 use Rattle.sc_term_laws.proofs.TestLaws as test
 use Rattle.std.specs.Cmp.Derive.{both_true}
-use Rattle.sc_lists.proofs.OptionLaws.{some_is}
-use Rattle.sc_lists.proofs.NumberLaws.{at_most, nat_lt_true}
+use Rattle.sc_laws.proofs.OptionLaws.{some_is}
+use Rattle.sc_laws.proofs.NumberLaws.{at_most, nat_lt_true}
 
 module _ (d : Declarations) (env : Env) (written : List Uid) where
   abbrev Is : Sort → Tree → Type 0

@@ -1,7 +1,7 @@
 -- What stays is what the constructor makes.
 use Rattle.std.proofs.Common.{◌≡◌, ℕ, List, true, false, ◌||◌, Option, Some, None, refl}
 use Rattle.std.specs.Ordering.{is_gt}
-use Rattle.sc_lists.proofs.BoolLaws.{and_first, and_second, not_is_true}
+use Rattle.sc_laws.proofs.BoolLaws.{and_first, and_second, not_is_true}
 use Rattle.sc_pattern.specs.declared.part.Part.{Part}
 use Rattle.sc_nodes.specs.declared.node.Literal.{Literal}
 use Rattle.sc_nodes.specs.declared.node.UnaryOp.TheVariants as unary

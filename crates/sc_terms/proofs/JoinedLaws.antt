@@ -3,7 +3,7 @@ use Rattle.std.proofs.Common.{◌≡◌, ℕ, zero, suc, ◌+◌, ◌-◌, ◌/�
 use Rattle.std.specs.List.{list_all, list_any}
 use Rattle.std.proofs.lemmas.List.Elements.{All-from_recursion}
 use Rattle.std.proofs.lemmas.List.Folds.{list_all-append, list_any-append}
-use Rattle.sc_lists.proofs.BoolLaws.{or_false}
+use Rattle.sc_laws.proofs.BoolLaws.{or_false}
 use Rattle.std.proofs.lemmas.List.{length-take-le, length-map, take-map, drop-map, take_all}
 use Rattle.sc_world.specs.declared.world.World.{World}
 use Rattle.sc_nodes.specs.declared.node.Node.{Node}

@@ -9,6 +9,7 @@ pub mod SetLaws
 pub mod DefaultLaws
 pub mod FoldValues
 pub mod EqualValues
+pub mod EqualLaws
 pub mod DefaultValues
 pub mod RecordValues
 pub mod JoinedLaws

@@ -7,7 +7,7 @@ use Rattle.std.proofs.lemmas.Option.{slice_get_within}
 use Rattle.std.specs.List.{list_any}
 use Rattle.indexmap.specs.IndexSet.{insert_key}
 use Rattle.sc_lists.proofs.ListLaws.{all_weaker}
-use Rattle.sc_lists.proofs.OptionLaws.{same_some}
+use Rattle.sc_laws.proofs.OptionLaws.{same_some}
 use Rattle.sc_nodes.specs.declared.node.Leaf.TheVariants.{Literal}
 use Rattle.sc_nodes.specs.declared.node.Literal.TheVariants.{Bool as bool}
 use Rattle.sc_nodes.specs.declared.node.Node.{Node}

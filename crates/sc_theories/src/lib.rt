@@ -9,3 +9,4 @@ mod rules;
 pub use family::{Family, family_of};
 pub use others::OtherRules;
 pub use rules::Rules;
+pub use th_defs::defining_laws;

@@ -1,7 +1,7 @@
 -- What is known in either of two lists of capabilities.
 use Rattle.std.proofs.Common.{◌≡◌, ◌||◌, [], ◌∷◌, ◌++◌, Bool, true, false, refl, ap, ◌∙◌}
 use Rattle.std.specs.List.{list_any}
-use Rattle.sc_lists.proofs.BoolLaws.{or_assoc}
+use Rattle.sc_laws.proofs.BoolLaws.{or_assoc}
 use Rattle.sc_typed.specs.declared.capability.Capability.{Capability}
 use Rattle.sc_typed.specs.Capabilities.{Capabilities, same, is_known}
 

@@ -1,7 +1,7 @@
 -- The types that operators are given are those of their rows.
 use Rattle.std.proofs.Common.{◌≡◌, ℕ, List, Bool, true, false, ◌&&◌, Option, Some, None, IfOk, is_some, refl, subst}
 use Rattle.std.specs.Option.{option_and_then}
-use Rattle.sc_lists.proofs.OptionLaws.{some_is}
+use Rattle.sc_laws.proofs.OptionLaws.{some_is}
 use Rattle.sc_ast.specs.declared.expr.Expr.{Expr}
 use Rattle.sc_ast.specs.declared.literal.Literal.{Literal}
 use Rattle.sc_ast.specs.declared.operator.BinaryOperator.{BinaryOperator}

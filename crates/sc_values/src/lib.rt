@@ -15,5 +15,7 @@ pub use duplicate_key::DuplicateKey;
 pub use order::{cmp_value, order_laws};
 pub use proper::{is_proper, is_proper_record, is_uid_text};
 pub use records::{field, rec_laws, rec_of};
+pub use sc_decimal::Decimal;
+pub use sc_ip::Ip;
 pub use sets::{contains, intersects, is_same, set_laws, set_of, subset};
 pub use value::{Rec, Set, Value};

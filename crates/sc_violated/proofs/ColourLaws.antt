@@ -2,7 +2,7 @@
 use Rattle.std.proofs.Common.{◌≡◌, ℕ, zero, suc, ◌<◌, ◌≤◌, ◌+◌, ◌-◌, ◌==◌, ◌&&◌, not, Bool, true, false, List, [], ◌∷◌, ◌++◌, length, get_or, Option, Some, None, ◌⊎◌, inl, inr, ⊎_elim, refl, sym, ◌∙◌, ap, subst, arith, length-append, eq-eqb}
 use Rattle.std.proofs.lemmas.Bool.{cases_Bool, cases_lt, cases_eq, eqb-true, and_parts, and_from}
 use Rattle.std.proofs.lemmas.List.{get_or_past, get_or_append_left, get_or_push}
-use Rattle.sc_lists.proofs.OptionLaws.{same_some}
+use Rattle.sc_laws.proofs.OptionLaws.{same_some}
 use Rattle.sc_violated.specs.Truths.{Truth}
 use Rattle.sc_violated.specs.Crowds.{Signs, Few, IsFurther, HasRoom, HasRoomFrom, one_if, count_from}
 use Rattle.sc_violated.specs.Colours.{IsAway, MayHave, AreColoured}

@@ -5,7 +5,7 @@ use Rattle.std.proofs.lemmas.Bool.{cases_Bool, cases_lt, cases_eq, eqb-true, and
 use Rattle.std.proofs.lemmas.List.Elements.{All-cons, All-push, All-nil, All-weaker}
 use Rattle.std.proofs.lemmas.List.Quantifiers.{all_pairs_push}
 use Rattle.std.specs.List.{All}
-use Rattle.sc_lists.proofs.OptionLaws.{same_some, some_of}
+use Rattle.sc_laws.proofs.OptionLaws.{same_some, some_of}
 use Rattle.sc_violated.specs.Truths.{Truth}
 use Rattle.sc_violated.specs.Crowds.{Signs, Few, IsWithin, Fits, IsCrowd, NoneCrowded, IsRow, one_if, count_from, IsFurther, NoneAfter}
 use Rattle.sc_violated.specs.Settled.{IsSettled, AreApart, HasMost, IsPicked, IsRowFree, AreRowsFree}

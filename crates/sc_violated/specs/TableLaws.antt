@@ -1,9 +1,9 @@
 -- What tables say is symmetric, and so many texts are as the search for crowds asks.
 use Rattle.std.proofs.Common.{◌≡◌, ◌||◌, ◌==◌, ◌<◌, ◌≤◌, ◌+◌, ℕ, Bool, true, false, List, [], ◌∷◌, Option, Some, None, length, get_or, set, if◌then◌else◌, ⊎_elim, refl, sym, ◌∙◌, ap, subst, arith, eq-eqb, get_or-set_same}
 use Rattle.std.proofs.lemmas.Bool.{cases_eq, cases_lt}
-use Rattle.sc_lists.proofs.BoolLaws.{never}
-use Rattle.sc_lists.proofs.NumberLaws.{eqb_false}
-use Rattle.sc_lists.proofs.OptionLaws.{same_some}
+use Rattle.sc_laws.proofs.BoolLaws.{never}
+use Rattle.sc_laws.proofs.NumberLaws.{eqb_false}
+use Rattle.sc_laws.proofs.OptionLaws.{same_some}
 use Rattle.sc_violated.specs.Crowds.{Signs, IsWithin}
 use Rattle.sc_violated.specs.Tables.{Row, is_of, told_either, equal_by, with_sign, are_few}
 

@@ -5,7 +5,7 @@ use Rattle.std.specs.List.Sorted.{IsStrictlySortedBy}
 use Rattle.std.specs.Str.{bytes_eq}
 use Rattle.std.proofs.lemmas.List.Elements.{Contains-append_cases}
 use Rattle.std.proofs.lemmas.Slice.Eq.{bytes_eq-Decides}
-use Rattle.sc_lists.proofs.OptionLaws.{some_of}
+use Rattle.sc_laws.proofs.OptionLaws.{some_of}
 use Rattle.sc_lists.proofs.ListLaws.{all_weaker, contains_map, contains_nothing, contains_split, contains_rest, contains_first, all_element, all_of_elements, contains_joined, any_contained}
 use Rattle.sc_names.specs.declared.uid.Uid.{Uid}
 use Rattle.sc_names.specs.Uids.{uid_cmp}

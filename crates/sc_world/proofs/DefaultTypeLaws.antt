@@ -6,7 +6,7 @@ use Rattle.std.specs.Str.{bytes_eq, IsUtf8}
 use Rattle.std.proofs.lemmas.List.Folds.{flat_map-map}
 use Rattle.std.proofs.lemmas.Slice.Eq.{bytes_eq-Decides}
 use Rattle.sc_lists.proofs.ListLaws.{all_element}
-use Rattle.sc_lists.proofs.OptionLaws.{some_of}
+use Rattle.sc_laws.proofs.OptionLaws.{some_of}
 use Rattle.sc_ip.specs.declared.ip.Ip.TheVariants.{V4}
 use Rattle.sc_names.specs.declared.uid.Uid.{Uid}
 use Rattle.sc_schema.specs.declared.declarations.Action.{Action}

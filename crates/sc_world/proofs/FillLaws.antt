@@ -11,7 +11,7 @@ use Rattle.std.specs.declared.cmp.Ordering.TheVariants.{Less, Equal, Greater}
 use Rattle.std.proofs.lemmas.Bool.{cases_lt}
 use Rattle.std.proofs.lemmas.Cmp.{tied_itself}
 use Rattle.std.proofs.lemmas.List.Elements.{Contains-append_left, Contains-append_right}
-use Rattle.sc_lists.proofs.OptionLaws.{some_of}
+use Rattle.sc_laws.proofs.OptionLaws.{some_of}
 use Rattle.sc_lists.proofs.OrderingLaws.{is_eq_true}
 use Rattle.sc_lists.proofs.ListLaws.{all_weaker, all_of_elements, all_append, all_element, contains_rest, contains_first, contains_joined}
 use Rattle.sc_names.specs.declared.uid.Uid.{Uid}

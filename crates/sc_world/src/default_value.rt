@@ -8,12 +8,10 @@ ghost use Rattle.sc_schema.specs.declared.ty.Presence.{Presence as AnyPresence};
 ghost use Rattle.sc_schema.specs.declared.ty.Ty.{Ty as AnyTy};
 ghost use Rattle.sc_world.specs.Defaults.{default_uid, default_field, default_value};
 
-use sc_decimal::Decimal;
-use sc_ip::Ip;
 use sc_lists::{Seq, Text};
 use sc_names::{Name, Uid};
 use sc_schema::{Attributes, Presence, Schema, Ty, actions, is_action_type};
-use sc_values::{Rec, Value};
+use sc_values::{Decimal, Ip, Rec, Value};
 use std::alloc::{AllocError, Global};
 
 /// The default of a type: what is false, zero or empty, the default entity of a type, and of a

@@ -19,7 +19,7 @@ use Rattle.sc_definitions.specs.declared.function.Shape.{Shape}
 use Rattle.sc_definitions.specs.declared.function.Shape.TheVariants.{Table, All, NotAll, Fixed, Free}
 use Rattle.sc_definitions.specs.Definitions.{shape_of, inputs_of}
 use Rattle.sc_definitions.specs.Functions.{rows}
-use Rattle.sc_closure.specs.Atoms.{is_atom}
+use Rattle.sc_footprint.specs.Atoms.{is_atom}
 use Rattle.sc_footprint.proofs.NumberingLaws.{Has-filter}
 use Rattle.sc_footprint.proofs.OverLaws.{no_more}
 use Rattle.sc_footprint.proofs.TruthLaws.{atom_is}

@@ -5,7 +5,7 @@ use Rattle.sc_clauses.specs.declared.lit.Lit.{Lit}
 use Rattle.sc_clauses.specs.Clauses.{positive}
 use Rattle.sc_terms.specs.Trees.{Tree}
 use Rattle.sc_definitions.specs.Definitions.{counted, inputs_of}
-use Rattle.sc_closure_rules.specs.Closure.{inside, choices, beside, parts, follow}
+use Rattle.sc_footprint.specs.Closure.{inside, choices, beside, parts, follow}
 use Rattle.sc_footprint.specs.Problems.{Posed, literal_in, term_of, companion}
 use Rattle.th_defs.specs.Items.{companion_or, companions_or}
 

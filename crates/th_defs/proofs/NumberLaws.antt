@@ -6,7 +6,7 @@ use Rattle.std.proofs.lemmas.List.{get_or_append_left, get_or-append-add}
 use Rattle.std.proofs.lemmas.List.Elements.{All-from_recursion}
 use Rattle.std.specs.List.{AllByRecursion, slice_index_or}
 use Rattle.sc_lists.proofs.ListLaws.{all_append}
-use Rattle.sc_lists.proofs.NumberLaws.{nat_lt_true}
+use Rattle.sc_laws.proofs.NumberLaws.{nat_lt_true}
 use Rattle.sc_clauses.specs.Assignments.{Assignment, falsifies}
 use Rattle.sc_clauses.specs.Clauses.{Clause}
 use Rattle.sc_definitions.specs.Definitions.{counted}

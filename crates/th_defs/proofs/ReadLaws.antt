@@ -2,7 +2,7 @@
 use Rattle.std.proofs.Common.{◌≡◌, ◌<◌, ◌≤◌, ◌+◌, ◌-◌, ◌^◌, ◌/◌, ◌%◌, ◌==◌, ◌⊎◌, inl, inr, ℕ, zero, suc, Bool, true, false, cond, List, [], ◌∷◌, map, flat_map, length, get_or, nat_lt, refl, sym, ap, ◌∙◌, subst, arith, length-append}
 use Rattle.std.proofs.lemmas.Bool.Decides.{nat_tests}
 use Rattle.std.proofs.lemmas.List.{length-map, get_or-map, get_or-append-add, get_or_append_left, get_or_past}
-use Rattle.sc_lists.proofs.NumberLaws.{suc_isnt_zero, nat_lt_true}
+use Rattle.sc_laws.proofs.NumberLaws.{suc_isnt_zero, nat_lt_true}
 use Rattle.sc_clauses.specs.declared.lit.Lit.{Lit}
 use Rattle.sc_clauses.specs.Clauses.{Clause, positive, negation}
 use Rattle.sc_definitions.proofs.MakingLaws.{counted_length}

@@ -6,8 +6,8 @@ use Rattle.std.proofs.lemmas.Option.{slice_get_within}
 use Rattle.std.specs.List.{AllByRecursion}
 use Rattle.sc_lists.proofs.ListLaws.{all_append, all_element, contains_place, contains_map}
 use Rattle.sc_lists.proofs.MemberLaws.{Has-from_Contains}
-use Rattle.sc_lists.proofs.NumberLaws.{eqb_false, some_isnt_zero, nat_lt_true}
-use Rattle.sc_lists.proofs.BoolLaws.{and_false}
+use Rattle.sc_laws.proofs.NumberLaws.{eqb_false, some_isnt_zero, nat_lt_true}
+use Rattle.sc_laws.proofs.BoolLaws.{and_false}
 use Rattle.sc_schema.specs.Declarations.{Declarations}
 use Rattle.sc_clauses.specs.declared.lit.Lit.{Lit}
 use Rattle.sc_clauses.specs.Clauses.{Clause, bool_eq, positive, negation}
@@ -25,7 +25,7 @@ use Rattle.sc_terms.specs.Trees.{Tree, leaf, one, two, choice, many}
 use Rattle.sc_terms.specs.TreeSorts.{tree_sort}
 use Rattle.sc_definitions.proofs.MakingLaws.{counted_next}
 use Rattle.sc_definitions.specs.Definitions.{counted, definition, chosen_of, shape_of, inputs_of}
-use Rattle.sc_closure_rules.specs.Closure.{inside, inside_by, bit_terms, choices, beside, parts, follow}
+use Rattle.sc_footprint.specs.Closure.{inside, inside_by, bit_terms, choices, beside, parts, follow}
 use Rattle.sc_footprint.proofs.NumberingLaws.{numbered_map, numbered_back}
 use Rattle.sc_footprint.specs.Definitions.{is_tautology, kept, clauses_by, definition_clauses, mask_clause, short_clauses, address_by, address_clauses, is_address, is_address_in, is_other}
 use Rattle.sc_footprint.specs.Problems.{Posed, IsPosed, closed_terms, atoms, literal_in, number_among, numbered, term_of}

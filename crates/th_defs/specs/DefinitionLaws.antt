@@ -4,7 +4,7 @@ use Rattle.std.specs.List.{All, AllByRecursion, Contains, flat_map}
 use Rattle.std.proofs.lemmas.Bool.{and_parts, true≢false}
 use Rattle.std.proofs.lemmas.List.Elements.{All-contains_itself, recursion_from_All, All-weaker}
 use Rattle.sc_lists.proofs.ListLaws.{all_append, contains_first, contains_rest}
-use Rattle.sc_lists.proofs.OptionLaws.{same_some}
+use Rattle.sc_laws.proofs.OptionLaws.{same_some}
 use Rattle.sc_bits.specs.Blocks.{AreBlockBits}
 use Rattle.sc_world.specs.declared.world.World.{World}
 use Rattle.sc_clauses.proofs.LitLaws.{holds_negation}
@@ -18,7 +18,7 @@ use Rattle.sc_terms.specs.TreeSorts.{tree_sort}
 use Rattle.sc_terms.specs.Folds.{bit_term, bit_by, literal_of}
 use Rattle.sc_definitions.specs.Definitions.{counted, shape_of, inputs_of}
 use Rattle.sc_definitions.specs.Truths.{is_true, truths_of, defined, IsAsDefined}
-use Rattle.sc_closure.specs.Atoms.{is_atom, is_bool, is_opposite}
+use Rattle.sc_footprint.specs.Atoms.{is_atom, is_bool, is_opposite}
 use Rattle.sc_footprint.specs.Problems.{Posed, closed_terms, atoms, atom_number, numbered, literal, literal_in}
 use Rattle.sc_footprint.specs.Definitions.{clauses_by, definition_clauses, mask_clause, short_clauses, address_clauses, is_address, is_address_in, is_other}
 use Rattle.sc_footprint.specs.Theories.{IsListed}

@@ -26,8 +26,8 @@ use Rattle.sc_terms.specs.TreeSorts.{tree_sort}
 use Rattle.sc_terms.specs.Folds.{bit_term, literal_of}
 use Rattle.sc_definitions.specs.Definitions.{counted, inputs_of}
 use Rattle.sc_definitions.specs.Truths.{is_true, IsAsDefined}
-use Rattle.sc_closure.specs.Atoms.{is_atom, is_bool, is_bool_in}
-use Rattle.sc_closure_rules.specs.Closure.{inside, inside_by, bit_terms, choices, beside, parts, follow}
+use Rattle.sc_footprint.specs.Atoms.{is_atom, is_bool, is_bool_in}
+use Rattle.sc_footprint.specs.Closure.{inside, inside_by, bit_terms, choices, beside, parts, follow}
 use Rattle.sc_footprint.specs.Problems.{Posed, IsPosed, closed_terms, atoms, atom_number, numbered, literal_in, goal_term, goal_literal}
 use Rattle.sc_footprint.specs.Definitions.{definition_clauses, address_clauses, is_address, is_address_in, is_other, defining}
 use Rattle.sc_footprint.specs.Theories.{IsListed, IsClauseOf, TermsHold}

@@ -7,7 +7,7 @@ use Rattle.sc_lists.specs.Members.{Has}
 use Rattle.sc_terms.specs.Trees.{Tree}
 use Rattle.sc_terms.specs.Tables.{tree, IsTable}
 use Rattle.sc_terms.proofs.OrderLaws.{tree_cmp_level}
-use Rattle.sc_closure.specs.Places.{place_among}
+use Rattle.sc_footprint.specs.Places.{place_among}
 use Rattle.sc_footprint.proofs.IndexLaws.{number_is_place}
 use Rattle.sc_footprint.proofs.NumberingLaws.{at_suc, numbered_map, numbered_back}
 use Rattle.sc_footprint.specs.Problems.{Posed, IsPosed, closed_terms, number_among, number_of, numbered, if_any, term_of}

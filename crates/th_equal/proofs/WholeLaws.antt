@@ -2,7 +2,7 @@
 use Rattle.std.proofs.Common.{◌≡◌, ◌≢◌, ◌⊎◌, ℕ, zero, suc, Bool, true, false, inl, inr, List, ◌∷◌, slice_get, Option, Some, None, Contains, refl, sym, ◌∙◌, subst}
 use Rattle.std.proofs.lemmas.Bool.{and_parts, true≢false}
 use Rattle.sc_lists.proofs.MemberLaws.{Has-from_Contains}
-use Rattle.sc_lists.proofs.OptionLaws.{same_some}
+use Rattle.sc_laws.proofs.OptionLaws.{same_some}
 use Rattle.sc_clauses.specs.Assignments.{Assignment}
 use Rattle.sc_sorts.specs.declared.sort.Sort.{Sort, out-Sort}
 use Rattle.sc_sorts.specs.Inside.{SortField, SortFields}

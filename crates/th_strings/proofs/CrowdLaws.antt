@@ -4,8 +4,8 @@ use Rattle.std.proofs.lemmas.List.{length-map}
 use Rattle.std.proofs.lemmas.List.Elements.{All-from_recursion, recursion_from_All}
 use Rattle.std.proofs.lemmas.List.Kept.{AllPairs-cons}
 use Rattle.std.specs.List.{All, AllByRecursion, AllPairs, list_all}
-use Rattle.sc_lists.proofs.NumberLaws.{nat_eq_true}
-use Rattle.sc_lists.proofs.OptionLaws.{same_some}
+use Rattle.sc_laws.proofs.NumberLaws.{nat_eq_true}
+use Rattle.sc_laws.proofs.OptionLaws.{same_some}
 use Rattle.sc_lists.specs.Members.{Has}
 use Rattle.sc_lists.proofs.MemberLaws.{Has-place, AllByRecursion-Has, Has-AllByRecursion, map-Has, Has-map}
 use Rattle.sc_lists.proofs.ListLaws.{list_all_true}

@@ -2,8 +2,8 @@
 use Rattle.std.proofs.Common.{◌≡◌, ◌≢◌, ◌<◌, ◌≤◌, ◌^◌, ◌==◌, ℕ, nat_lt, zero, suc, Bool, true, false, cond, List, [], ◌∷◌, map, length, slice_get, get_or, Option, Some, None, option_map, option_and_then, refl, sym, ap, ◌∙◌, arith}
 use Rattle.std.proofs.lemmas.Bool.Decides.{nat_tests}
 use Rattle.std.proofs.lemmas.Option.{slice_get-map, get_or_from_slice_get, slice_get_within}
-use Rattle.sc_lists.proofs.NumberLaws.{nat_eq_true}
-use Rattle.sc_lists.proofs.OptionLaws.{option_and_then_some, option_map_some}
+use Rattle.sc_laws.proofs.NumberLaws.{nat_eq_true}
+use Rattle.sc_laws.proofs.OptionLaws.{option_and_then_some, option_map_some}
 use Rattle.sc_clauses.specs.Assignments.{Assignment}
 use Rattle.sc_terms.specs.Folds.{equal_term}
 use Rattle.sc_terms.specs.Tables.{tree}

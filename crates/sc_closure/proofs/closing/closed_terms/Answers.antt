@@ -1,7 +1,7 @@
 use Rattle.std.proofs.Common.{[], length, refl, ap, arith}
 use Rattle.sc_terms.proofs.TableLaws.{keeps_then}
 use Rattle.sc_terms.specs.Tables.{tree}
-use Rattle.sc_definitions.proofs.MemberLaws.{within_later}
+use Rattle.sc_closure_rules.proofs.MemberLaws.{within_later}
 use Rattle.sc_closure.specs.Following.{put_new, Held}
 use Rattle.sc_closure.proofs.ClosingLaws.{closing_start, closing_step, closing_end, number_below, number_closed, place_read, nothing_read}
 use Rattle.sc_closure.proofs.CountingLaws.{atoms_grow, seeds_few}

@@ -1,5 +1,5 @@
 use Rattle.std.proofs.Common.{get_or}
-use Rattle.sc_definitions.proofs.MemberLaws.{read_at, within_at}
+use Rattle.sc_closure_rules.proofs.MemberLaws.{read_at, within_at}
 use Rattle.sc_closure.proofs.GroupLaws.{pattern_there}
 use Rattle.sc_closure.proofs.roles.is_pattern_known.Goals as goal
 

@@ -1,5 +1,5 @@
 use Rattle.std.proofs.Common.{length, arith}
-use Rattle.sc_definitions.proofs.MakingLaws.{puts_nothing}
+use Rattle.sc_closure_rules.proofs.MakingLaws.{puts_nothing}
 use Rattle.sc_closure.proofs.GroupLaws.{group_at, group_later, groups_next, groups_end}
 use Rattle.sc_closure.proofs.roles.meet_groups.Goals as goal
 

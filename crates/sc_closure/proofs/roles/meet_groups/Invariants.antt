@@ -1,7 +1,7 @@
 use Rattle.std.proofs.Common.{take}
 use Rattle.sc_terms.specs.TreeSorts.{tree_sort}
 use Rattle.sc_terms.specs.Tables.{tree}
-use Rattle.sc_definitions.specs.Making.{Puts}
+use Rattle.sc_closure_rules.specs.Making.{Puts}
 use Rattle.sc_closure.specs.Following.{met_among}
 use Rattle.sc_closure.proofs.roles.meet_groups.Given as goal
 

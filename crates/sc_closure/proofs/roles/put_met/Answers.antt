@@ -1,8 +1,8 @@
 use Rattle.std.proofs.Common.{ℕ, get_or, arith}
 use Rattle.sc_terms.specs.Trees.{Tree}
 use Rattle.sc_terms.specs.Tables.{tree}
-use Rattle.sc_definitions.proofs.MakingLaws.{stands_same, puts_same, puts_nothing}
-use Rattle.sc_definitions.proofs.MemberLaws.{read_at, within_at}
+use Rattle.sc_closure_rules.proofs.MakingLaws.{stands_same, puts_same, puts_nothing}
+use Rattle.sc_closure_rules.proofs.MemberLaws.{read_at, within_at}
 use Rattle.sc_closure_rules.proofs.LoopLaws.{each_next, each_end}
 use Rattle.sc_closure.specs.Following.{met_term}
 use Rattle.sc_closure.proofs.GroupLaws.{met_stood}

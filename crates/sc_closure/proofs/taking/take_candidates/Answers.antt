@@ -1,5 +1,5 @@
 use Rattle.std.proofs.Common.{get_or, arith}
-use Rattle.sc_definitions.proofs.MemberLaws.{read_at, within_at}
+use Rattle.sc_closure_rules.proofs.MemberLaws.{read_at, within_at}
 use Rattle.sc_closure.proofs.TakesLaws.{takes_nothing, candidates_next, candidates_end}
 use Rattle.sc_closure.proofs.taking.take_candidates.Goals as goal
 

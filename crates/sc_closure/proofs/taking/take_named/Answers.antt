@@ -1,5 +1,5 @@
 use Rattle.std.proofs.Common.{refl}
-use Rattle.sc_definitions.proofs.MemberLaws.{within_later}
+use Rattle.sc_closure_rules.proofs.MemberLaws.{within_later}
 use Rattle.sc_closure.proofs.GroupLaws.{groups_within}
 use Rattle.sc_closure.proofs.TakenLaws.{named_takes}
 use Rattle.sc_closure.proofs.taking.take_named.Goals as goal

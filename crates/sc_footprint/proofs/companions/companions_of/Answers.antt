@@ -1,5 +1,5 @@
 use Rattle.std.proofs.Common.{sym, subst, arith, rules}
-use Rattle.sc_definitions.specs.Making.{IsSomeTerm}
+use Rattle.sc_closure.specs.Making.{IsSomeTerm}
 use Rattle.sc_footprint.proofs.CompanionLaws.{listing_start, listing_step, listing_end}
 use Rattle.sc_footprint.proofs.companions.companions_of.Goals as goal
 

@@ -1,5 +1,5 @@
 use Rattle.std.proofs.Common.{◌==◌, ◌∙◌, ℕ, sym, ap}
-use Rattle.sc_lists.proofs.NumberLaws.{eqb_false}
+use Rattle.sc_laws.proofs.NumberLaws.{eqb_false}
 use Rattle.sc_footprint.proofs.ShelvingLaws.{not_added, added_as, not_among, like_among}
 use Rattle.sc_footprint.proofs.shelves.put_candidate.Goals as goal
 

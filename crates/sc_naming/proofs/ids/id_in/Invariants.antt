@@ -1,6 +1,6 @@
 use Rattle.std.proofs.Common.{◌≡◌, length}
 use Rattle.sc_terms.specs.Tables.{tree}
-use Rattle.sc_models.specs.Models.{truth_in}
+use Rattle.sc_string_names.specs.Models.{truth_in}
 use Rattle.sc_rebuilding.specs.Names.{name_in}
 use Rattle.sc_naming.specs.Ids.{is_same}
 use Rattle.sc_string_names.specs.Numbers.{HaveTerms, named_terms}

@@ -1,6 +1,6 @@
 use Rattle.std.proofs.Common.{◌≡◌, length, map}
 use Rattle.sc_terms.specs.Tables.{tree}
-use Rattle.sc_models.specs.Models.{truth_in}
+use Rattle.sc_string_names.specs.Models.{truth_in}
 use Rattle.sc_naming.specs.Ids.{id_entries, identified}
 use Rattle.sc_string_names.specs.Numbers.{AreIn, HaveTerms, named_terms}
 use Rattle.sc_naming.proofs.ids.identify.Given as goal

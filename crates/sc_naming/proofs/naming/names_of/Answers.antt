@@ -1,7 +1,7 @@
 use Rattle.std.proofs.Common.{List, ℕ, ◌∙◌, ap, map}
 use Rattle.std.proofs.lemmas.Result.{IfOk-weaker}
 use Rattle.sc_terms.specs.Tables.{tree}
-use Rattle.sc_models.specs.Models.{truth_in}
+use Rattle.sc_string_names.specs.Models.{truth_in}
 use Rattle.sc_string_names.specs.Numbers.{named_terms}
 use Rattle.sc_naming.specs.Ids.{ids_of}
 use Rattle.sc_naming.specs.Namings.{name_of_term}

@@ -1,6 +1,6 @@
 use Rattle.std.proofs.Common.{List, sym, subst}
 use Rattle.sc_names.specs.declared.uid.Uid.{Uid}
-use Rattle.sc_closure_rules.specs.Goals.{IsGoal}
+use Rattle.sc_footprint.specs.Goals.{IsGoal}
 use Rattle.sc_terms.specs.Tables.{tree}
 use Rattle.sc_reports.proofs.AnalysisLaws.{query-posed, query-declared, goal-stands}
 use Rattle.sc_reports.proofs.PosedLaws.{query-goal}

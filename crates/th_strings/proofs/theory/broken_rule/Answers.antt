@@ -1,6 +1,6 @@
 use Rattle.std.proofs.Common.{◌∙◌, sym, length}
 use Rattle.std.proofs.lemmas.List.{nil_from_length}
-use Rattle.sc_lists.proofs.NumberLaws.{nat_eq_true}
+use Rattle.sc_laws.proofs.NumberLaws.{nat_eq_true}
 use Rattle.th_strings.proofs.TheoryLaws.{none_where_empty, none_after}
 use Rattle.th_strings.proofs.theory.broken_rule.Goals as goal
 

@@ -1,5 +1,5 @@
 use Rattle.std.proofs.Common.{◌≡◌, ◌<◌, ◌-◌, ◌∙◌, ℕ, List, length, slice_get, Option, None, option_map, IfSome, Contains, sym, ap, subst}
-use Rattle.sc_lists.proofs.NumberLaws.{eqb_false}
+use Rattle.sc_laws.proofs.NumberLaws.{eqb_false}
 use Rattle.sc_terms.specs.Tables.{tree}
 use Rattle.sc_footprint.specs.declared.companions.Span.{Span}
 use Rattle.sc_footprint.specs.Companions.{between}
