@@ -7,7 +7,7 @@ ghost use Rattle.sc_terms.specs.Tables.{Keeps};
 ghost use Rattle.sc_codes.specs.Objects as objects;
 ghost use Rattle.sc_codes.specs.Numbers.{HasVariables};
 
-use sc_lists::Seq;
+use sc_lists::{Seq, Shared};
 use sc_schema::{Env, Schema, Ty, context_of};
 use sc_sorts::{Sort, entity_sort, sort_of};
 use sc_terms::Terms;
@@ -76,7 +76,7 @@ pub fn record_sort(alloc: Global, ty: Option<&Ty>) -> Result<Sort, AllocError>
     match ty {
         Some(ty) => sort_of(alloc, ty),
         None => {
-            let empty = Ty::Record(Seq::new(alloc));
+            let empty = Ty::Record(Shared::new(alloc, Seq::new(alloc))?);
             sort_of(alloc, &empty)
         }
     }

@@ -1,2 +1,3 @@
 pub mod boxed
 pub mod seq
+pub mod shared

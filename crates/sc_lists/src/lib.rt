@@ -1,6 +1,6 @@
-//! A text, a list and a box that contracts see as the bytes, the list and the value that they
-//! hold, so that a copy equals what it copies; the fault of a call that may want memory; and sets
-//! and maps as lists in ascending order.
+//! A text, a list, a box and a shared value that contracts see as the bytes, the list and the value
+//! that they hold, so that a copy equals what it copies; the fault of a call that may want memory;
+//! and sets and maps as lists in ascending order.
 #![tactic(auto)]
 
 mod boxed;
@@ -8,6 +8,7 @@ mod fault;
 pub mod members;
 pub mod pairs;
 mod seq;
+mod shared;
 #[cfg(test)]
 mod tests;
 mod text;
@@ -15,4 +16,5 @@ mod text;
 pub use boxed::Boxed;
 pub use fault::Fault;
 pub use seq::Seq;
+pub use shared::Shared;
 pub use text::Text;

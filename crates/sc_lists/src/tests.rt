@@ -6,7 +6,7 @@ ghost use Rattle.std.specs.List.Sorted.{IsStrictlySortedBy};
 ghost use Rattle.std.specs.Map.{keys_of};
 ghost use Rattle.std.specs.Ordering.{nat_cmp};
 
-use crate::{Boxed, Fault, Seq, Text, members, pairs};
+use crate::{Boxed, Fault, Seq, Shared, Text, members, pairs};
 use std::alloc::{AllocError, Global};
 use std::cmp::Ordering;
 use std::test::Fail;
@@ -98,6 +98,20 @@ fn boxes(rt: HostRuntime) -> Result<(), Fail> {
     assert!(rt; one.cmp(&two) == Ordering::Less);
     assert!(rt; two.partial_cmp(&one) == Some(Ordering::Greater));
     assert_eq!(rt; two.into_inner(), 2);
+    Ok(())
+}
+
+#[test]
+fn shared_values(rt: HostRuntime) -> Result<(), Fail> {
+    let alloc = rt.alloc();
+    let (one, two) = (Shared::new(alloc, 1)?, Shared::new(alloc, 2)?);
+    let again = one.try_clone()?;
+    assert_eq!(rt; *again.get(), 1);
+    assert!(rt; one == again && one != two);
+    assert!(rt; one.cmp(&two) == Ordering::Less);
+    assert!(rt; two.partial_cmp(&one) == Some(Ordering::Greater));
+    let list = Shared::new(alloc, list_of(alloc, [7, 8].as_slice())?)?;
+    assert_eq!(rt; list.try_clone()?.as_slice(), [7, 8].as_slice());
     Ok(())
 }
 

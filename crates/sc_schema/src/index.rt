@@ -10,7 +10,7 @@ ghost use Rattle.sc_schema.specs.Lawful.{AreAscending};
 
 use crate::declarations::{Action, EntityType, Env};
 use crate::ty::Ty;
-use sc_lists::Seq;
+use sc_lists::{Seq, Shared};
 use sc_names::{Name, Uid};
 use std::alloc::{AllocError, Global};
 use std::collections::BTreeMap;
@@ -43,7 +43,7 @@ pub(crate) fn index_of(
         type_names: names_of(alloc, types)?,
         action_uids: uids_of(alloc, actions)?,
         above_actions: types_above(alloc, actions)?,
-        no_attributes: Ty::Record(Seq::new(alloc)),
+        no_attributes: Ty::Record(Shared::new(alloc, Seq::new(alloc))?),
     })
 }
 

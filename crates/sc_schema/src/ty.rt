@@ -1,6 +1,9 @@
 //! Types of values.
-use sc_lists::{Boxed, Seq, Text};
+ghost use Rattle.std.specs.Prelude.{◌≡◌, IfOk};
+
+use sc_lists::{Seq, Shared, Text};
 use sc_names::Name;
+use std::alloc::{AllocError, Global};
 
 /// Whether each record of a type has a field.
 #[derive(Clone, Copy, Debug, PartialEq, Eq, PartialOrd, Ord)]
@@ -11,8 +14,9 @@ pub enum Presence {
     Optional,
 }
 
-/// The fields of a record type: their names, ascending by bytes, each once, with their types.
-pub type Attributes = Seq<(Text, Presence, Ty)>;
+/// The fields of a record type: their names, ascending by bytes, each once, with their types. Copies
+/// of a type share them.
+pub type Attributes = Shared<Seq<(Text, Presence, Ty)>>;
 
 /// A type of values.
 #[derive(Debug, PartialEq, Eq, PartialOrd, Ord, Drop)]
@@ -34,7 +38,28 @@ pub enum Ty {
     /// Entities of the named type.
     Entity(Name),
     /// Sets with members of a type.
-    Set(Boxed<Ty>),
+    Set(Shared<Ty>),
     /// Records with these fields and no others.
     Record(Attributes),
+}
+
+impl Ty {
+    /// A copy, which equals the type and shares what it is made of, so that it takes the same time
+    /// for each type.
+    pub fn try_clone(&self, alloc: Global) -> Result<Ty, AllocError>
+        ensures { IfOk result (λ copy. copy ≡ self.now) }
+    {
+        match self {
+            Ty::True => Ok(Ty::True),
+            Ty::False => Ok(Ty::False),
+            Ty::Bool => Ok(Ty::Bool),
+            Ty::Long => Ok(Ty::Long),
+            Ty::String => Ok(Ty::String),
+            Ty::Decimal => Ok(Ty::Decimal),
+            Ty::Ip => Ok(Ty::Ip),
+            Ty::Entity(name) => Ok(Ty::Entity(name.try_clone(alloc)?)),
+            Ty::Set(member) => Ok(Ty::Set(member.try_clone()?)),
+            Ty::Record(fields) => Ok(Ty::Record(fields.try_clone()?)),
+        }
+    }
 }

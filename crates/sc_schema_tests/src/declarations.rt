@@ -210,7 +210,7 @@ fn types_above_types(rt: HostRuntime) -> Result<(), Fail> {
 
 fn field_count(ty: Option<&Ty>) -> Option<usize> {
     match ty {
-        Some(Ty::Record(fields)) => Some(fields.len()),
+        Some(Ty::Record(fields)) => Some(fields.as_slice().len()),
         _ => None,
     }
 }

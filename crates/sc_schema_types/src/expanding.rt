@@ -11,7 +11,7 @@ use crate::copying::copy_names;
 use crate::expansion::{expanded, meaning_of};
 use crate::faults::first_fault;
 use crate::outline::outlines_of;
-use sc_lists::{Fault, Seq};
+use sc_lists::{Fault, Seq, Shared};
 use sc_names::{Name, clone_uids};
 use sc_schema::Ty;
 use sc_schema_resolved::{
@@ -125,7 +125,7 @@ fn record_type(
 {
     match resolved {
         Some(resolved) => expanded(alloc, table, resolved),
-        None => Ok(Ty::Record(Seq::new(alloc))),
+        None => Ok(Ty::Record(Shared::new(alloc, Seq::new(alloc))?)),
     }
 }
 

@@ -6,10 +6,9 @@ ghost use Rattle.sc_schema_resolved.specs.declared.resolved_type.ResolvedType.{R
 ghost use Rattle.sc_schema_types.specs.Expansions.{expanded};
 ghost use Rattle.sc_schema_types.specs.Tables.{body_in, type_in, with_body, meaning_by};
 
-use crate::copying::copy_type;
-use sc_lists::{Boxed, Seq, Text};
+use sc_lists::{Seq, Shared, Text};
 use sc_names::Name;
-use sc_schema::{Attributes, Presence, Ty};
+use sc_schema::{Presence, Ty};
 use sc_schema_resolved::ResolvedType;
 use std::alloc::{AllocError, Global};
 use std::collections::BTreeMap;
@@ -32,10 +31,11 @@ pub(crate) fn expanded(
         ResolvedType::Ip => Ok(Ty::Ip),
         ResolvedType::Entity(name) => Ok(Ty::Entity(name.try_clone(alloc)?)),
         ResolvedType::Set(element) => {
-            Ok(Ty::Set(Boxed::new(alloc, expanded(alloc, table, element.get())?)?))
+            Ok(Ty::Set(Shared::new(alloc, expanded(alloc, table, element.get())?)?))
         }
         ResolvedType::Record(attributes) => {
-            Ok(Ty::Record(expanded_all(alloc, table, attributes.as_slice())?))
+            let fields = expanded_all(alloc, table, attributes.as_slice())?;
+            Ok(Ty::Record(Shared::new(alloc, fields)?))
         }
         ResolvedType::Common(name) => type_in(alloc, table, name),
     }
@@ -47,7 +47,7 @@ fn expanded_all(
     alloc: Global,
     table: &BTreeMap<Name, Ty>,
     attributes: &[(Text, Presence, ResolvedType)],
-) -> Result<Attributes, AllocError>
+) -> Result<Seq<(Text, Presence, Ty)>, AllocError>
     ensures { IfOk result (λ fields. fields ≡ map
         (λ (a : List ℕ × AnyPresence × AnyType). (a.0, a.1, expanded (type_in table.now.entries) a.2)) attributes.now) }
 {
@@ -67,7 +67,7 @@ fn type_in(alloc: Global, table: &BTreeMap<Name, Ty>, name: &Name) -> Result<Ty,
     ensures { IfOk result (λ ty. ty ≡ type_in table.now.entries name.now) }
 {
     match table.get(name) {
-        Some(ty) => copy_type(alloc, ty),
+        Some(ty) => ty.try_clone(alloc),
         None => Ok(Ty::Bool),
     }
 }

@@ -3,7 +3,7 @@ ghost use Rattle.std.specs.Prelude.{◌≡◌, ◌++◌, [], ◌∷◌, map, IfO
 ghost use Rattle.sc_sorts.specs.OfTypes.{sort_of, field_sort, with_presence};
 
 use crate::sort::Sort;
-use sc_lists::{Boxed, Seq, Text};
+use sc_lists::{Boxed, Seq, Shared, Text};
 use sc_schema::{Attributes, Presence, Ty};
 use std::alloc::{AllocError, Global};
 
@@ -30,7 +30,7 @@ pub fn sort_of(alloc: Global, ty: &Ty) -> Result<Sort, AllocError>
 }
 
 #[cycle(sorts)]
-fn boxed_sort(alloc: Global, ty: &Boxed<Ty>) -> Result<Boxed<Sort>, AllocError>
+fn boxed_sort(alloc: Global, ty: &Shared<Ty>) -> Result<Boxed<Sort>, AllocError>
     ensures { IfOk result (λ s. s ≡ sort_of ty.now) }
 {
     Boxed::new(alloc, sort_of(alloc, ty.get())?)

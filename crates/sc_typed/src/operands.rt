@@ -7,7 +7,7 @@ ghost use Rattle.sc_typed.specs.Outcomes.{ty, check, as_boolean, as_long, as_str
 use crate::fault::{TypeFault, TypeRule};
 use crate::kinds;
 use crate::typed_expr::{TypedExpr, place_of, type_of};
-use crate::types::{attributes, copy_of_type};
+use crate::types::attributes;
 use sc_ast::Place;
 use sc_lists::Text;
 use sc_names::Name;
@@ -19,7 +19,7 @@ pub fn copy_of_ty(alloc: Global, x: &TypedExpr) -> Result<Ty, AllocError>
     ensures { IfOk result (λ copy. copy ≡ ty x.now) }
 {
     match type_of(x) {
-        Some(ty) => copy_of_type(alloc, ty),
+        Some(ty) => ty.try_clone(alloc),
         None => Ok(Ty::Bool),
     }
 }

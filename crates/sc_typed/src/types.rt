@@ -1,4 +1,4 @@
-//! Types: copies, the type that two types join to, and attributes.
+//! Types: the type that two types join to, and attributes.
 ghost use Rattle.std.specs.Prelude.{◌≡◌, ◌&&◌, [], IfOk, option_map, unwrap_or, if◌then◌else◌};
 ghost use Rattle.std.specs.Option.{option_copied, option_and_then};
 ghost use Rattle.std.specs.Str.{bytes_eq};
@@ -9,9 +9,9 @@ use crate::kinds::{
     entity_name, is_boolean, is_decimal, is_false, is_ip, is_long, is_string, is_true, member,
     record_fields,
 };
-use sc_lists::{Boxed, Seq, Text};
+use sc_lists::{Seq, Shared, Text};
 use sc_names::Name;
-use sc_schema::{Attributes, Presence, Schema, Ty, attrs_of};
+use sc_schema::{Presence, Schema, Ty, attrs_of};
 use std::alloc::{AllocError, Global};
 
 /// The type of a truth value.
@@ -19,37 +19,6 @@ pub fn truth(value: bool) -> Ty
     ensures { result ≡ truth value }
 {
     if value { Ty::True } else { Ty::False }
-}
-
-/// A copy, which equals the type.
-#[cycle(copy)]
-pub fn copy_of_type(alloc: Global, ty: &Ty) -> Result<Ty, AllocError>
-    ensures { IfOk result (λ copy. copy ≡ ty.now) }
-{
-    match ty {
-        Ty::True => Ok(Ty::True),
-        Ty::False => Ok(Ty::False),
-        Ty::Bool => Ok(Ty::Bool),
-        Ty::Long => Ok(Ty::Long),
-        Ty::String => Ok(Ty::String),
-        Ty::Decimal => Ok(Ty::Decimal),
-        Ty::Ip => Ok(Ty::Ip),
-        Ty::Entity(name) => Ok(Ty::Entity(name.try_clone(alloc)?)),
-        Ty::Set(member) => Ok(Ty::Set(Boxed::new(alloc, copy_of_type(alloc, member.get())?)?)),
-        Ty::Record(fields) => Ok(Ty::Record(copy_of_fields(alloc, fields)?)),
-    }
-}
-
-#[cycle(copy)]
-fn copy_of_fields(alloc: Global, fields: &Attributes) -> Result<Attributes, AllocError>
-    ensures { IfOk result (λ copy. copy ≡ fields.now) }
-{
-    let mut copy = Seq::new(alloc);
-    for field in fields.as_slice() {
-        let name = field.0.try_clone(alloc)?;
-        copy.push((name, field.1, copy_of_type(alloc, &field.2)?))?;
-    }
-    Ok(copy)
 }
 
 /// The type that two types join to: equal ones to themselves, two Boolean ones that differ to `Bool`,
@@ -121,7 +90,7 @@ fn join_set(alloc: Global, a: &Ty, b: &Ty) -> Result<Option<Ty>, AllocError>
     let Some(joined) = join(alloc, a, other)? else {
         return Ok(None);
     };
-    Ok(Some(Ty::Set(Boxed::new(alloc, joined)?)))
+    Ok(Some(Ty::Set(Shared::new(alloc, joined)?)))
 }
 
 #[cycle(join)]
@@ -139,7 +108,7 @@ fn join_record(
     let Some(joined) = join_fields(alloc, fields, others)? else {
         return Ok(None);
     };
-    Ok(Some(Ty::Record(joined)))
+    Ok(Some(Ty::Record(Shared::new(alloc, joined)?)))
 }
 
 /// The fields of two record types, joined one by one.
@@ -148,7 +117,7 @@ fn join_fields(
     alloc: Global,
     fields: &[(Text, Presence, Ty)],
     others: &[(Text, Presence, Ty)],
-) -> Result<Option<Attributes>, AllocError>
+) -> Result<Option<Seq<(Text, Presence, Ty)>>, AllocError>
     ensures { IfOk result (λ o. o ≡ join_fields (joining fields.now) others.now) }
 {
     let mut joined = Seq::new(alloc);

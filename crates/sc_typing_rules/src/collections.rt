@@ -8,7 +8,7 @@ ghost use Rattle.sc_typing_rules.specs.Rules.{all_joined, member_type, set_of, w
 
 use crate::logic::joined_type;
 use sc_ast::Place;
-use sc_lists::{Boxed, Fault, Seq, Text};
+use sc_lists::{Boxed, Fault, Seq, Shared, Text};
 use sc_schema::{Presence, Ty};
 use sc_typed::operands::copy_of_ty;
 use sc_typed::{TypeFault, TypeRule, Typed, TypedExpr};
@@ -24,7 +24,7 @@ pub fn set_of(
     ensures { Gives result (set_of place members) }
 {
     let member = member_type(alloc, place, members.as_slice())?;
-    let ty = Ty::Set(Boxed::new(alloc, member)?);
+    let ty = Ty::Set(Shared::new(alloc, member)?);
     let expr = Boxed::new(alloc, TypedExpr::Set(place, ty, members))?;
     Ok(Typed::plain(alloc, expr))
 }
@@ -77,7 +77,7 @@ fn record_type(alloc: Global, fields: &[(Text, TypedExpr)]) -> Result<Ty, AllocE
     ensures { IfOk result (λ t. t ≡ record_type fields.now) }
 {
     let types = types_of(alloc, fields)?;
-    Ok(Ty::Record(required(alloc, types)?))
+    Ok(Ty::Record(Shared::new(alloc, required(alloc, types)?)?))
 }
 
 fn types_of(alloc: Global, fields: &[(Text, TypedExpr)]) -> Result<BTreeMap<Text, Ty>, AllocError>

@@ -6,11 +6,11 @@ ghost use Rattle.sc_typing_rules.specs.Rules.{literal_type, literal_typed, varia
 
 use crate::setting::Setting;
 use sc_ast::{Expr, Literal, Place, Variable, try_clone};
-use sc_lists::{Boxed, Seq};
+use sc_lists::{Boxed, Seq, Shared};
 use sc_names::Uid;
 use sc_schema::{Schema, Ty, context_of};
 use sc_typed::operands::copy_of_ty;
-use sc_typed::types::{copy_of_type, truth};
+use sc_typed::types::truth;
 use sc_typed::{Typed, TypedExpr};
 use std::alloc::{AllocError, Global};
 
@@ -60,8 +60,8 @@ fn context_type(alloc: Global, schema: &Schema, action: &Uid) -> Result<Ty, Allo
     ensures { IfOk result (λ t. t ≡ unwrap_or (context_of schema.now action.now) (Ty.Record [])) }
 {
     match context_of(schema, action) {
-        Some(ty) => copy_of_type(alloc, ty),
-        None => Ok(Ty::Record(Seq::new(alloc))),
+        Some(ty) => ty.try_clone(alloc),
+        None => Ok(Ty::Record(Shared::new(alloc, Seq::new(alloc))?)),
     }
 }
 
@@ -111,7 +111,7 @@ fn leaf_set(alloc: Global, place: Place, members: &[Expr]) -> Result<TypedExpr, 
         (map leaf members.now)) }
 {
     let typed = all_leaves(alloc, members)?;
-    let member = Boxed::new(alloc, first_type(alloc, typed.as_slice())?)?;
+    let member = Shared::new(alloc, first_type(alloc, typed.as_slice())?)?;
     Ok(TypedExpr::Set(place, Ty::Set(member), typed))
 }
 

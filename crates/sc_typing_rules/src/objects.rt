@@ -18,7 +18,7 @@ use sc_typed::bare::{NOWHERE, bare, copy_of_names};
 use sc_typed::capability::{attribute_of, is_known, is_known_in_either};
 use sc_typed::kinds::is_record;
 use sc_typed::operands::{copy_of_ty, object};
-use sc_typed::types::{attribute, copy_of_type, is_required};
+use sc_typed::types::{attribute, is_required};
 use sc_typed::{
     Capability, HasStep, Key, TypeFault, TypeRule, Typed, TypedExpr, place_of, type_of,
 };
@@ -59,7 +59,7 @@ fn read_type(
         }));
     };
     if may_read(setting, field, a, name)? {
-        return Ok(copy_of_type(setting.alloc, &field.2)?);
+        return Ok(field.2.try_clone(setting.alloc)?);
     }
     Err(Fault::Told(TypeFault {
         rule: TypeRule::MaybeAbsent,
@@ -206,7 +206,7 @@ fn step(alloc: Global, name: &Text, object: &Ty, found: Ty) -> Result<HasStep, A
 {
     Ok(HasStep {
         name: name.try_clone(alloc)?,
-        object: copy_of_type(alloc, object)?,
+        object: object.try_clone(alloc)?,
         found,
     })
 }

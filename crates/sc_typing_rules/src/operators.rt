@@ -26,7 +26,7 @@ use sc_typed::literals::{literal_of, same_literal, text_of};
 use sc_typed::operands::{
     boolean, check, copy_of_ty, decimal, entity, group, ip, is_false, is_true, long, set, string,
 };
-use sc_typed::types::{copy_of_type, join, truth};
+use sc_typed::types::{join, truth};
 use sc_typed::{Capability, TypeFault, TypeRule, TypedExpr};
 use std::alloc::{AllocError, Global};
 
@@ -246,7 +246,7 @@ fn get_tag(
             at: place,
         }));
     }
-    Ok(copy_of_type(setting.alloc, ty)?)
+    Ok(ty.try_clone(setting.alloc)?)
 }
 
 /// What an operator gives: `hasTag` that may be true or false gives its tag.

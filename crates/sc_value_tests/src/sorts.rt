@@ -2,7 +2,7 @@
 use crate::samples::{name, uid};
 use sc_decimal::write_decimal;
 use sc_ip::write_ip;
-use sc_lists::{Boxed, Seq, Text};
+use sc_lists::{Boxed, Seq, Shared, Text};
 use sc_names::{Name, Uid, put_escaped, put_uid};
 use sc_schema::{Presence, Ty};
 use sc_sorts::{Sort, default_of, sort_of, try_clone};
@@ -32,7 +32,7 @@ fn record_type(alloc: Global) -> Result<Ty, AllocError> {
     fields.push((nick, Presence::Optional, Ty::String))?;
     let on = Text::from_str(alloc, "on")?;
     fields.push((on, Presence::Required, Ty::Bool))?;
-    Ok(Ty::Record(fields))
+    Ok(Ty::Record(Shared::new(alloc, fields)?))
 }
 
 /// The sort of that type.
