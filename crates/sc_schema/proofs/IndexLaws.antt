@@ -121,6 +121,16 @@ ascending-with_name (x ∷ xs) n a =
     (λ less. ascending-cons n (x ∷ xs) (less, below-all n x xs less (sorted_head text_cmp x xs a)) a) (λ _. a)
     (λ greater. ascending-cons x (with_name xs n) (below-with_name x xs n (below_from_above nat_list_cmp_total n x greater) (sorted_head text_cmp x xs a)) (ascending-with_name xs n (sorted_tail text_cmp x xs a)))
 
+-- a name that is put once more is there
+pub with_name-again : (xs : Names) (n : List ℕ) → with_name (with_name xs n) n ≡ with_name xs n
+unfolding with_name
+with_name-again [] n = with_name-here n [] n refl
+with_name-again (x ∷ xs) n =
+    by_order (λ ys. with_name ys n ≡ ys) (text_cmp n x) _ _ _
+    (λ _. with_name-here n (x ∷ xs) n refl)
+    (λ level. with_name-here x xs n (exact_bytes n x level))
+    (λ greater. with_name-above x (with_name xs n) n (below_from_above nat_list_cmp_total n x greater) ∙ ap (λ (ys : Names). x ∷ ys) (with_name-again xs n))
+
 ascending-fold : (xs ns : Names) → AreAscending xs → AreAscending (fold with_name xs ns)
 ascending-fold xs [] a = a
 ascending-fold xs (n ∷ ns) a = ascending-fold (with_name xs n) ns (ascending-with_name xs n a)

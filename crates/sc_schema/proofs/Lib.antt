@@ -1,6 +1,7 @@
 pub mod OrderLaws
 pub mod PlaceLaws
 pub mod IndexLaws
+pub mod RunLaws
 pub mod EnvironmentLaws
 pub mod EveryTypeLaws
 pub mod LawfulLaws

@@ -1,12 +1,15 @@
 //! What is kept beside the declarations of a schema, so that each answer is a part of it.
-ghost use Rattle.std.specs.Prelude.{◌≡◌, ◌++◌, map, IfOk, OnOk, unwrap_or};
-ghost use Rattle.std.specs.List.{flat_map, fold};
+ghost use Rattle.std.specs.Prelude.{◌≡◌, ◌++◌, ◌∷◌, map, drop, IfOk, OnOk, unwrap_or};
+ghost use Rattle.std.specs.List.{AllByRecursion, flat_map, fold, prefix_len};
+ghost use Rattle.std.specs.List.Sorted.{IsStrictlySortedBy};
+ghost use Rattle.std.specs.Str.{bytes_eq};
 ghost use Rattle.sc_names.specs.declared.uid.Uid.{Uid as AnyUid};
+ghost use Rattle.sc_names.specs.Uids.{uid_cmp};
 ghost use Rattle.sc_schema.specs.declared.declarations.EntityType.{EntityType as AnyType};
 ghost use Rattle.sc_schema.specs.declared.declarations.Action.{Action as AnyAction};
 ghost use Rattle.sc_schema.specs.Declarations.{environment, environments_for, with_name};
 ghost use Rattle.sc_schema.specs.Indices.{IsAbove, IsIndexOf};
-ghost use Rattle.sc_schema.specs.Lawful.{AreAscending};
+ghost use Rattle.sc_schema.specs.Lawful.{AreAscending, IsLawful};
 
 use crate::declarations::{Action, EntityType, Env};
 use crate::ty::Ty;
@@ -36,6 +39,7 @@ pub(crate) fn index_of(
     types: &[EntityType],
     actions: &[Action],
 ) -> Result<Index, AllocError>
+    requires { IsLawful (record { types = types.now; actions = actions.now }) }
     ensures { IfOk result (λ i. IsIndexOf (record { types = types.now; actions = actions.now }) i) }
 {
     Ok(Index {
@@ -68,6 +72,7 @@ fn uids_of(alloc: Global, actions: &[Action]) -> Result<Seq<Uid>, AllocError>
 }
 
 fn types_above(alloc: Global, actions: &[Action]) -> Result<BTreeMap<Name, Seq<Name>>, AllocError>
+    requires { AllByRecursion (λ (a : AnyAction). IsStrictlySortedBy uid_cmp a.ancestors) actions.now }
     ensures { IfOk result (λ above. IsAbove actions.now above.entries) }
 {
     let mut above = BTreeMap::new(alloc);
@@ -80,16 +85,29 @@ fn types_above(alloc: Global, actions: &[Action]) -> Result<BTreeMap<Name, Seq<N
     Ok(above)
 }
 
-/// Puts the types of uids among names in their order, each once.
+/// Puts the types of uids among names in their order, each once. The uids ascend, so those of one type
+/// stand beside one another, and the first of them is put for all.
 fn put_types(alloc: Global, names: &mut Seq<Name>, uids: &[Uid]) -> Result<(), AllocError>
-    requires { AreAscending names.old }
+    requires names_ascend { AreAscending names.old }
+    requires uids_ascend { IsStrictlySortedBy uid_cmp uids.now }
     ensures put { OnOk result (names.new ≡ fold with_name names.old (map (λ (u : AnyUid). u.type_name) uids.now)) }
     ensures ascending { OnOk result (AreAscending names.new) }
 {
-    for uid in uids {
+    let mut rest = uids;
+    while let Some((uid, later)) = rest.split_first() {
         put_name(alloc, names, &uid.type_name)?;
+        rest = after_run(uid, later);
     }
     Ok(())
+}
+
+/// The uids after those at the front that are of the type of the one before them.
+fn after_run<'a>(uid: &Uid, later: &'a [Uid]) -> &'a [Uid]
+    requires { IsStrictlySortedBy uid_cmp (uid.now ∷ later.now) }
+    ensures { result.now ≡ drop (prefix_len (λ (u : AnyUid). bytes_eq uid.now.type_name u.type_name) later.now) later.now }
+{
+    let run = later.partition_point(|other| uid.type_name.as_str() == other.type_name.as_str());
+    &later[run..]
 }
 
 fn put_name(alloc: Global, names: &mut Seq<Name>, name: &Name) -> Result<(), AllocError>

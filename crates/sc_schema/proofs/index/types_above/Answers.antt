@@ -2,8 +2,10 @@ use Rattle.std.proofs.Common.{◌≡◌, ◌∙◌, ap, sym, subst, cond, unwrap
 use Rattle.std.specs.List.{fold}
 use Rattle.std.specs.BTreeMap.{is_at}
 use Rattle.std.specs.Map.{lookup}
+use Rattle.std.specs.List.Sorted.{IsStrictlySortedBy}
+use Rattle.std.proofs.lemmas.List.Elements.{All-from_recursion}
 use Rattle.std.proofs.lemmas.List.{take_more}
-use Rattle.sc_names.specs.Uids.{text_cmp}
+use Rattle.sc_names.specs.Uids.{text_cmp, uid_cmp}
 use Rattle.sc_schema.specs.Indices.{IsAbove}
 use Rattle.sc_schema.specs.Lawful.{AreAscending}
 use Rattle.sc_names.specs.declared.uid.Uid.{Uid}
@@ -12,13 +14,19 @@ use Rattle.sc_schema.specs.declared.declarations.Action.{Action}
 use Rattle.sc_schema.proofs.IndexLaws.{IsAbove-more, above-ascending, put_again, above_one}
 use Rattle.sc_schema.proofs.index.types_above.Goals as goal
 
-pub put_types-requires : goal.put_types-requires
-put_types-requires c =
+pub put_types-requires-clause-names_ascend : goal.put_types-requires-clause-names_ascend
+put_types-requires-clause-names_ascend c =
     let a = c.action-item.result in
     let old = c.loop-action.above.entries in
     let found : c.unwrap_or-names.result ≡ unwrap_or (lookup (is_at (text_cmp a.uid.type_name)) old) [] =
     c.unwrap_or-names.ensures ∙ (ap (unwrap_or c.remove.result) c.new.ensures ∙ (ap (λ o. unwrap_or o []) c.remove.ensures.value ∙ ap (λ n. unwrap_or (lookup (is_at (text_cmp n)) old) []) c.in_ok-name.ensures)) in
     subst AreAscending (sym found) (above-ascending _ old a.uid.type_name c.loop-action.invariant)
+
+pub put_types-requires-clause-uids_ascend : goal.put_types-requires-clause-uids_ascend
+put_types-requires-clause-uids_ascend c =
+    let a = c.action-item.result in
+    let each = All-from_recursion (λ (x : Action). IsStrictlySortedBy uid_cmp x.ancestors) c.args.actions.now c.requires c.loop-action.action-index a c.loop-action-test.true in
+    subst (IsStrictlySortedBy uid_cmp) (sym c.as_slice.ensures) (subst (λ (x : Action). IsStrictlySortedBy uid_cmp x.ancestors) (sym c.action-item.is) each)
 
 pub loop-action-preserved : goal.loop-action-preserved
 loop-action-preserved c =
