@@ -52,7 +52,7 @@ fn type_name(alloc: Global, problem: &Problem<'_>, term: u64) -> Result<Name, Al
 {
     match problem.terms().sort(term) {
         Sort::Entity(name, _) => name.try_clone(alloc),
-        _ => Ok(Name::from_text(Text::new())),
+        _ => Ok(Name::from_text(Text::from_str(alloc, "")?)),
     }
 }
 

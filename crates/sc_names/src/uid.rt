@@ -21,7 +21,7 @@ impl Uid {
     {
         Ok(Uid {
             type_name: type_name.try_clone(alloc)?,
-            id: Text::new(),
+            id: Text::from_str(alloc, "")?,
         })
     }
 

@@ -28,7 +28,7 @@ fn or_empty(alloc: Global, name: Option<&Text>) -> Result<Text, AllocError>
 {
     match name {
         Some(text) => text.try_clone(alloc),
-        None => Ok(Text::new()),
+        None => Text::from_str(alloc, ""),
     }
 }
 
@@ -51,7 +51,7 @@ fn name_of(
     match problem.terms().sort(n) {
         Sort::String => or_empty(alloc, name_in(problem, m, strings, n)),
         Sort::Entity(_, _) => or_empty(alloc, id_in(problem, m, ids, n)),
-        _ => Ok(Text::new()),
+        _ => Text::from_str(alloc, ""),
     }
 }
 

@@ -83,7 +83,7 @@ impl Item for WrittenParent {
     ) -> Result<Option<SchemaFault>, AllocError> {
         match action_named(alloc, declared, namespace, self)? {
             Some(_) => Ok(None),
-            None => Ok(Some(SchemaFault::UnknownAction(Text::new()))),
+            None => Ok(Some(SchemaFault::UnknownAction(Text::from_str(alloc, "")?))),
         }
     }
 }

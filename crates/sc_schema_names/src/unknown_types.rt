@@ -114,7 +114,7 @@ pub(crate) fn entity_type_fault(
 {
     match entity_type_named(alloc, declared, namespace, text)? {
         Some(_) => Ok(None),
-        None => Ok(Some(unknown_type())),
+        None => Ok(Some(unknown_type(alloc)?)),
     }
 }
 
@@ -130,7 +130,7 @@ fn any_fault(
 {
     match type_named(alloc, declared, namespace, name.as_str())? {
         Some(_) => Ok(None),
-        None => inside(alloc, "name", Some(unknown_type())),
+        None => inside(alloc, "name", Some(unknown_type(alloc)?)),
     }
 }
 
@@ -146,7 +146,7 @@ fn common_fault(
 {
     match common_type_named(alloc, declared, namespace, name.as_str())? {
         Some(_) => Ok(None),
-        None => inside(alloc, "type", Some(unknown_type())),
+        None => inside(alloc, "type", Some(unknown_type(alloc)?)),
     }
 }
 
@@ -165,8 +165,8 @@ pub(crate) fn inside(
 }
 
 /// The fault that a text names no type.
-fn unknown_type() -> SchemaFault
-    ensures { result ≡ UnknownType [] }
+fn unknown_type(alloc: Global) -> Result<SchemaFault, AllocError>
+    ensures { IfOk result (λ fault. fault ≡ UnknownType []) }
 {
-    SchemaFault::UnknownType(Text::new())
+    Ok(SchemaFault::UnknownType(Text::from_str(alloc, "")?))
 }

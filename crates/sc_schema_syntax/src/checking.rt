@@ -29,10 +29,10 @@ fn value_fault(alloc: Global, form: Form, value: &Value) -> Result<Option<Schema
     ensures { IfOk result (λ fault. fault ≡ value_fault form (view value.now)) }
 {
     match value {
-        Value::Null => Ok(shape_fault(false)),
-        Value::Bool(truth) => Ok(shape_fault(admits_truth(form, *truth))),
-        Value::Number(_) => Ok(shape_fault(false)),
-        Value::String(text) => Ok(shape_fault(admits_text(form, text.as_str()))),
+        Value::Null => shape_fault(alloc, false),
+        Value::Bool(truth) => shape_fault(alloc, admits_truth(form, *truth)),
+        Value::Number(_) => shape_fault(alloc, false),
+        Value::String(text) => shape_fault(alloc, admits_text(form, text.as_str())),
         Value::Array(items) => list_fault(alloc, form, items),
         Value::Object(members) => object_fault(alloc, form, members),
     }
@@ -49,7 +49,7 @@ fn list_fault(
 {
     match item_form(form) {
         Some(each) => items_fault(alloc, each, items),
-        None => Ok(shape_fault(false)),
+        None => shape_fault(alloc, false),
     }
 }
 
@@ -82,7 +82,7 @@ fn object_fault(
 {
     match level_of(form, members) {
         Some(level) => level_fault(alloc, level, members),
-        None => Ok(shape_fault(false)),
+        None => shape_fault(alloc, false),
     }
 }
 
@@ -98,7 +98,7 @@ fn level_fault(
         (members_fault level (members_view members.now.entries))) }
 {
     if !is_whole(level, members) {
-        return Ok(shape_fault(false));
+        return shape_fault(alloc, false);
     }
     members_fault(alloc, level, members)
 }
@@ -131,7 +131,7 @@ fn member_fault(
     ensures { IfOk result (λ fault. fault ≡ member_fault level name.now (view value.now)) }
 {
     if !is_name(level, name) {
-        return Ok(Some(SchemaFault::BadName(Text::new())));
+        return Ok(Some(SchemaFault::BadName(Text::from_str(alloc, "")?)));
     }
     match member_form(level, name) {
         Some(form) => value_fault(alloc, form, value),
@@ -140,12 +140,12 @@ fn member_fault(
 }
 
 /// The fault that a value isn't of its form, unless it is.
-fn shape_fault(is_of_form: bool) -> Option<SchemaFault>
-    ensures { result ≡ shape_fault is_of_form }
+fn shape_fault(alloc: Global, is_of_form: bool) -> Result<Option<SchemaFault>, AllocError>
+    ensures { IfOk result (λ fault. fault ≡ shape_fault is_of_form) }
 {
     if is_of_form {
-        None
+        Ok(None)
     } else {
-        Some(SchemaFault::BadShape(Text::new()))
+        Ok(Some(SchemaFault::BadShape(Text::from_str(alloc, "")?)))
     }
 }

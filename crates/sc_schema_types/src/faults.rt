@@ -91,7 +91,7 @@ fn action_fault(
 ) -> Result<Option<SchemaFault>, AllocError>
     ensures { IfOk result (λ fault. fault ≡ action_fault (judged_by (outline_in table.now.entries)) action.now) }
 {
-    match optional_fault(table, Wanted::RecordType, action.context.as_ref()) {
+    match optional_fault(alloc, table, Wanted::RecordType, action.context.as_ref())? {
         Some(fault) => {
             let fault = under(alloc, "context", fault)?;
             inside(alloc, action.uid.id.as_str(), "appliesTo", fault)
@@ -125,7 +125,7 @@ fn common_type_fault(
 ) -> Result<Option<SchemaFault>, AllocError>
     ensures { IfOk result (λ fault. fault ≡ common_type_fault (judged_by (outline_in table.now.entries)) declared.now) }
 {
-    match outline_fault(Wanted::AnyType, outline_of(table, &declared.body)) {
+    match outline_fault(alloc, Wanted::AnyType, outline_of(table, &declared.body))? {
         Some(fault) => Ok(Some(under(alloc, declared.key.as_str(), fault)?)),
         None => Ok(None),
     }
@@ -157,10 +157,15 @@ fn entity_type_fault(
     ensures { IfOk result (λ fault. fault ≡ entity_type_fault (judged_by (outline_in table.now.entries)) declared.now) }
 {
     let key = declared.key.as_str();
-    if let Some(fault) = optional_fault(table, Wanted::RecordType, declared.shape.as_ref()) {
+    if let Some(fault) = optional_fault(
+        alloc,
+        table,
+        Wanted::RecordType,
+        declared.shape.as_ref(),
+    )? {
         return inside(alloc, key, "shape", fault);
     }
-    if let Some(fault) = optional_fault(table, Wanted::AnyType, declared.tags.as_ref()) {
+    if let Some(fault) = optional_fault(alloc, table, Wanted::AnyType, declared.tags.as_ref())? {
         return inside(alloc, key, "tags", fault);
     }
     Ok(None)
@@ -168,14 +173,16 @@ fn entity_type_fault(
 
 /// The fault of a type that may be absent, at its own place.
 fn optional_fault(
+    alloc: Global,
     table: &BTreeMap<Name, Outline>,
     wanted: Wanted,
     resolved: Option<&ResolvedType>,
-) -> Option<SchemaFault>
-    ensures { result ≡ optional_fault (judged_by (outline_in table.now.entries)) wanted (option_copied resolved.entry) }
+) -> Result<Option<SchemaFault>, AllocError>
+    ensures { IfOk result (λ fault. fault
+        ≡ optional_fault (judged_by (outline_in table.now.entries)) wanted (option_copied resolved.entry)) }
 {
     match resolved {
-        Some(resolved) => outline_fault(wanted, outline_of(table, resolved)),
-        None => None,
+        Some(resolved) => outline_fault(alloc, wanted, outline_of(table, resolved)),
+        None => Ok(None),
     }
 }

@@ -159,14 +159,18 @@ fn put_outline(
 }
 
 /// The fault of a type with this outline, at its own place.
-pub(crate) fn outline_fault(wanted: Wanted, outline: Outline) -> Option<SchemaFault>
-    ensures { result ≡ outline_fault wanted outline }
+pub(crate) fn outline_fault(
+    alloc: Global,
+    wanted: Wanted,
+    outline: Outline,
+) -> Result<Option<SchemaFault>, AllocError>
+    ensures { IfOk result (λ fault. fault ≡ outline_fault wanted outline) }
 {
     if wanted == Wanted::RecordType && !outline.is_record {
-        return Some(SchemaFault::NotRecord(Text::new()));
+        return Ok(Some(SchemaFault::NotRecord(Text::from_str(alloc, "")?)));
     }
     if outline.levels > MOST_LEVELS || outline.nodes > MOST_NODES {
-        return Some(SchemaFault::TypeTooLarge(Text::new()));
+        return Ok(Some(SchemaFault::TypeTooLarge(Text::from_str(alloc, "")?)));
     }
-    None
+    Ok(None)
 }

@@ -69,7 +69,7 @@ pub(crate) fn unused(
             return text.try_clone(alloc);
         }
     }
-    Ok(Text::new())
+    Text::from_str(alloc, "")
 }
 
 /// The same where there may be no texts.
@@ -85,6 +85,6 @@ pub(crate) fn unused_of(
 {
     match texts {
         Some(texts) => unused(alloc, problem, entries, texts.as_slice()),
-        None => Ok(Text::new()),
+        None => Text::from_str(alloc, ""),
     }
 }

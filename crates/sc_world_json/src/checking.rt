@@ -26,10 +26,10 @@ pub(crate) fn value_fault(
     ensures { IfOk result (λ fault. fault ≡ value_fault form (view value.now)) }
 {
     match value {
-        Json::Null => Ok(fault_unless(false)),
-        Json::Bool(_) => Ok(fault_unless(admits_truth(form))),
-        Json::Number(number) => Ok(fault_unless(admits_number(form, number))),
-        Json::String(text) => Ok(fault_unless(admits_text(form, text.as_str()))),
+        Json::Null => fault_unless(alloc, false),
+        Json::Bool(_) => fault_unless(alloc, admits_truth(form)),
+        Json::Number(number) => fault_unless(alloc, admits_number(form, number)),
+        Json::String(text) => fault_unless(alloc, admits_text(form, text.as_str())),
         Json::Array(items) => list_fault(alloc, form, items),
         Json::Object(members) => object_fault(alloc, form, members),
     }
@@ -46,7 +46,7 @@ fn list_fault(
 {
     match item_form(form) {
         Some(each) => items_fault(alloc, each, items),
-        None => Ok(fault_unless(false)),
+        None => fault_unless(alloc, false),
     }
 }
 
@@ -79,7 +79,7 @@ fn object_fault(
 {
     match level_of(form, members) {
         Some(level) => level_fault(alloc, level, members),
-        None => Ok(fault_unless(false)),
+        None => fault_unless(alloc, false),
     }
 }
 
@@ -95,7 +95,7 @@ fn level_fault(
         (members_fault level (members_view members.now.entries))) }
 {
     if !has_members(level, members) {
-        return Ok(fault_unless(false));
+        return fault_unless(alloc, false);
     }
     members_fault(alloc, level, members)
 }
@@ -134,12 +134,15 @@ fn member_fault(
 }
 
 /// The fault that a value isn't of its form, unless it is.
-pub(crate) fn fault_unless(is_of_form: bool) -> Option<WorldFault>
-    ensures { result ≡ fault_unless is_of_form }
+pub(crate) fn fault_unless(
+    alloc: Global,
+    is_of_form: bool,
+) -> Result<Option<WorldFault>, AllocError>
+    ensures { IfOk result (λ fault. fault ≡ fault_unless is_of_form) }
 {
     if is_of_form {
-        None
+        Ok(None)
     } else {
-        Some(WorldFault::BadWorld(Text::new()))
+        Ok(Some(WorldFault::BadWorld(Text::from_str(alloc, "")?)))
     }
 }

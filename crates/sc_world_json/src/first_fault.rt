@@ -24,7 +24,7 @@ pub(crate) fn first_fault(alloc: Global, value: &Json) -> Result<Option<WorldFau
     ensures { IfOk result (λ fault. fault ≡ first_fault (view value.now)) }
 {
     if !is_world(value) {
-        return Ok(fault_unless(false));
+        return fault_unless(alloc, false);
     }
     if let Some(fault) = fault_at_entities(alloc, value)? {
         return Ok(Some(fault));
@@ -75,7 +75,7 @@ fn store_fault(alloc: Global, value: &Json) -> Result<Option<WorldFault>, AllocE
 {
     match value.as_array() {
         Some(items) => entities_fault(alloc, items),
-        None => Ok(fault_unless(false)),
+        None => fault_unless(alloc, false),
     }
 }
 
@@ -109,7 +109,7 @@ fn entity_fault(
     }
     let uid = uid_of(alloc, value.get("uid"))?;
     let is_new = before.insert(uid)?;
-    match fault_unless(is_new) {
+    match fault_unless(alloc, is_new)? {
         Some(fault) => Ok(Some(under(alloc, "uid", fault)?)),
         None => Ok(None),
     }

@@ -1,6 +1,7 @@
-use Rattle.std.proofs.Common.{◌≡◌, ◌∙◌, ℕ, List, Some, string_bytes, length, get_or, ap, sym, subst, rules, arith}
+use Rattle.std.proofs.Common.{◌≡◌, ◌∙◌, ℕ, List, Option, Some, IfOk, string_bytes, length, get_or, ap, sym, subst, rules, arith}
 use Rattle.std.specs.Fmt.{decimal}
 use Rattle.serde_json.specs.View.{view}
+use Rattle.sc_schema_syntax.specs.declared.fault.SchemaFault.{SchemaFault}
 use Rattle.sc_schema_syntax.specs.Pointers.{under}
 use Rattle.sc_schema_syntax.specs.Forms.{admits_text}
 use Rattle.sc_schema_syntax.specs.Faults.{shape_fault, value_fault, member_fault}
@@ -12,25 +13,29 @@ use Rattle.sc_schema_syntax.proofs.checking.+checking.Goals as goal
 pub value_fault-returns-in-Null : goal.value_fault-returns-in-Null
 unfolding value_fault
 value_fault-returns-in-Null t c =
-    c.shape_fault.ensures ∙ sym (ap (value_fault c.args.form) (view_null c.args.value.now c.in-Null.is))
+    subst (λ (told : Option SchemaFault). IfOk c.shape_fault.result (λ fault. fault ≡ told))
+    (sym (ap (value_fault c.args.form) (view_null c.args.value.now c.in-Null.is))) c.shape_fault.ensures
 
 pub value_fault-returns-in-Bool : goal.value_fault-returns-in-Bool
 unfolding value_fault
 value_fault-returns-in-Bool t c =
-    c.shape_fault-in-Bool.ensures ∙ (ap shape_fault c.admits_truth.ensures ∙ sym (ap (value_fault c.args.form) (view_truth c.args.value.now c.in-Bool.truth c.in-Bool.is)))
+    subst (λ (told : Option SchemaFault). IfOk c.shape_fault-in-Bool.result (λ fault. fault ≡ told))
+    (ap shape_fault c.admits_truth.ensures ∙ sym (ap (value_fault c.args.form) (view_truth c.args.value.now c.in-Bool.truth c.in-Bool.is))) c.shape_fault-in-Bool.ensures
 
 pub value_fault-returns-in-Number : goal.value_fault-returns-in-Number
 unfolding value_fault
 value_fault-returns-in-Number t c =
-    c.shape_fault-in-Number.ensures ∙ sym (ap (value_fault c.args.form) (view_number c.args.value.now c.in-Number.field-0 c.in-Number.is))
+    subst (λ (told : Option SchemaFault). IfOk c.shape_fault-in-Number.result (λ fault. fault ≡ told))
+    (sym (ap (value_fault c.args.form) (view_number c.args.value.now c.in-Number.field-0 c.in-Number.is))) c.shape_fault-in-Number.ensures
 
 pub value_fault-returns-in-String : goal.value_fault-returns-in-String
 unfolding value_fault
 value_fault-returns-in-String t c =
     let text = c.as_str.ensures.value in
-    c.shape_fault-in-String.ensures ∙ (ap shape_fault c.admits_text.ensures
+    subst (λ (told : Option SchemaFault). IfOk c.shape_fault-in-String.result (λ fault. fault ≡ told))
+    (ap shape_fault c.admits_text.ensures
     ∙ (ap (λ (s : List ℕ). shape_fault (admits_text c.args.form s)) text
-    ∙ sym (ap (value_fault c.args.form) (view_text c.args.value.now c.in-String.text c.in-String.is))))
+    ∙ sym (ap (value_fault c.args.form) (view_text c.args.value.now c.in-String.text c.in-String.is)))) c.shape_fault-in-String.ensures
 
 pub list_fault-returns-in-Some : goal.list_fault-returns-in-Some
 unfolding value_fault

@@ -1,6 +1,7 @@
-use Rattle.std.proofs.Common.{◌≡◌, ◌∙◌, ℕ, List, Some, string_bytes, length, get_or, ap, sym, subst, rules, arith}
+use Rattle.std.proofs.Common.{◌≡◌, ◌∙◌, ℕ, List, Option, Some, IfOk, string_bytes, length, get_or, ap, sym, subst, rules, arith}
 use Rattle.std.specs.Fmt.{decimal}
 use Rattle.serde_json.specs.View.{view}
+use Rattle.sc_world_json.specs.declared.fault.WorldFault.{WorldFault}
 use Rattle.sc_world_json.specs.Forms.{admits_text}
 use Rattle.sc_world_json.specs.Faults.{fault_unless, under, value_fault, member_fault}
 use Rattle.sc_json_views.proofs.WalkLaws.{fault_of_item, no_fault_of_item, no_items_left, fault_of_member, no_fault_of_member}
@@ -11,25 +12,29 @@ use Rattle.sc_world_json.proofs.checking.+checking.Goals as goal
 pub value_fault-returns-in-Null : goal.value_fault-returns-in-Null
 unfolding value_fault
 value_fault-returns-in-Null t c =
-    c.fault_unless.ensures ∙ sym (ap (value_fault c.args.form) (view_null c.args.value.now c.in-Null.is))
+    subst (λ (told : Option WorldFault). IfOk c.fault_unless.result (λ fault. fault ≡ told))
+    (sym (ap (value_fault c.args.form) (view_null c.args.value.now c.in-Null.is))) c.fault_unless.ensures
 
 pub value_fault-returns-in-Bool : goal.value_fault-returns-in-Bool
 unfolding value_fault
 value_fault-returns-in-Bool t c =
-    c.fault_unless-in-Bool.ensures ∙ (ap fault_unless c.admits_truth.ensures ∙ sym (ap (value_fault c.args.form) (view_truth c.args.value.now c.in-Bool.field-0 c.in-Bool.is)))
+    subst (λ (told : Option WorldFault). IfOk c.fault_unless-in-Bool.result (λ fault. fault ≡ told))
+    (ap fault_unless c.admits_truth.ensures ∙ sym (ap (value_fault c.args.form) (view_truth c.args.value.now c.in-Bool.field-0 c.in-Bool.is))) c.fault_unless-in-Bool.ensures
 
 pub value_fault-returns-in-Number : goal.value_fault-returns-in-Number
 unfolding value_fault
 value_fault-returns-in-Number t c =
-    c.fault_unless-in-Number.ensures ∙ (ap fault_unless c.admits_number.ensures ∙ sym (ap (value_fault c.args.form) (view_number c.args.value.now c.in-Number.number c.in-Number.is)))
+    subst (λ (told : Option WorldFault). IfOk c.fault_unless-in-Number.result (λ fault. fault ≡ told))
+    (ap fault_unless c.admits_number.ensures ∙ sym (ap (value_fault c.args.form) (view_number c.args.value.now c.in-Number.number c.in-Number.is))) c.fault_unless-in-Number.ensures
 
 pub value_fault-returns-in-String : goal.value_fault-returns-in-String
 unfolding value_fault
 value_fault-returns-in-String t c =
     let text = c.as_str.ensures.value in
-    c.fault_unless-in-String.ensures ∙ (ap fault_unless c.admits_text.ensures
+    subst (λ (told : Option WorldFault). IfOk c.fault_unless-in-String.result (λ fault. fault ≡ told))
+    (ap fault_unless c.admits_text.ensures
     ∙ (ap (λ (s : List ℕ). fault_unless (admits_text c.args.form s)) text
-    ∙ sym (ap (value_fault c.args.form) (view_text c.args.value.now c.in-String.text c.in-String.is))))
+    ∙ sym (ap (value_fault c.args.form) (view_text c.args.value.now c.in-String.text c.in-String.is)))) c.fault_unless-in-String.ensures
 
 pub list_fault-returns-in-Some : goal.list_fault-returns-in-Some
 unfolding value_fault
