@@ -1,5 +1,5 @@
 //! A text that contracts see as its bytes, and that copies share.
-ghost use Rattle.std.specs.Prelude.{◌≡◌, [], IfOk, string_bytes};
+ghost use Rattle.std.specs.Prelude.{◌≡◌, IfOk, string_bytes};
 ghost use Rattle.std.specs.Rc.{rc_str_bytes};
 ghost use Rattle.std.specs.Ordering.{nat_cmp};
 ghost use Rattle.std.specs.Cmp.Lexicographic.{slice_cmp};
@@ -13,36 +13,25 @@ use std::rc::RcStr;
 /// A text that contracts see as its bytes. Its copies share these bytes, so a copy takes no memory.
 #[derive(Debug, Drop)]
 pub struct Text {
-    // The text, unless it is empty.
-    shared: Option<RcStr>,
+    shared: RcStr,
 }
 
 impl Model for Text {
-    ghost use Rattle.std.specs.Prelude.{ℕ, List, [], unwrap_or, option_map};
+    ghost use Rattle.std.specs.Prelude.{ℕ, List};
     ghost use Rattle.std.specs.Rc.{rc_str_bytes};
 
     ghost Value = { List ℕ };
 
-    ghost view = { λ t. unwrap_or (option_map rc_str_bytes t.shared) [] };
+    ghost view = { λ t. rc_str_bytes t.shared };
 }
 
 impl Text {
-    /// The empty text, which takes no memory.
-    pub fn new() -> Text
-        ensures { result ≡ [] }
-    {
-        Text { shared: None }
-    }
-
     /// A copy of a text.
     pub fn from_str(alloc: Global, text: &str) -> Result<Text, AllocError>
         ensures { IfOk result (λ t. t ≡ text.now) }
     {
-        if text.is_empty() {
-            return Ok(Text::new());
-        }
         Ok(Text {
-            shared: Some(RcStr::from_str(alloc, text)?),
+            shared: RcStr::from_str(alloc, text)?,
         })
     }
 
@@ -51,7 +40,7 @@ impl Text {
         ensures { IfOk result (λ t. t ≡ string_bytes text) }
     {
         Ok(Text {
-            shared: Some(RcStr::from_string(text)?),
+            shared: RcStr::from_string(text)?,
         })
     }
 
@@ -59,10 +48,7 @@ impl Text {
     pub fn as_str(&self) -> &str
         ensures { result.now ≡ self.now }
     {
-        match &self.shared {
-            Some(text) => text.as_str(),
-            None => "",
-        }
+        self.shared.as_str()
     }
 
     /// The order of texts by their bytes.
@@ -83,12 +69,9 @@ impl Text {
     pub fn try_clone(&self, _alloc: Global) -> Result<Text, AllocError>
         ensures { IfOk result (λ t. t ≡ self.now) }
     {
-        match &self.shared {
-            Some(text) => Ok(Text {
-                shared: Some(text.clone()?),
-            }),
-            None => Ok(Text { shared: None }),
-        }
+        Ok(Text {
+            shared: self.shared.clone()?,
+        })
     }
 }
 
