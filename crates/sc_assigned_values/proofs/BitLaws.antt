@@ -1,5 +1,5 @@
 -- Bits in a row, and the numbers and addresses that depend on no further ones.
-use Rattle.std.proofs.Common.{◌≡◌, ◌<◌, ◌≤◌, ◌+◌, ◌-◌, ◌++◌, ℤ, w64, to_z, of_z, SFits, ℕ, zero, suc, Bool, true, false, List, [], ◌∷◌, map, length, get_or, refl, sym, ap, ◌∙◌, subst, arith}
+use Rattle.std.proofs.Common.{◌≡◌, ◌<◌, ◌≤◌, ◌+◌, ◌-◌, ◌++◌, ℤ, w64, to_z, of_z, SFits, ℕ, zero, suc, Bool, false, List, [], ◌∷◌, map, length, get_or, refl, sym, ap, ◌∙◌, subst, arith}
 use Rattle.std.proofs.lemmas.Int.{to_z-of_z}
 use Rattle.sc_bits.specs.Bits.{number, of_bits64}
 use Rattle.sc_bits.proofs.IntegerLaws.{fits-of_bits}
@@ -7,6 +7,7 @@ use Rattle.sc_bits.specs.Blocks.{width_by, length_below}
 use Rattle.sc_bits.specs.Addresses.{ip_of}
 use Rattle.sc_bits.proofs.NumberLaws.{number-same}
 use Rattle.sc_definitions.specs.Definitions.{counted}
+use Rattle.sc_bits.proofs.BlockLaws.{width-le}
 
 module _ (f : ℕ → Bool) where
   bits_length : (from n : ℕ) → length (map f (counted from n)) ≡ n
@@ -58,14 +59,10 @@ length_only f g (suc n) h =
     let last : f n ≡ g n = h n (omega arith) in
     rw (rest, last) refl
 
-width_small : (b : Bool) → width_by b ≤ 128
-width_small false = omega arith
-width_small true = omega arith
-
 pub ip_only : (f g : ℕ → Bool) → ((i : ℕ) → i < 257 → f i ≡ g i) → ip_of f ≡ ip_of g
 ip_only f g h =
     let first : f 0 ≡ g 0 = h 0 (omega arith) in
-    let small : width_by (g 0) ≤ 128 = width_small (g 0) in
+    let small : width_by (g 0) ≤ 128 = width-le (g 0) in
     let address : number (λ i. f (129 + (width_by (g 0) - 1 - i))) (width_by (g 0)) ≡ number (λ i. g (129 + (width_by (g 0) - 1 - i))) (width_by (g 0)) =
     number-same (λ i. f (129 + (width_by (g 0) - 1 - i))) (λ i. g (129 + (width_by (g 0) - 1 - i))) (width_by (g 0)) (λ i k. h (129 + (width_by (g 0) - 1 - i)) (omega (arith, small, k))) in
     let prefix : length_below (λ j. f (1 + j)) 128 ≡ length_below (λ j. g (1 + j)) 128 =

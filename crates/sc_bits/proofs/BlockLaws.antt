@@ -53,7 +53,7 @@ block_bit-address a j =
 
 -- ---- every address meets the clauses
 
-width-le : (b : Bool) → width_by b ≤ 128
+pub width-le : (b : Bool) → width_by b ≤ 128
 width-le true = omega arith
 width-le false = omega arith
 

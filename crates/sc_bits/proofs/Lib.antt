@@ -4,6 +4,6 @@ pub mod IntegerLaws
 pub mod AdderLaws
 pub mod OrderLaws
 pub mod ProductLaws
-mod BlockLaws
+pub mod BlockLaws
 pub mod PlainLaws
 mod AddressLaws

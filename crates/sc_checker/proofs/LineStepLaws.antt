@@ -4,7 +4,7 @@ use Rattle.std.specs.List.{list_all, slice_split}
 use Rattle.std.specs.Fmt.{decimal}
 use Rattle.std.specs.Str.{bytes_eq}
 use Rattle.std.specs.Str.Parse.{digits_value}
-use Rattle.std.proofs.lemmas.Bool.{and_parts, and_from, not-true, ne_eqb, true≢false}
+use Rattle.std.proofs.lemmas.Bool.{and_parts, and_from, not-true, ne_eqb, true≢false, cond-false}
 use Rattle.std.proofs.lemmas.Fmt.{decimal_is_IsNumeral}
 use Rattle.std.proofs.lemmas.Slice.Eq.{bytes_eq-Decides}
 use Rattle.sc_clauses.specs.declared.lit.Lit.{Lit}
@@ -45,10 +45,6 @@ neither false true c x y e f g = absurd (true≢false f)
 neither false false true x y e f g = absurd (true≢false g)
 neither false false false x y e f g = refl
 
-otherwise : {X : Type 0} (a : Bool) (x y : X) → a ≡ false → cond a x y ≡ y
-otherwise true x y e = absurd (true≢false e)
-otherwise false x y e = refl
-
 word_back : (w : Word) → is_word w ≡ true → likely_word (word_text w) ≡ w
 word_back (Number n) e =
     neither _ _ _ _ _ (no_sign 43 n (decimal n) (omega arith) e refl) (no_sign 45 n (decimal n) (omega arith) e refl) (no_sign 46 n (decimal n) (omega arith) e refl)
@@ -63,7 +59,7 @@ lit_at b n = record { atom = n; negated = b }
 
 lit_back_at : (n : ℕ) (b : Bool) → is_number n ≡ true → likely_lit (lit_text (lit_at b n)) ≡ lit_at b n
 lit_back_at n true e = ap (lit_at true) (value_back n e)
-lit_back_at n false e = otherwise _ _ _ (no_sign 45 n (decimal n) (omega arith) e refl) ∙ ap (lit_at false) (value_back n e)
+lit_back_at n false e = cond-false _ _ _ (no_sign 45 n (decimal n) (omega arith) e refl) ∙ ap (lit_at false) (value_back n e)
 
 lit_back : (l : Lit) → is_lit l ≡ true → likely_lit (lit_text l) ≡ l
 lit_back l e = lit_back_at l.atom l.negated (and_parts _ (is_number l.atom) e).1
@@ -80,13 +76,13 @@ before_first : (a b : List (List ℕ)) → has_no_zero a ≡ true → before_zer
 before_first [] b e = refl
 before_first (w ∷ a) b e =
     let parts = and_parts (not (bytes_eq w zero_text)) (has_no_zero a) e in
-    otherwise (bytes_eq w zero_text) _ _ (not-true (bytes_eq w zero_text) parts.0) ∙ cons_same refl (before_first a b parts.1)
+    cond-false (bytes_eq w zero_text) _ _ (not-true (bytes_eq w zero_text) parts.0) ∙ cons_same refl (before_first a b parts.1)
 
 after_first : (a b : List (List ℕ)) → has_no_zero a ≡ true → after_zero (a ++ zero_text ∷ b) ≡ b
 after_first [] b e = refl
 after_first (w ∷ a) b e =
     let parts = and_parts (not (bytes_eq w zero_text)) (has_no_zero a) e in
-    otherwise (bytes_eq w zero_text) _ _ (not-true (bytes_eq w zero_text) parts.0) ∙ after_first a b parts.1
+    cond-false (bytes_eq w zero_text) _ _ (not-true (bytes_eq w zero_text) parts.0) ∙ after_first a b parts.1
 
 hints_no_zero : (hints : List ℕ) → list_all is_hint hints ≡ true → has_no_zero (map decimal hints) ≡ true
 hints_no_zero [] e = refl

@@ -6,7 +6,7 @@ use Rattle.std.proofs.lemmas.List.{drop-append-le, length-drop, take-append-le}
 use Rattle.std.proofs.lemmas.Option.{slice_get-map}
 use Rattle.std.specs.List.{AllByRecursion, AllZip}
 use Rattle.std.proofs.lemmas.Slice.Zip.{AllZip-long}
-use Rattle.sc_lists.proofs.ListLaws.{contains_place}
+use Rattle.sc_lists.proofs.ListLaws.{contains_place, zip_push}
 use Rattle.sc_lists.proofs.MemberLaws.{Has-map, map-Has, Has-from_Contains, Contains-from_Has}
 use Rattle.sc_laws.proofs.OptionLaws.{same_some}
 use Rattle.sc_lists.specs.Members.{Has}
@@ -26,12 +26,6 @@ use Rattle.sc_footprint.specs.Indices.{IsKept}
 use Rattle.sc_footprint.specs.Problems.{Posed, goal_term, closed_terms, term_of, companion}
 
 -- ---- lists in lockstep
-
-zip_push : {X Y : Type 0} (R : X → Y → Type 0) (xs : List X) (ys : List Y) (x : X) (y : Y) → AllZip R xs ys → R x y → AllZip R (xs ++ x ∷ []) (ys ++ y ∷ [])
-zip_push R [] [] x y h r = (r, tt)
-zip_push R [] (b ∷ ys) x y h r = absurd h
-zip_push R (a ∷ xs) [] x y h r = absurd h
-zip_push R (a ∷ xs) (b ∷ ys) x y h r = (h.0, zip_push R xs ys x y h.1 r)
 
 zip_weaker : {X Y : Type 0} (R S : X → Y → Type 0) (xs : List X) (ys : List Y) → AllByRecursion (λ x. (y : Y) → R x y → S x y) xs → AllZip R xs ys → AllZip S xs ys
 zip_weaker R S [] [] w h = tt

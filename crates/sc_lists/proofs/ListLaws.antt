@@ -1,6 +1,6 @@
 -- What is in a list, and what holds of each of its elements.
-use Rattle.std.proofs.Common.{cond, filter, nat_eq, ◌≡◌, ◌⊎◌, ◌<◌, ◌+◌, ◌-◌, ◌&&◌, ◌||◌, ℕ, zero, suc, List, [], ◌∷◌, ◌++◌, length, take, drop, get_or, map, slice_get, Contains, Bool, true, false, Some, inl, inr, refl, ap, subst, ◌∙◌, arith, sym}
-use Rattle.std.specs.List.{AllByRecursion, IsDistinct, list_all, list_any, flat_map}
+use Rattle.std.proofs.Common.{cond, filter, nat_eq, ◌≡◌, ◌⊎◌, ◌<◌, ◌+◌, ◌-◌, ◌&&◌, ◌||◌, ℕ, zero, suc, List, [], ◌∷◌, ◌++◌, length, take, drop, get_or, map, replicate, slice_get, Contains, Bool, true, false, Some, inl, inr, refl, ap, subst, ◌∙◌, arith, sym}
+use Rattle.std.specs.List.{AllByRecursion, AllZip, IsDistinct, list_all, list_any, flat_map}
 use Rattle.std.proofs.Math.Seq.{take-length}
 use Rattle.std.proofs.lemmas.List.Elements.{All-contains, All-from_recursion, Contains-append_left, Contains-append_right, Contains-append_cases}
 use Rattle.std.proofs.lemmas.Option.{slice_get_within, get_or_from_slice_get}
@@ -55,6 +55,13 @@ all_of_elements P (x ∷ xs) f = (f x (contains_first x xs), all_of_elements P x
 pub all_element : {X : Type 0} (P : X → Type 0) (xs : List X) (x : X) → AllByRecursion P xs → Contains xs x → P x
 all_element P xs x all has = All-contains P xs x (All-from_recursion P xs all) has
 
+-- what holds in step of two lists holds of them with one more each
+pub zip_push : {X Y : Type 0} (R : X → Y → Type 0) (xs : List X) (ys : List Y) (x : X) (y : Y) → AllZip R xs ys → R x y → AllZip R (xs ++ x ∷ []) (ys ++ y ∷ [])
+zip_push R [] [] x y h r = (r, tt)
+zip_push R [] (b ∷ ys) x y h r = absurd h
+zip_push R (a ∷ xs) [] x y h r = absurd h
+zip_push R (a ∷ xs) (b ∷ ys) x y h r = (h.0, zip_push R xs ys x y h.1 r)
+
 -- ---- tests of each element
 
 pub list_all_true : {X : Type 0} (test : X → Bool) (xs : List X) → AllByRecursion (λ x. test x ≡ true) xs → list_all test xs ≡ true
@@ -64,6 +71,13 @@ list_all_true test (x ∷ xs) h = ap (λ b. b && list_all test xs) h.0 ∙ list_
 pub list_any_false : {X : Type 0} (test : X → Bool) (xs : List X) → AllByRecursion (λ x. test x ≡ false) xs → list_any test xs ≡ false
 list_any_false test [] h = refl
 list_any_false test (x ∷ xs) h = ap (λ b. b || list_any test xs) h.0 ∙ list_any_false test xs h.1
+
+-- ---- lists of one element alone
+
+pub all_the_same : {X : Type 0} (n i : ℕ) (x : X) → get_or (replicate n x) i x ≡ x
+all_the_same zero i x = refl
+all_the_same (suc n) zero x = refl
+all_the_same (suc n) (suc i) x = all_the_same n i x
 
 -- ---- fronts and rests
 

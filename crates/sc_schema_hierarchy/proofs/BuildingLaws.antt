@@ -6,7 +6,7 @@ use Rattle.std.proofs.lemmas.List.Sorted.{Contains-permutation, IsPermutation-ma
 use Rattle.std.proofs.lemmas.Option.{slice_get-map}
 use Rattle.std.specs.Map.{keys_of}
 use Rattle.std.specs.Option.{option_map}
-use Rattle.sc_lists.proofs.ListLaws.{contains_nothing, contains_split, contains_rest, contains_first}
+use Rattle.sc_lists.proofs.ListLaws.{contains_nothing, contains_split, contains_rest, contains_first, zip_push}
 use Rattle.sc_names.specs.Uids.{text_cmp, uid_cmp}
 use Rattle.sc_schema.specs.declared.declarations.Action.{Action}
 use Rattle.sc_schema.specs.declared.declarations.EntityType.{EntityType}
@@ -18,12 +18,6 @@ use Rattle.sc_schema_hierarchy.specs.Schemas.{AreInOrder, type_links, action_lin
 use Rattle.sc_schema_hierarchy.proofs.LinksLaws.{are_above_permuted, keys_of_links, named_permuted}
 
 -- ---- one list beside the front of another
-
-zip_push : {D T : Type 0} (Of : D → T → Type 0) (ds : List D) (ts : List T) (d : D) (t : T) → AllZip Of ds ts → Of d t → AllZip Of (ds ++ d ∷ []) (ts ++ t ∷ [])
-zip_push Of [] [] d t all of = (of, tt)
-zip_push Of [] (u ∷ us) d t all of = absurd all
-zip_push Of (e ∷ es) [] d t all of = absurd all
-zip_push Of (e ∷ es) (u ∷ us) d t all of = (all.0, zip_push Of es us d t all.1 of)
 
 zip_length : {D T : Type 0} (Of : D → T → Type 0) (ds : List D) (ts : List T) → AllZip Of ds ts → length ds ≡ length ts
 zip_length Of [] [] all = refl

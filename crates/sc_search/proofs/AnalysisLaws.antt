@@ -1,12 +1,12 @@
 -- What conflict analysis keeps at each step, and what it ends with.
 use Rattle.std.proofs.Common.{◌≡◌, ◌≢◌, ◌⊎◌, inl, inr, ⊎_elim, ℕ, ◌+◌, ◌-◌, ◌^◌, ◌<◌, ◌≤◌, List, [], ◌∷◌, ◌++◌, Bool, true, false, length, get_or, refl, sym, ap, ◌∙◌, subst, true≢false, arith, get_or-set_same, get_or-set_other, map, reverse, take, replicate}
 use Rattle.std.specs.List.{Contains}
-use Rattle.std.proofs.lemmas.List.{get_or_default, reverse-append, take_more, length-map, get_or-replicate, length-replicate}
+use Rattle.std.proofs.lemmas.List.{get_or_default, reverse-append, take_more, length-map, length-replicate}
 use Rattle.std.proofs.Math.ListN.{set, length-set, get_or-eq_default, get_or-map}
 use Rattle.std.proofs.lemmas.List.Elements.{Contains-append_left, Contains-push, Contains-push_cases}
 use Rattle.std.proofs.lemmas.Bool.{false_from_ne_true}
 use Rattle.sc_laws.proofs.BoolLaws.{and_first}
-use Rattle.sc_lists.proofs.ListLaws.{contains_nothing, contains_first}
+use Rattle.sc_lists.proofs.ListLaws.{contains_nothing, contains_first, all_the_same}
 use Rattle.sc_clauses.specs.Clauses.{negation, Clause}
 use Rattle.sc_clauses.specs.declared.lit.Lit.{Lit}
 use Rattle.sc_search.proofs.CellLaws.{consistent, before-more, at-before, before-at, at-not-before}
@@ -264,17 +264,10 @@ module _ (cs : List Clause) (cells : List Cell) (trail : List Lit) (agree : Agre
         (not-lower cells first (length trail) (negation uip) (consistent cells (length trail) uip uip-true) (let lt : i < length trail = at.0 in omega arith)),
   )
 
-all-false : (n a : ℕ) → get_or (replicate n false) a false ≡ false
-all-false n a =
-    ⊎_elim
-    (λ (lt : a < n). get_or-replicate n a false false lt)
-    (λ (le : n ≤ a). get_or-eq_default (replicate n false) false (let e = length-replicate n false in omega arith))
-    (below-or a n)
-
 pub collected-fresh : (n : ℕ) (cells : List Cell) (first : ℕ) (met : List Bool) (lower : List Lit) → met ≡ replicate n false → lower ≡ [] → IsCollected n cells first met lower
 collected-fresh n cells first met lower e f = record {
   sized = ap length e ∙ length-replicate n false;
-  covers = λ m b is_met. absurd (true≢false (sym (subst (λ (ms : List Bool). IsMet ms m) e is_met) ∙ all-false n m.atom));
+  covers = λ m b is_met. absurd (true≢false (sym (subst (λ (ms : List Bool). IsMet ms m) e is_met) ∙ all_the_same n m.atom false));
   are_lower = λ m has. absurd (contains_nothing m (subst (λ (xs : List Lit). Contains xs m) f has));
 }
 

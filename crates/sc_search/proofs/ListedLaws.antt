@@ -1,14 +1,15 @@
 -- What a change of one literal's list changes.
 use Rattle.std.proofs.Common.{◌≡◌, ◌≢◌, ◌⊎◌, inl, inr, ⊎_elim, ℕ, zero, suc, ◌+◌, ◌-◌, ◌<◌, ◌≤◌, List, [], ◌∷◌, Bool, true, false, not, length, get_or, refl, sym, ap, ◌∙◌, subst, arith, get_or-set_same, get_or-set_other, replicate, Result, Ok, Err, IfOk, Vec, Global, Option, Some, None, slice_get}
 use Rattle.std.specs.List.{Contains, swap_remove}
-use Rattle.std.proofs.Math.ListN.{set, length-set, get_or-eq_default}
-use Rattle.std.proofs.lemmas.List.{get_or_default, get_or-replicate, length-replicate, get_or-take, length-take-le}
+use Rattle.std.proofs.Math.ListN.{set, length-set}
+use Rattle.std.proofs.lemmas.List.{get_or_default, length-replicate, get_or-take, length-take-le}
 use Rattle.sc_laws.proofs.OptionLaws.{same_some}
 use Rattle.sc_clauses.specs.declared.lit.Lit.{Lit}
-use Rattle.sc_search.proofs.LitLaws.{lit-of, nat-cases, below-or, sign-cases}
+use Rattle.sc_search.proofs.LitLaws.{lit-of, nat-cases, sign-cases}
 use Rattle.sc_search.specs.Lists.{AreEmpty, IsListSet, lists_of, places_of}
 use Rattle.sc_search.specs.Watches.{IsPlaceAt}
 use Rattle.sc_search.specs.declared.lists.Lists.{Lists}
+use Rattle.sc_lists.proofs.ListLaws.{all_the_same}
 
 module _ (o new : Lists) (lit : Lit) (ps : List ℕ) (within : lit.atom < length (lists_of o lit.negated))
     (same_sign : lists_of new lit.negated ≡ set (lists_of o lit.negated) lit.atom ps) (other_sign : lists_of new (not lit.negated) ≡ lists_of o (not lit.negated)) where
@@ -64,17 +65,10 @@ empty-by : (n : ℕ) (o : Lists) → o.atoms.items ≡ replicate n [] → o.nega
 empty-by n o e f false = e
 empty-by n o e f true = f
 
-none-at : (n a : ℕ) → get_or (replicate {A = List ℕ} n []) a [] ≡ []
-none-at n a =
-    ⊎_elim
-    (λ (lt : a < n). get_or-replicate n a [] [] lt)
-    (λ (le : n ≤ a). get_or-eq_default (replicate n []) [] (let e : length (replicate {A = List ℕ} n []) ≡ n = length-replicate n [] in omega arith))
-    (below-or a n)
-
 pub lists-empty : (n : ℕ) (o : Lists) → o.atoms.items ≡ replicate n [] → o.negations.items ≡ replicate n [] → AreEmpty n o
 lists-empty n o e f = record {
   sized = λ b. ap length (empty-by n o e f b) ∙ length-replicate n [];
-  empty = λ l. ap (λ (ls : List (List ℕ)). get_or ls l.atom []) (empty-by n o e f l.negated) ∙ none-at n l.atom;
+  empty = λ l. ap (λ (ls : List (List ℕ)). get_or ls l.atom []) (empty-by n o e f l.negated) ∙ all_the_same n l.atom [];
 }
 
 -- what stands at a place

@@ -1,8 +1,8 @@
 -- What the search's last state tells, and what a step more keeps.
-use Rattle.std.proofs.Common.{◌≡◌, ◌≢◌, inl, inr, ⊎_elim, ℕ, zero, suc, ◌+◌, ◌-◌, ◌<◌, ◌≤◌, List, [], ◌∷◌, ◌++◌, Bool, true, false, not, cond, eqb, length, map, drop, get_or, slice_get, Option, None, Result, Ok, Err, IfOk, refl, sym, ap, ◌∙◌, subst, true≢false, arith}
+use Rattle.std.proofs.Common.{◌≡◌, ◌≢◌, inl, inr, ⊎_elim, ℕ, zero, suc, ◌+◌, ◌-◌, ◌<◌, ◌≤◌, List, [], ◌∷◌, ◌++◌, Bool, true, false, not, eqb, length, map, drop, get_or, slice_get, Option, None, Result, Ok, Err, IfOk, refl, sym, ap, ◌∙◌, subst, true≢false, arith}
 use Rattle.std.specs.Prelude.{option_and_then, IsSome}
 use Rattle.std.specs.List.{Contains}
-use Rattle.std.proofs.lemmas.Bool.{ne_eqb, false_from_ne_true}
+use Rattle.std.proofs.lemmas.Bool.{ne_eqb, false_from_ne_true, cond-false}
 use Rattle.std.proofs.lemmas.List.{length-append, length-map, length-drop, append-nil, append_assoc, map-append}
 use Rattle.std.proofs.lemmas.List.Elements.{Contains-append_left}
 use Rattle.sc_laws.proofs.BoolLaws.{and_second, and_first}
@@ -34,9 +34,6 @@ use Rattle.sc_search.proofs.ReadingLaws.{at-end}
 
 -- ---- the assignment of a trail's cells
 
-if-not : {X : Type 0} (b : Bool) (x y : X) → b ≡ false → cond b x y ≡ y
-if-not b x y e = rw e refl
-
 value-at : (cells : List Cell) (k : ℕ) → option_and_then (λ (v : Option Bool). v) (slice_get (map cell_value cells) k) ≡ cell_value (get_or cells k Free)
 value-at [] k = refl
 value-at (c ∷ cells) zero = refl
@@ -57,7 +54,7 @@ value-cell cells zero h = absurd (omega arith)
 value-cell cells (suc k) h =
     let e : suc k - 1 ≡ k = omega arith in
     let m = map cell_value (drop 1 cells) in
-    if-not (eqb (suc k) 0) None _ (ne_eqb (suc k) 0 (λ z. omega arith))
+    cond-false (eqb (suc k) 0) None _ (ne_eqb (suc k) 0 (λ z. omega arith))
     ∙ ap (λ (i : ℕ). option_and_then (λ (v : Option Bool). v) (slice_get m i)) e
     ∙ value-after cells k
 

@@ -3,9 +3,9 @@ use Rattle.std.proofs.Common.{◌≡◌, ◌≢◌, ◌⊎◌, inl, inr, ⊎_eli
 use Rattle.std.specs.List.{Contains, swap_remove}
 use Rattle.std.proofs.Math.ListN.{set, length-set, get_or-append, get_or-eq_default}
 use Rattle.std.proofs.Math.Seq.{get_or-append_seam}
-use Rattle.std.proofs.lemmas.List.{length-append, get_or_default, get_or-replicate, length-replicate}
+use Rattle.std.proofs.lemmas.List.{length-append, get_or_default, length-replicate}
 use Rattle.std.proofs.lemmas.List.Elements.{Contains-append_left, Contains-push, Contains-push_cases}
-use Rattle.sc_lists.proofs.ListLaws.{contains_nothing}
+use Rattle.sc_lists.proofs.ListLaws.{contains_nothing, all_the_same}
 use Rattle.sc_clauses.specs.Clauses.{Clause}
 use Rattle.sc_clauses.specs.declared.lit.Lit.{Lit}
 use Rattle.sc_search.proofs.ListedLaws.{removed-has, removed-length, removed-only}
@@ -219,17 +219,10 @@ all-quiet n cs w T h alive c (i, lt, is) = alive-quiet T (watch_of w i) c (λ l.
 pub two-open : (cells : List Cell) (q : ℕ) (c : Clause) (w : Watch) → AreTwoOpen cells c w → AreOpen (true_before cells q) (Some w)
 two-open cells q c w h = (h.2, free-before cells q w.first h.3, free-before cells q w.second h.4)
 
-none-in : (k i : ℕ) → get_or (replicate {A = Option Watch} k None) i None ≡ None
-none-in k i =
-    ⊎_elim
-    (λ (lt : i < k). get_or-replicate k i None None lt)
-    (λ (le : k ≤ i). get_or-eq_default (replicate {A = Option Watch} k None) None (let e : length (replicate {A = Option Watch} k None) ≡ k = length-replicate k None in omega arith))
-    (below-or i k)
-
 pub unset : (n count : ℕ) (w : Watches) → w.pairs.items ≡ replicate count None → AreEmpty n w.lists → AreUnset n count w
 unset n count w is empty = record {
   paired = ap length is ∙ length-replicate count None;
-  unset = λ i. ap (λ (ps : List (Option Watch)). watch_in ps i) is ∙ none-in count i;
+  unset = λ i. ap (λ (ps : List (Option Watch)). watch_in ps i) is ∙ all_the_same count i None;
   empty = empty;
 }
 

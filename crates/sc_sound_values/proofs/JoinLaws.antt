@@ -14,9 +14,10 @@ use Rattle.sc_schema.specs.declared.ty.Ty.TheOpen as t
 use Rattle.sc_values.specs.declared.value.Value.{Value, Value-F, out-Value}
 use Rattle.sc_values.specs.declared.value.Value.TheOpen as v
 use Rattle.sc_values.specs.Records.{Fields, field}
-use Rattle.sc_world.specs.Conforms.{Test, conforms, is_truth, is_bool, is_set_of, is_record_of, passes, has_shape, shape_of}
+use Rattle.sc_world.specs.Conforms.{Test, conforms, is_set_of, is_record_of, passes, has_shape, shape_of}
 use Rattle.sc_typed.specs.Types.{Field, is_true_in, is_false_in, is_boolean_in, is_long_in, is_string_in, is_decimal_in, is_ip_in, entity_name_in, member_in, record_fields_in, only_if, same_name, same_presence, with_front, join_fields, join_step, join}
 use Rattle.sc_sound_values.proofs.ValueLaws.{fits, conforms-out, conforms-roll}
+use Rattle.sc_world.proofs.ConformsLaws.{truth_is_bool}
 
 -- what conforms to the first type conforms to the second one
 abbrev pub IsWithin : Ty → Ty → Type 0
@@ -43,12 +44,6 @@ named : (type u : Ty) (y : Ty-F Ty) → roll-Ty y ≡ type → type ≡ u → Fi
 named type u y at is x h = subst (λ z. IsTrue (conforms z x)) is (conforms-roll type y at x ∙ h)
 
 -- ---- truth values
-
-truth_is_bool : (p : Bool) (z : Value-F Value) → IsTrue (is_truth p z) → IsTrue (is_bool z)
-truth_is_bool true (v.Bool b) h = refl
-truth_is_bool false (v.Bool b) h = refl
-truth_is_bool true _ h = absurd cc
-truth_is_bool false _ h = absurd cc
 
 in_bool : (u : Ty) → types.Bool ≡ u → FitsIn t.Bool u
 in_bool u is = named types.Bool u t.Bool rolls-Bool is

@@ -15,7 +15,7 @@ use Rattle.sc_sorts.specs.OfTypes.{sort_of, sort_step, with_presence}
 use Rattle.sc_values.specs.declared.value.Value.{Value, Value-F, out-Value}
 use Rattle.sc_values.specs.declared.value.Value.TheOpen as v
 use Rattle.sc_values.specs.Records.{Fields, field}
-use Rattle.sc_world.specs.Conforms.{Test, is_truth, is_bool, is_set_of, is_record_of, passes, conforms, conforms_step}
+use Rattle.sc_world.specs.Conforms.{Test, is_bool, is_set_of, is_record_of, passes, conforms, conforms_step}
 use Rattle.sc_term_laws.specs.Fitting.{Seen, seen_step, fits_step, fits}
 use Rattle.std.specs.Prelude.{find}
 use Rattle.std.specs.declared.cmp.Ordering.{Ordering}
@@ -28,6 +28,7 @@ use Rattle.sc_sorts.specs.Inside.{SortFields}
 use Rattle.sc_terms.specs.Values.{fields_seen, put_by, put_value, set_from}
 use Rattle.sc_term_laws.specs.Fitting as fit
 use Rattle.std.specs.Cmp.Derive.{both_true}
+use Rattle.sc_world.proofs.ConformsLaws.{truth_is_bool}
 
 pub seen : Sort → Seen
 seen = fold-Sort Seen seen_step
@@ -62,12 +63,6 @@ both_so : (a b c d : Bool) → (a ≡ true → c ≡ true) → (b ≡ true → d
 both_so true true c d f g h = rw (f refl, g refl) refl
 both_so true false c d f g h = cc
 both_so false b c d f g h = cc
-
-pub truth_is_bool : (b : Bool) (x : Value-F Value) → is_truth b x ≡ true → is_bool x ≡ true
-truth_is_bool true (v.Bool c) h = refl
-truth_is_bool false (v.Bool c) h = refl
-truth_is_bool true _ h = absurd cc
-truth_is_bool false _ h = absurd cc
 
 all_so : (p q : Test) → ((x : Value) → p x ≡ true → q x ≡ true) → (xs : List Value) → list_all p xs ≡ true → list_all q xs ≡ true
 all_so p q f [] h = refl

@@ -5,7 +5,7 @@ use Rattle.std.proofs.lemmas.List.{get_or_past}
 use Rattle.sc_violated.specs.Truths.{Truth, NoneIntransitive}
 use Rattle.sc_violated.specs.Classes.{AreLabels}
 use Rattle.sc_violated.specs.Chains.{NoneBetween, NoneFrom, IsRow, seen}
-use Rattle.sc_violated.proofs.NumberLaws.{last_or_before}
+use Rattle.sc_laws.proofs.NumberLaws.{last_or_before}
 
 seen_by : (t : Bool) (known : Option Bool) (v : Bool) → (if t then known else None) ≡ Some v → known ≡ Some v
 seen_by true known v e = e

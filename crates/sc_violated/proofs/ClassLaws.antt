@@ -4,7 +4,7 @@ use Rattle.std.proofs.lemmas.List.{get_or-map, length-map}
 use Rattle.std.proofs.lemmas.Bool.{cases_lt}
 use Rattle.sc_violated.specs.Truths.{Truth}
 use Rattle.sc_violated.specs.Classes.{moved, IsJoined, AreLabels}
-use Rattle.sc_violated.proofs.NumberLaws.{last_or_before}
+use Rattle.sc_laws.proofs.NumberLaws.{last_or_before}
 
 moved_from : (from to : ℕ) → moved from to from ≡ to
 moved_from from to = rw (eq-eqb from from refl) refl

@@ -6,7 +6,7 @@ use Rattle.sc_laws.proofs.OptionLaws.{same_some}
 use Rattle.sc_violated.specs.Truths.{Truth}
 use Rattle.sc_violated.specs.Crowds.{Signs, Few, IsFurther, HasRoom, HasRoomFrom, one_if, count_from}
 use Rattle.sc_violated.specs.Colours.{IsAway, MayHave, AreColoured}
-use Rattle.sc_violated.proofs.NumberLaws.{last_or_before}
+use Rattle.sc_laws.proofs.NumberLaws.{last_or_before}
 use Rattle.sc_violated.proofs.CountLaws.{count_more, count_all}
 use Rattle.sc_violated.proofs.CrowdLaws.{further_later}
 

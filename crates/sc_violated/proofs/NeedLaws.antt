@@ -5,7 +5,7 @@ use Rattle.std.proofs.lemmas.List.{get_or_past}
 use Rattle.std.proofs.lemmas.List.Elements.{All-weaker}
 use Rattle.sc_violated.specs.Truths.{Truth}
 use Rattle.sc_violated.specs.Crowds.{Signs, Few, IsWithin, Fits, IsCrowd, IsEnough, AreNeeded, AreAllNeeded}
-use Rattle.sc_violated.proofs.NumberLaws.{last_or_before}
+use Rattle.sc_laws.proofs.NumberLaws.{last_or_before}
 use Rattle.sc_violated.proofs.CrowdLaws.{fits_less, asked_place}
 
 -- a sign that is left out isn't asked

@@ -2,7 +2,7 @@
 use Rattle.std.proofs.Common.{◌≡◌, ℕ, ◌<◌, ◌+◌, Bool, true, false, List, get_or, Option, Some, None, ⊎_elim, sym, ◌∙◌, subst, arith}
 use Rattle.sc_violated.specs.Truths.{Truth}
 use Rattle.sc_violated.specs.Paths.{NoGap, IsReach, NoEnd, NoStart, NoMiddle}
-use Rattle.sc_violated.proofs.NumberLaws.{last_or_before}
+use Rattle.sc_laws.proofs.NumberLaws.{last_or_before}
 
 pub end_first : (second third : Truth) (a b : ℕ) → NoEnd second third 0 a b
 unfolding NoEnd

@@ -9,7 +9,8 @@ use Rattle.sc_laws.proofs.OptionLaws.{same_some, some_of}
 use Rattle.sc_violated.specs.Truths.{Truth}
 use Rattle.sc_violated.specs.Crowds.{Signs, Few, IsWithin, Fits, IsCrowd, NoneCrowded, IsRow, one_if, count_from, IsFurther, NoneAfter}
 use Rattle.sc_violated.specs.Settled.{IsSettled, AreApart, HasMost, IsPicked, IsRowFree, AreRowsFree}
-use Rattle.sc_violated.proofs.NumberLaws.{last_or_before, apart}
+use Rattle.sc_laws.proofs.NumberLaws.{last_or_before}
+use Rattle.sc_violated.proofs.NumberLaws.{apart}
 use Rattle.sc_violated.proofs.CountLaws.{count_more, is_in, all_in}
 use Rattle.sc_violated.proofs.CrowdLaws.{fits_less, row_most, asked_place, none_crowded}
 

@@ -9,10 +9,18 @@ use Rattle.sc_schema.specs.declared.ty.Ty.TheVariants.{rolls-Bool, rolls-Record}
 use Rattle.sc_schema.specs.declared.ty.Ty.TheOpen as t
 use Rattle.sc_values.specs.declared.value.Value.TheVariants as value
 use Rattle.sc_values.specs.Records.{Fields, field}
-use Rattle.sc_values.specs.declared.value.Value.{Value}
+use Rattle.sc_values.specs.declared.value.Value.{Value, Value-F}
+use Rattle.sc_values.specs.declared.value.Value.TheOpen as v
 use Rattle.sc_values.proofs.OutLaws.{out_Bool, out_Record}
 use Rattle.sc_world.specs.Conforms.{Test, conforms, conforms_step, passes, has_shape, is_truth, is_bool, is_long, is_string, is_decimal, is_ip, is_entity_of, is_set_of, is_record_of}
 pub use Rattle.sc_world.specs.Conforms.{shape_of}
+
+-- a truth value is a truth value, whichever it has to be
+pub truth_is_bool : (b : Bool) (x : Value-F Value) → is_truth b x ≡ true → is_bool x ≡ true
+truth_is_bool true (v.Bool c) h = refl
+truth_is_bool false (v.Bool c) h = refl
+truth_is_bool true _ h = absurd cc
+truth_is_bool false _ h = absurd cc
 
 pub conforms_Record : (attributes : List (List ℕ × Presence × Ty)) (fields : Fields) → conforms (ty.Record attributes) (value.Record fields) ≡ has_shape (shape_of attributes) fields
 unfolding conforms

@@ -21,7 +21,8 @@ use Rattle.sc_world.proofs.DeclaredLaws.{Gets, gets_itself}
 use Rattle.sc_world_json.specs.Text.{value_data, fields_data}
 use Rattle.sc_world_json.proofs.ProperLaws.{proper_members, proper_fields, ascending_fields}
 use Rattle.sc_world_json.proofs.TextLaws.{Field}
-use Rattle.sc_world_json.proofs.TypedLaws.{layer_data, data_at, truth-bool, AllPass, is_declared}
+use Rattle.sc_world_json.proofs.TypedLaws.{layer_data, data_at, AllPass, is_declared}
+use Rattle.sc_world.proofs.ConformsLaws.{truth_is_bool}
 
 -- proper values that pass the test nest at most so deep
 abbrev pub Nests : Test → ℕ → Type 0
@@ -42,7 +43,7 @@ bool-nests (v.Bool c) p h = omega arith
 bool-nests _ p h = absurd cc
 
 truth-nests : (c : Bool) → LayersNest (is_truth c) 2
-truth-nests c a p h = bool-nests a p (truth-bool c a h)
+truth-nests c a p h = bool-nests a p (truth_is_bool c a h)
 
 long-nests : LayersNest is_long 2
 long-nests (v.Long n) p h = omega arith

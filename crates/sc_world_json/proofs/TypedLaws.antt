@@ -27,6 +27,7 @@ use Rattle.sc_world.proofs.DeclaredLaws.{Gets, gets_itself}
 use Rattle.sc_world_json.specs.Text.{value_step, value_data, fields_data, uid_data}
 use Rattle.sc_world_json.proofs.ProperLaws.{held, proper_members, proper_fields, ascending_fields}
 use Rattle.sc_world_json.proofs.TextLaws.{Field}
+use Rattle.sc_world.proofs.ConformsLaws.{truth_is_bool}
 
 -- ---- uids and whole numbers
 
@@ -75,15 +76,8 @@ bool-same (v.Bool c) (v.Bool d) p q h k e = let s : c ≡ d = cc in ap v.Bool s
 bool-same (v.Bool c) _ p q h k e = absurd cc
 bool-same _ b p q h k e = absurd cc
 
--- a truth value is a truth value
-pub truth-bool : (c : Bool) (a : Value-F Value) → IsTrue (is_truth c a) → IsTrue (is_bool a)
-truth-bool true (v.Bool b) h = refl
-truth-bool true _ h = absurd cc
-truth-bool false (v.Bool b) h = refl
-truth-bool false _ h = absurd cc
-
 truth-same : (c : Bool) → LayersDetermined (is_truth c)
-truth-same c a b p q h k e = bool-same a b p q (truth-bool c a h) (truth-bool c b k) e
+truth-same c a b p q h k e = bool-same a b p q (truth_is_bool c a h) (truth_is_bool c b k) e
 
 long-same : LayersDetermined is_long
 long-same (v.Long m) (v.Long n) p q h k e = let s : of_integer m ≡ of_integer n = cc in ap v.Long (integer-same m n s)

@@ -2,7 +2,7 @@
 use Rattle.std.proofs.Common.{◌≡◌, ◌<◌, ◌≤◌, ◌+◌, ◌-◌, ◌^◌, ◌/◌, ◌%◌, ◌==◌, ◌⊎◌, inl, inr, ℕ, zero, suc, Bool, true, false, cond, List, [], ◌∷◌, map, flat_map, length, get_or, nat_lt, refl, sym, ap, ◌∙◌, subst, arith, length-append}
 use Rattle.std.proofs.lemmas.Bool.Decides.{nat_tests}
 use Rattle.std.proofs.lemmas.List.{length-map, get_or-map, get_or-append-add, get_or_append_left, get_or_past}
-use Rattle.sc_laws.proofs.NumberLaws.{suc_isnt_zero, nat_lt_true}
+use Rattle.sc_laws.proofs.NumberLaws.{suc_isnt_zero, nat_lt_true, last_or_before}
 use Rattle.sc_clauses.specs.declared.lit.Lit.{Lit}
 use Rattle.sc_clauses.specs.Clauses.{Clause, positive, negation}
 use Rattle.sc_definitions.proofs.MakingLaws.{counted_length}
@@ -23,19 +23,6 @@ use Rattle.th_defs.specs.ClauseLaws.{rows_long}
 
 pub not_less : (i n : ℕ) → n ≤ i → nat_lt i n ≡ false
 not_less i n h = grind (arith, nat_tests)
-
-last_or : (i n : ℕ) → i < n + 1 → (i < n) ⊎ (i ≡ n)
-last_or i n h = by (nat_lt i n) refl
-  where
-    below : nat_lt i n ≡ true → i < n
-    below e = grind (arith, nat_tests)
-
-    above : nat_lt i n ≡ false → n ≤ i
-    above e = grind (arith, nat_tests)
-
-    by : (b : Bool) → nat_lt i n ≡ b → (i < n) ⊎ (i ≡ n)
-    by true e = inl (below e)
-    by false e = inr (let k = above e in omega (arith, h, k))
 
 -- ---- definitions
 
@@ -65,7 +52,7 @@ module _ (p : Posed) (n : ℕ) (count : ℕ) where
   -- how many literals a clause has
 
   conjunction_length : (x : Lit) (k : ℕ) → k < count + 1 → length (get_or (conjunction x inputs) k []) ≡ conjunction_literals count k
-  conjunction_length x k h = by (last_or k count h)
+  conjunction_length x k h = by (last_or_before k count h)
     where
       long : length inputs ≡ count
       long = inputs_long
@@ -91,7 +78,7 @@ module _ (p : Posed) (n : ℕ) (count : ℕ) where
 
   row_read : (f : Function) (t : Bool) (x : Lit) (k i : ℕ) → k < 2 ^ count → i < count + 1
       → literal_of_row p n (Table f t) f x count k i ≡ get_or (get_or (table f x (turned t inputs)) k []) i (positive 1)
-  row_read f t x k i h j = by (last_or i count j)
+  row_read f t x k i h j = by (last_or_before i count j)
     where
       long : length inputs ≡ count
       long = inputs_long
@@ -122,7 +109,7 @@ module _ (p : Posed) (n : ℕ) (count : ℕ) where
       ∙ sym (get_or-map negation inputs i (positive 1) (positive 1) (omega (arith, below, long)) ∙ ap negation (input_read i (positive 1) below))
 
   conjunction_read : (x : Lit) (k i : ℕ) → k < count + 1 → i < length (get_or (conjunction x inputs) k []) → literal_of_conjunction p n x count k i ≡ get_or (get_or (conjunction x inputs) k []) i (positive 1)
-  conjunction_read x k i h j = by (last_or k count h)
+  conjunction_read x k i h j = by (last_or_before k count h)
     where
       long : length inputs ≡ count
       long = inputs_long
