@@ -1,12 +1,12 @@
 -- What it takes for declarations to be lawful, part by part; for names that are known it is computed.
-use Rattle.std.proofs.Common.{◌≡◌, ◌&&◌, ◌<◌, ltb, ℕ, zero, suc, List, [], ◌∷◌, slice_index, Bool, true, false, refl, arith}
+use Rattle.std.proofs.Common.{◌≡◌, ◌&&◌, ◌<◌, ltb, ℕ, zero, suc, List, [], ◌∷◌, slice_index, Bool, true, refl, arith}
 use Rattle.std.proofs.lemmas.Bool.{ltb-true, and_parts}
 use Rattle.std.specs.List.{AllByRecursion, list_all}
 use Rattle.std.specs.List.Sorted.{IsStrictlySortedBy}
 use Rattle.std.specs.Ordering.{is_lt}
 use Rattle.std.specs.Str.{IsUtf8}
 use Rattle.std.specs.declared.cmp.Ordering.{Ordering}
-use Rattle.std.specs.declared.cmp.Ordering.TheVariants.{Less, Equal, Greater}
+use Rattle.std.specs.declared.cmp.Ordering.TheVariants.{Less}
 use Rattle.std.proofs.lemmas.Str.{IsUtf8-from_ascii}
 use Rattle.sc_lists.proofs.OrderingLaws.{is_lt_true}
 use Rattle.sc_names.specs.Uids.{text_cmp, uid_cmp}

@@ -1,5 +1,5 @@
 -- Uids that ascend: those of one type stand beside one another, and names take the first of them for all.
-use Rattle.std.proofs.Common.{◌≡◌, ◌+◌, ◌<◌, ◌≤◌, ◌⊎◌, ℕ, zero, suc, List, [], ◌∷◌, Bool, true, false, cond, map, length, get_or, drop, refl, sym, ap, subst, ◌∙◌, inl, inr, arith}
+use Rattle.std.proofs.Common.{◌≡◌, ◌+◌, ◌≤◌, ℕ, zero, suc, List, [], ◌∷◌, Bool, true, false, cond, map, length, get_or, drop, refl, sym, ap, subst, ◌∙◌, inl, inr, arith}
 use Rattle.std.specs.List.{AllByRecursion, fold, prefix_len}
 use Rattle.std.specs.List.Sorted.{IsStrictlySortedBy, IsPartitionedBy, IsPartitionPoint}
 use Rattle.std.specs.Ordering.{ordering_then}
@@ -69,15 +69,16 @@ sorted_drop (suc k) (u ∷ us) a = sorted_drop k us (sorted_tail uid_cmp u us a)
 pub put_run : (names : List (List ℕ)) (name : List ℕ) (us : List Uid) → with_name names name ≡ names
     → fold with_name names (map (λ (u : Uid). u.type_name) (drop (prefix_len (of_type name) us) us)) ≡ fold with_name names (map (λ (u : Uid). u.type_name) us)
 put_run names name [] there = refl
-put_run names name (v ∷ us) there = step (of_type name v) refl where
+put_run names name (v ∷ us) there = step (of_type name v) refl (put_run names name us there) where
   step : (b : Bool) → of_type name v ≡ b
+      → fold with_name names (map (λ (u : Uid). u.type_name) (drop (prefix_len (of_type name) us) us)) ≡ fold with_name names (map (λ (u : Uid). u.type_name) us)
       → fold with_name names (map (λ (u : Uid). u.type_name) (drop (cond b (1 + prefix_len (of_type name) us) 0) (v ∷ us))) ≡ fold with_name names (map (λ (u : Uid). u.type_name) (v ∷ us))
-  step false e = refl
-  step true e =
+  step false e later = refl
+  step true e later =
       let one : 1 + prefix_len (of_type name) us ≡ suc (prefix_len (of_type name) us) = omega arith in
       let same : name ≡ v.type_name = (bytes_eq-Decides name v.type_name).0 e in
       ap (λ (k : ℕ). fold with_name names (map (λ (u : Uid). u.type_name) (drop k (v ∷ us)))) one
-      ∙ (put_run names name us there
+      ∙ (later
       ∙ ap (λ (ns : List (List ℕ)). fold with_name ns (map (λ (u : Uid). u.type_name) us)) (sym (ap (with_name names) (sym same) ∙ there)))
 
 -- where there are no further uids, all are put
