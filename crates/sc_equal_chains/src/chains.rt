@@ -1,8 +1,8 @@
 //! EQ1 by what is known of each two strings and entities.
 ghost use Rattle.std.specs.Prelude.{◌≡◌, ◌<◌, ◌≤◌, ◌+◌, length, get_or, IfOk, OnOk, IfSome, IfNone, true};
 ghost use Rattle.sc_instances.specs.Instances.{equal_said};
-ghost use Rattle.sc_instances.specs.Known.{is_falsified};
-ghost use Rattle.sc_equal_chains.specs.Naming.{AreNamed, AreNamedUpTo, IsChainFree, few_items};
+ghost use Rattle.sc_instances.specs.Known.{few_items, is_falsified};
+ghost use Rattle.sc_equal_chains.specs.Naming.{AreNamed, AreNamedUpTo, IsChainFree};
 
 use sc_clauses::Assignment;
 use sc_footprint::Problem;
@@ -30,8 +30,8 @@ fn few_numbers(count: usize) -> usize
 
 impl<'a, 'b> Equalities for Named<'a, 'b> {
     ghost use Rattle.std.specs.Prelude.{length};
-    ghost use Rattle.sc_equal_chains.specs.Naming.{few_items, truth_of};
-    ghost use Rattle.sc_equal_chains.specs.NamingLaws.{truth_turned, truth_itself};
+    ghost use Rattle.sc_instances.specs.Known.{few_items, truth_of};
+    ghost use Rattle.sc_instances.proofs.KnownLaws.{truth_turned, truth_itself};
 
     ghost size = { λ s. few_items (length s.numbers.items) };
 
