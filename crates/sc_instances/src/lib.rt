@@ -4,6 +4,7 @@
 //! they speak of, and tells which instances an assignment falsifies.
 #![tactic(auto)]
 
+mod given;
 mod known;
 mod laws;
 mod literals;
@@ -13,6 +14,7 @@ mod saying;
 mod words;
 mod writing;
 
+pub use given::{Closed, both, closed};
 pub use known::known_literal;
 pub use laws::rule_laws;
 pub use literals::{
