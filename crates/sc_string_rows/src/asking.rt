@@ -12,8 +12,8 @@ use sc_nodes::{Node, UnaryOp};
 use sc_pattern::Pattern;
 use std::alloc::{AllocError, Global};
 
-/// The pattern that a term asks.
-fn asked_at<'a>(problem: &'a Problem<'_>, n: u64) -> Option<&'a Pattern>
+/// The pattern of which a term asks whether a string matches it. None exactly of another term.
+pub fn asked_at<'a>(problem: &'a Problem<'_>, n: u64) -> Option<&'a Pattern>
     requires { n < length problem.now.nodes }
     ensures { option_copied result ≡ asked_of (tree problem.now.nodes n) }
 {
