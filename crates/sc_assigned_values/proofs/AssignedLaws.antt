@@ -1,5 +1,5 @@
 -- What is assigned to a set, closed term by closed term, and that its members are closed and of one sort.
-use Rattle.std.proofs.Common.{◌≡◌, ◌<◌, ◌≤◌, ◌+◌, ◌++◌, ◌&&◌, ℕ, zero, suc, Bool, true, false, cond, inl, inr, List, [], ◌∷◌, map, flat_map, drop, length, slice_get, Some, None, Contains, refl, sym, ap, ◌∙◌, subst, arith}
+use Rattle.std.proofs.Common.{◌≡◌, ◌<◌, ◌≤◌, ◌+◌, ◌++◌, ◌&&◌, ℕ, suc, Bool, true, false, cond, inl, inr, List, [], ◌∷◌, map, flat_map, drop, length, slice_get, Some, Contains, refl, sym, ap, ◌∙◌, subst, arith}
 use Rattle.std.proofs.lemmas.List.{append-nil, append_assoc, map-append}
 use Rattle.std.specs.List.{AllByRecursion}
 use Rattle.sc_lists.proofs.ListLaws.{all_of_elements, all_element, contains_map, contains_from_map}
@@ -25,21 +25,10 @@ use Rattle.sc_models.specs.Models.{model, truth_in}
 use Rattle.sc_model_values.proofs.ClosureLaws.{of_part}
 use Rattle.sc_rebuilding.specs.Assignments.{Assignment, lit}
 use Rattle.sc_rebuilding.specs.Vals.{assigned, member_in}
-use Rattle.sc_instances.proofs.PartLaws.{number_suc}
+use Rattle.sc_instances.proofs.PartLaws.{drop_at, drop_end, number_suc}
 use Rattle.sc_assigned_values.specs.Parts.{IsOf}
 
 -- ---- one closed term after the other
-
-drop_at : (ns : List ℕ) (i n : ℕ) → slice_get ns i ≡ Some n → drop i ns ≡ n ∷ drop (i + 1) ns
-drop_at [] i n e = absurd cc
-drop_at (m ∷ ns) zero n e = let same : m ≡ n = cc in ap (λ k. k ∷ ns) same
-drop_at (m ∷ ns) (suc i) n e = let next : suc i + 1 ≡ suc (i + 1) = omega arith in rw next (drop_at ns i n e)
-
-drop_end : (ns : List ℕ) (i : ℕ) → length ns ≤ i → drop i ns ≡ []
-drop_end [] zero h = refl
-drop_end [] (suc i) h = refl
-drop_end (n ∷ ns) zero h = absurd (omega (arith, h))
-drop_end (n ∷ ns) (suc i) h = drop_end ns i (omega (arith, h))
 
 module _ (tree_at : ℕ → Tree) (f : Tree → List Tree) (closed : List ℕ) (whole : List Tree) where
   -- one more is so far
@@ -57,16 +46,6 @@ module _ (tree_at : ℕ → Tree) (f : Tree → List Tree) (closed : List ℕ) (
   pub no_more : (place : ℕ) (ys : List ℕ) → length closed ≤ place → map tree_at ys ++ flat_map f (map tree_at (drop place closed)) ≡ whole → map tree_at ys ≡ whole
   no_more place ys h so_far =
       sym (append-nil (map tree_at ys)) ∙ sym (ap (λ (ns : List ℕ). map tree_at ys ++ flat_map f (map tree_at ns)) (drop_end closed place h)) ∙ so_far
-
-pub each_there : (closed : List ℕ) (place : ℕ) → place < length closed → numbered closed (place + 1) ≡ None → ⊥
-each_there closed place h e =
-    let next : place + 1 ≡ suc place = omega arith in
-    by closed place h (sym (number_suc closed place) ∙ ap (numbered closed) (sym next) ∙ e)
-  where
-    by : (ns : List ℕ) (i : ℕ) → i < length ns → slice_get ns i ≡ None → ⊥
-    by [] i k f = absurd (omega (arith, k))
-    by (n ∷ ns) zero k f = absurd cc
-    by (n ∷ ns) (suc i) k f = by ns i (omega (arith, k)) f
 
 -- ---- what a term says
 

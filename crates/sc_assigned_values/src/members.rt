@@ -1,7 +1,6 @@
 //! The members that an assignment gives to a set.
-ghost use Rattle.std.specs.Prelude.{◌≡◌, ◌+◌, ◌++◌, ◌<◌, ℕ, List, Some, length, map, IfOk, OnOk};
+ghost use Rattle.std.specs.Prelude.{◌≡◌, ◌++◌, ◌<◌, ℕ, List, length, map, IfOk, OnOk};
 ghost use Rattle.std.specs.List.{AllByRecursion};
-ghost use Rattle.sc_footprint.specs.Problems.{numbered};
 ghost use Rattle.sc_models.specs.Models.{model, truth_in};
 ghost use Rattle.sc_rebuilding.specs.Vals.{assigned, member_in};
 ghost use Rattle.sc_terms.specs.Tables.{tree};
@@ -9,22 +8,10 @@ ghost use Rattle.sc_terms.specs.Tables.{tree};
 use crate::truth::truth;
 use sc_clauses::Assignment;
 use sc_footprint::Problem;
+use sc_instances::closed_at;
 use sc_lists::Seq;
 use sc_nodes::{BinaryOp, Node};
 use std::alloc::{AllocError, Global};
-
-/// The closed term of a place, counted from 0, by its number in the table.
-fn closed_at(problem: &Problem<'_>, place: u64) -> u64
-    requires { place < length problem.now.closed }
-    ensures within { result < length problem.now.nodes }
-    ensures number { numbered problem.now.closed (place + 1) ≡ Some result }
-{
-    problem.laws();
-    match problem.term(place + 1) {
-        Some(term) => term,
-        None => unreachable!(),
-    }
-}
 
 /// Puts what a term says is a member of a set, if it says so and is true.
 fn put_member(

@@ -1,10 +1,9 @@
 -- Terms by their numbers in the table.
-use Rattle.std.proofs.Common.{◌≡◌, ◌<◌, ◌+◌, ◌-◌, ◌++◌, ℕ, zero, suc, List, [], ◌∷◌, map, flat_map, take, length, slice_get, get_or, Some, Contains, refl, sym, ap, ◌∙◌, subst, arith}
+use Rattle.std.proofs.Common.{◌≡◌, ◌<◌, ◌+◌, ◌++◌, ℕ, List, [], ◌∷◌, map, flat_map, take, length, get_or, Contains, refl, sym, ap, ◌∙◌, subst}
 use Rattle.std.proofs.lemmas.List.{map_more}
 use Rattle.sc_lists.proofs.ListLaws.{all_of_elements, all_element}
-use Rattle.sc_laws.proofs.NumberLaws.{suc_isnt_zero}
 use Rattle.sc_terms.specs.Trees.{Tree}
-use Rattle.sc_footprint.specs.Problems.{Posed, IsPosed, numbered}
+use Rattle.sc_footprint.specs.Problems.{Posed, IsPosed}
 use Rattle.sc_assigned_worlds.specs.Listed.{IsListed, AreListed}
 
 pub flat_trees : {X : Type 0} (f : Tree → List X) (tree_at : ℕ → Tree) (ns : List ℕ) → flat_map (λ n. f (tree_at n)) ns ≡ flat_map f (map tree_at ns)
@@ -19,20 +18,6 @@ map_trees f tree_at ns ms ts e h = composed ns ∙ ap (λ (ks : List ℕ). map f
     composed (k ∷ ks) = ap (λ ys. f (tree_at k) ∷ ys) (composed ks)
 
 -- ---- one closed term after the other
-
-at_place : (ns : List ℕ) (i : ℕ) → slice_get ns i ≡ numbered ns (i + 1)
-at_place ns i =
-    let next : i + 1 ≡ suc i = omega arith in
-    let back : suc i - 1 ≡ i = omega arith in
-    sym (ap (numbered ns) next ∙ rw (suc_isnt_zero i) (ap (slice_get ns) back))
-
-pub one_more : (xs done : List ℕ) (i x : ℕ) → done ≡ take i xs → numbered xs (i + 1) ≡ Some x → done ++ x ∷ [] ≡ take (i + 1) xs
-one_more xs done i x e h = ap (λ (ys : List ℕ). ys ++ x ∷ []) e ∙ by xs i (at_place xs i ∙ h)
-  where
-    by : (ys : List ℕ) (j : ℕ) → slice_get ys j ≡ Some x → take j ys ++ x ∷ [] ≡ take (j + 1) ys
-    by [] j f = absurd cc
-    by (y ∷ ys) zero f = let same : y ≡ x = cc in ap (λ (z : ℕ). z ∷ []) (sym same)
-    by (y ∷ ys) (suc j) f = let next : suc j + 1 ≡ suc (j + 1) = omega arith in rw next (ap (λ (zs : List ℕ). y ∷ zs) (by ys j f))
 
 pub all_listed : (p : Posed) (ns : List ℕ) → IsPosed p → ns ≡ p.closed → AreListed p ns
 all_listed p ns posed e = all_of_elements (IsListed p) ns (λ n has. record {

@@ -1,27 +1,15 @@
 //! The closed terms, and the entities that terms stand for.
-ghost use Rattle.std.specs.Prelude.{◌≡◌, ◌<◌, ◌+◌, Some, length, IfOk};
+ghost use Rattle.std.specs.Prelude.{◌≡◌, ◌<◌, length, IfOk};
 ghost use Rattle.sc_assigned_worlds.specs.Listed.{AreListed};
 ghost use Rattle.sc_assigned_worlds.specs.Saying.{uid_in};
-ghost use Rattle.sc_footprint.specs.Problems.{numbered};
 ghost use Rattle.sc_terms.specs.Tables.{tree};
 
 use sc_assigned_values::uid_of;
 use sc_footprint::Problem;
+use sc_instances::closed_at;
 use sc_lists::{Seq, Text};
 use sc_names::Uid;
 use std::alloc::{AllocError, Global};
-
-/// The closed term of a place, counted from 0, by its number in the table.
-fn closed_at(problem: &Problem<'_>, place: u64) -> u64
-    requires { place < length problem.now.closed }
-    ensures { numbered problem.now.closed (place + 1) ≡ Some result }
-{
-    problem.laws();
-    match problem.term(place + 1) {
-        Some(term) => term,
-        None => unreachable!(),
-    }
-}
 
 /// The closed terms, in order, by their numbers in the table.
 pub(crate) fn closed_of(alloc: Global, problem: &Problem<'_>) -> Result<Seq<u64>, AllocError>

@@ -3,13 +3,14 @@ ghost use Rattle.std.specs.Prelude.{◌<◌, [], Contains, length};
 ghost use Rattle.std.specs.List.{AllByRecursion};
 ghost use Rattle.sc_schema.specs.Declarations.{environments};
 
-use crate::goals::{Asked, goal_of, is_goal, schema};
+use crate::goals::{Asked, goal_of, schema};
 use indexmap::IndexSet;
 use sc_closure::{OverLimit, closed_terms, is_atom, number_at, place_in, put};
 use sc_lists::Fault;
 use sc_names::Lits;
 use sc_schema::{Env, Schema, context_of, environments};
 use sc_terms::Terms;
+use sc_test_goals::is_plain_goal;
 use std::alloc::{AllocError, Global};
 use std::test::Fail;
 
@@ -43,7 +44,7 @@ fn closed_of(
     let mut terms = Terms::new(alloc)?;
     let literals = Lits::new(alloc);
     let goal = goal_of(alloc, &mut terms, schema, env, ty, asked)?;
-    if !is_goal(alloc, schema, env, &literals, &terms, goal)? {
+    if !is_plain_goal(alloc, schema, env, &literals, &terms, goal)? {
         return Err(Fault::NoMemory);
     }
     let closed = closed_terms(alloc, &mut terms, goal, schema, env, &literals)?;

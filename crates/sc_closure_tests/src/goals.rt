@@ -1,19 +1,14 @@
 //! Goals over a context with a truth value, a number that may be absent, two texts, two sets of texts
 //! and a user. Users may be in users.
-ghost use Rattle.std.specs.Prelude.{◌≡◌, ◌<◌, [], Contains, length, IfOk, IsTrue};
-ghost use Rattle.sc_schema.specs.Declarations.{environments};
-ghost use Rattle.sc_terms.specs.Tables.{tree, Keeps};
-ghost use Rattle.sc_closure_rules.specs.Goals.{IsGoal};
+ghost use Rattle.std.specs.Prelude.{IfOk};
+ghost use Rattle.sc_terms.specs.Tables.{Keeps};
 ghost use Rattle.sc_test_goals.specs.Plain.{IsPlain};
 
-use sc_closure::is_bool;
 use sc_lists::Text;
-use sc_names::Lits;
 use sc_pattern::{Part, pattern_of};
 use sc_schema::{Env, Schema, Ty};
 use sc_schema_json::read_schema;
 use sc_sorts::{entity_sort, sort_of};
-use sc_term_laws::is_term;
 use sc_terms::Terms;
 use std::alloc::{AllocError, Global};
 
@@ -129,25 +124,4 @@ pub(crate) fn goal_of(
         Asked::Subset => subset(alloc, terms, ty),
         Asked::Above => above(alloc, terms, schema, env, ty),
     }
-}
-
-/// Whether a number stands for a goal.
-#[tactic(auto, using(sc_test_goals::proofs::GoalLaws::plain_goal))]
-pub(crate) fn is_goal(
-    alloc: Global,
-    schema: &Schema,
-    env: &Env,
-    literals: &Lits,
-    terms: &Terms,
-    n: u64,
-) -> Result<bool, AllocError>
-    requires environment { Contains (environments schema.now) env.now }
-    requires none { literals.now ≡ [] }
-    requires plain { IsPlain terms.now n }
-    ensures { IfOk result (λ b. IsTrue b → IsGoal schema.now env.now literals.now (tree terms.now n)) }
-{
-    if !is_bool(terms, n) {
-        return Ok(false);
-    }
-    is_term(alloc, schema, env, literals, terms, n)
 }

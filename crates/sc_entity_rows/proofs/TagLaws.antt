@@ -14,8 +14,9 @@ use Rattle.sc_definitions.specs.Definitions.{definition, counted}
 use Rattle.sc_definitions.proofs.MakingLaws.{counted_length}
 use Rattle.sc_footprint.specs.Closure.{follow, inside, inside_by, choices, choices_by, uid_term, beside, parts, bit_terms}
 use Rattle.sc_footprint.specs.Problems.{Posed, companion}
-use Rattle.sc_entity_rows.specs.declared.closed.Closed.{Closed}
-use Rattle.sc_entity_rows.specs.Rows.{IsClosed, IsThere, inner_level, is_tag, term_at}
+use Rattle.sc_instances.specs.declared.given.Closed.{Closed}
+use Rattle.sc_instances.specs.Given.{IsClosed, term_at}
+use Rattle.sc_entity_rows.specs.Rows.{IsThere, inner_level, is_tag}
 
 -- ---- how many terms tell the value
 

@@ -3,7 +3,6 @@
 //! it.
 #![tactic(auto)]
 
-mod closed;
 mod declared;
 mod row;
 mod rows;

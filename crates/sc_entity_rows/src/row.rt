@@ -1,6 +1,6 @@
 //! Instances at closed terms.
 
-use crate::closed::Closed;
+use sc_instances::Closed;
 
 /// An instance of a rule on entities, by its closed terms. Attributes stand by their numbers in the
 /// table beside their entities.

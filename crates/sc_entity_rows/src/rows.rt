@@ -7,9 +7,9 @@ ghost use Rattle.sc_terms.specs.Tables.{tree};
 ghost use Rattle.sc_terms.specs.TreeSorts.{tree_sort};
 ghost use Rattle.sc_sorts.specs.declared.sort.Sort.{out-Sort};
 ghost use Rattle.sc_terms.specs.Folds.{default_term, equal_term};
-ghost use Rattle.sc_entity_rows.specs.Rows.{AreAttributes, AreClosed, IsClosed, inner_level, is_tag as tag_test, row_said, term_at};
+ghost use Rattle.sc_instances.specs.Given.{IsClosed, term_at};
+ghost use Rattle.sc_entity_rows.specs.Rows.{AreAttributes, AreClosed, inner_level, is_tag as tag_test, row_said};
 
-use crate::closed::Closed;
 use crate::declared::{
     above_name, choices_of, count_of_type, declared_above, entity_equal, is_one_of, of_type_at,
     uid_at,
@@ -21,7 +21,7 @@ use crate::stored::{
 };
 use sc_clauses::Lit;
 use sc_footprint::Problem;
-use sc_instances::{NOWHERE, is_one_sort, negated_if};
+use sc_instances::{Closed, NOWHERE, is_one_sort, negated_if};
 use sc_sorts::Sort;
 
 /// So many literals, where a test passes.

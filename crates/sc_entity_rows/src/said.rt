@@ -4,14 +4,13 @@ ghost use Rattle.sc_terms.specs.Tables.{tree};
 ghost use Rattle.sc_instances.specs.declared.rule.EntityRule.TheVariants.{En1, En2, En3, En4, En5, En6, En7, En8};
 ghost use Rattle.sc_instances.specs.Instances.{entity_said};
 ghost use Rattle.sc_instances.specs.Saying.{count_of, literal_of};
-ghost use Rattle.sc_entity_rows.specs.Rows.{AreAttributesIf, AreGivenIf, IsGivenIf, IsRowIf};
+ghost use Rattle.sc_entity_rows.specs.Rows.{AreAttributesIf, IsRowIf};
 
-use crate::closed::Closed;
 use crate::row::Row;
 use crate::rows::{count, literal};
 use sc_clauses::Lit;
 use sc_footprint::Problem;
-use sc_instances::{EntityRule, NOWHERE, Saying, attributes};
+use sc_instances::{EntityRule, NOWHERE, Saying, attributes, both, closed};
 
 /// An instance of a rule on entities of a problem.
 #[derive(Drop)]
@@ -20,28 +19,6 @@ pub struct Said<'a, 'b> {
     pub problem: &'a Problem<'b>,
     /// The instance.
     pub rule: EntityRule,
-}
-
-/// The closed term of a number. None exactly where there is none.
-fn closed(problem: &Problem<'_>, n: u64) -> Option<Closed>
-    ensures { IsGivenIf problem.now n result }
-{
-    match problem.term(n) {
-        Some(term) => Some(Closed { number: n, term }),
-        None => None,
-    }
-}
-
-fn both(problem: &Problem<'_>, a: u64, b: u64) -> Option<(Closed, Closed)>
-    ensures { AreGivenIf problem.now a b result }
-{
-    let Some(x) = closed(problem, a) else {
-        return None;
-    };
-    let Some(y) = closed(problem, b) else {
-        return None;
-    };
-    Some((x, y))
 }
 
 /// The closed attributes of two entities, by their numbers in the table.

@@ -1,7 +1,6 @@
 -- What an assignment knows of each two strings and entities, and the instances of EQ1 that it falsifies.
-use Rattle.std.proofs.Common.{◌≡◌, ◌≢◌, ◌<◌, ◌≤◌, ◌^◌, ◌&&◌, ◌==◌, ℕ, nat_lt, zero, suc, Bool, true, false, cond, List, [], ◌∷◌, length, slice_get, get_or, Option, Some, None, option_map, option_and_then, refl, sym, ap, ◌∙◌, subst, arith}
+use Rattle.std.proofs.Common.{◌≡◌, ◌≢◌, ◌<◌, ◌≤◌, ◌&&◌, ◌==◌, ℕ, zero, suc, Bool, true, false, cond, List, [], ◌∷◌, length, slice_get, get_or, Option, Some, None, option_map, option_and_then, refl, sym, ap, ◌∙◌, subst, arith}
 use Rattle.std.proofs.lemmas.Bool.{and_parts, true≢false}
-use Rattle.std.proofs.lemmas.Bool.Decides.{nat_tests}
 use Rattle.std.specs.List.{AllByRecursion}
 use Rattle.sc_laws.proofs.NumberLaws.{nat_eq_true}
 use Rattle.sc_laws.proofs.OptionLaws.{same_some, option_and_then_some, option_map_some}
@@ -14,15 +13,16 @@ use Rattle.sc_terms.specs.Tables.{tree}
 use Rattle.sc_terms.specs.Trees.{Tree}
 use Rattle.sc_footprint.specs.Problems.{Posed, IsPosed, literal_in, numbered, term_of}
 use Rattle.sc_instances.proofs.FalseLaws.{false_known, known_false, false_negation, known_negation, true_isnt_false}
+use Rattle.sc_instances.proofs.KnownLaws.{few_is}
 use Rattle.sc_instances.specs.Clauses.{is_asked}
 use Rattle.sc_instances.specs.declared.rule.EqualRule.TheVariants.{Eq1}
 use Rattle.sc_instances.specs.Instances.{equal_said, on_three}
-use Rattle.sc_instances.specs.Known.{known, is_falsified}
+use Rattle.sc_instances.specs.Known.{few_items, known, known_equal, is_falsified, named_at, truth_of}
 use Rattle.sc_rules.specs.Equal.{eq1}
 use Rattle.sc_rules.specs.Signed.{so, unless, given}
 use Rattle.sc_rules.specs.Terms.{is_named}
 use Rattle.sc_violated.specs.Truths.{IsIntransitive, NoneIntransitive}
-use Rattle.sc_equal_chains.specs.Naming.{few_items, known_equal, named_at, truth_of, IsNamed, AreNamed, IsChainFree}
+use Rattle.sc_equal_chains.specs.Naming.{IsNamed, AreNamed, IsChainFree}
 
 -- ---- places of lists
 
@@ -172,13 +172,6 @@ module _ (p : Posed) (m : Assignment) where
           by (Some t) (Some u) None e f g = nothing_free p m
           by (Some t) None r e f g = nothing_free p m
           by None q r e f g = nothing_free p m
-
--- of a problem no more strings and entities are known than there are closed terms
-pub few_is : (p : Posed) (n : ℕ) → IsPosed p → n ≤ length p.closed → few_items n ≡ n
-few_is p n posed h =
-    let below : n < 10 ^ 18 = omega (arith, h, posed.small) in
-    let small : nat_lt n (10 ^ 18) ≡ true = grind (arith, nat_tests, below) in
-    ap (λ (b : Bool). cond b n 0) small
 
 pub found_at : (p : Posed) (m : Assignment) (ns : List ℕ) (i j k a b c : ℕ) → AreNamed p ns → IsIntransitive (truth_of p m ns) i j k → a ≡ get_or ns i 0 → b ≡ get_or ns j 0 → c ≡ get_or ns k 0
     → is_falsified p m (equal_said p (Eq1 a b c)) ≡ true

@@ -1,13 +1,12 @@
 //! EQ1 by what is known of each two strings and entities.
-ghost use Rattle.std.specs.Prelude.{◌≡◌, ◌<◌, ◌≤◌, ◌+◌, length, get_or, IfOk, OnOk, IfSome, IfNone, Some, true};
-ghost use Rattle.sc_footprint.specs.Problems.{numbered};
+ghost use Rattle.std.specs.Prelude.{◌≡◌, ◌<◌, ◌≤◌, ◌+◌, length, get_or, IfOk, OnOk, IfSome, IfNone, true};
 ghost use Rattle.sc_instances.specs.Instances.{equal_said};
-ghost use Rattle.sc_instances.specs.Known.{is_falsified};
-ghost use Rattle.sc_equal_chains.specs.Naming.{AreNamed, AreNamedUpTo, IsChainFree, few_items};
+ghost use Rattle.sc_instances.specs.Known.{few_items, is_falsified};
+ghost use Rattle.sc_equal_chains.specs.Naming.{AreNamed, AreNamedUpTo, IsChainFree};
 
 use sc_clauses::Assignment;
 use sc_footprint::Problem;
-use sc_instances::{EqualRule, equal, is_sort_named, known_literal};
+use sc_instances::{EqualRule, closed_at, equal, is_sort_named, known_literal};
 use sc_violated::{Equalities, intransitive_triple};
 use std::alloc::{AllocError, Global};
 
@@ -31,8 +30,8 @@ fn few_numbers(count: usize) -> usize
 
 impl<'a, 'b> Equalities for Named<'a, 'b> {
     ghost use Rattle.std.specs.Prelude.{length};
-    ghost use Rattle.sc_equal_chains.specs.Naming.{few_items, truth_of};
-    ghost use Rattle.sc_equal_chains.specs.NamingLaws.{truth_turned, truth_itself};
+    ghost use Rattle.sc_instances.specs.Known.{few_items, truth_of};
+    ghost use Rattle.sc_instances.proofs.KnownLaws.{truth_turned, truth_itself};
 
     ghost size = { λ s. few_items (length s.numbers.items) };
 
@@ -54,19 +53,6 @@ impl<'a, 'b> Equalities for Named<'a, 'b> {
     ghost symmetric = { λ s. truth_turned s.problem.now s.m.now s.numbers.items };
 
     ghost reflexive = { λ s. truth_itself s.problem.now s.m.now s.numbers.items };
-}
-
-/// The closed term of a place, counted from 0, by its number in the table.
-fn closed_at(problem: &Problem<'_>, place: u64) -> u64
-    requires { place < length problem.now.closed }
-    ensures within { result < length problem.now.nodes }
-    ensures number { numbered problem.now.closed (place + 1) ≡ Some result }
-{
-    problem.laws();
-    match problem.term(place + 1) {
-        Some(n) => n,
-        None => unreachable!(),
-    }
 }
 
 /// Puts the number of the closed term of a place, if that is a string or an entity.

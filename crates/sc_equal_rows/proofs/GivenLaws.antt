@@ -1,53 +1,15 @@
 -- What an instance says at closed terms that are given by their numbers.
-use Rattle.std.proofs.Common.{◌≡◌, ◌<◌, ℕ, [], Option, Some, None, IsSomeAnd, refl, sym, ap, ◌∙◌, subst}
+use Rattle.std.proofs.Common.{◌≡◌, ◌<◌, ℕ, Option, None, IsSomeAnd, sym, ap, ◌∙◌, subst}
 use Rattle.sc_clauses.specs.declared.lit.Lit.{Lit}
 use Rattle.sc_clauses.specs.Clauses.{positive}
-use Rattle.sc_terms.specs.Trees.{Tree}
-use Rattle.sc_footprint.specs.Problems.{Posed, term_of}
+use Rattle.sc_footprint.specs.Problems.{Posed}
 use Rattle.sc_instances.specs.Clauses.{said_clause}
-use Rattle.sc_instances.specs.Instances.{on_one, on_two, on_three}
 use Rattle.sc_instances.specs.Saying.{count_of, literal_of}
 use Rattle.sc_rules.specs.Signed.{Said}
-use Rattle.sc_equal_rows.specs.declared.closed.Closed.{Closed}
 use Rattle.sc_equal_rows.specs.declared.row.Row.{Row}
-use Rattle.sc_equal_rows.specs.Rows.{IsGiven, IsRow, row_said, term_at}
+use Rattle.sc_equal_rows.specs.Rows.{IsRow, row_said}
 
 module _ (p : Posed) where
-  pub one_given : (a : ℕ) (x : Closed) (rule : Tree → Said) → IsGiven p a x → on_one (term_of p a) rule ≡ rule (term_at p x)
-  one_given a x rule g = ap (λ (o : Option Tree). on_one o rule) g.is
-
-  pub one_none : (a : ℕ) (rule : Tree → Said) → term_of p a ≡ None → on_one (term_of p a) rule ≡ None
-  one_none a rule e = ap (λ (o : Option Tree). on_one o rule) e
-
-  pub two_given : (a b : ℕ) (x y : Closed) (rule : Tree → Tree → Said) → IsGiven p a x → IsGiven p b y → on_two (term_of p a) (term_of p b) rule ≡ rule (term_at p x) (term_at p y)
-  two_given a b x y rule g h = ap (λ (o : Option Tree). on_two o (term_of p b) rule) g.is ∙ ap (λ (o : Option Tree). on_two (Some (term_at p x)) o rule) h.is
-
-  pub first_none : (a b : ℕ) → term_of p a ≡ None → (rule : Tree → Tree → Said) → on_two (term_of p a) (term_of p b) rule ≡ None
-  first_none a b e rule = ap (λ (o : Option Tree). on_two o (term_of p b) rule) e
-
-  pub second_none : (a b : ℕ) (x : Closed) → IsGiven p a x → term_of p b ≡ None → (rule : Tree → Tree → Said) → on_two (term_of p a) (term_of p b) rule ≡ None
-  second_none a b x g e rule = ap (λ (o : Option Tree). on_two o (term_of p b) rule) g.is ∙ ap (λ (o : Option Tree). on_two (Some (term_at p x)) o rule) e
-
-  pub three_given : (a b c : ℕ) (x y z : Closed) (rule : Tree → Tree → Tree → Said) → IsGiven p a x → IsGiven p b y → IsGiven p c z
-      → on_three (term_of p a) (term_of p b) (term_of p c) rule ≡ rule (term_at p x) (term_at p y) (term_at p z)
-  three_given a b c x y z rule g h i =
-      ap (λ (o : Option Tree). on_three o (term_of p b) (term_of p c) rule) g.is ∙ ap (λ (o : Option Tree). on_three (Some (term_at p x)) o (term_of p c) rule) h.is
-      ∙ ap (λ (o : Option Tree). on_three (Some (term_at p x)) (Some (term_at p y)) o rule) i.is
-
-  -- two of three aren't given
-  of_two : (o q r : Option Tree) (rule : Tree → Tree → Tree → Said) → ((pair : Tree → Tree → Said) → on_two o q pair ≡ None) → on_three o q r rule ≡ None
-  of_two (Some a) (Some b) r rule h = let e : Some [] ≡ None = h (λ c d. Some []) in absurd cc
-  of_two (Some a) None r rule h = refl
-  of_two None q r rule h = refl
-
-  pub three_none : (a b c : ℕ) (rule : Tree → Tree → Tree → Said) → ((pair : Tree → Tree → Said) → on_two (term_of p a) (term_of p b) pair ≡ None) → on_three (term_of p a) (term_of p b) (term_of p c) rule ≡ None
-  three_none a b c rule h = of_two (term_of p a) (term_of p b) (term_of p c) rule h
-
-  pub third_none : (a b c : ℕ) (x y : Closed) (rule : Tree → Tree → Tree → Said) → IsGiven p a x → IsGiven p b y → term_of p c ≡ None → on_three (term_of p a) (term_of p b) (term_of p c) rule ≡ None
-  third_none a b c x y rule g h e =
-      ap (λ (o : Option Tree). on_three o (term_of p b) (term_of p c) rule) g.is ∙ ap (λ (o : Option Tree). on_three (Some (term_at p x)) o (term_of p c) rule) h.is
-      ∙ ap (λ (o : Option Tree). on_three (Some (term_at p x)) (Some (term_at p y)) o rule) e
-
   -- ---- counts and literals
 
   pub row_count : (said : Said) (row : Row) (n : Option ℕ) → IsRow p said row → n ≡ count_of (row_said p row) → n ≡ count_of said

@@ -17,8 +17,9 @@ use Rattle.sc_rules.specs.Terms.{fields_of, fields_level, is_option, one_sort}
 use Rattle.sc_rules.proofs.EqualSound.{one_sort_is}
 use Rattle.sc_sorts.specs.Defaults.{is_option_level}
 use Rattle.sc_instances.proofs.FollowLaws.{follows, field_place}
-use Rattle.sc_equal_rows.specs.declared.closed.Closed.{Closed}
-use Rattle.sc_equal_rows.specs.Rows.{IsClosed, IsThere, term_at}
+use Rattle.sc_instances.specs.declared.given.Closed.{Closed}
+use Rattle.sc_instances.specs.Given.{IsClosed, term_at}
+use Rattle.sc_equal_rows.specs.Rows.{IsThere}
 
 -- ---- records and options are no truth values
 

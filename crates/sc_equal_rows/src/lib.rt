@@ -3,7 +3,6 @@
 //! it.
 #![tactic(auto)]
 
-mod closed;
 mod row;
 mod rows;
 mod said;

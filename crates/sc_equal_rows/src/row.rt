@@ -1,6 +1,6 @@
 //! Instances at closed terms.
 
-use crate::closed::Closed;
+use sc_instances::Closed;
 
 /// An instance of a rule on equations, by its closed terms.
 #[derive(Clone, Copy, Debug)]

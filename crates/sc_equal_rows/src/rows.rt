@@ -9,14 +9,15 @@ ghost use Rattle.sc_terms.specs.Folds.{default_term, equal_term, held_term, pres
 ghost use Rattle.sc_terms.specs.Tables.{tree};
 ghost use Rattle.sc_sorts.specs.Inside.{held_sort};
 ghost use Rattle.sc_terms.specs.TreeSorts.{tree_sort};
-ghost use Rattle.sc_equal_rows.specs.Rows.{AreClosed, IsChoiceIf, IsClosed, IsFieldLiteral, IsThere, count_if, row_said, term_at};
+ghost use Rattle.sc_instances.specs.Given.{IsClosed, term_at};
+ghost use Rattle.sc_equal_rows.specs.Rows.{AreClosed, IsChoiceIf, IsFieldLiteral, IsThere, count_if, row_said};
 
-use crate::closed::Closed;
 use crate::row::Row;
 use sc_clauses::Lit;
 use sc_footprint::Problem;
 use sc_instances::{
-    NOWHERE, equal, field_count, is_one_sort, is_sort_named, is_sort_option, negated_if, present,
+    Closed, NOWHERE, equal, field_count, is_one_sort, is_sort_named, is_sort_option, negated_if,
+    present,
 };
 use sc_nodes::Node;
 

@@ -3,14 +3,13 @@ ghost use Rattle.std.specs.Prelude.{◌≡◌, ◌<◌, IsSomeAnd};
 ghost use Rattle.sc_instances.specs.declared.rule.EqualRule.TheVariants.{Eq1, Eq2, Eq3, Eq4, Eq5, Eq6, Eq7, Eq8};
 ghost use Rattle.sc_instances.specs.Instances.{equal_said};
 ghost use Rattle.sc_instances.specs.Saying.{count_of, literal_of};
-ghost use Rattle.sc_equal_rows.specs.Rows.{AreGivenIf, IsGivenIf, IsRowIf};
+ghost use Rattle.sc_equal_rows.specs.Rows.{IsRowIf};
 
-use crate::closed::Closed;
 use crate::row::Row;
 use crate::rows::{count, literal};
 use sc_clauses::Lit;
 use sc_footprint::Problem;
-use sc_instances::{EqualRule, NOWHERE, Saying};
+use sc_instances::{EqualRule, NOWHERE, Saying, both, closed};
 
 /// An instance of a rule on equations of a problem.
 #[derive(Drop)]
@@ -19,28 +18,6 @@ pub struct Said<'a, 'b> {
     pub problem: &'a Problem<'b>,
     /// The instance.
     pub rule: EqualRule,
-}
-
-/// The closed term of a number. None exactly where there is none.
-fn closed(problem: &Problem<'_>, n: u64) -> Option<Closed>
-    ensures { IsGivenIf problem.now n result }
-{
-    match problem.term(n) {
-        Some(term) => Some(Closed { number: n, term }),
-        None => None,
-    }
-}
-
-fn both(problem: &Problem<'_>, a: u64, b: u64) -> Option<(Closed, Closed)>
-    ensures { AreGivenIf problem.now a b result }
-{
-    let Some(x) = closed(problem, a) else {
-        return None;
-    };
-    let Some(y) = closed(problem, b) else {
-        return None;
-    };
-    Some((x, y))
 }
 
 fn chain(problem: &Problem<'_>, a: u64, b: u64, c: u64) -> Option<Row>

@@ -17,7 +17,7 @@ use std::alloc::{AllocError, Global};
 use std::test::Fail;
 
 /// Checks that policies have types. That they have none counts as want of memory.
-#[tactic(auto, using(crate::proofs::ServingLaws::none_where_passed))]
+#[tactic(auto, using(sc_typing::proofs::CheckingLaws::none_where_passed))]
 fn check(alloc: Global, schema: &Schema, policies: &PolicySet) -> Result<(), AllocError>
     ensures { OnOk result (type_fault schema.now policies.now ≡ None) }
 {

@@ -1,25 +1,14 @@
 -- What checks of policies tell.
-use Rattle.std.proofs.Common.{◌≡◌, List, Option, Some, None, Result, Ok, Err, OnOk, IfErr, refl, ap, sym, subst, ◌∙◌}
+use Rattle.std.proofs.Common.{◌≡◌, List, Option, Some, None, Result, Ok, Err, OnOk, IfErr, ap, sym, subst, ◌∙◌}
 use Rattle.std.specs.Option.{option_or}
 use Rattle.sc_lists.specs.declared.fault.Fault.{Fault}
 use Rattle.sc_lists.specs.declared.fault.Fault.TheVariants.{Told, NoMemory}
 use Rattle.sc_ast.specs.declared.policy.Policy.{Policy}
 use Rattle.sc_schema.specs.Declarations.{Declarations}
-use Rattle.sc_typing.specs.Checking.{refusing}
 use Rattle.sc_inputs.specs.Readings.{FailsWith, Checks}
 use Rattle.sc_inputs.specs.Refusals as spec
 use Rattle.sc_inputs.specs.Refusals.{Side, policies_side, against_side, on, in_against, first_fault, names_fault, types_fault, AreServed, RefusesQuestion, undeclared, untyped}
 use Rattle.sc_inputs.specs.declared.refusal.Refusal.{Refusal}
-
--- no refusal tells that there is no fault
-pub none_where_passed : {E : Type 0} (o : Option E) → refusing o ≡ Ok tt → o ≡ None
-none_where_passed None e = refl
-none_where_passed (Some x) e = absurd cc
-
--- a refusal tells the fault
-pub some_where_refused : {E : Type 0} (o : Option E) (x : E) → refusing o ≡ Err x → o ≡ Some x
-some_where_refused None x e = absurd cc
-some_where_refused (Some y) x e = cc
 
 -- ---- one set and two
 

@@ -3,9 +3,9 @@ use Rattle.std.proofs.Common.{◌≡◌, ◌∙◌, ℕ, List, [], Bool, true, f
 use Rattle.sc_question.specs.declared.question.Question.{Question}
 use Rattle.sc_question.specs.declared.question.Question.TheVariants.{AlwaysDenies}
 use Rattle.std.proofs.lemmas.Bool.{true≢false}
-use Rattle.sc_command.specs.CommandLine.{Asked, Command as AnyCommand, analyse, check_log, replay, write_log}
+use Rattle.sc_command.specs.CommandLine.{Asked, Command as AnyCommand, Commands, analyse, check_log, replay, write_log}
 use Rattle.sc_command.proofs.CommandLaws.{one_command}
-use Rattle.sc_inputs.specs.Serving.{Aim, Command, HasSets, HasUnits, MayWork, Serves, Task, as_command, asked_for, asking, checking, command_for, logging, replaying, reporting}
+use Rattle.sc_inputs.specs.Serving.{Aim, Command, HasSets, MayWork, Serves, Task, as_command, asking, checking, command_for, logging, replaying, reporting}
 
 abbrev schema_of : AnyCommand → List ℕ
 schema_of (analyse a) = a.asked.schema
@@ -72,7 +72,7 @@ not_both_tasks t question against aim name e f = true≢false (ap asks (sym e �
 pub one_world_file : (t : Task) (a b : List ℕ) → t ≡ replaying a → t ≡ replaying b → a ≡ b
 one_world_file t a b e f = ap world_of (sym e ∙ f)
 
-units-of-task : (words : List (List ℕ)) (schema policies : List ℕ) (t : Task) → Serves words (record { schema = schema; policies = policies; task = t }) → MayWork t
+units-of-task : (words : List (List ℕ)) (schema policies : List ℕ) (t : Task) → Commands words (command_for schema policies t) → MayWork t
 units-of-task words schema policies (asking question against (reporting budget)) h = h.reads.2.budget_given.spelled.least
 units-of-task words schema policies (asking question against (logging budget place)) h = h.reads.2.budget_given.spelled.least
 units-of-task words schema policies (asking question against (checking place log)) h = tt
@@ -82,7 +82,7 @@ units-of-task words schema policies (replaying world) h = tt
 pub units_of : (words : List (List ℕ)) (c : Command) → Serves words c → MayWork c.task
 units_of words c h = units-of-task words c.schema c.policies c.task h
 
-sets-of-task : (words : List (List ℕ)) (schema policies : List ℕ) (t : Task) → Serves words (record { schema = schema; policies = policies; task = t }) → HasSets t
+sets-of-task : (words : List (List ℕ)) (schema policies : List ℕ) (t : Task) → Commands words (command_for schema policies t) → HasSets t
 sets-of-task words schema policies (asking question against (reporting budget)) h = h.reads.2.asked_given.second_set
 sets-of-task words schema policies (asking question against (logging budget place)) h = h.reads.2.asked_given.second_set
 sets-of-task words schema policies (asking question against (checking place log)) h = h.reads.2.asked_given.second_set

@@ -30,7 +30,7 @@ pub fn check_declared(
 }
 
 /// Checks that the policies of a set are typed in each environment.
-#[tactic(auto, using(crate::proofs::CheckingLaws::none_where_passed, crate::proofs::CheckingLaws::some_where_refused))]
+#[tactic(auto, using(sc_typing::proofs::CheckingLaws::none_where_passed, sc_typing::proofs::CheckingLaws::some_where_refused))]
 fn check_typed(
     alloc: Global,
     schema: &Schema,

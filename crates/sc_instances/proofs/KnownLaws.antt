@@ -1,12 +1,15 @@
 -- What is known of equations: the order of the sides doesn't matter, and nothing is known not to equal itself.
-use Rattle.std.proofs.Common.{◌≡◌, Bool, true, false, Option, Some, None, refl, sym, ap, ◌∙◌}
+use Rattle.std.proofs.Common.{◌≡◌, ◌<◌, ◌≤◌, ◌^◌, ◌==◌, ℕ, nat_lt, Bool, true, false, cond, List, length, Option, Some, None, refl, sym, ap, ◌∙◌, arith}
+use Rattle.std.proofs.lemmas.Bool.Decides.{nat_tests}
+use Rattle.std.proofs.lemmas.Cmp.{nat_eq_equiv}
 use Rattle.sc_clauses.specs.Assignments.{Assignment, value_of}
 use Rattle.sc_terms.specs.Trees.{Tree}
 use Rattle.sc_terms.specs.Folds.{truth_term, constant, literal_of, literals_same, not_term, other_equal, equal_by, equal_term}
+use Rattle.sc_terms.specs.Tables.{tree}
 use Rattle.sc_terms.proofs.OrderLaws.{tree_cmp_total, tree_eq-itself}
-use Rattle.sc_footprint.specs.Problems.{Posed}
+use Rattle.sc_footprint.specs.Problems.{Posed, IsPosed, literal_in}
 use Rattle.sc_terms.proofs.EqualLaws.{constant_is, equal_turned as turned}
-use Rattle.sc_instances.specs.Known.{known_constant, known_of}
+use Rattle.sc_instances.specs.Known.{few_items, known, known_constant, known_equal, known_of, named_at, truth_of}
 
 -- ---- either way round
 
@@ -35,3 +38,32 @@ module _ (p : Posed) (m : Assignment) where
       by (Some true) f = absurd cc
       by (Some false) f = absurd cc
       by None f = absurd cc
+
+-- ---- some closed terms, by their numbers
+
+both_turned : (p : Posed) (m : Assignment) (a b : Option ℕ) → known_equal p m a b ≡ known_equal p m b a
+both_turned p m (Some a) (Some b) =
+    ap (λ (c : Bool). cond c None (known m (literal_in p (equal_term (tree p.nodes a) (tree p.nodes b))))) (nat_eq_equiv.symm a b)
+    ∙ ap (λ (t : Tree). cond (b == a) None (known m (literal_in p t))) (equal_turned (tree p.nodes a) (tree p.nodes b))
+both_turned p m (Some a) None = refl
+both_turned p m None (Some b) = refl
+both_turned p m None None = refl
+
+both_itself : (p : Posed) (m : Assignment) (a : Option ℕ) → known_equal p m a a ≡ Some false → ⊥
+both_itself p m (Some a) e =
+    let none : None ≡ Some false = sym (ap (λ (c : Bool). cond c None (known m (literal_in p (equal_term (tree p.nodes a) (tree p.nodes a))))) (nat_eq_equiv.refl a)) ∙ e in
+    absurd cc
+both_itself p m None e = absurd cc
+
+pub truth_turned : (p : Posed) (m : Assignment) (ns : List ℕ) (i j : ℕ) → truth_of p m ns i j ≡ truth_of p m ns j i
+truth_turned p m ns i j = both_turned p m (named_at p ns i) (named_at p ns j)
+
+pub truth_itself : (p : Posed) (m : Assignment) (ns : List ℕ) (i : ℕ) → truth_of p m ns i i ≡ Some false → ⊥
+truth_itself p m ns i e = both_itself p m (named_at p ns i) e
+
+-- of a problem no more numbers are known than there are closed terms
+pub few_is : (p : Posed) (n : ℕ) → IsPosed p → n ≤ length p.closed → few_items n ≡ n
+few_is p n posed h =
+    let below : n < 10 ^ 18 = omega (arith, h, posed.small) in
+    let small : nat_lt n (10 ^ 18) ≡ true = grind (arith, nat_tests, below) in
+    ap (λ (b : Bool). cond b n 0) small

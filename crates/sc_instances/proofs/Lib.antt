@@ -5,6 +5,7 @@ pub mod LookupLaws
 pub mod PartLaws
 pub mod FollowLaws
 pub mod SayingLaws
+pub mod GivenLaws
 pub mod NameLaws
 pub mod RulesHold
 pub mod InstanceLaws

@@ -1,5 +1,5 @@
 -- What is found on shelves is what is found among all closed terms.
-use Rattle.std.proofs.Common.{◌≡◌, ◌<◌, ◌≤◌, ◌+◌, ◌-◌, ◌&&◌, ℕ, zero, suc, Bool, true, false, cond, inl, inr, List, [], ◌∷◌, map, filter, find, drop, length, slice_get, get_or, Option, Some, None, refl, sym, ap, ◌∙◌, subst, arith}
+use Rattle.std.proofs.Common.{◌≡◌, ◌<◌, ◌≤◌, ◌+◌, ◌-◌, ◌&&◌, ◌++◌, ℕ, zero, suc, Bool, true, false, cond, inl, inr, List, [], ◌∷◌, map, filter, find, take, drop, length, slice_get, get_or, Option, Some, None, refl, sym, ap, ◌∙◌, subst, arith}
 use Rattle.std.proofs.lemmas.Bool.{and_parts}
 use Rattle.std.proofs.lemmas.Option.{slice_get-get_or}
 use Rattle.sc_lists.proofs.MemberLaws.{Has-from_Contains}
@@ -124,12 +124,23 @@ number_there ns place h e =
 closed_place : (p : Posed) (place n : ℕ) → numbered p.closed (place + 1) ≡ Some n → slice_get p.closed place ≡ Some n
 closed_place p place n e = let next : place + 1 ≡ suc place = omega arith in sym (number_suc p.closed place) ∙ ap (numbered p.closed) (sym next) ∙ e
 
-drop_at : {X : Type 0} (xs : List X) (i : ℕ) (x : X) → slice_get xs i ≡ Some x → drop i xs ≡ x ∷ drop (i + 1) xs
+-- one more of the numbers taken
+pub number_taken : (ns done : List ℕ) (i n : ℕ) → done ≡ take i ns → numbered ns (i + 1) ≡ Some n → done ++ n ∷ [] ≡ take (i + 1) ns
+number_taken ns done i n e h =
+    let next : i + 1 ≡ suc i = omega arith in
+    ap (λ (ms : List ℕ). ms ++ n ∷ []) e ∙ by ns i (sym (number_suc ns i) ∙ ap (numbered ns) (sym next) ∙ h)
+  where
+    by : (ms : List ℕ) (j : ℕ) → slice_get ms j ≡ Some n → take j ms ++ n ∷ [] ≡ take (j + 1) ms
+    by [] j f = absurd cc
+    by (m ∷ ms) zero f = let same : m ≡ n = cc in ap (λ (k : ℕ). k ∷ []) (sym same)
+    by (m ∷ ms) (suc j) f = let after : suc j + 1 ≡ suc (j + 1) = omega arith in rw after (ap (λ (ks : List ℕ). m ∷ ks) (by ms j f))
+
+pub drop_at : {X : Type 0} (xs : List X) (i : ℕ) (x : X) → slice_get xs i ≡ Some x → drop i xs ≡ x ∷ drop (i + 1) xs
 drop_at [] i x e = absurd cc
 drop_at (y ∷ ys) zero x e = let same : y ≡ x = cc in ap (λ z. z ∷ ys) same
 drop_at (y ∷ ys) (suc i) x e = let next : suc i + 1 ≡ suc (i + 1) = omega arith in rw next (drop_at ys i x e)
 
-drop_end : {X : Type 0} (xs : List X) (i : ℕ) → length xs ≤ i → drop i xs ≡ []
+pub drop_end : {X : Type 0} (xs : List X) (i : ℕ) → length xs ≤ i → drop i xs ≡ []
 drop_end [] zero h = refl
 drop_end [] (suc i) h = refl
 drop_end (x ∷ xs) zero h = absurd (omega (arith, h))

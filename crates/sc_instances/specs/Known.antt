@@ -1,12 +1,13 @@
 -- What an assignment says of terms, and which instances it falsifies.
-use Rattle.std.specs.Prelude.{◌≡◌, ◌&&◌, ◌==◌, ℕ, Bool, true, false, not, Option, Some, None, option_map, if◌then◌else◌}
+use Rattle.std.specs.Prelude.{◌≡◌, ◌&&◌, ◌==◌, ◌^◌, ℕ, nat_lt, Bool, true, false, not, List, Option, Some, None, slice_get, option_map, option_and_then, if◌then◌else◌}
 use Rattle.std.specs.List.{list_all}
 use Rattle.sc_clauses.specs.declared.lit.Lit.{Lit}
 use Rattle.sc_clauses.specs.Assignments.{Assignment, value_of, is_false}
 use Rattle.sc_clauses.specs.Clauses.{Clause, bool_eq}
 use Rattle.sc_terms.specs.Trees.{Tree}
-use Rattle.sc_terms.specs.Folds.{constant}
-use Rattle.sc_footprint.specs.Problems.{Posed, literal_in}
+use Rattle.sc_terms.specs.Folds.{constant, equal_term}
+use Rattle.sc_terms.specs.Tables.{tree}
+use Rattle.sc_footprint.specs.Problems.{Posed, literal_in, numbered}
 use Rattle.sc_rules.specs.Signed.{Said}
 use Rattle.sc_instances.specs.Clauses.{is_asked, clause_for}
 
@@ -46,3 +47,22 @@ is_falsified p m (Some parts) = is_broken m (clause_for p parts)
 -- no instance of some rules is falsified
 abbrev pub NoneFalsified : {R : Type 0} → (Posed → R → Said) → Posed → Assignment → Type 0
 NoneFalsified {R} say p m = (rule : R) → is_falsified p m (say p rule) ≡ false
+
+-- ---- some closed terms, by their numbers
+
+-- of two terms of the table that are not one whether they are equal
+abbrev pub known_equal : Posed → Assignment → Option ℕ → Option ℕ → Option Bool
+known_equal p m (Some a) (Some b) =
+    if a == b then None else known m (literal_in p (equal_term (tree p.nodes a) (tree p.nodes b)))
+known_equal p m _ _ = None
+
+-- the term of the table at a place of numbers of closed terms
+abbrev pub named_at : Posed → List ℕ → ℕ → Option ℕ
+named_at p ns i = option_and_then (λ (n : ℕ). numbered p.closed n) (slice_get ns i)
+
+abbrev pub truth_of : Posed → Assignment → List ℕ → ℕ → ℕ → Option Bool
+truth_of p m ns i j = known_equal p m (named_at p ns i) (named_at p ns j)
+
+-- so many items, where they are fewer than a problem has closed terms
+abbrev pub few_items : ℕ → ℕ
+few_items n = if nat_lt n (10 ^ 18) then n else 0

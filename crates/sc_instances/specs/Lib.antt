@@ -5,3 +5,4 @@ pub mod Instances
 pub mod Known
 pub mod Saying
 pub mod Lookups
+pub mod Given

@@ -4,6 +4,7 @@
 //! they speak of, and tells which instances an assignment falsifies.
 #![tactic(auto)]
 
+mod given;
 mod known;
 mod laws;
 mod literals;
@@ -13,16 +14,17 @@ mod saying;
 mod words;
 mod writing;
 
+pub use given::{Closed, both, closed};
 pub use known::known_literal;
 pub use laws::rule_laws;
 pub use literals::{
     FALSE, NOWHERE, TRUE, common, equal, literal_if, member, negated_if, present, subset,
 };
 pub use parts::{
-    above, attributes, entity, field_count, is_one_sort, is_sort_named, is_sort_option,
+    above, attributes, closed_at, entity, field_count, is_one_sort, is_sort_named, is_sort_option,
     is_sort_set, keys, members,
 };
 pub use rule::{EntityRule, EqualRule, SetRule};
 pub use saying::{Saying, clause_of, is_falsified, is_instance};
-pub use words::{entity_rule, equal_rule, set_rule};
-pub use writing::{write_entity, write_equal, write_set};
+pub use words::{are_written, entity_rule, equal_rule, set_rule};
+pub use writing::{put_numbers, write_entity, write_equal, write_set};

@@ -174,7 +174,7 @@ fn is_literal_of(problem: &Problem<'_>, n: u64, uid: &Uid) -> bool
 }
 
 /// The closed term of a place, counted from 0, by its number in the table.
-fn closed_at(problem: &Problem<'_>, place: u64) -> u64
+pub fn closed_at(problem: &Problem<'_>, place: u64) -> u64
     requires { place < length problem.now.closed }
     ensures within { result < length problem.now.nodes }
     ensures number { numbered problem.now.closed (place + 1) ≡ Some result }

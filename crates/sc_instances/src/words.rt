@@ -47,7 +47,8 @@ fn is_written(word: &Word) -> bool
     }
 }
 
-fn are_written(words: &[Word]) -> bool
+/// Whether a log can hold each of some words.
+pub fn are_written(words: &[Word]) -> bool
     ensures { result ≡ list_all is_word words.now }
 {
     words.iter().all(|word| is_written(word))

@@ -19,7 +19,7 @@ fn are_small(numbers: &[u64]) -> bool
 }
 
 /// Puts numbers after the other words.
-fn put_numbers(words: &mut Seq<Word>, numbers: &[u64]) -> Result<(), AllocError>
+pub fn put_numbers(words: &mut Seq<Word>, numbers: &[u64]) -> Result<(), AllocError>
     ensures { OnOk result (words.new ≡ words.old ++ map Number numbers.now) }
 {
     let mut rest = numbers;

@@ -27,11 +27,8 @@ read_value e = cc
 read_cursor : {A : Type 0} {x y : A} {s t : Cursor} → read x s ≡ read y t → s ≡ t
 read_cursor e = cc
 
-halt_stop : {A : Type 0} {f g : Stop} {n m : ℕ} → ◌≡◌ {A = Outcome A} (halt f n) (halt g m) → f ≡ g
-halt_stop e = cc
-
-halt_number : {A : Type 0} {f g : Stop} {n m : ℕ} → ◌≡◌ {A = Outcome A} (halt f n) (halt g m) → n ≡ m
-halt_number e = cc
+halt_parts : {A : Type 0} {f g : Stop} {n m : ℕ} → ◌≡◌ {A = Outcome A} (halt f n) (halt g m) → (f ≡ g) × (n ≡ m)
+halt_parts e = (cc, cc)
 
 pub only : {K : Limits} {ts : List Lexeme} {c : Sort} {p : Program c} {s : Cursor} {o o' : Outcome (Of c)} → Runs K ts c p s o → Runs K ts c p s o' → o ≡ o'
 only does does = refl
@@ -50,7 +47,7 @@ only {K = K} {ts = ts} {c = c} {s = s} {o' = o'} (calls {d = d} {w = w} {m = m} 
     only a' (subst (λ z. Runs K ts c (k z) (leave w s t) o') (sym (read_value e)) (subst (λ z. Runs K ts c (k y) (leave w s z) o') (sym (read_cursor e)) b'))
 only (calls a a') (halts b) = let e = only a b in absurd cc
 only (halts a) (calls b b') = let e = only a b in absurd cc
-only (halts a) (halts b) = let e = only a b in let f = halt_stop e in let n = halt_number e in cc
+only (halts a) (halts b) = let e = only a b in let parts = halt_parts e in let f = parts.0 in let n = parts.1 in cc
 
 enter_at : (w : Way) (s : Cursor) → (enter w s).at ≡ s.at
 enter_at here s = refl

@@ -1,5 +1,5 @@
 -- Checked policies have goals that closure takes.
-use Rattle.std.proofs.Common.{◌≡◌, inl, inr, ℕ, List, [], ◌∷◌, Bool, true, false, if◌then◌else◌, Option, Some, None, option_map, is_some, IsSome, Contains, Ok, refl, sym, subst}
+use Rattle.std.proofs.Common.{◌≡◌, inl, inr, ℕ, List, [], ◌∷◌, Bool, true, false, if◌then◌else◌, Option, Some, None, option_map, is_some, IsSome, Contains, refl, sym, subst}
 use Rattle.std.specs.Prelude.{IfSome}
 use Rattle.std.specs.List.{AllByRecursion}
 use Rattle.sc_lists.proofs.ListLaws.{all_of_elements, contains_first, contains_rest, contains_joined}
@@ -13,7 +13,7 @@ use Rattle.sc_schema.specs.Declarations.{Declarations, environments, is_action_t
 use Rattle.sc_schema.specs.Lawful.{IsLawful}
 use Rattle.sc_world.specs.Named.{IsDeclared}
 use Rattle.sc_eval.specs.Written.{HasProperConstants}
-use Rattle.sc_typing.specs.Checking.{refusing, fault_from}
+use Rattle.sc_typing.specs.Checking.{fault_from}
 use Rattle.sc_typing.specs.Names.{name_fault}
 use Rattle.sc_nodes.specs.declared.node.Node.{Node}
 use Rattle.sc_terms.specs.Tables.{StandsFor}
@@ -24,11 +24,6 @@ use Rattle.sc_goal.specs.Goals.{goal_term}
 use Rattle.sc_goal.specs.Queries.{Asked, IsAsked, second}
 use Rattle.sc_question.specs.declared.question.Question.{Question}
 use Rattle.sc_problem_tests.specs.Checked.{IsChecked, IsGoalAt}
-
--- no refusal tells that there is no fault
-pub none_where_passed : {E : Type 0} (o : Option E) → refusing o ≡ Ok tt → o ≡ None
-none_where_passed None e = refl
-none_where_passed (Some x) e = absurd cc
 
 pub none_checked : (s : Declarations) → IsChecked s []
 unfolding fault_from

@@ -45,7 +45,7 @@ fn policies(alloc: Global, file: &str) -> Result<PolicySet, AllocError>
 }
 
 /// Checks that policies have types. That they have none counts as want of memory.
-#[tactic(auto, using(crate::proofs::CheckedLaws::none_where_passed))]
+#[tactic(auto, using(sc_typing::proofs::CheckingLaws::none_where_passed))]
 fn with_types(alloc: Global, schema: &Schema, policies: &PolicySet) -> Result<(), AllocError>
     ensures { OnOk result (type_fault schema.now policies.now ≡ None) }
 {

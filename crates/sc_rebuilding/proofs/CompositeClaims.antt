@@ -51,6 +51,7 @@ use Rattle.sc_rules.specs.Terms.{fields_of, fields_level, one_sort, is_set}
 use Rattle.sc_rules.specs.Equal.{field_equal, eq3, eq3_of, field_at, eq4, eq4_of, are_options, eq5, eq6, eq7}
 use Rattle.sc_rules.specs.Sets.{se1, se4, se5, se8}
 use Rattle.sc_rules.proofs.MemberTruths.{has_set_from, set_from_has}
+use Rattle.sc_rules.proofs.EquationLaws.{no_constant}
 use Rattle.sc_closure_rules.specs.Closure.{Closed}
 use Rattle.sc_rebuilding.specs.Assignments.{Assignment, lit, some_hold}
 use Rattle.sc_rebuilding.specs.Consistent.{IsRuleAt, of_eq3, of_eq4, of_eq5, of_eq6, of_eq7, of_se1, of_se4, of_se5, of_se8}
@@ -58,7 +59,7 @@ use Rattle.sc_rebuilding.specs.Vals.{Model, member_in, assigned, held_by, val_of
 use Rattle.sc_rebuilding.specs.Models.{IsModel}
 use Rattle.sc_rebuilding.proofs.ClaimLaws.{AreTerms, AreAddresses, Agrees, ArePaired, Claim, Straight, by_straight, sort_of_literal, bool_step, long_step, decimal_step, ip_step, string_step, entity_step}
 use Rattle.sc_rebuilding.proofs.ClosedLaws.{field_closed, present_closed, held_closed, fields_equation, held_equation, subset_closed, superset_closed, pick_closed, IsCandidate, candidates_equation, member_closed, member_candidate, pick_candidate}
-use Rattle.sc_rebuilding.proofs.EquationTerms.{literal_is, no_constant, equal_sym, lit_two}
+use Rattle.sc_rebuilding.proofs.EquationTerms.{literal_is, equal_sym, lit_two}
 use Rattle.sc_rebuilding.proofs.HoldLaws.{second, third, only, first_of_three, first_of_four, none_unless}
 use Rattle.sc_closure_rules.proofs.SortLaws.{found}
 use Rattle.sc_rebuilding.proofs.SortSteps.{by_sorts}

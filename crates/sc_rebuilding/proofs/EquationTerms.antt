@@ -6,7 +6,6 @@ use Rattle.std.specs.declared.cmp.Ordering.TheVariants.{Less, Equal, Greater}
 use Rattle.sc_nodes.specs.Literals.{same_entity}
 use Rattle.sc_nodes.specs.declared.node.Leaf.TheVariants as leafs
 use Rattle.sc_nodes.specs.declared.node.Literal.{Literal}
-use Rattle.sc_nodes.specs.declared.node.Literal.TheVariants as literals
 use Rattle.sc_nodes.specs.declared.node.UnaryOp.TheVariants as unary
 use Rattle.sc_nodes.specs.declared.node.BinaryOp.TheVariants as binary
 use Rattle.sc_nodes.specs.declared.node.BinaryOp.{BinaryOp}
@@ -16,6 +15,7 @@ use Rattle.sc_terms.specs.Order.{tree_cmp, tree_eq}
 use Rattle.sc_terms.specs.Folds.{constant, truth_term, literal_term, literal_of, literals_same, under_not, not_by, not_term, equal_term, other_equal, equation}
 use Rattle.sc_terms.proofs.OrderLaws.{tree_cmp_total, tree_eq-exact}
 use Rattle.sc_terms.proofs.FoldValues.{under}
+use Rattle.sc_rules.proofs.EquationLaws.{no_constant}
 use Rattle.sc_rebuilding.specs.Assignments.{Assignment, lit}
 
 -- ---- literals
@@ -30,28 +30,6 @@ literal_is (one o x) l e = absurd cc
 literal_is (two o x y) l e = absurd cc
 literal_is (choice c x y) l e = absurd cc
 literal_is (many o ts) l e = absurd cc
-
-constant_literal : (a : Tree) (b : Bool) → constant a ≡ Some b → literal_of a ≡ Some (literals.Bool b)
-constant_literal (leaf (leafs.Literal (literals.Bool c))) b e = let f : c ≡ b = cc in ap (λ d. Some (literals.Bool d)) f
-constant_literal (leaf (leafs.Literal (literals.Long n))) b e = absurd cc
-constant_literal (leaf (leafs.Literal (literals.String t))) b e = absurd cc
-constant_literal (leaf (leafs.Literal (literals.Decimal n))) b e = absurd cc
-constant_literal (leaf (leafs.Literal (literals.Ip x))) b e = absurd cc
-constant_literal (leaf (leafs.Literal (literals.Entity u us))) b e = absurd cc
-constant_literal (leaf (leafs.None s)) b e = absurd cc
-constant_literal (leaf (leafs.Principal s)) b e = absurd cc
-constant_literal (leaf (leafs.Resource s)) b e = absurd cc
-constant_literal (leaf (leafs.Context s)) b e = absurd cc
-constant_literal (one o x) b e = absurd cc
-constant_literal (two o x y) b e = absurd cc
-constant_literal (choice c x y) b e = absurd cc
-constant_literal (many o ts) b e = absurd cc
-
-pub no_constant : (a : Tree) → literal_of a ≡ None → constant a ≡ None
-no_constant a e = by (constant a) refl where
-  by : (o : Option Bool) → constant a ≡ o → o ≡ None
-  by None f = refl
-  by (Some b) f = let both : Some (literals.Bool b) ≡ None = sym (constant_literal a b f) ∙ e in absurd cc
 
 -- ---- an equation is the same in either order of its sides, where these aren't both literals
 

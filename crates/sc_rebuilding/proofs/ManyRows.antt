@@ -49,6 +49,7 @@ use Rattle.sc_rules.specs.Signed.{Signed, so, unless}
 use Rattle.sc_rules.specs.Terms.{members, is_option}
 use Rattle.sc_rules.specs.Equal.{eq8}
 use Rattle.sc_rules.specs.Sets.{se2, se3, se3_of}
+use Rattle.sc_rules.proofs.EquationLaws.{no_constant}
 use Rattle.sc_closure_rules.specs.Closure.{Closed, trees_in}
 use Rattle.sc_rebuilding.specs.Assignments.{lit}
 use Rattle.sc_rebuilding.specs.Consistent.{of_eq8, of_se2, of_se3}
@@ -58,7 +59,7 @@ use Rattle.sc_rebuilding.specs.Rows.{IsRight}
 use Rattle.sc_rebuilding.proofs.ClaimLaws.{AreTerms, AreAddresses, no_truth}
 use Rattle.sc_rebuilding.proofs.ClosedLaws.{of_part, present_closed, held_closed, default_closed, IsCandidate, candidates_equation, among_candidate}
 use Rattle.sc_rebuilding.proofs.CompositeClaims.{place_of, one_set, ruled, passed, claims, held_sorted, held_plain, IsSet, member_has, has_member, candidate_of, membership, candidates_agree, members_of, val_members}
-use Rattle.sc_rebuilding.proofs.EquationTerms.{Equation, is_one, are_literals, is_straight, is_turned, equation_of, no_constant, lit_not}
+use Rattle.sc_rebuilding.proofs.EquationTerms.{Equation, is_one, are_literals, is_straight, is_turned, equation_of, lit_not}
 use Rattle.sc_rebuilding.proofs.HoldLaws.{second, others, some_so}
 use Rattle.sc_rebuilding.proofs.RowLaws.{bool_only, at_sort, from_sort, right_literal, right_none}
 use Rattle.sc_closure_rules.proofs.SortLaws.{key_at}

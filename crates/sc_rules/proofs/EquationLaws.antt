@@ -2,12 +2,20 @@
 use Rattle.std.proofs.Common.{◌≡◌, Bool, true, false, Option, Some, None, refl, sym, ap, ◌∙◌, subst}
 use Rattle.sc_values.specs.declared.value.Value.{Value}
 use Rattle.sc_world.specs.declared.world.World.{World}
-use Rattle.sc_terms.specs.Trees.{Tree}
-use Rattle.sc_terms.specs.Folds.{equal_term}
+use Rattle.sc_nodes.specs.declared.node.Leaf.TheVariants as leafs
+use Rattle.sc_terms.specs.Trees.{Tree, leaf}
+use Rattle.sc_terms.specs.Folds.{constant, equal_term, literal_of}
 use Rattle.sc_terms.specs.Values.{Val, yes, val, seen, truth, not_seen, not_value, option_eq, val_eq, equal_seen, equal_value}
 use Rattle.sc_terms.proofs.FoldValues.{seen_yes, seen_is, truth_yes, truth_unseen}
 use Rattle.sc_terms.proofs.EqualValues.{value_eq-exact, val_eq-same, equal_is, equal_bools, equal_others, val_eq-exact}
 use Rattle.sc_rules.specs.Signed.{is_true}
+
+-- ---- constants
+
+-- what is no literal is no constant
+pub no_constant : (x : Tree) → literal_of x ≡ None → constant x ≡ None
+no_constant (leaf (leafs.Literal l)) h = absurd cc
+no_constant _ h = refl
 
 -- ---- one value
 

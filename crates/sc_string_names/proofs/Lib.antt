@@ -1,4 +1,3 @@
-mod PlaceLaws
 mod TruthLaws
 mod PatternLaws
 mod ClassLaws

@@ -16,7 +16,8 @@ use Rattle.sc_rules.specs.Strings.{Pattern}
 use Rattle.sc_rules.proofs.MemberLaws.{any_first}
 use Rattle.sc_footprint.specs.Closure.{Closed}
 use Rattle.sc_rebuilding.specs.Texts.{ArePatterns}
-use Rattle.sc_string_names.specs.Patterns.{pattern_in, same_part, same_pattern, put_pattern, put_if, put_patterns}
+use Rattle.sc_string_rows.specs.Patterns.{asked_of}
+use Rattle.sc_string_names.specs.Patterns.{same_part, same_pattern, put_pattern, put_if, put_patterns}
 
 same_part_true : (a b : Part) → same_part a b ≡ true → a ≡ b
 same_part_true Star Star e = refl
@@ -62,19 +63,19 @@ put_if_old qs (Some p) q h = put_old qs p q h
 puts_old : (qs : List Pattern) (ts : List Tree) (q : Pattern) → Has qs q → Has (put_patterns qs ts) q
 unfolding put_patterns
 puts_old qs [] q h = h
-puts_old qs (t ∷ ts) q h = puts_old (put_if qs (pattern_in t)) ts q (put_if_old qs (pattern_in t) q h)
+puts_old qs (t ∷ ts) q h = puts_old (put_if qs (asked_of t)) ts q (put_if_old qs (asked_of t) q h)
 
-puts_own : (qs : List Pattern) (ts : List Tree) (t : Tree) (p : Pattern) → Has ts t → pattern_in t ≡ Some p → Has (put_patterns qs ts) p
+puts_own : (qs : List Pattern) (ts : List Tree) (t : Tree) (p : Pattern) → Has ts t → asked_of t ≡ Some p → Has (put_patterns qs ts) p
 unfolding put_patterns
 puts_own qs [] t p h e = absurd h
 puts_own qs (u ∷ ts) t p (inl is) e =
-    puts_old (put_if qs (pattern_in u)) ts p (subst (λ (o : Option Pattern). Has (put_if qs o) p) (sym (ap pattern_in is ∙ e)) (put_own qs p))
-puts_own qs (u ∷ ts) t p (inr later) e = puts_own (put_if qs (pattern_in u)) ts t p later e
+    puts_old (put_if qs (asked_of u)) ts p (subst (λ (o : Option Pattern). Has (put_if qs o) p) (sym (ap asked_of is ∙ e)) (put_own qs p))
+puts_own qs (u ∷ ts) t p (inr later) e = puts_own (put_if qs (asked_of u)) ts t p later e
 
 abbrev IsAsked : List Tree → Pattern → Type 0
-IsAsked ts p = (t : Tree) × Has ts t × (pattern_in t ≡ Some p)
+IsAsked ts p = (t : Tree) × Has ts t × (asked_of t ≡ Some p)
 
-put_if_only : (qs : List Pattern) (u : Tree) (ts : List Tree) (p : Pattern) (o : Option Pattern) → pattern_in u ≡ o → Has (put_if qs o) p → Has qs p ⊎ IsAsked (u ∷ ts) p
+put_if_only : (qs : List Pattern) (u : Tree) (ts : List Tree) (p : Pattern) (o : Option Pattern) → asked_of u ≡ o → Has (put_if qs o) p → Has qs p ⊎ IsAsked (u ∷ ts) p
 put_if_only qs u ts p None e h = inl h
 put_if_only qs u ts p (Some q) e h = elim (put_only qs q p h) [
   | inl old ↦ inl old
@@ -84,12 +85,12 @@ put_if_only qs u ts p (Some q) e h = elim (put_only qs q p h) [
 puts_only : (qs : List Pattern) (ts : List Tree) (p : Pattern) → Has (put_patterns qs ts) p → Has qs p ⊎ IsAsked ts p
 unfolding put_patterns
 puts_only qs [] p h = inl h
-puts_only qs (u ∷ ts) p h = elim (puts_only (put_if qs (pattern_in u)) ts p h) [
-  | inl here ↦ put_if_only qs u ts p (pattern_in u) refl here
+puts_only qs (u ∷ ts) p h = elim (puts_only (put_if qs (asked_of u)) ts p h) [
+  | inl here ↦ put_if_only qs u ts p (asked_of u) refl here
   | inr later ↦ inr (later.0, inr later.1, later.2)
 ]
 
-pattern_is : (t : Tree) (p : Pattern) → pattern_in t ≡ Some p → (x : Tree) × (t ≡ one (Like p) x)
+pattern_is : (t : Tree) (p : Pattern) → asked_of t ≡ Some p → (x : Tree) × (t ≡ one (Like p) x)
 pattern_is (one (Like q) x) p e = (x, ap (λ (r : Pattern). one (Like r) x) (same_some e))
 pattern_is _ p e = absurd cc
 

@@ -6,11 +6,7 @@ use Rattle.sc_pattern.specs.declared.part.Part.TheVariants.{Star, Char}
 use Rattle.sc_nodes.specs.declared.node.UnaryOp.TheVariants.{Like}
 use Rattle.sc_terms.specs.Trees.{Tree, one}
 use Rattle.sc_rules.specs.Strings.{Pattern}
-
--- the pattern of which a term says whether a string matches it
-abbrev pub pattern_in : Tree → Option Pattern
-pattern_in (one (Like p) x) = Some p
-pattern_in _ = None
+use Rattle.sc_string_rows.specs.Patterns.{asked_of}
 
 abbrev pub same_part : Part → Part → Bool
 same_part Star Star = true
@@ -33,7 +29,7 @@ put_if qs (Some p) = put_pattern qs p
 -- those of some terms are put, one after the other
 unfoldable pub put_patterns : List Pattern → List Tree → List Pattern
 put_patterns qs [] = qs
-put_patterns qs (t ∷ ts) = put_patterns (put_if qs (pattern_in t)) ts
+put_patterns qs (t ∷ ts) = put_patterns (put_if qs (asked_of t)) ts
 
 -- ---- worked rows
 

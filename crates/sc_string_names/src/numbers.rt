@@ -1,5 +1,5 @@
 //! The closed terms of a problem, and the strings among them, by their numbers in the table of terms.
-ghost use Rattle.std.specs.Prelude.{◌≡◌, ◌<◌, length, map, get_or, IfOk};
+ghost use Rattle.std.specs.Prelude.{◌≡◌, ◌<◌, length, map, IfOk};
 ghost use Rattle.sc_rebuilding.specs.Names.{of_sort};
 ghost use Rattle.sc_sorts.specs.declared.sort.Sort.TheVariants as sort;
 ghost use Rattle.sc_sorts.specs.contracts.sort.SortPartialEq.TheImpl.{ghosts as sorts};
@@ -8,21 +8,10 @@ ghost use Rattle.sc_terms.specs.Tables.{tree};
 ghost use Rattle.sc_terms.specs.TreeSorts.{tree_sort};
 
 use sc_footprint::Problem;
+use sc_instances::closed_at;
 use sc_lists::Seq;
 use sc_sorts::Sort;
 use std::alloc::{AllocError, Global};
-
-/// The closed term of a place, counted from 0.
-fn closed_at(problem: &Problem<'_>, place: u64) -> u64
-    requires { place < length problem.now.closed }
-    ensures { result ≡ get_or problem.now.closed place result }
-{
-    problem.laws();
-    match problem.term(place + 1) {
-        Some(n) => n,
-        None => unreachable!(),
-    }
-}
 
 /// All closed terms, in their order.
 pub fn closed_numbers(alloc: Global, problem: &Problem<'_>) -> Result<Seq<u64>, AllocError>

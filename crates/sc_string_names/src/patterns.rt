@@ -1,15 +1,14 @@
 //! The patterns that closed terms ask of strings.
-ghost use Rattle.std.specs.Prelude.{◌≡◌, ◌<◌, [], length, map, IfOk, OnOk};
+ghost use Rattle.std.specs.Prelude.{◌≡◌, [], map, IfOk, OnOk};
 ghost use Rattle.std.specs.List.{list_any};
-ghost use Rattle.std.specs.Option.{option_copied};
 ghost use Rattle.sc_string_names.specs.Numbers.{AreIn};
-ghost use Rattle.sc_string_names.specs.Patterns.{pattern_in, same_part as same_part_test, same_pattern as same_pattern_test, put_pattern as put, put_patterns};
+ghost use Rattle.sc_string_names.specs.Patterns.{same_part as same_part_test, same_pattern as same_pattern_test, put_pattern as put, put_patterns};
 ghost use Rattle.sc_terms.specs.Tables.{tree};
 
 use sc_footprint::Problem;
 use sc_lists::Seq;
-use sc_nodes::{Node, UnaryOp};
 use sc_pattern::{Part, Pattern};
+use sc_string_rows::asked_at;
 use std::alloc::{AllocError, Global};
 
 fn same_part(a: &Part, b: &Part) -> bool
@@ -53,17 +52,6 @@ fn is_there(patterns: &[Pattern], pattern: &Pattern) -> bool
     false
 }
 
-/// The pattern of which a term says whether a string matches it. None exactly of another term.
-fn pattern_at<'a>(problem: &'a Problem<'_>, n: u64) -> Option<&'a Pattern>
-    requires { n < length problem.now.nodes }
-    ensures { option_copied result ≡ pattern_in (tree problem.now.nodes n) }
-{
-    match problem.terms().node(n) {
-        Node::One(UnaryOp::Like(pattern), _) => Some(pattern),
-        _ => None,
-    }
-}
-
 fn put_pattern(
     alloc: Global,
     patterns: &mut Seq<Pattern>,
@@ -92,7 +80,7 @@ pub(crate) fn patterns_of(
     let mut patterns = Seq::new(alloc);
     let mut rest = numbers;
     while let Some((n, later)) = rest.split_first() {
-        if let Some(pattern) = pattern_at(problem, *n) {
+        if let Some(pattern) = asked_at(problem, *n) {
             put_pattern(alloc, &mut patterns, pattern)?;
         }
         rest = later;

@@ -1,32 +1,19 @@
 //! The patterns of a problem: those that closed terms ask, each once, in the order of terms.
-ghost use Rattle.std.specs.Prelude.{◌≡◌, ◌<◌, ◌+◌, length, Some, IfOk, OnOk};
+ghost use Rattle.std.specs.Prelude.{◌≡◌, ◌<◌, length, IfOk, OnOk};
 ghost use Rattle.std.specs.List.{list_any};
 ghost use Rattle.std.specs.Option.{option_copied};
-ghost use Rattle.sc_footprint.specs.Problems.{numbered};
 ghost use Rattle.sc_terms.specs.Tables.{tree};
 ghost use Rattle.sc_pattern.specs.contracts.pattern.PatternPartialEq.TheImpl.{ghosts as same};
 ghost use Rattle.sc_string_rows.specs.Patterns.{asked_of, with_new, patterns as patterns_in};
 
 use sc_footprint::Problem;
+use sc_instances::closed_at;
 use sc_nodes::{Node, UnaryOp};
 use sc_pattern::Pattern;
 use std::alloc::{AllocError, Global};
 
-/// The closed term of a place, counted from 0, by its number in the table.
-pub fn closed_at(problem: &Problem<'_>, place: u64) -> u64
-    requires { place < length problem.now.closed }
-    ensures within { result < length problem.now.nodes }
-    ensures number { numbered problem.now.closed (place + 1) ≡ Some result }
-{
-    problem.laws();
-    match problem.term(place + 1) {
-        Some(n) => n,
-        None => unreachable!(),
-    }
-}
-
-/// The pattern that a term asks.
-fn asked_at<'a>(problem: &'a Problem<'_>, n: u64) -> Option<&'a Pattern>
+/// The pattern of which a term asks whether a string matches it. None exactly of another term.
+pub fn asked_at<'a>(problem: &'a Problem<'_>, n: u64) -> Option<&'a Pattern>
     requires { n < length problem.now.nodes }
     ensures { option_copied result ≡ asked_of (tree problem.now.nodes n) }
 {

@@ -16,12 +16,13 @@ mod rule;
 mod said;
 mod writing;
 
-pub use asking::{closed_at, patterns};
+pub use asking::{asked_at, patterns};
 pub use clauses::{accepted, clause_of};
 pub use few::are_few;
 pub use laws::string_laws;
 pub use literals::{is_sort_string, like};
 pub use names::string_rule;
+pub use numbers::copied_signs;
 pub use rule::StringRule;
 pub use said::are_all_asked;
 pub use writing::write_string;

@@ -1,33 +1,12 @@
 //! Which rule on strings an instance names.
 ghost use Rattle.std.specs.Prelude.{◌≡◌, IfOk};
-ghost use Rattle.std.specs.List.{list_all};
-ghost use Rattle.sc_footprint.specs.Written.{is_word};
 ghost use Rattle.sc_string_rows.specs.Names as names;
 
-use crate::numbers::{are_numbers, copied, numbers};
+use crate::numbers::{are_numbers, copied_signs, numbers};
 use crate::rule::StringRule;
 use sc_clauses::{Instance, Word};
+use sc_instances::are_written;
 use std::alloc::{AllocError, Global};
-
-/// A log holds numbers below this one, which have at most 18 digits.
-const NUMBER_LIMIT: u64 = 1_000_000_000_000_000_000;
-
-/// Whether a log can hold a word.
-fn is_written(word: &Word) -> bool
-    ensures { result ≡ is_word word.now }
-{
-    match word {
-        Word::Number(n) => *n < NUMBER_LIMIT,
-        Word::Signs(signs) => !signs.is_empty(),
-    }
-}
-
-/// Whether a log can hold each of them.
-pub(crate) fn are_written(words: &[Word]) -> bool
-    ensures { result ≡ list_all is_word words.now }
-{
-    words.iter().all(|word| is_written(word))
-}
 
 /// The three numbers that words are.
 fn three_numbers(words: &[Word]) -> Option<(u64, u64, u64)>
@@ -68,12 +47,12 @@ fn counted_rule(
         return Ok(None);
     }
     if rule == "ST2" {
-        let signs = copied(alloc, signs)?;
+        let signs = copied_signs(alloc, signs)?;
         let strings = numbers(alloc, words)?;
         return Ok(Some(StringRule::St2(signs, strings)));
     }
     if rule == "ST3" {
-        let signs = copied(alloc, signs)?;
+        let signs = copied_signs(alloc, signs)?;
         let strings = numbers(alloc, words)?;
         return Ok(Some(StringRule::St3(signs, strings)));
     }

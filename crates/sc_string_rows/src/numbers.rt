@@ -1,7 +1,6 @@
 //! Numbers and signs as words.
-ghost use Rattle.std.specs.Prelude.{◌≡◌, ◌++◌, map, IfOk, OnOk};
+ghost use Rattle.std.specs.Prelude.{◌≡◌, map, IfOk};
 ghost use Rattle.std.specs.List.{list_all};
-ghost use Rattle.sc_clauses.specs.declared.step.Word.TheVariants.{Number};
 ghost use Rattle.sc_string_rows.specs.Names as names;
 
 use sc_clauses::Word;
@@ -48,20 +47,8 @@ pub(crate) fn numbers(alloc: Global, words: &[Word]) -> Result<Seq<u64>, AllocEr
     Ok(numbers)
 }
 
-/// Puts numbers after the other words.
-pub(crate) fn put_numbers(words: &mut Seq<Word>, numbers: &[u64]) -> Result<(), AllocError>
-    ensures { OnOk result (words.new ≡ words.old ++ map Number numbers.now) }
-{
-    let mut rest = numbers;
-    while let Some((n, later)) = rest.split_first() {
-        words.push(Word::Number(*n))?;
-        rest = later;
-    }
-    Ok(())
-}
-
 /// A copy of signs.
-pub(crate) fn copied(alloc: Global, signs: &[Option<bool>]) -> Result<Seq<Option<bool>>, AllocError>
+pub fn copied_signs(alloc: Global, signs: &[Option<bool>]) -> Result<Seq<Option<bool>>, AllocError>
     ensures { IfOk result (λ v. v ≡ signs.now) }
 {
     let mut copy = Seq::new(alloc);

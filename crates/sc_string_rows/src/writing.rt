@@ -3,10 +3,10 @@ ghost use Rattle.std.specs.Prelude.{◌≡◌, ◌∷◌, [], map, Some, IfOk};
 ghost use Rattle.sc_clauses.specs.declared.step.Word.TheVariants.{Number, Signs};
 ghost use Rattle.sc_string_rows.specs.Names as names;
 
-use crate::names::are_written;
-use crate::numbers::{copied, put_numbers};
+use crate::numbers::copied_signs;
 use crate::rule::StringRule;
 use sc_clauses::{Instance, Word};
+use sc_instances::{are_written, put_numbers};
 use sc_lists::{Seq, Text};
 use std::alloc::{AllocError, Global};
 
@@ -41,7 +41,7 @@ fn counted_words(
     ensures { IfOk result (λ ws. ws ≡ Signs signs.now ∷ map Number strings.now) }
 {
     let mut words = Seq::new(alloc);
-    words.push(Word::Signs(copied(alloc, signs)?))?;
+    words.push(Word::Signs(copied_signs(alloc, signs)?))?;
     put_numbers(&mut words, strings)?;
     Ok(words)
 }

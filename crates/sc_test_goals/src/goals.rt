@@ -3,6 +3,7 @@ ghost use Rattle.std.specs.Prelude.{◌≡◌, ◌<◌, [], Contains, length, If
 ghost use Rattle.sc_schema.specs.Declarations.{environments};
 ghost use Rattle.sc_terms.specs.Tables.{tree};
 ghost use Rattle.sc_closure_rules.specs.Goals.{IsGoal};
+ghost use Rattle.sc_test_goals.specs.Plain.{IsPlain};
 ghost use Rattle.sc_test_goals.specs.Known.{AreKnown, is_action as action_test, is_known_node as known_node};
 
 use sc_closure::is_bool;
@@ -62,6 +63,27 @@ pub fn is_goal(
     if !are_known(schema, terms) {
         return Ok(false);
     }
+    if !is_bool(terms, n) {
+        return Ok(false);
+    }
+    is_term(alloc, schema, env, literals, terms, n)
+}
+
+/// Whether a number that stands for a plain term stands for a goal.
+#[tactic(auto, using(crate::proofs::GoalLaws::plain_goal))]
+pub fn is_plain_goal(
+    alloc: Global,
+    schema: &Schema,
+    env: &Env,
+    literals: &Lits,
+    terms: &Terms,
+    n: u64,
+) -> Result<bool, AllocError>
+    requires environment { Contains (environments schema.now) env.now }
+    requires none { literals.now ≡ [] }
+    requires plain { IsPlain terms.now n }
+    ensures { IfOk result (λ b. IsTrue b → IsGoal schema.now env.now literals.now (tree terms.now n)) }
+{
     if !is_bool(terms, n) {
         return Ok(false);
     }

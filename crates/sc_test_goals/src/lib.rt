@@ -5,4 +5,4 @@
 
 mod goals;
 
-pub use goals::is_goal;
+pub use goals::{is_goal, is_plain_goal};

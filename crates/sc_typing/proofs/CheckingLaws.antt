@@ -1,4 +1,4 @@
--- The first fault of a list, by its first part and the rest of it.
+-- What refusals tell, and the first fault of a list by its first part and the rest of it.
 use Rattle.std.proofs.Common.{◌≡◌, ℕ, ◌+◌, ◌<◌, List, ◌∷◌, length, drop, get_or, Option, Some, None, Result, Ok, Err, refl, sym, ap, ◌∙◌}
 use Rattle.std.specs.Option.{option_or}
 use Rattle.std.proofs.lemmas.List.{at_drop_more}
@@ -6,6 +6,16 @@ use Rattle.sc_ast.specs.declared.policy.Policy.{Policy}
 use Rattle.sc_schema.specs.declared.declarations.Env.{Env}
 use Rattle.sc_schema.specs.Declarations.{Declarations, environments}
 use Rattle.sc_typing.specs.Checking.{refusing, fault_in, first_in, fault_from}
+
+-- no refusal tells that there is no fault
+pub none_where_passed : {E : Type 0} (o : Option E) → refusing o ≡ Ok tt → o ≡ None
+none_where_passed None e = refl
+none_where_passed (Some x) e = absurd cc
+
+-- a refusal tells the fault
+pub some_where_refused : {E : Type 0} (o : Option E) (x : E) → refusing o ≡ Err x → o ≡ Some x
+some_where_refused None x e = absurd cc
+some_where_refused (Some y) x e = cc
 
 -- the first refusal of two
 abbrev pub before : {E : Type 0} → Result (Unit {0}) E → Result (Unit {0}) E → Result (Unit {0}) E

@@ -10,7 +10,7 @@ use Rattle.sc_nodes.specs.declared.node.Leaf.TheVariants as leafs
 use Rattle.sc_nodes.specs.declared.node.Literal.TheVariants as literals
 use Rattle.sc_terms.specs.Trees.{Tree, leaf}
 use Rattle.sc_terms.specs.TreeSorts.{tree_sort}
-use Rattle.sc_terms.specs.Folds.{constant, literal_of}
+use Rattle.sc_terms.specs.Folds.{literal_of}
 use Rattle.sc_rules.specs.Terms.{fields_level}
 
 abbrev pub is_composite_level : Sort-F Sort → Bool
@@ -41,7 +41,3 @@ no_literal (leaf (leafs.Literal (literals.Decimal d))) h = absurd (simple _ _ ou
 no_literal (leaf (leafs.Literal (literals.Ip ip))) h = absurd (simple _ _ out_Ip refl h)
 no_literal (leaf (leafs.Literal (literals.Entity u us))) h = absurd (simple _ _ (out_Entity u.type_name us) refl h)
 no_literal _ h = refl
-
-pub no_constant : (x : Tree) → literal_of x ≡ None → constant x ≡ None
-no_constant (leaf (leafs.Literal l)) h = absurd cc
-no_constant _ h = refl

@@ -15,13 +15,14 @@ use Rattle.sc_rules.specs.Equal.{are_options, eq3, eq3_of, eq4, eq4_of, eq5, eq6
 use Rattle.sc_rules.specs.Signed.{Signed, Said, so, unless, given}
 use Rattle.sc_rules.specs.Terms.{fields_of, is_option, one_sort}
 use Rattle.sc_rules.proofs.EqualSound.{one_sort_is}
+use Rattle.sc_rules.proofs.EquationLaws.{no_constant}
 use Rattle.sc_instances.proofs.FalseLaws.{asked_equation, false_known, false_negation, true_isnt_false, known_atom}
 use Rattle.sc_instances.specs.declared.rule.EqualRule.TheVariants.{Eq1, Eq2, Eq3, Eq4, Eq5, Eq6, Eq7, Eq8}
 use Rattle.sc_instances.specs.Instances.{equal_said, on_two}
 use Rattle.sc_instances.specs.Known.{known, is_falsified, NoneFalsified}
 use Rattle.sc_equal_chains.specs.Naming.{IsChainFree}
 use Rattle.th_equal.specs.Free.{IsKept, IsPairFree, AreTermsFree}
-use Rattle.th_equal.proofs.CompositeLaws.{is_composite, is_composite_level, record_composite, option_composite, no_literal, no_constant}
+use Rattle.th_equal.proofs.CompositeLaws.{is_composite, is_composite_level, record_composite, option_composite, no_literal}
 use Rattle.th_equal.proofs.FreeLaws.{nothing_kept}
 use Rattle.th_equal.proofs.NumberLaws.{closed_number}
 

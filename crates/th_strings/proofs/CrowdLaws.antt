@@ -15,7 +15,8 @@ use Rattle.sc_terms.specs.Tables.{tree}
 use Rattle.sc_terms.specs.Trees.{Tree}
 use Rattle.sc_footprint.specs.Problems.{Posed, IsPosed, term_of}
 use Rattle.sc_instances.proofs.FalseLaws.{true_isnt_false}
-use Rattle.sc_instances.specs.Known.{is_falsified}
+use Rattle.sc_instances.proofs.KnownLaws.{few_is}
+use Rattle.sc_instances.specs.Known.{few_items, is_falsified, named_at, truth_of}
 use Rattle.sc_rules.specs.Signed.{given}
 use Rattle.sc_rules.specs.Strings.{Pattern, Signs, AreFew, crowd, st3}
 use Rattle.sc_rules.specs.Terms.{is_string}
@@ -27,14 +28,14 @@ use Rattle.sc_string_rows.specs.declared.rule.StringRule.TheVariants.{St3}
 use Rattle.sc_string_rows.proofs.RulesHold.{with_view}
 use Rattle.sc_violated.specs.declared.crowds.Crowd.{Crowd}
 use Rattle.sc_violated.specs.Crowds.{Fits, IsCrowd, IsWithin, NoneCrowded}
-use Rattle.th_strings.specs.Known.{few_items, named_at, row_at, row_of, sign_of, truth_of}
+use Rattle.th_strings.specs.Known.{row_at, row_of, sign_of}
 use Rattle.th_strings.specs.Scarce.{AreScarce, IsScarce, IsScarceIf}
 use Rattle.th_strings.specs.Texts.{AreTexts}
 use Rattle.th_strings.specs.Violated.{IsViolated, AreCrowdsFree, IsRuleOf}
 use Rattle.th_strings.proofs.MatchLaws.{string_text}
 use Rattle.th_strings.proofs.TheoryLaws.{rule_out}
 use Rattle.th_strings.proofs.OutLaws.{AreApart, AreAllApart, outs, broken, crowd_out, out_crowd}
-use Rattle.th_strings.proofs.PlaceLaws.{equal_known, few_is, number_named, named_place, truth_view, truth_is, sign_is}
+use Rattle.th_strings.proofs.PlaceLaws.{equal_known, number_named, named_place, truth_view, truth_is, sign_is}
 
 -- ---- lists
 

@@ -1,6 +1,5 @@
 -- What stands at the places of numbers of closed terms, and what is known of it.
-use Rattle.std.proofs.Common.{◌≡◌, ◌≢◌, ◌<◌, ◌≤◌, ◌^◌, ◌==◌, ℕ, nat_lt, zero, suc, Bool, true, false, cond, List, [], ◌∷◌, map, length, slice_get, get_or, Option, Some, None, option_map, option_and_then, refl, sym, ap, ◌∙◌, arith}
-use Rattle.std.proofs.lemmas.Bool.Decides.{nat_tests}
+use Rattle.std.proofs.Common.{◌≡◌, ◌≢◌, ◌<◌, ◌==◌, ℕ, zero, suc, Bool, true, false, cond, List, [], ◌∷◌, map, length, slice_get, get_or, Option, Some, None, option_map, option_and_then, refl, sym, ap, ◌∙◌}
 use Rattle.std.proofs.lemmas.Option.{slice_get-map, get_or_from_slice_get, slice_get_within}
 use Rattle.sc_laws.proofs.NumberLaws.{nat_eq_true}
 use Rattle.sc_laws.proofs.OptionLaws.{option_and_then_some, option_map_some}
@@ -8,17 +7,10 @@ use Rattle.sc_clauses.specs.Assignments.{Assignment}
 use Rattle.sc_terms.specs.Folds.{equal_term}
 use Rattle.sc_terms.specs.Tables.{tree}
 use Rattle.sc_terms.specs.Trees.{Tree}
-use Rattle.sc_footprint.specs.Problems.{Posed, IsPosed, literal_in, numbered, term_of}
-use Rattle.sc_instances.specs.Known.{known}
+use Rattle.sc_footprint.specs.Problems.{Posed, literal_in, numbered, term_of}
+use Rattle.sc_instances.specs.Known.{known, known_equal, named_at, truth_of}
 use Rattle.sc_rules.specs.Strings.{Pattern, Signs}
-use Rattle.th_strings.specs.Known.{few_items, known_equal, named_at, truth_of, like_known, row_at, row_of, sign_in, sign_by, sign_of}
-
--- of a problem no more numbers are known than there are closed terms
-pub few_is : (p : Posed) (n : ℕ) → IsPosed p → n ≤ length p.closed → few_items n ≡ n
-few_is p n posed h =
-    let below : n < 10 ^ 18 = omega (arith, h, posed.small) in
-    let small : nat_lt n (10 ^ 18) ≡ true = grind (arith, nat_tests, below) in
-    ap (λ (b : Bool). cond b n 0) small
+use Rattle.th_strings.specs.Known.{like_known, row_at, row_of, sign_in, sign_by, sign_of}
 
 -- a sign of a row, read in two ways
 sign_reads : (r : Signs) (j : ℕ) → sign_in (slice_get r j) ≡ get_or r j None

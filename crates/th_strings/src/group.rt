@@ -1,6 +1,6 @@
 //! Some closed terms, and what an assignment knows of each two of them, and of each and a pattern.
 ghost use Rattle.std.specs.Prelude.{◌≡◌};
-ghost use Rattle.th_strings.specs.Known.{few_items, truth_of};
+ghost use Rattle.sc_instances.specs.Known.{few_items, truth_of};
 
 use crate::signs::sign;
 use sc_clauses::Assignment;
@@ -54,8 +54,8 @@ fn equated(
 
 impl<'a, 'b> Equalities for Group<'a, 'b> {
     ghost use Rattle.std.specs.Prelude.{length};
-    ghost use Rattle.th_strings.specs.Known.{few_items, truth_of};
-    ghost use Rattle.th_strings.specs.KnownLaws.{truth_turned, truth_itself};
+    ghost use Rattle.sc_instances.specs.Known.{few_items, truth_of};
+    ghost use Rattle.sc_instances.proofs.KnownLaws.{truth_turned, truth_itself};
 
     ghost size = { λ s. few_items (length s.numbers.now) };
 

@@ -11,7 +11,7 @@ use sc_clauses::Assignment;
 use sc_footprint::Problem;
 use sc_lists::Seq;
 use sc_pattern::Pattern;
-use sc_string_rows::{are_few, is_sort_string};
+use sc_string_rows::{are_few, copied_signs, is_sort_string};
 use std::alloc::{AllocError, Global};
 
 /// Whether few texts have these signs, once it was told.
@@ -73,19 +73,6 @@ fn told_few(
     None
 }
 
-/// A copy of signs.
-fn copied(alloc: Global, signs: &[Option<bool>]) -> Result<Seq<Option<bool>>, AllocError>
-    ensures { IfOk result (λ v. v ≡ signs.now) }
-{
-    let mut copy = Seq::new(alloc);
-    let mut rest = signs;
-    while let Some((sign, later)) = rest.split_first() {
-        copy.push(*sign)?;
-        rest = later;
-    }
-    Ok(copy)
-}
-
 /// Whether fewer than so many texts have some signs. What was told before isn't counted again.
 fn is_few(
     alloc: Global,
@@ -102,7 +89,7 @@ fn is_few(
         return Ok(few);
     }
     let few = are_few(alloc, patterns, signs, count)?;
-    let signs = copied(alloc, signs)?;
+    let signs = copied_signs(alloc, signs)?;
     answers.push(Answer { signs, few })?;
     Ok(few)
 }

@@ -5,7 +5,8 @@ ghost use Rattle.sc_terms.specs.Tables.{tree};
 ghost use Rattle.th_strings.specs.Texts.{AreTexts, AreTextsUpTo, is_text as text_test};
 
 use sc_footprint::Problem;
-use sc_string_rows::{closed_at, is_sort_string};
+use sc_instances::closed_at;
+use sc_string_rows::is_sort_string;
 use std::alloc::{AllocError, Global};
 
 /// Whether a term is a literal.

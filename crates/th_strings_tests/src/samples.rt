@@ -1,11 +1,9 @@
 //! A problem of two texts of the context and one pattern, which one text matches.
-ghost use Rattle.std.specs.Prelude.{◌≡◌, ◌<◌, [], Contains, length, IfOk, IsTrue};
+ghost use Rattle.std.specs.Prelude.{◌≡◌, [], Contains, IfOk};
 ghost use Rattle.sc_schema.specs.Declarations.{environments};
-ghost use Rattle.sc_terms.specs.Tables.{tree, Keeps};
-ghost use Rattle.sc_closure_rules.specs.Goals.{IsGoal};
+ghost use Rattle.sc_terms.specs.Tables.{Keeps};
 ghost use Rattle.sc_test_goals.specs.Plain.{IsPlain};
 
-use sc_closure::is_bool;
 use sc_footprint::{Problem, close};
 use sc_lists::Text;
 use sc_names::Lits;
@@ -13,8 +11,8 @@ use sc_pattern::{Part, pattern_of};
 use sc_schema::{Env, Schema, Ty, context_of};
 use sc_schema_json::read_schema;
 use sc_sorts::sort_of;
-use sc_term_laws::is_term;
 use sc_terms::Terms;
+use sc_test_goals::is_plain_goal;
 use std::alloc::{AllocError, Global};
 
 const SCHEMA: &str =
@@ -49,27 +47,6 @@ fn like(alloc: Global, terms: &mut Terms, ty: &Ty) -> Result<u64, AllocError>
     terms.like(text, pattern)
 }
 
-/// Whether a number stands for a goal.
-#[tactic(auto, using(sc_test_goals::proofs::GoalLaws::plain_goal))]
-fn is_goal(
-    alloc: Global,
-    schema: &Schema,
-    env: &Env,
-    literals: &Lits,
-    terms: &Terms,
-    n: u64,
-) -> Result<bool, AllocError>
-    requires environment { Contains (environments schema.now) env.now }
-    requires none { literals.now ≡ [] }
-    requires plain { IsPlain terms.now n }
-    ensures { IfOk result (λ b. IsTrue b → IsGoal schema.now env.now literals.now (tree terms.now n)) }
-{
-    if !is_bool(terms, n) {
-        return Ok(false);
-    }
-    is_term(alloc, schema, env, literals, terms, n)
-}
-
 /// The problem whether the first text is x. That there is none counts as want of memory.
 pub(crate) fn problem<'a>(
     alloc: Global,
@@ -85,7 +62,7 @@ pub(crate) fn problem<'a>(
     };
     let mut terms = Terms::new(alloc)?;
     let goal = like(alloc, &mut terms, ty)?;
-    if !is_goal(alloc, schema, env, literals, &terms, goal)? {
+    if !is_plain_goal(alloc, schema, env, literals, &terms, goal)? {
         return Err(AllocError);
     }
     match close(alloc, terms, goal, schema, env, literals) {

@@ -1,11 +1,12 @@
 use Rattle.std.proofs.Common.{rules, ◌≤◌, ◌∙◌, length}
 use Rattle.std.proofs.lemmas.List.{take_all}
-use Rattle.sc_assigned_worlds.proofs.FoldLaws.{one_more, all_listed}
+use Rattle.sc_instances.proofs.PartLaws.{number_taken}
+use Rattle.sc_assigned_worlds.proofs.FoldLaws.{all_listed}
 use Rattle.sc_assigned_worlds.proofs.listed.closed_of.Goals as goal
 
 pub loop-place-preserved : goal.loop-place-preserved
 loop-place-preserved c =
-    c.in_ok-push.ensures.ok ∙ one_more c.args.problem.now.closed c.loop-place.numbers c.loop-place.place c.closed_at.result c.loop-place.invariant c.closed_at.ensures
+    c.in_ok-push.ensures.ok ∙ number_taken c.args.problem.now.closed c.loop-place.numbers c.loop-place.place c.closed_at.result c.loop-place.invariant c.closed_at.ensures.number
 
 pub returns-clause-value : goal.returns-clause-value
 returns-clause-value c =

@@ -1,5 +1,5 @@
 use Rattle.std.proofs.Common.{rules}
-use Rattle.sc_entity_rows.specs.Rows.{term_at}
+use Rattle.sc_instances.specs.Given.{term_at}
 use Rattle.sc_entity_rows.proofs.RowLaws.{first, last_of_two, attributes_said}
 use Rattle.sc_entity_rows.proofs.rows.attributes_literal.Goals as goal
 

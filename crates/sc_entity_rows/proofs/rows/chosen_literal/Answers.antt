@@ -3,7 +3,7 @@ use Rattle.sc_names.specs.declared.uid.Uid.{Uid}
 use Rattle.sc_footprint.specs.Problems.{literal_in}
 use Rattle.sc_rules.specs.Terms.{entity}
 use Rattle.sc_terms.specs.Folds.{equal_term}
-use Rattle.sc_entity_rows.specs.Rows.{term_at}
+use Rattle.sc_instances.specs.Given.{term_at}
 use Rattle.sc_entity_rows.proofs.RowLaws.{chosen_literal, chosen_place}
 use Rattle.sc_entity_rows.proofs.rows.chosen_literal.Goals as goal
 

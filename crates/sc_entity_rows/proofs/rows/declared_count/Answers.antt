@@ -1,5 +1,5 @@
 use Rattle.std.proofs.Common.{◌∙◌, sym}
-use Rattle.sc_entity_rows.specs.Rows.{term_at}
+use Rattle.sc_instances.specs.Given.{term_at}
 use Rattle.sc_entity_rows.proofs.DeclaredLaws.{none_counted, one_counted, each_counted}
 use Rattle.sc_entity_rows.proofs.rows.declared_count.Goals as goal
 

@@ -4,7 +4,7 @@ use Rattle.sc_clauses.specs.Clauses.{positive}
 use Rattle.sc_footprint.specs.Problems.{literal_in}
 use Rattle.sc_rules.specs.Terms.{entity}
 use Rattle.sc_terms.specs.Folds.{equal_term}
-use Rattle.sc_entity_rows.specs.Rows.{term_at}
+use Rattle.sc_instances.specs.Given.{term_at}
 use Rattle.sc_entity_rows.proofs.DeclaredLaws.{no_literal, one_literal, first_literal, each_literal}
 use Rattle.sc_entity_rows.proofs.rows.declared_literal.Goals as goal
 

@@ -1,5 +1,5 @@
 use Rattle.std.proofs.Common.{rules}
-use Rattle.sc_entity_rows.specs.Rows.{term_at}
+use Rattle.sc_instances.specs.Given.{term_at}
 use Rattle.sc_entity_rows.proofs.RowLaws.{count_said, lacking_said}
 use Rattle.sc_entity_rows.proofs.rows.lacking_count.Goals as goal
 

@@ -1,5 +1,5 @@
 use Rattle.sc_rules.specs.Entities.{en2}
-use Rattle.sc_entity_rows.proofs.GivenLaws.{three_none}
+use Rattle.sc_instances.proofs.GivenLaws.{three_none}
 use Rattle.sc_entity_rows.proofs.said.sets.Goals as goal
 
 pub returns-in_default : goal.returns-in_default

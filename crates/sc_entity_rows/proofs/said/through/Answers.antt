@@ -1,5 +1,5 @@
 use Rattle.sc_rules.specs.Entities.{en5}
-use Rattle.sc_entity_rows.proofs.GivenLaws.{four_none, last_none}
+use Rattle.sc_instances.proofs.GivenLaws.{four_none, last_none}
 use Rattle.sc_entity_rows.proofs.said.through.Goals as goal
 
 pub returns-in_default : goal.returns-in_default

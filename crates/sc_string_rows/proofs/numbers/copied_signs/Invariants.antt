@@ -1,5 +1,5 @@
 use Rattle.std.proofs.Common.{◌≡◌, ◌++◌, length}
-use Rattle.th_strings.proofs.scarce.copied.Given as goal
+use Rattle.sc_string_rows.proofs.numbers.copied_signs.Given as goal
 
 abbrev pub invariant-loop-sign : goal.invariant-loop-sign
 invariant-loop-sign l = l.copy ++ l.rest ≡ l.fn.signs
