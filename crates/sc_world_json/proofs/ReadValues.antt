@@ -1,5 +1,5 @@
 -- The JSON of a value with plain names has no fault, and says the value.
-use Rattle.std.proofs.Common.{◌≡◌, ◌∙◌, ◌^◌, ◌+◌, ◌&&◌, ℕ, ℤ, pos, negsuc, List, [], ◌∷◌, map, Bool, true, false, Option, Some, None, IsTrue, FitsSigned, w64, nat_lt, is_none, codes, refl, sym, ap, ap₂, subst, arith}
+use Rattle.std.proofs.Common.{◌≡◌, ◌∙◌, ◌^◌, ◌+◌, ℕ, ℤ, pos, negsuc, List, [], ◌∷◌, map, true, Option, Some, None, IsTrue, FitsSigned, w64, nat_lt, is_none, codes, refl, sym, ap, ap₂, subst, arith}
 use Rattle.std.proofs.lemmas.Bool.Decides.{nat_tests}
 use Rattle.std.specs.List.{AllByRecursion, list_all}
 use Rattle.std.specs.List.Sorted.{IsStrictlySortedBy}

@@ -1,5 +1,5 @@
 -- The text of a world that is made of values with plain names spells the world.
-use Rattle.std.proofs.Common.{◌≡◌, ◌∙◌, ◌+◌, ◌&&◌, ◌++◌, ℕ, List, [], ◌∷◌, append_assoc, append-nil, map, Bool, true, false, Some, None, IsTrue, Less, Greater, refl, sym, ap, ap₂, subst}
+use Rattle.std.proofs.Common.{◌≡◌, ◌∙◌, ◌+◌, ◌++◌, ℕ, List, [], ◌∷◌, append_assoc, append-nil, map, false, Some, None, IsTrue, Less, Greater, refl, sym, ap, ap₂, subst}
 use Rattle.std.specs.BTreeMap.{insert_entry, is_at}
 use Rattle.std.specs.BTreeSet.{insert_key}
 use Rattle.std.specs.List.{AllByRecursion, list_all}

@@ -1,5 +1,5 @@
 -- JSON whose numbers are whole: it has no float, and its text determines it.
-use Rattle.std.proofs.Common.{◌≡◌, ◌+◌, ℤ, pos, negsuc, List, [], ◌++◌, Bool, true, false, ◌||◌, Option, Some, None, unwrap_or, FitsSigned, w64, refl, sym, ap, ap₂, ◌∙◌, subst, arith}
+use Rattle.std.proofs.Common.{◌≡◌, ◌+◌, ℤ, pos, negsuc, List, [], ◌++◌, false, Option, Some, None, unwrap_or, FitsSigned, w64, refl, sym, ap, ap₂, ◌∙◌, subst, arith}
 use Rattle.std.specs.Prelude.{⊤}
 use Rattle.std.proofs.lemmas.Bool.{or_from}
 use Rattle.json.specs.Json as json

@@ -1,10 +1,10 @@
 //! Finds the first place of a world that isn't of the form.
-ghost use Rattle.std.specs.Prelude.{◌≡◌, [], None, IfOk, codes};
+ghost use Rattle.std.specs.Prelude.{◌≡◌, [], None, IfOk, codes, option_map};
 ghost use Rattle.std.specs.BTreeSet.{insert_key};
 ghost use Rattle.serde_json.specs.Find.{get};
 ghost use Rattle.serde_json.specs.View.{view, items_view};
 ghost use Rattle.sc_names.specs.Uids.{uid_cmp};
-ghost use Rattle.sc_world_json.specs.Faults.{value_fault, entity_fault, entities_fault, store_fault, fault_at, is_world, first_fault};
+ghost use Rattle.sc_world_json.specs.Faults.{fault_unless, under, value_fault, entity_fault, entities_fault, store_fault, fault_at, is_world, first_fault};
 ghost use Rattle.sc_world_json.specs.Worlds.{uid_of};
 
 use crate::checking::{fault_unless, value_fault};
@@ -109,6 +109,13 @@ fn entity_fault(
     }
     let uid = uid_of(alloc, value.get("uid"))?;
     let is_new = before.insert(uid)?;
+    uid_fault(alloc, is_new)
+}
+
+/// The fault of a uid that was stored before, at its place.
+fn uid_fault(alloc: Global, is_new: bool) -> Result<Option<WorldFault>, AllocError>
+    ensures { IfOk result (λ fault. fault ≡ option_map (under (codes "uid")) (fault_unless is_new)) }
+{
     match fault_unless(alloc, is_new)? {
         Some(fault) => Ok(Some(under(alloc, "uid", fault)?)),
         None => Ok(None),
