@@ -10,7 +10,7 @@ use crate::row::Row;
 use crate::rows::{count, literal};
 use sc_clauses::Lit;
 use sc_footprint::Problem;
-use sc_instances::{EntityRule, NOWHERE, Saying, attributes, both, closed};
+use sc_instances::{EntityRule, NOWHERE, Saying, attributes, both, closed_of};
 
 /// An instance of a rule on entities of a problem.
 #[derive(Drop)]
@@ -54,7 +54,7 @@ fn sets(problem: &Problem<'_>, x: u64, s: u64, z: u64) -> Option<Row>
     let Some((x, s)) = both(problem, x, s) else {
         return None;
     };
-    let Some(z) = closed(problem, z) else {
+    let Some(z) = closed_of(problem, z) else {
         return None;
     };
     Some(Row::Sets(x, s, z))
@@ -72,7 +72,7 @@ fn tags(problem: &Problem<'_>, a: u64, b: u64) -> Option<Row>
 fn own(problem: &Problem<'_>, e: u64) -> Option<Row>
     ensures { IsRowIf problem.now (entity_said problem.now (En4 e)) result }
 {
-    let Some(x) = closed(problem, e) else {
+    let Some(x) = closed_of(problem, e) else {
         return None;
     };
     Some(Row::Own(x))
@@ -93,7 +93,7 @@ fn through(problem: &Problem<'_>, e: u64, f: u64, x: u64, u: u64) -> Option<Row>
 fn lacking(problem: &Problem<'_>, a: u64) -> Option<Row>
     ensures { IsRowIf problem.now (entity_said problem.now (En6 a)) result }
 {
-    let Some(x) = closed(problem, a) else {
+    let Some(x) = closed_of(problem, a) else {
         return None;
     };
     Some(Row::Lacking(x))
@@ -111,7 +111,7 @@ fn declared(problem: &Problem<'_>, s: u64, x: u64) -> Option<Row>
 fn chosen(problem: &Problem<'_>, x: u64) -> Option<Row>
     ensures { IsRowIf problem.now (entity_said problem.now (En8 x)) result }
 {
-    let Some(x) = closed(problem, x) else {
+    let Some(x) = closed_of(problem, x) else {
         return None;
     };
     Some(Row::Chosen(x))

@@ -9,7 +9,7 @@ use crate::row::Row;
 use crate::rows::{count, literal};
 use sc_clauses::Lit;
 use sc_footprint::Problem;
-use sc_instances::{EqualRule, NOWHERE, Saying, both, closed};
+use sc_instances::{EqualRule, NOWHERE, Saying, both, closed_of};
 
 /// An instance of a rule on equations of a problem.
 #[derive(Drop)]
@@ -26,7 +26,7 @@ fn chain(problem: &Problem<'_>, a: u64, b: u64, c: u64) -> Option<Row>
     let Some((x, y)) = both(problem, a, b) else {
         return None;
     };
-    let Some(z) = closed(problem, c) else {
+    let Some(z) = closed_of(problem, c) else {
         return None;
     };
     Some(Row::Chain(x, y, z))
@@ -35,7 +35,7 @@ fn chain(problem: &Problem<'_>, a: u64, b: u64, c: u64) -> Option<Row>
 fn choice(problem: &Problem<'_>, x: u64, side: u64) -> Option<Row>
     ensures { IsRowIf problem.now (equal_said problem.now (Eq2 x side)) result }
 {
-    let Some(x) = closed(problem, x) else {
+    let Some(x) = closed_of(problem, x) else {
         return None;
     };
     Some(Row::Choice(x, side))
@@ -89,7 +89,7 @@ fn options(problem: &Problem<'_>, o: u64, q: u64, side: u64) -> Option<Row>
 fn default(problem: &Problem<'_>, o: u64) -> Option<Row>
     ensures { IsRowIf problem.now (equal_said problem.now (Eq8 o)) result }
 {
-    let Some(x) = closed(problem, o) else {
+    let Some(x) = closed_of(problem, o) else {
         return None;
     };
     Some(Row::Default(x))

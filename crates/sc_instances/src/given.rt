@@ -13,7 +13,7 @@ pub struct Closed {
 }
 
 /// The closed term of a number. None exactly where there is none.
-pub fn closed(problem: &Problem<'_>, n: u64) -> Option<Closed>
+pub fn closed_of(problem: &Problem<'_>, n: u64) -> Option<Closed>
     ensures { IsGivenIf problem.now n result }
 {
     match problem.term(n) {
@@ -26,10 +26,10 @@ pub fn closed(problem: &Problem<'_>, n: u64) -> Option<Closed>
 pub fn both(problem: &Problem<'_>, a: u64, b: u64) -> Option<(Closed, Closed)>
     ensures { AreGivenIf problem.now a b result }
 {
-    let Some(x) = closed(problem, a) else {
+    let Some(x) = closed_of(problem, a) else {
         return None;
     };
-    let Some(y) = closed(problem, b) else {
+    let Some(y) = closed_of(problem, b) else {
         return None;
     };
     Some((x, y))

@@ -14,7 +14,7 @@ mod saying;
 mod words;
 mod writing;
 
-pub use given::{Closed, both, closed};
+pub use given::{Closed, both, closed_of};
 pub use known::known_literal;
 pub use laws::rule_laws;
 pub use literals::{
