@@ -4,7 +4,7 @@ use Rattle.std.specs.List.{Contains}
 use Rattle.std.proofs.lemmas.List.{get_or_default, reverse-append, take_more, length-map, length-replicate}
 use Rattle.std.proofs.Math.ListN.{set, length-set, get_or-eq_default, get_or-map}
 use Rattle.std.proofs.lemmas.List.Elements.{Contains-append_left, Contains-push, Contains-push_cases}
-use Rattle.std.proofs.lemmas.Bool.{false_from_ne_true}
+use Rattle.std.proofs.lemmas.Bool.{false_from_ne_true, cases_eq, cases_lt}
 use Rattle.sc_laws.proofs.BoolLaws.{and_first}
 use Rattle.sc_lists.proofs.ListLaws.{contains_nothing, contains_first, all_the_same}
 use Rattle.sc_clauses.specs.Clauses.{negation, Clause}
@@ -19,7 +19,8 @@ use Rattle.sc_search.specs.Trails.{true_before, set_before, cell_of, HasPlace, s
 use Rattle.sc_search.specs.declared.cell.Cell.{Cell}
 use Rattle.sc_search.specs.declared.cell.Cell.TheVariants.{Free, Decided, Implied}
 use Rattle.sc_clauses.proofs.LitLaws.{negation_twice, bool_eq-true}
-use Rattle.sc_search.proofs.LitLaws.{lit-of, nat-cases, lit-cases, below-or, tail-has, cons-cases}
+use Rattle.sc_search.proofs.LitLaws.{tail-has, cons-cases}
+use Rattle.sc_watches.proofs.LitLaws.{lit-of, lit-cases}
 
 -- a literal that is true before place i + 1 is the one at i, or is true before i
 pub before-cases : (cells : List Cell) (trail : List Lit) → Agree cells trail → (i : ℕ) (l m : Lit) → At trail i l → true_before cells (i + 1) m ≡ true → (l ≡ m) ⊎ (true_before cells i m ≡ true)
@@ -32,7 +33,7 @@ before-cases cells trail h i l m at b =
     let is : At trail j m = h.on_trail m j w.2 in
     inl (sym at.1 ∙ subst (λ (k : ℕ). get_or trail k l ≡ m) e (get_or_default trail j l m is.0 ∙ is.1)))
     (λ (ne : j ≢ i). inr (at-before cells m j i w.2 (omega arith)))
-    (nat-cases j i)
+    (cases_eq j i)
 
 -- the clause at a place has the next number
 numbered : (cs : List Clause) (k : ℕ) (c : Clause) → At cs k c → IsNumbered cs (k + 1) c
@@ -112,7 +113,7 @@ grow-set met m lt w h =
     ⊎_elim
     (λ (e : w.atom ≡ m.atom). subst (λ (k : ℕ). get_or (set met m.atom true) k false ≡ true) (sym e) (get_or-set_same met m.atom true false lt))
     (λ (ne : w.atom ≢ m.atom). get_or-set_other met m.atom w.atom true false ne ∙ h)
-    (nat-cases w.atom m.atom)
+    (cases_eq w.atom m.atom)
 
 -- a false literal is met: it was false before the level, or became so in it
 module _ (n : ℕ) (cells : List Cell) (p first : ℕ) (met : List Bool) (lower : List Lit) (m : Lit) (h : IsCollected n cells first met lower) (is_false : true_before cells p (negation m) ≡ true) where
@@ -125,7 +126,7 @@ module _ (n : ℕ) (cells : List Cell) (p first : ℕ) (met : List Bool) (lower 
         let s : w ≡ negation m = same-lit cells first first w (negation m) bw b e in
         subst (λ (x : Lit). Contains (lower ++ m ∷ []) x) (sym (ap negation s ∙ negation_twice m)) (Contains-push lower m))
         (λ (ne : w.atom ≢ m.atom). Contains-append_left lower (m ∷ []) (negation w) (h.covers w bw (met-set met m w ne mw)))
-        (nat-cases w.atom m.atom);
+        (cases_eq w.atom m.atom);
     are_lower = λ w has. ⊎_elim (λ (old : Contains lower w). h.are_lower w old) (λ (e : m ≡ w). subst (λ (x : Lit). true_before cells first (negation x) ≡ true) e b) (Contains-push_cases lower m w has);
   }
 
@@ -138,7 +139,7 @@ module _ (n : ℕ) (cells : List Cell) (p first : ℕ) (met : List Bool) (lower 
         let s : w ≡ negation m = same-lit cells first p w (negation m) bw is_false e in
         absurd (true≢false (sym (subst (λ (x : Lit). true_before cells first x ≡ true) s bw) ∙ b)))
         (λ (ne : w.atom ≢ m.atom). h.covers w bw (met-set met m w ne mw))
-        (nat-cases w.atom m.atom);
+        (cases_eq w.atom m.atom);
     are_lower = h.are_lower;
   }
 
@@ -147,7 +148,7 @@ below-default met a r h =
     ⊎_elim
     (λ (lt : a < length met). get_or_default met a false r lt)
     (λ (le : length met ≤ a). absurd (true≢false (sym h ∙ get_or-eq_default met false le)))
-    (below-or a (length met))
+    (cases_lt a (length met))
 
 pub not-met : {A : Type 0} (met : List Bool) (m : Lit) (r : Bool) → IsMet met m ⊎ A → r ≡ get_or met m.atom r → r ≡ false → A
 not-met met m r (inl h) is e = absurd (true≢false (sym h ∙ below-default met m.atom r h ∙ sym is ∙ e))
@@ -167,7 +168,7 @@ module _ (cells : List Cell) (trail : List Lit) (agree : Agree cells trail) (i :
   trail-in-cells =
       ⊎_elim (λ (h : l.atom < length cells). h)
       (λ (h : length cells ≤ l.atom). absurd (subst (λ (x : Cell). set_at x l.negated i) (get_or-eq_default cells Free h) trail-at))
-      (below-or l.atom (length cells))
+      (cases_lt l.atom (length cells))
 
   pub cell-read : (r : Cell) → r ≡ get_or cells l.atom r → cell_of cells l ≡ r
   cell-read r e = get_or_default cells l.atom Free r trail-in-cells ∙ sym e
@@ -193,9 +194,6 @@ module _ (n : ℕ) (cs : List Clause) (cells : List Cell) (trail : List Lit) (le
       (λ (e : m ≡ l). inl (subst (λ (w : Lit). IsMet met w) (sym e) is_met))
       (λ (ne : m ≢ l). let lt : i < length trail = at.0 in inr (before-more cells i (length trail) (negation m) (omega arith) (why.others m cm ne)))
       (lit-cases m l)
-
-pub same-at : {X : Type 0} (xs : List X) (k : ℕ) (x y : X) → At xs k x → y ≡ get_or xs k y → x ≡ y
-same-at xs k x y at is = sym at.1 ∙ get_or_default xs k x y at.0 ∙ sym is
 
 pub read-met : (met : List Bool) (m : Lit) (r : Bool) → m.atom < length met → r ≡ get_or met m.atom r → get_or met m.atom false ≡ r
 read-met met m r lt e = get_or_default met m.atom false r lt ∙ sym e
@@ -246,7 +244,7 @@ module _ (cs : List Clause) (cells : List Cell) (trail : List Lit) (agree : Agre
       (λ (le : first ≤ w.0).
       let is : At trail w.0 m = agree.on_trail m w.0 w.2 in
       absurd (none w.0 m le w.1 (subst (λ (x : Lit). IsMet met x) (sym is.1) is_met)))
-      (below-or w.0 first))
+      (cases_lt w.0 first))
       (before-cases cells trail agree i uip m at b))
       (λ m has.
       ⊎_elim

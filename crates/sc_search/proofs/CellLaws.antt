@@ -3,7 +3,7 @@ use Rattle.std.proofs.Common.{◌≡◌, ◌≢◌, ⊎_elim, ℕ, ◌<◌, ◌�
 use mathlib.Core.Path.{fun_ext}
 use Rattle.std.proofs.Math.ListN.{set}
 use Rattle.std.proofs.lemmas.Bool.Decides.{Decides-ltb}
-use Rattle.std.proofs.lemmas.Bool.{and_from, false_from_ne_true}
+use Rattle.std.proofs.lemmas.Bool.{and_from, false_from_ne_true, cases_eq}
 use Rattle.sc_laws.proofs.BoolLaws.{and_second, and_first}
 use Rattle.sc_clauses.specs.Clauses.{bool_eq}
 use Rattle.sc_clauses.specs.declared.lit.Lit.{Lit}
@@ -11,7 +11,6 @@ use Rattle.sc_search.specs.Trails.{set_before, cell_of, true_before, set_at, Has
 use Rattle.sc_search.specs.declared.cell.Cell.{Cell}
 use Rattle.sc_search.specs.declared.cell.Cell.TheVariants.{Free, Decided, Implied}
 use Rattle.sc_clauses.proofs.LitLaws.{bool_eq-true, bool_eq-itself}
-use Rattle.sc_search.proofs.LitLaws.{nat-cases}
 
 -- a cell with one sign hasn't the other
 sign-other : (n s : Bool) (q p : ℕ) → bool_eq n s && ltb q p ≡ true → bool_eq n (not s) && ltb q p ≡ false
@@ -76,4 +75,4 @@ before-set cells a p x h same =
     subst (λ (b : ℕ). set_before (get_or (set cells a x) b Free) p m.negated ≡ set_before (get_or cells b Free) p m.negated) (sym e)
     (ap (λ (c : Cell). set_before c p m.negated) (get_or-set_same cells a x Free h) ∙ same m.negated))
     (λ (ne : m.atom ≢ a). ap (λ (c : Cell). set_before c p m.negated) (get_or-set_other cells a m.atom x Free ne))
-    (nat-cases m.atom a))
+    (cases_eq m.atom a))

@@ -2,9 +2,8 @@ mod LitLaws
 mod NewnessLaws
 mod CellLaws
 mod TrailLaws
-mod ListedLaws
 mod ReadingLaws
-mod WatchLaws
+mod WatchingLaws
 mod VisitLaws
 mod AnalysisLaws
 mod RoomLaws

@@ -6,7 +6,8 @@ use Rattle.sc_clauses.specs.Clauses.{negation, Clause, contained}
 use Rattle.sc_clauses.specs.declared.lit.Lit.{Lit}
 use Rattle.sc_search.specs.Propagation.{Follows, assumed, unit, IsNewBy, IsNew}
 use Rattle.sc_search.specs.Trails.{IsSingle, IsQuiet, AreQuiet}
-use Rattle.sc_search.proofs.LitLaws.{lit-cases, contained-has, has-or-not}
+use Rattle.sc_search.proofs.LitLaws.{contained-has, has-or-not}
+use Rattle.sc_watches.proofs.LitLaws.{lit-cases}
 
 clash : {P : Type 0} (T : Lit → Bool) (m : Lit) → T (negation m) ≡ true → T (negation m) ≡ false → P
 clash T m e f = absurd (true≢false (sym e ∙ f))

@@ -1,5 +1,5 @@
 -- A clause more, and the trail where the levels that it leaves begin.
-use Rattle.std.proofs.Common.{◌≡◌, ◌≢◌, ◌⊎◌, inr, ⊎_elim, ℕ, ◌+◌, ◌-◌, ◌^◌, ◌<◌, ◌≤◌, List, [], ◌∷◌, ◌++◌, Bool, true, length, get_or, map, sym, ap, ◌∙◌, subst, true≢false, arith, take, Option, Some, None}
+use Rattle.std.proofs.Common.{◌≡◌, inr, ⊎_elim, ℕ, ◌+◌, ◌-◌, ◌^◌, ◌<◌, ◌≤◌, List, [], ◌∷◌, ◌++◌, Bool, true, length, get_or, map, sym, ap, ◌∙◌, subst, true≢false, arith, take, Option, Some, None}
 use Rattle.std.specs.List.{Contains, All}
 use Rattle.std.proofs.lemmas.List.{length-append, get_or_default, get_or-take, length-take-le}
 use Rattle.std.proofs.lemmas.List.Elements.{Contains-push_cases, Contains-get_or}
@@ -10,21 +10,23 @@ use Rattle.sc_clauses.specs.declared.step.Learned as step
 use Rattle.sc_search.proofs.AnalysisLaws.{not-lower, trail-in-cells, some-hint, hint-number}
 use Rattle.sc_search.proofs.CellLaws.{consistent, before-more, before-at}
 use Rattle.sc_search.proofs.TrailLaws.{trail-learn}
-use Rattle.sc_search.proofs.WatchLaws.{added-below, added-last, added-listed, at-cases, open-quiet}
+use Rattle.sc_search.proofs.WatchingLaws.{added-listed, at-cases, open-quiet}
+use Rattle.sc_watches.proofs.WatchLaws.{added-below, added-last}
 use Rattle.sc_search.specs.Analyses.{IsHighest, IsResolvent}
 use Rattle.sc_search.specs.Steps.{At, IsClause, IsShown, Refutes}
 use Rattle.sc_search.specs.Trails.{InCells, AreInCells, AllInCells, AreLevels, HoldsTrail, true_before, HasPlace, set_at, Agree, IsTrail}
 use Rattle.sc_search.specs.Turns.{IsOpenPair, IsRoom}
 use Rattle.sc_search.specs.Visits.{AreAlive, AreAliveBut, IsWellWatched}
-use Rattle.sc_search.specs.Watches.{AreOpen, IsAdded, IsAlive, watch_of}
+use Rattle.sc_search.specs.Watching.{AreOpen, IsAlive}
+use Rattle.sc_watches.specs.Watches.{IsAdded, watch_of}
 use Rattle.sc_search.specs.declared.room.Room.{Room}
 use Rattle.sc_search.specs.declared.trail.Trail.{Trail}
-use Rattle.sc_search.specs.declared.watches.Watch.{Watch}
-use Rattle.sc_search.specs.declared.watches.Watches.{Watches}
+use Rattle.sc_watches.specs.declared.watches.Watch.{Watch}
+use Rattle.sc_watches.specs.declared.watches.Watches.{Watches}
 use Rattle.sc_search.specs.declared.cell.Cell.{Cell}
 use Rattle.sc_search.specs.declared.cell.Cell.TheVariants.{Free}
 use Rattle.sc_clauses.proofs.LitLaws.{negation_twice}
-use Rattle.sc_search.proofs.LitLaws.{below-or}
+use Rattle.std.proofs.lemmas.Bool.{cases_lt}
 
 -- a literal on the trail is of an atom, and not of cell 0
 pub has-atom : (cells : List Cell) (trail : List Lit) (l : Lit) (i : ℕ) → Agree cells trail → HasPlace cells l i → InCells (length cells) l
@@ -34,7 +36,7 @@ has-atom cells trail l i h at = (
       (λ (le : l.atom ≤ 0).
       let e : 0 ≡ l.atom = omega arith in
       absurd (subst (λ (c : Cell). set_at c l.negated i) (subst (λ (a : ℕ). get_or cells a Free ≡ Free) e h.unused) at))
-      (below-or 0 l.atom),
+      (cases_lt 0 l.atom),
   trail-in-cells cells trail h i l (h.on_trail l i at),
 )
 
@@ -102,7 +104,7 @@ start-order cells levels p i j h le lt =
     ⊎_elim
     (λ (less : i < j). let k = h.ascending i j less lt in omega arith)
     (λ (ge : j ≤ i). let e : i ≡ j = omega arith in let f : get_or levels i 0 ≡ get_or levels j 0 = ap (λ (k : ℕ). get_or levels k 0) e in omega arith)
-    (below-or i j)
+    (cases_lt i j)
 
 pub room-some : (cells : List Cell) (levels : List ℕ) (p : ℕ) (c : Clause) (most j : ℕ) (w : Watch) → AreLevels cells levels p → j ≤ most → j ≤ length levels → 0 < j → IsOpenPair cells (get_or levels (j - 1) 0) c w
     → IsRoom cells levels c most (record { level = j; watch = Some w })
@@ -156,7 +158,7 @@ module _ (n : ℕ) (cs : List Clause) (C : Clause) (t u : Trail) (w v : Watches)
       let le = room.within in
       let e : r.level ≡ length t.levels.items = omega arith in
       subst (λ (T : Lit → Bool). IsAlive T (watch_of w i) c) (sym (kept (length u.lits.items) (omega arith) ∙ ap (λ (q : ℕ). true_before t.cells.items q) (end e))) (rest (omega arith) i c at))
-      (below-or r.level (length t.levels.items))
+      (cases_lt r.level (length t.levels.items))
 
   below : (i : ℕ) (c : Clause) → At cs i c → watch_of v i ≡ watch_of w i
   below i c at = let e = h.watching.paired in let lt : i < length cs = at.0 in added-below r.watch w v added i (omega arith)

@@ -106,21 +106,21 @@ has-value cells full a some lt = subst (λ (v : Option Bool). IsSome v) (sym (va
 module _ (has_instance : instance.Instance → Type 0) (clause_of : instance.Instance → Clause) where
   -- an assignment that falsifies nothing
   pub consistent-found : (n atoms : ℕ) (s : Solver) → n ≡ atoms + 1 → IsReady n s → IsTotal s → (m : Assignment) → m ≡ map cell_value (drop 1 s.trail.cells.items)
-      → ((i : instance.Instance) → has_instance i → falsifies m (clause_of i) ≡ false) → IsConsistent atoms has_instance clause_of s.clauses.items m
+      → ((i : instance.Instance) → has_instance i → falsifies m (clause_of i) ≡ false) → IsConsistent atoms has_instance clause_of s.clauses m
   consistent-found n atoms s e ready total m is none =
       let cells = s.trail.cells.items in
       let size : length cells ≡ atoms + 1 = ready.trail.sized ∙ e in
       record {
         count = ap length is ∙ (let k : length (map cell_value (drop 1 cells)) ≡ length (drop 1 cells) = simp length-map in let d : length (drop 1 cells) ≡ length cells - 1 = simp length-drop in omega arith);
         total = λ a some le. subst (λ (v : Assignment). IsSome (value_of v a)) (sym is) (has-value cells total.full a (omega arith) (omega arith));
-        keeps_clauses = λ c has. subst (λ (v : Assignment). falsifies v c ≡ false) (sym is) (quiet-kept cells s.trail.lits.items s.clauses.items ready.trail.agree total.quiet c has);
+        keeps_clauses = λ c has. subst (λ (v : Assignment). falsifies v c ≡ false) (sym is) (quiet-kept cells s.trail.lits.items s.clauses ready.trail.agree total.quiet c has);
         keeps_instances = none;
       }
 
   -- ---- steps
 
   -- a clause that a quiet trail makes false is new, if it isn't empty
-  new-of-false : (s : Solver) → IsTotal s → (C : Clause) → ((l : Lit) → Contains C l → true_before s.trail.cells.items (length s.trail.lits.items) (negation l) ≡ true) → C ≢ [] → IsNew s.clauses.items C
+  new-of-false : (s : Solver) → IsTotal s → (C : Clause) → ((l : Lit) → Contains C l → true_before s.trail.cells.items (length s.trail.lits.items) (negation l) ≡ true) → C ≢ [] → IsNew s.clauses C
   new-of-false s total [] all some = absurd (some refl)
   new-of-false s total (l ∷ C) all some =
       let cells = s.trail.cells.items in
@@ -128,7 +128,7 @@ module _ (has_instance : instance.Instance → Type 0) (clause_of : instance.Ins
       let T = true_before cells p in
       let has : Contains (l ∷ C) l = (0, omega arith, refl) in (
         l,
-        new-by T (consistent cells p) s.clauses.items total.quiet (l ∷ C) l (λ m h ne. all m h) has
+        new-by T (consistent cells p) s.clauses total.quiet (l ∷ C) l (λ m h ne. all m h) has
             (subst (λ (w : Lit). T w ≡ false) (negation_twice l) (consistent cells p (negation l) (all l has))),
       )
 
@@ -140,17 +140,17 @@ module _ (has_instance : instance.Instance → Type 0) (clause_of : instance.Ins
     pub told-in-cells : AllInCells (length s.trail.cells.items) (clause_of i)
     told-in-cells = in-cells-of-false s.trail.cells.items s.trail.lits.items (length s.trail.lits.items) (clause_of i) ready.trail.agree all-false
 
-    pub told-lawful : IsLawful atoms has_instance clause_of s.clauses.items (Instance i)
+    pub told-lawful : IsLawful atoms has_instance clause_of s.clauses (Instance i)
     told-lawful = (accepted, clause-of-false s.trail.cells.items s.trail.lits.items (length s.trail.lits.items) atoms (clause_of i) ready.trail.sized ready.trail.agree all-false)
 
     -- one more step is due
-    pub told-due : IsDue has_instance clause_of s.clauses.items
-    told-due = inr (i, accepted, falls (atoms + 1) s.clauses.items s.trail.cells.items s.trail.lits.items s.trail.levels.items ready.trail (clause_of i) all-false)
+    pub told-due : IsDue has_instance clause_of s.clauses
+    told-due = inr (i, accepted, falls (atoms + 1) s.clauses s.trail.cells.items s.trail.lits.items s.trail.levels.items ready.trail (clause_of i) all-false)
 
-    pub told-unit : clause_of i ≢ [] → IsUnit atoms has_instance clause_of s.clauses.items (Instance i)
+    pub told-unit : clause_of i ≢ [] → IsUnit atoms has_instance clause_of s.clauses (Instance i)
     told-unit some =
         let is_new = new-of-false s total (clause_of i) all-false some in
-        record { is_lawful = told-lawful; some = some; uncovered = uncovered s.clauses.items (clause_of i) is_new; is_new = is_new }
+        record { is_lawful = told-lawful; some = some; uncovered = uncovered s.clauses (clause_of i) is_new; is_new = is_new }
 
   not-nil : (C : Clause) (cs : List Clause) → IsNew cs C → C ≢ []
   not-nil C cs (l, (has, not_given, no_conflict)) e = contains_nothing l (subst (λ (d : Clause). Contains d l) e has)
@@ -181,7 +181,7 @@ module _ (has_instance : instance.Instance → Type 0) (clause_of : instance.Ins
 
     module _ (given : List Clause) (budget : ℕ) (old new : Solver) (h : IsSearching atoms has_instance clause_of given budget old) where
       -- a unit more
-      pub searching-more : HasAdded atoms has_instance clause_of old.clauses.items old.steps.items new → length old.steps.items ≢ budget → IsSearching atoms has_instance clause_of given budget new
+      pub searching-more : HasAdded atoms has_instance clause_of old.clauses old.steps.items new → length old.steps.items ≢ budget → IsSearching atoms has_instance clause_of given budget new
       searching-more more ne =
           let le = h.within in
           let unit = subst (λ (ds : List Clause). IsUnit atoms has_instance clause_of ds more.step) h.clauses_are more.is_unit in
@@ -194,11 +194,11 @@ module _ (has_instance : instance.Instance → Type 0) (clause_of : instance.Ins
             within = omega arith;
           }
 
-      pub count-more : HasAdded atoms has_instance clause_of old.clauses.items old.steps.items new → length new.steps.items ≡ length old.steps.items + 1
+      pub count-more : HasAdded atoms has_instance clause_of old.clauses old.steps.items new → length new.steps.items ≡ length old.steps.items + 1
       count-more more = ap length more.steps_more ∙ length-append old.steps.items (more.step ∷ [])
 
       -- the empty clause at last
-      pub refutation : HasEnded atoms has_instance clause_of old.clauses.items old.steps.items new → length old.steps.items ≢ budget → IsRefutation atoms has_instance clause_of given budget new.steps.items
+      pub refutation : HasEnded atoms has_instance clause_of old.clauses old.steps.items new → length old.steps.items ≢ budget → IsRefutation atoms has_instance clause_of given budget new.steps.items
       refutation end ne =
           let le = h.within in
           let len : length new.steps.items ≡ length old.steps.items + 1 = ap length end.steps_more ∙ length-append old.steps.items (end.step ∷ []) in
@@ -212,7 +212,7 @@ module _ (has_instance : instance.Instance → Type 0) (clause_of : instance.Ins
             within = omega arith;
           }
 
-      pub spent : new.steps.items ≡ old.steps.items → length old.steps.items ≡ budget → IsDue has_instance clause_of old.clauses.items → IsSpent atoms has_instance clause_of given budget new.steps.items
+      pub spent : new.steps.items ≡ old.steps.items → length old.steps.items ≡ budget → IsDue has_instance clause_of old.clauses → IsSpent atoms has_instance clause_of given budget new.steps.items
       spent e count due = record {
         count = ap length e ∙ count;
         are_units = subst (λ (ss : List Step). AreUnits atoms has_instance clause_of given ss) (sym e) h.are_units;
@@ -220,7 +220,7 @@ module _ (has_instance : instance.Instance → Type 0) (clause_of : instance.Ins
       }
 
       -- what falsifies none of all clauses falsifies none of those given
-      pub consistent-given : (m : Assignment) → IsConsistent atoms has_instance clause_of old.clauses.items m → IsConsistent atoms has_instance clause_of given m
+      pub consistent-given : (m : Assignment) → IsConsistent atoms has_instance clause_of old.clauses m → IsConsistent atoms has_instance clause_of given m
       consistent-given m k = record {
         count = k.count;
         total = k.total;
@@ -248,7 +248,7 @@ listed-in-cells atoms given listed c has l lit = let h = listed c has l lit in l
 
 -- the search before its first turn
 pub searching-begins : (has_instance : instance.Instance → Type 0) (clause_of : instance.Instance → Clause) (atoms : ℕ) (given : List Clause) (budget : ℕ) (s : Solver) → ((c : Clause) → Contains given c → AreListed atoms c)
-    → IsWellWatched (atoms + 1) given s.trail s.watches → HoldsTrail (atoms + 1) given s.trail → AreSeenBut given s.trail s.watches s.pending → s.clauses.items ≡ given → s.steps.items ≡ [] → IsSearching atoms has_instance clause_of given budget s
+    → IsWellWatched (atoms + 1) given s.trail s.watches → HoldsTrail (atoms + 1) given s.trail → AreSeenBut given s.trail s.watches s.pending → s.clauses ≡ given → s.steps.items ≡ [] → IsSearching atoms has_instance clause_of given budget s
 searching-begins has_instance clause_of atoms given budget s listed watched holds seen clauses steps = record {
   ready = record {
     in_cells = subst (λ (cs : List Clause). AreInCells (atoms + 1) cs) (sym clauses) (listed-in-cells atoms given listed);

@@ -1,5 +1,5 @@
 -- Each move of the search makes a trail of a trail.
-use Rattle.std.proofs.Common.{◌≡◌, ◌≢◌, ◌⊎◌, ⊎_elim, ℕ, ◌+◌, ◌<◌, ◌≤◌, List, [], ◌∷◌, ◌++◌, Bool, true, false, ◌&&◌, ltb, length, get_or, refl, sym, ap, ◌∙◌, subst, arith, get_or-set_same, get_or-set_other, take, Option, Some, None, MatchOption, replicate}
+use Rattle.std.proofs.Common.{◌≡◌, ◌≢◌, ⊎_elim, ℕ, ◌+◌, ◌<◌, ◌≤◌, List, [], ◌∷◌, ◌++◌, Bool, true, false, ◌&&◌, ltb, length, get_or, refl, sym, ap, ◌∙◌, subst, arith, get_or-set_same, get_or-set_other, take, Option, Some, None, MatchOption, replicate}
 use Rattle.std.specs.List.{Contains}
 use Rattle.std.proofs.Math.ListN.{set, length-set, get_or-append, get_or-eq_default}
 use Rattle.std.proofs.Math.Seq.{get_or-append_seam}
@@ -15,7 +15,8 @@ use Rattle.sc_search.specs.Steps.{At}
 use Rattle.sc_search.specs.Trails.{set_before, cell_of, true_before, set_at, HasPlace, IsQuiet, AreQuiet, IsReason, Agree, IsTrail, InCells, IsChoice, AreAllSet, one_if_free, free_count}
 use Rattle.sc_search.specs.declared.cell.Cell.{Cell}
 use Rattle.sc_search.specs.declared.cell.Cell.TheVariants.{Free, Decided, Implied}
-use Rattle.sc_search.proofs.LitLaws.{lit-of, nat-cases, below-or}
+use Rattle.sc_watches.proofs.LitLaws.{lit-of}
+use Rattle.std.proofs.lemmas.Bool.{cases_eq, cases_lt}
 
 -- the cell has the literal's sign from place p on, and no other
 abbrev pub HoldsFrom : Cell → Lit → ℕ → Type 0
@@ -73,7 +74,7 @@ module _ (cells : List Cell) (trail : List Lit) (l : Lit) (x : Cell) (free : cel
         let apart : m.atom ≢ l.atom = λ e. at-free (cell_of cells m) m.negated i (subst (λ (b : ℕ). get_or cells b Free ≡ Free) (sym e) free) at in
         subst (λ (w : Lit). HasPlace (set cells l.atom x) w i) (sym same)
         (subst (λ (c : Cell). set_at c m.negated i) (sym (other-cell cells l.atom x m apart)) at))
-        (nat-cases i (length trail));
+        (cases_eq i (length trail));
     on_trail = λ m i at.
         ⊎_elim
         (λ (e : m.atom ≡ l.atom).
@@ -86,7 +87,7 @@ module _ (cells : List Cell) (trail : List Lit) (l : Lit) (x : Cell) (free : cel
         let old : At trail i m = h.on_trail m i (subst (λ (c : Cell). set_at c m.negated i) (other-cell cells l.atom x m ne) at) in
         let lt : i < length trail = old.0 in
         (omega (arith, length-append trail (l ∷ [])), get_or-append trail (l ∷ []) m i lt ∙ old.1))
-        (nat-cases m.atom l.atom);
+        (cases_eq m.atom l.atom);
     unused = get_or-set_other cells l.atom 0 x Free (λ (e : 0 ≡ l.atom). omega arith) ∙ h.unused;
   }
 
@@ -135,7 +136,7 @@ module _ (n : ℕ) (cs : List Clause) (cells : List Cell) (trail : List Lit) (le
               (λ (ne : m.atom ≢ l.atom).
               let old : cell_of cells m ≡ Decided m.negated i = sym (other-cell cells l.atom x m ne) ∙ e in
               sound.are_levels.decided m i old (sound.agree.on_trail m i (decided-at _ _ _ old)).0)
-              (nat-cases m.atom l.atom);
+              (cases_eq m.atom l.atom);
         };
         reasons = λ m i q e.
             ⊎_elim
@@ -152,7 +153,7 @@ module _ (n : ℕ) (cs : List Clause) (cells : List Cell) (trail : List Lit) (le
             let old : cell_of cells m ≡ Implied m.negated i q = sym (other-cell cells l.atom x m ne) ∙ e in
             let lt : i < length trail = (sound.agree.on_trail m i (implied-at _ _ _ q old)).0 in
             reason-kept cs cells _ m i q (kept i (omega arith)) (sound.reasons m i q old))
-            (nat-cases m.atom l.atom);
+            (cases_eq m.atom l.atom);
         quiet = λ k lt.
             let h = sound.are_levels.within k lt in
             subst (λ (T : Lit → Bool). AreQuiet T cs) (sym (kept (get_or levels k 0) (omega arith))) (sound.quiet k lt);
@@ -188,13 +189,13 @@ module _ (n : ℕ) (cs : List Clause) (cells : List Cell) (trail : List Lit) (le
               let b = low k k_old in
               let c = sound.are_levels.ascending j k jk k_old in
               omega arith)
-              (nat-cases k (length levels));
+              (cases_eq k (length levels));
           within = λ k lt.
               let e' = len-more in
               ⊎_elim
               (λ (e : k ≡ length levels). let t : get_or after k 0 ≡ p = subst (λ (i : ℕ). get_or after i 0 ≡ p) (sym e) top in omega arith)
               (λ (ne : k ≢ length levels). let k_old : k < length levels = omega arith in let a = low k k_old in let b = sound.are_levels.within k k_old in omega arith)
-              (nat-cases k (length levels));
+              (cases_eq k (length levels));
           decided = λ m i e lt.
               ⊎_elim
               (λ (s : m.atom ≡ l.atom).
@@ -204,7 +205,7 @@ module _ (n : ℕ) (cs : List Clause) (cells : List Cell) (trail : List Lit) (le
               (λ (ne : m.atom ≢ l.atom).
               let old : cell_of cells m ≡ Decided m.negated i = sym (other-cell cells l.atom x m ne) ∙ e in
               Contains-append_left levels (p ∷ []) i (sound.are_levels.decided m i old (sound.agree.on_trail m i (decided-at _ _ _ old)).0))
-              (nat-cases m.atom l.atom);
+              (cases_eq m.atom l.atom);
         };
         reasons = λ m i q e.
             ⊎_elim
@@ -213,7 +214,7 @@ module _ (n : ℕ) (cs : List Clause) (cells : List Cell) (trail : List Lit) (le
             let old : cell_of cells m ≡ Implied m.negated i q = sym (other-cell cells l.atom x m ne) ∙ e in
             let lt : i < length trail = (sound.agree.on_trail m i (implied-at _ _ _ q old)).0 in
             reason-kept cs cells _ m i q (kept i (omega arith)) (sound.reasons m i q old))
-            (nat-cases m.atom l.atom);
+            (cases_eq m.atom l.atom);
         quiet = λ k lt.
             ⊎_elim
             (λ (e : k ≡ length levels).
@@ -225,7 +226,7 @@ module _ (n : ℕ) (cs : List Clause) (cells : List Cell) (trail : List Lit) (le
             let h = sound.are_levels.within k k_old in
             subst (λ (q : ℕ). AreQuiet (true_before (set cells l.atom x) q) cs) (sym (low k k_old))
             (subst (λ (T : Lit → Bool). AreQuiet T cs) (sym (kept (get_or levels k 0) (omega arith))) (sound.quiet k k_old)))
-            (nat-cases k (length levels));
+            (cases_eq k (length levels));
       }
 
 late-at : (c : Cell) (s : Bool) (i p : ℕ) → set_at c s i → p ≤ i → (t : Bool) → set_before Free p t ≡ set_before c p t
@@ -251,7 +252,7 @@ module _ (n : ℕ) (cs : List Clause) (cells : List Cell) (t : List Lit) (levels
   in_range-last =
       ⊎_elim (λ (h : l.atom < length cells). h)
       (λ (h : length cells ≤ l.atom). absurd (at-free (cell_of cells l) l.negated (length t) (get_or-eq_default cells Free h) last-at))
-      (below-or l.atom (length cells))
+      (cases_lt l.atom (length cells))
 
   pub before-pop : (q : ℕ) → q ≤ length t → true_before (set cells l.atom Free) q ≡ true_before cells q
   before-pop q le = before-set cells l.atom q Free in_range-last (λ s. late-at (cell_of cells l) l.negated (length t) q last-at le s)
@@ -295,13 +296,13 @@ module _ (n : ℕ) (cs : List Clause) (cells : List Cell) (t : List Lit) (levels
           (λ (low : i ≢ length t).
           let low' : i < length t = omega arith in
           (low', sym (get_or-append t (l ∷ []) m i low') ∙ old.1))
-          (nat-cases i (length t)))
-          (nat-cases m.atom l.atom);
+          (cases_eq i (length t)))
+          (cases_eq m.atom l.atom);
       unused =
           ⊎_elim
           (λ (e : 0 ≡ l.atom). subst (λ (a : ℕ). get_or (set cells l.atom Free) a Free ≡ Free) (sym e) (get_or-set_same cells l.atom Free Free in_range-last))
           (λ (ne : 0 ≢ l.atom). get_or-set_other cells l.atom 0 Free Free ne ∙ sound.agree.unused)
-          (nat-cases 0 l.atom);
+          (cases_eq 0 l.atom);
     };
     are_levels = record {
       ascending = sound.are_levels.ascending;
@@ -310,7 +311,7 @@ module _ (n : ℕ) (cs : List Clause) (cells : List Cell) (t : List Lit) (levels
           ⊎_elim
           (λ (s : m.atom ≡ l.atom). let f : Free ≡ Decided m.negated i = sym (taken m s) ∙ e in absurd cc)
           (λ (ne : m.atom ≢ l.atom). sound.are_levels.decided m i (sym (other-cell cells l.atom Free m ne) ∙ e) lt)
-          (nat-cases m.atom l.atom);
+          (cases_eq m.atom l.atom);
     };
     reasons = λ m i q e.
         ⊎_elim
@@ -320,7 +321,7 @@ module _ (n : ℕ) (cs : List Clause) (cells : List Cell) (t : List Lit) (levels
         let lt : i < length (t ++ l ∷ []) = (sound.agree.on_trail m i (implied-at _ _ _ q old)).0 in
         let e' = length-more in
         reason-kept cs cells _ m i q (before-pop i (omega arith)) (sound.reasons m i q old))
-        (nat-cases m.atom l.atom);
+        (cases_eq m.atom l.atom);
     quiet = λ k lt.
         let h = sound.are_levels.within k lt in
         subst (λ (T : Lit → Bool). AreQuiet T cs) (sym (before-pop (get_or levels k 0) (omega arith))) (sound.quiet k lt);
@@ -356,8 +357,8 @@ module _ (n : ℕ) (cs : List Clause) (cells : List Cell) (trail : List Lit) (le
               ⊎_elim
               (λ (same : j ≡ k). let s : get_or levels j 0 ≡ i = subst (λ (x : ℕ). get_or levels x 0 ≡ i) (sym same) is in absurd (omega arith))
               (λ (ne : j ≢ k). let c = sound.are_levels.ascending j k (omega arith) old.1 in absurd (omega arith))
-              (nat-cases j k))
-              (below-or k j);
+              (cases_eq j k))
+              (cases_lt k j);
         };
         reasons = sound.reasons;
         quiet = λ k lt. subst (λ (q : ℕ). AreQuiet (true_before cells q) cs) (sym (low k (omega arith))) (sound.quiet k (omega arith));
@@ -427,7 +428,7 @@ free-all n a =
     ⊎_elim
     (λ (lt : a < n). get_or-replicate n a Free Free lt)
     (λ (le : n ≤ a). get_or-eq_default (replicate n Free) Free (let e = length-replicate n Free in omega arith))
-    (below-or a n)
+    (cases_lt a n)
 
 empty : (n : ℕ) (cs : List Clause) → IsTrail n cs (replicate n Free) [] [] 0
 empty n cs = record {

@@ -4,29 +4,30 @@ use Rattle.std.specs.List.{Contains}
 use Rattle.std.proofs.Math.ListN.{set, get_or-append}
 use Rattle.std.proofs.Math.Seq.{get_or-append_seam}
 use Rattle.std.proofs.lemmas.List.{length-append, get_or_default}
-use Rattle.std.proofs.lemmas.Bool.{cases_Bool}
+use Rattle.std.proofs.lemmas.Bool.{cases_Bool, cases_lt, cases_eq}
 use Rattle.sc_clauses.proofs.LitLaws.{negation_twice}
 use Rattle.sc_clauses.specs.Clauses.{Clause, negation}
 use Rattle.sc_clauses.specs.declared.lit.Lit.{Lit}
 use Rattle.sc_search.proofs.AnalysisLaws.{trail-in-cells}
 use Rattle.sc_search.proofs.CellLaws.{at-before, before-at, before-more}
-use Rattle.sc_search.proofs.ListedLaws.{removed-kept}
-use Rattle.sc_search.proofs.LitLaws.{below-or, nat-cases}
+use Rattle.sc_watches.proofs.RemovedLaws.{removed-kept}
 use Rattle.sc_search.proofs.ReadingLaws.{at-end, free-before}
 use Rattle.sc_search.proofs.TrailLaws.{before-kept, decided-holds, free-set, implied-holds, trail-imply-to}
-use Rattle.sc_search.proofs.WatchLaws.{rewatched-here, rewatched-listed, rewatched-other, sifted-pairs, sifted-watching, two-open}
-use Rattle.sc_search.specs.Lists.{places_of}
+use Rattle.sc_search.proofs.WatchingLaws.{rewatched-here, rewatched-listed, rewatched-other, sifted-watching, two-open}
+use Rattle.sc_watches.proofs.WatchLaws.{sifted-pairs}
+use Rattle.sc_watches.specs.Lists.{places_of}
 use Rattle.sc_search.specs.Readings.{AreTwoOpen}
 use Rattle.sc_search.specs.Steps.{At}
 use Rattle.sc_search.specs.Trails.{Agree, HasPlace, HoldsTrail, InCells, IsReason, cell_of, free_count, true_before}
 use Rattle.sc_search.specs.Visits.{AreAlive, AreAliveBut, AreSeen, GoesOn, HasVisited, HasVisitedEach, IsSeen, IsSeenBy, IsWaiting, IsWellWatched, KeepsOthers, MovesOn}
-use Rattle.sc_search.specs.Watches.{AreAliveAtLevels, AreAliveBy, AreOpen, IsAlive, IsRewatched, IsSifted, IsWatched, IsWatching, watch_in, watch_of}
+use Rattle.sc_search.specs.Watching.{AreAliveAtLevels, AreAliveBy, AreOpen, IsAlive, IsWatching}
+use Rattle.sc_watches.specs.Watches.{IsRewatched, IsSifted, IsWatched, watch_in, watch_of}
 use Rattle.sc_search.specs.declared.cell.Cell.{Cell}
 use Rattle.sc_search.specs.declared.cell.Cell.TheVariants.{Free, Decided, Implied}
-use Rattle.sc_search.specs.declared.lists.Lists.{Lists}
+use Rattle.sc_watches.specs.declared.lists.Lists.{Lists}
 use Rattle.sc_search.specs.declared.trail.Trail.{Trail}
-use Rattle.sc_search.specs.declared.watches.Watch.{Watch}
-use Rattle.sc_search.specs.declared.watches.Watches.{Watches}
+use Rattle.sc_watches.specs.declared.watches.Watch.{Watch}
+use Rattle.sc_watches.specs.declared.watches.Watches.{Watches}
 
 -- a literal is put at the end of the trail
 module _ (cells after : List Cell) (trail : List Lit) (l : Lit) (agree : Agree after (trail ++ l ∷ [])) (kept : true_before after (length trail) ≡ true_before cells (length trail)) where
@@ -44,7 +45,7 @@ module _ (cells after : List Cell) (trail : List Lit) (l : Lit) (agree : Agree a
       let size = longer-by-one in
       let last : w.0 ≡ length trail = omega arith in
       inl (sym at.1 ∙ subst (λ (j : ℕ). get_or (trail ++ l ∷ []) j m ≡ l) (sym last) (get_or-append_seam trail l [] m)))
-      (below-or w.0 (length trail))
+      (cases_lt w.0 (length trail))
 
   still-true : (m : Lit) → true_before cells (length trail) m ≡ true → true_before after (length (trail ++ l ∷ [])) m ≡ true
   still-true m e = before-more after (length trail) (length (trail ++ l ∷ [])) m (let size = longer-by-one in omega arith) (ap (λ (T : Lit → Bool). T m) kept ∙ e)
@@ -117,8 +118,8 @@ moves-farther n cs a wa b wb d wd h k =
       seen = λ p i c le at s. k.seen p i c (omega arith) at (h.seen p i c le at s);
     }
 
-pub moves-among : (n m : ℕ) (cs ds : List Clause) (a : Trail) (wa : Watches) (b : Trail) (wb : Watches) → m ≡ n → ds ≡ cs → MovesOn m ds a wa b wb → MovesOn n cs a wa b wb
-moves-among n m cs ds a wa b wb e f h = subst (λ (i : ℕ). MovesOn i cs a wa b wb) e (subst (λ (xs : List Clause). MovesOn m xs a wa b wb) f h)
+pub moves-among : (n m : ℕ) (cs : List Clause) (a : Trail) (wa : Watches) (b : Trail) (wb : Watches) → m ≡ n → MovesOn m cs a wa b wb → MovesOn n cs a wa b wb
+moves-among n m cs a wa b wb e h = subst (λ (i : ℕ). MovesOn i cs a wa b wb) e h
 
 pub moves-farther-ok : {T E : Type 0} (r : Result T E) (n m : ℕ) (cs : List Clause) (a : Trail) (wa : Watches) (b : Trail) (wb : Watches) (d : Trail) (wd : Watches) → m ≡ n → MovesOn n cs a wa b wb → IfOk r (λ _. MovesOn m cs b wb d wd) → IfOk r (λ _. MovesOn n cs a wa d wd)
 moves-farther-ok (Ok x) n m cs a wa b wb d wd e h k = moves-farther n cs a wa b wb d wd h (subst (λ (i : ℕ). MovesOn i cs b wb d wd) e k)
@@ -162,7 +163,7 @@ module _ (n : ℕ) (cs : List Clause) (t : Trail) (old new : Watches) (place : �
       ⊎_elim
       (λ (e : i ≡ place). inr (subst (λ (j : ℕ). AreOpen (true_before t.cells.items q) (watch_of new j)) (sym e) (open-at q)))
       (λ (ne : i ≢ place). subst (λ (p : Option Watch). IsAlive (true_before t.cells.items q) p d) (sym (other i ne)) (was ne))
-      (nat-cases i place)
+      (cases_eq i place)
 
   pub open-moves : MovesOn n cs t old t new
   open-moves = record {
@@ -175,7 +176,7 @@ module _ (n : ℕ) (cs : List Clause) (t : Trail) (old new : Watches) (place : �
         ⊎_elim
         (λ (e : i ≡ place). inl (inr (subst (λ (j : ℕ). AreOpen (true_before t.cells.items (length t.lits.items)) (watch_of new j)) (sym e) (open-at (length t.lits.items)))))
         (λ (ne : i ≢ place). subst (λ (o : Option Watch). IsSeenBy t.cells.items t.lits.items p o d) (sym (other i ne)) s)
-        (nat-cases i place);
+        (cases_eq i place);
   }
 
   pub open-visited : HasVisited cs t new place false
@@ -239,7 +240,7 @@ each-step n cs p b wb d wd k le next old now i c lt at =
     (λ (more : k ≤ i).
     let e : i ≡ k = omega arith in
     inl (subst (λ (j : ℕ). IsAlive (true_before d.cells.items (length d.lits.items)) (watch_of wd j) c) (sym e) (now c (subst (λ (j : ℕ). At cs j c) e at))))
-    (below-or i k)
+    (cases_lt i k)
 
 pub each-end : (cs : List Clause) (t : Trail) (w : Watches) (p k : ℕ) → length cs ≤ k → ((i : ℕ) (c : Clause) → i < k → At cs i c → IsSeen t w p i c) → HasVisitedEach cs t w p None
 each-end cs t w p k le seen i c at = let lt : i < length cs = at.0 in seen i c (omega arith) at
@@ -279,7 +280,7 @@ waits-first n cs t w first l lit h within is neg seen i c at = by (seen.each i c
       let mine : IsWatched (watch_of w i) lit = subst (λ (x : Lit). IsWatched (watch_of w i) x) (ap negation same ∙ sym neg) watched in
       let place : Contains (places_of w.lists lit) i = h.listed i lit mine in
       inr (place.0, (omega arith), place.1, get_or_default (places_of w.lists lit) place.0 0 i place.1 ∙ place.2, mine))
-      (below-or first k)
+      (cases_lt first k)
 
 -- the clause at a place of the list was visited
 module _ (n : ℕ) (cs : List Clause) (t : Trail) (w : Watches) (d : Trail) (v : Watches) (lit : Lit) (p at place : ℕ) (le : p ≤ length t.lits.items) (moves : MovesOn n cs t w d v) (others : KeepsOthers t place w v)
@@ -306,7 +307,7 @@ module _ (n : ℕ) (cs : List Clause) (t : Trail) (w : Watches) (d : Trail) (v :
           ap (λ (ps : List ℕ). get_or ps j 0) list-kept ∙ here,
           subst (λ (o : Option Watch). IsWatched o lit) (sym (others.pairs i ne)) watched,
         ))
-        (nat-cases i place)
+        (cases_eq i place)
 
   -- it stays in the list, or is taken out
   pub waits-next : (u : Watches) (next : ℕ) → at < length (places_of v.lists lit) → IsSifted lit at v u next → (i : ℕ) (c : Clause) → At cs i c → IsSeen d u p i c ⊎ IsWaiting u lit next i
@@ -372,7 +373,7 @@ one-seen n cs t w d v one p e h k visited = record {
       ⊎_elim
       (λ (s : i ≡ one). inl (subst (λ (j : ℕ). IsAlive (true_before d.cells.items (length d.lits.items)) (watch_of v j) c) (sym s) (visited c (subst (λ (j : ℕ). At cs j c) s at))))
       (λ (ne : i ≢ one). k.seen p i c (omega arith) at (inl (h.others i c ne at)))
-      (nat-cases i one);
+      (cases_eq i one);
 }
 
 -- a literal is decided on where all are alive
@@ -416,5 +417,5 @@ module _ (n : ℕ) (cs : List Clause) (old new : Trail) (w : Watches) (l : Lit) 
         subst (λ (j : ℕ). get_or (old.levels.items ++ length old.lits.items ∷ []) j 0 ≡ length old.lits.items) (sym e) (get_or-append_seam old.levels.items (length old.lits.items) [] 0) in
         subst (λ (q : ℕ). AreAliveBy (true_before new.cells.items q) w.pairs.items cs) (sym top)
         (subst (λ (T : Lit → Bool). AreAliveBy T w.pairs.items cs) (sym (decided-before (length old.lits.items) (omega arith))) alive))
-        (below-or k (length old.levels.items)));
+        (cases_lt k (length old.levels.items)));
   }

@@ -4,7 +4,6 @@ pub mod Findings
 pub mod Trails
 pub mod Readings
 pub mod Visits
-pub mod Lists
-pub mod Watches
+pub mod Watching
 pub mod Analyses
 pub mod Turns

@@ -18,16 +18,17 @@ use Rattle.sc_search.specs.Findings.{IsUnit, AreUnits, IsConsistent, IsDue}
 use Rattle.sc_search.specs.Trails.{true_before, AreQuiet, HoldsTrail, AreInCells, AreAllSet}
 use Rattle.sc_search.specs.Readings.{IsFalsified}
 use Rattle.sc_search.specs.Visits.{AreAlive, AreSeenBut, IsWellWatched}
-use Rattle.sc_search.specs.Watches.{AreOpen, IsWatched}
+use Rattle.sc_search.specs.Watching.{AreOpen}
+use Rattle.sc_watches.specs.Watches.{IsWatched}
 use Rattle.sc_search.specs.declared.room.Room.{Room}
-use Rattle.sc_search.specs.declared.watches.Watch.{Watch}
+use Rattle.sc_watches.specs.declared.watches.Watch.{Watch}
 
 -- the solver's clauses, what they watch and the trail fit; it has n cells, the first of no atom
 pub record IsReady (n : ℕ) (s : Solver) : Type 0 where
-  pub in_cells : AreInCells n s.clauses.items
-  pub watched : IsWellWatched n s.clauses.items s.trail s.watches
-  pub trail : HoldsTrail n s.clauses.items s.trail
-  pub seen : AreSeenBut s.clauses.items s.trail s.watches s.pending
+  pub in_cells : AreInCells n s.clauses
+  pub watched : IsWellWatched n s.clauses s.trail s.watches
+  pub trail : HoldsTrail n s.clauses s.trail
+  pub seen : AreSeenBut s.clauses s.trail s.watches s.pending
 
 -- two literals of a clause that aren't false before a place
 pub record IsOpenPair (cells : List Cell) (place : ℕ) (c : Clause) (w : Watch) : Type 0 where
@@ -43,25 +44,25 @@ pub record IsRoom (cells : List Cell) (levels : List ℕ) (c : Clause) (most : �
 
 -- the clauses and steps are as they were
 pub record IsKept (clauses : List Clause) (steps : List Step) (s : Solver) : Type 0 where
-  pub clauses_kept : s.clauses.items ≡ clauses
+  pub clauses_kept : s.clauses ≡ clauses
   pub steps_kept : s.steps.items ≡ steps
 
 -- each atom has a value, and no clause gives a literal or is falsified
 pub record IsTotal (s : Solver) : Type 0 where
-  pub quiet : AreQuiet (true_before s.trail.cells.items (length s.trail.lits.items)) s.clauses.items
-  pub alive : AreAlive s.clauses.items s.trail s.watches
+  pub quiet : AreQuiet (true_before s.trail.cells.items (length s.trail.lits.items)) s.clauses
+  pub alive : AreAlive s.clauses s.trail s.watches
   pub full : AreAllSet s.trail.cells.items
 
 -- a falsified clause, or values of all atoms
 abbrev pub IsAtRest : Solver → Option ℕ → Type 0
 IsAtRest s None = IsTotal s
-IsAtRest s (Some i) = IsFalsified s.clauses.items s.trail.cells.items (length s.trail.lits.items) i
+IsAtRest s (Some i) = IsFalsified s.clauses s.trail.cells.items (length s.trail.lits.items) i
 
 -- one learned clause more, with its step
 pub record HasLearned (n : ℕ) (clauses : List Clause) (steps : List Step) (s : Solver) : Type 0 where
   pub ready : IsReady n s
   pub step : learned.Learned
-  pub clauses_more : s.clauses.items ≡ clauses ++ step.clause ∷ []
+  pub clauses_more : s.clauses ≡ clauses ++ step.clause ∷ []
   pub steps_more : s.steps.items ≡ steps ++ Learned step ∷ []
   pub is_shown : (atoms : ℕ) → n ≡ atoms + 1 → IsShown atoms clauses step
   pub is_new : IsNew clauses step.clause
@@ -83,7 +84,7 @@ HasSettled n clauses steps budget s turn.Spent = (s.steps.items ≡ steps) × (l
 pub record HasAdded (atoms : ℕ) (has_instance : instance.Instance → Type 0) (clause_of : instance.Instance → Clause) (clauses : List Clause) (steps : List Step) (s : Solver) : Type 0 where
   pub step : Step
   pub is_unit : IsUnit atoms has_instance clause_of clauses step
-  pub clauses_more : s.clauses.items ≡ clauses ++ added clause_of step ∷ []
+  pub clauses_more : s.clauses ≡ clauses ++ added clause_of step ∷ []
   pub steps_more : s.steps.items ≡ steps ++ step ∷ []
   pub ready : IsReady (atoms + 1) s
 
@@ -103,7 +104,7 @@ IsTurn atoms has_instance clause_of clauses steps budget s turn.Spent = (s.steps
 -- the search so far: units after the clauses given, as many as the budget at most
 pub record IsSearching (atoms : ℕ) (has_instance : instance.Instance → Type 0) (clause_of : instance.Instance → Clause) (clauses : List Clause) (budget : ℕ) (s : Solver) : Type 0 where
   pub ready : IsReady (atoms + 1) s
-  pub clauses_are : s.clauses.items ≡ after clause_of clauses s.steps.items
+  pub clauses_are : s.clauses ≡ after clause_of clauses s.steps.items
   pub are_units : AreUnits atoms has_instance clause_of clauses s.steps.items
   pub within : length s.steps.items ≤ budget
 

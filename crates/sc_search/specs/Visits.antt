@@ -7,13 +7,14 @@ use Rattle.sc_search.specs.declared.cell.Cell.{Cell}
 use Rattle.sc_search.specs.declared.propagation.Pending.{Pending}
 use Rattle.sc_search.specs.declared.propagation.Pending.TheVariants.{Each, One, From}
 use Rattle.sc_search.specs.declared.trail.Trail.{Trail}
-use Rattle.sc_search.specs.declared.watches.Watch.{Watch}
-use Rattle.sc_search.specs.declared.watches.Watches.{Watches}
-use Rattle.sc_search.specs.Lists.{places_of}
+use Rattle.sc_watches.specs.declared.watches.Watch.{Watch}
+use Rattle.sc_watches.specs.declared.watches.Watches.{Watches}
+use Rattle.sc_watches.specs.Lists.{places_of}
 use Rattle.sc_search.specs.Readings.{IsFalsified}
 use Rattle.sc_search.specs.Steps.{At}
 use Rattle.sc_search.specs.Trails.{true_before, HoldsTrail, free_count}
-use Rattle.sc_search.specs.Watches.{watch_of, IsWatched, IsAlive, AreAliveBy, AreAliveAtLevels, IsWatching}
+use Rattle.sc_search.specs.Watching.{IsAlive, AreAliveBy, AreAliveAtLevels, IsWatching}
+use Rattle.sc_watches.specs.Watches.{watch_of, IsWatched}
 
 -- a watched literal became false at a place of the trail from p on
 abbrev pub IsTouched : List Lit → ℕ → Option Watch → Type 0

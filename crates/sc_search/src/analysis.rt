@@ -10,8 +10,9 @@ ghost use Rattle.sc_search.specs.Steps.{Refutes};
 ghost use Rattle.sc_search.specs.Trails.{Agree, HoldsTrail, AllInCells, AreInCells, IsReason, true_before};
 
 use crate::cell::Cell;
+use crate::clause::clause_at;
 use crate::trail::Trail;
-use sc_clauses::{Clause, Lit, negation};
+use sc_clauses::{Clauses, Lit, negation};
 use std::alloc::{AllocError, Global};
 
 /// What an analysis has met so far.
@@ -59,10 +60,12 @@ pub(crate) struct Resolvent {
 }
 
 /// The number of the clause at a place.
-fn number_of(place: usize) -> u64
-    requires { place + 1 < 18446744073709551616 }
+fn number_of(clauses: &Clauses, place: usize) -> u64
+    requires { place < length clauses.now }
     ensures { result ≡ place + 1 }
 {
+    // There are fewer than 2^64 clauses, which `len` tells.
+    let _count = clauses.len();
     place as u64 + 1
 }
 
@@ -117,7 +120,7 @@ impl Trail {
     }
 
     /// The place of the clause that gave the literal at a place of the trail.
-    fn reason(&self, clauses: &[Clause], i: usize) -> usize
+    fn reason(&self, clauses: &Clauses, i: usize) -> usize
         requires trail { HoldsTrail (length self.now.cells.items) clauses.now self.now }
         requires within { i < length self.now.lits.items }
         requires undecided { ¬ Contains self.now.levels.items i }
@@ -134,7 +137,7 @@ impl Trail {
     /// Resolves with the reason of the literal at a place of the trail, if it was met.
     fn resolve(
         &self,
-        clauses: &[Clause],
+        clauses: &Clauses,
         analysis: &mut Analysis,
         first: usize,
         i: usize,
@@ -157,8 +160,8 @@ impl Trail {
             return Ok(());
         }
         let reason = self.reason(clauses, i);
-        self.meet_all(analysis, first, clauses[reason].as_slice())?;
-        analysis.hints.push(number_of(reason))?;
+        self.meet_all(analysis, first, clause_at(clauses, reason))?;
+        analysis.hints.push(number_of(clauses, reason))?;
         analysis.left = analysis.left.saturating_sub(1);
         Ok(())
     }
@@ -196,7 +199,7 @@ impl Trail {
     /// Resolves back until one literal of the level alone is met there: its place.
     fn walk(
         &self,
-        clauses: &[Clause],
+        clauses: &Clauses,
         analysis: &mut Analysis,
         first: usize,
     ) -> Result<usize, AllocError>
@@ -230,7 +233,7 @@ impl Trail {
     fn begin(
         &self,
         alloc: Global,
-        clauses: &[Clause],
+        clauses: &Clauses,
         conflict: usize,
         first: usize,
     ) -> Result<Analysis, AllocError>
@@ -242,8 +245,8 @@ impl Trail {
             (length self.now.lits.items) w.met.items w.hints.items) }
     {
         let mut analysis = Analysis::new(alloc, self.cells.len())?;
-        self.meet_all(&mut analysis, first, clauses[conflict].as_slice())?;
-        analysis.hints.push(number_of(conflict))?;
+        self.meet_all(&mut analysis, first, clause_at(clauses, conflict))?;
+        analysis.hints.push(number_of(clauses, conflict))?;
         Ok(analysis)
     }
 
@@ -251,7 +254,7 @@ impl Trail {
     pub fn analyse(
         &self,
         alloc: Global,
-        clauses: &[Clause],
+        clauses: &Clauses,
         conflict: usize,
         first: usize,
     ) -> Result<Resolvent, AllocError>
@@ -283,7 +286,7 @@ impl Trail {
     pub fn refute(
         &self,
         alloc: Global,
-        clauses: &[Clause],
+        clauses: &Clauses,
         conflict: usize,
     ) -> Result<Vec<u64>, AllocError>
         requires in_cells { AreInCells (length self.now.cells.items) clauses.now }

@@ -7,18 +7,14 @@
 
 mod analysis;
 mod cell;
-mod heap;
-mod lists;
-mod order;
-mod places;
+mod choice;
+mod clause;
 mod propagation;
-mod restarts;
 mod room;
 mod searching;
 mod solver;
 mod source;
 mod trail;
-mod watches;
 
 pub use searching::{Found, search};
 pub use source::Source;

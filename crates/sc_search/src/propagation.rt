@@ -4,12 +4,13 @@ ghost use Rattle.sc_clauses.specs.declared.lit.Lit.{Lit};
 ghost use Rattle.sc_search.specs.Readings.{HasStatus};
 ghost use Rattle.sc_search.specs.Trails.{Agree, HoldsTrail, AllInCells, AreInCells, true_before};
 ghost use Rattle.sc_search.specs.Visits.{AreAliveBut, AreSeen, AreSeenBut, HasFollowed, HasPropagated, HasVisited, HasVisitedEach, IsWellWatched, KeepsOthers, MovesOn};
-ghost use Rattle.sc_search.specs.Watches.{IsWatched, watch_of};
+ghost use Rattle.sc_watches.specs.Watches.{IsWatched, watch_of};
 
 use crate::cell::Truth;
+use crate::clause::clause_at;
 use crate::trail::{Trail, is_same};
-use crate::watches::{Watch, Watches};
-use sc_clauses::{Clause, Lit, negation};
+use sc_clauses::{Clauses, Lit, negation};
+use sc_watches::{Watch, Watches};
 use std::alloc::AllocError;
 
 /// What a clause says under the assignment.
@@ -109,7 +110,7 @@ impl Trail {
     /// it's falsified.
     fn read(
         &mut self,
-        clauses: &[Clause],
+        clauses: &Clauses,
         watches: &mut Watches,
         place: usize,
     ) -> Result<bool, AllocError>
@@ -122,7 +123,7 @@ impl Trail {
         ensures visited { IfOk result (λ f. HasVisited clauses.now self.new watches.new place f) }
         ensures others { IfOk result (λ _. KeepsOthers self.old place watches.old watches.new) }
     {
-        match self.status(clauses[place].as_slice()) {
+        match self.status(clause_at(clauses, place)) {
             Status::Satisfied => Ok(false),
             Status::Open(watch) => {
                 watches.watch(place, watch)?;
@@ -139,7 +140,7 @@ impl Trail {
     /// Reads the clause at a place unless a literal that it watches is true. Whether it's falsified.
     fn visit(
         &mut self,
-        clauses: &[Clause],
+        clauses: &Clauses,
         watches: &mut Watches,
         place: usize,
     ) -> Result<bool, AllocError>
@@ -161,7 +162,7 @@ impl Trail {
     /// Visits each clause, until one is falsified (its place).
     fn visit_each(
         &mut self,
-        clauses: &[Clause],
+        clauses: &Clauses,
         watches: &mut Watches,
     ) -> Result<Option<usize>, AllocError>
         requires in_cells { AreInCells (length self.old.cells.items) clauses.now }
@@ -183,7 +184,7 @@ impl Trail {
     /// place). Those that no longer watch it are taken out of its list.
     fn visit_watching(
         &mut self,
-        clauses: &[Clause],
+        clauses: &Clauses,
         watches: &mut Watches,
         first: usize,
     ) -> Result<Option<usize>, AllocError>
@@ -210,7 +211,7 @@ impl Trail {
     /// Visits the clauses that watch a literal which is false from a place of the trail or a later one on.
     fn follow(
         &mut self,
-        clauses: &[Clause],
+        clauses: &Clauses,
         watches: &mut Watches,
         first: usize,
     ) -> Result<Option<usize>, AllocError>
@@ -235,7 +236,7 @@ impl Trail {
     /// Visits the clause at a place, and then those that watch what became false.
     fn visit_one(
         &mut self,
-        clauses: &[Clause],
+        clauses: &Clauses,
         watches: &mut Watches,
         one: usize,
     ) -> Result<Option<usize>, AllocError>
@@ -257,7 +258,7 @@ impl Trail {
     /// Visits all clauses, and then those that watch what became false.
     fn visit_all(
         &mut self,
-        clauses: &[Clause],
+        clauses: &Clauses,
         watches: &mut Watches,
     ) -> Result<Option<usize>, AllocError>
         requires in_cells { AreInCells (length self.old.cells.items) clauses.now }
@@ -277,7 +278,7 @@ impl Trail {
     /// Makes true what the clauses give, until one of them is falsified (its place) or none gives anything.
     pub fn propagate(
         &mut self,
-        clauses: &[Clause],
+        clauses: &Clauses,
         watches: &mut Watches,
         pending: Pending,
     ) -> Result<Option<usize>, AllocError>

@@ -5,10 +5,10 @@ ghost use Rattle.sc_search.specs.Analyses.{IsHighest};
 ghost use Rattle.sc_search.specs.Trails.{AreLevels, HoldsTrail, true_before};
 ghost use Rattle.sc_search.specs.Turns.{IsOpenPair, IsRoom};
 
-use crate::order::Order;
 use crate::trail::{Trail, is_same};
-use crate::watches::Watch;
-use sc_clauses::{Clause, Lit, negation};
+use sc_clauses::{Clauses, Lit, negation};
+use sc_decisions::Order;
+use sc_watches::Watch;
 
 /// How many levels a clause leaves, and what it may watch there.
 #[derive(Clone, Copy)]
@@ -75,7 +75,7 @@ impl Trail {
     }
 
     /// Takes back the levels from one on, if there are so many.
-    pub fn go_back(&mut self, clauses: &[Clause], order: &mut Order, level: usize)
+    pub fn go_back(&mut self, clauses: &Clauses, order: &mut Order, level: usize)
         requires trail { HoldsTrail (length self.old.cells.items) clauses.now self.old }
         requires within { level ≤ length self.old.levels.items }
         ensures trail { HoldsTrail (length self.old.cells.items) clauses.now self.new }

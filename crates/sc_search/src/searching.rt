@@ -7,9 +7,9 @@ ghost use Rattle.sc_search.specs.Findings.{IsRefutation, IsConsistent, IsSpent, 
 ghost use Rattle.sc_search.specs.Steps.{AreListed};
 ghost use Rattle.sc_search.specs.Turns.{IsReady, IsTotal, IsTurn, cell_value};
 
-use crate::solver::{Solver, Turn, copy_of};
+use crate::solver::{Solver, Turn};
 use crate::source::Source;
-use sc_clauses::{Assignment, Clause, Clauses, Instance, Step};
+use sc_clauses::{Assignment, Clauses, Instance, Step};
 use sc_lists::Seq;
 use std::alloc::{AllocError, Global};
 
@@ -51,16 +51,16 @@ pub fn search<S: Source>(
     turns_over(alloc, source, atoms, clauses, budget)
 }
 
-/// A copy of each of these clauses.
-fn copies(alloc: Global, clauses: &Clauses) -> Result<Seq<Clause>, AllocError>
+/// A copy of these clauses.
+fn copies(alloc: Global, clauses: &Clauses) -> Result<Clauses, AllocError>
     ensures { IfOk result (λ copies. copies ≡ clauses.now) }
 {
     // There are fewer than 2^64 clauses, which `len` tells.
     let _count = clauses.len();
-    let mut copies = Seq::new(alloc);
+    let mut copies = Clauses::new(alloc);
     let mut place = 0;
     while let Some(clause) = clauses.get(place) {
-        copies.push(copy_of(alloc, clause)?)?;
+        copies.push(clause)?;
         place += 1;
     }
     Ok(copies)
@@ -71,7 +71,7 @@ fn turns_over<S: Source>(
     alloc: Global,
     source: &S,
     atoms: u64,
-    clauses: Seq<Clause>,
+    clauses: Clauses,
     budget: u64,
 ) -> Result<Found, AllocError>
     requires listed { (c : Clause) → Contains clauses c → AreListed atoms c }
@@ -106,9 +106,9 @@ impl Solver {
         requires ready { IsReady (length self.old.trail.cells.items) self.old }
         requires some { 0 < length self.old.trail.cells.items }
         requires few_cells { length self.old.trail.cells.items ≤ 10 ^ 18 }
-        requires few_clauses { length self.old.steps.items ≢ budget → length self.old.clauses.items < 10 ^ 18 }
+        requires few_clauses { length self.old.steps.items ≢ budget → length self.old.clauses < 10 ^ 18 }
         ensures { IfOk result (λ t. IsTurn (length self.old.trail.cells.items - 1) (S.has_instance source.now)
-            (S.clause_of source.now) self.old.clauses.items self.old.steps.items budget self.new t) }
+            (S.clause_of source.now) self.old.clauses self.old.steps.items budget self.new t) }
     {
         if let Some(conflict) = self.rest()? {
             return self.settle(alloc, conflict, budget);
@@ -134,7 +134,7 @@ impl Solver {
         requires falsified { falsifies (map cell_value (drop 1 self.old.trail.cells.items))
             (S.clause_of source.now instance) ≡ true }
         ensures { IfOk result (λ t. IsTurn (length self.old.trail.cells.items - 1) (S.has_instance source.now)
-            (S.clause_of source.now) self.old.clauses.items self.old.steps.items budget self.new t) }
+            (S.clause_of source.now) self.old.clauses self.old.steps.items budget self.new t) }
     {
         if self.is_spent(budget) {
             return Ok(Turn::Spent);
@@ -142,7 +142,8 @@ impl Solver {
         let clause = source.clause(&instance)?;
         let is_empty = clause.is_empty();
         let most = self.trail.levels.len();
-        self.attach(clause, Step::Instance(instance), most)?;
+        self.attach(clause.as_slice(), most)?;
+        self.steps.push(Step::Instance(instance))?;
         if is_empty {
             return Ok(Turn::Refuted);
         }

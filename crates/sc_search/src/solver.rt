@@ -7,13 +7,12 @@ ghost use Rattle.sc_search.specs.Turns.{IsReady, IsKept, IsAtRest, HasLearned, H
 
 use crate::analysis::Resolvent;
 use crate::cell::{Cell, value_of};
-use crate::order::Order;
 use crate::propagation::Pending;
-use crate::restarts::Restarts;
 use crate::trail::Trail;
-use crate::watches::Watches;
-use sc_clauses::{Assignment, Clause, Learned, Lit, Step, negation};
+use sc_clauses::{Assignment, Clauses, Learned, Lit, Step, negation};
+use sc_decisions::{Order, Restarts};
 use sc_lists::Seq;
+use sc_watches::Watches;
 use std::alloc::{AllocError, Global};
 
 /// What a turn of the search ends with.
@@ -32,20 +31,13 @@ pub(crate) enum Turn {
 /// The clauses given and those of the steps, the steps, and the assignment.
 #[derive(Drop)]
 pub(crate) struct Solver {
-    pub clauses: Vec<Clause>,
+    pub clauses: Clauses,
     pub steps: Vec<Step>,
     pub watches: Watches,
     pub trail: Trail,
     pub pending: Pending,
     pub order: Order,
     pub restarts: Restarts,
-}
-
-/// A copy of a clause.
-pub(crate) fn copy_of(alloc: Global, lits: &[Lit]) -> Result<Clause, AllocError>
-    ensures { IfOk result (λ c. c ≡ lits.now) }
-{
-    Ok(Seq::from_vec(Vec::from_slice(alloc, lits)?))
 }
 
 /// The values that cells tell.
@@ -71,14 +63,14 @@ fn later_values(alloc: Global, cells: &[Cell]) -> Result<Seq<Option<bool>>, Allo
 
 impl Solver {
     /// The search over these clauses, before its first turn.
-    pub fn new(alloc: Global, atoms: u64, clauses: Seq<Clause>) -> Result<Solver, AllocError>
+    pub fn new(alloc: Global, atoms: u64, clauses: Clauses) -> Result<Solver, AllocError>
         requires few_atoms { atoms < 10 ^ 18 }
         requires in_cells { AreInCells (atoms + 1) clauses }
         ensures count { IfOk result (λ s. length s.trail.cells.items ≡ atoms + 1) }
         ensures watched { IfOk result (λ s. IsWellWatched (atoms + 1) clauses s.trail s.watches) }
         ensures trail { IfOk result (λ s. HoldsTrail (atoms + 1) clauses s.trail) }
         ensures seen { IfOk result (λ s. AreSeenBut clauses s.trail s.watches s.pending) }
-        ensures clauses { IfOk result (λ s. s.clauses.items ≡ clauses) }
+        ensures clauses { IfOk result (λ s. s.clauses ≡ clauses) }
         ensures steps { IfOk result (λ s. s.steps.items ≡ []) }
     {
         let cells = atoms as usize + 1;
@@ -86,7 +78,7 @@ impl Solver {
         let trail = Trail::new(alloc, cells)?;
         let order = Order::new(alloc, cells)?;
         Ok(Solver {
-            clauses: clauses.into_vec(),
+            clauses,
             steps: Vec::new(alloc),
             watches,
             trail,
@@ -116,7 +108,7 @@ impl Solver {
     pub fn rest(&mut self) -> Result<Option<usize>, AllocError>
         requires { IsReady (length self.old.trail.cells.items) self.old }
         ensures ready { IfOk result (λ _. IsReady (length self.old.trail.cells.items) self.new) }
-        ensures kept { IfOk result (λ _. IsKept self.old.clauses.items self.old.steps.items self.new) }
+        ensures kept { IfOk result (λ _. IsKept self.old.clauses self.old.steps.items self.new) }
         ensures rest { IfOk result (λ r. IsAtRest self.new r) }
     {
         'moves: loop {
@@ -132,7 +124,7 @@ impl Solver {
             let Some(atom) = self.trail.choose(&mut self.order) else {
                 return Ok(None);
             };
-            let negated = self.order.is_negated(atom, self.restarts.keeps_phases);
+            let negated = self.order.is_negated(atom, self.restarts.keeps_phases());
             self.trail.decide(Lit {
                 atom: atom as u64,
                 negated,
@@ -150,13 +142,13 @@ impl Solver {
     /// Logs the clause that a falsified one shows, and goes back.
     fn learn(&mut self, alloc: Global, conflict: usize) -> Result<(), AllocError>
         requires ready { IsReady (length self.old.trail.cells.items) self.old }
-        requires falsified { IsFalsified self.old.clauses.items self.old.trail.cells.items
+        requires falsified { IsFalsified self.old.clauses self.old.trail.cells.items
             (length self.old.trail.lits.items) conflict }
         requires some { 0 < length self.old.trail.levels.items }
         requires few_cells { length self.old.trail.cells.items ≤ 10 ^ 18 }
-        requires few_clauses { length self.old.clauses.items < 10 ^ 18 }
+        requires few_clauses { length self.old.clauses < 10 ^ 18 }
         ensures { IfOk result (λ _. HasLearned (length self.old.trail.cells.items)
-            self.old.clauses.items self.old.steps.items self.new) }
+            self.old.clauses self.old.steps.items self.new) }
     {
         let first = self.trail.level_start();
         let Resolvent {
@@ -168,24 +160,23 @@ impl Solver {
         self.order.raise(&met);
         let mut lits = lower;
         lits.push(negation(uip))?;
-        let clause = copy_of(alloc, &lits)?;
-        let step = Step::Learned(Learned {
+        let most = self.restarts.most_levels(self.trail.levels.len() - 1);
+        self.attach(&lits, most)?;
+        self.steps.push(Step::Learned(Learned {
             clause: Seq::from_vec(lits),
             hints: Seq::from_vec(hints),
-        });
-        let most = self.restarts.most_levels(self.trail.levels.len() - 1);
-        self.attach(clause, step, most)?;
+        }))?;
         Ok(())
     }
 
     /// Logs the empty clause, which a falsified one shows.
     fn refute(&mut self, alloc: Global, conflict: usize) -> Result<(), AllocError>
         requires ready { IsReady (length self.old.trail.cells.items) self.old }
-        requires falsified { IsFalsified self.old.clauses.items self.old.trail.cells.items
+        requires falsified { IsFalsified self.old.clauses self.old.trail.cells.items
             (length self.old.trail.lits.items) conflict }
         requires undecided { self.old.trail.levels.items ≡ [] }
-        requires few_clauses { length self.old.clauses.items < 10 ^ 18 }
-        ensures { IfOk result (λ _. HasRefuted self.old.clauses.items self.old.steps.items self.new) }
+        requires few_clauses { length self.old.clauses < 10 ^ 18 }
+        ensures { IfOk result (λ _. HasRefuted self.old.clauses self.old.steps.items self.new) }
     {
         let hints = self.trail.refute(alloc, &self.clauses, conflict)?;
         self.steps.push(Step::Learned(Learned {
@@ -203,12 +194,12 @@ impl Solver {
         budget: u64,
     ) -> Result<Turn, AllocError>
         requires ready { IsReady (length self.old.trail.cells.items) self.old }
-        requires falsified { IsFalsified self.old.clauses.items self.old.trail.cells.items
+        requires falsified { IsFalsified self.old.clauses self.old.trail.cells.items
             (length self.old.trail.lits.items) conflict }
         requires few_cells { length self.old.trail.cells.items ≤ 10 ^ 18 }
-        requires few_clauses { length self.old.steps.items ≢ budget → length self.old.clauses.items < 10 ^ 18 }
+        requires few_clauses { length self.old.steps.items ≢ budget → length self.old.clauses < 10 ^ 18 }
         ensures { IfOk result (λ t. HasSettled (length self.old.trail.cells.items)
-            self.old.clauses.items self.old.steps.items budget self.new t) }
+            self.old.clauses self.old.steps.items budget self.new t) }
     {
         if self.is_spent(budget) {
             return Ok(Turn::Spent);
@@ -221,25 +212,24 @@ impl Solver {
         Ok(Turn::Added)
     }
 
-    /// Logs a step with its clause, and leaves as many levels as the clause has room for, up to so many.
-    pub fn attach(&mut self, clause: Clause, step: Step, most: usize) -> Result<(), AllocError>
+    /// Adds a clause, and leaves as many levels as it has room for, up to so many.
+    pub fn attach(&mut self, clause: &[Lit], most: usize) -> Result<(), AllocError>
         requires ready { IsReady (length self.old.trail.cells.items) self.old }
-        requires in_cells { AllInCells (length self.old.trail.cells.items) clause }
+        requires in_cells { AllInCells (length self.old.trail.cells.items) clause.now }
         requires most { most ≤ length self.old.trail.levels.items }
         requires alive { most ≡ length self.old.trail.levels.items
-            → AreAlive self.old.clauses.items self.old.trail self.old.watches }
+            → AreAlive self.old.clauses self.old.trail self.old.watches }
         ensures ready { IfOk result (λ _. IsReady (length self.old.trail.cells.items) self.new) }
-        ensures clauses { IfOk result (λ _. self.new.clauses.items ≡ self.old.clauses.items ++ clause ∷ []) }
-        ensures steps { IfOk result (λ _. self.new.steps.items ≡ self.old.steps.items ++ step ∷ []) }
+        ensures clauses { IfOk result (λ _. self.new.clauses ≡ self.old.clauses ++ clause.now ∷ []) }
+        ensures steps { IfOk result (λ _. self.new.steps ≡ self.old.steps) }
     {
-        let room = self.trail.room(clause.as_slice(), most);
+        let room = self.trail.room(clause, most);
         self.trail
             .go_back(&self.clauses, &mut self.order, room.level);
         self.watches.add(room.watch)?;
         let place = self.clauses.len();
         self.pending = Pending::One(place);
         self.clauses.push(clause)?;
-        self.steps.push(step)?;
         Ok(())
     }
 }

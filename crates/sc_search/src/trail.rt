@@ -5,8 +5,8 @@ ghost use Rattle.sc_search.specs.Readings.{HasTruth};
 ghost use Rattle.sc_search.specs.Trails.{Agree, HoldsTrail, true_before};
 
 use crate::cell::{Cell, Truth, is_set_before, truth_of};
-use crate::order::Order;
-use sc_clauses::{Clause, Lit};
+use sc_clauses::{Clauses, Lit};
+use sc_decisions::Order;
 use std::alloc::{AllocError, Global};
 
 /// The assignment, in the order in which it was made.
@@ -109,7 +109,7 @@ impl Trail {
     }
 
     /// Takes back a level and those after it, and their atoms into the order.
-    pub fn backtrack(&mut self, clauses: &[Clause], order: &mut Order, level: usize)
+    pub fn backtrack(&mut self, clauses: &Clauses, order: &mut Order, level: usize)
         requires within { level < length self.old.levels.items }
         requires trail { HoldsTrail (length self.old.cells.items) clauses.now self.old }
         ensures trail { HoldsTrail (length self.old.cells.items) clauses.now self.new }
@@ -122,7 +122,7 @@ impl Trail {
         self.levels.truncate(level);
         'back: while self.lits.len() > place {
             let taken = self.pop();
-            order.put_back(taken);
+            order.put_back(taken.atom as usize, taken.negated);
         }
     }
 }

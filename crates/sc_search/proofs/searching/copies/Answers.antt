@@ -16,7 +16,7 @@ loop-clause-preserved c =
     let below = place_inside c.args.clauses.now c.loop-clause.place c.in-Some.clause.now (sym c.in-Some.ensures) in
     record {
       within = omega (arith, below);
-      copied = c.in_ok-push.ensures.ok ∙ ap (λ (d : Clause). c.loop-clause.copies ++ d ∷ []) c.in_ok-copy_of.ensures
+      copied = c.in_ok-push.ensures.ok
           ∙ ap (λ (l : List Clause). l ++ c.in-Some.clause.now ∷ []) c.loop-clause.invariant.copied ∙ sym (copied_more c.args.clauses.now c.loop-clause.place c.in-Some.clause.now (sym c.in-Some.ensures));
     }
 

@@ -35,7 +35,7 @@ turn-requires-clause-few_clauses g c =
     let s = c.turns.solver in
     let le = c.turns.invariant.within in
     let few = c.requires.few_clauses in
-    let count : length s.clauses.items ≡ length c.args.clauses + length s.steps.items = ap length c.turns.invariant.clauses_are ∙ count-after K c.args.clauses s.steps.items in
+    let count : length s.clauses ≡ length c.args.clauses + length s.steps.items = ap length c.turns.invariant.clauses_are ∙ count-after K c.args.clauses s.steps.items in
     λ ne. omega arith
 
 pub turns-smaller : goal.turns-smaller
@@ -46,9 +46,9 @@ turns-smaller g c =
     let n = length s.trail.cells.items in
     let size : n ≡ c.args.atoms + 1 = c.turns.invariant.ready.trail.sized in
     let e : n - 1 ≡ c.args.atoms = omega arith in
-    let fact : HasAdded c.args.atoms A K s.clauses.items s.steps.items c.turn.new.self × (length s.steps.items ≢ c.args.budget) =
-    subst (λ (m : ℕ). IsTurn m A K s.clauses.items s.steps.items c.args.budget c.turn.new.self turn.Added) e
-    (subst (λ (t : Turn). IsTurn (n - 1) A K s.clauses.items s.steps.items c.args.budget c.turn.new.self t) c.in-Added.is c.in_ok-turn.ensures) in
+    let fact : HasAdded c.args.atoms A K s.clauses s.steps.items c.turn.new.self × (length s.steps.items ≢ c.args.budget) =
+    subst (λ (m : ℕ). IsTurn m A K s.clauses s.steps.items c.args.budget c.turn.new.self turn.Added) e
+    (subst (λ (t : Turn). IsTurn (n - 1) A K s.clauses s.steps.items c.args.budget c.turn.new.self t) c.in-Added.is c.in_ok-turn.ensures) in
     let more = count-more A K c.args.atoms c.args.clauses c.args.budget s c.turn.new.self c.turns.invariant fact.0 in
     let le = c.turns.invariant.within in
     let ne = fact.1 in
@@ -62,9 +62,9 @@ turns-preserved g c =
     let n = length s.trail.cells.items in
     let size : n ≡ c.args.atoms + 1 = c.turns.invariant.ready.trail.sized in
     let e : n - 1 ≡ c.args.atoms = omega arith in
-    let fact : HasAdded c.args.atoms A K s.clauses.items s.steps.items c.turn.new.self × (length s.steps.items ≢ c.args.budget) =
-    subst (λ (m : ℕ). IsTurn m A K s.clauses.items s.steps.items c.args.budget c.turn.new.self turn.Added) e
-    (subst (λ (t : Turn). IsTurn (n - 1) A K s.clauses.items s.steps.items c.args.budget c.turn.new.self t) c.in-Added.is c.in_ok-turn.ensures) in
+    let fact : HasAdded c.args.atoms A K s.clauses s.steps.items c.turn.new.self × (length s.steps.items ≢ c.args.budget) =
+    subst (λ (m : ℕ). IsTurn m A K s.clauses s.steps.items c.args.budget c.turn.new.self turn.Added) e
+    (subst (λ (t : Turn). IsTurn (n - 1) A K s.clauses s.steps.items c.args.budget c.turn.new.self t) c.in-Added.is c.in_ok-turn.ensures) in
     searching-more A K c.args.atoms c.args.clauses c.args.budget s c.turn.new.self c.turns.invariant fact.0 fact.1
 
 pub returns-in-Refuted-clause-refuted : goal.returns-in-Refuted-clause-refuted
@@ -75,9 +75,9 @@ returns-in-Refuted-clause-refuted g c =
     let n = length s.trail.cells.items in
     let size : n ≡ c.args.atoms + 1 = c.turns.invariant.ready.trail.sized in
     let e : n - 1 ≡ c.args.atoms = omega arith in
-    let fact : HasEnded c.args.atoms A K s.clauses.items s.steps.items c.turn.new.self × (length s.steps.items ≢ c.args.budget) =
-    subst (λ (m : ℕ). IsTurn m A K s.clauses.items s.steps.items c.args.budget c.turn.new.self turn.Refuted) e
-    (subst (λ (t : Turn). IsTurn (n - 1) A K s.clauses.items s.steps.items c.args.budget c.turn.new.self t) c.in-Refuted.is c.in_ok-turn.ensures) in
+    let fact : HasEnded c.args.atoms A K s.clauses s.steps.items c.turn.new.self × (length s.steps.items ≢ c.args.budget) =
+    subst (λ (m : ℕ). IsTurn m A K s.clauses s.steps.items c.args.budget c.turn.new.self turn.Refuted) e
+    (subst (λ (t : Turn). IsTurn (n - 1) A K s.clauses s.steps.items c.args.budget c.turn.new.self t) c.in-Refuted.is c.in_ok-turn.ensures) in
     subst (λ (ss : List Step). IsRefutation c.args.atoms A K c.args.clauses c.args.budget ss) (sym c.into_steps.ensures)
     (refutation A K c.args.atoms c.args.clauses c.args.budget s c.turn.new.self c.turns.invariant fact.0 fact.1)
 
@@ -89,9 +89,9 @@ returns-in-Consistent-clause-consistent g c =
     let n = length s.trail.cells.items in
     let size : n ≡ c.args.atoms + 1 = c.turns.invariant.ready.trail.sized in
     let e : n - 1 ≡ c.args.atoms = omega arith in
-    let fact : IsConsistent c.args.atoms A K s.clauses.items c.in-Consistent.m =
-    subst (λ (m : ℕ). IsConsistent m A K s.clauses.items c.in-Consistent.m) e
-    (subst (λ (t : Turn). IsTurn (n - 1) A K s.clauses.items s.steps.items c.args.budget c.turn.new.self t) c.in-Consistent.is c.in_ok-turn.ensures) in
+    let fact : IsConsistent c.args.atoms A K s.clauses c.in-Consistent.m =
+    subst (λ (m : ℕ). IsConsistent m A K s.clauses c.in-Consistent.m) e
+    (subst (λ (t : Turn). IsTurn (n - 1) A K s.clauses s.steps.items c.args.budget c.turn.new.self t) c.in-Consistent.is c.in_ok-turn.ensures) in
     consistent-given A K c.args.atoms c.args.clauses c.args.budget s c.turn.new.self c.turns.invariant c.in-Consistent.m fact
 
 pub returns-in-Spent-clause-spent : goal.returns-in-Spent-clause-spent
@@ -100,7 +100,7 @@ returns-in-Spent-clause-spent g c =
     let K = g.S.Source.clause_of c.args.source.now in
     let s = c.turns.solver in
     let n = length s.trail.cells.items in
-    let fact : (c.turn.new.self.steps.items ≡ s.steps.items) × (length s.steps.items ≡ c.args.budget) × IsDue A K s.clauses.items =
-    subst (λ (t : Turn). IsTurn (n - 1) A K s.clauses.items s.steps.items c.args.budget c.turn.new.self t) c.in-Spent.is c.in_ok-turn.ensures in
+    let fact : (c.turn.new.self.steps.items ≡ s.steps.items) × (length s.steps.items ≡ c.args.budget) × IsDue A K s.clauses =
+    subst (λ (t : Turn). IsTurn (n - 1) A K s.clauses s.steps.items c.args.budget c.turn.new.self t) c.in-Spent.is c.in_ok-turn.ensures in
     subst (λ (ss : List Step). IsSpent c.args.atoms A K c.args.clauses c.args.budget ss) (sym c.into_steps-in-Spent.ensures)
     (spent A K c.args.atoms c.args.clauses c.args.budget s c.turn.new.self c.turns.invariant fact.0 fact.1 fact.2)

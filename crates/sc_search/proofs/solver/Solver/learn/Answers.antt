@@ -1,25 +1,13 @@
-use Rattle.std.proofs.Common.{◌≡◌, ◌<◌, List, ◌∷◌, [], ◌++◌, length, subst, sym, ap, ◌∙◌, arith, rules}
+use Rattle.std.proofs.Common.{◌≡◌, ◌<◌, List, ◌∷◌, [], ◌++◌, length, subst, sym, ap, ◌∙◌, arith, rules, Vec, Global}
 use Rattle.sc_clauses.specs.Clauses.{Clause, negation}
 use Rattle.sc_clauses.specs.declared.lit.Lit.{Lit}
+use Rattle.sc_clauses.specs.declared.step.Step.{Step}
+use Rattle.sc_clauses.specs.declared.step.Step.TheVariants.{Learned}
 use Rattle.sc_search.proofs.RoomLaws.{learned-in-cells, learned-shown}
 use Rattle.sc_search.proofs.solver.Solver.learn.Goals as goal
 use Rattle.sc_search.specs.Analyses.{IsResolvent}
 use Rattle.sc_search.specs.Propagation.{IsNew}
-use Rattle.sc_search.specs.Readings.{IsFalsified}
-use Rattle.sc_search.specs.Trails.{AllInCells, AreInCells, HoldsTrail}
-
-pub analyse-requires-clause-in_cells : goal.analyse-requires-clause-in_cells
-analyse-requires-clause-in_cells c = subst (λ (ds : List Clause). AreInCells (length c.args.self.now.trail.cells.items) ds) (sym c.deref.ensures.value) c.requires.ready.in_cells
-
-pub analyse-requires-clause-trail : goal.analyse-requires-clause-trail
-analyse-requires-clause-trail c =
-    let t = c.args.self.now.trail in
-    subst (λ (ds : List Clause). HoldsTrail (length t.cells.items) ds t) (sym c.deref.ensures.value) c.requires.ready.trail
-
-pub analyse-requires-clause-falsified : goal.analyse-requires-clause-falsified
-analyse-requires-clause-falsified c =
-    let t = c.args.self.now.trail in
-    subst (λ (ds : List Clause). IsFalsified ds t.cells.items (length t.lits.items) c.args.conflict) (sym c.deref.ensures.value) c.requires.falsified
+use Rattle.sc_search.specs.Trails.{AllInCells}
 
 pub attach-requires-clause-ready : goal.attach-requires-clause-ready
 attach-requires-clause-ready c = let ready = c.requires.ready in record { in_cells = ready.in_cells; watched = ready.watched; trail = ready.trail; seen = ready.seen }
@@ -30,15 +18,14 @@ attach-requires-clause-in_cells c =
     let cells = t.cells.items in
     let trail = t.lits.items in
     let n = length cells in
-    let cs = c.args.self.now.clauses.items in
+    let cs = c.args.self.now.clauses in
     let first = c.level_start-first.result in
     let f = c.in_ok-lower.field-0 in
     let C = f.lower.items ++ negation f.uip ∷ [] in
-    let learned : IsResolvent cs cells (length trail) first f.lower.items f.uip f.hints.items =
-    subst (λ (ds : List Clause). IsResolvent ds cells (length trail) first f.lower.items f.uip f.hints.items) c.deref.ensures.value c.in_ok-lower.ensures in
+    let learned : IsResolvent cs cells (length trail) first f.lower.items f.uip f.hints.items = c.in_ok-lower.ensures in
     let within = learned-in-cells n cs cells trail t.levels.items c.requires.ready.trail first c.level_start-first.ensures.highest f.lower.items f.uip f.hints.items learned in
     let lits : c.push.new.self.items ≡ C = c.in_ok-push.ensures.items ∙ ap (λ (w : Lit). f.lower.items ++ w ∷ []) c.negation.ensures in
-    let is : c.in_ok-clause.clause ≡ C = c.in_ok-clause.ensures ∙ c.deref-3.ensures.value ∙ lits in
+    let is : c.deref-2.result.now ≡ C = c.deref-2.ensures.value ∙ lits in
     subst (λ (ls : List Lit). AllInCells n ls) (sym is) within
 
 pub attach-requires-clause-most : goal.attach-requires-clause-most
@@ -58,22 +45,21 @@ returns c =
     let trail = t.lits.items in
     let levels = t.levels.items in
     let n = length cells in
-    let cs = c.args.self.now.clauses.items in
+    let cs = c.args.self.now.clauses in
     let first = c.level_start-first.result in
     let f = c.in_ok-lower.field-0 in
     let C = f.lower.items ++ negation f.uip ∷ [] in
     let highest = c.level_start-first.ensures.highest in
-    let learned : IsResolvent cs cells (length trail) first f.lower.items f.uip f.hints.items =
-    subst (λ (ds : List Clause). IsResolvent ds cells (length trail) first f.lower.items f.uip f.hints.items) c.deref.ensures.value c.in_ok-lower.ensures in
+    let learned : IsResolvent cs cells (length trail) first f.lower.items f.uip f.hints.items = c.in_ok-lower.ensures in
     let lits : c.push.new.self.items ≡ C = c.in_ok-push.ensures.items ∙ ap (λ (w : Lit). f.lower.items ++ w ∷ []) c.negation.ensures in
-    let is : c.in_ok-clause.clause ≡ C = c.in_ok-clause.ensures ∙ c.deref-3.ensures.value ∙ lits in
+    let is : c.deref-2.result.now ≡ C = c.deref-2.ensures.value ∙ lits in
     let logged : c.from_vec.result ≡ C = c.from_vec.ensures ∙ lits in
     let made = c.in_ok-attach.ensures in
     record {
-      ready = made.ready;
+      ready = record { in_cells = made.ready.in_cells; watched = made.ready.watched; trail = made.ready.trail; seen = made.ready.seen };
       step = record { clause = c.from_vec.result; hints = c.from_vec-2.result };
       clauses_more = made.clauses ∙ ap (λ (d : Clause). cs ++ d ∷ []) (is ∙ sym logged);
-      steps_more = made.steps;
+      steps_more = c.in_ok-push-2.ensures.items ∙ ap (λ (v : Vec Step Global). v.items ++ Learned (record { clause = c.from_vec.result; hints = c.from_vec-2.result }) ∷ []) made.steps;
       is_shown = λ atoms e. learned-shown n cs cells trail levels c.requires.ready.trail first highest f.lower.items f.uip f.hints.items learned atoms (record { clause = c.from_vec.result; hints = c.from_vec-2.result })
           e c.requires.few_cells c.requires.few_clauses logged c.from_vec-2.ensures;
       is_new = subst (λ (ls : List Lit). IsNew cs ls) (sym logged) learned.is_new;

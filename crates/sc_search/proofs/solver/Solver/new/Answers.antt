@@ -1,8 +1,8 @@
 use Rattle.std.proofs.Common.{◌≡◌, ◌+◌, ℕ, length, subst, ap, arith}
 use Rattle.sc_search.proofs.TrailLaws.{trail-empty}
-use Rattle.sc_search.proofs.WatchLaws.{unset-watching}
+use Rattle.sc_search.proofs.WatchingLaws.{unset-watching}
 use Rattle.sc_search.proofs.solver.Solver.new.Goals as goal
-use Rattle.sc_search.specs.Watches.{AreUnset}
+use Rattle.sc_watches.specs.Watches.{AreUnset}
 
 pub returns-clause-watched : goal.returns-clause-watched
 returns-clause-watched c =

@@ -1,46 +1,41 @@
-use Rattle.std.proofs.Common.{◌≡◌, ◌+◌, ◌<◌, ◌≤◌, ℕ, List, length, subst, sym, ap, Option, refl, arith, rules, true}
+use Rattle.std.proofs.Common.{◌≡◌, ◌+◌, ◌<◌, ◌≤◌, ℕ, length, subst, sym, ap, Option, refl, arith, rules, true}
 use Rattle.std.proofs.Math.ListN.{set}
-use Rattle.sc_clauses.specs.Clauses.{Clause}
 use Rattle.sc_clauses.specs.declared.lit.Lit.{Lit}
 use Rattle.sc_search.proofs.TrailLaws.{trail-decide-to, free-set}
 use Rattle.sc_search.proofs.solver.Solver.rest.Goals as goal
 use Rattle.sc_search.proofs.VisitLaws.{alive-seen, decided-seen, decided-watched, moves-among}
-use Rattle.sc_search.proofs.WatchLaws.{all-quiet}
-use Rattle.sc_search.specs.Readings.{IsFalsified}
+use Rattle.sc_search.proofs.WatchingLaws.{all-quiet}
 use Rattle.sc_search.specs.Trails.{AreInCells, AreQuiet, HoldsTrail, InCells, cell_of, free_count, true_before}
-use Rattle.sc_search.specs.Visits.{AreAlive, AreSeenBut, HasPropagated, IsWellWatched, MovesOn}
+use Rattle.sc_search.specs.Visits.{AreAlive, HasPropagated, IsWellWatched, MovesOn}
 use Rattle.sc_search.specs.declared.cell.Cell.TheVariants.{Free, Decided}
 
 pub propagate-requires-clause-in_cells : goal.propagate-requires-clause-in_cells
 propagate-requires-clause-in_cells c =
     let n = length c.args.self.now.trail.cells.items in
     let k : length c.moves.self.trail.cells.items ≡ n = c.moves.invariant.ready.trail.sized in
-    subst (λ (m : ℕ). AreInCells m c.deref.result.now) (sym k) (subst (λ (ds : List Clause). AreInCells n ds) (sym c.deref.ensures.value) c.moves.invariant.ready.in_cells)
+    subst (λ (m : ℕ). AreInCells m c.moves.self.clauses) (sym k) c.moves.invariant.ready.in_cells
 
 pub propagate-requires-clause-trail : goal.propagate-requires-clause-trail
 propagate-requires-clause-trail c =
     let n = length c.args.self.now.trail.cells.items in
     let t = c.moves.self.trail in
     let k : length t.cells.items ≡ n = c.moves.invariant.ready.trail.sized in
-    subst (λ (m : ℕ). HoldsTrail m c.deref.result.now t) (sym k) (subst (λ (ds : List Clause). HoldsTrail n ds t) (sym c.deref.ensures.value) c.moves.invariant.ready.trail)
+    subst (λ (m : ℕ). HoldsTrail m c.moves.self.clauses t) (sym k) c.moves.invariant.ready.trail
 
 pub propagate-requires-clause-watched : goal.propagate-requires-clause-watched
 propagate-requires-clause-watched c =
     let n = length c.args.self.now.trail.cells.items in
     let s = c.moves.self in
     let k : length s.trail.cells.items ≡ n = c.moves.invariant.ready.trail.sized in
-    subst (λ (m : ℕ). IsWellWatched m c.deref.result.now s.trail s.watches) (sym k) (subst (λ (ds : List Clause). IsWellWatched n ds s.trail s.watches) (sym c.deref.ensures.value) c.moves.invariant.ready.watched)
-
-pub propagate-requires-clause-pending : goal.propagate-requires-clause-pending
-propagate-requires-clause-pending c = let s = c.moves.self in subst (λ (ds : List Clause). AreSeenBut ds s.trail s.watches s.pending) (sym c.deref.ensures.value) c.moves.invariant.ready.seen
+    subst (λ (m : ℕ). IsWellWatched m s.clauses s.trail s.watches) (sym k) c.moves.invariant.ready.watched
 
 pub returns-in-Some-clause-ready : goal.returns-in-Some-clause-ready
 returns-in-Some-clause-ready c =
     let n = length c.args.self.now.trail.cells.items in
     let was = c.moves.self in
     let ready = c.moves.invariant.ready in
-    let moves : MovesOn n was.clauses.items was.trail was.watches c.propagate.new.self c.propagate.new.watches =
-    moves-among n _ was.clauses.items c.deref.result.now was.trail was.watches c.propagate.new.self c.propagate.new.watches ready.trail.sized c.deref.ensures.value c.in_ok-conflict.ensures.moves in
+    let moves : MovesOn n was.clauses was.trail was.watches c.propagate.new.self c.propagate.new.watches =
+    moves-among n _ was.clauses was.trail was.watches c.propagate.new.self c.propagate.new.watches ready.trail.sized c.in_ok-conflict.ensures.moves in
     record {
       in_cells = ready.in_cells;
       watched = moves.watched;
@@ -51,8 +46,7 @@ returns-in-Some-clause-ready c =
 pub returns-in-Some-clause-rest : goal.returns-in-Some-clause-rest
 returns-in-Some-clause-rest c =
     let t = c.propagate.new.self in
-    subst (λ (ds : List Clause). IsFalsified ds t.cells.items (length t.lits.items) c.in-Some.conflict) c.deref.ensures.value
-    (subst (λ (r : Option ℕ). HasPropagated c.deref.result.now t c.propagate.new.watches r) c.in-Some.is c.in_ok-conflict.ensures.done)
+    subst (λ (r : Option ℕ). HasPropagated c.moves.self.clauses t c.propagate.new.watches r) c.in-Some.is c.in_ok-conflict.ensures.done
 
 pub returns-in_default-choose-clause-ready : goal.returns-in_default-choose-clause-ready
 returns-in_default-choose-clause-ready c =
@@ -61,16 +55,15 @@ returns-in_default-choose-clause-ready c =
     let u = c.propagate.new.self in
     let v = c.propagate.new.watches in
     let ready = c.moves.invariant.ready in
-    let moves : MovesOn n was.clauses.items was.trail was.watches u v = moves-among n _ was.clauses.items c.deref.result.now was.trail was.watches u v ready.trail.sized c.deref.ensures.value c.in_ok-conflict.ensures.moves in
-    let alive : AreAlive was.clauses.items u v =
-    subst (λ (ds : List Clause). AreAlive ds u v) c.deref.ensures.value
-    (subst (λ (r : Option ℕ). HasPropagated c.deref.result.now u v r) c.in_default.is c.in_ok-conflict.ensures.done) in
+    let moves : MovesOn n was.clauses was.trail was.watches u v = moves-among n _ was.clauses was.trail was.watches u v ready.trail.sized c.in_ok-conflict.ensures.moves in
+    let alive : AreAlive was.clauses u v =
+    subst (λ (r : Option ℕ). HasPropagated was.clauses u v r) c.in_default.is c.in_ok-conflict.ensures.done in
     let end : c.len-place.result ≡ length u.lits.items = search rules in
     record {
       in_cells = ready.in_cells;
       watched = moves.watched;
       trail = moves.goes_on.trail;
-      seen = alive-seen was.clauses.items u v c.len-place.result end alive;
+      seen = alive-seen was.clauses u v c.len-place.result end alive;
     }
 
 pub returns-in_default-choose-clause-rest : goal.returns-in_default-choose-clause-rest
@@ -80,12 +73,11 @@ returns-in_default-choose-clause-rest c =
     let u = c.propagate.new.self in
     let v = c.propagate.new.watches in
     let ready = c.moves.invariant.ready in
-    let moves : MovesOn n was.clauses.items was.trail was.watches u v = moves-among n _ was.clauses.items c.deref.result.now was.trail was.watches u v ready.trail.sized c.deref.ensures.value c.in_ok-conflict.ensures.moves in
-    let alive : AreAlive was.clauses.items u v =
-    subst (λ (ds : List Clause). AreAlive ds u v) c.deref.ensures.value
-    (subst (λ (r : Option ℕ). HasPropagated c.deref.result.now u v r) c.in_default.is c.in_ok-conflict.ensures.done) in
+    let moves : MovesOn n was.clauses was.trail was.watches u v = moves-among n _ was.clauses was.trail was.watches u v ready.trail.sized c.in_ok-conflict.ensures.moves in
+    let alive : AreAlive was.clauses u v =
+    subst (λ (r : Option ℕ). HasPropagated was.clauses u v r) c.in_default.is c.in_ok-conflict.ensures.done in
     record {
-      quiet = all-quiet n was.clauses.items v (true_before u.cells.items (length u.lits.items)) moves.watched.watching alive;
+      quiet = all-quiet n was.clauses v (true_before u.cells.items (length u.lits.items)) moves.watched.watching alive;
       alive = alive;
       full = c.in_default-choose.ensures;
     }
@@ -110,16 +102,15 @@ pub moves-preserved : goal.moves-preserved
 moves-preserved c =
     let n = length c.args.self.now.trail.cells.items in
     let was = c.moves.self in
-    let cs = was.clauses.items in
+    let cs = was.clauses in
     let u = c.propagate.new.self in
     let w = c.propagate.new.watches in
     let v = c.decide.new.self in
     let ready = c.moves.invariant.ready in
-    let moves : MovesOn n cs was.trail was.watches u w = moves-among n _ cs c.deref.result.now was.trail was.watches u w ready.trail.sized c.deref.ensures.value c.in_ok-conflict.ensures.moves in
+    let moves : MovesOn n cs was.trail was.watches u w = moves-among n _ cs was.trail was.watches u w ready.trail.sized c.in_ok-conflict.ensures.moves in
     let sound : HoldsTrail n cs u = moves.goes_on.trail in
     let alive : AreAlive cs u w =
-    subst (λ (ds : List Clause). AreAlive ds u w) c.deref.ensures.value
-    (subst (λ (r : Option ℕ). HasPropagated c.deref.result.now u w r) c.in_default.is c.in_ok-conflict.ensures.done) in
+    subst (λ (r : Option ℕ). HasPropagated cs u w r) c.in_default.is c.in_ok-conflict.ensures.done in
     let quiet : AreQuiet (true_before u.cells.items (length u.lits.items)) cs = all-quiet n cs w (true_before u.cells.items (length u.lits.items)) moves.watched.watching alive in
     let l : Lit = record { atom = c.in-Some-choose.atom; negated = c.is_negated-negated.result } in
     let choice = c.in-Some-choose.ensures in

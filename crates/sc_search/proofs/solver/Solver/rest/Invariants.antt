@@ -6,7 +6,7 @@ use Rattle.sc_search.proofs.solver.Solver.rest.Given as goal
 abbrev pub invariant-moves : goal.invariant-moves
 invariant-moves l = record {
   ready : IsReady (length l.initial.self.trail.cells.items) l.self;
-  kept : IsKept l.initial.self.clauses.items l.initial.self.steps.items l.self;
+  kept : IsKept l.initial.self.clauses l.initial.self.steps.items l.self;
 }
 
 abbrev pub decreases-moves : goal.decreases-moves

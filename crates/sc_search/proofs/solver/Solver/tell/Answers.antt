@@ -1,6 +1,7 @@
-use Rattle.std.proofs.Common.{◌≡◌, ◌+◌, ◌-◌, ◌<◌, ℕ, [], ◌∷◌, ◌++◌, length, refl, subst, sym, ap, ◌∙◌, true≢false, eqb, true, false, arith}
+use Rattle.std.proofs.Common.{◌≡◌, ◌+◌, ◌-◌, ◌<◌, ℕ, [], ◌∷◌, ◌++◌, length, refl, subst, sym, ap, ◌∙◌, true≢false, eqb, true, false, arith, Vec, Global}
 use Rattle.std.proofs.lemmas.Bool.Decides.{Decides-eqb}
 use Rattle.sc_clauses.specs.Clauses.{Clause}
+use Rattle.sc_clauses.specs.declared.step.Step.{Step}
 use Rattle.sc_clauses.specs.declared.step.Step.TheVariants.{Instance}
 use Rattle.sc_search.proofs.LitLaws.{nil-of}
 use Rattle.sc_search.proofs.SearchLaws.{told-due, told-in-cells, told-lawful, told-unit}
@@ -17,7 +18,7 @@ attach-requires-clause-in_cells g c =
     let some : 0 < n = c.requires.some in
     let e : n ≡ n - 1 + 1 = omega arith in
     let ready = subst (λ (m : ℕ). IsReady m s) e c.requires.ready in
-    subst (λ (d : Clause). AllInCells n d) (sym c.in_ok-clause.ensures) (told-in-cells A K (n - 1) s ready c.requires.total c.args.instance c.requires.accepted c.requires.falsified)
+    subst (λ (d : Clause). AllInCells n d) (sym (c.as_slice.ensures ∙ c.in_ok-clause.ensures)) (told-in-cells A K (n - 1) s ready c.requires.total c.args.instance c.requires.accepted c.requires.falsified)
 
 pub attach-requires-clause-alive : goal.attach-requires-clause-alive
 attach-requires-clause-alive g c = λ e. c.requires.total.alive
@@ -49,7 +50,7 @@ returns-then-is_empty g c =
         step = Instance c.args.instance;
         is_lawful = told-lawful A K (n - 1) s ready c.requires.total c.args.instance c.requires.accepted c.requires.falsified;
         is_empty = nil;
-        steps_more = c.in_ok-attach.ensures.steps;
+        steps_more = c.in_ok-push.ensures.items ∙ ap (λ (v : Vec Step Global). v.items ++ Instance c.args.instance ∷ []) c.in_ok-attach.ensures.steps;
       },
       λ e. true≢false (sym (c.is_spent.ensures.1 e) ∙ c.if-is_spent.false),
     )
@@ -72,9 +73,9 @@ returns g c =
       record {
         step = Instance c.args.instance;
         is_unit = told-unit A K (n - 1) s ready c.requires.total c.args.instance c.requires.accepted c.requires.falsified not_nil;
-        clauses_more = c.in_ok-attach.ensures.clauses ∙ ap (λ (d : Clause). s.clauses.items ++ d ∷ []) c.in_ok-clause.ensures;
-        steps_more = c.in_ok-attach.ensures.steps;
-        ready = subst (λ (m : ℕ). IsReady m c.attach.new.self) e c.in_ok-attach.ensures.ready;
+        clauses_more = c.in_ok-attach.ensures.clauses ∙ ap (λ (d : Clause). s.clauses ++ d ∷ []) (c.as_slice.ensures ∙ c.in_ok-clause.ensures);
+        steps_more = c.in_ok-push.ensures.items ∙ ap (λ (v : Vec Step Global). v.items ++ Instance c.args.instance ∷ []) c.in_ok-attach.ensures.steps;
+        ready = let made = subst (λ (m : ℕ). IsReady m c.attach.new.self) e c.in_ok-attach.ensures.ready in record { in_cells = made.in_cells; watched = made.watched; trail = made.trail; seen = made.seen };
       },
       λ e. true≢false (sym (c.is_spent.ensures.1 e) ∙ c.if-is_spent.false),
     )

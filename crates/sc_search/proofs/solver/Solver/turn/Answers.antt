@@ -24,8 +24,8 @@ pub settle-requires-clause-few_clauses : goal.settle-requires-clause-few_clauses
 settle-requires-clause-few_clauses g c =
     let kept = c.in_ok-conflict.ensures.kept in
     λ ne.
-    let same : length c.rest.new.self.clauses.items ≡ length c.args.self.now.clauses.items = ap length kept.clauses_kept in
-    let few : length c.args.self.now.clauses.items < 10 ^ 18 = c.requires.few_clauses (λ e. ne (ap length kept.steps_kept ∙ e)) in
+    let same : length c.rest.new.self.clauses ≡ length c.args.self.now.clauses = ap length kept.clauses_kept in
+    let few : length c.args.self.now.clauses < 10 ^ 18 = c.requires.few_clauses (λ e. ne (ap length kept.steps_kept ∙ e)) in
     omega arith
 
 pub returns-in-Some : goal.returns-in-Some
@@ -37,7 +37,7 @@ returns-in-Some g c =
     let kept = c.in_ok-conflict.ensures.kept in
     let k : length s.trail.cells.items ≡ n = c.in_ok-conflict.ensures.ready.trail.sized in
     let some : 0 < n = c.requires.some in
-    settled-result A K (length s.trail.cells.items) (n - 1) c.args.self.now.clauses.items s.clauses.items c.args.self.now.steps.items s.steps.items c.args.budget c.settle.new.self c.settle.result
+    settled-result A K (length s.trail.cells.items) (n - 1) c.args.self.now.clauses s.clauses c.args.self.now.steps.items s.steps.items c.args.budget c.settle.new.self c.settle.result
     (omega arith) kept.clauses_kept kept.steps_kept c.settle.ensures
 
 pub tell-requires-clause-ready : goal.tell-requires-clause-ready
@@ -80,6 +80,6 @@ returns-in-Some-2 g c =
     let n = length c.args.self.now.trail.cells.items in
     let kept = c.in_ok-conflict.ensures.kept in
     let k : length s.trail.cells.items ≡ n = c.in_ok-conflict.ensures.ready.trail.sized in
-    subst (λ (ss : List Step). IfOk c.tell.result (λ t. IsTurn (n - 1) A K c.args.self.now.clauses.items ss c.args.budget c.tell.new.self t)) kept.steps_kept
+    subst (λ (ss : List Step). IfOk c.tell.result (λ t. IsTurn (n - 1) A K c.args.self.now.clauses ss c.args.budget c.tell.new.self t)) kept.steps_kept
     (subst (λ (cs : List Clause). IfOk c.tell.result (λ t. IsTurn (n - 1) A K cs s.steps.items c.args.budget c.tell.new.self t)) kept.clauses_kept
-    (subst (λ (m : ℕ). IfOk c.tell.result (λ t. IsTurn (m - 1) A K s.clauses.items s.steps.items c.args.budget c.tell.new.self t)) k c.tell.ensures))
+    (subst (λ (m : ℕ). IfOk c.tell.result (λ t. IsTurn (m - 1) A K s.clauses s.steps.items c.args.budget c.tell.new.self t)) k c.tell.ensures))

@@ -1,20 +1,19 @@
-use Rattle.std.proofs.Common.{◌≡◌, inl, ◌<◌, List, length, subst, sym, true, arith}
+use Rattle.std.proofs.Common.{inl, ◌<◌, length, subst, arith}
 use Rattle.std.specs.List.{Contains}
 use Rattle.sc_clauses.specs.Clauses.{Clause}
-use Rattle.sc_clauses.specs.declared.lit.Lit.{Lit}
 use Rattle.sc_search.proofs.ReadingLaws.{reason-of}
 use Rattle.sc_search.proofs.VisitLaws.{goes-implied, implied-alive, keeps-others, moves-nowhere, moves-trail, open-moves, open-others, open-visited}
-use Rattle.sc_search.proofs.WatchLaws.{same-clause}
+use Rattle.sc_search.proofs.WatchingLaws.{same-clause}
 use Rattle.sc_search.proofs.trail.Trail.read.Goals as goal
 use Rattle.sc_search.specs.Readings.{AreTwoOpen, IsUnitAt}
-use Rattle.sc_search.specs.Trails.{AllInCells, InCells, IsReason, true_before}
+use Rattle.sc_search.specs.Trails.{InCells, IsReason, true_before}
 use Rattle.sc_search.specs.Visits.{GoesOn}
-use Rattle.sc_search.specs.Watches.{IsAlive, watch_of}
+use Rattle.sc_search.specs.Watching.{IsAlive}
+use Rattle.sc_watches.specs.Watches.{watch_of}
 
 pub status-requires-clause-in_cells : goal.status-requires-clause-in_cells
 status-requires-clause-in_cells c =
-    subst (λ (d : List Lit). AllInCells (length c.args.self.now.cells.items) d) (sym c.as_slice.ensures)
-    (c.requires.in_cells c.index-clauses-place.result (c.args.place, c.requires.within, sym c.index-clauses-place.is))
+    c.requires.in_cells c.clause_at.result.now (c.args.place, c.clause_at.ensures.0, c.clause_at.ensures.1)
 
 pub returns-in-Satisfied-clause-moves : goal.returns-in-Satisfied-clause-moves
 returns-in-Satisfied-clause-moves c = moves-nowhere _ c.args.clauses.now c.args.self.now c.args.watches.now c.requires.trail c.requires.watched
@@ -22,10 +21,10 @@ returns-in-Satisfied-clause-moves c = moves-nowhere _ c.args.clauses.now c.args.
 pub returns-in-Satisfied-clause-visited : goal.returns-in-Satisfied-clause-visited
 returns-in-Satisfied-clause-visited c =
     let cs = c.args.clauses.now in
-    let C = c.index-clauses-place.result in
+    let C = c.clause_at.result.now in
     let t = c.args.self.now in
-    let w = subst (λ (d : List Lit). (y : Lit) × Contains d y × (true_before t.cells.items (length t.lits.items) y ≡ true)) c.as_slice.ensures c.in-Satisfied.ensures in
-    λ d at. inl (w.0, subst (λ (x : Clause). Contains x w.0) (same-clause cs c.args.place C d (c.requires.within, sym c.index-clauses-place.is) at) w.1, w.2)
+    let w = c.in-Satisfied.ensures in
+    λ d at. inl (w.0, subst (λ (x : Clause). Contains x w.0) (same-clause cs c.args.place C d c.clause_at.ensures at) w.1, w.2)
 
 pub returns-in-Satisfied-clause-others : goal.returns-in-Satisfied-clause-others
 returns-in-Satisfied-clause-others c = keeps-others c.args.self.now c.args.place c.args.watches.now
@@ -36,58 +35,58 @@ watch-requires-clause-within c = let e = c.requires.watched.watching.paired in l
 pub watch-requires-clause-first : goal.watch-requires-clause-first
 watch-requires-clause-first c =
     let t = c.args.self.now in
-    let C = c.index-clauses-place.result in
-    let both : AreTwoOpen t.cells.items C c.in-Open.watch = subst (λ (d : List Lit). AreTwoOpen t.cells.items d c.in-Open.watch) c.as_slice.ensures c.in-Open.ensures in
-    let within : InCells (length t.cells.items) c.in-Open.watch.first = c.requires.in_cells C (c.args.place, c.requires.within, sym c.index-clauses-place.is) c.in-Open.watch.first both.0 in
+    let C = c.clause_at.result.now in
+    let both : AreTwoOpen t.cells.items C c.in-Open.watch = c.in-Open.ensures in
+    let within : InCells (length t.cells.items) c.in-Open.watch.first = c.requires.in_cells C (c.args.place, c.clause_at.ensures.0, c.clause_at.ensures.1) c.in-Open.watch.first both.0 in
     λ sign. let e = c.requires.watched.watching.sized sign in let lt : c.in-Open.watch.first.atom < length t.cells.items = within.1 in omega arith
 
 pub watch-requires-clause-second : goal.watch-requires-clause-second
 watch-requires-clause-second c =
     let t = c.args.self.now in
-    let C = c.index-clauses-place.result in
-    let both : AreTwoOpen t.cells.items C c.in-Open.watch = subst (λ (d : List Lit). AreTwoOpen t.cells.items d c.in-Open.watch) c.as_slice.ensures c.in-Open.ensures in
-    let within : InCells (length t.cells.items) c.in-Open.watch.second = c.requires.in_cells C (c.args.place, c.requires.within, sym c.index-clauses-place.is) c.in-Open.watch.second both.1 in
+    let C = c.clause_at.result.now in
+    let both : AreTwoOpen t.cells.items C c.in-Open.watch = c.in-Open.ensures in
+    let within : InCells (length t.cells.items) c.in-Open.watch.second = c.requires.in_cells C (c.args.place, c.clause_at.ensures.0, c.clause_at.ensures.1) c.in-Open.watch.second both.1 in
     λ sign. let e = c.requires.watched.watching.sized sign in let lt : c.in-Open.watch.second.atom < length t.cells.items = within.1 in omega arith
 
 pub returns-in_ok-watch-in-Open-clause-moves : goal.returns-in_ok-watch-in-Open-clause-moves
 returns-in_ok-watch-in-Open-clause-moves c =
     let t = c.args.self.now in
-    let C = c.index-clauses-place.result in
-    let both : AreTwoOpen t.cells.items C c.in-Open.watch = subst (λ (d : List Lit). AreTwoOpen t.cells.items d c.in-Open.watch) c.as_slice.ensures c.in-Open.ensures in
-    open-moves _ c.args.clauses.now t c.args.watches.now c.watch.new.self c.args.place C c.in-Open.watch c.requires.trail c.requires.watched (c.requires.within, sym c.index-clauses-place.is) both c.in_ok-watch-in-Open.ensures
+    let C = c.clause_at.result.now in
+    let both : AreTwoOpen t.cells.items C c.in-Open.watch = c.in-Open.ensures in
+    open-moves _ c.args.clauses.now t c.args.watches.now c.watch.new.self c.args.place C c.in-Open.watch c.requires.trail c.requires.watched c.clause_at.ensures both c.in_ok-watch-in-Open.ensures
 
 pub returns-in_ok-watch-in-Open-clause-visited : goal.returns-in_ok-watch-in-Open-clause-visited
 returns-in_ok-watch-in-Open-clause-visited c =
     let t = c.args.self.now in
-    let C = c.index-clauses-place.result in
-    let both : AreTwoOpen t.cells.items C c.in-Open.watch = subst (λ (d : List Lit). AreTwoOpen t.cells.items d c.in-Open.watch) c.as_slice.ensures c.in-Open.ensures in
-    open-visited _ c.args.clauses.now t c.args.watches.now c.watch.new.self c.args.place C c.in-Open.watch c.requires.trail c.requires.watched (c.requires.within, sym c.index-clauses-place.is) both c.in_ok-watch-in-Open.ensures
+    let C = c.clause_at.result.now in
+    let both : AreTwoOpen t.cells.items C c.in-Open.watch = c.in-Open.ensures in
+    open-visited _ c.args.clauses.now t c.args.watches.now c.watch.new.self c.args.place C c.in-Open.watch c.requires.trail c.requires.watched c.clause_at.ensures both c.in_ok-watch-in-Open.ensures
 
 pub returns-in_ok-watch-in-Open-clause-others : goal.returns-in_ok-watch-in-Open-clause-others
 returns-in_ok-watch-in-Open-clause-others c =
     let t = c.args.self.now in
-    let C = c.index-clauses-place.result in
-    let both : AreTwoOpen t.cells.items C c.in-Open.watch = subst (λ (d : List Lit). AreTwoOpen t.cells.items d c.in-Open.watch) c.as_slice.ensures c.in-Open.ensures in
-    open-others _ c.args.clauses.now t c.args.watches.now c.watch.new.self c.args.place C c.in-Open.watch c.requires.trail c.requires.watched (c.requires.within, sym c.index-clauses-place.is) both c.in_ok-watch-in-Open.ensures
+    let C = c.clause_at.result.now in
+    let both : AreTwoOpen t.cells.items C c.in-Open.watch = c.in-Open.ensures in
+    open-others _ c.args.clauses.now t c.args.watches.now c.watch.new.self c.args.place C c.in-Open.watch c.requires.trail c.requires.watched c.clause_at.ensures both c.in_ok-watch-in-Open.ensures
 
 pub imply-requires : goal.imply-requires
 imply-requires c =
     let t = c.args.self.now in
-    let C = c.index-clauses-place.result in
+    let C = c.clause_at.result.now in
     let l = c.in-Unit.lit in
-    let u : IsUnitAt t.cells.items (length t.lits.items) C l = subst (λ (d : List Lit). IsUnitAt t.cells.items (length t.lits.items) d l) c.as_slice.ensures c.in-Unit.ensures in
-    (c.requires.in_cells C (c.args.place, c.requires.within, sym c.index-clauses-place.is) l u.0).1
+    let u : IsUnitAt t.cells.items (length t.lits.items) C l = c.in-Unit.ensures in
+    (c.requires.in_cells C (c.args.place, c.clause_at.ensures.0, c.clause_at.ensures.1) l u.0).1
 
 pub returns-in_ok-imply-in-Unit-clause-moves : goal.returns-in_ok-imply-in-Unit-clause-moves
 returns-in_ok-imply-in-Unit-clause-moves c =
     let t = c.args.self.now in
     let n = length t.cells.items in
     let cs = c.args.clauses.now in
-    let C = c.index-clauses-place.result in
+    let C = c.clause_at.result.now in
     let l = c.in-Unit.lit in
-    let u : IsUnitAt t.cells.items (length t.lits.items) C l = subst (λ (d : List Lit). IsUnitAt t.cells.items (length t.lits.items) d l) c.as_slice.ensures c.in-Unit.ensures in
-    let within : InCells n l = c.requires.in_cells C (c.args.place, c.requires.within, sym c.index-clauses-place.is) l u.0 in
-    let why : IsReason cs t.cells.items l (length t.lits.items) c.args.place = reason-of cs t.cells.items (length t.lits.items) c.args.place C l (c.requires.within, sym c.index-clauses-place.is) u in
+    let u : IsUnitAt t.cells.items (length t.lits.items) C l = c.in-Unit.ensures in
+    let within : InCells n l = c.requires.in_cells C (c.args.place, c.clause_at.ensures.0, c.clause_at.ensures.1) l u.0 in
+    let why : IsReason cs t.cells.items l (length t.lits.items) c.args.place = reason-of cs t.cells.items (length t.lits.items) c.args.place C l c.clause_at.ensures u in
     let made = c.in_ok-imply-in-Unit.ensures in
     let goes : GoesOn n cs t c.imply.new.self = goes-implied n cs t c.imply.new.self l c.args.place c.requires.trail u.1 within why made.cells made.lits made.levels in
     moves-trail n cs t c.imply.new.self c.args.watches.now c.requires.trail c.requires.watched goes
@@ -98,16 +97,16 @@ returns-in_ok-imply-in-Unit-clause-visited c =
     let n = length t.cells.items in
     let new = c.imply.new.self in
     let cs = c.args.clauses.now in
-    let C = c.index-clauses-place.result in
+    let C = c.clause_at.result.now in
     let l = c.in-Unit.lit in
-    let u : IsUnitAt t.cells.items (length t.lits.items) C l = subst (λ (d : List Lit). IsUnitAt t.cells.items (length t.lits.items) d l) c.as_slice.ensures c.in-Unit.ensures in
-    let within : InCells n l = c.requires.in_cells C (c.args.place, c.requires.within, sym c.index-clauses-place.is) l u.0 in
-    let why : IsReason cs t.cells.items l (length t.lits.items) c.args.place = reason-of cs t.cells.items (length t.lits.items) c.args.place C l (c.requires.within, sym c.index-clauses-place.is) u in
+    let u : IsUnitAt t.cells.items (length t.lits.items) C l = c.in-Unit.ensures in
+    let within : InCells n l = c.requires.in_cells C (c.args.place, c.clause_at.ensures.0, c.clause_at.ensures.1) l u.0 in
+    let why : IsReason cs t.cells.items l (length t.lits.items) c.args.place = reason-of cs t.cells.items (length t.lits.items) c.args.place C l c.clause_at.ensures u in
     let made = c.in_ok-imply-in-Unit.ensures in
     let o = watch_of c.args.watches.now c.args.place in
     let alive : IsAlive (true_before new.cells.items (length new.lits.items)) o C = implied-alive n cs t new l c.args.place c.requires.trail u.1 within why made.cells made.lits made.levels o C u.0 in
     λ d at.
-    subst (λ (x : Clause). IsAlive (true_before new.cells.items (length new.lits.items)) o x) (same-clause cs c.args.place C d (c.requires.within, sym c.index-clauses-place.is) at) alive
+    subst (λ (x : Clause). IsAlive (true_before new.cells.items (length new.lits.items)) o x) (same-clause cs c.args.place C d c.clause_at.ensures at) alive
 
 pub returns-in_ok-imply-in-Unit-clause-others : goal.returns-in_ok-imply-in-Unit-clause-others
 returns-in_ok-imply-in-Unit-clause-others c = keeps-others c.args.self.now c.args.place c.args.watches.now

@@ -1,10 +1,11 @@
 use Rattle.std.proofs.Common.{◌≡◌, ◌<◌, ◌+◌, ℕ, List, ◌∷◌, [], ◌++◌, length, subst, sym, ap, ◌∙◌, Vec, Global, arith}
 use Rattle.sc_clauses.specs.declared.lit.Lit.{Lit}
-use Rattle.sc_search.proofs.AnalysisLaws.{same-at, reason-may-be-met, refutes-resolve, refutes-skip, read-met, trail-in-cells}
+use Rattle.sc_search.proofs.AnalysisLaws.{reason-may-be-met, refutes-resolve, refutes-skip, read-met, trail-in-cells}
+use Rattle.sc_search.proofs.WatchingLaws.{same-clause}
 use Rattle.sc_search.proofs.trail.Trail.resolve.Goals as goal
 use Rattle.sc_search.specs.Analyses.{AreMet, IsMet, MayBeMet, RefutesMet}
 use Rattle.sc_search.specs.Steps.{At}
-use Rattle.sc_search.specs.Trails.{AllInCells, IsReason}
+use Rattle.sc_search.specs.Trails.{IsReason}
 
 pub returns-then-not-index-clause-refutes : goal.returns-then-not-index-clause-refutes
 returns-then-not-index-clause-refutes c =
@@ -18,11 +19,15 @@ returns-then-not-index-clause-refutes c =
     refutes-skip c.args.clauses.now cells trail (length trail) c.args.i met c.args.analysis.now.hints.items l c.requires.trail.agree at
     (read-met met l _ (omega arith) c.index.ensures ∙ c.if-not-index.true) c.requires.refutes
 
+pub clause_at-requires : goal.clause_at-requires
+clause_at-requires c = (c.reason-reason.ensures c.index-lit.result.now).at.0
+
+pub number_of-requires : goal.number_of-requires
+number_of-requires c = (c.reason-reason.ensures c.index-lit.result.now).at.0
+
 pub meet_all-requires-clause-in_cells : goal.meet_all-requires-clause-in_cells
 meet_all-requires-clause-in_cells c =
-    let why = c.reason-reason.ensures c.index-lit.result.now in
-    subst (λ (d : List Lit). AllInCells (length c.args.self.now.cells.items) d) (sym c.as_slice.ensures)
-    (c.requires.in_cells c.index-clauses-reason.result (c.reason-reason.result, why.at.0, sym c.index-clauses-reason.is))
+    c.requires.in_cells c.clause_at.result.now (c.reason-reason.result, c.clause_at.ensures.0, c.clause_at.ensures.1)
 
 pub meet_all-requires-clause-may_be_met : goal.meet_all-requires-clause-may_be_met
 meet_all-requires-clause-may_be_met c =
@@ -35,8 +40,8 @@ meet_all-requires-clause-may_be_met c =
     let k : length met ≡ length cells = c.requires.collected.sized in
     let is_met : IsMet met l = read-met met l _ (omega arith) c.index.ensures ∙ c.if-not-index.false in
     let why : IsReason c.args.clauses.now cells l c.args.i c.reason-reason.result = subst (λ (w : Lit). IsReason c.args.clauses.now cells w c.args.i c.reason-reason.result) at.1 (c.reason-reason.ensures l) in
-    let clause : why.clause ≡ c.index-clauses-reason.result = same-at c.args.clauses.now c.reason-reason.result _ _ why.at c.index-clauses-reason.is in
-    subst (λ (d : List Lit). MayBeMet cells (length trail) met d) (clause ∙ sym c.as_slice.ensures)
+    let clause : why.clause ≡ c.clause_at.result.now = same-clause c.args.clauses.now c.reason-reason.result _ _ why.at c.clause_at.ensures in
+    subst (λ (d : List Lit). MayBeMet cells (length trail) met d) clause
     (reason-may-be-met _ c.args.clauses.now cells trail _ c.requires.trail c.args.i l at c.reason-reason.result met is_met why)
 
 pub returns-clause-refutes : goal.returns-clause-refutes
@@ -47,10 +52,10 @@ returns-clause-refutes c =
     let met = c.args.analysis.now.met.items in
     let at : At trail c.args.i l = (c.requires.within, sym c.index-lit.ensures) in
     let why : IsReason c.args.clauses.now cells l c.args.i c.reason-reason.result = subst (λ (w : Lit). IsReason c.args.clauses.now cells w c.args.i c.reason-reason.result) at.1 (c.reason-reason.ensures l) in
-    let clause : why.clause ≡ c.index-clauses-reason.result = same-at c.args.clauses.now c.reason-reason.result _ _ why.at c.index-clauses-reason.is in
+    let clause : why.clause ≡ c.clause_at.result.now = same-clause c.args.clauses.now c.reason-reason.result _ _ why.at c.clause_at.ensures in
     let done = c.in_ok-meet_all.ensures in
     let after = c.meet_all.new.analysis.met.items in
-    let all : AreMet after why.clause = subst (λ (d : List Lit). AreMet after d) (c.as_slice.ensures ∙ sym clause) done.met in
+    let all : AreMet after why.clause = subst (λ (d : List Lit). AreMet after d) (sym clause) done.met in
     let old = c.args.analysis.now.hints.items in
     let n : ℕ = c.reason-reason.result + 1 in
     let pushed : c.push.new.self.items ≡ c.meet_all.new.analysis.hints.items ++ c.number_of.result ∷ [] = c.in_ok-push.ensures.items in

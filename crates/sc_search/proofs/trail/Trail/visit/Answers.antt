@@ -1,6 +1,6 @@
 use Rattle.std.proofs.Common.{inl}
 use Rattle.sc_search.proofs.VisitLaws.{keeps-others, moves-nowhere}
-use Rattle.sc_search.proofs.WatchLaws.{watched-in-cells}
+use Rattle.sc_search.proofs.WatchingLaws.{watched-in-cells}
 use Rattle.sc_search.proofs.trail.Trail.visit.Goals as goal
 
 pub is_satisfied-requires-clause-in_cells : goal.is_satisfied-requires-clause-in_cells

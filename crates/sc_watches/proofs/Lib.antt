@@ -1,0 +1,4 @@
+pub mod LitLaws
+mod ListedLaws
+pub mod RemovedLaws
+pub mod WatchLaws

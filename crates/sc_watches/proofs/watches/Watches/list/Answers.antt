@@ -1,0 +1,13 @@
+use Rattle.sc_watches.proofs.WatchLaws.{listed-already, listed-too}
+use Rattle.sc_watches.proofs.watches.Watches.list.Goals as goal
+use Rattle.sc_watches.specs.Watches.{watch_of}
+
+pub returns-then-is_watched-clause-lists : goal.returns-then-is_watched-clause-lists
+returns-then-is_watched-clause-lists c =
+    let w = c.args.self.now in
+    listed-already c.args.place c.args.lit (watch_of w c.args.place) w.lists (c.is_watched.ensures.0 c.if-is_watched.true)
+
+pub returns-clause-lists : goal.returns-clause-lists
+returns-clause-lists c =
+    let w = c.args.self.now in
+    listed-too c.args.place c.args.lit (watch_of w c.args.place) w.lists c.list.new.self c.in_ok-list.ensures
