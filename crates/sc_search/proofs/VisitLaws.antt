@@ -8,8 +8,8 @@ use Rattle.std.proofs.lemmas.Bool.{cases_Bool, cases_lt, cases_eq}
 use Rattle.sc_clauses.proofs.LitLaws.{negation_twice}
 use Rattle.sc_clauses.specs.Clauses.{Clause, negation}
 use Rattle.sc_clauses.specs.declared.lit.Lit.{Lit}
-use Rattle.sc_search.proofs.AnalysisLaws.{trail-in-cells}
-use Rattle.sc_search.proofs.CellLaws.{at-before, before-at, before-more}
+use Rattle.sc_search.proofs.AnalysisLaws.{not-lower, trail-in-cells}
+use Rattle.sc_search.proofs.CellLaws.{at-before, before-at, before-more, consistent}
 use Rattle.sc_watches.proofs.RemovedLaws.{removed-kept}
 use Rattle.sc_search.proofs.ReadingLaws.{at-end, free-before}
 use Rattle.sc_search.proofs.TrailLaws.{before-kept, decided-holds, free-set, implied-holds, trail-imply-to}
@@ -18,7 +18,8 @@ use Rattle.sc_watches.proofs.WatchLaws.{sifted-pairs}
 use Rattle.sc_watches.specs.Lists.{places_of}
 use Rattle.sc_search.specs.Readings.{AreTwoOpen}
 use Rattle.sc_search.specs.Steps.{At}
-use Rattle.sc_search.specs.Trails.{Agree, HasPlace, HoldsTrail, InCells, IsReason, cell_of, free_count, true_before}
+use Rattle.sc_search.specs.Trails.{Agree, HasPlace, HoldsTrail, InCells, IsReason, cell_of, free_count, set_before, true_before}
+use Rattle.sc_search.specs.Turns.{IsOpenPair}
 use Rattle.sc_search.specs.Visits.{AreAlive, AreAliveBut, AreSeen, GoesOn, HasVisited, HasVisitedEach, IsSeen, IsSeenBy, IsWaiting, IsWellWatched, KeepsOthers, MovesOn}
 use Rattle.sc_search.specs.Watching.{AreAliveAtLevels, AreAliveBy, AreOpen, IsAlive, IsWatching}
 use Rattle.sc_watches.specs.Watches.{IsRewatched, IsSifted, IsWatched, watch_in, watch_of}
@@ -146,22 +147,42 @@ moves-nowhere n cs t w sound h = moves-trail n cs t t w sound h (goes-nowhere n 
 pub keeps-others : (t : Trail) (place : ℕ) (w : Watches) → KeepsOthers t place w w
 keeps-others t place w = record { pairs = λ i ne. refl; lists = λ l e. refl }
 
--- the clause at a place watches two literals that are open
+-- two literals of a clause that are open
+pub open-pair : (cells : List Cell) (p : ℕ) (c : Clause) (watch : Watch) → AreTwoOpen cells c watch → IsOpenPair cells p c watch
+open-pair cells p c watch both = record { first = both.0; second = both.1; neither_false = two-open cells p c watch both }
+
+-- one that is true and one that is open
+pub true-pair : (cells : List Cell) (p : ℕ) (c : Clause) (y l : Lit) → Contains c y → true_before cells p y ≡ true → Contains c l → cell_of cells l ≡ Free → IsOpenPair cells p c (record { first = y; second = l })
+true-pair cells p c y l cy is_true cl free = record {
+  first = cy;
+  second = cl;
+  neither_false = (
+    (λ (e : y ≡ l). true≢false (sym is_true ∙ ap (λ (x : Cell). set_before x p y.negated) (subst (λ (m : Lit). cell_of cells m ≡ Free) (sym e) free))),
+    consistent cells p y is_true,
+    free-before cells p l free,
+  );
+}
+
+-- the clause at a place watches two literals that aren't false
 module _ (n : ℕ) (cs : List Clause) (t : Trail) (old new : Watches) (place : ℕ) (c : Clause) (watch : Watch) (sound : HoldsTrail n cs t) (h : IsWellWatched n cs t old)
-    (at : At cs place c) (both : AreTwoOpen t.cells.items c watch) (k : IsRewatched place watch old.pairs.items old.lists new) where
+    (at : At cs place c) (both : IsOpenPair t.cells.items (length t.lits.items) c watch) (k : IsRewatched place watch old.pairs.items old.lists new) where
   here : watch_of new place ≡ Some watch
-  here = rewatched-here n cs old.pairs.items old.lists new place watch c h.watching k at both.0 both.1
+  here = rewatched-here n cs old.pairs.items old.lists new place watch c h.watching k at both.first both.second
 
   other : (i : ℕ) → i ≢ place → watch_of new i ≡ watch_of old i
-  other = rewatched-other n cs old.pairs.items old.lists new place watch c h.watching k at both.0 both.1
+  other = rewatched-other n cs old.pairs.items old.lists new place watch c h.watching k at both.first both.second
 
-  open-at : (q : ℕ) → AreOpen (true_before t.cells.items q) (watch_of new place)
-  open-at q = subst (λ (p : Option Watch). AreOpen (true_before t.cells.items q) p) (sym here) (two-open t.cells.items q c watch both)
+  open-at : (q : ℕ) → q ≤ length t.lits.items → AreOpen (true_before t.cells.items q) (watch_of new place)
+  open-at q le =
+      let p = length t.lits.items in
+      let neither = both.neither_false in
+      subst (λ (o : Option Watch). AreOpen (true_before t.cells.items q) o) (sym here)
+      (neither.0, not-lower t.cells.items q p (negation watch.first) neither.1 le, not-lower t.cells.items q p (negation watch.second) neither.2 le)
 
-  alive-or : (q i : ℕ) (d : Clause) → (i ≢ place → IsAlive (true_before t.cells.items q) (watch_of old i) d) → IsAlive (true_before t.cells.items q) (watch_of new i) d
-  alive-or q i d was =
+  alive-or : (q i : ℕ) (d : Clause) → q ≤ length t.lits.items → (i ≢ place → IsAlive (true_before t.cells.items q) (watch_of old i) d) → IsAlive (true_before t.cells.items q) (watch_of new i) d
+  alive-or q i d le was =
       ⊎_elim
-      (λ (e : i ≡ place). inr (subst (λ (j : ℕ). AreOpen (true_before t.cells.items q) (watch_of new j)) (sym e) (open-at q)))
+      (λ (e : i ≡ place). inr (subst (λ (j : ℕ). AreOpen (true_before t.cells.items q) (watch_of new j)) (sym e) (open-at q le)))
       (λ (ne : i ≢ place). subst (λ (p : Option Watch). IsAlive (true_before t.cells.items q) p d) (sym (other i ne)) (was ne))
       (cases_eq i place)
 
@@ -169,22 +190,24 @@ module _ (n : ℕ) (cs : List Clause) (t : Trail) (old new : Watches) (place : �
   open-moves = record {
     goes_on = goes-nowhere n cs t sound;
     watched = record {
-      watching = rewatched-listed n cs old.pairs.items old.lists new place watch c h.watching k at both.0 both.1;
-      alive = λ j lt i d there. alive-or (get_or t.levels.items j 0) i d (λ ne. h.alive j lt i d there);
+      watching = rewatched-listed n cs old.pairs.items old.lists new place watch c h.watching k at both.first both.second;
+      alive = λ j lt i d there.
+          let start = sound.are_levels.within j lt in
+          alive-or (get_or t.levels.items j 0) i d (omega arith) (λ ne. h.alive j lt i d there);
     };
     seen = λ p i d le there s.
         ⊎_elim
-        (λ (e : i ≡ place). inl (inr (subst (λ (j : ℕ). AreOpen (true_before t.cells.items (length t.lits.items)) (watch_of new j)) (sym e) (open-at (length t.lits.items)))))
+        (λ (e : i ≡ place). inl (inr (subst (λ (j : ℕ). AreOpen (true_before t.cells.items (length t.lits.items)) (watch_of new j)) (sym e) (open-at (length t.lits.items) (omega arith)))))
         (λ (ne : i ≢ place). subst (λ (o : Option Watch). IsSeenBy t.cells.items t.lits.items p o d) (sym (other i ne)) s)
         (cases_eq i place);
   }
 
   pub open-visited : HasVisited cs t new place false
-  open-visited = λ d there. inr (open-at (length t.lits.items))
+  open-visited = λ d there. inr (open-at (length t.lits.items) (omega arith))
 
   not-false : (l : Lit) → IsWatched (Some watch) l → true_before t.cells.items (length t.lits.items) (negation l) ≡ false
-  not-false l (inl e) = subst (λ (m : Lit). true_before t.cells.items (length t.lits.items) (negation m) ≡ false) (sym e) (free-before t.cells.items (length t.lits.items) watch.first both.3)
-  not-false l (inr e) = subst (λ (m : Lit). true_before t.cells.items (length t.lits.items) (negation m) ≡ false) (sym e) (free-before t.cells.items (length t.lits.items) watch.second both.4)
+  not-false l (inl e) = subst (λ (m : Lit). true_before t.cells.items (length t.lits.items) (negation m) ≡ false) (sym e) both.neither_false.1
+  not-false l (inr e) = subst (λ (m : Lit). true_before t.cells.items (length t.lits.items) (negation m) ≡ false) (sym e) both.neither_false.2
 
   pub open-others : KeepsOthers t place old new
   open-others = record { pairs = other; lists = λ l e. k.elsewhere l (λ w. true≢false (sym e ∙ not-false l w)) }

@@ -1,6 +1,6 @@
 -- What a change of what clauses watch keeps: they are listed for it, and alive.
 use Rattle.std.proofs.Common.{◌≡◌, ◌≢◌, ◌⊎◌, inl, inr, ⊎_elim, ℕ, ◌+◌, ◌<◌, ◌≤◌, List, [], ◌∷◌, ◌++◌, Bool, length, get_or, refl, sym, ap, ◌∙◌, subst, arith, Option, Some, None, Vec, Global}
-use Rattle.std.specs.List.{Contains, swap_remove}
+use Rattle.std.specs.List.{Contains}
 use Rattle.std.proofs.Math.ListN.{length-set, get_or-append}
 use Rattle.std.proofs.Math.Seq.{get_or-append_seam}
 use Rattle.std.proofs.lemmas.Bool.{cases_eq, cases_lt}

@@ -27,6 +27,10 @@ HasTruth cells p l truth.True = true_before cells p l ≡ true
 HasTruth cells p l truth.False = true_before cells p (negation l) ≡ true
 HasTruth cells p l truth.Open = cell_of cells l ≡ Free
 
+-- a literal of an atom that has no value
+abbrev pub IsOpen : List Cell → Lit → Type 0
+IsOpen cells l = cell_of cells l ≡ Free
+
 abbrev pub AreFalse : List Cell → ℕ → Clause → Type 0
 AreFalse cells p c = (m : Lit) → Contains c m → true_before cells p (negation m) ≡ true
 
@@ -39,7 +43,7 @@ abbrev pub AreTwoOpen : List Cell → Clause → Watch → Type 0
 AreTwoOpen cells c w = (Contains c w.first) × (Contains c w.second) × (w.first ≢ w.second) × (cell_of cells w.first ≡ Free) × (cell_of cells w.second ≡ Free)
 
 abbrev pub HasStatus : List Cell → ℕ → Clause → Status → Type 0
-HasStatus cells p c status.Satisfied = (y : Lit) × Contains c y × (true_before cells p y ≡ true)
+HasStatus cells p c (status.Satisfied y) = (Contains c y) × (true_before cells p y ≡ true)
 HasStatus cells p c (status.Open w) = AreTwoOpen cells c w
 HasStatus cells p c (status.Unit l) = IsUnitAt cells p c l
 HasStatus cells p c status.Falsified = AreFalse cells p c

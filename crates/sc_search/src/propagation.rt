@@ -1,7 +1,10 @@
 //! Unit propagation, by the clauses that watch what became false.
-ghost use Rattle.std.specs.Prelude.{◌≡◌, ◌+◌, ◌<◌, length, Some, IfOk, IsTrue, true};
+ghost use Rattle.std.specs.Prelude.{◌≡◌, ◌+◌, ◌<◌, length, Some, IfOk, IfSome, IsTrue, true};
+ghost use Rattle.std.specs.List.{Contains};
+ghost use Rattle.sc_clauses.specs.Clauses.{Clause};
 ghost use Rattle.sc_clauses.specs.declared.lit.Lit.{Lit};
-ghost use Rattle.sc_search.specs.Readings.{HasStatus};
+ghost use Rattle.sc_search.specs.Readings.{HasStatus, IsOpen};
+ghost use Rattle.sc_search.specs.Steps.{At};
 ghost use Rattle.sc_search.specs.Trails.{Agree, HoldsTrail, AllInCells, AreInCells, true_before};
 ghost use Rattle.sc_search.specs.Visits.{AreAliveBut, AreSeen, AreSeenBut, HasFollowed, HasPropagated, HasVisited, HasVisitedEach, IsWellWatched, KeepsOthers, MovesOn};
 ghost use Rattle.sc_watches.specs.Watches.{IsWatched, watch_of};
@@ -16,8 +19,8 @@ use std::alloc::AllocError;
 /// What a clause says under the assignment.
 #[derive(Clone, Copy)]
 pub(crate) enum Status {
-    /// Nothing: a literal is true.
-    Satisfied,
+    /// Nothing: this literal is true.
+    Satisfied(Lit),
     /// Nothing: these two literals are open.
     Open(Watch),
     /// That this literal is true, since the others are false.
@@ -46,7 +49,7 @@ impl Trail {
         let mut open: Option<Lit> = None;
         for lit in clause {
             match self.truth(*lit) {
-                Truth::True => return Status::Satisfied,
+                Truth::True => return Status::Satisfied(*lit),
                 Truth::False => {}
                 Truth::Open => match open {
                     None => open = Some(*lit),
@@ -106,6 +109,64 @@ impl Trail {
         }
     }
 
+    fn is_open(&self, lit: Lit) -> bool
+        requires agree { Agree self.now.cells.items self.now.lits.items }
+        requires in_cells { lit.atom < length self.now.cells.items }
+        ensures { IsTrue result → IsOpen self.now.cells.items lit }
+    {
+        match self.truth(lit) {
+            Truth::Open => true,
+            Truth::True | Truth::False => false,
+        }
+    }
+
+    /// A literal that the clause at a place watches and that is open.
+    fn open_watched(&self, watches: &Watches, place: usize) -> Option<Lit>
+        requires agree { Agree self.now.cells.items self.now.lits.items }
+        requires in_cells { (l : Lit) → IsWatched (watch_of watches.now place) l → l.atom < length self.now.cells.items }
+        ensures { IfSome result (λ l. IsWatched (watch_of watches.now place) l × IsOpen self.now.cells.items l) }
+    {
+        let Some(watch) = watches.pair(place) else {
+            return None;
+        };
+        if self.is_open(watch.first) {
+            return Some(watch.first);
+        }
+        if self.is_open(watch.second) {
+            return Some(watch.second);
+        }
+        None
+    }
+
+    /// Lets the clause at a place watch its literal that is true in place of one that it watched, if the other one is open:
+    /// so it isn't read again as long as that literal is true.
+    fn watch_true(
+        &self,
+        clauses: &Clauses,
+        watches: &mut Watches,
+        place: usize,
+        lit: Lit,
+    ) -> Result<(), AllocError>
+        requires in_cells { AreInCells (length self.now.cells.items) clauses.now }
+        requires trail { HoldsTrail (length self.now.cells.items) clauses.now self.now }
+        requires watched { IsWellWatched (length self.now.cells.items) clauses.now self.now watches.old }
+        requires satisfied { (c : Clause) × At clauses.now place c × Contains c lit
+            × (true_before self.now.cells.items (length self.now.lits.items) lit ≡ true) }
+        ensures moves { IfOk result (λ _. MovesOn (length self.now.cells.items) clauses.now self.now watches.old
+            self.now watches.new) }
+        ensures others { IfOk result (λ _. KeepsOthers self.now place watches.old watches.new) }
+    {
+        let Some(open) = self.open_watched(watches, place) else {
+            return Ok(());
+        };
+        let watch = Watch {
+            first: lit,
+            second: open,
+        };
+        watches.watch(place, watch)?;
+        Ok(())
+    }
+
     /// Reads the clause at a place. It then watches two literals that are open, or what it gives is made true. Whether
     /// it's falsified.
     fn read(
@@ -124,7 +185,10 @@ impl Trail {
         ensures others { IfOk result (λ _. KeepsOthers self.old place watches.old watches.new) }
     {
         match self.status(clause_at(clauses, place)) {
-            Status::Satisfied => Ok(false),
+            Status::Satisfied(lit) => {
+                self.watch_true(clauses, watches, place, lit)?;
+                Ok(false)
+            }
             Status::Open(watch) => {
                 watches.watch(place, watch)?;
                 Ok(false)

@@ -2,7 +2,7 @@ use Rattle.std.proofs.Common.{inl, ◌<◌, length, subst, arith}
 use Rattle.std.specs.List.{Contains}
 use Rattle.sc_clauses.specs.Clauses.{Clause}
 use Rattle.sc_search.proofs.ReadingLaws.{reason-of}
-use Rattle.sc_search.proofs.VisitLaws.{goes-implied, implied-alive, keeps-others, moves-nowhere, moves-trail, open-moves, open-others, open-visited}
+use Rattle.sc_search.proofs.VisitLaws.{goes-implied, implied-alive, keeps-others, moves-nowhere, moves-trail, open-moves, open-others, open-pair, open-visited}
 use Rattle.sc_search.proofs.WatchingLaws.{same-clause}
 use Rattle.sc_search.proofs.trail.Trail.read.Goals as goal
 use Rattle.sc_search.specs.Readings.{AreTwoOpen, IsUnitAt}
@@ -15,19 +15,15 @@ pub status-requires-clause-in_cells : goal.status-requires-clause-in_cells
 status-requires-clause-in_cells c =
     c.requires.in_cells c.clause_at.result.now (c.args.place, c.clause_at.ensures.0, c.clause_at.ensures.1)
 
-pub returns-in-Satisfied-clause-moves : goal.returns-in-Satisfied-clause-moves
-returns-in-Satisfied-clause-moves c = moves-nowhere _ c.args.clauses.now c.args.self.now c.args.watches.now c.requires.trail c.requires.watched
+pub watch_true-requires-clause-satisfied : goal.watch_true-requires-clause-satisfied
+watch_true-requires-clause-satisfied c = (c.clause_at.result.now, c.clause_at.ensures, c.in-Satisfied.ensures.0, c.in-Satisfied.ensures.1)
 
-pub returns-in-Satisfied-clause-visited : goal.returns-in-Satisfied-clause-visited
-returns-in-Satisfied-clause-visited c =
-    let cs = c.args.clauses.now in
+pub returns-in_ok-watch_true-in-Satisfied-clause-visited : goal.returns-in_ok-watch_true-in-Satisfied-clause-visited
+returns-in_ok-watch_true-in-Satisfied-clause-visited c =
     let C = c.clause_at.result.now in
-    let t = c.args.self.now in
-    let w = c.in-Satisfied.ensures in
-    λ d at. inl (w.0, subst (λ (x : Clause). Contains x w.0) (same-clause cs c.args.place C d c.clause_at.ensures at) w.1, w.2)
-
-pub returns-in-Satisfied-clause-others : goal.returns-in-Satisfied-clause-others
-returns-in-Satisfied-clause-others c = keeps-others c.args.self.now c.args.place c.args.watches.now
+    let l = c.in-Satisfied.lit in
+    let has = c.in-Satisfied.ensures in
+    λ d at. inl (l, subst (λ (x : Clause). Contains x l) (same-clause c.args.clauses.now c.args.place C d c.clause_at.ensures at) has.0, has.1)
 
 pub watch-requires-clause-within : goal.watch-requires-clause-within
 watch-requires-clause-within c = let e = c.requires.watched.watching.paired in let lt : c.args.place < length c.args.clauses.now = c.requires.within in omega arith
@@ -53,21 +49,24 @@ returns-in_ok-watch-in-Open-clause-moves c =
     let t = c.args.self.now in
     let C = c.clause_at.result.now in
     let both : AreTwoOpen t.cells.items C c.in-Open.watch = c.in-Open.ensures in
-    open-moves _ c.args.clauses.now t c.args.watches.now c.watch.new.self c.args.place C c.in-Open.watch c.requires.trail c.requires.watched c.clause_at.ensures both c.in_ok-watch-in-Open.ensures
+    open-moves _ c.args.clauses.now t c.args.watches.now c.watch.new.self c.args.place C c.in-Open.watch c.requires.trail c.requires.watched c.clause_at.ensures
+    (open-pair t.cells.items (length t.lits.items) C c.in-Open.watch both) c.in_ok-watch-in-Open.ensures
 
 pub returns-in_ok-watch-in-Open-clause-visited : goal.returns-in_ok-watch-in-Open-clause-visited
 returns-in_ok-watch-in-Open-clause-visited c =
     let t = c.args.self.now in
     let C = c.clause_at.result.now in
     let both : AreTwoOpen t.cells.items C c.in-Open.watch = c.in-Open.ensures in
-    open-visited _ c.args.clauses.now t c.args.watches.now c.watch.new.self c.args.place C c.in-Open.watch c.requires.trail c.requires.watched c.clause_at.ensures both c.in_ok-watch-in-Open.ensures
+    open-visited _ c.args.clauses.now t c.args.watches.now c.watch.new.self c.args.place C c.in-Open.watch c.requires.trail c.requires.watched c.clause_at.ensures
+    (open-pair t.cells.items (length t.lits.items) C c.in-Open.watch both) c.in_ok-watch-in-Open.ensures
 
 pub returns-in_ok-watch-in-Open-clause-others : goal.returns-in_ok-watch-in-Open-clause-others
 returns-in_ok-watch-in-Open-clause-others c =
     let t = c.args.self.now in
     let C = c.clause_at.result.now in
     let both : AreTwoOpen t.cells.items C c.in-Open.watch = c.in-Open.ensures in
-    open-others _ c.args.clauses.now t c.args.watches.now c.watch.new.self c.args.place C c.in-Open.watch c.requires.trail c.requires.watched c.clause_at.ensures both c.in_ok-watch-in-Open.ensures
+    open-others _ c.args.clauses.now t c.args.watches.now c.watch.new.self c.args.place C c.in-Open.watch c.requires.trail c.requires.watched c.clause_at.ensures
+    (open-pair t.cells.items (length t.lits.items) C c.in-Open.watch both) c.in_ok-watch-in-Open.ensures
 
 pub imply-requires : goal.imply-requires
 imply-requires c =

@@ -12,6 +12,12 @@ truth-requires c =
     let h : c.loop-lit.lit-index < length xs = c.loop-lit-test.true in
     record { in_cells = (c.requires.in_cells _ (c.loop-lit.lit-index, h, get_or_default xs c.loop-lit.lit-index _ _ h)).1 }
 
+pub returns-in-True : goal.returns-in-True
+returns-in-True c =
+    let xs = c.args.clause.now in
+    let h : c.loop-lit.lit-index < length xs = c.loop-lit-test.true in
+    ((c.loop-lit.lit-index, h, get_or_default xs c.loop-lit.lit-index _ _ h), c.in-True.ensures c.requires.agree)
+
 pub returns-then-not-is_same : goal.returns-then-not-is_same
 returns-then-not-is_same c =
     let xs = c.args.clause.now in
