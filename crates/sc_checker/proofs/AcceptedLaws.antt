@@ -12,7 +12,7 @@ use Rattle.sc_footprint.specs.Problems.{Posed, atoms}
 use Rattle.sc_footprint.specs.Definitions.{defining}
 use Rattle.sc_footprint.specs.Theories.{IsListed, IsClauseOf}
 use Rattle.sc_footprint.specs.Truths.{truths, IsWorldOf, IsTrueIn, Satisfies}
-use Rattle.sc_checker.specs.Refutations.{is_listed, are_listed}
+use Rattle.sc_refutations.specs.Refutations.{is_listed, are_listed}
 use Rattle.sc_checker.specs.Verdicts.{Rules}
 use Rattle.sc_checker.proofs.VerdictLaws.{AreListed}
 use Rattle.sc_checker.proofs.Soundness.{AllHold}

@@ -21,7 +21,7 @@ use Rattle.sc_checker.specs.declared.checking.Reason.{Reason}
 use Rattle.sc_checker.specs.declared.checking.Verdict.{Verdict}
 use Rattle.sc_checker.specs.declared.checking.Verdict.TheVariants.{Refuted}
 use Rattle.sc_checker.specs.Progress.{Progress, start, failed, counted, grown, taken, unless_at_fault, after_step, after_steps, verdict_at, verdict_of, IsChecked}
-use Rattle.sc_checker.specs.Refutations.{is_nil}
+use Rattle.sc_refutations.specs.Refutations.{is_nil}
 use Rattle.sc_checker.specs.Verdicts.{Rules, added, of_learned, next, verdict_from, verdict}
 use Rattle.sc_checker.proofs.AcceptedLaws.{AreDefined, AreSound, all_hold, defining_listed, rules_listed}
 use Rattle.sc_checker.proofs.Soundness.{added-holds, all-push}

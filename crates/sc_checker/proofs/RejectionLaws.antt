@@ -8,7 +8,7 @@ use Rattle.sc_checker.specs.declared.checking.Reason.{Reason}
 use Rattle.sc_checker.specs.declared.checking.Reason.TheVariants.{NotEmpty}
 use Rattle.sc_checker.specs.declared.checking.Verdict.{Verdict}
 use Rattle.sc_checker.specs.declared.checking.Verdict.TheVariants.{Refuted, Rejected}
-use Rattle.sc_checker.specs.Refutations.{is_nil}
+use Rattle.sc_refutations.specs.Refutations.{is_nil}
 use Rattle.sc_footprint.specs.Problems.{Posed, atoms}
 use Rattle.sc_footprint.specs.Definitions.{defining}
 use Rattle.sc_checker.specs.Verdicts.{Rules, added, Adds, no_step, first_step, IsRejected, adds_none, not_empty, next, verdict_from, verdict}

@@ -6,13 +6,13 @@ use Rattle.std.proofs.lemmas.Bool.{and_parts, or_cases, not-false, true≢false}
 use Rattle.sc_laws.proofs.BoolLaws.{or_first, or_second}
 use Rattle.sc_clauses.specs.declared.lit.Lit.{Lit}
 use Rattle.sc_clauses.specs.Clauses.{Clause, lit_eq, negation, is_in, holds, clause_holds}
-use Rattle.sc_checker.specs.declared.refuting.Residual.{Residual}
-use Rattle.sc_checker.specs.declared.refuting.Residual.TheVariants.{Conflict, Unit, Open}
+use Rattle.sc_refutations.specs.declared.refuting.Residual.{Residual}
+use Rattle.sc_refutations.specs.declared.refuting.Residual.TheVariants.{Conflict, Unit, Open}
 use Rattle.sc_clauses.specs.declared.step.Instance as instance
 use Rattle.sc_clauses.specs.declared.step.Step.{Step}
 use Rattle.sc_clauses.specs.declared.step.Step.TheVariants.{Instance, Learned}
 use Rattle.sc_checker.specs.declared.checking.Reason.TheVariants.{NoInstance, NotRefuted}
-use Rattle.sc_checker.specs.Refutations.{LitSet, negated, with_lit, open_lits, residual, residual_at, clause_at, is_nil, goes_on, refutes, is_clause}
+use Rattle.sc_refutations.specs.Refutations.{LitSet, negated, with_lit, open_lits, residual, residual_at, clause_at, is_nil, goes_on, refutes, is_clause}
 use Rattle.sc_checker.specs.Verdicts.{Rules, added, Adds, no_step, first_step}
 use Rattle.sc_clauses.proofs.LitLaws.{lit_eq-true, holds_negation}
 

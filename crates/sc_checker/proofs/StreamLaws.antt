@@ -10,18 +10,18 @@ use Rattle.sc_clauses.specs.declared.step.Step.TheVariants.{Instance, Learned}
 use Rattle.sc_footprint.specs.Problems.{Posed}
 use Rattle.sc_checker.specs.declared.checking.Reason.{Reason}
 use Rattle.sc_checker.specs.declared.checking.Reason.TheVariants.{Malformed}
-use Rattle.sc_checker.specs.LineSteps.{step_of}
+use Rattle.sc_logs.specs.LineSteps.{step_of}
 use Rattle.sc_checker.specs.Progress.{Progress, start, failed, taken, unless_at_fault, after_step, after_steps}
-use Rattle.sc_checker.specs.Readings.{AreWritable, Reads}
+use Rattle.sc_logs.specs.Readings.{AreWritable, Reads}
 use Rattle.sc_checker.specs.Streams.{Checking, unread, first_words, after_reading, ended_line, after_byte, after}
-use Rattle.sc_checker.specs.Texts.{has_no_newline, step_line, steps_text, first_line}
+use Rattle.sc_logs.specs.Texts.{has_no_newline, step_line, steps_text, first_line}
 use Rattle.sc_checker.specs.Verdicts.{Rules, of_instance, of_learned}
-use Rattle.sc_checker.specs.Writable.{is_learned, is_writable}
+use Rattle.sc_logs.specs.Writable.{is_learned, is_writable}
 use Rattle.sc_footprint.specs.Written.{is_instance}
-use Rattle.sc_checker.proofs.LineLaws.{neither_read}
-use Rattle.sc_checker.proofs.LineStepLaws.{step_is}
+use Rattle.sc_logs.proofs.LineLaws.{neither_read}
+use Rattle.sc_logs.proofs.LineStepLaws.{step_is}
 use Rattle.sc_checker.proofs.ProgressLaws.{fault_stays, no_fault, none_is}
-use Rattle.sc_checker.proofs.ReadingLaws.{line_first, line_no_newline}
+use Rattle.sc_logs.proofs.ReadingLaws.{line_first, line_no_newline}
 
 abbrev pub held : Bool → List ℕ → Progress → Checking
 held begun line g = record { begun = begun; line = line; progress = g }

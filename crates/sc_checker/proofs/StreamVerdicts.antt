@@ -12,16 +12,16 @@ use Rattle.sc_checker.specs.declared.checking.Reason.{Reason}
 use Rattle.sc_checker.specs.declared.checking.Reason.TheVariants.{Malformed}
 use Rattle.sc_checker.specs.declared.checking.Verdict.{Verdict}
 use Rattle.sc_checker.specs.declared.checking.Verdict.TheVariants.{Refuted, Rejected}
-use Rattle.sc_checker.specs.LineSteps.{step_of}
+use Rattle.sc_logs.specs.LineSteps.{step_of}
 use Rattle.sc_checker.specs.Progress.{Progress, start, failed, taken, unless_at_fault, after_steps, verdict_of}
-use Rattle.sc_checker.specs.Readings.{Reads, AreWritable, IsText, BeginsWith, StopsAt}
+use Rattle.sc_logs.specs.Readings.{Reads, AreWritable, IsText, BeginsWith, StopsAt}
 use Rattle.sc_checker.specs.Streams.{unread, first_words, after_reading, after, line_number, ended, first_fault, HasVerdict, of_log, of_no_log, of_no_line, IsAcceptedText}
-use Rattle.sc_checker.specs.Texts.{has_no_newline, step_line, steps_text, first_line}
+use Rattle.sc_logs.specs.Texts.{has_no_newline, step_line, steps_text, first_line}
 use Rattle.sc_checker.specs.Verdicts.{Rules, added, next, verdict}
-use Rattle.sc_checker.specs.Writable.{is_writable}
-use Rattle.sc_checker.proofs.LineStepLaws.{step_reads}
+use Rattle.sc_logs.specs.Writable.{is_writable}
+use Rattle.sc_logs.proofs.LineStepLaws.{step_reads}
 use Rattle.sc_checker.proofs.ProgressLaws.{no_fault, steps_stay, start_verdict}
-use Rattle.sc_checker.proofs.ReadingLaws.{line_first, line_only, next_none, newline_cut}
+use Rattle.sc_logs.proofs.ReadingLaws.{line_first, line_only, next_none, newline_cut}
 use Rattle.sc_checker.proofs.StreamLaws.{not_begun, after_fault, after_part, after_whole, between, after_lines, after_log, Cut, no_end, ends, cut_of, has_newline}
 use Rattle.sc_checker.proofs.VerdictLaws.{refuted_accepted}
 

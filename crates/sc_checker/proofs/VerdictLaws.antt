@@ -14,7 +14,7 @@ use Rattle.sc_checker.specs.declared.checking.Reason.{Reason}
 use Rattle.sc_checker.specs.declared.checking.Reason.TheVariants.{NoInstance, NotEmpty, NotRefuted}
 use Rattle.sc_checker.specs.declared.checking.Verdict.{Verdict}
 use Rattle.sc_checker.specs.declared.checking.Verdict.TheVariants.{Refuted, Rejected}
-use Rattle.sc_checker.specs.Refutations.{negated, refutes, is_nil, is_listed, is_clause, are_listed}
+use Rattle.sc_refutations.specs.Refutations.{negated, refutes, is_nil, is_listed, is_clause, are_listed}
 use Rattle.sc_checker.specs.Verdicts.{Rules, added, Adds, no_step, first_step, IsAccepted, next, verdict_from, verdict}
 
 nil_length : (c : Clause) → is_nil c ≡ (length c == 0)

@@ -1,9 +1,7 @@
-pub mod Writable
-pub mod Refutations
-pub mod Known
+pub use Rattle.sc_logs.specs.Writable
+pub use Rattle.sc_logs.specs.Texts
+pub use Rattle.sc_logs.specs.Readings
+pub use Rattle.sc_refutations.specs.Refutations
 pub mod Verdicts
-pub mod Texts
-pub mod Readings
 pub mod Progress
-pub mod LineSteps
 pub mod Streams

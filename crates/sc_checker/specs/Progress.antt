@@ -11,7 +11,7 @@ use Rattle.sc_checker.specs.declared.checking.Reason.{Reason}
 use Rattle.sc_checker.specs.declared.checking.Reason.TheVariants.{NotEmpty}
 use Rattle.sc_checker.specs.declared.checking.Verdict.{Verdict}
 use Rattle.sc_checker.specs.declared.checking.Verdict.TheVariants.{Refuted, Rejected}
-use Rattle.sc_checker.specs.Refutations.{is_nil, are_listed}
+use Rattle.sc_refutations.specs.Refutations.{is_nil, are_listed}
 use Rattle.sc_checker.specs.Verdicts.{Rules, added}
 
 -- how many atoms are listed, how many steps there were, the defining clauses and those that the steps added, whether the last

@@ -8,10 +8,10 @@ use Rattle.sc_footprint.specs.Definitions.{defining}
 use Rattle.sc_checker.specs.declared.checking.Reason.TheVariants.{Malformed}
 use Rattle.sc_checker.specs.declared.checking.Verdict.{Verdict}
 use Rattle.sc_checker.specs.declared.checking.Verdict.TheVariants.{Rejected}
-use Rattle.sc_checker.specs.LineSteps.{step_of}
+use Rattle.sc_logs.specs.LineSteps.{step_of}
 use Rattle.sc_checker.specs.Progress.{Progress, start, failed, after_step, unless_at_fault, verdict_of}
-use Rattle.sc_checker.specs.Readings.{AreWritable, IsText, StopsAt}
-use Rattle.sc_checker.specs.Texts.{first_line}
+use Rattle.sc_logs.specs.Readings.{AreWritable, IsText, StopsAt}
+use Rattle.sc_logs.specs.Texts.{first_line}
 use Rattle.sc_checker.specs.Verdicts.{Rules, IsAccepted, added, next, verdict}
 
 -- What a checker holds: whether the line `log 1` was read, the bytes of the line that isn't ended yet, and what it holds of the

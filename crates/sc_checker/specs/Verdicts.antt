@@ -11,7 +11,7 @@ use Rattle.sc_checker.specs.declared.checking.Reason.{Reason}
 use Rattle.sc_checker.specs.declared.checking.Reason.TheVariants.{NoInstance, NotRefuted, NotEmpty}
 use Rattle.sc_checker.specs.declared.checking.Verdict.{Verdict}
 use Rattle.sc_checker.specs.declared.checking.Verdict.TheVariants.{Refuted, Rejected}
-use Rattle.sc_checker.specs.Refutations.{is_clause, negated, refutes, is_nil}
+use Rattle.sc_refutations.specs.Refutations.{is_clause, negated, refutes, is_nil}
 
 -- which instances the rules have, and the clause of each
 pub record Rules : Type 0 where

@@ -4,10 +4,10 @@ ghost use Rattle.sc_checker.specs.Progress.{IsChecked, after_steps};
 ghost use Rattle.sc_checker.specs.Verdicts.{Rules as AnyRules, AreRules, IsAccepted, IsRejected, verdict};
 ghost use Rattle.sc_footprint.specs.Truths.{IsUnsatisfiable};
 
-use crate::log::Log;
 use crate::steps::StepChecker;
 use sc_clauses::Step;
 use sc_footprint::{Problem, Theory};
+use sc_logs::Log;
 use std::alloc::{AllocError, Global};
 use th_defs::defining_laws;
 

@@ -1,11 +1,11 @@
 //! What holds of the checks of logs that come in pieces.
 ghost use Rattle.std.specs.Prelude.{◌≡◌, ◌↔◌, ◌++◌, ℕ, List};
-ghost use Rattle.sc_checker.specs.LineSteps.{step_of};
-ghost use Rattle.sc_checker.specs.Readings.{Reads};
+ghost use Rattle.sc_logs.specs.LineSteps.{step_of};
+ghost use Rattle.sc_logs.specs.Readings.{Reads};
 ghost use Rattle.sc_checker.specs.Streams.{Checking as AnyChecking, unread, after, ended, HasVerdict, IsAcceptedText};
-ghost use Rattle.sc_checker.specs.Texts.{step_line};
+ghost use Rattle.sc_logs.specs.Texts.{step_line};
 ghost use Rattle.sc_checker.specs.Verdicts.{Rules as AnyRules};
-ghost use Rattle.sc_checker.specs.Writable.{is_writable};
+ghost use Rattle.sc_logs.specs.Writable.{is_writable};
 ghost use Rattle.sc_footprint.specs.Problems.{Posed};
 
 use crate::checking::Verdict;

@@ -1,18 +1,16 @@
 //! The checker of a log's lines, whose bytes come in pieces.
 ghost use Rattle.std.specs.Prelude.{◌≡◌, ◌++◌, ◌∷◌, ◌<◌, [], None, OnOk, IfOk, IsTrue, MatchOption, true, length};
 ghost use Rattle.std.specs.Str.{bytes_eq};
-ghost use Rattle.sc_checker.specs.LineSteps.{step_of};
+ghost use Rattle.sc_logs.specs.LineSteps.{step_of};
 ghost use Rattle.sc_checker.specs.Progress.{IsChecked};
 ghost use Rattle.sc_checker.specs.Streams.{unread, first_words, after_reading, ended_line, line_number, after, ended};
-ghost use Rattle.sc_checker.specs.Texts.{has_no_newline};
+ghost use Rattle.sc_logs.specs.Texts.{has_no_newline};
 ghost use Rattle.sc_checker.specs.Verdicts.{Rules as AnyRules, AreRules};
 
 use crate::checking::{Reason, Verdict};
-use crate::lines::{Room, read_instance, read_learned};
-use crate::reading::cut_line;
 use crate::steps::StepChecker;
-use crate::whole_lines::read_whole;
 use sc_footprint::{Problem, Theory};
+use sc_logs::{Room, cut_line, read_instance, read_learned, read_whole};
 use std::alloc::{AllocError, Global};
 use std::marker::Model;
 use std::mem;

@@ -3,15 +3,14 @@ ghost use Rattle.std.specs.Prelude.{◌≡◌, ◌&&◌, ◌+◌, ◌<◌, None,
 ghost use Rattle.std.specs.Option.{is_some};
 ghost use Rattle.sc_lists.specs.Told.{Gives};
 ghost use Rattle.sc_checker.specs.Progress.{IsChecked, start, failed, counted, grown, taken, after_step, verdict_of};
-ghost use Rattle.sc_checker.specs.Refutations.{are_listed, is_clause, refutes, negated};
+ghost use Rattle.sc_refutations.specs.Refutations.{are_listed, is_clause, refutes, negated};
 ghost use Rattle.sc_checker.specs.Verdicts.{Rules as AnyRules, AreRules, of_instance, of_learned};
 
 use crate::checking::{Reason, Verdict};
-use crate::known::Known;
-use crate::refuting::{assume_false, follow};
-use sc_clauses::{Clause, Clauses, Instance, Lit, Step};
+use sc_clauses::{Clause, Instance, Lit, Step};
 use sc_footprint::{Problem, Theory, problem_laws};
 use sc_lists::Fault;
+use sc_refutations::{Arena, Known, is_shown};
 use std::alloc::{AllocError, Global};
 use std::marker::Model;
 use th_defs::{defining, defining_laws};
@@ -21,18 +20,18 @@ use th_defs::{defining, defining_laws};
 pub(crate) struct StepChecker {
     known: Known,
     steps: u64,
-    clauses: Clauses,
+    clauses: Arena,
     is_empty: bool,
     fault: Option<(u64, Reason)>,
 }
 
 impl Model for StepChecker {
-    ghost use Rattle.std.specs.Prelude.{◌≤◌, length};
+    ghost use Rattle.std.specs.Prelude.{◌≤◌};
     ghost use Rattle.sc_checker.specs.Progress.{Progress};
 
     ghost Value = { Progress };
 
-    ghost view = { λ c. record { listed = length c.known.marks.items; steps = c.steps; clauses = c.clauses; is_empty = c.is_empty; fault = c.fault } };
+    ghost view = { λ c. record { listed = c.known.count; steps = c.steps; clauses = c.clauses; is_empty = c.is_empty; fault = c.fault } };
 
     ghost invariant = { λ c. c.known.step ≤ c.steps };
 }
@@ -59,28 +58,6 @@ fn instance_clause<T: Theory>(
     }
 }
 
-/// Whether a learned clause is shown by its hints.
-fn is_shown(
-    known: &mut Known,
-    number: u64,
-    clauses: &Clauses,
-    clause: &[Lit],
-    hints: &[u64],
-) -> bool
-    requires later { known.old.step < number }
-    requires listed { IsTrue (are_listed (length known.old.marks.items) clauses.now) }
-    ensures shown { result ≡ is_clause (length known.old.marks.items) clause.now
-        && refutes clauses.now (negated clause.now) hints.now }
-    ensures count { length known.new.marks.items ≡ length known.old.marks.items }
-    ensures number { known.new.step ≡ number }
-{
-    known.begin(number);
-    if !assume_false(known, clause) {
-        return false;
-    }
-    follow(known, clauses, hints)
-}
-
 impl StepChecker {
     /// A checker of steps on a problem, which has taken none. The marks that it needs are taken here.
     pub(crate) fn new(alloc: Global, problem: &Problem<'_>) -> Result<StepChecker, AllocError>
@@ -89,7 +66,8 @@ impl StepChecker {
     {
         defining_laws();
         problem.laws();
-        let clauses = defining(alloc, problem)?;
+        let defined = defining(alloc, problem)?;
+        let clauses = Arena::of(alloc, &defined)?;
         let known = Known::new(alloc, problem.atom_count())?;
         Ok(StepChecker {
             known,

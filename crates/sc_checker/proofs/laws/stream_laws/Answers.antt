@@ -1,4 +1,4 @@
-use Rattle.sc_checker.proofs.LineStepLaws.{step_reads}
+use Rattle.sc_logs.proofs.LineStepLaws.{step_reads}
 use Rattle.sc_checker.proofs.StreamLaws.{after_cut}
 use Rattle.sc_checker.proofs.StreamVerdicts.{agrees, accepted_text}
 use Rattle.sc_checker.proofs.laws.stream_laws.Goals as goal

@@ -3,7 +3,7 @@ use Rattle.sc_clauses.specs.declared.step.Learned as learned
 use Rattle.sc_clauses.specs.declared.step.Step.TheVariants.{Learned}
 use Rattle.sc_checker.specs.Progress.{Progress, IsChecked}
 use Rattle.sc_checker.specs.Streams.{Checking}
-use Rattle.sc_checker.specs.Texts.{step_line}
+use Rattle.sc_logs.specs.Texts.{step_line}
 use Rattle.sc_checker.proofs.ProgressLaws.{learned_taken, learned_checked}
 use Rattle.sc_checker.proofs.StreamLaws.{line_shorter, whole_taken}
 use Rattle.sc_checker.proofs.line_checker.LineChecker.read_line.Goals as goal

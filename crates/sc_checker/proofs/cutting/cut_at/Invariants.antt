@@ -1,6 +1,0 @@
-use Rattle.std.proofs.Common.{◌≡◌, take, true}
-use Rattle.sc_checker.specs.Texts.{lacks}
-use Rattle.sc_checker.proofs.cutting.cut_at.Given as goal
-
-abbrev pub invariant-loop-i : goal.invariant-loop-i
-invariant-loop-i l = lacks l.end (take l.i l.bytes) ≡ true

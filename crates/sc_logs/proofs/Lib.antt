@@ -1,0 +1,9 @@
+mod TextLaws
+mod NumberLaws
+mod WordLaws
+mod LineWordLaws
+pub mod LineLaws
+mod WholeLineLaws
+pub mod LineStepLaws
+pub mod ReadingLaws
+mod Examples

@@ -1,0 +1,96 @@
+-- Laws of a line that is read in one pass.
+use Rattle.std.proofs.Common.{◌≡◌, ◌+◌, ◌<◌, ◌==◌, ℕ, zero, suc, List, [], ◌∷◌, ◌++◌, map, length, Bool, true, false, not, nat_lt, refl, sym, ap, ◌∙◌, append_assoc, append-nil, arith}
+use Rattle.std.specs.List.{list_all}
+use Rattle.std.specs.Fmt.{decimal}
+use Rattle.std.proofs.lemmas.Bool.{and_from, lt-ltb, true≢false}
+use Rattle.std.proofs.lemmas.Fmt.{decimal_digit}
+use Rattle.std.proofs.lemmas.List.{length-append, map-append}
+use Rattle.std.proofs.lemmas.List.Folds.{list_all-append}
+use Rattle.sc_clauses.specs.declared.lit.Lit.{Lit}
+use Rattle.sc_clauses.specs.declared.step.Learned as learned
+use Rattle.sc_clauses.specs.declared.step.Step.TheVariants.{Learned}
+use Rattle.sc_logs.specs.Texts.{lit_text, spaced, step_line}
+use Rattle.sc_logs.specs.Writable.{is_lit, is_hint, are_hints, is_learned}
+use Rattle.sc_footprint.specs.Written.{is_number}
+use Rattle.sc_logs.proofs.TextLaws.{flat_map-append, learned_written}
+
+-- ---- words with a space before each
+
+more_fit : {X : Type 0} (test : X → Bool) (xs : List X) (x : X) → list_all test xs ≡ true → test x ≡ true → list_all test (xs ++ x ∷ []) ≡ true
+more_fit test xs x e f = list_all-append test xs (x ∷ []) ∙ and_from (list_all test xs) _ e (and_from (test x) true f refl)
+
+more_text : {X : Type 0} (text : X → List ℕ) (bytes rest word later : List ℕ) (xs : List X) (x : X) → bytes ≡ spaced (map text xs) ++ rest → rest ≡ 32 ∷ word → word ≡ text x ++ later
+    → bytes ≡ spaced (map text (xs ++ x ∷ [])) ++ later
+more_text text bytes rest word later xs x is next read =
+    let moved : spaced (map text (xs ++ x ∷ [])) ≡ spaced (map text xs) ++ (32 ∷ (text x ++ []))
+    = ap spaced (map-append text xs (x ∷ [])) ∙ flat_map-append (λ w. 32 ∷ w) (map text xs) (text x ∷ []) in
+    is ∙ ap (λ t. spaced (map text xs) ++ t) (next ∙ ap (λ t. 32 ∷ t) (read ∙ ap (λ t. t ++ later) (sym (append-nil (text x)))))
+    ∙ (sym (append_assoc (spaced (map text xs)) (32 ∷ (text x ++ [])) later) ∙ ap (λ t. t ++ later) (sym moved))
+
+-- the `0` after the words
+ended_text : (front bytes rest word later : List ℕ) (n : ℕ) → bytes ≡ front ++ rest → rest ≡ 32 ∷ word → word ≡ decimal n ++ later → n ≡ 0 → bytes ≡ front ++ 32 ∷ 48 ∷ later
+ended_text front bytes rest word later n is next read none =
+    let zero_is : decimal n ≡ 48 ∷ [] = ap decimal none ∙ decimal_digit 0 (omega arith) in
+    is ∙ ap (λ t. front ++ t) (next ∙ ap (λ t. 32 ∷ t) (read ∙ ap (λ t. t ++ later) zero_is))
+
+-- what is left gets shorter
+pub word_shorter : (rest word text later : List ℕ) → rest ≡ 32 ∷ word → word ≡ text ++ later → length later < length rest
+word_shorter rest word text later next read =
+    let long : length rest ≡ suc (length word) = ap length next in
+    let short : length word ≡ length text + length later = ap length read ∙ length-append text later in
+    omega (arith, long, short)
+
+positive : (n : ℕ) → (n ≡ 0 → ⊥) → nat_lt 0 n ≡ true
+positive zero h = absurd (h refl)
+positive (suc n) h = lt-ltb 0 (suc n) (omega arith)
+
+-- ---- literals
+
+pub lits_fit : (xs : List Lit) (l : Lit) → list_all is_lit xs ≡ true → (l.atom ≡ 0 → ⊥) → is_number l.atom ≡ true → list_all is_lit (xs ++ l ∷ []) ≡ true
+lits_fit xs l fit h e = more_fit is_lit xs l fit (and_from (nat_lt 0 l.atom) (is_number l.atom) (positive l.atom h) e)
+
+pub lits_text : (bytes rest word later : List ℕ) (xs : List Lit) (l : Lit) → bytes ≡ spaced (map lit_text xs) ++ rest → rest ≡ 32 ∷ word → word ≡ lit_text l ++ later
+    → bytes ≡ spaced (map lit_text (xs ++ l ∷ [])) ++ later
+lits_text bytes rest word later xs l is next read = more_text lit_text bytes rest word later xs l is next read
+
+positive_text : (n : ℕ) (b : Bool) → b ≡ false → lit_text (record { atom = n; negated = b }) ≡ decimal n
+positive_text n true e = absurd (true≢false e)
+positive_text n false e = refl
+
+pub lits_ended : (bytes rest word later : List ℕ) (xs : List Lit) (l : Lit) → bytes ≡ spaced (map lit_text xs) ++ rest → rest ≡ 32 ∷ word → word ≡ lit_text l ++ later → l.atom ≡ 0 → l.negated ≡ false
+    → bytes ≡ spaced (map lit_text xs) ++ 32 ∷ 48 ∷ later
+lits_ended bytes rest word later xs l is next read none e =
+    ended_text (spaced (map lit_text xs)) bytes rest word later l.atom is next (read ∙ ap (λ t. t ++ later) (positive_text l.atom l.negated e)) none
+
+-- ---- hints
+
+pub hints_fit : (xs : List ℕ) (h : ℕ) → list_all is_hint xs ≡ true → (h ≡ 0 → ⊥) → is_number h ≡ true → list_all is_hint (xs ++ h ∷ []) ≡ true
+hints_fit xs h fit p e = more_fit is_hint xs h fit (and_from (nat_lt 0 h) (is_number h) (positive h p) e)
+
+pub hints_text : (bytes rest word later xs : List ℕ) (h : ℕ) → bytes ≡ spaced (map decimal xs) ++ rest → rest ≡ 32 ∷ word → word ≡ decimal h ++ later
+    → bytes ≡ spaced (map decimal (xs ++ h ∷ [])) ++ later
+hints_text bytes rest word later xs h is next read = more_text decimal bytes rest word later xs h is next read
+
+pub hints_ended : (bytes rest word later xs : List ℕ) (h : ℕ) → bytes ≡ spaced (map decimal xs) ++ rest → rest ≡ 32 ∷ word → word ≡ decimal h ++ later → h ≡ 0
+    → bytes ≡ spaced (map decimal xs) ++ 32 ∷ 48 ∷ later
+hints_ended bytes rest word later xs h is next read none = ended_text (spaced (map decimal xs)) bytes rest word later h is next read none
+
+-- ---- the line
+
+pub learned_fits : (clause : List Lit) (hints : List ℕ) (n : ℕ) → list_all is_lit clause ≡ true → list_all is_hint hints ≡ true → n ≡ length hints → false ≡ (n == 0)
+    → is_learned (record { clause = clause; hints = hints }) ≡ true
+learned_fits clause hints n lits fit size some =
+    and_from (list_all is_lit clause) (are_hints hints) lits (and_from (not (length hints == 0)) (list_all is_hint hints) (ap not (ap (λ k. k == 0) (sym size) ∙ sym some)) fit)
+
+flat : (a b rest : List ℕ) → (((((108 ∷ []) ++ a) ++ 32 ∷ 48 ∷ []) ++ b) ++ 32 ∷ 48 ∷ []) ++ 10 ∷ rest ≡ 108 ∷ (a ++ 32 ∷ 48 ∷ (b ++ 32 ∷ 48 ∷ 10 ∷ rest))
+flat a b rest = simp append_assoc
+
+-- the line of a learned clause, and its newline
+pub whole_text : (bytes lits later end rest : List ℕ) (clause : List Lit) (hints : List ℕ) → bytes ≡ 108 ∷ lits → lits ≡ spaced (map lit_text clause) ++ 32 ∷ 48 ∷ later
+    → later ≡ spaced (map decimal hints) ++ 32 ∷ 48 ∷ end → end ≡ 10 ∷ rest → bytes ≡ step_line (Learned (record { clause = clause; hints = hints })) ++ 10 ∷ rest
+whole_text bytes lits later end rest clause hints first second third last =
+    let l : learned.Learned = record { clause = clause; hints = hints } in
+    let a = spaced (map lit_text clause) in
+    let b = spaced (map decimal hints) in
+    first ∙ (ap (λ t. 108 ∷ t) (second ∙ ap (λ t. a ++ 32 ∷ 48 ∷ t) (third ∙ ap (λ t. b ++ 32 ∷ 48 ∷ t) last))
+    ∙ (sym (flat a b rest) ∙ ap (λ t. t ++ 10 ∷ rest) (learned_written [] l)))

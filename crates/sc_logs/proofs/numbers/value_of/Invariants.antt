@@ -1,0 +1,10 @@
+use Rattle.std.proofs.Common.{◌≡◌, take}
+use Rattle.std.specs.Str.Parse.{AllDigits, digits_value}
+use Rattle.sc_logs.proofs.numbers.value_of.Given as goal
+
+-- the bytes before are digits, and their value is known
+abbrev pub invariant-loop-byte : goal.invariant-loop-byte
+invariant-loop-byte l = record {
+  digits : AllDigits 10 (take l.byte-index l.word);
+  value : l.value ≡ digits_value 10 (take l.byte-index l.word);
+}

@@ -1,0 +1,4 @@
+pub mod Writable
+pub mod Texts
+pub mod Readings
+pub mod LineSteps

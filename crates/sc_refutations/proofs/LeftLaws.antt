@@ -1,0 +1,71 @@
+-- What is left of the clause that numbers begin with, one number after another.
+use Rattle.std.proofs.Common.{◌≡◌, ◌+◌, ◌<◌, ◌≤◌, ℕ, List, [], ◌∷◌, ◌++◌, drop, get_or, length, Bool, true, false, not, cond, ◌&&◌, Option, Some, None, refl, sym, ap, ◌∙◌, append-nil}
+use Rattle.std.specs.List.{list_all}
+use Rattle.std.specs.Option.{option_to_list}
+use Rattle.std.proofs.lemmas.Bool.{not-true, true≢false}
+use Rattle.sc_clauses.specs.declared.lit.Lit.{Lit}
+use Rattle.sc_clauses.specs.Clauses.{Clause, lit_eq, negation}
+use Rattle.sc_clauses.proofs.LitLaws.{lit_eq-true}
+use Rattle.sc_refutations.specs.declared.refuting.Residual.{Residual}
+use Rattle.sc_refutations.specs.declared.refuting.Residual.TheVariants.{Unit, Open}
+use Rattle.sc_refutations.specs.Arenas.{lit_of, run}
+use Rattle.sc_refutations.specs.Refutations.{LitSet, open_lits, residual, is_other}
+use Rattle.sc_refutations.proofs.ArenaLaws.{run_stops, run_goes, run_past}
+
+-- what is left from a place on, where the literal there is false or not
+left_at : (known : LitSet) (codes : List ℕ) (i : ℕ) (t : Bool) → i < length codes → (get_or codes i 0 ≡ 0 → ⊥) → known (negation (lit_of (get_or codes i 0))) ≡ t
+    → open_lits known (run (drop i codes)) ≡ cond (not t) (lit_of (get_or codes i 0) ∷ open_lits known (run (drop (i + 1) codes))) (open_lits known (run (drop (i + 1) codes)))
+left_at known codes i t h some e =
+    ap (open_lits known) (run_goes codes i h some)
+    ∙ ap (λ (b : Bool). cond (not b) (lit_of (get_or codes i 0) ∷ open_lits known (run (drop (i + 1) codes))) (open_lits known (run (drop (i + 1) codes)))) e
+
+pub left_skipped : (known : LitSet) (codes : List ℕ) (i : ℕ) (found : Option Lit) (w : Residual) → i < length codes → (get_or codes i 0 ≡ 0 → ⊥)
+    → known (negation (lit_of (get_or codes i 0))) ≡ true → residual (option_to_list found ++ open_lits known (run (drop i codes))) ≡ w
+    → residual (option_to_list found ++ open_lits known (run (drop (i + 1) codes))) ≡ w
+left_skipped known codes i found w h some e is = ap (λ (c : Clause). residual (option_to_list found ++ c)) (sym (left_at known codes i true h some e)) ∙ is
+
+second_same : (o l : Lit) (rest : Clause) → lit_eq o l ≡ true → residual (o ∷ l ∷ rest) ≡ residual (o ∷ rest)
+second_same o l rest e = ap (λ (b : Bool). cond (b && list_all (lit_eq o) rest) (Unit o) Open) e
+
+second_other : (o l : Lit) (rest : Clause) → lit_eq o l ≡ false → residual (o ∷ l ∷ rest) ≡ Open
+second_other o l rest e = ap (λ (b : Bool). cond (b && list_all (lit_eq o) rest) (Unit o) Open) e
+
+not-false : (b : Bool) → not b ≡ false → b ≡ true
+not-false true e = refl
+not-false false e = absurd (true≢false e)
+
+taken_by : (found : Option Lit) (l : Lit) (rest : Clause) → is_other found l ≡ false → residual (option_to_list found ++ l ∷ rest) ≡ residual (l ∷ rest)
+taken_by None l rest e = refl
+taken_by (Some o) l rest e =
+    let same : lit_eq o l ≡ true = not-false (lit_eq o l) e in
+    second_same o l rest same ∙ ap (λ (m : Lit). residual (m ∷ rest)) (lit_eq-true o l same)
+
+open_by : (found : Option Lit) (l : Lit) (rest : Clause) → is_other found l ≡ true → residual (option_to_list found ++ l ∷ rest) ≡ Open
+open_by None l rest e = absurd (true≢false (sym e))
+open_by (Some o) l rest e = second_other o l rest (not-true (lit_eq o l) e)
+
+pub left_taken : (known : LitSet) (codes : List ℕ) (i : ℕ) (found : Option Lit) (w : Residual) → i < length codes → (get_or codes i 0 ≡ 0 → ⊥)
+    → known (negation (lit_of (get_or codes i 0))) ≡ false → is_other found (lit_of (get_or codes i 0)) ≡ false
+    → residual (option_to_list found ++ open_lits known (run (drop i codes))) ≡ w → residual (lit_of (get_or codes i 0) ∷ open_lits known (run (drop (i + 1) codes))) ≡ w
+left_taken known codes i found w h some e same is =
+    sym (taken_by found (lit_of (get_or codes i 0)) (open_lits known (run (drop (i + 1) codes))) same)
+    ∙ (ap (λ (c : Clause). residual (option_to_list found ++ c)) (sym (left_at known codes i false h some e)) ∙ is)
+
+pub left_open : (known : LitSet) (codes : List ℕ) (i : ℕ) (found : Option Lit) (w : Residual) → i < length codes → (get_or codes i 0 ≡ 0 → ⊥)
+    → known (negation (lit_of (get_or codes i 0))) ≡ false → is_other found (lit_of (get_or codes i 0)) ≡ true
+    → residual (option_to_list found ++ open_lits known (run (drop i codes))) ≡ w → Open ≡ w
+left_open known codes i found w h some e other is =
+    sym (open_by found (lit_of (get_or codes i 0)) (open_lits known (run (drop (i + 1) codes))) other)
+    ∙ (ap (λ (c : Clause). residual (option_to_list found ++ c)) (sym (left_at known codes i false h some e)) ∙ is)
+
+none_left : (known : LitSet) (found : Option Lit) (c : Clause) (w : Residual) → c ≡ [] → residual (option_to_list found ++ open_lits known c) ≡ w → residual (option_to_list found) ≡ w
+none_left known found c w e is =
+    ap residual (sym (append-nil (option_to_list found))) ∙ (ap (λ (d : Clause). residual (option_to_list found ++ open_lits known d)) (sym e) ∙ is)
+
+pub left_ended : (known : LitSet) (codes : List ℕ) (i : ℕ) (found : Option Lit) (w : Residual) → i < length codes → get_or codes i 0 ≡ 0
+    → residual (option_to_list found ++ open_lits known (run (drop i codes))) ≡ w → residual (option_to_list found) ≡ w
+left_ended known codes i found w h zero_is is = none_left known found (run (drop i codes)) w (run_stops codes i h zero_is) is
+
+pub left_past : (known : LitSet) (codes : List ℕ) (i : ℕ) (found : Option Lit) (w : Residual) → length codes ≤ i
+    → residual (option_to_list found ++ open_lits known (run (drop i codes))) ≡ w → residual (option_to_list found) ≡ w
+left_past known codes i found w h is = none_left known found (run (drop i codes)) w (run_past codes i h) is

@@ -1,0 +1,4 @@
+mod ArenaLaws
+mod KnownLaws
+mod LeftLaws
+mod RefutationLaws

@@ -1,0 +1,12 @@
+use Rattle.std.proofs.Common.{◌≡◌, ◌++◌, drop}
+use Rattle.std.specs.Option.{option_to_list}
+use Rattle.sc_refutations.specs.Arenas.{run}
+use Rattle.sc_refutations.specs.Known.{marked}
+use Rattle.sc_refutations.specs.Refutations.{residual, open_lits}
+use Rattle.sc_refutations.proofs.refuting.left_of.Given as goal
+
+-- what was found before the rest of the clause, and the rest, leave what the whole clause leaves
+abbrev pub invariant-loop-code : goal.invariant-loop-code
+invariant-loop-code l =
+    residual (option_to_list l.found ++ open_lits (marked l.known.step l.known.marks.items) (run (drop l.code-index l.codes)))
+    ≡ residual (open_lits (marked l.known.step l.known.marks.items) (run l.codes))

@@ -1,0 +1,3 @@
+pub mod Arenas
+pub mod Refutations
+pub mod Known

@@ -1,0 +1,11 @@
+//! Clauses in one array of numbers, and whether the hints of a learned clause show it: unit propagation along the
+//! clauses that they name ends in a conflict.
+#![tactic(auto)]
+
+mod arena;
+mod known;
+mod refuting;
+
+pub use arena::Arena;
+pub use known::Known;
+pub use refuting::{Residual, is_shown};

@@ -1,0 +1,158 @@
+//! Whether the hints of a learned clause show it.
+ghost use Rattle.std.specs.Prelude.{◌≡◌, ◌&&◌, ◌<◌, false, not, option_map, IsTrue};
+ghost use Rattle.std.specs.Option.{option_copied, option_to_list};
+ghost use Rattle.sc_refutations.specs.Arenas.{run};
+ghost use Rattle.sc_refutations.specs.Known.{marked};
+ghost use Rattle.sc_refutations.specs.Refutations.{residual, is_other, open_lits, residual_at, clause_at, is_listed, is_clause, are_listed, negated, refutes};
+
+use crate::arena::{Arena, lit_of};
+use crate::known::Known;
+use sc_clauses::{Lit, is_same, negation};
+
+/// What is left of a clause where its false literals are left out.
+#[derive(Clone, Copy)]
+pub enum Residual {
+    /// Nothing.
+    Conflict,
+    /// One literal, which is true where the clause is.
+    Unit(Lit),
+    /// Several literals.
+    Open,
+}
+
+/// What is left where this literal is, or none.
+#[inline(always)]
+fn left_by(found: Option<Lit>) -> Residual
+    ensures { result ≡ residual (option_to_list found) }
+{
+    match found {
+        Some(lit) => Residual::Unit(lit),
+        None => Residual::Conflict,
+    }
+}
+
+/// Whether another literal was found before this one.
+#[inline(always)]
+fn is_other(found: Option<Lit>, lit: Lit) -> bool
+    ensures { result ≡ is_other found lit }
+{
+    match found {
+        Some(other) => !is_same(other, lit),
+        None => false,
+    }
+}
+
+/// What is left of the clause that numbers begin with, where these literals are true.
+#[inline(always)]
+fn left_of(known: &Known, codes: &[u32]) -> Residual
+    ensures { result ≡ residual (open_lits (marked known.now.step known.now.marks.items) (run codes.now)) }
+{
+    let mut found: Option<Lit> = None;
+    for code in codes {
+        if *code == 0 {
+            return left_by(found);
+        }
+        if !known.is_false(*code) {
+            let lit = lit_of(*code);
+            if is_other(found, lit) {
+                return Residual::Open;
+            }
+            found = Some(lit);
+        }
+    }
+    left_by(found)
+}
+
+/// What begins with the numbers of the clause of a number, counted from 1.
+#[inline(always)]
+fn clause_at(clauses: &Arena, number: u64) -> Option<&[u32]>
+    ensures { option_map run (option_copied result) ≡ clause_at clauses.now number }
+{
+    if number == 0 {
+        return None;
+    }
+    clauses.get((number - 1) as usize)
+}
+
+#[inline(always)]
+fn left_at(known: &Known, clauses: &Arena, number: u64) -> Residual
+    ensures { result ≡ residual_at (marked known.now.step known.now.marks.items) (clause_at clauses.now number) }
+{
+    match clause_at(clauses, number) {
+        Some(codes) => left_of(known, codes),
+        None => Residual::Open,
+    }
+}
+
+/// Whether a literal is of a listed atom.
+#[inline(always)]
+fn is_listed(count: u64, lit: Lit) -> bool
+    ensures { result ≡ is_listed count lit }
+{
+    0 < lit.atom && lit.atom <= count
+}
+
+/// Whether a literal is of a listed atom, and isn't known to be true.
+#[inline(always)]
+fn is_free(known: &Known, lit: Lit) -> bool
+    ensures { result ≡ (is_listed known.now.count lit
+        && not (marked known.now.step known.now.marks.items lit)) }
+{
+    is_listed(known.count, lit) && !known.contains(lit)
+}
+
+/// Takes the literals of a clause as false. It stops at one that is of no listed atom, or true.
+fn assume_false(known: &mut Known, clause: &[Lit]) -> bool
+    requires { marked known.old.step known.old.marks.items ≡ λ _. false }
+    ensures clause { result ≡ is_clause known.old.count clause.now }
+    ensures known { IsTrue result → marked known.new.step known.new.marks.items ≡ negated clause.now }
+    ensures count { known.new.count ≡ known.old.count }
+    ensures number { known.new.step ≡ known.old.step }
+{
+    for lit in clause {
+        if !is_free(known, *lit) {
+            return false;
+        }
+        known.insert(negation(*lit));
+    }
+    true
+}
+
+/// Whether each hint in turn leaves one literal, which is true from then on, and the last none.
+fn follow(known: &mut Known, clauses: &Arena, hints: &[u64]) -> bool
+    requires { IsTrue (are_listed known.old.count clauses.now) }
+    ensures shown { result ≡ refutes clauses.now (marked known.old.step known.old.marks.items) hints.now }
+    ensures count { known.new.count ≡ known.old.count }
+    ensures number { known.new.step ≡ known.old.step }
+{
+    for (i, hint) in hints.iter().enumerate() {
+        match left_at(known, clauses, *hint) {
+            Residual::Conflict => return i + 1 == hints.len(),
+            Residual::Unit(lit) => known.insert(lit),
+            Residual::Open => return false,
+        }
+    }
+    false
+}
+
+/// Whether a learned clause is shown by its hints.
+pub fn is_shown(
+    known: &mut Known,
+    number: u64,
+    clauses: &Arena,
+    clause: &[Lit],
+    hints: &[u64],
+) -> bool
+    requires later { known.old.step < number }
+    requires listed { IsTrue (are_listed known.old.count clauses.now) }
+    ensures shown { result ≡ is_clause known.old.count clause.now
+        && refutes clauses.now (negated clause.now) hints.now }
+    ensures count { known.new.count ≡ known.old.count }
+    ensures number { known.new.step ≡ number }
+{
+    known.begin(number);
+    if !assume_false(known, clause) {
+        return false;
+    }
+    follow(known, clauses, hints)
+}
