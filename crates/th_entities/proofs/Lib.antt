@@ -1,5 +1,10 @@
 mod FreeLaws
+mod LeftLaws
+mod LiftedLaws
+mod ListedLaws
+mod MembershipLaws
 mod PastLaws
 mod PruneLaws
+mod RunLaws
 mod WholeLaws
 mod TheoryLaws

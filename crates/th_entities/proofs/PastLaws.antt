@@ -3,12 +3,12 @@ use Rattle.std.proofs.Common.{◌≡◌, ℕ, false, Option, Some, None, refl, a
 use Rattle.sc_clauses.specs.Assignments.{Assignment}
 use Rattle.sc_terms.specs.Trees.{Tree}
 use Rattle.sc_footprint.specs.Problems.{Posed, term_of}
-use Rattle.sc_instances.specs.declared.rule.EntityRule.TheVariants.{En1, En2, En3, En4, En5, En6, En7, En8}
+use Rattle.sc_instances.specs.declared.rule.EntityRule.TheVariants.{En1, En2, En3, En6, En7, En8}
 use Rattle.sc_instances.specs.Attributes.{attributes_of, en1_of}
-use Rattle.sc_instances.specs.Instances.{on_one, on_two, on_three, on_four}
+use Rattle.sc_instances.specs.Instances.{on_one, on_two, on_three}
 use Rattle.sc_instances.specs.Known.{is_falsified}
 use Rattle.sc_rules.specs.Signed.{Said}
-use Rattle.sc_rules.specs.Entities.{en2, en3, en4, en5, en6, en7, en8}
+use Rattle.sc_rules.specs.Entities.{en2, en3, en6, en7, en8}
 use Rattle.th_entities.specs.Free.{IsFree}
 
 pub free_none : (p : Posed) (m : Assignment) (said : Said) → said ≡ None → is_falsified p m said ≡ false
@@ -28,21 +28,6 @@ three_third (Some a) (Some b) rule = refl
 three_third (Some a) None rule = refl
 three_third None q rule = refl
 
-four_second : (o r s : Option Tree) (rule : Tree → Tree → Tree → Tree → Said) → on_four o None r s rule ≡ None
-four_second (Some a) r s rule = refl
-four_second None r s rule = refl
-
-four_third : (o q s : Option Tree) (rule : Tree → Tree → Tree → Tree → Said) → on_four o q None s rule ≡ None
-four_third (Some a) (Some b) s rule = refl
-four_third (Some a) None s rule = refl
-four_third None q s rule = refl
-
-four_last : (o q r : Option Tree) (rule : Tree → Tree → Tree → Tree → Said) → on_four o q r None rule ≡ None
-four_last (Some a) (Some b) (Some c) rule = refl
-four_last (Some a) (Some b) None rule = refl
-four_last (Some a) None r rule = refl
-four_last None q r rule = refl
-
 module _ (p : Posed) (m : Assignment) where
   abbrev rule1 : Tree → Tree → Said
   rule1 t u = en1_of t u (attributes_of p t) (attributes_of p u)
@@ -52,9 +37,6 @@ module _ (p : Posed) (m : Assignment) where
 
   pub past1f : (e f : ℕ) → term_of p f ≡ None → IsFree p m (En1 e f)
   past1f e f gone = free_none p m _ (ap (λ (o : Option Tree). on_two (term_of p e) o rule1) gone ∙ two_second (term_of p e) rule1)
-
-  pub past2x : (x s z : ℕ) → term_of p x ≡ None → IsFree p m (En2 x s z)
-  past2x x s z gone = free_none p m _ (ap (λ (o : Option Tree). on_three o (term_of p s) (term_of p z) en2) gone)
 
   pub past2s : (x s z : ℕ) → term_of p s ≡ None → IsFree p m (En2 x s z)
   past2s x s z gone = free_none p m _ (ap (λ (o : Option Tree). on_three (term_of p x) o (term_of p z) en2) gone ∙ three_second (term_of p x) (term_of p z) en2)
@@ -67,21 +49,6 @@ module _ (p : Posed) (m : Assignment) where
 
   pub past3b : (a b : ℕ) → term_of p b ≡ None → IsFree p m (En3 a b)
   past3b a b gone = free_none p m _ (ap (λ (o : Option Tree). on_two (term_of p a) o en3) gone ∙ two_second (term_of p a) en3)
-
-  pub past4 : (e : ℕ) → term_of p e ≡ None → IsFree p m (En4 e)
-  past4 e gone = free_none p m _ (ap (λ (o : Option Tree). on_one o en4) gone)
-
-  pub past5e : (e f x u : ℕ) → term_of p e ≡ None → IsFree p m (En5 e f x u)
-  past5e e f x u gone = free_none p m _ (ap (λ (o : Option Tree). on_four o (term_of p f) (term_of p x) (term_of p u) en5) gone)
-
-  pub past5f : (e f x u : ℕ) → term_of p f ≡ None → IsFree p m (En5 e f x u)
-  past5f e f x u gone = free_none p m _ (ap (λ (o : Option Tree). on_four (term_of p e) o (term_of p x) (term_of p u) en5) gone ∙ four_second (term_of p e) (term_of p x) (term_of p u) en5)
-
-  pub past5x : (e f x u : ℕ) → term_of p x ≡ None → IsFree p m (En5 e f x u)
-  past5x e f x u gone = free_none p m _ (ap (λ (o : Option Tree). on_four (term_of p e) (term_of p f) o (term_of p u) en5) gone ∙ four_third (term_of p e) (term_of p f) (term_of p u) en5)
-
-  pub past5u : (e f x u : ℕ) → term_of p u ≡ None → IsFree p m (En5 e f x u)
-  past5u e f x u gone = free_none p m _ (ap (λ (o : Option Tree). on_four (term_of p e) (term_of p f) (term_of p x) o en5) gone ∙ four_last (term_of p e) (term_of p f) (term_of p x) en5)
 
   pub past6 : (a : ℕ) → term_of p a ≡ None → IsFree p m (En6 a)
   past6 a gone = free_none p m _ (ap (λ (o : Option Tree). on_one o en6) gone)

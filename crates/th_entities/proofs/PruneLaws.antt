@@ -1,26 +1,26 @@
 -- Where a test of some terms fails, no instance with these is falsified.
-use Rattle.std.proofs.Common.{◌≡◌, ◌≢◌, ◌≤◌, ◌∙◌, ◌&&◌, ℕ, Bool, true, false, List, [], ◌∷◌, Option, Some, None, is_some, refl, ap, subst, arith}
-use Rattle.sc_laws.proofs.OptionLaws.{same_some}
+use Rattle.std.proofs.Common.{◌≡◌, ◌≢◌, ◌∙◌, ◌&&◌, ℕ, Bool, true, false, List, [], ◌∷◌, Option, Some, None, is_some, refl, ap, subst}
 use Rattle.sc_clauses.specs.declared.lit.Lit.{Lit}
 use Rattle.sc_clauses.specs.Assignments.{Assignment}
 use Rattle.sc_clauses.specs.Clauses.{negation}
+use Rattle.sc_nodes.specs.declared.node.Leaf.TheVariants.{Literal}
+use Rattle.sc_nodes.specs.declared.node.Literal.TheVariants as literal
 use Rattle.sc_nodes.specs.declared.node.UnaryOp.TheVariants as unary
 use Rattle.sc_nodes.specs.declared.node.BinaryOp.TheVariants as binary
 use Rattle.sc_terms.specs.Trees.{Tree, leaf, one, two, choice, many}
-use Rattle.sc_terms.specs.TreeSorts.{tree_sort}
-use Rattle.sc_terms.specs.Order.{tree_eq}
 use Rattle.sc_terms.specs.Folds.{equal_term}
 use Rattle.sc_footprint.specs.Problems.{Posed, literal_in, term_of}
-use Rattle.sc_instances.specs.declared.rule.EntityRule.TheVariants.{En1, En2, En3, En5, En7}
+use Rattle.sc_instances.specs.declared.rule.EntityRule.TheVariants.{En1, En2, En3, En7}
 use Rattle.sc_instances.specs.Clauses.{clause_for, literal_for, said_clause}
-use Rattle.sc_instances.specs.Instances.{entity_said, on_two, on_three, on_four}
+use Rattle.sc_instances.specs.Instances.{entity_said, on_two, on_three}
 use Rattle.sc_instances.proofs.FalseLaws.{false_known, false_negation}
 use Rattle.sc_instances.specs.Known.{is_broken, is_falsified, known}
 use Rattle.sc_instances.specs.Saying.{count_of, literal_of}
 use Rattle.sc_rules.specs.Signed.{Signed, Said, so, unless, given}
-use Rattle.sc_rules.specs.Entities.{en2, en3, en5, en7, same_sets}
+use Rattle.sc_rules.specs.Entities.{en2, en3, en7, en7_by, same_sets}
 use Rattle.sc_rules.specs.Terms.{above, member}
-use Rattle.th_entities.specs.Free.{IsFree, is_head_out, is_second_out, is_out, is_stored, is_tag}
+use Rattle.sc_entity_rows.specs.Rows.{above_name, declared_in}
+use Rattle.th_entities.specs.Free.{IsFree, is_head_out, is_out, is_stored, is_tag}
 use Rattle.th_entities.proofs.PastLaws.{free_none}
 
 module _ (p : Posed) (m : Assignment) where
@@ -38,14 +38,6 @@ module _ (p : Posed) (m : Assignment) where
   head_of None n l b e h f g = absurd cc
   head_of (Some []) n l b e h f g = absurd (let z : n ≡ 0 = cc in h z)
   head_of (Some (s ∷ parts)) n l b e h f g = g ∙ ap (is_out m) f
-
-  -- the second, where it has so many
-  pub second_of : (said : Said) (n : ℕ) (l : Lit) (b : Bool) → Some n ≡ count_of said → 2 ≤ n → l ≡ literal_of p said 1 → b ≡ is_out m l → b ≡ is_second_out p m said
-  unfolding said_clause
-  second_of None n l b e h f g = absurd cc
-  second_of (Some []) n l b e h f g = absurd (let z : n ≡ 0 = same_some e in omega (arith, z, h))
-  second_of (Some (s ∷ [])) n l b e h f g = absurd (let z : n ≡ 1 = same_some e in omega (arith, z, h))
-  second_of (Some (s ∷ t ∷ parts)) n l b e h f g = g ∙ ap (is_out m) f
 
   pub prune1 : (e f : ℕ) → ((g : ℕ) → entity_said p (En1 e g) ≡ None) → IsFree p m (En1 e f)
   prune1 e f h = free_none p m _ (h f)
@@ -80,7 +72,7 @@ module _ (p : Posed) (m : Assignment) where
   opposed true true false h = refl
   opposed true true true h = absurd (h refl refl)
 
-  both_out : (l : Lit) → is_out m (negation l) ≡ true → is_out m l ≡ true → ⊥
+  pub both_out : (l : Lit) → is_out m (negation l) ≡ true → is_out m l ≡ true → ⊥
   both_out l e f = let one : known m l ≡ Some true = false_negation m l e in let other : known m l ≡ Some false = false_known m l f in absurd cc
 
   itself : (s : Signed) (t : Tree) → is_falsified p m (Some (s ∷ unless t ∷ so t ∷ [])) ≡ false
@@ -119,6 +111,24 @@ module _ (p : Posed) (m : Assignment) where
   pub prune2s : (x s z : ℕ) → is_stored (term_of p s) ≡ false → IsFree p m (En2 x s z)
   prune2s x s z = on_stored2 (term_of p x) (term_of p s) (term_of p z)
 
+  second_stored2 : (x s z : Tree) → is_stored (Some z) ≡ false → en2 x s z ≡ None
+  second_stored2 x (one o e) (one (unary.Ancestors k) f) h = absurd cc
+  second_stored2 x (one o e) (one unary.Keys f) h = absurd cc
+  second_stored2 x (one (unary.Ancestors k) e) (one _ f) h = refl
+  second_stored2 x (one unary.Keys e) (one _ f) h = refl
+  second_stored2 x (one _ e) (one _ f) h = refl
+  second_stored2 x (one o e) _ h = refl
+  second_stored2 x _ z h = refl
+
+  on_second_stored2 : (o q r : Option Tree) → is_stored r ≡ false → is_falsified p m (on_three o q r en2) ≡ false
+  on_second_stored2 (Some x) (Some s) (Some z) h = free_none p m _ (second_stored2 x s z h)
+  on_second_stored2 (Some x) (Some s) None h = free_none p m None refl
+  on_second_stored2 (Some x) None r h = free_none p m None refl
+  on_second_stored2 None q r h = free_none p m None refl
+
+  pub prune2_second : (x s z : ℕ) → is_stored (term_of p z) ≡ false → IsFree p m (En2 x s z)
+  prune2_second x s z = on_second_stored2 (term_of p x) (term_of p s) (term_of p z)
+
   -- ---- EN3
 
   tag3 : (a b : Tree) → is_tag (Some a) ≡ false → en3 a b ≡ None
@@ -133,94 +143,22 @@ module _ (p : Posed) (m : Assignment) where
   pub prune3 : (a b : ℕ) → is_tag (term_of p a) ≡ false → IsFree p m (En3 a b)
   prune3 a b = on_tag3 (term_of p a) (term_of p b)
 
-  -- ---- EN5
-
-  head5 : (e f x u : Tree) → is_head_out p m (en5 e f f u) ≡ false → is_falsified p m (en5 e f x u) ≡ false
-  head5 e f x (one (unary.Ancestors k) g) h =
-      given_head (tree_eq f g) (unless (member f (above (tree_sort f) e))) (unless (member x (above k g)) ∷ so (member x (above k e)) ∷ []) (unless (member f (above k g)) ∷ so (member f (above k e)) ∷ []) h
-  head5 e f x _ h = free_none p m None refl
-
-  on_head5 : (o q r t : Option Tree) → is_head_out p m (on_four o q q t en5) ≡ false → is_falsified p m (on_four o q r t en5) ≡ false
-  on_head5 (Some e) (Some f) (Some x) (Some u) h = head5 e f x u h
-  on_head5 (Some e) (Some f) (Some x) None h = free_none p m None refl
-  on_head5 (Some e) (Some f) None t h = free_none p m None refl
-  on_head5 (Some e) None r t h = free_none p m None refl
-  on_head5 None q r t h = free_none p m None refl
-
-  pub prune5 : (e f x u : ℕ) → is_head_out p m (entity_said p (En5 e f f u)) ≡ false → IsFree p m (En5 e f x u)
-  prune5 e f x u = on_head5 (term_of p e) (term_of p f) (term_of p x) (term_of p u)
-
-  no_second : (a b : Bool) → (a && (false && b)) ≡ false
-  no_second true b = refl
-  no_second false b = refl
-
-  second_free : (s t : Signed) (parts : List Signed) → is_out m (literal_for p t) ≡ false → is_falsified p m (Some (s ∷ t ∷ parts)) ≡ false
-  unfolding is_falsified
-  second_free s t parts h =
-      ap (λ (b : Bool). is_out m (literal_for p s) && (b && is_broken m (clause_for p parts))) h ∙ no_second (is_out m (literal_for p s)) (is_broken m (clause_for p parts))
-
-  given_second : (test : Bool) (s t : Signed) (parts : List Signed) → is_second_out p m (given test (s ∷ t ∷ parts)) ≡ false → is_falsified p m (given test (s ∷ t ∷ parts)) ≡ false
-  given_second true s t parts h = second_free s t parts h
-  given_second false s t parts h = free_none p m None refl
-
-  second5 : (e f x u : Tree) → is_second_out p m (en5 e f x u) ≡ false → is_falsified p m (en5 e f x u) ≡ false
-  second5 e f x (one (unary.Ancestors k) g) h = given_second (tree_eq f g) (unless (member f (above (tree_sort f) e))) (unless (member x (above k g))) (so (member x (above k e)) ∷ []) h
-  second5 e f x _ h = free_none p m None refl
-
-  on_second5 : (o q r t : Option Tree) → is_second_out p m (on_four o q r t en5) ≡ false → is_falsified p m (on_four o q r t en5) ≡ false
-  on_second5 (Some e) (Some f) (Some x) (Some u) h = second5 e f x u h
-  on_second5 (Some e) (Some f) (Some x) None h = free_none p m None refl
-  on_second5 (Some e) (Some f) None t h = free_none p m None refl
-  on_second5 (Some e) None r t h = free_none p m None refl
-  on_second5 None q r t h = free_none p m None refl
-
-  pub prune5x : (e f x u : ℕ) → is_second_out p m (entity_said p (En5 e f x u)) ≡ false → IsFree p m (En5 e f x u)
-  prune5x e f x u = on_second5 (term_of p e) (term_of p f) (term_of p x) (term_of p u)
-
-  given_said : (test : Bool) (parts others : List Signed) → is_some (count_of (given test others)) ≡ false → is_falsified p m (given test parts) ≡ false
-  given_said true parts others h = absurd cc
-  given_said false parts others h = free_none p m None refl
-
-  said5 : (e f x u : Tree) → is_some (count_of (en5 u f u u)) ≡ false → is_falsified p m (en5 e f x u) ≡ false
-  said5 e f x (one (unary.Ancestors k) g) h =
-      given_said (tree_eq f g) (unless (member f (above (tree_sort f) e)) ∷ unless (member x (above k g)) ∷ so (member x (above k e)) ∷ [])
-      (unless (member f (above (tree_sort f) (above k g))) ∷ unless (member (above k g) (above k g)) ∷ so (member (above k g) (above k (above k g))) ∷ []) h
-  said5 e f x _ h = free_none p m None refl
-
-  on_said5 : (o q r t : Option Tree) → is_some (count_of (on_four t q t t en5)) ≡ false → is_falsified p m (on_four o q r t en5) ≡ false
-  on_said5 (Some e) (Some f) (Some x) (Some u) h = said5 e f x u h
-  on_said5 (Some e) (Some f) (Some x) None h = free_none p m None refl
-  on_said5 (Some e) (Some f) None t h = free_none p m None refl
-  on_said5 (Some e) None r t h = free_none p m None refl
-  on_said5 None q r t h = free_none p m None refl
-
-  pub prune5f : (e f x u : ℕ) → is_some (count_of (entity_said p (En5 u f u u))) ≡ false → IsFree p m (En5 e f x u)
-  prune5f e f x u = on_said5 (term_of p e) (term_of p f) (term_of p x) (term_of p u)
-
-  stored5 : (e f x u : Tree) → is_stored (Some u) ≡ false → en5 e f x u ≡ None
-  stored5 e f x (one (unary.Ancestors k) g) h = absurd cc
-  stored5 e f x _ h = refl
-
-  on_stored5 : (o q r t : Option Tree) → is_stored t ≡ false → is_falsified p m (on_four o q r t en5) ≡ false
-  on_stored5 (Some e) (Some f) (Some x) (Some u) h = free_none p m _ (stored5 e f x u h)
-  on_stored5 (Some e) (Some f) (Some x) None h = free_none p m None refl
-  on_stored5 (Some e) (Some f) None t h = free_none p m None refl
-  on_stored5 (Some e) None r t h = free_none p m None refl
-  on_stored5 None q r t h = free_none p m None refl
-
-  pub prune5u : (e f x u : ℕ) → is_stored (term_of p u) ≡ false → IsFree p m (En5 e f x u)
-  prune5u e f x u = on_stored5 (term_of p e) (term_of p f) (term_of p x) (term_of p u)
-
   -- ---- EN7
 
-  stored7 : (s x : Tree) → is_stored (Some s) ≡ false → en7 p.schema s x ≡ None
-  stored7 (one (unary.Ancestors k) g) x h = absurd cc
-  stored7 _ x h = refl
+  declared7 : (s t x : Tree) (name : List ℕ) (us : _) → is_some (count_of (en7_by p.schema s name us t)) ≡ false → is_falsified p m (en7_by p.schema s name us x) ≡ false
+  declared7 s t x name (Some us) h = absurd cc
+  declared7 s t x name None h = free_none p m None refl
 
-  on_stored7 : (o q : Option Tree) → is_stored o ≡ false → is_falsified p m (on_two o q (en7 p.schema)) ≡ false
-  on_stored7 (Some s) (Some x) h = free_none p m _ (stored7 s x h)
-  on_stored7 (Some s) None h = free_none p m None refl
-  on_stored7 None q h = free_none p m None refl
+  said7 : (s x : Tree) → is_some (count_of (en7 p.schema s s)) ≡ false → is_falsified p m (en7 p.schema s x) ≡ false
+  said7 (one (unary.Ancestors k) (leaf (Literal (literal.Entity u choices)))) x h =
+      let action = leaf (Literal (literal.Entity u choices)) in
+      declared7 (above k action) (above k action) x (above_name (above k action)) (declared_in p.schema action) h
+  said7 _ x h = free_none p m None refl
 
-  pub prune7 : (s x : ℕ) → is_stored (term_of p s) ≡ false → IsFree p m (En7 s x)
-  prune7 s x = on_stored7 (term_of p s) (term_of p x)
+  on_said7 : (o q : Option Tree) → is_some (count_of (on_two o o (en7 p.schema))) ≡ false → is_falsified p m (on_two o q (en7 p.schema)) ≡ false
+  on_said7 (Some s) (Some x) h = said7 s x h
+  on_said7 (Some s) None h = free_none p m None refl
+  on_said7 None q h = free_none p m None refl
+
+  pub prune7 : (s x : ℕ) → is_some (count_of (entity_said p (En7 s s))) ≡ false → IsFree p m (En7 s x)
+  prune7 s x = on_said7 (term_of p s) (term_of p x)

@@ -3,6 +3,8 @@
 #![tactic(auto)]
 
 mod finding;
+mod memberships;
+mod runs;
 mod testing;
 mod theory;
 

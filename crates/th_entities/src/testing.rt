@@ -4,7 +4,7 @@ ghost use Rattle.sc_footprint.specs.Problems.{term_of};
 ghost use Rattle.sc_instances.specs.declared.rule.EntityRule.TheVariants.{En1};
 ghost use Rattle.sc_instances.specs.Instances.{entity_said};
 ghost use Rattle.sc_instances.specs.Saying.{count_of};
-ghost use Rattle.th_entities.specs.Free.{is_head_out as head_test, is_second_out as second_test, is_out as out_test, is_stored as stored_test, is_tag as tag_test};
+ghost use Rattle.th_entities.specs.Free.{is_head_out as head_test, is_out as out_test, is_stored as stored_test, is_tag as tag_test};
 
 use sc_clauses::{Assignment, Lit, is_false, is_same};
 use sc_entity_rows::Said;
@@ -13,7 +13,7 @@ use sc_instances::{EntityRule, Saying, TRUE, attributes};
 use sc_nodes::{BinaryOp, Node, UnaryOp};
 
 /// Whether a literal is asked and false.
-fn is_out(m: &Assignment, lit: Lit) -> bool
+pub(crate) fn is_out(m: &Assignment, lit: Lit) -> bool
     ensures { result ≡ out_test m.now lit }
 {
     lit.atom != 0 && !is_same(lit, TRUE) && is_false(m, lit)
@@ -42,20 +42,6 @@ pub(crate) fn is_head_out(problem: &Problem<'_>, m: &Assignment, rule: EntityRul
         return false;
     }
     is_out(m, said.literal(0))
-}
-
-/// Whether the second literal of an instance is asked and false.
-pub(crate) fn is_second_out(problem: &Problem<'_>, m: &Assignment, rule: EntityRule) -> bool
-    ensures { result ≡ second_test problem.now m.now (entity_said problem.now rule) }
-{
-    let said = Said { problem, rule };
-    let Some(count) = said.count() else {
-        return false;
-    };
-    if count < 2 {
-        return false;
-    }
-    is_out(m, said.literal(1))
 }
 
 /// Whether an entity has closed attributes.

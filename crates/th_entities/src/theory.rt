@@ -4,6 +4,7 @@ ghost use Rattle.sc_instances.specs.Instances.{HasEntity, entity_said};
 ghost use Rattle.sc_instances.specs.Known.{is_falsified, NoneFalsified};
 
 use crate::finding::falsified_rule;
+use crate::memberships::true_memberships;
 use sc_clauses::{Assignment, Clause, Instance};
 use sc_entity_rows::Said;
 use sc_footprint::{Problem, Theory};
@@ -49,7 +50,8 @@ impl Theory for Entities {
         problem: &Problem<'_>,
         m: &Assignment,
     ) -> Result<Option<Instance>, AllocError> {
-        match falsified_rule(problem, m) {
+        let known = true_memberships(alloc, problem, m)?;
+        match falsified_rule(problem, m, known.as_slice()) {
             Some(rule) => Ok(Some(write_entity(alloc, rule)?)),
             None => Ok(None),
         }

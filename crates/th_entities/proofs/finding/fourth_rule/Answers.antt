@@ -1,15 +1,16 @@
-use Rattle.std.proofs.Common.{arith}
+use Rattle.std.proofs.Common.{ℕ, rules}
 use Rattle.sc_instances.specs.declared.rule.EntityRule.TheVariants.{En4}
-use Rattle.th_entities.specs.Free.{IsFree}
-use Rattle.th_entities.proofs.FreeLaws.{first_none, first_more, first_all}
-use Rattle.th_entities.proofs.PastLaws.{past4}
+use Rattle.th_entities.specs.Free.{IsFree, IsOwnFree}
+use Rattle.th_entities.proofs.LeftLaws.{left_less, left_none}
+use Rattle.th_entities.proofs.ListedLaws.{own_free}
 use Rattle.th_entities.proofs.finding.fourth_rule.Goals as goal
 
-pub loop-n-init : goal.loop-n-init
-loop-n-init c = first_none (λ n. IsFree c.args.problem.now c.args.m.now (En4 n))
+pub loop-next-init : goal.loop-next-init
+loop-next-init c = own_free c.args.problem.now c.args.m.now c.args.known.now c.requires c.laws.ensures
 
-pub loop-n-preserved : goal.loop-n-preserved
-loop-n-preserved c = first_more (λ n. IsFree c.args.problem.now c.args.m.now (En4 n)) _ c.in_default.ensures.none c.loop-n.invariant
+pub loop-next-preserved : goal.loop-next-preserved
+loop-next-preserved c =
+    left_less (IsOwnFree c.args.problem.now c.args.m.now) ((e : ℕ) → IsFree c.args.problem.now c.args.m.now (En4 e)) c.loop-next.rest.now c.in-Some.later.now c.in-Some.next.now (search rules) c.in_default-own_ancestor.ensures.none c.loop-next.invariant
 
 pub returns-clause-none : goal.returns-clause-none
-returns-clause-none c = first_all (λ n. IsFree c.args.problem.now c.args.m.now (En4 n)) c.args.problem.now _ (omega (arith, c.closed_count-n-end.ensures.value, c.loop-n-test.false)) (λ n gone. past4 c.args.problem.now c.args.m.now n gone) c.loop-n.invariant
+returns-clause-none c = left_none (IsOwnFree c.args.problem.now c.args.m.now) ((e : ℕ) → IsFree c.args.problem.now c.args.m.now (En4 e)) c.loop-next.rest.now (search rules) c.loop-next.invariant
