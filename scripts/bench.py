@@ -176,7 +176,7 @@ def products(size):
 
 
 FAMILIES = [(refactoring, (30, 60, 120, 240)), (pigeons, (4, 5, 6, 7)), (random_clauses, (40, 60, 80, 100, 120)), (environments, (1, 10, 100, 1000)), (entities, (10, 20, 40, 80)),
-            (groups, (5, 10, 20)), (sets, (5, 10, 20, 40)), (strings, (10, 20, 40, 80)), (patterns, (2, 4, 8)), (conditions, (5, 10, 20, 40)), (products, (1, 2, 5, 10))]
+            (groups, (5, 10, 20, 40)), (sets, (5, 10, 20, 40)), (strings, (10, 20, 40, 80)), (patterns, (2, 4, 8)), (conditions, (5, 10, 20, 40)), (products, (1, 2, 5, 10))]
 
 
 def timed(words):
