@@ -39,7 +39,7 @@ fn member_type(alloc: Global, place: Place, members: &[TypedExpr]) -> Result<Ty,
             at: place,
         }));
     };
-    let ty = copy_of_ty(alloc, first)?;
+    let ty = Boxed::new(alloc, copy_of_ty(alloc, first)?)?;
     all_joined(alloc, place, ty, rest)
 }
 
@@ -47,16 +47,16 @@ fn member_type(alloc: Global, place: Place, members: &[TypedExpr]) -> Result<Ty,
 fn all_joined(
     alloc: Global,
     place: Place,
-    mut ty: Ty,
+    mut ty: Boxed<Ty>,
     members: &[TypedExpr],
 ) -> Result<Ty, Fault<TypeFault>>
     ensures { Gives result (all_joined place ty members.now) }
 {
     for member in members {
-        let other = copy_of_ty(alloc, member)?;
-        ty = joined_type(alloc, place, &ty, &other)?;
+        let other = Boxed::new(alloc, copy_of_ty(alloc, member)?)?;
+        ty = Boxed::new(alloc, joined_type(alloc, place, ty.get(), other.get())?)?;
     }
-    Ok(ty)
+    Ok(ty.into_inner())
 }
 
 /// `{a: x, b: y}`.

@@ -30,8 +30,9 @@ fn literal_type(alloc: Global, literal: &Literal) -> Result<Ty, AllocError>
 fn literal_typed(alloc: Global, place: Place, literal: &Literal) -> Result<TypedExpr, AllocError>
     ensures { IfOk result (λ x. x ≡ literal_typed place literal.now) }
 {
-    let ty = literal_type(alloc, literal)?;
-    Ok(TypedExpr::Literal(place, ty, literal.try_clone(alloc)?))
+    let ty = Boxed::new(alloc, literal_type(alloc, literal)?)?;
+    let literal = literal.try_clone(alloc)?;
+    Ok(TypedExpr::Literal(place, ty.into_inner(), literal))
 }
 
 /// A literal, which gives nothing.

@@ -49,10 +49,18 @@ pub fn first_branch(
 ) -> Result<Typed, AllocError>
     ensures { IfOk result (λ x. x ≡ first_branch place c a b.now) }
 {
-    let ty = copy_of_ty(alloc, a.expr.get())?;
     let other = skipped(alloc, b)?;
-    let given = joined(c.given, a.given)?;
-    let expr = Boxed::new(alloc, TypedExpr::If(place, ty, c.expr, a.expr, other))?;
+    let Typed {
+        expr: c,
+        given: first,
+    } = c;
+    let Typed {
+        expr: a,
+        given: second,
+    } = a;
+    let given = joined(first, second)?;
+    let ty = copy_of_ty(alloc, a.get())?;
+    let expr = Boxed::new(alloc, TypedExpr::If(place, ty, c, a, other))?;
     Ok(Typed { expr, given })
 }
 
@@ -67,8 +75,8 @@ pub fn second_branch(
     ensures { IfOk result (λ x. x ≡ second_branch place c a.now b) }
 {
     let Typed { expr: taken, given } = b;
-    let ty = copy_of_ty(alloc, taken.get())?;
     let other = skipped(alloc, a)?;
+    let ty = copy_of_ty(alloc, taken.get())?;
     let expr = TypedExpr::If(place, ty, c.into_expr(), other, taken);
     let expr = Boxed::new(alloc, expr)?;
     Ok(Typed { expr, given })
@@ -85,9 +93,12 @@ pub fn branches(
     ensures { Gives result (branches place c a b) }
 {
     boolean(c.expr.get())?;
-    let ty = branches_type(alloc, place, a.expr.get(), b.expr.get())?;
+    let ty = Boxed::new(
+        alloc,
+        branches_type(alloc, place, a.expr.get(), b.expr.get())?,
+    )?;
     let given = common(alloc, joined(c.given, a.given)?, b.given.as_slice())?;
-    let expr = TypedExpr::If(place, ty, c.expr, a.expr, b.expr);
+    let expr = TypedExpr::If(place, ty.into_inner(), c.expr, a.expr, b.expr);
     let expr = Boxed::new(alloc, expr)?;
     Ok(Typed { expr, given })
 }
@@ -101,9 +112,9 @@ pub fn branches_type(
 ) -> Result<Ty, Fault<TypeFault>>
     ensures { Gives result (joined place (ty a.now) (ty b.now)) }
 {
-    let first = copy_of_ty(alloc, a)?;
-    let second = copy_of_ty(alloc, b)?;
-    joined_type(alloc, place, &first, &second)
+    let first = Boxed::new(alloc, copy_of_ty(alloc, a)?)?;
+    let second = Boxed::new(alloc, copy_of_ty(alloc, b)?)?;
+    joined_type(alloc, place, first.get(), second.get())
 }
 
 /// `a || b` where a isn't always true.
@@ -117,7 +128,7 @@ pub fn disjunction(
 {
     boolean(a.expr.get())?;
     boolean(b.expr.get())?;
-    let ty = or_type(alloc, a.expr.get(), b.expr.get())?;
+    let ty = Boxed::new(alloc, or_type(alloc, a.expr.get(), b.expr.get())?)?;
     let Typed {
         expr: a,
         given: first,
@@ -127,7 +138,7 @@ pub fn disjunction(
         given: second,
     } = b;
     let given = or_given(alloc, a.get(), b.get(), first, second)?;
-    let expr = Boxed::new(alloc, TypedExpr::Or(place, ty, a, b))?;
+    let expr = Boxed::new(alloc, TypedExpr::Or(place, ty.into_inner(), a, b))?;
     Ok(Typed { expr, given })
 }
 
@@ -176,7 +187,7 @@ pub fn conjunction(
 {
     boolean(a.expr.get())?;
     boolean(b.expr.get())?;
-    let ty = and_type(alloc, a.expr.get(), b.expr.get())?;
+    let ty = Boxed::new(alloc, and_type(alloc, a.expr.get(), b.expr.get())?)?;
     let Typed {
         expr: a,
         given: first,
@@ -186,7 +197,7 @@ pub fn conjunction(
         given: second,
     } = b;
     let given = and_given(alloc, b.get(), first, second)?;
-    let expr = Boxed::new(alloc, TypedExpr::And(place, ty, a, b))?;
+    let expr = Boxed::new(alloc, TypedExpr::And(place, ty.into_inner(), a, b))?;
     Ok(Typed { expr, given })
 }
 

@@ -80,8 +80,8 @@ fn may_read(
     if is_required(field) {
         return Ok(true);
     }
-    let capability = attribute_of(setting.alloc, a, name)?;
-    Ok(is_known(setting.known, &capability))
+    let capability = Boxed::new(setting.alloc, attribute_of(setting.alloc, a, name)?)?;
+    Ok(is_known(setting.known, capability.get()))
 }
 
 /// `a.name`.
@@ -94,9 +94,9 @@ pub fn access(
 ) -> Result<Typed, Fault<TypeFault>>
     ensures { Gives result (access setting.now.schema.now setting.now.known.now place name.now a.now x) }
 {
+    let own_name = name.try_clone(setting.alloc)?;
     let ty = read_type(setting, place, name, a, x.get())?;
-    let name = name.try_clone(setting.alloc)?;
-    let expr = Boxed::new(setting.alloc, TypedExpr::Access(place, ty, x, name))?;
+    let expr = Boxed::new(setting.alloc, TypedExpr::Access(place, ty, x, own_name))?;
     Ok(Typed::plain(setting.alloc, expr))
 }
 
@@ -144,10 +144,18 @@ fn path_of(
     ensures { Gives result (along setting.now.schema.now place setting.now.known.now
         (subject a.now x.now) no_names names.now) }
 {
-    let ty = copy_of_ty(setting.alloc, x)?;
+    let ty = Boxed::new(setting.alloc, copy_of_ty(setting.alloc, x)?)?;
     let object = Boxed::new(setting.alloc, bare(setting.alloc, a)?)?;
     let mut path = no_names(setting.alloc);
-    along(setting, place, names, object, place_of(x), &ty, &mut path)?;
+    along(
+        setting,
+        place,
+        names,
+        object,
+        place_of(x),
+        ty.get(),
+        &mut path,
+    )?;
     Ok(path)
 }
 
@@ -242,11 +250,11 @@ fn lengthen(
     if has_always(ty, field) {
         return hold(setting.alloc, path, ty, name);
     }
-    let capability = named(setting.alloc, object, name)?;
-    if is_known_in_either(setting.known, path.given.as_slice(), &capability) {
+    let capability = Boxed::new(setting.alloc, named(setting.alloc, object, name)?)?;
+    if is_known_in_either(setting.known, path.given.as_slice(), capability.get()) {
         return hold(setting.alloc, path, ty, name);
     }
-    path.given.push(capability)?;
+    path.given.push(capability.into_inner())?;
     maybe_hold(setting.alloc, path, ty, name)
 }
 
@@ -261,9 +269,10 @@ fn has_always(ty: &Ty, field: &(Text, Presence, Ty)) -> bool
 fn named(alloc: Global, object: &Expr, name: &Text) -> Result<Capability, AllocError>
     ensures { IfOk result (λ c. c ≡ named object.now name.now) }
 {
+    let name = name.try_clone(alloc)?;
     Ok(Capability {
         object: try_clone(alloc, object)?,
-        key: Key::Attribute(name.try_clone(alloc)?),
+        key: Key::Attribute(name),
     })
 }
 

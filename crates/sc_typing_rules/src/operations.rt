@@ -29,10 +29,14 @@ pub fn operate(
 ) -> Result<Typed, Fault<TypeFault>>
     ensures { Gives result (operation setting.now.schema.now setting.now.known.now place operator a.now b.now x y) }
 {
-    let ty = binary(setting, place, operator, a, b, x.get(), y.get())?;
-    let given = given_by(setting.alloc, operator, a, b, &ty)?;
-    let expr = TypedExpr::Binary(place, ty, operator, x, y);
-    let expr = Boxed::new(setting.alloc, expr)?;
+    let alloc = setting.alloc;
+    let ty = Boxed::new(
+        alloc,
+        binary(setting, place, operator, a, b, x.get(), y.get())?,
+    )?;
+    let given = given_by(alloc, operator, a, b, ty.get())?;
+    let expr = TypedExpr::Binary(place, ty.into_inner(), operator, x, y);
+    let expr = Boxed::new(alloc, expr)?;
     Ok(Typed { expr, given })
 }
 
@@ -94,9 +98,9 @@ pub fn is(
 ) -> Result<Typed, Fault<TypeFault>>
     ensures { Gives result (test place type_name.now x) }
 {
-    let ty = truth(is_of(x.get(), type_name)?);
+    let is = is_of(x.get(), type_name)?;
     let name = type_name.try_clone(alloc)?;
-    let expr = TypedExpr::Is(place, ty, x, name);
+    let expr = TypedExpr::Is(place, truth(is), x, name);
     Ok(Typed::plain(alloc, Boxed::new(alloc, expr)?))
 }
 
@@ -130,8 +134,9 @@ pub fn is_in(
     ensures { IfOk result (λ t. t ≡ made (TypedExpr.IsIn place right.0 x type_name.now in_place right.1) []) }
 {
     let (ty, y) = right;
+    let ty = Boxed::new(alloc, ty)?;
     let name = type_name.try_clone(alloc)?;
-    let expr = TypedExpr::IsIn(place, ty, x, name, in_place, y);
+    let expr = TypedExpr::IsIn(place, ty.into_inner(), x, name, in_place, y);
     Ok(Typed::plain(alloc, Boxed::new(alloc, expr)?))
 }
 

@@ -1,5 +1,5 @@
 //! The types of operators, in the order of the grammar.
-ghost use Rattle.std.specs.Prelude.{◌≡◌, [], IfOk, unwrap_or, if◌then◌else◌};
+ghost use Rattle.std.specs.Prelude.{◌≡◌, [], IfOk, is_some, unwrap_or, if◌then◌else◌};
 ghost use Rattle.std.specs.List.{list_any};
 ghost use Rattle.std.specs.Option.{option_copied};
 ghost use Rattle.std.specs.Result.{result_map_both};
@@ -8,8 +8,10 @@ ghost use Rattle.sc_decimal.specs.DecimalValue.{decimal_of};
 ghost use Rattle.sc_ip.specs.IpValue.{ip_of};
 ghost use Rattle.sc_lists.specs.Told.{Gives};
 ghost use Rattle.sc_schema.specs.Declarations.{ancestor_types};
+ghost use Rattle.sc_typed.specs.Capabilities.{is_known, tag_of};
 ghost use Rattle.sc_typed.specs.Outcomes.{ty};
 ghost use Rattle.sc_typed.specs.Literals.{literal_of};
+ghost use Rattle.sc_typed.specs.Types.{join};
 ghost use Rattle.sc_typing_rules.specs.Operators.{longs, decimals, addresses, address, contained, sets, are_entities, compared, equal_by, may_be_in, within, tags, tag_test, tag_read, binary, given_tag, given_by, opposite, negated, negative, emptiness, reads, read_as, unary};
 
 use crate::logic::joined_type;
@@ -17,7 +19,7 @@ use crate::setting::Setting;
 use sc_ast::{BinaryOperator, Expr, Place, UnaryOperator};
 use sc_decimal::read_decimal;
 use sc_ip::read_ip;
-use sc_lists::{Fault, Seq};
+use sc_lists::{Boxed, Fault, Seq};
 use sc_names::Name;
 use sc_schema::{Schema, Ty, ancestor_types, tags_of};
 use sc_typed::capability::{is_known, tag_of};
@@ -119,18 +121,26 @@ fn compared(
 ) -> Result<Ty, Fault<TypeFault>>
     ensures { Gives result (compared place (ty x.now) (ty y.now)) }
 {
-    let first = copy_of_ty(alloc, x)?;
-    let second = copy_of_ty(alloc, y)?;
-    if join(alloc, &first, &second)?.is_some() {
+    let first = Boxed::new(alloc, copy_of_ty(alloc, x)?)?;
+    let second = Boxed::new(alloc, copy_of_ty(alloc, y)?)?;
+    if join_to_any(alloc, first.get(), second.get())? {
         return Ok(Ty::Bool);
     }
-    if are_entities(&first, &second) {
+    if are_entities(first.get(), second.get()) {
         return Ok(Ty::False);
     }
     Err(Fault::Told(TypeFault {
         rule: TypeRule::NoJoin,
         at: place,
     }))
+}
+
+/// Whether two types join.
+fn join_to_any(alloc: Global, s: &Ty, t: &Ty) -> Result<bool, AllocError>
+    ensures { IfOk result (λ joins. joins ≡ is_some (join s.now t.now)) }
+{
+    let both = join(alloc, s, t)?;
+    Ok(both.is_some())
 }
 
 fn are_entities(s: &Ty, t: &Ty) -> bool
@@ -179,8 +189,8 @@ fn contained(
     ensures { Gives result (contained place x.now y.now) }
 {
     let member = set(x)?;
-    let other = copy_of_ty(alloc, y)?;
-    joined_type(alloc, place, member, &other)?;
+    let other = Boxed::new(alloc, copy_of_ty(alloc, y)?)?;
+    let _both = Boxed::new(alloc, joined_type(alloc, place, member, other.get())?)?;
     Ok(Ty::Bool)
 }
 
@@ -190,7 +200,7 @@ fn sets(alloc: Global, place: Place, x: &TypedExpr, y: &TypedExpr) -> Result<Ty,
 {
     let first = set(x)?;
     let second = set(y)?;
-    joined_type(alloc, place, first, second)?;
+    let _both = Boxed::new(alloc, joined_type(alloc, place, first, second)?)?;
     Ok(Ty::Bool)
 }
 
@@ -201,6 +211,14 @@ fn tags<'s>(schema: &'s Schema, x: &TypedExpr, y: &TypedExpr) -> Result<Option<&
     let name = entity(x)?;
     string(y)?;
     Ok(tags_of(schema, name))
+}
+
+/// Whether an entity is known to have the tag of a key.
+fn knows_tag(setting: &Setting<'_>, a: &Expr, b: &Expr) -> Result<bool, AllocError>
+    ensures { IfOk result (λ known. known ≡ is_known setting.now.known.now (tag_of a.now b.now)) }
+{
+    let tag = Boxed::new(setting.alloc, tag_of(setting.alloc, a, b)?)?;
+    Ok(is_known(setting.known, tag.get()))
 }
 
 /// `a.hasTag(b)`.
@@ -217,7 +235,7 @@ fn has_tag(
     if tags.is_none() {
         return Ok(Ty::False);
     }
-    if is_known(setting.known, &tag_of(setting.alloc, a, b)?) {
+    if knows_tag(setting, a, b)? {
         return Ok(Ty::True);
     }
     Ok(Ty::Bool)
@@ -240,7 +258,7 @@ fn get_tag(
             at: place,
         }));
     };
-    if !is_known(setting.known, &tag_of(setting.alloc, a, b)?) {
+    if !knows_tag(setting, a, b)? {
         return Err(Fault::Told(TypeFault {
             rule: TypeRule::TagMaybeAbsent,
             at: place,
