@@ -209,13 +209,15 @@ fn attribute_in(alloc: Global, object: Boxed<Expr>, name: &Text) -> Result<Boxed
 }
 
 /// A name that is asked of an object of a type.
-fn step(alloc: Global, name: &Text, object: &Ty, found: Ty) -> Result<HasStep, AllocError>
+fn step(alloc: Global, name: &Text, object: &Ty, found: Boxed<Ty>) -> Result<HasStep, AllocError>
     ensures { IfOk result (λ s. s ≡ step name.now object.now found) }
 {
+    let name = name.try_clone(alloc)?;
+    let object = object.try_clone(alloc)?;
     Ok(HasStep {
-        name: name.try_clone(alloc)?,
-        object: object.try_clone(alloc)?,
-        found,
+        name,
+        object,
+        found: found.into_inner(),
     })
 }
 
@@ -229,7 +231,8 @@ fn end(
 ) -> Result<(), AllocError>
     ensures { OnOk result (path.new ≡ ended path.old ty.now name.now names.now) }
 {
-    path.steps.push(step(alloc, name, ty, Ty::False)?)?;
+    let found = Boxed::new(alloc, Ty::False)?;
+    path.steps.push(step(alloc, name, ty, found)?)?;
     path.skipped = copy_of_names(alloc, names)?;
     path.found = Ty::False;
     path.given = Seq::new(alloc);
@@ -280,7 +283,8 @@ fn named(alloc: Global, object: &Expr, name: &Text) -> Result<Capability, AllocE
 fn hold(alloc: Global, path: &mut Path, ty: &Ty, name: &Text) -> Result<(), AllocError>
     ensures { OnOk result (path.new ≡ held path.old ty.now name.now) }
 {
-    path.steps.push(step(alloc, name, ty, Ty::True)?)?;
+    let found = Boxed::new(alloc, Ty::True)?;
+    path.steps.push(step(alloc, name, ty, found)?)?;
     path.skipped = Seq::new(alloc);
     Ok(())
 }
@@ -296,7 +300,8 @@ fn maybe_hold(alloc: Global, path: &mut Path, ty: &Ty, name: &Text) -> Result<()
           skipped = [];
         }) }
 {
-    path.steps.push(step(alloc, name, ty, Ty::Bool)?)?;
+    let found = Boxed::new(alloc, Ty::Bool)?;
+    path.steps.push(step(alloc, name, ty, found)?)?;
     path.found = Ty::Bool;
     path.skipped = Seq::new(alloc);
     Ok(())

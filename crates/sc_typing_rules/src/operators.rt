@@ -49,11 +49,11 @@ pub(crate) fn binary(
         BinaryOperator::Less
         | BinaryOperator::LessOrEqual
         | BinaryOperator::Greater
-        | BinaryOperator::GreaterOrEqual => Ok(longs(x, y, Ty::Bool)?),
+        | BinaryOperator::GreaterOrEqual => Ok(long_comparison(x, y)?),
         BinaryOperator::Equal => equal(setting.alloc, place, a, b, x, y),
         BinaryOperator::In => Ok(within(setting.schema, x, y)?),
         BinaryOperator::Add | BinaryOperator::Subtract | BinaryOperator::Multiply => {
-            Ok(longs(x, y, Ty::Long)?)
+            Ok(arithmetic(x, y)?)
         }
         BinaryOperator::Contains => contained(setting.alloc, place, x, y),
         BinaryOperator::ContainsAll | BinaryOperator::ContainsAny => {
@@ -69,12 +69,20 @@ pub(crate) fn binary(
     }
 }
 
-fn longs(x: &TypedExpr, y: &TypedExpr, ty: Ty) -> Result<Ty, TypeFault>
-    ensures { result ≡ longs x.now y.now ty }
+fn long_comparison(x: &TypedExpr, y: &TypedExpr) -> Result<Ty, TypeFault>
+    ensures { result ≡ longs x.now y.now Ty.Bool }
 {
     long(x)?;
     long(y)?;
-    Ok(ty)
+    Ok(Ty::Bool)
+}
+
+fn arithmetic(x: &TypedExpr, y: &TypedExpr) -> Result<Ty, TypeFault>
+    ensures { result ≡ longs x.now y.now Ty.Long }
+{
+    long(x)?;
+    long(y)?;
+    Ok(Ty::Long)
 }
 
 fn decimals(x: &TypedExpr, y: &TypedExpr) -> Result<Ty, TypeFault>
