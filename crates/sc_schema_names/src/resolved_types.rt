@@ -146,6 +146,13 @@ fn any_type_of(
 {
     match type_named(alloc, declared, namespace, text.as_str())? {
         Some(found) => Ok(found),
-        None => Ok(ResolvedType::Entity(name_of(alloc, text.as_str())?)),
+        None => entities_of(alloc, text),
     }
+}
+
+/// The type of the entities of a name.
+fn entities_of(alloc: Global, name: &Text) -> Result<ResolvedType, AllocError>
+    ensures { IfOk result (λ type. type ≡ ResolvedType.Entity name.now) }
+{
+    Ok(ResolvedType::Entity(name_of(alloc, name.as_str())?))
 }
