@@ -183,17 +183,17 @@ fn put_field(
     names: &[Text],
     field: &(Text, Sort),
     part: u64,
-    record: &mut Rec,
+    put: &mut Rec,
 ) -> Result<(), AllocError>
     requires { IsOf problem.now field.now.1 part }
-    ensures { OnOk result (record.new ≡ record.old ++ field_of (
+    ensures { OnOk result (put.new ≡ put.old ++ field_of (
       field.now.0,
       val_of (model problem.now m.now names.now) field.now.1 (tree problem.now.nodes part),
     )) }
 {
     let name = field.0.try_clone(alloc)?;
     match shown_value(alloc, problem, m, names, &field.1, part)? {
-        Some(value) => record.push((name, value)),
+        Some(value) => put.push((name, value)),
         None => Ok(()),
     }
 }

@@ -82,7 +82,7 @@ record_value-loop-place-preserved n c =
     let at : slice_get c.args.fields.now c.loop-place.place ≡ Some c.entry-item.result =
     slice_get-get_or c.args.fields.now c.loop-place.place c.entry-item.result within ∙ ap Some (sym is) in
     one_more_field (λ (f : SortField). field_of (f.0, val_of (model c.args.problem.now c.args.m.now c.args.names.now) f.1 (field_term f.0 (tree c.args.problem.now.nodes c.args.term))))
-    c.args.fields.now c.loop-place.place c.entry-item.result c.loop-place.record c.put_field.new.record
+    c.args.fields.now c.loop-place.place c.entry-item.result c.loop-place.record c.put_field.new.put
     (field_of (c.entry-item.result.0, val_of (model c.args.problem.now c.args.m.now c.args.names.now) c.entry-item.result.1 (tree c.args.problem.now.nodes c.field-part.result)))
     at c.loop-place.invariant c.in_ok-put_field.ensures
     (ap (λ (t : Tree). field_of (c.entry-item.result.0, val_of (model c.args.problem.now c.args.m.now c.args.names.now) c.entry-item.result.1 t)) (c.field-part.ensures c.entry-item.result at).1)
