@@ -14,7 +14,7 @@ use std::marker::Model;
 pub struct Arena {
     codes: Vec<u32>,
     /// Of each clause the place of its first literal.
-    starts: Vec<u64>,
+    starts: Vec<u32>,
 }
 
 impl Model for Arena {
@@ -111,11 +111,14 @@ impl Arena {
         Some(codes)
     }
 
-    /// Puts a clause after the others. It is refused as too large where an atom's number has more than 31 bits.
+    /// Puts a clause after the others. It is refused as too large where an atom's number has more than 31 bits, or the
+    /// place of its first literal more than 32.
     pub fn push(&mut self, clause: &[Lit]) -> Result<(), AllocError>
         ensures { OnOk result (self.new ≡ self.old ++ clause.now ∷ []) }
     {
-        let start = self.codes.len() as u64;
+        let Ok(start) = u32::try_from(self.codes.len()) else {
+            return Err(AllocError);
+        };
         write(&mut self.codes, clause)?;
         self.codes.push(0)?;
         self.starts.push(start)?;
