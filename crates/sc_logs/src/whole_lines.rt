@@ -1,14 +1,11 @@
 //! Reads the line of a learned clause in one pass, where bytes begin with it. Bytes that aren't read here may
 //! still begin with a line of a log, which is then cut into words.
-ghost use Rattle.std.specs.Prelude.{◌≡◌, ◌≤◌, ◌∷◌, ◌++◌, map, decimal, take, length, IfSome, IfOk, IsTrue};
+ghost use Rattle.std.specs.Prelude.{◌≡◌, ◌≤◌, ◌∷◌, ◌++◌, map, decimal, IfSome, IfOk, IsTrue};
 ghost use Rattle.std.specs.List.{list_all};
-ghost use Rattle.std.specs.Str.Parse.{AllDigits, digits_value};
 ghost use Rattle.sc_logs.specs.Texts.{lit_text, spaced, step_line};
 ghost use Rattle.sc_logs.specs.Writable.{is_lit, is_hint, is_learned};
-ghost use Rattle.sc_footprint.specs.Written.{is_number};
 
 use crate::lines::Room;
-use crate::numbers::has_number_form;
 use sc_clauses::{Lit, Step};
 use std::alloc::AllocError;
 
@@ -22,33 +19,30 @@ fn after_byte(bytes: &[u8], first: u8) -> Option<&[u8]>
     }
 }
 
-/// The number that the digits before a place are, and what follows them.
-fn number_before(bytes: &[u8], place: usize, value: u64) -> Option<(u64, &[u8])>
-    requires within { place ≤ length bytes.now }
-    requires digits { AllDigits 10 (take place bytes.now) }
-    requires value { value ≡ digits_value 10 (take place bytes.now) }
-    ensures { IfSome result (λ p. IsTrue (is_number p.0) × (bytes.now ≡ decimal p.0 ++ p.1.now)) }
+/// The first digit of the number other than 0 that bytes begin with, and what follows the digit.
+fn after_first_digit(bytes: &[u8]) -> Option<(u8, &[u8])>
+    ensures { IfSome result (λ p. (bytes.now ≡ p.0 ∷ p.1.now) × (49 ≤ p.0) × (p.0 ≤ 57)) }
 {
-    let (digits, rest) = bytes.split_at(place);
-    if has_number_form(digits) {
-        Some((value, rest))
-    } else {
-        None
+    match bytes {
+        [first, rest @ ..] if b'1' <= *first && *first <= b'9' => Some((*first, rest)),
+        _ => None,
     }
 }
 
-/// The number that bytes begin with, up to the first byte that is no digit, and what follows.
+/// The number of a first digit other than `0` and the digits that bytes begin with, and what follows these.
 #[inline(always)]
 #[tactic(auto, using(crate::proofs::NumberLaws::digit_at))]
-fn leading_number(bytes: &[u8]) -> Option<(u64, &[u8])>
-    ensures { IfSome result (λ p. IsTrue (is_number p.0) × (bytes.now ≡ decimal p.0 ++ p.1.now)) }
+fn number_from(first: u8, bytes: &[u8]) -> Option<(u64, &[u8])>
+    requires { (49 ≤ first) × (first ≤ 57) }
+    ensures { IfSome result (λ p. IsTrue (is_hint p.0) × (first ∷ bytes.now ≡ decimal p.0 ++ p.1.now)) }
 {
-    let mut value = 0u64;
+    let mut value = (first - b'0') as u64;
     for (i, byte) in bytes.iter().enumerate() {
         if !byte.is_ascii_digit() {
-            return number_before(bytes, i, value);
+            let (_, rest) = bytes.split_at(i);
+            return Some((value, rest));
         }
-        if i >= 18 {
+        if i >= 17 {
             return None;
         }
         value = value * 10 + (*byte - b'0') as u64;
@@ -56,9 +50,18 @@ fn leading_number(bytes: &[u8]) -> Option<(u64, &[u8])>
     None
 }
 
-/// The literal that bytes begin with, or 0 or its negation, and what follows.
+/// The number other than 0 that bytes begin with, up to the first byte that is no digit, and what follows.
+#[inline(always)]
+fn leading_number(bytes: &[u8]) -> Option<(u64, &[u8])>
+    ensures { IfSome result (λ p. IsTrue (is_hint p.0) × (bytes.now ≡ decimal p.0 ++ p.1.now)) }
+{
+    let (first, rest) = after_first_digit(bytes)?;
+    number_from(first, rest)
+}
+
+/// The literal that bytes begin with, and what follows.
 fn leading_lit(bytes: &[u8]) -> Option<(Lit, &[u8])>
-    ensures { IfSome result (λ p. IsTrue (is_number p.0.atom) × (bytes.now ≡ lit_text p.0 ++ p.1.now)) }
+    ensures { IfSome result (λ p. IsTrue (is_lit p.0) × (bytes.now ≡ lit_text p.0 ++ p.1.now)) }
 {
     match after_byte(bytes, b'-') {
         Some(digits) => {
@@ -93,15 +96,12 @@ fn read_lits<'b>(bytes: &'b [u8], lits: &mut Vec<Lit>) -> Result<Option<&'b [u8]
     lits.clear();
     let mut rest = bytes;
     while let Some(word) = after_byte(rest, b' ') {
+        if let Some(later) = after_byte(word, b'0') {
+            return Ok(Some(later));
+        }
         let Some((lit, later)) = leading_lit(word) else {
             return Ok(None);
         };
-        if lit.atom == 0 {
-            if lit.negated {
-                return Ok(None);
-            }
-            return Ok(Some(later));
-        }
         lits.push(lit)?;
         rest = later;
     }
@@ -117,12 +117,12 @@ fn read_hints<'b>(bytes: &'b [u8], hints: &mut Vec<u64>) -> Result<Option<&'b [u
     hints.clear();
     let mut rest = bytes;
     while let Some(word) = after_byte(rest, b' ') {
+        if let Some(later) = after_byte(word, b'0') {
+            return Ok(Some(later));
+        }
         let Some((hint, later)) = leading_number(word) else {
             return Ok(None);
         };
-        if hint == 0 {
-            return Ok(Some(later));
-        }
         hints.push(hint)?;
         rest = later;
     }
