@@ -6,7 +6,7 @@ ghost use Rattle.sc_refutations.specs.Known.{marked};
 ghost use Rattle.sc_refutations.specs.Refutations.{residual, is_other, open_lits, residual_at, clause_at, is_listed, is_clause, are_listed, negated, refutes};
 
 use crate::arena::{Arena, lit_of};
-use crate::known::Known;
+use crate::known::{Known, is_false};
 use sc_clauses::{Lit, is_same, negation};
 
 /// What is left of a clause where its false literals are left out.
@@ -42,17 +42,17 @@ fn is_other(found: Option<Lit>, lit: Lit) -> bool
     }
 }
 
-/// What is left of the clause that numbers begin with, where these literals are true.
+/// What is left of the clause that numbers begin with, by the marks of a step.
 #[inline(always)]
-fn left_of(known: &Known, codes: &[u32]) -> Residual
-    ensures { result ≡ residual (open_lits (marked known.now.step known.now.marks.items) (run codes.now)) }
+fn left_of(marks: &[u64], step: u64, codes: &[u32]) -> Residual
+    ensures { result ≡ residual (open_lits (marked step marks.now) (run codes.now)) }
 {
     let mut found: Option<Lit> = None;
     for code in codes {
         if *code == 0 {
             return left_by(found);
         }
-        if !known.is_false(*code) {
+        if !is_false(marks, step, *code) {
             let lit = lit_of(*code);
             if is_other(found, lit) {
                 return Residual::Open;
@@ -79,7 +79,7 @@ fn left_at(known: &Known, clauses: &Arena, number: u64) -> Residual
     ensures { result ≡ residual_at (marked known.now.step known.now.marks.items) (clause_at clauses.now number) }
 {
     match clause_at(clauses, number) {
-        Some(codes) => left_of(known, codes),
+        Some(codes) => left_of(known.marks.as_slice(), known.step, codes),
         None => Residual::Open,
     }
 }
