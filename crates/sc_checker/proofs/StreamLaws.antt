@@ -35,6 +35,11 @@ pub after_cut : (rules : Rules) (c : Checking) (a b : List ℕ) → after rules 
 after_cut rules c [] b = refl
 after_cut rules c (x ∷ a) b = after_cut rules (after_byte rules c x) a b
 
+-- two parts leave what they leave as one
+pub parts_read : (rules : Rules) (c d e : Checking) (bytes a b : List ℕ) → d ≡ after rules c a → e ≡ after rules d b → bytes ≡ a ++ b → e ≡ after rules c bytes
+parts_read rules c d e bytes a b first second whole =
+    second ∙ (ap (λ (k : Checking). after rules k b) first ∙ (after_cut rules c a b ∙ ap (after rules c) (sym whole)))
+
 -- where a step was at fault, nothing is looked at
 pub after_fault : (rules : Rules) (c : Checking) (bytes : List ℕ) (f : ℕ × Reason) → c.progress.fault ≡ Some f → after rules c bytes ≡ c
 after_fault rules c [] f e = refl

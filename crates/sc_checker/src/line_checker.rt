@@ -1,5 +1,5 @@
 //! The checker of a log's lines, whose bytes come in pieces.
-ghost use Rattle.std.specs.Prelude.{◌≡◌, ◌++◌, ◌∷◌, ◌<◌, [], None, OnOk, IfOk, IsTrue, MatchOption, true, length};
+ghost use Rattle.std.specs.Prelude.{◌≡◌, ◌++◌, ◌∷◌, ◌<◌, ◌≤◌, [], None, OnOk, IfOk, IsTrue, MatchOption, true, length};
 ghost use Rattle.std.specs.Str.{bytes_eq};
 ghost use Rattle.sc_logs.specs.LineSteps.{step_of};
 ghost use Rattle.sc_checker.specs.Progress.{IsChecked};
@@ -64,6 +64,20 @@ fn take_line<T: Theory>(
             Ok(())
         }
     }
+}
+
+/// Where the last line that ends within bytes ends, or 0.
+fn lines_end(bytes: &[u8]) -> usize
+    ensures { result ≤ length bytes.now }
+{
+    let mut left = bytes;
+    while let Some((last, before)) = left.split_last() {
+        if *last == b'\n' {
+            return left.len();
+        }
+        left = before;
+    }
+    0
 }
 
 impl LineChecker {
@@ -207,7 +221,28 @@ impl LineChecker {
         }
     }
 
-    /// Reads a piece of a log's text.
+    /// Reads bytes of a log's text, one line after another.
+    fn read_lines<T: Theory>(
+        &mut self,
+        alloc: Global,
+        rules: &T,
+        problem: &Problem<'_>,
+        bytes: &[u8],
+    ) -> Result<(), AllocError>
+        requires { IsChecked problem.now self.old.progress }
+        ensures read { OnOk result ((tests : AnyRules) → AreRules T.has_instance T.clause_of rules.now problem.now tests
+            → self.new ≡ after tests self.old bytes.now) }
+        ensures checked { OnOk result (IsChecked problem.now self.new.progress) }
+    {
+        let mut rest = bytes;
+        while let Some(later) = self.read_line(alloc, rules, problem, rest)? {
+            rest = later;
+        }
+        self.keep(rest)
+    }
+
+    /// Reads a piece of a log's text. The lines that end within it are read by themselves, so that what is left of them
+    /// always ends with a newline.
     pub(crate) fn read<T: Theory>(
         &mut self,
         alloc: Global,
@@ -220,11 +255,9 @@ impl LineChecker {
             → self.new ≡ after tests self.old piece.now) }
         ensures checked { OnOk result (IsChecked problem.now self.new.progress) }
     {
-        let mut rest = piece;
-        while let Some(later) = self.read_line(alloc, rules, problem, rest)? {
-            rest = later;
-        }
-        self.keep(rest)
+        let (lines, rest) = piece.split_at(lines_end(piece));
+        self.read_lines(alloc, rules, problem, lines)?;
+        self.read_lines(alloc, rules, problem, rest)
     }
 
     /// The number of the line that isn't ended.

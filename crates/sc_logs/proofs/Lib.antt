@@ -3,6 +3,7 @@ mod NumberLaws
 mod WordLaws
 mod LineWordLaws
 pub mod LineLaws
+mod PlaceLaws
 mod WholeLineLaws
 pub mod LineStepLaws
 pub mod ReadingLaws

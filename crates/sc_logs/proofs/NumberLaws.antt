@@ -107,9 +107,54 @@ pub value_reads : (word : List ℕ) (o : Option ℕ) → true ≡ has_number_for
 value_reads word (Some n) form read = number_read word n (sym form) read.0 read.1
 value_reads word None form none = digits_none word none
 
--- digits that bytes begin with, of this form, are a number's text
-pub number_begins : (bytes digits rest : List ℕ) (place n : ℕ) → digits ≡ take place bytes → rest ≡ drop place bytes → true ≡ has_number_form digits
-    → AllDigits 10 (take place bytes) → n ≡ digits_value 10 (take place bytes) → (is_number n ≡ true) × (bytes ≡ decimal n ++ rest)
-number_begins bytes digits rest place n front back form are is =
-    let read = number_read (take place bytes) n (sym (form ∙ ap has_number_form front)) are is in
-    (read.0, sym (take-append-drop place bytes) ∙ (ap (λ (w : List ℕ). w ++ drop place bytes) (sym read.1) ∙ ap (λ (w : List ℕ). decimal n ++ w) (sym back)))
+-- ---- a first digit other than `0`, and the digits after it
+
+pub positive : (n : ℕ) → (n ≡ 0 → ⊥) → nat_lt 0 n ≡ true
+positive zero h = absurd (h refl)
+positive (suc n) h = lt-ltb 0 (suc n) (omega arith)
+
+first_digits : (b : ℕ) (bs : List ℕ) → 49 ≤ b → b ≤ 57 → AllDigits 10 bs → AllDigits 10 (b ∷ bs)
+first_digits b bs low high digits =
+    let least : 48 ≤ b = omega arith in
+    let value = digit_value_digit b (least, high) in
+    let digit : digit_value b < 10 = omega (arith, value) in
+    (digit, digits)
+
+first_form : (b : ℕ) (bs : List ℕ) → 49 ≤ b → suc (length bs) ≤ 18 → has_number_form (b ∷ bs) ≡ true
+first_form b bs low few =
+    let more : 48 < b = omega arith in
+    and_from (nat_lt 0 (suc (length bs)) && nat_le (suc (length bs)) 18) ((suc (length bs) == 1) || not (begins_with 48 (b ∷ bs)))
+    (and_from (nat_lt 0 (suc (length bs))) (nat_le (suc (length bs)) 18) (lt-ltb 0 (suc (length bs)) (omega arith)) (le-leb (suc (length bs)) 18 few))
+    (or_right (suc (length bs) == 1) (not (begins_with 48 (b ∷ bs))) (not_padded (b ∷ bs) more))
+
+-- a text that begins with another digit than `0` isn't that of 0
+some_number : (n b : ℕ) (bs : List ℕ) → decimal n ≡ b ∷ bs → 49 ≤ b → n ≡ 0 → ⊥
+some_number n b bs e low none =
+    let texts : b ∷ bs ≡ 48 ∷ [] = sym e ∙ (ap decimal none ∙ decimal_digit 0 (omega arith)) in
+    let same : b ≡ 48 = ap (λ (w : List ℕ). get_or w 0 0) texts in
+    absurd (omega (arith, same))
+
+-- a first digit and fewer than 18 further ones leave room for one more
+pub from_small : (n b i : ℕ) (bs : List ℕ) → n ≡ digits_value 10 (b ∷ take i bs) → 49 ≤ b → b ≤ 57 → AllDigits 10 (take i bs) → i < length bs → i < 18 → n < 10 ^ 18
+from_small n b i bs e low high digits h few =
+    let long = length-take-le i bs (omega arith) in
+    let size : suc (length (take i bs)) ≤ 18 = omega (arith, long) in
+    subst (λ (m : ℕ). m < 10 ^ 18) (sym e) (digits_value_short model (b ∷ take i bs) 18 (first_digits b (take i bs) low high digits) size)
+
+pub from_more : (n b i : ℕ) (bs : List ℕ) → n ≡ digits_value 10 (b ∷ take i bs) → i < length bs → IsInRange 48 57 (get_or bs i 0)
+    → n * 10 + (get_or bs i 0 - 48) ≡ digits_value 10 (b ∷ take (i + 1) bs)
+from_more n b i bs e h range =
+    let later : suc i < suc (length bs) = omega arith in
+    let one : suc i + 1 ≡ suc (i + 1) = omega arith in
+    subst (λ (k : ℕ). n * 10 + (get_or bs i 0 - 48) ≡ digits_value 10 (take k (b ∷ bs))) one (value_more n (suc i) (b ∷ bs) e later range)
+
+-- they are a number's text
+pub from_read : (n b i : ℕ) (bs rest : List ℕ) → 49 ≤ b → b ≤ 57 → AllDigits 10 (take i bs) → n ≡ digits_value 10 (b ∷ take i bs) → i < length bs → i ≤ 17 → rest ≡ drop i bs
+    → (nat_lt 0 n && is_number n ≡ true) × (b ∷ bs ≡ decimal n ++ rest)
+from_read n b i bs rest low high digits is h few back =
+    let long = length-take-le i bs (omega arith) in
+    let size : suc (length (take i bs)) ≤ 18 = omega (arith, long) in
+    let read = number_read (b ∷ take i bs) n (first_form b (take i bs) low size) (first_digits b (take i bs) low high digits) is in (
+      and_from (nat_lt 0 n) (is_number n) (positive n (some_number n b (take i bs) read.1 low)) read.0,
+      ap (λ (w : List ℕ). b ∷ w) (sym (take-append-drop i bs)) ∙ (ap (λ (w : List ℕ). w ++ drop i bs) (sym read.1) ∙ ap (λ (w : List ℕ). decimal n ++ w) (sym back)),
+    )

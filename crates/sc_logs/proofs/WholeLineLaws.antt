@@ -1,9 +1,8 @@
 -- Laws of a line that is read in one pass.
-use Rattle.std.proofs.Common.{◌≡◌, ◌+◌, ◌<◌, ◌==◌, ℕ, zero, suc, List, [], ◌∷◌, ◌++◌, map, length, Bool, true, false, not, nat_lt, refl, sym, ap, ◌∙◌, append_assoc, append-nil, arith}
+use Rattle.std.proofs.Common.{◌≡◌, ◌+◌, ◌<◌, ◌==◌, ℕ, suc, List, [], ◌∷◌, ◌++◌, map, length, Bool, true, false, not, refl, sym, ap, ◌∙◌, append_assoc, append-nil, arith}
 use Rattle.std.specs.List.{list_all}
 use Rattle.std.specs.Fmt.{decimal}
-use Rattle.std.proofs.lemmas.Bool.{and_from, lt-ltb, true≢false}
-use Rattle.std.proofs.lemmas.Fmt.{decimal_digit}
+use Rattle.std.proofs.lemmas.Bool.{and_from}
 use Rattle.std.proofs.lemmas.List.{length-append, map-append}
 use Rattle.std.proofs.lemmas.List.Folds.{list_all-append}
 use Rattle.sc_clauses.specs.declared.lit.Lit.{Lit}
@@ -11,7 +10,6 @@ use Rattle.sc_clauses.specs.declared.step.Learned as learned
 use Rattle.sc_clauses.specs.declared.step.Step.TheVariants.{Learned}
 use Rattle.sc_logs.specs.Texts.{lit_text, spaced, step_line}
 use Rattle.sc_logs.specs.Writable.{is_lit, is_hint, are_hints, is_learned}
-use Rattle.sc_footprint.specs.Written.{is_number}
 use Rattle.sc_logs.proofs.TextLaws.{flat_map-append, learned_written}
 
 -- ---- words with a space before each
@@ -28,10 +26,8 @@ more_text text bytes rest word later xs x is next read =
     ∙ (sym (append_assoc (spaced (map text xs)) (32 ∷ (text x ++ [])) later) ∙ ap (λ t. t ++ later) (sym moved))
 
 -- the `0` after the words
-ended_text : (front bytes rest word later : List ℕ) (n : ℕ) → bytes ≡ front ++ rest → rest ≡ 32 ∷ word → word ≡ decimal n ++ later → n ≡ 0 → bytes ≡ front ++ 32 ∷ 48 ∷ later
-ended_text front bytes rest word later n is next read none =
-    let zero_is : decimal n ≡ 48 ∷ [] = ap decimal none ∙ decimal_digit 0 (omega arith) in
-    is ∙ ap (λ t. front ++ t) (next ∙ ap (λ t. 32 ∷ t) (read ∙ ap (λ t. t ++ later) zero_is))
+pub ended_text : (front bytes rest word later : List ℕ) → bytes ≡ front ++ rest → rest ≡ 32 ∷ word → word ≡ 48 ∷ later → bytes ≡ front ++ 32 ∷ 48 ∷ later
+ended_text front bytes rest word later is next zero_is = is ∙ ap (λ t. front ++ t) (next ∙ ap (λ t. 32 ∷ t) zero_is)
 
 -- what is left gets shorter
 pub word_shorter : (rest word text later : List ℕ) → rest ≡ 32 ∷ word → word ≡ text ++ later → length later < length rest
@@ -40,40 +36,23 @@ word_shorter rest word text later next read =
     let short : length word ≡ length text + length later = ap length read ∙ length-append text later in
     omega (arith, long, short)
 
-positive : (n : ℕ) → (n ≡ 0 → ⊥) → nat_lt 0 n ≡ true
-positive zero h = absurd (h refl)
-positive (suc n) h = lt-ltb 0 (suc n) (omega arith)
-
 -- ---- literals
 
-pub lits_fit : (xs : List Lit) (l : Lit) → list_all is_lit xs ≡ true → (l.atom ≡ 0 → ⊥) → is_number l.atom ≡ true → list_all is_lit (xs ++ l ∷ []) ≡ true
-lits_fit xs l fit h e = more_fit is_lit xs l fit (and_from (nat_lt 0 l.atom) (is_number l.atom) (positive l.atom h) e)
+pub lits_fit : (xs : List Lit) (l : Lit) → list_all is_lit xs ≡ true → is_lit l ≡ true → list_all is_lit (xs ++ l ∷ []) ≡ true
+lits_fit xs l fit e = more_fit is_lit xs l fit e
 
 pub lits_text : (bytes rest word later : List ℕ) (xs : List Lit) (l : Lit) → bytes ≡ spaced (map lit_text xs) ++ rest → rest ≡ 32 ∷ word → word ≡ lit_text l ++ later
     → bytes ≡ spaced (map lit_text (xs ++ l ∷ [])) ++ later
 lits_text bytes rest word later xs l is next read = more_text lit_text bytes rest word later xs l is next read
 
-positive_text : (n : ℕ) (b : Bool) → b ≡ false → lit_text (record { atom = n; negated = b }) ≡ decimal n
-positive_text n true e = absurd (true≢false e)
-positive_text n false e = refl
-
-pub lits_ended : (bytes rest word later : List ℕ) (xs : List Lit) (l : Lit) → bytes ≡ spaced (map lit_text xs) ++ rest → rest ≡ 32 ∷ word → word ≡ lit_text l ++ later → l.atom ≡ 0 → l.negated ≡ false
-    → bytes ≡ spaced (map lit_text xs) ++ 32 ∷ 48 ∷ later
-lits_ended bytes rest word later xs l is next read none e =
-    ended_text (spaced (map lit_text xs)) bytes rest word later l.atom is next (read ∙ ap (λ t. t ++ later) (positive_text l.atom l.negated e)) none
-
 -- ---- hints
 
-pub hints_fit : (xs : List ℕ) (h : ℕ) → list_all is_hint xs ≡ true → (h ≡ 0 → ⊥) → is_number h ≡ true → list_all is_hint (xs ++ h ∷ []) ≡ true
-hints_fit xs h fit p e = more_fit is_hint xs h fit (and_from (nat_lt 0 h) (is_number h) (positive h p) e)
+pub hints_fit : (xs : List ℕ) (h : ℕ) → list_all is_hint xs ≡ true → is_hint h ≡ true → list_all is_hint (xs ++ h ∷ []) ≡ true
+hints_fit xs h fit e = more_fit is_hint xs h fit e
 
 pub hints_text : (bytes rest word later xs : List ℕ) (h : ℕ) → bytes ≡ spaced (map decimal xs) ++ rest → rest ≡ 32 ∷ word → word ≡ decimal h ++ later
     → bytes ≡ spaced (map decimal (xs ++ h ∷ [])) ++ later
 hints_text bytes rest word later xs h is next read = more_text decimal bytes rest word later xs h is next read
-
-pub hints_ended : (bytes rest word later xs : List ℕ) (h : ℕ) → bytes ≡ spaced (map decimal xs) ++ rest → rest ≡ 32 ∷ word → word ≡ decimal h ++ later → h ≡ 0
-    → bytes ≡ spaced (map decimal xs) ++ 32 ∷ 48 ∷ later
-hints_ended bytes rest word later xs h is next read none = ended_text (spaced (map decimal xs)) bytes rest word later h is next read none
 
 -- ---- the line
 

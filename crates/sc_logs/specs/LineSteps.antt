@@ -1,5 +1,5 @@
 -- The step whose line some bytes are.
-use Rattle.std.specs.Prelude.{◌&&◌, ◌||◌, ◌==◌, ℕ, List, [], ◌∷◌, map, drop, get_or, length, Bool, true, false, not, nat_lt, nat_le, Option, Some, None, if◌then◌else◌}
+use Rattle.std.specs.Prelude.{◌&&◌, ◌||◌, ◌==◌, ◌-◌, ℕ, List, [], ◌∷◌, map, drop, get_or, length, Bool, true, false, not, nat_lt, nat_le, Option, Some, None, if◌then◌else◌}
 use Rattle.std.specs.List.{slice_split}
 use Rattle.std.specs.Str.{bytes_eq}
 use Rattle.std.specs.Str.Parse.{digits_value}
@@ -19,6 +19,10 @@ use Rattle.sc_logs.specs.Writable.{is_writable}
 abbrev pub words_in : Option (List ℕ) → List (List ℕ)
 words_in None = []
 words_in (Some rest) = slice_split (λ b. b == 32) rest
+
+-- the last byte is a newline
+abbrev pub ends_line : List ℕ → Bool
+ends_line bytes = get_or bytes (length bytes - 1) 0 == 10
 
 -- ---- what a text could only be, where it is one at all
 

@@ -14,7 +14,7 @@ fn begins_with_zero(word: &[u8]) -> bool
 
 /// Whether a word has as many bytes as a number has digits, and begins with `0` only where it has
 /// one.
-pub(crate) fn has_number_form(word: &[u8]) -> bool
+fn has_number_form(word: &[u8]) -> bool
     ensures { result ≡ has_number_form word.now }
 {
     let length = word.len();

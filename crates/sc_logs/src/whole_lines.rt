@@ -1,151 +1,229 @@
-//! Reads the line of a learned clause in one pass, where bytes begin with it. Bytes that aren't read here may
-//! still begin with a line of a log, which is then cut into words.
-ghost use Rattle.std.specs.Prelude.{◌≡◌, ◌≤◌, ◌∷◌, ◌++◌, map, decimal, take, length, IfSome, IfOk, IsTrue};
+//! Reads the line of a learned clause in one pass, where bytes begin with it and end with a newline. Each other byte
+//! then has one behind it, so that a place is never past the end. Bytes that aren't read here may still begin with a
+//! line of a log, which is then cut into words.
+ghost use Rattle.std.specs.Prelude.{◌≡◌, ◌<◌, ◌≤◌, ◌+◌, ◌-◌, ◌∷◌, ◌++◌, map, drop, get_or, length, decimal, IfSome, IfOk, IsTrue};
+ghost use Rattle.std.specs.Int.{IsInRange};
 ghost use Rattle.std.specs.List.{list_all};
-ghost use Rattle.std.specs.Str.Parse.{AllDigits, digits_value};
+ghost use Rattle.sc_logs.specs.LineSteps.{ends_line};
 ghost use Rattle.sc_logs.specs.Texts.{lit_text, spaced, step_line};
 ghost use Rattle.sc_logs.specs.Writable.{is_lit, is_hint, is_learned};
-ghost use Rattle.sc_footprint.specs.Written.{is_number};
 
 use crate::lines::Room;
-use crate::numbers::has_number_form;
 use sc_clauses::{Lit, Step};
 use std::alloc::AllocError;
 
-/// What follows the first byte, where it is this one.
-fn after_byte(bytes: &[u8], first: u8) -> Option<&[u8]>
-    ensures { IfSome result (λ rest. bytes.now ≡ first ∷ rest.now) }
-{
-    match bytes {
-        [byte, rest @ ..] if *byte == first => Some(rest),
-        _ => None,
-    }
-}
-
-/// The number that the digits before a place are, and what follows them.
-fn number_before(bytes: &[u8], place: usize, value: u64) -> Option<(u64, &[u8])>
-    requires within { place ≤ length bytes.now }
-    requires digits { AllDigits 10 (take place bytes.now) }
-    requires value { value ≡ digits_value 10 (take place bytes.now) }
-    ensures { IfSome result (λ p. IsTrue (is_number p.0) × (bytes.now ≡ decimal p.0 ++ p.1.now)) }
-{
-    let (digits, rest) = bytes.split_at(place);
-    if has_number_form(digits) {
-        Some((value, rest))
-    } else {
-        None
-    }
-}
-
-/// The number that bytes begin with, up to the first byte that is no digit, and what follows.
+/// Whether bytes end with a newline.
 #[inline(always)]
-#[tactic(auto, using(crate::proofs::NumberLaws::digit_at))]
-fn leading_number(bytes: &[u8]) -> Option<(u64, &[u8])>
-    ensures { IfSome result (λ p. IsTrue (is_number p.0) × (bytes.now ≡ decimal p.0 ++ p.1.now)) }
+#[tactic(auto, using(crate::proofs::PlaceLaws::nothing_ends))]
+fn ends_line(bytes: &[u8]) -> bool
+    ensures { result ≡ ends_line bytes.now }
 {
-    let mut value = 0u64;
-    for (i, byte) in bytes.iter().enumerate() {
-        if !byte.is_ascii_digit() {
-            return number_before(bytes, i, value);
-        }
-        if i >= 18 {
-            return None;
-        }
-        value = value * 10 + (*byte - b'0') as u64;
+    let count = bytes.len();
+    if count == 0 {
+        return false;
+    }
+    bytes[count - 1] == b'\n'
+}
+
+/// The place behind a byte other than a newline, where it stands at a place.
+#[inline(always)]
+#[tactic(auto, using(crate::proofs::PlaceLaws::byte_stands, crate::proofs::PlaceLaws::byte_next))]
+fn after_byte(bytes: &[u8], place: usize, byte: u8) -> Option<usize>
+    requires ended { IsTrue (ends_line bytes.now) }
+    requires within { place < length bytes.now }
+    requires other { 10 < byte }
+    ensures { IfSome result (λ next. (next < length bytes.now) × (drop place bytes.now ≡ byte ∷ drop next bytes.now)) }
+{
+    if bytes[place] == byte {
+        return Some(place + 1);
     }
     None
 }
 
-/// The literal that bytes begin with, or 0 or its negation, and what follows.
-fn leading_lit(bytes: &[u8]) -> Option<(Lit, &[u8])>
-    ensures { IfSome result (λ p. IsTrue (is_number p.0.atom) × (bytes.now ≡ lit_text p.0 ++ p.1.now)) }
+/// The value of the digit at a place.
+#[inline(always)]
+#[tactic(auto, using(crate::proofs::PlaceLaws::digit_next))]
+fn digit_at(bytes: &[u8], place: usize) -> Option<u8>
+    requires ended { IsTrue (ends_line bytes.now) }
+    requires within { place < length bytes.now }
+    ensures { IfSome result (λ digit. (place + 1 < length bytes.now) × IsInRange 48 57 (get_or bytes.now place 0)
+        × (digit ≡ get_or bytes.now place 0 - 48)) }
 {
-    match after_byte(bytes, b'-') {
+    let byte = bytes[place];
+    if !byte.is_ascii_digit() {
+        return None;
+    }
+    Some(byte - b'0')
+}
+
+/// The digit other than `0` at a place.
+#[inline(always)]
+fn first_digit_at(bytes: &[u8], place: usize) -> Option<u8>
+    requires ended { IsTrue (ends_line bytes.now) }
+    requires within { place < length bytes.now }
+    ensures { IfSome result (λ first. (place + 1 < length bytes.now)
+        × (drop place bytes.now ≡ first ∷ drop (place + 1) bytes.now) × (49 ≤ first) × (first ≤ 57)) }
+{
+    let first = bytes[place];
+    if first < b'1' {
+        return None;
+    }
+    if b'9' < first {
+        return None;
+    }
+    Some(first)
+}
+
+/// The number of a first digit other than `0` and the digits from a place on, and the place behind these.
+#[inline(always)]
+fn number_from(bytes: &[u8], first: u8, from: usize) -> Option<(u64, usize)>
+    requires ended { IsTrue (ends_line bytes.now) }
+    requires within { from < length bytes.now }
+    requires digit { (49 ≤ first) × (first ≤ 57) }
+    ensures { IfSome result (λ p. (p.1 < length bytes.now) × IsTrue (is_hint p.0)
+        × (first ∷ drop from bytes.now ≡ decimal p.0 ++ drop p.1 bytes.now)) }
+{
+    let mut value = (first - b'0') as u64;
+    for i in 0..18 {
+        let Some(digit) = digit_at(bytes, from + i) else {
+            return Some((value, from + i));
+        };
+        value = value * 10 + digit as u64;
+    }
+    None
+}
+
+/// The number other than 0 at a place, up to the first byte that is no digit, and the place of that byte.
+#[inline(always)]
+fn number_at(bytes: &[u8], place: usize) -> Option<(u64, usize)>
+    requires ended { IsTrue (ends_line bytes.now) }
+    requires within { place < length bytes.now }
+    ensures { IfSome result (λ p. (p.1 < length bytes.now) × IsTrue (is_hint p.0)
+        × (drop place bytes.now ≡ decimal p.0 ++ drop p.1 bytes.now)) }
+{
+    let first = first_digit_at(bytes, place)?;
+    number_from(bytes, first, place + 1)
+}
+
+/// The literal at a place, and the place behind it.
+#[inline(always)]
+fn lit_at(bytes: &[u8], place: usize) -> Option<(Lit, usize)>
+    requires ended { IsTrue (ends_line bytes.now) }
+    requires within { place < length bytes.now }
+    ensures { IfSome result (λ p. (p.1 < length bytes.now) × IsTrue (is_lit p.0)
+        × (drop place bytes.now ≡ lit_text p.0 ++ drop p.1 bytes.now)) }
+{
+    match after_byte(bytes, place, b'-') {
         Some(digits) => {
-            let (atom, rest) = leading_number(digits)?;
+            let (atom, end) = number_at(bytes, digits)?;
             Some((
                 Lit {
                     atom,
                     negated: true,
                 },
-                rest,
+                end,
             ))
         }
         None => {
-            let (atom, rest) = leading_number(bytes)?;
+            let (atom, end) = number_at(bytes, place)?;
             Some((
                 Lit {
                     atom,
                     negated: false,
                 },
-                rest,
+                end,
             ))
         }
     }
 }
 
-/// Reads literals with a space before each, and the `0` after them. What follows, where bytes begin with such.
+/// Reads literals from a place on with a space before each, and the `0` after them. The place behind it, where such
+/// stand there.
+#[inline(always)]
 #[tactic(auto, using(crate::proofs::WholeLineLaws::lits_fit, crate::proofs::WholeLineLaws::lits_text, crate::proofs::WholeLineLaws::word_shorter))]
-fn read_lits<'b>(bytes: &'b [u8], lits: &mut Vec<Lit>) -> Result<Option<&'b [u8]>, AllocError>
-    ensures { IfOk result (λ o. IfSome o (λ rest. IsTrue (list_all is_lit lits.new.items)
-        × (bytes.now ≡ spaced (map lit_text lits.new.items) ++ 32 ∷ 48 ∷ rest.now))) }
+fn read_lits(bytes: &[u8], from: usize, lits: &mut Vec<Lit>) -> Result<Option<usize>, AllocError>
+    requires ended { IsTrue (ends_line bytes.now) }
+    requires within { from < length bytes.now }
+    ensures { IfOk result (λ o. IfSome o (λ end. (end < length bytes.now) × IsTrue (list_all is_lit lits.new.items)
+        × (drop from bytes.now ≡ spaced (map lit_text lits.new.items) ++ 32 ∷ 48 ∷ drop end bytes.now))) }
 {
     lits.clear();
-    let mut rest = bytes;
-    while let Some(word) = after_byte(rest, b' ') {
-        let Some((lit, later)) = leading_lit(word) else {
-            return Ok(None);
-        };
-        if lit.atom == 0 {
-            if lit.negated {
-                return Ok(None);
-            }
+    let mut place = from;
+    while let Some(word) = after_byte(bytes, place, b' ') {
+        if let Some(later) = after_byte(bytes, word, b'0') {
             return Ok(Some(later));
         }
+        let Some((lit, later)) = lit_at(bytes, word) else {
+            return Ok(None);
+        };
         lits.push(lit)?;
-        rest = later;
+        place = later;
     }
     Ok(None)
 }
 
-/// Reads hints with a space before each, and the `0` after them. What follows, where bytes begin with such.
+/// Reads hints from a place on with a space before each, and the `0` after them. The place behind it, where such
+/// stand there.
+#[inline(always)]
 #[tactic(auto, using(crate::proofs::WholeLineLaws::hints_fit, crate::proofs::WholeLineLaws::hints_text, crate::proofs::WholeLineLaws::word_shorter))]
-fn read_hints<'b>(bytes: &'b [u8], hints: &mut Vec<u64>) -> Result<Option<&'b [u8]>, AllocError>
-    ensures { IfOk result (λ o. IfSome o (λ rest. IsTrue (list_all is_hint hints.new.items)
-        × (bytes.now ≡ spaced (map decimal hints.new.items) ++ 32 ∷ 48 ∷ rest.now))) }
+fn read_hints(bytes: &[u8], from: usize, hints: &mut Vec<u64>) -> Result<Option<usize>, AllocError>
+    requires ended { IsTrue (ends_line bytes.now) }
+    requires within { from < length bytes.now }
+    ensures { IfOk result (λ o. IfSome o (λ end. (end < length bytes.now) × IsTrue (list_all is_hint hints.new.items)
+        × (drop from bytes.now ≡ spaced (map decimal hints.new.items) ++ 32 ∷ 48 ∷ drop end bytes.now))) }
 {
     hints.clear();
-    let mut rest = bytes;
-    while let Some(word) = after_byte(rest, b' ') {
-        let Some((hint, later)) = leading_number(word) else {
-            return Ok(None);
-        };
-        if hint == 0 {
+    let mut place = from;
+    while let Some(word) = after_byte(bytes, place, b' ') {
+        if let Some(later) = after_byte(bytes, word, b'0') {
             return Ok(Some(later));
         }
+        let Some((hint, later)) = number_at(bytes, word) else {
+            return Ok(None);
+        };
         hints.push(hint)?;
-        rest = later;
+        place = later;
     }
     Ok(None)
 }
 
-/// Reads a learned clause and its hints, where bytes begin with the line of such. What follows its newline.
+/// What follows a newline, where it stands at a place.
+#[inline(always)]
+#[tactic(auto, using(crate::proofs::PlaceLaws::newline_stands))]
+fn after_newline(bytes: &[u8], place: usize) -> Option<&[u8]>
+    requires { place < length bytes.now }
+    ensures { IfSome result (λ rest. drop place bytes.now ≡ 10 ∷ rest.now) }
+{
+    if bytes[place] == b'\n' {
+        let (_, rest) = bytes.split_at(place + 1);
+        return Some(rest);
+    }
+    None
+}
+
+/// Reads a learned clause and its hints, where bytes begin with the line of such and end with a newline. What follows
+/// the line's newline.
+#[inline(always)]
+#[tactic(auto, using(crate::proofs::PlaceLaws::some_bytes))]
 pub fn read_whole<'b>(bytes: &'b [u8], room: &mut Room) -> Result<Option<&'b [u8]>, AllocError>
     ensures { IfOk result (λ o. IfSome o (λ rest. IsTrue (is_learned
         (record { clause = room.new.clause.items; hints = room.new.hints.items })) × (bytes.now ≡ step_line (Step.Learned
         (record { clause = room.new.clause.items; hints = room.new.hints.items })) ++ 10 ∷ rest.now))) }
 {
-    let Some(lits) = after_byte(bytes, b'l') else {
+    if !ends_line(bytes) {
+        return Ok(None);
+    }
+    let Some(lits) = after_byte(bytes, 0, b'l') else {
         return Ok(None);
     };
-    let Some(hints) = read_lits(lits, &mut room.clause)? else {
+    let Some(hints) = read_lits(bytes, lits, &mut room.clause)? else {
         return Ok(None);
     };
-    let Some(end) = read_hints(hints, &mut room.hints)? else {
+    let Some(end) = read_hints(bytes, hints, &mut room.hints)? else {
         return Ok(None);
     };
     if room.hints.is_empty() {
         return Ok(None);
     }
-    Ok(after_byte(end, b'\n'))
+    Ok(after_newline(bytes, end))
 }

@@ -1,16 +1,49 @@
 -- What is left of the clause that numbers begin with, one number after another.
-use Rattle.std.proofs.Common.{◌≡◌, ◌+◌, ◌<◌, ◌≤◌, ℕ, List, [], ◌∷◌, ◌++◌, drop, get_or, length, Bool, true, false, not, cond, ◌&&◌, Option, Some, None, refl, sym, ap, ◌∙◌, append-nil}
+use Rattle.std.proofs.Common.{◌≡◌, ◌+◌, ◌<◌, ◌≤◌, ℕ, List, [], ◌∷◌, ◌++◌, drop, get_or, length, Bool, true, false, not, cond, ◌&&◌, ◌==◌, Option, Some, None, refl, sym, ap, ◌∙◌, append-nil}
 use Rattle.std.specs.List.{list_all}
 use Rattle.std.specs.Option.{option_to_list}
-use Rattle.std.proofs.lemmas.Bool.{not-true, true≢false}
+use Rattle.std.proofs.lemmas.Bool.{eq-eqb, eqb-true, ne_eqb, not-true, true≢false}
 use Rattle.sc_clauses.specs.declared.lit.Lit.{Lit}
 use Rattle.sc_clauses.specs.Clauses.{Clause, lit_eq, negation}
-use Rattle.sc_clauses.proofs.LitLaws.{lit_eq-true}
+use Rattle.sc_clauses.proofs.LitLaws.{lit_eq-true, lit_eq-itself}
 use Rattle.sc_refutations.specs.declared.refuting.Residual.{Residual}
-use Rattle.sc_refutations.specs.declared.refuting.Residual.TheVariants.{Unit, Open}
-use Rattle.sc_refutations.specs.Arenas.{lit_of, run}
+use Rattle.sc_refutations.specs.declared.refuting.Residual.TheVariants.{Conflict, Unit, Open}
+use Rattle.sc_refutations.specs.Arenas.{code_of, lit_of, lit_found, run}
 use Rattle.sc_refutations.specs.Refutations.{LitSet, open_lits, residual, is_other}
-use Rattle.sc_refutations.proofs.ArenaLaws.{run_stops, run_goes, run_past}
+use Rattle.sc_refutations.proofs.ArenaLaws.{code_again, run_stops, run_goes, run_past}
+
+-- ---- the number of the literal that was found, or 0
+
+found_by : (code : ℕ) (t : Bool) → (code == 0) ≡ t → lit_found code ≡ cond t None (Some (lit_of code))
+found_by code t e = ap (λ (b : Bool). cond b None (Some (lit_of code))) e
+
+pub found_some : (code : ℕ) → (code ≡ 0 → ⊥) → lit_found code ≡ Some (lit_of code)
+found_some code some = found_by code false (ne_eqb code 0 some)
+
+pub none_found : (found : ℕ) → found ≡ 0 → Conflict ≡ residual (option_to_list (lit_found found))
+none_found found none = ap (λ (o : Option Lit). residual (option_to_list o)) (sym (found_by found true (eq-eqb found 0 none)))
+
+pub one_found : (found : ℕ) (l : Lit) → (found ≡ 0 → ⊥) → l ≡ lit_of found → Unit l ≡ residual (option_to_list (lit_found found))
+one_found found l some is = ap (λ (m : Lit). Unit m) is ∙ ap (λ (o : Option Lit). residual (option_to_list o)) (sym (found_some found some))
+
+lit_differs : (a b : ℕ) (t : Bool) → lit_eq (lit_of a) (lit_of b) ≡ t → (a == b) ≡ false → t ≡ false
+lit_differs a b false e differ = refl
+lit_differs a b true e differ =
+    let same : a ≡ b = sym (code_again a) ∙ (ap code_of (lit_eq-true (lit_of a) (lit_of b) e) ∙ code_again b) in
+    sym (eq-eqb a b same) ∙ differ
+
+same_lit_by : (a b : ℕ) (t : Bool) → (a == b) ≡ t → lit_eq (lit_of a) (lit_of b) ≡ t
+same_lit_by a b true e = ap (λ (n : ℕ). lit_eq (lit_of a) (lit_of n)) (sym (eqb-true a b e)) ∙ lit_eq-itself (lit_of a)
+same_lit_by a b false e = lit_differs a b (lit_eq (lit_of a) (lit_of b)) refl e
+
+other_by : (found code : ℕ) (t : Bool) → (found == 0) ≡ t → not t && not (found == code) ≡ is_other (cond t None (Some (lit_of found))) (lit_of code)
+other_by found code true e = refl
+other_by found code false e = ap not (sym (same_lit_by found code (found == code) refl))
+
+pub other_code : (found code : ℕ) → not (found == 0) && not (found == code) ≡ is_other (lit_found found) (lit_of code)
+other_code found code = other_by found code (found == 0) refl
+
+-- ---- what is left from a place on
 
 -- what is left from a place on, where the literal there is false or not
 left_at : (known : LitSet) (codes : List ℕ) (i : ℕ) (t : Bool) → i < length codes → (get_or codes i 0 ≡ 0 → ⊥) → known (negation (lit_of (get_or codes i 0))) ≡ t

@@ -1,5 +1,5 @@
 -- Clauses in one array of numbers, one for each literal, with a 0 behind each clause.
-use Rattle.std.specs.Prelude.{◌≡◌, ◌==◌, ◌+◌, ◌*◌, ◌/◌, ◌%◌, ℕ, List, [], ◌∷◌, map, drop, Bool, true, false, nat_lt, if◌then◌else◌}
+use Rattle.std.specs.Prelude.{◌≡◌, ◌==◌, ◌+◌, ◌*◌, ◌/◌, ◌%◌, ℕ, List, [], ◌∷◌, map, drop, Bool, true, false, nat_lt, Option, Some, None, if◌then◌else◌}
 use Rattle.std.specs.List.{list_all}
 use Rattle.sc_clauses.specs.declared.lit.Lit.{Lit}
 use Rattle.sc_clauses.specs.Clauses.{Clause}
@@ -10,6 +10,10 @@ code_of l = if l.negated then l.atom * 2 + 1 else l.atom * 2
 
 abbrev pub lit_of : ℕ → Lit
 lit_of code = record { atom = code / 2; negated = code % 2 == 1 }
+
+-- the literal of a number; 0 is none's
+abbrev pub lit_found : ℕ → Option Lit
+lit_found code = if code == 0 then None else Some (lit_of code)
 
 abbrev pub has_code : Lit → Bool
 has_code l = nat_lt 0 l.atom

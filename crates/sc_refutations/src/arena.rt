@@ -14,7 +14,7 @@ use std::marker::Model;
 pub struct Arena {
     codes: Vec<u32>,
     /// Of each clause the place of its first literal.
-    starts: Vec<u64>,
+    starts: Vec<u32>,
 }
 
 impl Model for Arena {
@@ -57,6 +57,7 @@ pub(crate) fn lit_of(code: u32) -> Lit
 }
 
 /// Puts the numbers of literals after others.
+#[inline(always)]
 fn write(codes: &mut Vec<u32>, clause: &[Lit]) -> Result<(), AllocError>
     ensures written { OnOk result (codes.new.items ≡ codes.old.items ++ map code_of clause.now) }
     ensures have { OnOk result (IsTrue (list_all has_code clause.now)) }
@@ -111,11 +112,15 @@ impl Arena {
         Some(codes)
     }
 
-    /// Puts a clause after the others. It is refused as too large where an atom's number has more than 31 bits.
+    /// Puts a clause after the others. It is refused as too large where an atom's number has more than 31 bits, or the
+    /// place of its first literal more than 32.
+    #[inline(always)]
     pub fn push(&mut self, clause: &[Lit]) -> Result<(), AllocError>
         ensures { OnOk result (self.new ≡ self.old ++ clause.now ∷ []) }
     {
-        let start = self.codes.len() as u64;
+        let Ok(start) = u32::try_from(self.codes.len()) else {
+            return Err(AllocError);
+        };
         write(&mut self.codes, clause)?;
         self.codes.push(0)?;
         self.starts.push(start)?;

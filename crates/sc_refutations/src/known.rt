@@ -22,6 +22,17 @@ pub struct Known {
     ghost stamped: { IsTrue (is_stamped step marks.items) },
 }
 
+/// Whether the literal of a number is false by the marks of a step.
+#[inline(always)]
+pub(crate) fn is_false(marks: &[u64], step: u64, code: u32) -> bool
+    ensures { result ≡ says step (slice_get marks.now code) }
+{
+    match marks.get(code as usize) {
+        Some(mark) => *mark == step,
+        None => false,
+    }
+}
+
 impl Known {
     /// Nothing is known of so many atoms.
     pub fn new(alloc: Global, count: u64) -> Result<Known, AllocError>
@@ -49,17 +60,6 @@ impl Known {
         ensures number { self.new.step ≡ step }
     {
         self.step = step;
-    }
-
-    /// Whether the literal of a number is known to be false.
-    #[inline(always)]
-    pub(crate) fn is_false(&self, code: u32) -> bool
-        ensures { result ≡ says self.now.step (slice_get self.now.marks.items code) }
-    {
-        match self.marks.get(code as usize) {
-            Some(mark) => *mark == self.step,
-            None => false,
-        }
     }
 
     /// The place of the mark of a literal.

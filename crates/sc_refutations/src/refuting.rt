@@ -1,13 +1,13 @@
 //! Whether the hints of a learned clause show it.
 ghost use Rattle.std.specs.Prelude.{◌≡◌, ◌&&◌, ◌<◌, false, not, option_map, IsTrue};
 ghost use Rattle.std.specs.Option.{option_copied, option_to_list};
-ghost use Rattle.sc_refutations.specs.Arenas.{run};
+ghost use Rattle.sc_refutations.specs.Arenas.{lit_of, lit_found, run};
 ghost use Rattle.sc_refutations.specs.Known.{marked};
 ghost use Rattle.sc_refutations.specs.Refutations.{residual, is_other, open_lits, residual_at, clause_at, is_listed, is_clause, are_listed, negated, refutes};
 
 use crate::arena::{Arena, lit_of};
-use crate::known::Known;
-use sc_clauses::{Lit, is_same, negation};
+use crate::known::{Known, is_false};
+use sc_clauses::{Lit, negation};
 
 /// What is left of a clause where its false literals are left out.
 #[derive(Clone, Copy)]
@@ -20,44 +20,42 @@ pub enum Residual {
     Open,
 }
 
-/// What is left where this literal is, or none.
+/// What is left where the literal of this number is, or none where that is 0.
 #[inline(always)]
-fn left_by(found: Option<Lit>) -> Residual
-    ensures { result ≡ residual (option_to_list found) }
+#[tactic(auto, using(crate::proofs::LeftLaws::none_found, crate::proofs::LeftLaws::one_found))]
+fn left_by(found: u32) -> Residual
+    ensures { result ≡ residual (option_to_list (lit_found found)) }
 {
-    match found {
-        Some(lit) => Residual::Unit(lit),
-        None => Residual::Conflict,
+    if found == 0 {
+        return Residual::Conflict;
     }
+    Residual::Unit(lit_of(found))
 }
 
-/// Whether another literal was found before this one.
+/// Whether another literal was found before that of this number.
 #[inline(always)]
-fn is_other(found: Option<Lit>, lit: Lit) -> bool
-    ensures { result ≡ is_other found lit }
+#[tactic(auto, using(crate::proofs::LeftLaws::other_code))]
+fn is_other(found: u32, code: u32) -> bool
+    ensures { result ≡ is_other (lit_found found) (lit_of code) }
 {
-    match found {
-        Some(other) => !is_same(other, lit),
-        None => false,
-    }
+    found != 0 && found != code
 }
 
-/// What is left of the clause that numbers begin with, where these literals are true.
+/// What is left of the clause that numbers begin with, by the marks of a step.
 #[inline(always)]
-fn left_of(known: &Known, codes: &[u32]) -> Residual
-    ensures { result ≡ residual (open_lits (marked known.now.step known.now.marks.items) (run codes.now)) }
+fn left_of(marks: &[u64], step: u64, codes: &[u32]) -> Residual
+    ensures { result ≡ residual (open_lits (marked step marks.now) (run codes.now)) }
 {
-    let mut found: Option<Lit> = None;
+    let mut found = 0u32;
     for code in codes {
         if *code == 0 {
             return left_by(found);
         }
-        if !known.is_false(*code) {
-            let lit = lit_of(*code);
-            if is_other(found, lit) {
+        if !is_false(marks, step, *code) {
+            if is_other(found, *code) {
                 return Residual::Open;
             }
-            found = Some(lit);
+            found = *code;
         }
     }
     left_by(found)
@@ -79,7 +77,7 @@ fn left_at(known: &Known, clauses: &Arena, number: u64) -> Residual
     ensures { result ≡ residual_at (marked known.now.step known.now.marks.items) (clause_at clauses.now number) }
 {
     match clause_at(clauses, number) {
-        Some(codes) => left_of(known, codes),
+        Some(codes) => left_of(known.marks.as_slice(), known.step, codes),
         None => Residual::Open,
     }
 }

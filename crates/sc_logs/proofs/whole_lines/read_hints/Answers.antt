@@ -1,9 +1,14 @@
-use Rattle.sc_logs.proofs.WholeLineLaws.{hints_ended}
+use Rattle.std.proofs.Common.{map, drop}
+use Rattle.std.specs.Fmt.{decimal}
+use Rattle.sc_logs.specs.Texts.{spaced}
+use Rattle.sc_logs.proofs.WholeLineLaws.{ended_text}
 use Rattle.sc_logs.proofs.whole_lines.read_hints.Goals as goal
 
-pub returns-then-hint-eq0 : goal.returns-then-hint-eq0
-returns-then-hint-eq0 c = (
+pub returns-in-Some-after_byte : goal.returns-in-Some-after_byte
+returns-in-Some-after_byte c = (
+  c.in-Some-after_byte.ensures.0,
   c.loop-word.invariant.fit,
-  hints_ended c.args.bytes.now c.loop-word.rest.now c.in-Some.word.now c.in-Some-leading_number.later.now c.loop-word.hints.items c.in-Some-leading_number.hint
-      c.loop-word.invariant.text c.in-Some.ensures c.in-Some-leading_number.ensures.1 c.if-hint-eq0.true,
+  ended_text (spaced (map decimal c.loop-word.hints.items)) (drop c.args.from c.args.bytes.now) (drop c.loop-word.place c.args.bytes.now)
+      (drop c.in-Some.word c.args.bytes.now) (drop c.in-Some-after_byte.later c.args.bytes.now) c.loop-word.invariant.text c.in-Some.ensures.1
+      c.in-Some-after_byte.ensures.1,
 )

@@ -1,4 +1,4 @@
-use Rattle.std.proofs.Common.{◌≡◌, ◌++◌, true, map, length}
+use Rattle.std.proofs.Common.{◌≡◌, ◌<◌, ◌++◌, true, map, drop, length}
 use Rattle.std.specs.Fmt.{decimal}
 use Rattle.std.specs.List.{list_all}
 use Rattle.sc_logs.specs.Texts.{spaced}
@@ -8,9 +8,10 @@ use Rattle.sc_logs.proofs.whole_lines.read_hints.Given as goal
 -- the hints before are read
 abbrev pub invariant-loop-word : goal.invariant-loop-word
 invariant-loop-word l = record {
+  within : l.place < length l.bytes;
   fit : list_all is_hint l.hints.items ≡ true;
-  text : l.initial.rest ≡ spaced (map decimal l.hints.items) ++ l.rest;
+  text : drop l.from l.bytes ≡ spaced (map decimal l.hints.items) ++ drop l.place l.bytes;
 }
 
 abbrev pub decreases-loop-word : goal.decreases-loop-word
-decreases-loop-word l = length l.rest
+decreases-loop-word l = length (drop l.place l.bytes)

@@ -1,9 +1,13 @@
-use Rattle.sc_logs.proofs.WholeLineLaws.{lits_ended}
+use Rattle.std.proofs.Common.{map, drop}
+use Rattle.sc_logs.specs.Texts.{lit_text, spaced}
+use Rattle.sc_logs.proofs.WholeLineLaws.{ended_text}
 use Rattle.sc_logs.proofs.whole_lines.read_lits.Goals as goal
 
-pub returns-then-lit-eq0 : goal.returns-then-lit-eq0
-returns-then-lit-eq0 c = (
+pub returns-in-Some-after_byte : goal.returns-in-Some-after_byte
+returns-in-Some-after_byte c = (
+  c.in-Some-after_byte.ensures.0,
   c.loop-word.invariant.fit,
-  lits_ended c.args.bytes.now c.loop-word.rest.now c.in-Some.word.now c.in-Some-leading_lit.later.now c.loop-word.lits.items c.in-Some-leading_lit.lit
-      c.loop-word.invariant.text c.in-Some.ensures c.in-Some-leading_lit.ensures.1 c.if-lit-eq0.true c.if-lit.false,
+  ended_text (spaced (map lit_text c.loop-word.lits.items)) (drop c.args.from c.args.bytes.now) (drop c.loop-word.place c.args.bytes.now)
+      (drop c.in-Some.word c.args.bytes.now) (drop c.in-Some-after_byte.later c.args.bytes.now) c.loop-word.invariant.text c.in-Some.ensures.1
+      c.in-Some-after_byte.ensures.1,
 )

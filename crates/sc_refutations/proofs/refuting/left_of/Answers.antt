@@ -1,46 +1,47 @@
-use Rattle.std.proofs.Common.{◌∙◌, ◌++◌, ◌+◌, ◌<◌, ◌≤◌, drop, get_or, length, Option, Some, sym, ap, arith}
+use Rattle.std.proofs.Common.{◌∙◌, ◌++◌, ◌+◌, ◌<◌, ◌≤◌, drop, get_or, length, Option, sym, ap, arith}
 use Rattle.std.specs.Option.{option_to_list}
 use Rattle.sc_clauses.specs.declared.lit.Lit.{Lit}
-use Rattle.sc_refutations.specs.Arenas.{run}
+use Rattle.sc_refutations.specs.Arenas.{lit_found, run}
 use Rattle.sc_refutations.specs.Known.{marked}
-use Rattle.sc_refutations.specs.Refutations.{residual, is_other, open_lits}
+use Rattle.sc_refutations.specs.Refutations.{residual, open_lits}
 use Rattle.sc_refutations.proofs.KnownLaws.{marked_code}
-use Rattle.sc_refutations.proofs.LeftLaws.{left_skipped, left_taken, left_open, left_ended, left_past}
+use Rattle.sc_refutations.proofs.LeftLaws.{found_some, left_skipped, left_taken, left_open, left_ended, left_past}
 use Rattle.sc_refutations.proofs.refuting.left_of.Goals.{then-not-is_false+else-is_other, else-not-is_false}
 use Rattle.sc_refutations.proofs.refuting.left_of.Goals as goal
 
 pub returns-then-code-eq0 : goal.returns-then-code-eq0
 returns-then-code-eq0 c =
-    let known = marked c.args.known.now.step c.args.known.now.marks.items in
+    let known = marked c.args.step c.args.marks.now in
     let index : c.loop-code.code-index < length c.args.codes.now = omega arith in
-    c.left_by.ensures ∙ left_ended known c.args.codes.now c.loop-code.code-index c.loop-code.found _ index c.if-code-eq0.true c.loop-code.invariant
+    c.left_by.ensures ∙ left_ended known c.args.codes.now c.loop-code.code-index (lit_found c.loop-code.found) _ index c.if-code-eq0.true c.loop-code.invariant
 
 pub returns-then-is_other : goal.returns-then-is_other
 returns-then-is_other c =
-    let known = marked c.args.known.now.step c.args.known.now.marks.items in
+    let known = marked c.args.step c.args.marks.now in
     let index : c.loop-code.code-index < length c.args.codes.now = omega arith in
-    left_open known c.args.codes.now c.loop-code.code-index c.loop-code.found _ index c.if-code-eq0.false
-    (marked_code c.args.known.now.step (get_or c.args.codes.now c.loop-code.code-index 0) c.args.known.now.marks.items ∙ sym c.if-not-is_false.ensures)
-    (ap (λ (l : Lit). is_other c.loop-code.found l) (sym c.lit_of-lit.ensures) ∙ sym c.if-is_other.ensures) c.loop-code.invariant
+    left_open known c.args.codes.now c.loop-code.code-index (lit_found c.loop-code.found) _ index c.if-code-eq0.false
+    (marked_code c.args.step (get_or c.args.codes.now c.loop-code.code-index 0) c.args.marks.now ∙ sym c.if-not-is_false.ensures)
+    (sym c.if-is_other.ensures) c.loop-code.invariant
 
 pub loop-code-preserved : goal.loop-code-preserved
 loop-code-preserved c =
-    let known = marked c.args.known.now.step c.args.known.now.marks.items in
+    let known = marked c.args.step c.args.marks.now in
     let index : c.loop-code.code-index < length c.args.codes.now = omega arith in
+    let code = get_or c.args.codes.now c.loop-code.code-index 0 in
     elim c.if-not-is_false.branch [
       | then-not-is_false+else-is_other w ↦
-          ap (λ (o : Option Lit). residual (option_to_list o ++ open_lits known (run (drop (c.loop-code.code-index + 1) c.args.codes.now)))) (w.found-is ∙ ap (λ (l : Lit). Some l) w.lit_of-lit.ensures)
-          ∙ left_taken known c.args.codes.now c.loop-code.code-index c.loop-code.found _ index c.if-code-eq0.false
-          (marked_code c.args.known.now.step (get_or c.args.codes.now c.loop-code.code-index 0) c.args.known.now.marks.items ∙ sym w.if-not-is_false.ensures)
-          (ap (λ (l : Lit). is_other c.loop-code.found l) (sym w.lit_of-lit.ensures) ∙ sym w.if-is_other.ensures) c.loop-code.invariant
+          ap (λ (o : Option Lit). residual (option_to_list o ++ open_lits known (run (drop (c.loop-code.code-index + 1) c.args.codes.now))))
+          (ap lit_found w.found-is ∙ found_some code c.if-code-eq0.false)
+          ∙ left_taken known c.args.codes.now c.loop-code.code-index (lit_found c.loop-code.found) _ index c.if-code-eq0.false
+          (marked_code c.args.step code c.args.marks.now ∙ sym w.if-not-is_false.ensures) (sym w.if-is_other.ensures) c.loop-code.invariant
       | else-not-is_false w ↦
-          ap (λ (o : Option Lit). residual (option_to_list o ++ open_lits known (run (drop (c.loop-code.code-index + 1) c.args.codes.now)))) w.found-is
-          ∙ left_skipped known c.args.codes.now c.loop-code.code-index c.loop-code.found _ index c.if-code-eq0.false
-          (marked_code c.args.known.now.step (get_or c.args.codes.now c.loop-code.code-index 0) c.args.known.now.marks.items ∙ sym w.if-not-is_false.ensures) c.loop-code.invariant
+          ap (λ (o : Option Lit). residual (option_to_list o ++ open_lits known (run (drop (c.loop-code.code-index + 1) c.args.codes.now)))) (ap lit_found w.found-is)
+          ∙ left_skipped known c.args.codes.now c.loop-code.code-index (lit_found c.loop-code.found) _ index c.if-code-eq0.false
+          (marked_code c.args.step code c.args.marks.now ∙ sym w.if-not-is_false.ensures) c.loop-code.invariant
     ]
 
 pub returns : goal.returns
 returns c =
-    let known = marked c.args.known.now.step c.args.known.now.marks.items in
+    let known = marked c.args.step c.args.marks.now in
     let past : length c.args.codes.now ≤ c.loop-code.code-index = omega arith in
-    c.left_by-2.ensures ∙ left_past known c.args.codes.now c.loop-code.code-index c.loop-code.found _ past c.loop-code.invariant
+    c.left_by-2.ensures ∙ left_past known c.args.codes.now c.loop-code.code-index (lit_found c.loop-code.found) _ past c.loop-code.invariant

@@ -1,6 +1,6 @@
 use Rattle.std.proofs.Common.{◌≡◌, ◌++◌, drop}
 use Rattle.std.specs.Option.{option_to_list}
-use Rattle.sc_refutations.specs.Arenas.{run}
+use Rattle.sc_refutations.specs.Arenas.{lit_found, run}
 use Rattle.sc_refutations.specs.Known.{marked}
 use Rattle.sc_refutations.specs.Refutations.{residual, open_lits}
 use Rattle.sc_refutations.proofs.refuting.left_of.Given as goal
@@ -8,5 +8,5 @@ use Rattle.sc_refutations.proofs.refuting.left_of.Given as goal
 -- what was found before the rest of the clause, and the rest, leave what the whole clause leaves
 abbrev pub invariant-loop-code : goal.invariant-loop-code
 invariant-loop-code l =
-    residual (option_to_list l.found ++ open_lits (marked l.known.step l.known.marks.items) (run (drop l.code-index l.codes)))
-    ≡ residual (open_lits (marked l.known.step l.known.marks.items) (run l.codes))
+    residual (option_to_list (lit_found l.found) ++ open_lits (marked l.step l.marks) (run (drop l.code-index l.codes)))
+    ≡ residual (open_lits (marked l.step l.marks) (run l.codes))

@@ -21,13 +21,13 @@ invariant_of-self-in_err-push-2 c =
 pub invariant_of-self-2 : goal.invariant_of-self-2
 invariant_of-self-2 c =
     let e : c.push.new.self.items ≡ (c.self.inside.codes.items ++ map code_of c.args.clause.now) ++ 0 ∷ [] = search rules in
-    let s : c.len-start.result ≡ length c.self.inside.codes.items = search rules in
-    let f : c.push-2.new.self.items ≡ c.self.inside.starts.items ++ c.len-start.result ∷ [] = search rules in
-    rw f (pushed_ends c.self.inside.codes.items c.push.new.self.items c.self.inside.starts.items c.args.clause.now c.len-start.result c.self.invariant s e)
+    let s : c.in-Ok.start ≡ length c.self.inside.codes.items = search rules in
+    let f : c.push-2.new.self.items ≡ c.self.inside.starts.items ++ c.in-Ok.start ∷ [] = search rules in
+    rw f (pushed_ends c.self.inside.codes.items c.push.new.self.items c.self.inside.starts.items c.args.clause.now c.in-Ok.start c.self.invariant s e)
 
 pub returns : goal.returns
 returns c =
     let e : c.push.new.self.items ≡ (c.self.inside.codes.items ++ map code_of c.args.clause.now) ++ 0 ∷ [] = search rules in
-    let s : c.len-start.result ≡ length c.self.inside.codes.items = search rules in
-    let f : c.push-2.new.self.items ≡ c.self.inside.starts.items ++ c.len-start.result ∷ [] = search rules in
-    rw (f, ← c.self.view_is) (pushed c.self.inside.codes.items c.push.new.self.items c.self.inside.starts.items c.args.clause.now c.len-start.result c.self.invariant c.in_ok-write.ensures.have s e)
+    let s : c.in-Ok.start ≡ length c.self.inside.codes.items = search rules in
+    let f : c.push-2.new.self.items ≡ c.self.inside.starts.items ++ c.in-Ok.start ∷ [] = search rules in
+    rw (f, ← c.self.view_is) (pushed c.self.inside.codes.items c.push.new.self.items c.self.inside.starts.items c.args.clause.now c.in-Ok.start c.self.invariant c.in_ok-write.ensures.have s e)
