@@ -2,6 +2,7 @@
 //! these choices but that a conflict leaves no more levels than it may: whatever is chosen, the search ends.
 #![tactic(auto)]
 
+mod definitions;
 mod heap;
 mod order;
 mod restarts;

@@ -1,6 +1,8 @@
 //! Which atom to decide on, and which value to try.
 
+use crate::definitions::Definitions;
 use crate::heap::Heap;
+use sc_clauses::{Clauses, Lit};
 use std::alloc::{AllocError, Global};
 
 /// What an atom's activity grows by where the first conflict meets it.
@@ -9,8 +11,8 @@ const FIRST_STEP: u64 = 1_024;
 /// Above this step all activities are made smaller.
 const LARGEST_STEP: u64 = 1_099_511_627_776;
 
-/// The atoms in the order in which they are decided on: those first that conflicts met most of late, since a later one
-/// counts more.
+/// The atoms in the order in which they are decided on: first the parts of what defines an atom that is true, then those
+/// that conflicts met most of late, since a later one counts more.
 #[derive(Drop)]
 pub struct Order {
     heap: Heap,
@@ -18,25 +20,45 @@ pub struct Order {
     step: u64,
     /// Whether the last value of each atom was false; before it has one too.
     phases: Vec<bool>,
+    definitions: Definitions,
+    /// The literal of the atom that was taken, if a definition gave it.
+    tried: Option<Lit>,
 }
 
 impl Order {
-    /// The order of the atoms' numbers, which are less than `cells`.
-    pub fn new(alloc: Global, cells: usize) -> Result<Order, AllocError> {
+    /// The order of the atoms' numbers, which are less than `cells`, and the definitions that clauses tell.
+    pub fn new(alloc: Global, cells: usize, clauses: &Clauses) -> Result<Order, AllocError> {
         Ok(Order {
             heap: Heap::new(alloc, cells)?,
             step: FIRST_STEP,
             phases: Vec::from_elem(alloc, true, cells)?,
+            definitions: Definitions::new(alloc, cells, clauses)?,
+            tried: None,
         })
     }
 
-    /// Takes the first atom out of the order, if there is one.
-    pub fn take(&mut self) -> Option<usize> {
-        self.heap.take()
+    /// Takes the first atom out of the order, if there is one, where these literals are true.
+    pub fn take(&mut self, lits: &[Lit]) -> Option<usize> {
+        self.tried = self.definitions.next_part(lits);
+        match self.tried {
+            Some(lit) => Some(lit.atom as usize),
+            None => self.heap.take(),
+        }
     }
 
-    /// Whether to try an atom as false: one that had a value as that says, if the search keeps phases.
+    /// Comes back to where so many literals were true.
+    pub fn come_back(&mut self, count: usize) {
+        self.definitions.come_back(count);
+    }
+
+    /// Whether to try an atom as false: one that a definition gave as that says, and one that had a value as that says, if
+    /// the search keeps phases.
     pub fn is_negated(&self, atom: usize, keeps_phases: bool) -> bool {
+        if let Some(lit) = self.tried {
+            if lit.atom as usize == atom {
+                return lit.negated;
+            }
+        }
         if !keeps_phases {
             return true;
         }
@@ -59,7 +81,7 @@ impl Order {
         for atom in met {
             self.heap.raise(*atom, self.step);
         }
-        self.step = self.step.saturating_add(self.step / 16);
+        self.step = self.step.saturating_add(self.step / 20);
         if self.step > LARGEST_STEP {
             self.step = FIRST_STEP;
             self.heap.scale();

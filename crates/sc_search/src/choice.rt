@@ -23,8 +23,8 @@ impl Trail {
     fn first_of_order(&self, order: &mut Order) -> Option<usize>
         ensures { IfSome result (IsChoice self.now.cells.items) }
     {
-        for _taken in 0..self.cells.len() {
-            match order.take() {
+        for _taken in 0..self.cells.len().saturating_mul(3) {
+            match order.take(&self.lits) {
                 None => return None,
                 Some(atom) => {
                     if self.is_choice(atom) {

@@ -76,7 +76,7 @@ impl Solver {
         let cells = atoms as usize + 1;
         let watches = Watches::new(alloc, cells, clauses.len())?;
         let trail = Trail::new(alloc, cells)?;
-        let order = Order::new(alloc, cells)?;
+        let order = Order::new(alloc, cells, &clauses)?;
         Ok(Solver {
             clauses,
             steps: Vec::new(alloc),

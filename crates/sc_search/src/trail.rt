@@ -120,6 +120,7 @@ impl Trail {
     {
         let place = self.levels[level];
         self.levels.truncate(level);
+        order.come_back(place);
         'back: while self.lits.len() > place {
             let taken = self.pop();
             order.put_back(taken.atom as usize, taken.negated);
