@@ -1,37 +1,5 @@
-//! The symbolic analyser of Cedar policies, and tests of whole runs, by what their questions are about. A counterexample is
-//! replayed, so that no test names the bytes of one.
+//! The symbolic analyser of Cedar policies: its words, its files and its output are those of the process.
 #![tactic(auto)]
-
-#[cfg(test)]
-mod address_tests;
-#[cfg(test)]
-mod attribute_tests;
-#[cfg(test)]
-mod budget_tests;
-#[cfg(test)]
-mod decimal_tests;
-#[cfg(test)]
-mod file_tests;
-#[cfg(test)]
-mod group_tests;
-#[cfg(test)]
-mod log_tests;
-#[cfg(test)]
-mod number_tests;
-#[cfg(test)]
-mod output_tests;
-#[cfg(test)]
-mod questions;
-#[cfg(test)]
-mod runs;
-#[cfg(test)]
-mod schemas;
-#[cfg(test)]
-mod set_tests;
-#[cfg(test)]
-mod string_tests;
-#[cfg(test)]
-mod tag_tests;
 
 use sc_outside::{RealFiles, RealSink};
 use sc_run::exit_code;

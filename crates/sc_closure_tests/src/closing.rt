@@ -1,7 +1,9 @@
 //! The closed terms of goals, and the sets of numbers that they are.
-ghost use Rattle.std.specs.Prelude.{◌<◌, [], Contains, length};
+ghost use Rattle.std.specs.Prelude.{◌≡◌, ◌<◌, [], Contains, IfOk, length};
 ghost use Rattle.std.specs.List.{AllByRecursion};
+ghost use Rattle.sc_closure_rules.specs.Goals.{IsGoal};
 ghost use Rattle.sc_schema.specs.Declarations.{environments};
+ghost use Rattle.sc_terms.specs.Tables.{tree};
 
 use crate::goals::{Asked, goal_of, schema};
 use indexmap::IndexSet;
@@ -29,8 +31,65 @@ fn atom_count(terms: &Terms, closed: &IndexSet<u64>) -> u64
     count
 }
 
+/// The number of a goal. That it stands for none counts as want of memory.
+fn goal_in(
+    alloc: Global,
+    terms: &mut Terms,
+    schema: &Schema,
+    env: &Env,
+    literals: &Lits,
+    asked: Asked,
+) -> Result<u64, AllocError>
+    requires environment { Contains (environments schema.now) env.now }
+    requires none { literals.now ≡ [] }
+    ensures within { IfOk result (λ n. n < length terms.new) }
+    ensures goal { IfOk result (λ n. IsGoal schema.now env.now literals.now (tree terms.new n)) }
+{
+    let Some(ty) = context_of(schema, &env.action) else {
+        return Err(AllocError);
+    };
+    let goal = goal_of(alloc, terms, schema, env, ty, asked)?;
+    if !is_plain_goal(alloc, schema, env, literals, terms, goal)? {
+        return Err(AllocError);
+    }
+    Ok(goal)
+}
+
 /// How many closed terms a goal has, how many of them are atoms, and in which place the goal is.
-fn closed_of(
+fn counts_of(
+    alloc: Global,
+    terms: &mut Terms,
+    goal: u64,
+    schema: &Schema,
+    env: &Env,
+    literals: &Lits,
+) -> Result<(usize, u64, u64), Fault<OverLimit>>
+    requires within { goal < length terms.old }
+    requires goal { IsGoal schema.now env.now literals.now (tree terms.old goal) }
+{
+    let closed = closed_terms(alloc, terms, goal, schema, env, literals)?;
+    let atoms = atom_count(terms, &closed);
+    Ok((closed.len(), atoms, place_in(&closed, goal)))
+}
+
+/// The same of what is asked.
+fn counts_in(
+    alloc: Global,
+    terms: &mut Terms,
+    schema: &Schema,
+    env: &Env,
+    literals: &Lits,
+    asked: Asked,
+) -> Result<(usize, u64, u64), Fault<OverLimit>>
+    requires environment { Contains (environments schema.now) env.now }
+    requires none { literals.now ≡ [] }
+{
+    let goal = goal_in(alloc, terms, schema, env, literals, asked)?;
+    counts_of(alloc, terms, goal, schema, env, literals)
+}
+
+/// The same in a new table.
+fn counts(
     alloc: Global,
     schema: &Schema,
     env: &Env,
@@ -38,27 +97,27 @@ fn closed_of(
 ) -> Result<(usize, u64, u64), Fault<OverLimit>>
     requires { Contains (environments schema.now) env.now }
 {
-    let Some(ty) = context_of(schema, &env.action) else {
-        return Err(Fault::NoMemory);
-    };
-    let mut terms = Terms::new(alloc)?;
     let literals = Lits::new(alloc);
-    let goal = goal_of(alloc, &mut terms, schema, env, ty, asked)?;
-    if !is_plain_goal(alloc, schema, env, &literals, &terms, goal)? {
-        return Err(Fault::NoMemory);
-    }
-    let closed = closed_terms(alloc, &mut terms, goal, schema, env, &literals)?;
-    let atoms = atom_count(&terms, &closed);
-    Ok((closed.len(), atoms, place_in(&closed, goal)))
+    let mut terms = Terms::new(alloc)?;
+    counts_in(alloc, &mut terms, schema, env, &literals, asked)
 }
 
-/// The same in the one environment of the schema.
+/// The same in the one environment of a schema.
+fn found_in(
+    alloc: Global,
+    schema: &Schema,
+    asked: Asked,
+) -> Result<(usize, u64, u64), Fault<OverLimit>> {
+    match environments(schema).get(0) {
+        Some(env) => counts(alloc, schema, env, asked),
+        None => Err(Fault::NoMemory),
+    }
+}
+
+/// The same under the schema.
 fn found(alloc: Global, asked: Asked) -> Result<(usize, u64, u64), Fault<OverLimit>> {
     let schema = schema(alloc)?;
-    let Some(env) = environments(&schema).get(0) else {
-        return Err(Fault::NoMemory);
-    };
-    closed_of(alloc, &schema, env, asked)
+    found_in(alloc, &schema, asked)
 }
 
 /// Whether a goal has so many closed terms, of which so many are atoms, and is met right after
@@ -89,11 +148,15 @@ fn closed(rt: HostRuntime) -> Result<(), Fail> {
 }
 
 /// The numbers 7 and 3, the first of them put twice.
+fn put_two(numbers: &mut IndexSet<u64>) -> Result<(), AllocError> {
+    put(numbers, 7)?;
+    put(numbers, 3)?;
+    put(numbers, 7)
+}
+
 fn two_numbers(alloc: Global) -> Result<IndexSet<u64>, AllocError> {
     let mut numbers = IndexSet::new(alloc);
-    put(&mut numbers, 7)?;
-    put(&mut numbers, 3)?;
-    put(&mut numbers, 7)?;
+    put_two(&mut numbers)?;
     Ok(numbers)
 }
 

@@ -1,8 +1,10 @@
 //! Policies by their text, and the schema that they are typed under.
-use sc_ast::PolicySet;
+use sc_ast::{Policy, PolicySet};
+use sc_lists::Boxed;
 use sc_parser::read_policies;
-use sc_schema::Schema;
+use sc_schema::{Env, Schema};
 use sc_schema_json::read_schema;
+use sc_typing::{TypedExpr, type_policy};
 use std::alloc::{AllocError, Global};
 
 /// Users, who may be in groups, have a name and tags, and may have a boss, view documents; the context has
@@ -33,4 +35,17 @@ pub(crate) fn policies(alloc: Global, file: &str) -> Result<PolicySet, AllocErro
 pub(crate) fn sample(alloc: Global, body: &str) -> Result<PolicySet, AllocError> {
     let file = SAMPLE.replace(alloc, "BODY", body)?;
     policies(alloc, file.as_str())
+}
+
+/// The condition of a policy with its types. That it has none counts as want of memory.
+pub(crate) fn typed(
+    alloc: Global,
+    schema: &Schema,
+    env: &Env,
+    policy: &Policy,
+) -> Result<Boxed<TypedExpr>, AllocError> {
+    match type_policy(alloc, schema, env, policy) {
+        Ok(condition) => Boxed::new(alloc, condition),
+        Err(_) => Err(AllocError),
+    }
 }

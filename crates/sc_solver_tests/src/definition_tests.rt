@@ -54,7 +54,7 @@ impl Question for DefinedBy<'_> {
 }
 
 /// Goals, and the clauses that define their problems.
-const DEFINITIONS: [(&str, &[&[i64]]); 4] = [
+const DEFINITIONS: &[(&str, &[&[i64]])] = &[
     // the goal is the last clause
     ("f", &[&[1], &[-1]]),
     // the rows of `&` and of `|`
@@ -86,7 +86,7 @@ const DEFINITIONS: [(&str, &[&[i64]]); 4] = [
 
 #[test]
 fn clauses_that_define(rt: HostRuntime) -> Result<(), Fail> {
-    for (goal, clauses) in DEFINITIONS {
+    for &(goal, clauses) in DEFINITIONS {
         let so = is_so(rt.alloc(), USER_DOC, goal, &DefinedBy { clauses });
         assert!(rt; so, "{goal}");
     }
@@ -103,23 +103,39 @@ struct IsInstance<'r> {
     wanted: bool,
 }
 
-fn instance(alloc: Global, rule: &str, number: u64) -> Result<Instance, AllocError> {
-    let rule = Text::from_str(alloc, rule)?;
+/// The word of a number.
+fn words(alloc: Global, number: u64) -> Result<Seq<Word>, AllocError> {
     let mut words = Seq::new(alloc);
     words.push(Word::Number(number))?;
+    Ok(words)
+}
+
+fn instance(alloc: Global, rule: &str, number: u64) -> Result<Instance, AllocError> {
+    let rule = Text::from_str(alloc, rule)?;
+    let words = words(alloc, number)?;
     Ok(Instance { rule, words })
+}
+
+/// Whether it is told of an instance that it is one, or that it isn't.
+fn is_accepted(
+    alloc: Global,
+    problem: &Problem<'_>,
+    instance: &Instance,
+    wanted: bool,
+) -> Result<bool, AllocError> {
+    let found = Defs.accepts(alloc, problem, instance)?;
+    Ok(found == wanted)
 }
 
 impl Question for IsInstance<'_> {
     fn ask(&self, alloc: Global, problem: &Problem<'_>) -> Result<bool, AllocError> {
         let instance = instance(alloc, self.rule, self.number)?;
-        let found = Defs.accepts(alloc, problem, &instance)?;
-        Ok(found == self.wanted)
+        is_accepted(alloc, problem, &instance, self.wanted)
     }
 }
 
 /// Rules, numbers, and whether they are instances where the goal is `a && b`.
-const INSTANCES: [(&str, u64, bool); 4] = [
+const INSTANCES: &[(&str, u64, bool)] = &[
     ("", 1, true),
     ("", 0, false),
     // the goal is no instance
@@ -130,7 +146,7 @@ const INSTANCES: [(&str, u64, bool); 4] = [
 
 #[test]
 fn instances(rt: HostRuntime) -> Result<(), Fail> {
-    for (rule, number, wanted) in INSTANCES {
+    for &(rule, number, wanted) in INSTANCES {
         let question = IsInstance {
             rule,
             number,
@@ -169,16 +185,20 @@ fn number_of(instance: &Option<Instance>) -> u64 {
     }
 }
 
+fn falsified(alloc: Global, problem: &Problem<'_>, m: &Assignment) -> Result<u64, AllocError> {
+    let found = Defs.violated(alloc, problem, m)?;
+    Ok(number_of(&found))
+}
+
 impl Question for Falsifies<'_> {
     fn ask(&self, alloc: Global, problem: &Problem<'_>) -> Result<bool, AllocError> {
         let m = assignment(alloc, self.values)?;
-        let found = Defs.violated(alloc, problem, &m)?;
-        Ok(number_of(&found) == self.number)
+        Ok(falsified(alloc, problem, &m)? == self.number)
     }
 }
 
 /// Values of the atoms, and the instance that they falsify where the goal is `a && b`.
-const FALSIFIED: [(&[bool], u64); 2] = [
+const FALSIFIED: &[(&[bool], u64)] = &[
     // the least one
     (&[true, true, false, true], 3),
     // the goal is no instance
@@ -187,7 +207,7 @@ const FALSIFIED: [(&[bool], u64); 2] = [
 
 #[test]
 fn falsified_instances(rt: HostRuntime) -> Result<(), Fail> {
-    for (values, number) in FALSIFIED {
+    for &(values, number) in FALSIFIED {
         let so = is_so(rt.alloc(), USER_DOC, "ab&", &Falsifies { values, number });
         assert!(rt; so, "{number}");
     }

@@ -61,7 +61,7 @@ impl Question for Posed<'_> {
 }
 
 /// Places of environments, goals, their closed terms and their atoms, and the goals themselves.
-const PROBLEMS: [(usize, &str, &[(u64, i64)], &[(u64, u64)], (u64, i64)); 4] = [
+const PROBLEMS: &[(usize, &str, &[(u64, i64)], &[(u64, u64)], (u64, i64))] = &[
     // `true` is the one atom, and the goal its negation; then come principal and resource
     (
         USER_DOC,
@@ -98,7 +98,7 @@ const PROBLEMS: [(usize, &str, &[(u64, i64)], &[(u64, u64)], (u64, i64)); 4] = [
 
 #[test]
 fn problems(rt: HostRuntime) -> Result<(), Fail> {
-    for (place, goal, terms, atoms, literal) in PROBLEMS {
+    for &(place, goal, terms, atoms, literal) in PROBLEMS {
         let posed = Posed {
             terms,
             atoms,

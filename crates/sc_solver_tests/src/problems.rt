@@ -53,6 +53,30 @@ fn is_made(
     is_term(alloc, schema, env, literals, terms, n)
 }
 
+/// The number of a goal, which is written. That it stands for no such term counts as want of memory.
+fn goal_in(
+    alloc: Global,
+    terms: &mut Terms,
+    schema: &Schema,
+    env: &Env,
+    literals: &Lits,
+    goal: &str,
+) -> Result<u64, AllocError>
+    requires environment { Contains (environments schema.now) env.now }
+    requires none { literals.now ≡ [] }
+    ensures within { IfOk result (λ n. n < length terms.new) }
+    ensures goal { IfOk result (λ n. closing.IsGoal schema.now env.now literals.now (tree terms.new n)) }
+{
+    let Some(ty) = context_of(schema, &env.action) else {
+        return Err(AllocError);
+    };
+    let number = number_of(alloc, terms, ty, goal)?;
+    if !is_made(alloc, schema, env, literals, ty, terms, number)? {
+        return Err(AllocError);
+    }
+    Ok(number)
+}
+
 /// The problem of a goal, which is written.
 fn problem_of<'a>(
     alloc: Global,
@@ -64,37 +88,49 @@ fn problem_of<'a>(
     requires environment { Contains (environments schema.now) env.now }
     requires none { literals.now ≡ [] }
 {
-    let Some(ty) = context_of(schema, &env.action) else {
-        return Err(Fault::NoMemory);
-    };
     let mut terms = Terms::new(alloc)?;
-    let number = number_of(alloc, &mut terms, ty, goal)?;
-    if !is_made(alloc, schema, env, literals, ty, &terms, number)? {
-        return Err(Fault::NoMemory);
-    }
+    let number = goal_in(alloc, &mut terms, schema, env, literals, goal)?;
     close(alloc, terms, number, schema, env, literals)
 }
 
-fn answer<Q: Question>(
+/// Whether a question about the problem of a goal in an environment is answered by yes.
+fn is_so_in<Q: Question>(
     alloc: Global,
+    schema: &Schema,
+    env: &Env,
+    literals: &Lits,
+    goal: &str,
+    question: &Q,
+) -> bool
+    requires environment { Contains (environments schema.now) env.now }
+    requires none { literals.now ≡ [] }
+{
+    match problem_of(alloc, schema, env, literals, goal) {
+        Ok(problem) => matches!(question.ask(alloc, &problem), Ok(true)),
+        Err(_) => false,
+    }
+}
+
+/// The same in the environment at a place.
+fn is_so_at<Q: Question>(
+    alloc: Global,
+    schema: &Schema,
     place: usize,
     goal: &str,
     question: &Q,
-) -> Result<bool, Fault<OverLimit>> {
-    let schema = schema(alloc)?;
-    let Some(env) = environments(&schema).get(place) else {
-        return Ok(false);
-    };
+) -> bool {
     let literals = Lits::new(alloc);
-    let problem = problem_of(alloc, &schema, env, &literals, goal)?;
-    Ok(question.ask(alloc, &problem)?)
+    match environments(schema).get(place) {
+        Some(env) => is_so_in(alloc, schema, env, &literals, goal, question),
+        None => false,
+    }
 }
 
-/// Whether a question about the problem of a goal, in the environment at a place, is answered by
-/// yes.
+/// Whether a question about the problem of a goal, in the environment of the schema at a place, is answered
+/// by yes.
 pub(crate) fn is_so<Q: Question>(alloc: Global, place: usize, goal: &str, question: &Q) -> bool {
-    match answer(alloc, place, goal, question) {
-        Ok(so) => so,
+    match schema(alloc) {
+        Ok(schema) => is_so_at(alloc, &schema, place, goal, question),
         Err(_) => false,
     }
 }

@@ -55,20 +55,30 @@ fn is_world(world: &World, wanted: Wanted) -> bool {
     }
 }
 
+/// Whether what is found is what is wanted, and a log that refutes the goal is accepted.
+fn is_wanted(
+    alloc: Global,
+    problem: &Problem<'_>,
+    found: &Solved,
+    wanted: Wanted,
+) -> Result<bool, AllocError> {
+    match found {
+        Solved::Refuted(log) => {
+            let accepted = is_accepted(alloc, problem, log)?;
+            Ok(accepted && matches!(wanted, Wanted::Refuted))
+        }
+        Solved::Violated(world) => Ok(is_world(world, wanted)),
+        Solved::Spent(log) => Ok(is_spent(log, wanted)),
+    }
+}
+
 impl Question for Finds {
     fn ask(&self, alloc: Global, problem: &Problem<'_>) -> Result<bool, AllocError> {
         if self.budget > 1000 {
             return Ok(false);
         }
-        match solve(alloc, problem, self.budget)? {
-            Solved::Refuted(log) => {
-                let refuted = matches!(self.wanted, Wanted::Refuted);
-                let accepted = is_accepted(alloc, problem, &log)?;
-                Ok(refuted && accepted)
-            }
-            Solved::Violated(world) => Ok(is_world(&world, self.wanted)),
-            Solved::Spent(log) => Ok(is_spent(&log, self.wanted)),
-        }
+        let found = solve(alloc, problem, self.budget)?;
+        is_wanted(alloc, problem, &found, self.wanted)
     }
 }
 
@@ -140,7 +150,7 @@ fn principal_has_manager(world: &World) -> bool {
 }
 
 /// Places of environments, goals, budgets, and what is to be found.
-const GOALS: [(usize, &str, u64, Wanted); 6] = [
+const GOALS: &[(usize, &str, u64, Wanted)] = &[
     (USER_DOC, "f", 1, Wanted::Refuted),
     // a contradiction is refuted in one step
     (USER_DOC, "aa!&", 1, Wanted::Refuted),
@@ -153,7 +163,7 @@ const GOALS: [(usize, &str, u64, Wanted); 6] = [
 
 #[test]
 fn goals(rt: HostRuntime) -> Result<(), Fail> {
-    for (place, goal, budget, wanted) in GOALS {
+    for &(place, goal, budget, wanted) in GOALS {
         let so = is_so(rt.alloc(), place, goal, &Finds { budget, wanted });
         assert!(rt; so, "{goal} with {budget}");
     }
@@ -167,29 +177,52 @@ fn goals(rt: HostRuntime) -> Result<(), Fail> {
 #[derive(Drop)]
 struct HaveDefinitions;
 
+/// The word of the number 1.
+fn words(alloc: Global) -> Result<Seq<Word>, AllocError> {
+    let mut words = Seq::new(alloc);
+    words.push(Word::Number(1))?;
+    Ok(words)
+}
+
 /// The defining clause of number 1, as an instance.
 fn first_instance(alloc: Global) -> Result<Instance, AllocError> {
     let rule = Text::from_str(alloc, "")?;
-    let mut words = Seq::new(alloc);
-    words.push(Word::Number(1))?;
+    let words = words(alloc)?;
     Ok(Instance { rule, words })
 }
 
-fn have_first_clause(alloc: Global, problem: &Problem<'_>) -> Result<bool, AllocError> {
+/// Whether this is an instance whose clause has one literal.
+fn has_one_literal(
+    alloc: Global,
+    problem: &Problem<'_>,
+    instance: &Instance,
+) -> Result<bool, AllocError> {
     let rules = Rules::new();
-    let instance = first_instance(alloc)?;
-    if rules.accepts(alloc, problem, &instance)? {
-        let clause = rules.clause(alloc, problem, &instance)?;
-        return Ok(clause.len() == 1);
+    if !rules.accepts(alloc, problem, instance)? {
+        return Ok(false);
     }
-    Ok(false)
+    let clause = rules.clause(alloc, problem, instance)?;
+    Ok(clause.len() == 1)
+}
+
+fn have_first_clause(alloc: Global, problem: &Problem<'_>) -> Result<bool, AllocError> {
+    let instance = first_instance(alloc)?;
+    has_one_literal(alloc, problem, &instance)
+}
+
+/// Whether an assignment falsifies no instance.
+fn falsifies_none(
+    alloc: Global,
+    problem: &Problem<'_>,
+    m: &Assignment,
+) -> Result<bool, AllocError> {
+    let found = Rules::new().violated(alloc, problem, m)?;
+    Ok(found.is_none())
 }
 
 fn falsify_nothing(alloc: Global, problem: &Problem<'_>) -> Result<bool, AllocError> {
-    let rules = Rules::new();
     let m = Assignment::from_values(Seq::new(alloc));
-    let found = rules.violated(alloc, problem, &m)?;
-    Ok(found.is_none())
+    falsifies_none(alloc, problem, &m)
 }
 
 impl Question for HaveDefinitions {

@@ -16,12 +16,17 @@ struct HasByBytes<'r> {
     verdict: Verdict,
 }
 
+fn feed_bytes(checker: &mut LogChecker<'_, '_, Defs>, bytes: &[u8]) -> Result<(), AllocError> {
+    for byte in bytes {
+        checker.feed(&[*byte])?;
+    }
+    Ok(())
+}
+
 impl Question for HasByBytes<'_> {
     fn ask(&self, alloc: Global, problem: &Problem<'_>) -> Result<bool, AllocError> {
         let mut checker = LogChecker::new(alloc, &Defs, problem)?;
-        for byte in self.text.as_bytes() {
-            checker.feed(&[*byte])?;
-        }
+        feed_bytes(&mut checker, self.text.as_bytes())?;
         Ok(checker.end()? == self.verdict)
     }
 }
@@ -34,42 +39,56 @@ struct HasInTwo<'r> {
     verdict: Verdict,
 }
 
+fn feed_in_two(
+    checker: &mut LogChecker<'_, '_, Defs>,
+    bytes: &[u8],
+    place: usize,
+) -> Result<(), AllocError> {
+    let place = place.min(bytes.len());
+    checker.feed(&bytes[..place])?;
+    checker.feed(&bytes[place..])
+}
+
 impl Question for HasInTwo<'_> {
     fn ask(&self, alloc: Global, problem: &Problem<'_>) -> Result<bool, AllocError> {
-        let bytes = self.text.as_bytes();
-        let place = self.place.min(bytes.len());
         let mut checker = LogChecker::new(alloc, &Defs, problem)?;
-        checker.feed(&bytes[..place])?;
-        checker.feed(&bytes[place..])?;
+        feed_in_two(&mut checker, self.text.as_bytes(), self.place)?;
         Ok(checker.end()? == self.verdict)
     }
 }
 
-fn rejected(step: u64, reason: Reason) -> Verdict {
-    Verdict::Rejected { step, reason }
-}
+const REFUTES: &str = "log 1\nl 0 1 2 0\n";
 
 #[test]
-fn verdicts_by_bytes(rt: HostRuntime) -> Result<(), Fail> {
-    let alloc = rt.alloc();
-    for (text, verdict) in [
-        ("log 1\nl 0 1 2 0\n", Verdict::Refuted),
-        ("log 1\nl 0 2 0\n", rejected(1, Reason::NotRefuted)),
-        ("log 1\n", rejected(0, Reason::NotEmpty)),
-        ("log 2\nl 0 1 2 0\n", rejected(0, Reason::Malformed)),
-        ("log 1\nl 0 1 2 0", rejected(1, Reason::Malformed)),
-        ("log 1\nl 0 0\n", rejected(1, Reason::Malformed)),
-        ("log 1\nl 0 1 3 0\n", rejected(1, Reason::NotRefuted)),
-        ("log 1\nl 1 0 1 0\n", rejected(1, Reason::NotEmpty)),
-        ("log 1\nl 2 0 1 2 0\n", rejected(1, Reason::NotRefuted)),
-        ("log 1\nt EQ99 1\n", rejected(1, Reason::NoInstance)),
-        (
-            "log 1\nl 0 1 2 0\nl 0 9 0\n",
-            rejected(2, Reason::NotRefuted),
-        ),
-        ("", rejected(0, Reason::NotEmpty)),
-    ] {
-        let so = is_so(alloc, USER_DOC, "f", &HasByBytes { text, verdict });
+fn a_log_that_refutes_by_bytes(rt: HostRuntime) -> Result<(), Fail> {
+    let question = HasByBytes {
+        text: REFUTES,
+        verdict: Verdict::Refuted,
+    };
+    assert!(rt; is_so(rt.alloc(), USER_DOC, "f", &question));
+    Ok(())
+}
+
+/// Logs that are rejected, each with the step at fault and the reason.
+const REJECTED: &[(&str, u64, Reason)] = &[
+    ("log 1\nl 0 2 0\n", 1, Reason::NotRefuted),
+    ("log 1\n", 0, Reason::NotEmpty),
+    ("log 2\nl 0 1 2 0\n", 0, Reason::Malformed),
+    ("log 1\nl 0 1 2 0", 1, Reason::Malformed),
+    ("log 1\nl 0 0\n", 1, Reason::Malformed),
+    ("log 1\nl 0 1 3 0\n", 1, Reason::NotRefuted),
+    ("log 1\nl 1 0 1 0\n", 1, Reason::NotEmpty),
+    ("log 1\nl 2 0 1 2 0\n", 1, Reason::NotRefuted),
+    ("log 1\nt EQ99 1\n", 1, Reason::NoInstance),
+    ("log 1\nl 0 1 2 0\nl 0 9 0\n", 2, Reason::NotRefuted),
+    ("", 0, Reason::NotEmpty),
+];
+
+#[test]
+fn logs_that_are_rejected_by_bytes(rt: HostRuntime) -> Result<(), Fail> {
+    for &(text, step, reason) in REJECTED {
+        let verdict = Verdict::Rejected { step, reason };
+        let so = is_so(rt.alloc(), USER_DOC, "f", &HasByBytes { text, verdict });
         assert!(rt; so, "{text}");
     }
     Ok(())
@@ -77,15 +96,13 @@ fn verdicts_by_bytes(rt: HostRuntime) -> Result<(), Fail> {
 
 #[test]
 fn one_verdict_however_it_is_cut(rt: HostRuntime) -> Result<(), Fail> {
-    let alloc = rt.alloc();
-    let text = "log 1\nl 0 1 2 0\n";
     for place in 0..17usize {
         let question = HasInTwo {
-            text,
+            text: REFUTES,
             place,
             verdict: Verdict::Refuted,
         };
-        assert!(rt; is_so(alloc, USER_DOC, "f", &question), "{place}");
+        assert!(rt; is_so(rt.alloc(), USER_DOC, "f", &question), "{place}");
     }
     Ok(())
 }

@@ -1,20 +1,16 @@
-//! Files that were cut, are deep or are long.
-use crate::questions::{is_answered, is_told};
+//! Files that were cut or are deep.
+use crate::questions::is_told;
+use crate::reports::reports;
 use crate::runs::{ends, written};
+use crate::samples::{DENIES, HOLDS};
 use crate::schemas::{FULL, TRUTH};
 use std::alloc::{AllocError, Global};
 use std::test::Fail;
 
-const DENIES: &str = "analyse --schema s --policies p --query always-denies --budget 10000";
-
-const HOLDS: &str = "env User Action::\"view\" Doc: holds\n";
-
-const NOT_JSON: &str = "error 12 NotJson\n";
-
 /// Whether a schema file with these bytes spells no JSON.
 fn is_not_json(alloc: Global, schema: &[u8]) -> Result<bool, AllocError> {
     let held = [("s", schema), ("p", b"".as_slice())];
-    ends(alloc, DENIES, &held, (12, NOT_JSON))
+    ends(alloc, DENIES, &held, (12, "error 12 NotJson"))
 }
 
 #[test]
@@ -51,7 +47,7 @@ fn policies_that_were_cut(rt: HostRuntime) -> Result<(), Fail> {
 /// How often a conjunction is continued, with the status and the line for a condition of that length.
 const CHAINS: &[(usize, u8, &str)] = &[
     (999, 0, HOLDS),
-    (1_000, 11, "error 11 policies TooDeep at 8043\n"),
+    (1_000, 11, "error 11 policies TooDeep at 8043"),
 ];
 
 /// What is true, and so often that and what is true.
@@ -86,34 +82,21 @@ fn brackets(alloc: Global, count: usize) -> Result<Vec<u8>, AllocError> {
     Ok(bytes)
 }
 
+fn is_too_deep(alloc: Global, count: usize) -> Result<bool, AllocError> {
+    let schema = brackets(alloc, count)?;
+    is_not_json(alloc, &schema)
+}
+
 #[test]
 fn a_schema_that_is_too_deep(rt: HostRuntime) -> Result<(), Fail> {
-    let alloc = rt.alloc();
-    let schema = brackets(alloc, 128)?;
-    assert!(rt; is_not_json(alloc, &schema)?);
-    Ok(())
-}
-
-/// So many spaces.
-fn spaces(alloc: Global, count: usize) -> Result<Vec<u8>, AllocError> {
-    let mut bytes = Vec::new(alloc);
-    bytes.resize(count, b' ')?;
-    Ok(bytes)
-}
-
-#[test]
-fn as_many_spaces_as_a_file_may_have(rt: HostRuntime) -> Result<(), Fail> {
-    let alloc = rt.alloc();
-    let policies = spaces(alloc, 16_777_216)?;
-    let held = [("s", TRUTH.as_bytes()), ("p", policies.as_slice())];
-    assert!(rt; ends(alloc, DENIES, &held, (0, HOLDS))?);
+    assert!(rt; is_too_deep(rt.alloc(), 128)?);
     Ok(())
 }
 
 #[test]
 fn comparisons_do_not_chain(rt: HostRuntime) -> Result<(), Fail> {
     let policies = "permit(principal, action, resource) when { context.n < 1 < 2 };";
-    let told = (11, "error 11 policies Unexpected at 57\n");
-    assert!(rt; is_answered(rt.alloc(), FULL, "always-denies", (policies, ""), told)?);
+    let told = (11, "error 11 policies Unexpected at 57");
+    assert!(rt; reports(rt.alloc(), FULL, policies, told)?);
     Ok(())
 }

@@ -1,9 +1,13 @@
-use crate::tests::{OF_AGE, OF_USER, PERMIT, REPLAYS, SCHEMA, answered};
+//! What policies do in worlds.
+use crate::runs::ends;
+use crate::samples::{OF_AGE, OF_USER, PERMIT, REPLAYS};
+use crate::schemas::TRUTH;
 use std::alloc::{AllocError, Global};
+use std::process::Abort;
 use std::test::Fail;
 
 /// The user views the document, with the one truth value of the context being true.
-pub const WORLD: &str =
+pub(crate) const WORLD: &str =
     r#"{"entities":[{"attrs":{},"parents":[],"tags":{},"uid":{"id":"view","type":"Action"}},{"attrs":{},"parents":[],"tags":{},"uid":{"id":"0","type":"Doc"}},{"attrs":{},"parents":[],"tags":{},"uid":{"id":"0","type":"User"}}],"request":{"action":{"id":"view","type":"Action"},"context":{"mfa":true},"principal":{"id":"0","type":"User"},"resource":{"id":"0","type":"Doc"}}}"#;
 
 /// The same, where nothing is stored of the document.
@@ -30,7 +34,7 @@ const LACKING: &str =
     "world not well-formed: missing Doc::\"0\"\npolicy0 satisfied\ndecision Allow";
 
 /// Policies and worlds, with the status and the lines for them.
-const REPORTS: [(&str, &str, u8, &str); 5] = [
+const REPORTS: &[(&str, &str, u8, &str)] = &[
     (PERMIT, WORLD, 0, ALLOWED),
     ("", WORLD, 0, "world well-formed\ndecision Deny"),
     (FORBIDDEN, WORLD, 0, DENIED),
@@ -39,7 +43,7 @@ const REPORTS: [(&str, &str, u8, &str); 5] = [
 ];
 
 /// Policies and worlds that are refused: policies before the world, and the world before names.
-const REFUSALS: [(&str, &str, u8, &str); 8] = [
+const REFUSALS: &[(&str, &str, u8, &str)] = &[
     ("x", "[]", 11, "error 11 policies Unexpected at 0"),
     (PERMIT, "{", 17, "error 17 NotJson"),
     (PERMIT, "[]", 17, "error 17 BadWorld at "),
@@ -71,39 +75,42 @@ const REFUSALS: [(&str, &str, u8, &str); 8] = [
 ];
 
 /// Whether the replay of a world ends with this status and these lines.
-fn replays<'t>(
+fn is_replayed<'t>(
     alloc: Global,
     policies: &'t str,
     world: &'t str,
     told: (u8, &str),
 ) -> Result<bool, AllocError> {
     let held = [
-        ("s", SCHEMA.as_bytes()),
+        ("s", TRUTH.as_bytes()),
         ("p", policies.as_bytes()),
         ("w", world.as_bytes()),
     ];
-    answered(alloc, REPLAYS, &held, told)
+    ends(alloc, REPLAYS, &held, told)
+}
+
+/// Asserts of these policies and worlds that each replay ends with the status and the lines beside them.
+fn are_replayed(
+    rt: &impl Abort,
+    alloc: Global,
+    rows: &[(&str, &str, u8, &str)],
+) -> Result<(), Fail> {
+    for &(policies, world, code, lines) in rows {
+        assert!(rt;
+            is_replayed(alloc, policies, world, (code, lines))?,
+            "{policies} {lines}"
+        );
+    }
+    Ok(())
 }
 
 #[test]
 fn worlds_that_are_printed_are_replayed(rt: HostRuntime) -> Result<(), Fail> {
     assert!(rt; OF_USER.ends_with(WORLD));
-    for (policies, world, code, lines) in REPORTS {
-        assert!(rt;
-            replays(rt.alloc(), policies, world, (code, lines))?,
-            "{policies}"
-        );
-    }
-    Ok(())
+    are_replayed(&rt, rt.alloc(), REPORTS)
 }
 
 #[test]
 fn replays_are_refused(rt: HostRuntime) -> Result<(), Fail> {
-    for (policies, world, code, line) in REFUSALS {
-        assert!(rt;
-            replays(rt.alloc(), policies, world, (code, line))?,
-            "{policies}"
-        );
-    }
-    Ok(())
+    are_replayed(&rt, rt.alloc(), REFUSALS)
 }

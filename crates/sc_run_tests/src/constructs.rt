@@ -1,4 +1,8 @@
-use crate::tests::{DENIES, HOLDS, MANY_KINDS, OF_USER, OF_USER_BY_DEFAULT, SCHEMA, answers};
+//! Policies of many scopes and under conditions of many constructs, with the bytes of each answer.
+use crate::questions::{part, policy_under};
+use crate::reports::{are_reported, reports};
+use crate::samples::{HOLDS, OF_USER, OF_USER_BY_DEFAULT};
+use crate::schemas::{FULL, TRUTH, VIEWED_GROUPS};
 use std::alloc::{AllocError, Global};
 use std::test::Fail;
 
@@ -11,7 +15,7 @@ const OF_TWO_USERS: &str =
     r#"env User Action::"view" Doc: counterexample {"entities":[{"attrs":{},"parents":[],"tags":{},"uid":{"id":"view","type":"Action"}},{"attrs":{},"parents":[],"tags":{},"uid":{"id":"0","type":"Doc"}},{"attrs":{},"parents":[],"tags":{},"uid":{"id":"0","type":"User"}},{"attrs":{},"parents":[],"tags":{},"uid":{"id":"a","type":"User"}}],"request":{"action":{"id":"view","type":"Action"},"context":{"mfa":false},"principal":{"id":"0","type":"User"},"resource":{"id":"0","type":"Doc"}}}"#;
 
 /// Policies of many scopes, with the status and the line for them.
-const SCOPES: [(&str, u8, &str); 3] = [
+const SCOPES: &[(&str, u8, &str)] = &[
     (
         "permit(principal == User::\"a\", action, resource);",
         1,
@@ -27,17 +31,11 @@ const SCOPES: [(&str, u8, &str); 3] = [
 
 #[test]
 fn scopes_are_decided(rt: HostRuntime) -> Result<(), Fail> {
-    for (policies, code, line) in SCOPES {
-        assert!(rt;
-            answers(rt.alloc(), DENIES, SCHEMA, policies, (code, line))?,
-            "{policies}"
-        );
-    }
-    Ok(())
+    are_reported(&rt, rt.alloc(), TRUTH, SCOPES)
 }
 
 /// Conditions of many constructs, with the status and the line for a policy under them.
-const CONDITIONS: [(&str, u8, &str); 10] = [
+const CONDITIONS: &[(&str, u8, &str)] = &[
     ("context.mfa == true", 1, OF_USER),
     ("context.mfa != true", 1, OF_USER_BY_DEFAULT),
     ("1 + 2 < 3", 0, HOLDS),
@@ -57,15 +55,15 @@ fn decides(
     condition: &str,
     told: (u8, &str),
 ) -> Result<bool, AllocError> {
-    let policy = format!(in alloc; "permit(principal, action, resource) when {{ {condition} }};")?;
-    answers(alloc, DENIES, schema, &policy, told)
+    let policy = policy_under(alloc, condition)?;
+    reports(alloc, schema, &policy, told)
 }
 
 #[test]
 fn conditions_are_decided(rt: HostRuntime) -> Result<(), Fail> {
-    for (condition, code, line) in CONDITIONS {
+    for &(condition, code, line) in CONDITIONS {
         assert!(rt;
-            decides(rt.alloc(), SCHEMA, condition, (code, line))?,
+            decides(rt.alloc(), TRUTH, condition, (code, line))?,
             "{condition}"
         );
     }
@@ -73,7 +71,7 @@ fn conditions_are_decided(rt: HostRuntime) -> Result<(), Fail> {
 }
 
 /// Conditions on values of many kinds that no world meets.
-const CONTRADICTIONS: [&str; 4] = [
+const CONTRADICTIONS: &[&str] = &[
     "context.n < 1 && 2 < context.n",
     "context.name like \"a*\" && context.name like \"b*\"",
     "context.s == context.t && context.s.contains(true) && !context.t.contains(true)",
@@ -82,13 +80,27 @@ const CONTRADICTIONS: [&str; 4] = [
 
 #[test]
 fn contradictions_never_allow(rt: HostRuntime) -> Result<(), Fail> {
-    for condition in CONTRADICTIONS {
+    for &condition in CONTRADICTIONS {
         assert!(rt;
-            decides(rt.alloc(), MANY_KINDS, condition, (0, HOLDS))?,
+            decides(rt.alloc(), FULL, condition, (0, HOLDS))?,
             "{condition}"
         );
     }
     Ok(())
+}
+
+/// Whether the counterexample for a policy under the condition of a line, before a semicolon, has what stands
+/// behind that, between these two texts.
+fn is_found(
+    alloc: Global,
+    schema: &str,
+    line: &str,
+    before: &str,
+    behind: &str,
+) -> Result<bool, AllocError> {
+    let found = part(line, 1);
+    let told = format!(in alloc; "{before}{found}{behind}")?;
+    decides(alloc, schema, part(line, 0), (1, &told))
 }
 
 /// What is said of a user who views a document, before the context.
@@ -99,50 +111,23 @@ const BEFORE: &str =
 const BEHIND: &str =
     r#"},"principal":{"id":"0","type":"User"},"resource":{"id":"0","type":"Doc"}}}"#;
 
-/// Conditions on values of many kinds, and what the context of a counterexample holds behind its address.
-const CONTEXTS: [(&str, &str); 6] = [
-    ("context.n < 1", r#""n":0,"name":"","q":[],"s":[],"t":[]"#),
-    (
-        "1 < context.n && context.n < 3",
-        r#""n":2,"name":"","q":[],"s":[],"t":[]"#,
-    ),
-    (
-        "context.name like \"a*\"",
-        r#""n":0,"name":"a","q":[],"s":[],"t":[]"#,
-    ),
-    (
-        "context.name like \"a*b\"",
-        r#""n":0,"name":"ab","q":[],"s":[],"t":[]"#,
-    ),
-    (
-        "context.s.contains(true) && !context.s.contains(false)",
-        r#""n":0,"name":"","q":[],"s":[true],"t":[]"#,
-    ),
-    (
-        "context.q.containsAll([1, 2])",
-        r#""n":0,"name":"","q":[1,2],"s":[],"t":[]"#,
-    ),
-];
-
-/// Whether the counterexample for a policy under this condition has this context.
-fn violates(alloc: Global, condition: &str, context: &str) -> Result<bool, AllocError> {
-    let mut line = String::from_str(alloc, BEFORE)?;
-    line.push_str(context)?;
-    line.push_str(BEHIND)?;
-    decides(alloc, MANY_KINDS, condition, (1, &line))
-}
+/// Conditions on values of many kinds, each with what the context of a counterexample holds behind its address.
+const CONTEXTS: &str = r#"
+context.n < 1; "n":0,"name":"","q":[],"s":[],"t":[]
+1 < context.n && context.n < 3; "n":2,"name":"","q":[],"s":[],"t":[]
+context.name like "a*"; "n":0,"name":"a","q":[],"s":[],"t":[]
+context.name like "a*b"; "n":0,"name":"ab","q":[],"s":[],"t":[]
+context.s.contains(true) && !context.s.contains(false); "n":0,"name":"","q":[],"s":[true],"t":[]
+context.q.containsAll([1, 2]); "n":0,"name":"","q":[1,2],"s":[],"t":[]
+"#;
 
 #[test]
 fn contexts_are_found(rt: HostRuntime) -> Result<(), Fail> {
-    for (condition, context) in CONTEXTS {
-        assert!(rt; violates(rt.alloc(), condition, context)?, "{condition}");
+    for line in CONTEXTS.trim().lines() {
+        assert!(rt; is_found(rt.alloc(), FULL, line, BEFORE, BEHIND)?, "{line}");
     }
     Ok(())
 }
-
-/// Users with tags, who may be in groups, view groups.
-const OF_GROUPS: &str =
-    r#"{"":{"entityTypes":{"Group":{},"User":{"memberOfTypes":["Group"],"shape":{"type":"Record","attributes":{"vip":{"type":"Boolean"}}},"tags":{"type":"String"}}},"actions":{"view":{"appliesTo":{"principalTypes":["User"],"resourceTypes":["Group"]}}}}}"#;
 
 /// What is said of a user who views a group, before what is stored of the user.
 const BEFORE_USER: &str =
@@ -152,42 +137,22 @@ const BEFORE_USER: &str =
 const BEHIND_USER: &str =
     r#","uid":{"id":"0","type":"User"}}],"request":{"action":{"id":"view","type":"Action"},"context":{},"principal":{"id":"0","type":"User"},"resource":{"id":"0","type":"Group"}}}"#;
 
-/// Conditions on a user, and what is stored of the user in a counterexample.
-const USERS: [(&str, &str); 5] = [
-    (
-        "principal.vip",
-        r#""attrs":{"vip":true},"parents":[],"tags":{}"#,
-    ),
-    (
-        "principal in resource",
-        r#""attrs":{"vip":false},"parents":[{"id":"0","type":"Group"}],"tags":{}"#,
-    ),
-    (
-        "principal.hasTag(\"k\")",
-        r#""attrs":{"vip":false},"parents":[],"tags":{"k":""}"#,
-    ),
-    (
-        "principal.hasTag(\"k\") && principal.getTag(\"k\") == \"v\"",
-        r#""attrs":{"vip":false},"parents":[],"tags":{"k":"v"}"#,
-    ),
-    (
-        "principal.vip && principal in resource && principal.hasTag(\"k\") && principal.getTag(\"k\") like \"a*\"",
-        r#""attrs":{"vip":true},"parents":[{"id":"0","type":"Group"}],"tags":{"k":"a"}"#,
-    ),
-];
-
-/// Whether this is stored of the user in the counterexample for a policy under this condition.
-fn stores(alloc: Global, condition: &str, user: &str) -> Result<bool, AllocError> {
-    let mut line = String::from_str(alloc, BEFORE_USER)?;
-    line.push_str(user)?;
-    line.push_str(BEHIND_USER)?;
-    decides(alloc, OF_GROUPS, condition, (1, &line))
-}
+/// Conditions on a user, each with what is stored of the user in a counterexample.
+const USERS: &str = r#"
+principal.vip; "attrs":{"vip":true},"parents":[],"tags":{}
+principal in resource; "attrs":{"vip":false},"parents":[{"id":"0","type":"Group"}],"tags":{}
+principal.hasTag("k"); "attrs":{"vip":false},"parents":[],"tags":{"k":""}
+principal.hasTag("k") && principal.getTag("k") == "v"; "attrs":{"vip":false},"parents":[],"tags":{"k":"v"}
+principal.vip && principal in resource && principal.hasTag("k") && principal.getTag("k") like "a*"; "attrs":{"vip":true},"parents":[{"id":"0","type":"Group"}],"tags":{"k":"a"}
+"#;
 
 #[test]
 fn users_are_found(rt: HostRuntime) -> Result<(), Fail> {
-    for (condition, user) in USERS {
-        assert!(rt; stores(rt.alloc(), condition, user)?, "{condition}");
+    for line in USERS.trim().lines() {
+        assert!(rt;
+            is_found(rt.alloc(), VIEWED_GROUPS, line, BEFORE_USER, BEHIND_USER)?,
+            "{line}"
+        );
     }
     Ok(())
 }

@@ -1,9 +1,13 @@
-use crate::tests::{DENIES, HOLDS, MANY_KINDS, SCHEMA, answers};
+//! Schemas and policies that are refused.
+use crate::questions::{is_told, policy_under};
+use crate::reports::{are_reported, reports};
+use crate::samples::HOLDS;
+use crate::schemas::{FULL, TRUTH};
 use std::alloc::{AllocError, Global};
 use std::test::Fail;
 
 /// Schema files that spell nothing, and their lines.
-const SCHEMAS: [(&str, &str); 9] = [
+const SCHEMAS: &[(&str, &str)] = &[
     ("{", "error 12 NotJson"),
     ("[]", "error 12 BadShape at "),
     (
@@ -38,11 +42,8 @@ const SCHEMAS: [(&str, &str); 9] = [
 
 #[test]
 fn schemas_are_refused(rt: HostRuntime) -> Result<(), Fail> {
-    for (schema, line) in SCHEMAS {
-        assert!(rt;
-            answers(rt.alloc(), DENIES, schema, "x", (12, line))?,
-            "{schema}"
-        );
+    for &(schema, line) in SCHEMAS {
+        assert!(rt; reports(rt.alloc(), schema, "x", (12, line))?, "{schema}");
     }
     Ok(())
 }
@@ -60,17 +61,20 @@ fn squared(alloc: Global, count: u32) -> Result<String, AllocError> {
     )
 }
 
+/// Whether a schema of one action over this many types of principals and of resources is refused.
+fn has_too_many(alloc: Global, count: u32) -> Result<bool, AllocError> {
+    let schema = squared(alloc, count)?;
+    reports(alloc, &schema, "", (12, "error 12 TooManyEnvironments"))
+}
+
 #[test]
 fn schemas_have_at_most_ten_thousand_environments(rt: HostRuntime) -> Result<(), Fail> {
-    let alloc = rt.alloc();
-    let schema = squared(alloc, 101)?;
-    let told = (12, "error 12 TooManyEnvironments");
-    assert!(rt; answers(alloc, DENIES, &schema, "", told)?);
+    assert!(rt; has_too_many(rt.alloc(), 101)?);
     Ok(())
 }
 
 /// Policy files that are refused, with their statuses and lines.
-const POLICIES: [(&str, u8, &str); 6] = [
+const POLICIES: &[(&str, u8, &str)] = &[
     ("x", 11, "error 11 policies Unexpected at 0"),
     (
         "permit(principal, action, resource) when { context.mfa",
@@ -101,52 +105,46 @@ const POLICIES: [(&str, u8, &str); 6] = [
 
 #[test]
 fn policies_are_refused(rt: HostRuntime) -> Result<(), Fail> {
-    for (policies, code, line) in POLICIES {
+    are_reported(&rt, rt.alloc(), TRUTH, POLICIES)
+}
+
+/// Conditions of policies without a type, and the rules that these break in the one environment.
+const ILL_TYPED: &[(&str, &str, &str)] = &[
+    (TRUTH, "context.x", "NoAttribute at 50"),
+    (TRUTH, "if context.mfa then 1 else \"a\"", "NoJoin at 43"),
+    (TRUTH, "context.mfa && 1", "NotBoolean at 58"),
+    (FULL, "context.n", "NotBoolean at 50"),
+    (FULL, "principal.nick == \"x\"", "MaybeAbsent at 52"),
+];
+
+/// Whether a policy under this condition is refused with this line.
+fn refuses(alloc: Global, schema: &str, condition: &str, fault: &str) -> Result<bool, AllocError> {
+    let policy = policy_under(alloc, condition)?;
+    let front = "error 13 policies policy0 env User Action::\"view\" Doc";
+    let line = format!(in alloc; "{front} {fault}")?;
+    reports(alloc, schema, &policy, (13, &line))
+}
+
+#[test]
+fn conditions_without_a_type_are_refused(rt: HostRuntime) -> Result<(), Fail> {
+    for &(schema, condition, fault) in ILL_TYPED {
         assert!(rt;
-            answers(rt.alloc(), DENIES, SCHEMA, policies, (code, line))?,
-            "{policies}"
+            refuses(rt.alloc(), schema, condition, fault)?,
+            "{condition}"
         );
     }
     Ok(())
 }
 
-/// Conditions of policies without a type, and the rules that these break in the one environment.
-const ILL_TYPED: [(&str, &str, &str); 5] = [
-    (SCHEMA, "context.x", "NoAttribute at 50"),
-    (SCHEMA, "if context.mfa then 1 else \"a\"", "NoJoin at 43"),
-    (SCHEMA, "context.mfa && 1", "NotBoolean at 58"),
-    (MANY_KINDS, "context.n", "NotBoolean at 50"),
-    (MANY_KINDS, "principal.nick == \"x\"", "MaybeAbsent at 52"),
-];
-
-/// Whether a policy under this condition is refused with this line.
-fn refuses(
-    alloc: Global,
-    (schema, condition, fault): (&str, &str, &str),
-) -> Result<bool, AllocError> {
-    let policy = format!(in alloc; "permit(principal, action, resource) when {{ {condition} }};")?;
-    let front = "error 13 policies policy0 env User Action::\"view\" Doc";
-    let line = format!(in alloc; "{front} {fault}")?;
-    answers(alloc, DENIES, schema, &policy, (13, &line))
-}
-
-#[test]
-fn conditions_without_a_type_are_refused(rt: HostRuntime) -> Result<(), Fail> {
-    for row in ILL_TYPED {
-        assert!(rt; refuses(rt.alloc(), row)?, "{}", row.1);
-    }
-    Ok(())
-}
-
 /// Numbers of pairs of parentheses, with the status and the line for a condition within so many.
-const NESTED: [(usize, u8, &str); 2] = [
+const NESTED: &[(usize, u8, &str)] = &[
     (99, 0, HOLDS),
     (100, 11, "error 11 policies TooDeep at 143"),
 ];
 
-/// A policy under what is true, in so many pairs of parentheses.
+/// What is true, in so many pairs of parentheses.
 fn nested(alloc: Global, count: usize) -> Result<String, AllocError> {
-    let mut text = String::from_str(alloc, "permit(principal, action, resource) when { ")?;
+    let mut text = String::from_str(alloc, "")?;
     for _ in 0..count {
         text.push_str("(")?;
     }
@@ -154,19 +152,17 @@ fn nested(alloc: Global, count: usize) -> Result<String, AllocError> {
     for _ in 0..count {
         text.push_str(")")?;
     }
-    text.push_str(" };")?;
     Ok(text)
 }
 
 fn nested_ends(alloc: Global, count: usize, told: (u8, &str)) -> Result<bool, AllocError> {
-    let policy = nested(alloc, count)?;
-    let words = "analyse --schema s --policies p --query always-allows --budget 10000";
-    answers(alloc, words, SCHEMA, &policy, told)
+    let condition = nested(alloc, count)?;
+    is_told(alloc, TRUTH, "always-allows", (&condition, ""), told)
 }
 
 #[test]
 fn conditions_in_parentheses(rt: HostRuntime) -> Result<(), Fail> {
-    for (count, code, line) in NESTED {
+    for &(count, code, line) in NESTED {
         assert!(rt; nested_ends(rt.alloc(), count, (code, line))?, "{count}");
     }
     Ok(())

@@ -1,26 +1,25 @@
 //! Questions of policies under conditions. A counterexample is replayed: the world has to be well-formed, and what is asked
 //! has to fail there.
 use crate::runs::{ends, text_in, written};
+use crate::samples::{HOLDS, REPLAYS};
 use std::alloc::{AllocError, Global};
+use std::process::Abort;
+use std::test::Fail;
 
 /// What is permitted under a condition.
 const POLICY: &str = "permit(principal, action, resource) when { CONDITION };";
 
 const ANALYSES: &str = "analyse --schema s --policies p --query QUESTION --budget 10000";
 
-const REPLAYS: &str = "replay --schema s --policies p --world w";
-
-const HOLDS: &str = "env User Action::\"view\" Doc: holds\n";
-
 const COUNTEREXAMPLE: &str = "env User Action::\"view\" Doc: counterexample ";
 
 /// A policy under this condition.
-pub fn policy_under(alloc: Global, condition: &str) -> Result<String, AllocError> {
+pub(crate) fn policy_under(alloc: Global, condition: &str) -> Result<String, AllocError> {
     POLICY.replace(alloc, "CONDITION", condition)
 }
 
 /// Whether a question of two policy files ends so; many questions read the first alone.
-pub fn is_answered<'t>(
+pub(crate) fn is_answered<'t>(
     alloc: Global,
     schema: &'t str,
     question: &str,
@@ -37,7 +36,7 @@ pub fn is_answered<'t>(
 }
 
 /// Whether a question of policies under these conditions ends so.
-pub fn is_told(
+pub(crate) fn is_told(
     alloc: Global,
     schema: &str,
     question: &str,
@@ -49,14 +48,35 @@ pub fn is_told(
     is_answered(alloc, schema, question, (&first, &second), told)
 }
 
-/// Whether what is asked of policies under these conditions holds.
-pub fn holds(
+/// The part of a line at a place, between semicolons. Where there are fewer it is empty.
+pub(crate) fn part(line: &str, place: usize) -> &str {
+    let mut left = place;
+    for part in line.split(';') {
+        if left == 0 {
+            return part.trim();
+        }
+        left -= 1;
+    }
+    ""
+}
+
+/// Whether a question of policies under conditions holds. A line has the question and the one or two conditions.
+fn holds(alloc: Global, schema: &str, line: &str) -> Result<bool, AllocError> {
+    let conditions = (part(line, 1), part(line, 2));
+    is_told(alloc, schema, part(line, 0), conditions, (0, HOLDS))
+}
+
+/// Asserts that each of these questions holds, a line each.
+pub(crate) fn all_hold(
+    rt: &impl Abort,
     alloc: Global,
     schema: &str,
-    question: &str,
-    conditions: (&str, &str),
-) -> Result<bool, AllocError> {
-    is_told(alloc, schema, question, conditions, (0, HOLDS))
+    lines: &str,
+) -> Result<(), Fail> {
+    for line in lines.trim().lines() {
+        assert!(rt; holds(alloc, schema, line)?, "{line}");
+    }
+    Ok(())
 }
 
 /// What is reported where there is a counterexample.
@@ -142,33 +162,59 @@ fn has_all(text: &str, words: &str) -> bool {
     true
 }
 
-/// Whether there is a counterexample for these policies, in whose text all these words stand.
-fn has_counterexample<'t>(
+/// Whether this world has all these words, and what is asked fails in it.
+fn is_counterexample<'t>(
     alloc: Global,
     schema: &'t str,
     question: &str,
     sets: (&'t str, &'t str),
+    world: &'t str,
     words: &str,
 ) -> Result<bool, AllocError> {
-    let report = reported(alloc, schema, question, sets)?;
-    let Some(world) = world_of(&report) else {
-        return Ok(false);
-    };
     if !has_all(world, words) {
         return Ok(false);
     }
     fails_in(alloc, schema, question, sets, world)
 }
 
-/// Whether what is asked of policies under these conditions fails in the world that is reported, and that world has these words.
-pub fn is_violated(
+/// Whether there is a counterexample for these policies, in whose text all these words stand.
+fn has_counterexample(
     alloc: Global,
     schema: &str,
     question: &str,
-    conditions: (&str, &str),
+    sets: (&str, &str),
     words: &str,
 ) -> Result<bool, AllocError> {
-    let first = policy_under(alloc, conditions.0)?;
-    let second = policy_under(alloc, conditions.1)?;
-    has_counterexample(alloc, schema, question, (&first, &second), words)
+    let report = reported(alloc, schema, question, sets)?;
+    match world_of(&report) {
+        Some(world) => is_counterexample(alloc, schema, question, sets, world, words),
+        None => Ok(false),
+    }
+}
+
+/// Whether a question of policies under conditions fails in the world that is reported. A line has the question,
+/// two conditions and words of that world.
+fn is_violated(alloc: Global, schema: &str, line: &str) -> Result<bool, AllocError> {
+    let first = policy_under(alloc, part(line, 1))?;
+    let second = policy_under(alloc, part(line, 2))?;
+    has_counterexample(
+        alloc,
+        schema,
+        part(line, 0),
+        (&first, &second),
+        part(line, 3),
+    )
+}
+
+/// Asserts that each of these questions fails, a line each.
+pub(crate) fn all_fail(
+    rt: &impl Abort,
+    alloc: Global,
+    schema: &str,
+    lines: &str,
+) -> Result<(), Fail> {
+    for line in lines.trim().lines() {
+        assert!(rt; is_violated(alloc, schema, line)?, "{line}");
+    }
+    Ok(())
 }
