@@ -293,12 +293,18 @@ fn is_member(alloc: Global, of: (&str, &str), uids: &[(&str, &str)]) -> Option<b
     }
 }
 
+/// Uids, and whether they are in that set.
+const MEMBERS: &[(&str, &str, bool)] = &[("A", "1", true), ("A", "2", true), ("B", "1", false)];
+
 #[test]
 fn members_of_sets(rt: HostRuntime) {
     let alloc = rt.alloc();
-    assert!(rt; is_member(alloc, ("A", "1"), SOME) == Some(true));
-    assert!(rt; is_member(alloc, ("A", "2"), SOME) == Some(true));
-    assert!(rt; is_member(alloc, ("B", "1"), SOME) == Some(false));
+    for &(type_name, id, among) in MEMBERS {
+        assert!(rt;
+            is_member(alloc, (type_name, id), SOME) == Some(among),
+            "{id}"
+        );
+    }
     assert!(rt; is_member(alloc, ("A", "1"), &[]) == Some(false));
     assert!(rt; Lits::new(alloc).is_empty());
 }

@@ -14,12 +14,21 @@ fn entities(alloc: Global, type_name: &str) -> Result<Sort, AllocError> {
     Ok(Sort::Entity(name(alloc, type_name)?, Seq::new(alloc)))
 }
 
+fn put_action(alloc: Global, choices: &mut Seq<Uid>, id: &str) -> Result<(), AllocError> {
+    choices.push(uid(alloc, ("Action", id))?)
+}
+
+fn listed(alloc: Global) -> Result<Seq<Uid>, AllocError> {
+    let mut choices = Seq::new(alloc);
+    put_action(alloc, &mut choices, "buy")?;
+    put_action(alloc, &mut choices, "view")?;
+    Ok(choices)
+}
+
 /// Actions, of which two are listed.
 fn actions(alloc: Global) -> Result<Sort, AllocError> {
-    let mut choices = Seq::new(alloc);
-    choices.push(uid(alloc, ("Action", "buy"))?)?;
-    choices.push(uid(alloc, ("Action", "view"))?)?;
-    Ok(Sort::Entity(name(alloc, "Action")?, choices))
+    let name = name(alloc, "Action")?;
+    Ok(Sort::Entity(name, listed(alloc)?))
 }
 
 /// The type of records of a level, perhaps a nick, and a truth value.

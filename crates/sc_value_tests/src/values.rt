@@ -59,10 +59,15 @@ const SAMPLES: &[Sample] = &[
     Sample::V6(1, 0),
 ];
 
+fn put_long(values: &mut Vec<Value>, number: i64) -> Result<(), AllocError> {
+    values.push(Value::Long(number))?;
+    Ok(())
+}
+
 fn longs(alloc: Global, numbers: &[i64]) -> Result<Vec<Value>, AllocError> {
     let mut values = Vec::new(alloc);
     for n in numbers {
-        values.push(Value::Long(*n))?;
+        put_long(&mut values, *n)?;
     }
     Ok(values)
 }
