@@ -9,7 +9,6 @@ use crate::words::number_of;
 use sc_terms::Terms;
 use std::alloc::{AllocError, Global};
 use std::cmp::Ordering;
-use std::test::Fail;
 
 /// Whether a term or x is true, and the term or y: two copies of the term, and three more terms.
 fn doubled(terms: &mut Terms, t: u64, x: u64, y: u64) -> Result<u64, AllocError>
@@ -53,11 +52,10 @@ fn count(alloc: Global, times: u32) -> Result<u64, AllocError> {
 }
 
 #[test]
-fn equal_terms_come_in_once(rt: HostRuntime) -> Result<(), Fail> {
+fn equal_terms_come_in_once(rt: HostRuntime) {
     // as a tree the last of them has more than 2 ^ 60 nodes
-    assert_eq!(rt; count(rt.alloc(), 0)?, 8);
-    assert_eq!(rt; count(rt.alloc(), 60)?, 188);
-    Ok(())
+    assert!(rt; count(rt.alloc(), 0) == Ok(8));
+    assert!(rt; count(rt.alloc(), 60) == Ok(188));
 }
 
 /// How a term that is doubled so many times compares with one that is doubled more often.
@@ -69,23 +67,18 @@ fn order(alloc: Global, times: u32, more: u32) -> Result<Ordering, AllocError> {
 }
 
 #[test]
-fn comparison_goes_down_one_path(rt: HostRuntime) -> Result<(), Fail> {
-    let greater = order(rt.alloc(), 60, 61) == Ok(Ordering::Greater);
-    assert!(rt; greater);
-    Ok(())
+fn comparison_goes_down_one_path(rt: HostRuntime) {
+    assert!(rt; order(rt.alloc(), 60, 61) == Ok(Ordering::Greater));
 }
 
 #[test]
-fn comparison_of_deep_terms(rt: HostRuntime) -> Result<(), Fail> {
+fn comparison_of_deep_terms(rt: HostRuntime) {
     // they differ at the bottom alone, a hundred thousand parts deep
-    let greater = order(rt.alloc(), 50_000, 50_001) == Ok(Ordering::Greater);
-    assert!(rt; greater);
-    Ok(())
+    assert!(rt; order(rt.alloc(), 50_000, 50_001) == Ok(Ordering::Greater));
 }
 
 /// `scripts/terms.sh` times it.
 #[test]
-fn a_million_terms(rt: HostRuntime) -> Result<(), Fail> {
-    assert_eq!(rt; count(rt.alloc(), 333_331)?, 1_000_001);
-    Ok(())
+fn a_million_terms(rt: HostRuntime) {
+    assert!(rt; count(rt.alloc(), 333_331) == Ok(1_000_001));
 }

@@ -39,16 +39,25 @@ pub(crate) fn uid(alloc: Global, type_name: &str, id: &str) -> Result<Uid, Alloc
     })
 }
 
+fn put_action(alloc: Global, choices: &mut Seq<Uid>, id: &str) -> Result<(), AllocError> {
+    choices.push(uid(alloc, "Action", id)?)
+}
+
 /// The actions that are listed.
 pub(crate) fn actions(alloc: Global) -> Result<Seq<Uid>, AllocError> {
     let mut choices = Seq::new(alloc);
-    choices.push(uid(alloc, "Action", "buy")?)?;
-    choices.push(uid(alloc, "Action", "view")?)?;
+    put_action(alloc, &mut choices, "buy")?;
+    put_action(alloc, &mut choices, "view")?;
     Ok(choices)
 }
 
 fn users(alloc: Global) -> Result<Sort, AllocError> {
     Ok(Sort::Entity(name(alloc, "User")?, Seq::new(alloc)))
+}
+
+fn action(alloc: Global) -> Result<Sort, AllocError> {
+    let name = name(alloc, "Action")?;
+    Ok(Sort::Entity(name, actions(alloc)?))
 }
 
 fn set(alloc: Global, member: Sort) -> Result<Sort, AllocError> {
@@ -71,11 +80,21 @@ const PERSON: &[(&str, Kind)] = &[
     ("up", Kind::Bool),
 ];
 
+fn put_field(
+    alloc: Global,
+    fields: &mut Seq<(Text, Sort)>,
+    name: &str,
+    kind: Kind,
+) -> Result<(), AllocError> {
+    let name = Text::from_str(alloc, name)?;
+    fields.push((name, plain(alloc, kind)?))
+}
+
 /// Records of fields of these kinds, which aren't records themselves.
 fn record(alloc: Global, shape: &[(&str, Kind)]) -> Result<Sort, AllocError> {
     let mut fields = Seq::new(alloc);
     for (name, kind) in shape {
-        fields.push((Text::from_str(alloc, name)?, plain(alloc, *kind)?))?;
+        put_field(alloc, &mut fields, name, *kind)?;
     }
     Ok(Sort::Record(fields))
 }
@@ -88,7 +107,7 @@ fn plain(alloc: Global, kind: Kind) -> Result<Sort, AllocError> {
         Kind::Decimal => Ok(Sort::Decimal),
         Kind::Ip => Ok(Sort::Ip),
         Kind::User => users(alloc),
-        Kind::Action => Ok(Sort::Entity(name(alloc, "Action")?, actions(alloc)?)),
+        Kind::Action => action(alloc),
         Kind::Bools => set(alloc, Sort::Bool),
         Kind::Longs => set(alloc, Sort::Long),
         Kind::Strings => set(alloc, Sort::String),

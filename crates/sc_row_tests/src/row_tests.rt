@@ -18,12 +18,10 @@ use sc_pattern::Part::{Char, Star};
 use sc_sorts::Sort;
 use sc_terms::Terms;
 use std::alloc::{AllocError, Global};
-use std::test::Fail;
 
 /// A term, and the kind of its sort.
 type Row = (&'static [Word], Kind);
 
-/// A term of each row, in the order of rows.
 const ROWS: &[Row] = &[
     (&[Leaf(True)], Kind::Bool),
     (&[Leaf(False)], Kind::Bool),
@@ -161,25 +159,44 @@ const ROWS: &[Row] = &[
     ),
 ];
 
-/// Whether the sort of a term is this one.
-fn is_of(alloc: Global, words: &[Word], kind: Kind) -> Result<bool, AllocError> {
-    let mut terms = Terms::new(alloc)?;
-    let number = number_of(alloc, &mut terms, words)?;
-    let sort = sort(alloc, kind)?;
-    Ok(is_same(terms.sort(number), &sort))
+/// A term of each row, in the order of rows.
+fn rows_in_order() -> &'static [Row] {
+    ROWS
 }
 
 fn is_same(sort: &Sort, other: &Sort) -> bool {
     *sort == *other
 }
 
-#[test]
-fn sorts(rt: HostRuntime) -> Result<(), Fail> {
-    for (place, row) in ROWS.iter().enumerate() {
-        let so = is_of(rt.alloc(), row.0, row.1) == Ok(true);
-        assert!(rt; so, "row {place}");
+/// Whether a term that is written is of a sort.
+fn is_of_sort(alloc: Global, words: &[Word], sort: &Sort) -> Result<bool, AllocError> {
+    let mut terms = Terms::new(alloc)?;
+    let number = number_of(alloc, &mut terms, words)?;
+    Ok(is_same(terms.sort(number), sort))
+}
+
+/// The same of the sort of a kind.
+fn is_of(alloc: Global, words: &[Word], kind: Kind) -> bool {
+    match sort(alloc, kind) {
+        Ok(sort) => is_of_sort(alloc, words, &sort) == Ok(true),
+        Err(_) => false,
     }
-    Ok(())
+}
+
+/// The place of the first row whose term isn't of its sort, counted from 0.
+fn first_of_another_sort(alloc: Global, rows: &[Row]) -> Option<usize> {
+    for (place, row) in rows.iter().enumerate() {
+        if !is_of(alloc, row.0, row.1) {
+            return Some(place);
+        }
+    }
+    None
+}
+
+#[test]
+fn sorts(rt: HostRuntime) {
+    let other = first_of_another_sort(rt.alloc(), rows_in_order());
+    assert!(rt; other.is_none(), "{other:?}");
 }
 
 /// Whether the row of a term is this one.
@@ -189,19 +206,26 @@ fn is_in_row(alloc: Global, words: &[Word], place: usize) -> Result<bool, AllocE
     Ok(usize::from(row(terms.node(number))) == place)
 }
 
-#[test]
-fn rows(rt: HostRuntime) -> Result<(), Fail> {
-    for (place, row) in ROWS.iter().enumerate() {
-        let so = is_in_row(rt.alloc(), row.0, place) == Ok(true);
-        assert!(rt; so, "row {place}");
+/// The place of the first row whose term is of another row, counted from 0.
+fn first_in_another_row(alloc: Global, rows: &[Row]) -> Option<usize> {
+    for (place, row) in rows.iter().enumerate() {
+        if is_in_row(alloc, row.0, place) != Ok(true) {
+            return Some(place);
+        }
     }
-    assert_eq!(rt; ROWS.len(), 44);
-    Ok(())
+    None
+}
+
+#[test]
+fn rows(rt: HostRuntime) {
+    let other = first_in_another_row(rt.alloc(), rows_in_order());
+    assert!(rt; other.is_none(), "{other:?}");
+    assert!(rt; rows_in_order().len() == 44);
 }
 
 /// Whether a term compares with that of each row as its place does with the row's.
-fn is_in_order(alloc: Global, place: usize, words: &[Word]) -> bool {
-    for (other, row) in ROWS.iter().enumerate() {
+fn is_in_order(alloc: Global, place: usize, words: &[Word], rows: &[Row]) -> bool {
+    for (other, row) in rows.iter().enumerate() {
         let wanted = (place.cmp(&other), other.cmp(&place));
         if orders(alloc, words, row.0) != Ok(wanted) {
             return false;
@@ -210,10 +234,18 @@ fn is_in_order(alloc: Global, place: usize, words: &[Word]) -> bool {
     true
 }
 
-#[test]
-fn rows_come_first(rt: HostRuntime) -> Result<(), Fail> {
-    for (place, row) in ROWS.iter().enumerate() {
-        assert!(rt; is_in_order(rt.alloc(), place, row.0), "row {place}");
+/// The place of the first row whose term isn't in its order, counted from 0.
+fn first_out_of_order(alloc: Global, rows: &[Row]) -> Option<usize> {
+    for (place, row) in rows.iter().enumerate() {
+        if !is_in_order(alloc, place, row.0, rows) {
+            return Some(place);
+        }
     }
-    Ok(())
+    None
+}
+
+#[test]
+fn rows_come_first(rt: HostRuntime) {
+    let other = first_out_of_order(rt.alloc(), rows_in_order());
+    assert!(rt; other.is_none(), "{other:?}");
 }

@@ -298,6 +298,21 @@ pub(crate) fn number_of(alloc: Global, terms: &mut Terms, words: &[Word]) -> Res
     Ok(last.2)
 }
 
+/// The numbers of two terms that are written.
+fn numbers_of(
+    alloc: Global,
+    terms: &mut Terms,
+    left: &[Word],
+    right: &[Word],
+) -> Result<(u64, u64), AllocError>
+    ensures left { IfOk result (λ x. x.0 < length terms.new) }
+    ensures right { IfOk result (λ x. x.1 < length terms.new) }
+{
+    let left = number_of(alloc, terms, left)?;
+    let right = number_of(alloc, terms, right)?;
+    Ok((left, right))
+}
+
 /// How the first of two terms compares with the second, and the second with the first.
 pub(crate) fn orders(
     alloc: Global,
@@ -305,15 +320,13 @@ pub(crate) fn orders(
     right: &[Word],
 ) -> Result<(Ordering, Ordering), AllocError> {
     let mut terms = Terms::new(alloc)?;
-    let left = number_of(alloc, &mut terms, left)?;
-    let right = number_of(alloc, &mut terms, right)?;
+    let (left, right) = numbers_of(alloc, &mut terms, left, right)?;
     Ok((terms.compare(left, right), terms.compare(right, left)))
 }
 
 /// Whether two terms that are written are one.
 pub(crate) fn are_one(alloc: Global, left: &[Word], right: &[Word]) -> Result<bool, AllocError> {
     let mut terms = Terms::new(alloc)?;
-    let left = number_of(alloc, &mut terms, left)?;
-    let right = number_of(alloc, &mut terms, right)?;
+    let (left, right) = numbers_of(alloc, &mut terms, left, right)?;
     Ok(terms.is_same(left, right))
 }

@@ -1,23 +1,44 @@
 //! First faults of schema files.
+use sc_lists::Fault;
 use sc_schema_json::read_schema;
+use sc_schema_syntax::SchemaFault;
 use std::alloc::{AllocError, Global};
-use std::test::Fail;
+
+fn fault_text(alloc: Global, fault: &Fault<SchemaFault>) -> Result<String, AllocError> {
+    format!(in alloc; "{fault}")
+}
 
 /// What the fault of a file says, and `read` of one that has none.
 fn told_of(alloc: Global, bytes: &[u8]) -> Result<String, AllocError> {
     match read_schema(alloc, bytes) {
         Ok(_) => String::from_str(alloc, "read"),
-        Err(fault) => format!(in alloc; "{fault}"),
+        Err(fault) => fault_text(alloc, &fault),
+    }
+}
+
+/// Whether a text is made and is this one.
+pub fn is_text(found: Result<String, AllocError>, text: &str) -> bool {
+    match found {
+        Ok(found) => found.as_str() == text,
+        Err(_) => false,
     }
 }
 
 /// Whether this is told of a file.
-pub fn is_told(alloc: Global, text: &str, told: &str) -> Result<bool, AllocError> {
-    Ok(told_of(alloc, text.as_bytes())?.as_str() == told)
+fn is_told(alloc: Global, bytes: &[u8], told: &str) -> bool {
+    is_text(told_of(alloc, bytes), told)
+}
+
+/// Whether this is told of a file, if it is made.
+pub fn is_told_of_made(alloc: Global, file: Result<String, AllocError>, told: &str) -> bool {
+    match file {
+        Ok(text) => is_told(alloc, text.as_bytes(), told),
+        Err(_) => false,
+    }
 }
 
 /// Files with faults of their form.
-const FORMS: [(&str, &str); 28] = [
+const FORMS: &[(&str, &str)] = &[
     ("", "not JSON"),
     ("{", "not JSON"),
     ("{}x", "not JSON"),
@@ -99,7 +120,7 @@ const FORMS: [(&str, &str); 28] = [
 ];
 
 /// Files of the form with an unknown name.
-const NAMES: [(&str, &str); 14] = [
+const NAMES: &[(&str, &str)] = &[
     (
         r#"{"":{"entityTypes":{"User":{"memberOfTypes":["Team"]}}}}"#,
         "unknown type at //entityTypes/User/memberOfTypes/0",
@@ -162,7 +183,7 @@ const NAMES: [(&str, &str); 14] = [
 ];
 
 /// Files with known names and common types or actions on a cycle, or types of the wrong form.
-const TYPES: [(&str, &str); 16] = [
+const TYPES: &[(&str, &str)] = &[
     (
         r#"{"":{"commonTypes":{"A":{"type":"A"}}}}"#,
         "type A reaches itself",
@@ -233,36 +254,28 @@ const TYPES: [(&str, &str); 16] = [
 ];
 
 #[test]
-fn faults_of_form(rt: HostRuntime) -> Result<(), Fail> {
-    let alloc = rt.alloc();
-    for (text, told) in FORMS {
-        assert!(rt; is_told(alloc, text, told)?, "{text}");
+fn faults_of_form(rt: HostRuntime) {
+    for &(text, told) in FORMS {
+        assert!(rt; is_told(rt.alloc(), text.as_bytes(), told), "{text}");
     }
-    Ok(())
 }
 
 #[test]
-fn faults_of_names(rt: HostRuntime) -> Result<(), Fail> {
-    let alloc = rt.alloc();
-    for (text, told) in NAMES {
-        assert!(rt; is_told(alloc, text, told)?, "{text}");
+fn faults_of_names(rt: HostRuntime) {
+    for &(text, told) in NAMES {
+        assert!(rt; is_told(rt.alloc(), text.as_bytes(), told), "{text}");
     }
-    Ok(())
 }
 
 #[test]
-fn faults_of_types_and_actions(rt: HostRuntime) -> Result<(), Fail> {
-    let alloc = rt.alloc();
-    for (text, told) in TYPES {
-        assert!(rt; is_told(alloc, text, told)?, "{text}");
+fn faults_of_types_and_actions(rt: HostRuntime) {
+    for &(text, told) in TYPES {
+        assert!(rt; is_told(rt.alloc(), text.as_bytes(), told), "{text}");
     }
-    Ok(())
 }
 
 #[test]
-fn bytes_that_are_no_text(rt: HostRuntime) -> Result<(), Fail> {
-    let bytes = [0x7b, 0x22, 0xff, 0x22, 0x3a, 0x7b, 0x7d, 0x7d];
-    let told = told_of(rt.alloc(), &bytes)?;
-    assert_eq!(rt; told.as_str(), "not JSON");
-    Ok(())
+fn bytes_that_are_no_text(rt: HostRuntime) {
+    let bytes = b"{\"\xff\":{}}".as_slice();
+    assert!(rt; is_told(rt.alloc(), bytes, "not JSON"));
 }

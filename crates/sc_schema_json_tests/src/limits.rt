@@ -1,7 +1,6 @@
 //! Limits of types and of environments, and large files.
-use crate::faults::is_told;
+use crate::faults::is_told_of_made;
 use std::alloc::{AllocError, Global};
-use std::test::Fail;
 
 /// Writes a text this many times.
 fn put_often(text: &mut String, part: &str, times: u32) -> Result<(), AllocError> {
@@ -46,17 +45,15 @@ fn nested(alloc: Global, sets: u32, of: &str) -> Result<String, AllocError> {
     Ok(text)
 }
 
-fn nested_is_told(alloc: Global, sets: u32, told: &str) -> Result<bool, AllocError> {
-    let text = nested(alloc, sets, r#"{"type":"Boolean"}"#)?;
-    is_told(alloc, text.as_str(), told)
+fn nested_is_told(alloc: Global, sets: u32, told: &str) -> bool {
+    is_told_of_made(alloc, nested(alloc, sets, r#"{"type":"Boolean"}"#), told)
 }
 
 #[test]
-fn levels_of_types_are_counted(rt: HostRuntime) -> Result<(), Fail> {
-    for (sets, told) in [(31, "read"), (32, "type too large at //commonTypes/T")] {
-        assert!(rt; nested_is_told(rt.alloc(), sets, told)?, "{sets}");
-    }
-    Ok(())
+fn levels_of_types_are_counted(rt: HostRuntime) {
+    let alloc = rt.alloc();
+    assert!(rt; nested_is_told(alloc, 31, "read"));
+    assert!(rt; nested_is_told(alloc, 32, "type too large at //commonTypes/T"));
 }
 
 /// A file with a record type of this many attributes as tags.
@@ -71,20 +68,15 @@ fn wide(alloc: Global, attributes: u32) -> Result<String, AllocError> {
     Ok(text)
 }
 
-fn wide_is_told(alloc: Global, attributes: u32, told: &str) -> Result<bool, AllocError> {
-    let text = wide(alloc, attributes)?;
-    is_told(alloc, text.as_str(), told)
+fn wide_is_told(alloc: Global, attributes: u32, told: &str) -> bool {
+    is_told_of_made(alloc, wide(alloc, attributes), told)
 }
 
 #[test]
-fn nodes_of_types_are_counted(rt: HostRuntime) -> Result<(), Fail> {
-    for (attributes, told) in [
-        (4095, "read"),
-        (4096, "type too large at //entityTypes/U/tags"),
-    ] {
-        assert!(rt; wide_is_told(rt.alloc(), attributes, told)?, "{attributes}");
-    }
-    Ok(())
+fn nodes_of_types_are_counted(rt: HostRuntime) {
+    let alloc = rt.alloc();
+    assert!(rt; wide_is_told(alloc, 4095, "read"));
+    assert!(rt; wide_is_told(alloc, 4096, "type too large at //entityTypes/U/tags"));
 }
 
 /// Writes a common type: a record of two of the one before it.
@@ -110,21 +102,16 @@ fn doubled(alloc: Global, types: u32) -> Result<String, AllocError> {
     Ok(text)
 }
 
-fn doubled_is_told(alloc: Global, types: u32, told: &str) -> Result<bool, AllocError> {
-    let text = doubled(alloc, types)?;
-    is_told(alloc, text.as_str(), told)
+fn doubled_is_told(alloc: Global, types: u32, told: &str) -> bool {
+    is_told_of_made(alloc, doubled(alloc, types), told)
 }
 
 #[test]
-fn common_types_are_counted_as_written_out(rt: HostRuntime) -> Result<(), Fail> {
-    for (types, told) in [
-        (12, "read"),
-        (13, "type too large at //commonTypes/T12"),
-        (200, "type too large at //commonTypes/T100"),
-    ] {
-        assert!(rt; doubled_is_told(rt.alloc(), types, told)?, "{types}");
-    }
-    Ok(())
+fn common_types_are_counted_as_written_out(rt: HostRuntime) {
+    let alloc = rt.alloc();
+    assert!(rt; doubled_is_told(alloc, 12, "read"));
+    assert!(rt; doubled_is_told(alloc, 13, "type too large at //commonTypes/T12"));
+    assert!(rt; doubled_is_told(alloc, 200, "type too large at //commonTypes/T100"));
 }
 
 /// The first names of types, in quotes and after commas.
@@ -150,21 +137,32 @@ fn put_action(
     text.push_str("]}}")
 }
 
-/// A file with these actions and 200 entity types of one shape.
+/// Writes a file with these actions and 200 entity types of one shape.
+fn put_crossed(
+    alloc: Global,
+    text: &mut String,
+    first: (u32, u32),
+    second: (u32, u32),
+    shape: &str,
+) -> Result<(), AllocError> {
+    text.push_str(r#"{"":{"actions":{"#)?;
+    put_action(alloc, text, "a", first.0, first.1)?;
+    text.push_str(",")?;
+    put_action(alloc, text, "b", second.0, second.1)?;
+    text.push_str(r#"},"entityTypes":{"T":{"shape":"#)?;
+    text.push_str(shape)?;
+    put_numbers(alloc, text, ("},\"T", "\":{"), (1, 200))?;
+    text.push_str("}}}}")
+}
+
 fn crossed(
     alloc: Global,
     first: (u32, u32),
     second: (u32, u32),
     shape: &str,
 ) -> Result<String, AllocError> {
-    let mut text = String::from_str(alloc, r#"{"":{"actions":{"#)?;
-    put_action(alloc, &mut text, "a", first.0, first.1)?;
-    text.push_str(",")?;
-    put_action(alloc, &mut text, "b", second.0, second.1)?;
-    text.push_str(r#"},"entityTypes":{"T":{"shape":"#)?;
-    text.push_str(shape)?;
-    put_numbers(alloc, &mut text, ("},\"T", "\":{"), (1, 200))?;
-    text.push_str("}}}}")?;
+    let mut text = String::new(alloc);
+    put_crossed(alloc, &mut text, first, second, shape)?;
     Ok(text)
 }
 
@@ -176,37 +174,37 @@ fn crossed_is_told(
     first: (u32, u32),
     second: (u32, u32),
     (shape, told): (&str, &str),
-) -> Result<bool, AllocError> {
-    let text = crossed(alloc, first, second, shape)?;
-    is_told(alloc, text.as_str(), told)
+) -> bool {
+    is_told_of_made(alloc, crossed(alloc, first, second, shape), told)
 }
 
+/// How many principals and resources two actions have, and what is told of a file with them.
+const CROSSED: &[((u32, u32), (u32, u32), &str)] = &[
+    ((99, 100), (1, 100), "read"),
+    ((99, 100), (101, 1), "too many environments"),
+    // those of one action alone
+    ((1, 1), (73, 137), "too many environments"),
+];
+
 #[test]
-fn environments_are_counted(rt: HostRuntime) -> Result<(), Fail> {
-    for (first, second, told) in [
-        ((99, 100), (1, 100), "read"),
-        ((99, 100), (101, 1), "too many environments"),
-        // those of one action alone
-        ((1, 1), (73, 137), "too many environments"),
-    ] {
+fn environments_are_counted(rt: HostRuntime) {
+    for &(first, second, told) in CROSSED {
         let row = (NO_ATTRIBUTES, told);
         assert!(rt;
-            crossed_is_told(rt.alloc(), first, second, row)?,
+            crossed_is_told(rt.alloc(), first, second, row),
             "{}",
             second.0
         );
     }
-    Ok(())
 }
 
 #[test]
-fn environments_are_counted_last(rt: HostRuntime) -> Result<(), Fail> {
+fn environments_are_counted_last(rt: HostRuntime) {
     let row = (
         r#"{"type":"Long"}"#,
         "no record type at //entityTypes/T/shape",
     );
-    assert!(rt; crossed_is_told(rt.alloc(), (200, 200), (1, 1), row)?);
-    Ok(())
+    assert!(rt; crossed_is_told(rt.alloc(), (200, 200), (1, 1), row));
 }
 
 /// Writes an entity type that is in the one before it.
@@ -233,44 +231,52 @@ fn put_linked_action(
     put_number(alloc, text, ("", "\"}]}"), before)
 }
 
-/// A file with this many entity types and as many actions, each in the one before it.
-fn chained(alloc: Global, count: u32) -> Result<String, AllocError> {
-    let mut text = String::from_str(alloc, r#"{"":{"entityTypes":{"T0":{}"#)?;
+/// Writes a file with this many entity types and as many actions, each in the one before it.
+fn put_chained(alloc: Global, text: &mut String, count: u32) -> Result<(), AllocError> {
+    text.push_str(r#"{"":{"entityTypes":{"T0":{}"#)?;
     for number in 1..count {
-        put_linked_type(alloc, &mut text, number - 1, number)?;
+        put_linked_type(alloc, text, number - 1, number)?;
     }
     text.push_str(r#"},"actions":{"0":{}"#)?;
     for number in 1..count {
-        put_linked_action(alloc, &mut text, number - 1, number)?;
+        put_linked_action(alloc, text, number - 1, number)?;
     }
-    text.push_str("}}}")?;
+    text.push_str("}}}")
+}
+
+fn chained(alloc: Global, count: u32) -> Result<String, AllocError> {
+    let mut text = String::new(alloc);
+    put_chained(alloc, &mut text, count)?;
     Ok(text)
 }
 
 #[test]
-fn long_chains_are_read(rt: HostRuntime) -> Result<(), Fail> {
-    let text = chained(rt.alloc(), 300)?;
-    assert!(rt; is_told(rt.alloc(), text.as_str(), "read")?);
-    Ok(())
+fn long_chains_are_read(rt: HostRuntime) {
+    let alloc = rt.alloc();
+    assert!(rt; is_told_of_made(alloc, chained(alloc, 300), "read"));
 }
 
-/// A file with this many entity types and as many actions, each in one group.
-fn grouped(alloc: Global, count: u32) -> Result<String, AllocError> {
-    let mut text = String::from_str(alloc, r#"{"":{"entityTypes":{"T":{}"#)?;
+/// Writes a file with this many entity types and as many actions, each in one group.
+fn put_grouped(alloc: Global, text: &mut String, count: u32) -> Result<(), AllocError> {
+    text.push_str(r#"{"":{"entityTypes":{"T":{}"#)?;
     let types = (",\"T", r#"":{"memberOfTypes":["T"]}"#);
-    put_numbers(alloc, &mut text, types, (0, count))?;
+    put_numbers(alloc, text, types, (0, count))?;
     text.push_str(r#"},"actions":{"all":{}"#)?;
     let actions = (",\"", r#"":{"memberOf":[{"id":"all"}]}"#);
-    put_numbers(alloc, &mut text, actions, (0, count))?;
-    text.push_str("}}}")?;
+    put_numbers(alloc, text, actions, (0, count))?;
+    text.push_str("}}}")
+}
+
+fn grouped(alloc: Global, count: u32) -> Result<String, AllocError> {
+    let mut text = String::new(alloc);
+    put_grouped(alloc, &mut text, count)?;
     Ok(text)
 }
 
 #[test]
-fn many_declarations_are_read(rt: HostRuntime) -> Result<(), Fail> {
-    let text = grouped(rt.alloc(), 5000)?;
-    assert!(rt; is_told(rt.alloc(), text.as_str(), "read")?);
-    Ok(())
+fn many_declarations_are_read(rt: HostRuntime) {
+    let alloc = rt.alloc();
+    assert!(rt; is_told_of_made(alloc, grouped(alloc, 5000), "read"));
 }
 
 /// Writes a text once more behind itself.
@@ -297,8 +303,7 @@ fn padded(alloc: Global, power: u32) -> Result<String, AllocError> {
 }
 
 #[test]
-fn long_files_are_read(rt: HostRuntime) -> Result<(), Fail> {
-    let text = padded(rt.alloc(), 24)?;
-    assert!(rt; is_told(rt.alloc(), text.as_str(), "read")?);
-    Ok(())
+fn long_files_are_read(rt: HostRuntime) {
+    let alloc = rt.alloc();
+    assert!(rt; is_told_of_made(alloc, padded(alloc, 24), "read"));
 }

@@ -1,13 +1,13 @@
 //! What is read from schemas of the entity types and the actions that they declare.
+use crate::texts::is_text;
 use sc_lists::Text;
 use sc_names::{Name, Uid, put_uid};
 use sc_schema::{
-    Schema, Ty, action_ancestors, actions, ancestor_types, attrs_of, context_of, entity_types,
+    Env, Schema, Ty, action_ancestors, actions, ancestor_types, attrs_of, context_of, entity_types,
     environments, is_action_type, lookup_laws, order_laws, tags_of,
 };
 use sc_schema_json::read_schema;
 use std::alloc::{AllocError, Global};
-use std::test::Fail;
 
 /// A schema of three entity types and two actions, of which one is in the other.
 const SAMPLE: &str = r#"{
@@ -99,67 +99,85 @@ fn uids_text(alloc: Global, uids: Option<&[Uid]>) -> Result<String, AllocError> 
     Ok(told)
 }
 
+fn put_environment(told: &mut String, env: &Env) -> Result<(), AllocError> {
+    told.push_str(env.principal.as_str())?;
+    told.push_str(" ")?;
+    put_uid(told, &env.action)?;
+    told.push_str(" ")?;
+    told.push_str(env.resource.as_str())?;
+    told.push_str("; ")
+}
+
 /// The environments of a schema.
 fn environments_text(alloc: Global, schema: &Schema) -> Result<String, AllocError> {
     let mut told = String::new(alloc);
     for env in environments(schema) {
-        told.push_str(env.principal.as_str())?;
-        told.push_str(" ")?;
-        put_uid(&mut told, &env.action)?;
-        told.push_str(" ")?;
-        told.push_str(env.resource.as_str())?;
-        told.push_str("; ")?;
+        put_environment(&mut told, env)?;
     }
     Ok(told)
 }
 
 /// Whether a schema has these environments.
-fn has_environments(alloc: Global, text: &str, told: &str) -> Result<bool, AllocError> {
+fn has_environments(alloc: Global, text: &str, told: &str) -> bool {
     match schema(alloc, text) {
-        Some(schema) => Ok(environments_text(alloc, &schema)?.as_str() == told),
-        None => Ok(false),
+        Some(schema) => is_text(environments_text(alloc, &schema), told),
+        None => false,
     }
 }
 
+/// Schemas, and their environments.
+const ENVIRONMENTS: &[(&str, &str)] = &[
+    (
+        SAMPLE,
+        r#"Team Action::"view" Doc; Team Action::"view" Team; User Action::"view" Doc; User Action::"view" Team; "#,
+    ),
+    // a type that is named twice counts once
+    (CHAINS, r#"A Action::"x" C; B Action::"x" C; "#),
+];
+
 #[test]
-fn environments_in_order(rt: HostRuntime) -> Result<(), Fail> {
-    for (text, told) in [
-        (
-            SAMPLE,
-            r#"Team Action::"view" Doc; Team Action::"view" Team; User Action::"view" Doc; User Action::"view" Team; "#,
-        ),
-        // a type that is named twice counts once
-        (CHAINS, r#"A Action::"x" C; B Action::"x" C; "#),
-    ] {
-        assert!(rt; has_environments(rt.alloc(), text, told)?, "{told}");
+fn environments_in_order(rt: HostRuntime) {
+    for &(text, told) in ENVIRONMENTS {
+        assert!(rt; has_environments(rt.alloc(), text, told), "{told}");
     }
-    Ok(())
 }
 
 /// Whether a schema declares these entity types.
-fn has_types(alloc: Global, text: &str, names: &str) -> Result<bool, AllocError> {
+fn has_types(alloc: Global, text: &str, names: &str) -> bool {
     match schema(alloc, text) {
-        Some(schema) => Ok(names_text(alloc, Some(entity_types(&schema)))?.as_str() == names),
-        None => Ok(false),
+        Some(schema) => is_text(names_text(alloc, Some(entity_types(&schema))), names),
+        None => false,
     }
 }
 
 /// Whether a schema declares these actions.
-fn has_actions(alloc: Global, text: &str, uids: &str) -> Result<bool, AllocError> {
+fn has_actions(alloc: Global, text: &str, uids: &str) -> bool {
     match schema(alloc, text) {
-        Some(schema) => Ok(uids_text(alloc, Some(actions(&schema)))?.as_str() == uids),
-        None => Ok(false),
+        Some(schema) => is_text(uids_text(alloc, Some(actions(&schema))), uids),
+        None => false,
     }
 }
 
+/// Schemas, and the entity types and the actions that they declare.
+const DECLARED: &[(&str, &str, &str)] = &[
+    (
+        SAMPLE,
+        "Doc Team User ",
+        r#"Action::"view" Shop::Action::"buy" "#,
+    ),
+    (
+        CHAINS,
+        "A B C D ",
+        r#"Action::"g" Action::"h" Action::"x" "#,
+    ),
+];
+
 #[test]
-fn declarations_stand_in_order(rt: HostRuntime) -> Result<(), Fail> {
-    let alloc = rt.alloc();
-    assert!(rt; has_types(alloc, SAMPLE, "Doc Team User ")?);
-    assert!(rt; has_actions(alloc, SAMPLE, r#"Action::"view" Shop::Action::"buy" "#)?);
-    assert!(rt; has_types(alloc, CHAINS, "A B C D ")?);
-    assert!(rt; has_actions(alloc, CHAINS, r#"Action::"g" Action::"h" Action::"x" "#)?);
-    Ok(())
+fn declarations_stand_in_order(rt: HostRuntime) {
+    for &(text, names, uids) in DECLARED {
+        assert!(rt; has_types(rt.alloc(), text, names), "{names}");
+        assert!(rt; has_actions(rt.alloc(), text, uids), "{uids}");
+    }
 }
 
 /// How many entity types and actions a schema declares.
@@ -177,35 +195,40 @@ fn all_are_declared(rt: HostRuntime) {
     assert!(rt; counts(rt.alloc(), CHAINS) == Some((4, 3)));
 }
 
-/// Whether just these types stand above a type.
-fn is_under(alloc: Global, text: &str, of: &str, above: &str) -> Result<bool, AllocError> {
-    let name = name(alloc, of)?;
+fn is_under_name(alloc: Global, text: &str, name: &Name, above: &str) -> bool {
     match schema(alloc, text) {
-        Some(schema) => {
-            let names = ancestor_types(&schema, &name);
-            Ok(names_text(alloc, names)?.as_str() == above)
-        }
-        None => Ok(false),
+        Some(schema) => is_text(names_text(alloc, ancestor_types(&schema, name)), above),
+        None => false,
     }
 }
 
-#[test]
-fn types_above_types(rt: HostRuntime) -> Result<(), Fail> {
-    for (text, of, above) in [
-        (SAMPLE, "Doc", ""),
-        (SAMPLE, "Team", "Team "),
-        (SAMPLE, "User", "Team "),
-        (SAMPLE, "Action", ""),
-        (SAMPLE, "Shop::Action", "Action "),
-        (SAMPLE, "Page", "none"),
-        (CHAINS, "A", "B C "),
-        (CHAINS, "B", "C "),
-        (CHAINS, "C", ""),
-        (CHAINS, "D", "D "),
-    ] {
-        assert!(rt; is_under(rt.alloc(), text, of, above)?, "{of}");
+/// Whether just these types stand above a type.
+fn is_under(alloc: Global, text: &str, of: &str, above: &str) -> bool {
+    match name(alloc, of) {
+        Ok(name) => is_under_name(alloc, text, &name, above),
+        Err(_) => false,
     }
-    Ok(())
+}
+
+/// Schemas, entity types, and the types that stand above these.
+const UNDER: &[(&str, &str, &str)] = &[
+    (SAMPLE, "Doc", ""),
+    (SAMPLE, "Team", "Team "),
+    (SAMPLE, "User", "Team "),
+    (SAMPLE, "Action", ""),
+    (SAMPLE, "Shop::Action", "Action "),
+    (SAMPLE, "Page", "none"),
+    (CHAINS, "A", "B C "),
+    (CHAINS, "B", "C "),
+    (CHAINS, "C", ""),
+    (CHAINS, "D", "D "),
+];
+
+#[test]
+fn types_above_types(rt: HostRuntime) {
+    for &(text, of, above) in UNDER {
+        assert!(rt; is_under(rt.alloc(), text, of, above), "{of}");
+    }
 }
 
 fn field_count(ty: Option<&Ty>) -> Option<usize> {
@@ -215,41 +238,52 @@ fn field_count(ty: Option<&Ty>) -> Option<usize> {
     }
 }
 
-/// How many attributes entities of a type of the sample have, whether they have tags, and whether
-/// they are actions.
-fn declared_of(alloc: Global, of: &str) -> Option<(Option<usize>, bool, bool)> {
-    let name = name(alloc, of).ok()?;
+/// What the sample declares of entities of a type: how many attributes they have, whether they have
+/// tags, and whether they are actions.
+type Declared = (Option<usize>, bool, bool);
+
+fn declared_of_name(alloc: Global, name: &Name) -> Option<Declared> {
     let schema = schema(alloc, SAMPLE)?;
-    let count = field_count(attrs_of(&schema, &name));
-    let has_tags = tags_of(&schema, &name).is_some();
-    Some((count, has_tags, is_action_type(&schema, &name)))
+    let count = field_count(attrs_of(&schema, name));
+    let has_tags = tags_of(&schema, name).is_some();
+    Some((count, has_tags, is_action_type(&schema, name)))
 }
+
+fn declared_of(alloc: Global, of: &str) -> Option<Declared> {
+    match name(alloc, of) {
+        Ok(name) => declared_of_name(alloc, &name),
+        Err(_) => None,
+    }
+}
+
+/// Types, and what the sample declares of them.
+const OF_TYPES: &[(&str, Declared)] = &[
+    ("User", (Some(2), true, false)),
+    ("Doc", (Some(0), false, false)),
+    ("Shop::Action", (Some(0), false, true)),
+    ("Page", (None, false, false)),
+];
 
 #[test]
 fn attributes_and_tags(rt: HostRuntime) {
-    for (of, declared) in [
-        ("User", (Some(2), true, false)),
-        ("Doc", (Some(0), false, false)),
-        ("Shop::Action", (Some(0), false, true)),
-        ("Page", (None, false, false)),
-    ] {
+    for &(of, declared) in OF_TYPES {
         assert!(rt; declared_of(rt.alloc(), of) == Some(declared), "{of}");
     }
 }
 
+/// The actions that an action is in, each with a space behind it, and `none` where there is no such action.
+fn groups_text(alloc: Global, schema: &Schema, action: &Uid) -> Result<String, AllocError> {
+    uids_text(alloc, action_ancestors(schema, action))
+}
+
 /// Whether an action is in just these, and its context has so many attributes.
-fn is_in(
-    alloc: Global,
-    text: &str,
-    action: &Uid,
-    (above, count): (&str, Option<usize>),
-) -> Result<bool, AllocError> {
+fn is_in(alloc: Global, text: &str, action: &Uid, (above, count): (&str, Option<usize>)) -> bool {
     match schema(alloc, text) {
         Some(schema) => {
-            let told = uids_text(alloc, action_ancestors(&schema, action))?;
-            Ok(told.as_str() == above && field_count(context_of(&schema, action)) == count)
+            field_count(context_of(&schema, action)) == count
+                && is_text(groups_text(alloc, &schema, action), above)
         }
-        None => Ok(false),
+        None => false,
     }
 }
 
@@ -259,30 +293,35 @@ fn is_action_in(
     text: &str,
     (type_name, id): (&str, &str),
     declared: (&str, Option<usize>),
-) -> Result<bool, AllocError> {
-    let action = uid(alloc, type_name, id)?;
-    is_in(alloc, text, &action, declared)
+) -> bool {
+    match uid(alloc, type_name, id) {
+        Ok(action) => is_in(alloc, text, &action, declared),
+        Err(_) => false,
+    }
 }
 
+/// Schemas, the types and ids of actions, and what these are in, with the number of attributes of their
+/// contexts.
+const OF_ACTIONS: &[(&str, (&str, &str), (&str, Option<usize>))] = &[
+    (SAMPLE, ("Action", "view"), ("", Some(1))),
+    (
+        SAMPLE,
+        ("Shop::Action", "buy"),
+        (r#"Action::"view" "#, Some(0)),
+    ),
+    (SAMPLE, ("Action", "buy"), ("none", None)),
+    (
+        CHAINS,
+        ("Action", "x"),
+        (r#"Action::"g" Action::"h" "#, Some(0)),
+    ),
+    (CHAINS, ("Action", "g"), (r#"Action::"h" "#, Some(0))),
+    (CHAINS, ("Action", "h"), ("", Some(0))),
+];
+
 #[test]
-fn actions_above_actions_and_contexts(rt: HostRuntime) -> Result<(), Fail> {
-    for (text, of, declared) in [
-        (SAMPLE, ("Action", "view"), ("", Some(1))),
-        (
-            SAMPLE,
-            ("Shop::Action", "buy"),
-            (r#"Action::"view" "#, Some(0)),
-        ),
-        (SAMPLE, ("Action", "buy"), ("none", None)),
-        (
-            CHAINS,
-            ("Action", "x"),
-            (r#"Action::"g" Action::"h" "#, Some(0)),
-        ),
-        (CHAINS, ("Action", "g"), (r#"Action::"h" "#, Some(0))),
-        (CHAINS, ("Action", "h"), ("", Some(0))),
-    ] {
-        assert!(rt; is_action_in(rt.alloc(), text, of, declared)?, "{}", of.1);
+fn actions_above_actions_and_contexts(rt: HostRuntime) {
+    for &(text, of, declared) in OF_ACTIONS {
+        assert!(rt; is_action_in(rt.alloc(), text, of, declared), "{}", of.1);
     }
-    Ok(())
 }

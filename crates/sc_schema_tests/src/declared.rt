@@ -4,17 +4,24 @@ ghost use Rattle.sc_schema_resolved.specs.Resolved.{IsResolved};
 
 use sc_schema_names::{resolution_laws, resolve};
 use sc_schema_resolved::ResolvedSchema;
-use sc_schema_syntax::{read_syntax, syntax_laws};
+use sc_schema_syntax::{WrittenSchema, read_syntax, syntax_laws};
 use std::alloc::Global;
+
+/// What a schema declares, if its names are known.
+fn resolved(alloc: Global, written: &WrittenSchema) -> Option<ResolvedSchema>
+    ensures { IfSome result IsResolved }
+{
+    resolution_laws();
+    resolve(alloc, written).ok()
+}
 
 /// What a file declares, if its names are known.
 pub fn declared(alloc: Global, text: &str) -> Option<ResolvedSchema>
     ensures { IfSome result IsResolved }
 {
     syntax_laws();
-    resolution_laws();
     match read_syntax(alloc, text.as_bytes()) {
-        Ok(written) => resolve(alloc, &written).ok(),
+        Ok(written) => resolved(alloc, &written),
         Err(_) => None,
     }
 }

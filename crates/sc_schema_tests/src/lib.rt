@@ -13,4 +13,6 @@ mod names;
 #[cfg(test)]
 mod syntax;
 #[cfg(test)]
+mod texts;
+#[cfg(test)]
 mod types;

@@ -1,4 +1,6 @@
 //! Names in schema files: what each stands for, and the first that is unknown.
+use crate::declared::declared;
+use crate::texts::{fault_text, is_text};
 use sc_names::{Name, Uid, put_uid};
 use sc_schema_names::{resolution_laws, resolve};
 use sc_schema_resolved::{
@@ -6,25 +8,24 @@ use sc_schema_resolved::{
 };
 use sc_schema_syntax::{WrittenSchema, read_syntax};
 use std::alloc::{AllocError, Global};
-use std::test::Fail;
 
 /// What a file's fault says, and `resolved` of one whose names are known.
 fn told_of(alloc: Global, written: &WrittenSchema) -> Result<String, AllocError> {
     match resolve(alloc, written) {
         Ok(_) => String::from_str(alloc, "resolved"),
-        Err(fault) => format!(in alloc; "{fault}"),
+        Err(fault) => fault_text(alloc, &fault),
     }
 }
 
-fn is_told(alloc: Global, text: &str, told: &str) -> Result<bool, AllocError> {
+fn is_told(alloc: Global, text: &str, told: &str) -> bool {
     match read_syntax(alloc, text.as_bytes()) {
-        Ok(written) => Ok(told_of(alloc, &written)?.as_str() == told),
-        Err(_) => Ok(false),
+        Ok(written) => is_text(told_of(alloc, &written), told),
+        Err(_) => false,
     }
 }
 
 /// Files with the fault of the first name in them that is unknown.
-const FAULTS: [(&str, &str); 32] = [
+const FAULTS: &[(&str, &str)] = &[
     (
         r#"{"":{"entityTypes":{"User":{"memberOfTypes":["Team"]}}}}"#,
         "unknown type at //entityTypes/User/memberOfTypes/0",
@@ -156,18 +157,11 @@ const FAULTS: [(&str, &str); 32] = [
 ];
 
 #[test]
-fn faults_with_their_paths(rt: HostRuntime) -> Result<(), Fail> {
+fn faults_with_their_paths(rt: HostRuntime) {
     resolution_laws();
-    for (text, told) in FAULTS {
-        assert!(rt; is_told(rt.alloc(), text, told)?, "{text}");
+    for &(text, told) in FAULTS {
+        assert!(rt; is_told(rt.alloc(), text, told), "{text}");
     }
-    Ok(())
-}
-
-/// What a file declares, if its names are known.
-fn schema_of(alloc: Global, text: &str) -> Option<ResolvedSchema> {
-    let written = read_syntax(alloc, text.as_bytes()).ok()?;
-    resolve(alloc, &written).ok()
 }
 
 /// A word for a type, and the name in it.
@@ -197,22 +191,22 @@ fn body_in(schema: &ResolvedSchema) -> Option<&ResolvedType> {
 }
 
 /// Whether `Z` stands for a type with this word in the last namespace.
-fn has_word(alloc: Global, schema: &ResolvedSchema, word: &str) -> Result<bool, AllocError> {
+fn has_word(alloc: Global, schema: &ResolvedSchema, word: &str) -> bool {
     match body_in(schema) {
-        Some(body) => Ok(word_of(alloc, body)?.as_str() == word),
-        None => Ok(false),
+        Some(body) => is_text(word_of(alloc, body), word),
+        None => false,
     }
 }
 
-fn stands_for(alloc: Global, text: &str, word: &str) -> Result<bool, AllocError> {
-    match schema_of(alloc, text) {
+fn stands_for(alloc: Global, text: &str, word: &str) -> bool {
+    match declared(alloc, text) {
         Some(schema) => has_word(alloc, &schema, word),
-        None => Ok(false),
+        None => false,
     }
 }
 
 /// Files with what `Z` stands for in their last namespace.
-const TYPES: [(&str, &str); 22] = [
+const TYPES: &[(&str, &str)] = &[
     // a common type comes before an entity type
     (
         r#"{"":{"commonTypes":{"T":{"type":"Long"},"Z":{"type":"EntityOrCommon","name":"T"}},"entityTypes":{"T":{}}}}"#,
@@ -308,11 +302,10 @@ const TYPES: [(&str, &str); 22] = [
 ];
 
 #[test]
-fn what_names_stand_for(rt: HostRuntime) -> Result<(), Fail> {
-    for (text, word) in TYPES {
-        assert!(rt; stands_for(rt.alloc(), text, word)?, "{text}");
+fn what_names_stand_for(rt: HostRuntime) {
+    for &(text, word) in TYPES {
+        assert!(rt; stands_for(rt.alloc(), text, word), "{text}");
     }
-    Ok(())
 }
 
 /// A file with an action in others, some by a type and some without one.
@@ -340,7 +333,7 @@ const GROUPS: &str = r#"{
 }"#;
 
 /// What each namespace of that file declares.
-const TOLD: [&str; 3] = [
+const TOLD: &[&str] = &[
     r#": Action::"all"; "#,
     r#"Kept: Kept::Action::"read" in Action::"all"; "#,
     r#"Shop: Shop::Action::"all"; Shop::Action::"view" in Shop::Action::"all" in Shop::Action::"all" in Kept::Action::"read" for Shop::User for Shop::Team on Shop::User; Team Shop::Team; User Shop::User in Shop::Team; "#,
@@ -380,43 +373,43 @@ fn put_entity_type(told: &mut String, declared: &ResolvedEntityType) -> Result<(
     told.push_str("; ")
 }
 
-/// What a namespace declares: its actions, then its entity types.
-fn text_of(alloc: Global, namespace: &ResolvedNamespace) -> Result<String, AllocError> {
-    let mut told = String::from_str(alloc, namespace.name.as_str())?;
+/// Writes what a namespace declares: its actions, then its entity types.
+fn put_namespace(told: &mut String, namespace: &ResolvedNamespace) -> Result<(), AllocError> {
+    told.push_str(namespace.name.as_str())?;
     told.push_str(": ")?;
     for action in namespace.actions.as_slice() {
-        put_action(&mut told, action)?;
+        put_action(told, action)?;
     }
     for declared in namespace.entity_types.as_slice() {
-        put_entity_type(&mut told, declared)?;
+        put_entity_type(told, declared)?;
     }
+    Ok(())
+}
+
+fn text_of(alloc: Global, namespace: &ResolvedNamespace) -> Result<String, AllocError> {
+    let mut told = String::new(alloc);
+    put_namespace(&mut told, namespace)?;
     Ok(told)
 }
 
 /// Whether the namespace at a place of a schema declares this.
-fn declares(
-    alloc: Global,
-    schema: &ResolvedSchema,
-    place: usize,
-    told: &str,
-) -> Result<bool, AllocError> {
+fn declares(alloc: Global, schema: &ResolvedSchema, place: usize, told: &str) -> bool {
     match schema.namespaces.get(place) {
-        Some(namespace) => Ok(text_of(alloc, namespace)?.as_str() == told),
-        None => Ok(false),
+        Some(namespace) => is_text(text_of(alloc, namespace), told),
+        None => false,
     }
 }
 
-fn groups_declare(alloc: Global, place: usize, told: &str) -> Result<bool, AllocError> {
-    match schema_of(alloc, GROUPS) {
+fn groups_declare(alloc: Global, place: usize, told: &str) -> bool {
+    match declared(alloc, GROUPS) {
         Some(schema) => declares(alloc, &schema, place, told),
-        None => Ok(false),
+        None => false,
     }
 }
 
 #[test]
-fn names_in_full(rt: HostRuntime) -> Result<(), Fail> {
+fn names_in_full(rt: HostRuntime) {
     for (place, told) in TOLD.iter().enumerate() {
-        assert!(rt; groups_declare(rt.alloc(), place, told)?, "{told}");
+        assert!(rt; groups_declare(rt.alloc(), place, told), "{told}");
     }
-    Ok(())
 }

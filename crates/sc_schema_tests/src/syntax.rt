@@ -1,44 +1,44 @@
 //! What schema files say before any name in them is looked up, and the first faults of their form.
+use crate::texts::{fault_text, is_text};
 use sc_lists::Text;
 use sc_schema_syntax::{
     ExtensionKind, WrittenAction, WrittenAttributes, WrittenEntityType, WrittenNamespace,
     WrittenPresence, WrittenSchema, WrittenType, read_syntax, syntax_laws,
 };
 use std::alloc::{AllocError, Global};
-use std::test::Fail;
 
 /// What a file's fault says, and `read` of one that is read.
 fn told_of(alloc: Global, bytes: &[u8]) -> Result<String, AllocError> {
     match read_syntax(alloc, bytes) {
         Ok(_) => String::from_str(alloc, "read"),
-        Err(fault) => format!(in alloc; "{fault}"),
+        Err(fault) => fault_text(alloc, &fault),
     }
 }
 
-fn is_told(alloc: Global, bytes: &[u8], told: &str) -> Result<bool, AllocError> {
-    Ok(told_of(alloc, bytes)?.as_str() == told)
+fn is_told(alloc: Global, bytes: &[u8], told: &str) -> bool {
+    is_text(told_of(alloc, bytes), told)
 }
+
+/// Files that have no tree.
+const NO_TREES: &[&str] = &[
+    "{",
+    "",
+    "{} {}",
+    r#"{"":{"annotations":1e400}}"#,
+    r#"{"a":"\ud800"}"#,
+];
 
 #[test]
-fn files_without_a_tree(rt: HostRuntime) -> Result<(), Fail> {
-    let alloc = rt.alloc();
+fn files_without_a_tree(rt: HostRuntime) {
     syntax_laws();
-    for text in [
-        "{",
-        "",
-        "{} {}",
-        r#"{"":{"annotations":1e400}}"#,
-        r#"{"a":"\ud800"}"#,
-    ] {
-        assert!(rt; is_told(alloc, text.as_bytes(), "not JSON")?, "{text}");
+    for &text in NO_TREES {
+        assert!(rt; is_told(rt.alloc(), text.as_bytes(), "not JSON"), "{text}");
     }
-    let ill_formed = is_told(alloc, b"{\"\xff\":{}}".as_slice(), "not JSON")?;
-    assert!(rt; ill_formed);
-    Ok(())
+    assert!(rt; is_told(rt.alloc(), b"{\"\xff\":{}}".as_slice(), "not JSON"));
 }
 
 /// The faults of files that are JSON, each with its path.
-const FAULTS: [(&str, &str); 54] = [
+const FAULTS: &[(&str, &str)] = &[
     ("[]", "bad shape at "),
     ("null", "bad shape at "),
     (r#""""#, "bad shape at "),
@@ -219,29 +219,28 @@ const FAULTS: [(&str, &str); 54] = [
 ];
 
 #[test]
-fn faults_with_their_paths(rt: HostRuntime) -> Result<(), Fail> {
-    let alloc = rt.alloc();
-    for (text, told) in FAULTS {
-        assert!(rt; is_told(alloc, text.as_bytes(), told)?, "{text}");
+fn faults_with_their_paths(rt: HostRuntime) {
+    for &(text, told) in FAULTS {
+        assert!(rt; is_told(rt.alloc(), text.as_bytes(), told), "{text}");
     }
-    Ok(())
 }
 
+/// Files that are read.
+const READ: &[&str] = &[
+    "{}",
+    r#"{"":{"annotations":{"doc":[]}}}"#,
+    r#"{"annotations":{"entityTypes":{"annotations":{"annotations":1}}}}"#,
+    r#"{"":{"actions":{"annotations":{"annotations":1,"attributes":{}}}}}"#,
+    r#"{"":{"actions":{"a":{"memberOf":[{"id":"b","annotations":1}],"appliesTo":{"annotations":1}}}}}"#,
+    r#"{"":{"commonTypes":{"T":{"type":"U","annotations":1}}}}"#,
+    r#"{"":[],"":{}}"#,
+];
+
 #[test]
-fn annotations_are_skipped(rt: HostRuntime) -> Result<(), Fail> {
-    let alloc = rt.alloc();
-    for text in [
-        "{}",
-        r#"{"":{"annotations":{"doc":[]}}}"#,
-        r#"{"annotations":{"entityTypes":{"annotations":{"annotations":1}}}}"#,
-        r#"{"":{"actions":{"annotations":{"annotations":1,"attributes":{}}}}}"#,
-        r#"{"":{"actions":{"a":{"memberOf":[{"id":"b","annotations":1}],"appliesTo":{"annotations":1}}}}}"#,
-        r#"{"":{"commonTypes":{"T":{"type":"U","annotations":1}}}}"#,
-        r#"{"":[],"":{}}"#,
-    ] {
-        assert!(rt; is_told(alloc, text.as_bytes(), "read")?, "{text}");
+fn annotations_are_skipped(rt: HostRuntime) {
+    for &text in READ {
+        assert!(rt; is_told(rt.alloc(), text.as_bytes(), "read"), "{text}");
     }
-    Ok(())
 }
 
 /// A schema with each kind of declaration and of type.
@@ -424,15 +423,14 @@ fn lines_of(alloc: Global, schema: &WrittenSchema) -> Result<String, AllocError>
 }
 
 /// Whether the schema that a file spells has this.
-fn spells(alloc: Global, text: &str, told: &str) -> Result<bool, AllocError> {
+fn spells(alloc: Global, text: &str, told: &str) -> bool {
     match read_syntax(alloc, text.as_bytes()) {
-        Ok(schema) => Ok(lines_of(alloc, &schema)?.as_str() == told),
-        Err(_) => Ok(false),
+        Ok(schema) => is_text(lines_of(alloc, &schema), told),
+        Err(_) => false,
     }
 }
 
 #[test]
-fn each_kind_of_declaration(rt: HostRuntime) -> Result<(), Fail> {
-    assert!(rt; spells(rt.alloc(), WHOLE, TOLD)?);
-    Ok(())
+fn each_kind_of_declaration(rt: HostRuntime) {
+    assert!(rt; spells(rt.alloc(), WHOLE, TOLD));
 }

@@ -1,11 +1,11 @@
 //! Common types in their order, and the faults of types that reach themselves or are no records.
 use crate::declared::declared;
+use crate::texts::{fault_text, is_text};
 use sc_lists::Fault;
 use sc_schema_resolved::{ExpandedSchema, ResolvedSchema};
 use sc_schema_syntax::SchemaFault;
 use sc_schema_types::{expand, order_types, type_laws};
 use std::alloc::{AllocError, Global};
-use std::test::Fail;
 
 fn expanded(alloc: Global, schema: &ResolvedSchema) -> Result<ExpandedSchema, Fault<SchemaFault>> {
     match order_types(alloc, schema) {
@@ -18,43 +18,55 @@ fn expanded(alloc: Global, schema: &ResolvedSchema) -> Result<ExpandedSchema, Fa
 fn told_of(alloc: Global, schema: &ResolvedSchema) -> Result<String, AllocError> {
     match expanded(alloc, schema) {
         Ok(_) => String::from_str(alloc, "expanded"),
-        Err(fault) => format!(in alloc; "{fault}"),
+        Err(fault) => fault_text(alloc, &fault),
     }
 }
 
-fn is_told(alloc: Global, text: &str, told: &str) -> Result<bool, AllocError> {
+/// Whether this is told of the schema that a file declares, if it is made.
+fn is_told(alloc: Global, file: Result<String, AllocError>, told: &str) -> bool {
+    match file {
+        Ok(text) => is_told_in(alloc, text.as_str(), told),
+        Err(_) => false,
+    }
+}
+
+fn is_told_in(alloc: Global, text: &str, told: &str) -> bool {
     match declared(alloc, text) {
-        Some(schema) => Ok(told_of(alloc, &schema)?.as_str() == told),
-        None => Ok(false),
+        Some(schema) => is_text(told_of(alloc, &schema), told),
+        None => false,
     }
 }
 
-/// Common types with the least that reaches itself.
-const CYCLES: [(&str, &str); 4] = [
-    (r#""A":{"type":"A"}"#, "A"),
-    (r#""A":{"type":"B"},"B":{"type":"A"}"#, "A"),
+/// Common types with the fault of the least that reaches itself.
+const CYCLES: &[(&str, &str)] = &[
+    (r#""A":{"type":"A"}"#, "type A reaches itself"),
+    (
+        r#""A":{"type":"B"},"B":{"type":"A"}"#,
+        "type A reaches itself",
+    ),
     // not one that leads to it
     (
         r#""A0":{"type":"B"},"A1":{"type":"B"},"B":{"type":"A1"}"#,
-        "A1",
+        "type A1 reaches itself",
     ),
-    (r#""A":{"type":"C"},"B":{"type":"B"},"C":{"type":"C"}"#, "B"),
+    (
+        r#""A":{"type":"C"},"B":{"type":"B"},"C":{"type":"C"}"#,
+        "type B reaches itself",
+    ),
 ];
 
-/// Whether the least of common types that reaches itself is this.
-fn has_cycle(alloc: Global, types: &str, least: &str) -> Result<bool, AllocError> {
-    let text = format!(in alloc; "{{\"\":{{\"commonTypes\":{{{types}}}}}}}")?;
-    let told = format!(in alloc; "type {least} reaches itself")?;
-    is_told(alloc, text.as_str(), told.as_str())
+/// A file with these common types.
+fn with_types(alloc: Global, types: &str) -> Result<String, AllocError> {
+    r#"{"":{"commonTypes":{TYPES}}}"#.replace(alloc, "TYPES", types)
 }
 
 #[test]
-fn types_that_reach_themselves(rt: HostRuntime) -> Result<(), Fail> {
+fn types_that_reach_themselves(rt: HostRuntime) {
     type_laws();
-    for (types, least) in CYCLES {
-        assert!(rt; has_cycle(rt.alloc(), types, least)?, "{types}");
+    let alloc = rt.alloc();
+    for &(types, told) in CYCLES {
+        assert!(rt; is_told(alloc, with_types(alloc, types), told), "{types}");
     }
-    Ok(())
 }
 
 /// Common types, each of which names the next.
@@ -73,40 +85,39 @@ fn order_text(alloc: Global, schema: &ResolvedSchema) -> Result<String, AllocErr
     Ok(told)
 }
 
-fn has_order(alloc: Global, text: &str, order: &str) -> Result<bool, AllocError> {
+fn has_order(alloc: Global, text: &str, order: &str) -> bool {
     match declared(alloc, text) {
-        Some(schema) => Ok(order_text(alloc, &schema)?.as_str() == order),
-        None => Ok(false),
+        Some(schema) => is_text(order_text(alloc, &schema), order),
+        None => false,
     }
 }
 
 #[test]
-fn types_in_order(rt: HostRuntime) -> Result<(), Fail> {
-    assert!(rt; has_order(rt.alloc(), LINE, "C B A ")?);
-    Ok(())
+fn types_in_order(rt: HostRuntime) {
+    assert!(rt; has_order(rt.alloc(), LINE, "C B A "));
+}
+
+/// Writes that the type of one number is that of another.
+fn put_link(alloc: Global, text: &mut String, number: u32, next: u32) -> Result<(), AllocError> {
+    let link = format!(in alloc; "\"T{number}\":{{\"type\":\"T{next}\"}},")?;
+    text.push_str(link.as_str())
 }
 
 /// A file with common types from `T100000` on, each of which names the next.
 fn chained(alloc: Global, last: u32) -> Result<String, AllocError> {
     let mut text = String::from_str(alloc, "{\"\":{\"commonTypes\":{")?;
     for number in 100001..=last {
-        let before = number - 1;
-        text.push_str(format!(in alloc; "\"T{before}\":{{\"type\":\"T{number}\"}},")?.as_str())?;
+        put_link(alloc, &mut text, number - 1, number)?;
     }
-    text.push_str(format!(in alloc; "\"T{last}\":{{\"type\":\"Boolean\"}}}}}}}}")?.as_str())?;
+    let end = format!(in alloc; "\"T{last}\":{{\"type\":\"Boolean\"}}}}}}}}")?;
+    text.push_str(end.as_str())?;
     Ok(text)
 }
 
-fn is_expanded(alloc: Global, last: u32) -> Result<bool, AllocError> {
-    let text = chained(alloc, last)?;
-    is_told(alloc, text.as_str(), "expanded")
-}
-
 #[test]
-fn long_chains_of_types(rt: HostRuntime) -> Result<(), Fail> {
-    let expanded = is_expanded(rt.alloc(), 101000)?;
-    assert!(rt; expanded);
-    Ok(())
+fn long_chains_of_types(rt: HostRuntime) {
+    let alloc = rt.alloc();
+    assert!(rt; is_told(alloc, chained(alloc, 101000), "expanded"));
 }
 
 /// A file with common types of numbers, of sets and of records, and with a place for a shape and one
@@ -121,30 +132,30 @@ const SAMPLE: &str = r#"{"": {
     "actions": {"act": {"appliesTo": {"context": {"type": "CONTEXT"}}}}
 }}"#;
 
-/// Whether this is told of the sample with these types as the shape and the context.
-fn sample_is_told(
-    alloc: Global,
-    shape: &str,
-    context: &str,
-    told: &str,
-) -> Result<bool, AllocError> {
+/// The sample with these types as the shape and the context.
+fn sample(alloc: Global, shape: &str, context: &str) -> Result<String, AllocError> {
     let text = SAMPLE.replace(alloc, "SHAPE", shape)?;
-    let text = text.as_str().replace(alloc, "CONTEXT", context)?;
-    is_told(alloc, text.as_str(), told)
+    text.as_str().replace(alloc, "CONTEXT", context)
 }
 
+/// Types as the shape and the context of the sample, and what is told of it then.
+const SHAPES: &[(&str, &str, &str)] = &[
+    ("R", "R", "expanded"),
+    ("S", "R", "no record type at //entityTypes/U/shape"),
+    (
+        "L",
+        "S",
+        "no record type at //actions/act/appliesTo/context",
+    ),
+];
+
 #[test]
-fn types_that_are_no_records(rt: HostRuntime) -> Result<(), Fail> {
-    for (shape, context, told) in [
-        ("R", "R", "expanded"),
-        ("S", "R", "no record type at //entityTypes/U/shape"),
-        (
-            "L",
-            "S",
-            "no record type at //actions/act/appliesTo/context",
-        ),
-    ] {
-        assert!(rt; sample_is_told(rt.alloc(), shape, context, told)?, "{told}");
+fn types_that_are_no_records(rt: HostRuntime) {
+    let alloc = rt.alloc();
+    for &(shape, context, told) in SHAPES {
+        assert!(rt;
+            is_told(alloc, sample(alloc, shape, context), told),
+            "{told}"
+        );
     }
-    Ok(())
 }

@@ -7,7 +7,6 @@ use sc_clauses::{Assignment, Clause, Clauses, Instance, Lit, Step};
 use sc_lists::{Seq, Text};
 use sc_search::{Found, Source, search};
 use std::alloc::{AllocError, Global};
-use std::test::Fail;
 
 /// A source that has the clause that atom 1 is false, or no clause.
 #[derive(Drop)]
@@ -52,18 +51,29 @@ fn lit(number: i64) -> Lit {
     }
 }
 
-fn clause(alloc: Global, numbers: &[i64]) -> Result<Clause, AllocError> {
+/// Puts the literal of a number behind others; 0 stands for none. A word that isn't a number counts as want
+/// of memory.
+fn put_literal(lits: &mut Clause, word: &str) -> Result<(), AllocError> {
+    match word.parse::<i64>() {
+        Ok(0) => Ok(()),
+        Ok(number) => lits.push(lit(number)),
+        Err(_) => Err(AllocError),
+    }
+}
+
+fn clause(alloc: Global, written: &str) -> Result<Clause, AllocError> {
     let mut lits = Seq::new(alloc);
-    for number in numbers {
-        lits.push(lit(*number))?;
+    for word in written.split(' ') {
+        put_literal(&mut lits, word)?;
     }
     Ok(lits)
 }
 
-fn clauses_of(alloc: Global, written: &[&[i64]]) -> Result<Seq<Clause>, AllocError> {
+/// Clauses as DIMACS files write them, each in a line that ends with 0.
+fn clauses_of(alloc: Global, written: &str) -> Result<Seq<Clause>, AllocError> {
     let mut clauses = Seq::new(alloc);
-    for numbers in written {
-        clauses.push(clause(alloc, numbers)?)?;
+    for line in written.lines() {
+        clauses.push(clause(alloc, line)?)?;
     }
     Ok(clauses)
 }
@@ -132,82 +142,108 @@ fn ends_empty(steps: &[Step]) -> bool {
     }
 }
 
-fn is_wanted(found: &Found, wanted: Wanted) -> bool {
-    match (found, wanted) {
-        (Found::Refuted(steps), Wanted::Refuted(most)) => {
-            steps.len() <= most && ends_empty(steps.as_slice())
-        }
-        (Found::Spent(steps), Wanted::Spent(count)) => steps.len() == count,
-        (Found::Consistent(m), Wanted::True(atom)) => m.value(atom) == Some(true),
+fn is_refuted(found: &Found, most: usize) -> bool {
+    match found {
+        Found::Refuted(steps) => steps.len() <= most && ends_empty(steps.as_slice()),
         _ => false,
+    }
+}
+
+fn is_spent(found: &Found, count: usize) -> bool {
+    match found {
+        Found::Spent(steps) => steps.len() == count,
+        _ => false,
+    }
+}
+
+fn makes_true(found: &Found, atom: u64) -> bool {
+    match found {
+        Found::Consistent(m) => m.value(atom) == Some(true),
+        _ => false,
+    }
+}
+
+fn is_wanted(found: &Found, wanted: Wanted) -> bool {
+    match wanted {
+        Wanted::Refuted(most) => is_refuted(found, most),
+        Wanted::Spent(count) => is_spent(found, count),
+        Wanted::True(atom) => makes_true(found, atom),
     }
 }
 
 /// Whether the search finds what is wanted of clauses of so many atoms, with this budget.
 #[tactic(auto, using(crate::proofs::ListedLaws::listed_from))]
-fn finds(
+fn finds_in(
     told: &Told,
     atoms: u64,
-    written: &[&[i64]],
+    clauses: &Seq<Clause>,
     budget: u64,
     wanted: Wanted,
 ) -> Result<bool, AllocError> {
-    let clauses = clauses_of(told.alloc, written)?;
-    if !are_few(atoms, &clauses, budget) {
+    if !are_few(atoms, clauses, budget) {
         return Ok(false);
     }
-    if !all_listed(&clauses, atoms) {
+    if !all_listed(clauses, atoms) {
         return Ok(false);
     }
     let array = array_of(told.alloc, clauses.as_slice())?;
-    let found = search(told.alloc, told, atoms, &array, budget)?;
-    Ok(is_wanted(&found, wanted))
+    match search(told.alloc, told, atoms, &array, budget) {
+        Ok(found) => Ok(is_wanted(&found, wanted)),
+        Err(fault) => Err(fault),
+    }
+}
+
+/// The same of the clauses that are written.
+fn finds(told: &Told, atoms: u64, written: &str, budget: u64, wanted: Wanted) -> bool {
+    match clauses_of(told.alloc, written) {
+        Ok(clauses) => finds_in(told, atoms, &clauses, budget, wanted) == Ok(true),
+        Err(_) => false,
+    }
 }
 
 /// Three pigeons in two holes: atom 2p + h - 2 says that pigeon p is in hole h.
-const PIGEONS: &[&[i64]] = &[
-    &[1, 2],
-    &[3, 4],
-    &[5, 6],
-    &[-1, -3],
-    &[-1, -5],
-    &[-3, -5],
-    &[-2, -4],
-    &[-2, -6],
-    &[-4, -6],
-];
+const PIGEONS: &str = "1 2 0
+3 4 0
+5 6 0
+-1 -3 0
+-1 -5 0
+-3 -5 0
+-2 -4 0
+-2 -6 0
+-4 -6 0";
 
 /// Four pigeons in three holes: atom 3p + h - 3 says that pigeon p, counted from 1, is in hole h.
-const MORE_PIGEONS: &[&[i64]] = &[
-    &[1, 2, 3],
-    &[4, 5, 6],
-    &[7, 8, 9],
-    &[10, 11, 12],
-    &[-1, -4],
-    &[-1, -7],
-    &[-1, -10],
-    &[-4, -7],
-    &[-4, -10],
-    &[-7, -10],
-    &[-2, -5],
-    &[-2, -8],
-    &[-2, -11],
-    &[-5, -8],
-    &[-5, -11],
-    &[-8, -11],
-    &[-3, -6],
-    &[-3, -9],
-    &[-3, -12],
-    &[-6, -9],
-    &[-6, -12],
-    &[-9, -12],
-];
+const MORE_PIGEONS: &str = "1 2 3 0
+4 5 6 0
+7 8 9 0
+10 11 12 0
+-1 -4 0
+-1 -7 0
+-1 -10 0
+-4 -7 0
+-4 -10 0
+-7 -10 0
+-2 -5 0
+-2 -8 0
+-2 -11 0
+-5 -8 0
+-5 -11 0
+-8 -11 0
+-3 -6 0
+-3 -9 0
+-3 -12 0
+-6 -9 0
+-6 -12 0
+-9 -12 0";
 
 /// Four clauses over atoms 31 and 32 that contradict one another.
-const FOUR: &[&[i64]] = &[&[31, 32], &[31, -32], &[-31, 32], &[-31, -32]];
+const FOUR: &str = "31 32 0
+31 -32 0
+-31 32 0
+-31 -32 0";
 
 /// Clauses, how many atoms there are, the budget, and what is to be found.
-const PROBLEMS: [(&str, &[&[i64]], u64, u64, Wanted); 10] = [
+const PROBLEMS: &[(&str, &str, u64, u64, Wanted)] = &[
     (
         "a contradiction beside idle atoms",
         FOUR,
@@ -217,7 +253,7 @@ const PROBLEMS: [(&str, &[&[i64]], u64, u64, Wanted); 10] = [
     ),
     (
         "a chain",
-        &[&[-3, 4], &[-2, 3], &[-1, 2], &[1]],
+        "-3 4 0\n-2 3 0\n-1 2 0\n1 0",
         4,
         9,
         Wanted::True(4),
@@ -245,7 +281,7 @@ const PROBLEMS: [(&str, &[&[i64]], u64, u64, Wanted); 10] = [
     ),
     (
         "no budget is needed without a conflict",
-        &[&[1]],
+        "1 0",
         2,
         0,
         Wanted::True(1),
@@ -259,21 +295,21 @@ const PROBLEMS: [(&str, &[&[i64]], u64, u64, Wanted); 10] = [
     ),
     (
         "literals that are written twice",
-        &[&[1, 1], &[-1, 2, 2], &[-2, -2, 3]],
+        "1 1 0\n-1 2 2 0\n-2 -2 3 0",
         3,
         0,
         Wanted::True(3),
     ),
     (
         "a literal that is true again after a jump back",
-        &[&[1, 2, 3], &[1, 2, -3], &[1, -2, 4], &[-4, 3], &[-4, -3]],
+        "1 2 3 0\n1 2 -3 0\n1 -2 4 0\n-4 3 0\n-4 -3 0",
         4,
         9,
         Wanted::True(1),
     ),
     (
         "a clause without literals",
-        &[&[1], &[]],
+        "1 0\n0",
         1,
         1,
         Wanted::Refuted(1),
@@ -281,27 +317,22 @@ const PROBLEMS: [(&str, &[&[i64]], u64, u64, Wanted); 10] = [
 ];
 
 #[test]
-fn problems_without_a_source(rt: HostRuntime) -> Result<(), Fail> {
+fn problems_without_a_source(rt: HostRuntime) {
     let told = Told {
         alloc: rt.alloc(),
         first_is_false: false,
     };
-    for (name, clauses, atoms, budget, wanted) in PROBLEMS {
-        let found = finds(&told, atoms, clauses, budget, wanted) == Ok(true);
-        assert!(rt; found, "{name}");
+    for &(name, clauses, atoms, budget, wanted) in PROBLEMS {
+        assert!(rt; finds(&told, atoms, clauses, budget, wanted), "{name}");
     }
-    Ok(())
 }
 
 #[test]
-fn the_source_is_asked(rt: HostRuntime) -> Result<(), Fail> {
+fn the_source_is_asked(rt: HostRuntime) {
     let told = Told {
         alloc: rt.alloc(),
         first_is_false: true,
     };
-    let refuted = finds(&told, 2, &[&[1, 2], &[1, -2]], 9, Wanted::Refuted(3)) == Ok(true);
-    assert!(rt; refuted);
-    let holds = finds(&told, 2, &[&[1, 2]], 9, Wanted::True(2)) == Ok(true);
-    assert!(rt; holds);
-    Ok(())
+    assert!(rt; finds(&told, 2, "1 2 0\n1 -2 0", 9, Wanted::Refuted(3)));
+    assert!(rt; finds(&told, 2, "1 2 0", 9, Wanted::True(2)));
 }

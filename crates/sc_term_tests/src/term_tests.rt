@@ -9,7 +9,6 @@ use sc_names::Name;
 use sc_sorts::Sort;
 use sc_terms::Terms;
 use std::alloc::{AllocError, Global};
-use std::test::Fail;
 
 fn users(alloc: Global) -> Result<Sort, AllocError> {
     let name = Name::from_text(Text::from_str(alloc, "User")?);
@@ -95,7 +94,7 @@ fn number_of(alloc: Global, terms: &mut Terms, text: &str) -> Result<u64, AllocE
 // ---- folds
 
 /// Terms that are one.
-const FOLDS: [(&str, &str); 9] = [
+const FOLDS: &[(&str, &str)] = &[
     // the lesser side of an equation stands first
     ("pr=", "rp="),
     // negations cancel
@@ -112,23 +111,32 @@ const FOLDS: [(&str, &str); 9] = [
     ("tx=", "x"),
 ];
 
-/// Whether two terms that are written have one number.
-fn is_one(alloc: Global, left: &str, right: &str) -> Result<bool, AllocError> {
-    let mut terms = Terms::new(alloc)?;
-    let left = number_of(alloc, &mut terms, left)?;
-    let right = number_of(alloc, &mut terms, right)?;
+fn is_one_in(
+    alloc: Global,
+    terms: &mut Terms,
+    left: &str,
+    right: &str,
+) -> Result<bool, AllocError> {
+    let left = number_of(alloc, terms, left)?;
+    let right = number_of(alloc, terms, right)?;
     Ok(left == right)
 }
 
+/// Whether two terms that are written have one number.
+fn is_one(alloc: Global, left: &str, right: &str) -> Result<bool, AllocError> {
+    let mut terms = Terms::new(alloc)?;
+    is_one_in(alloc, &mut terms, left, right)
+}
+
 #[test]
-fn folds(rt: HostRuntime) -> Result<(), Fail> {
-    for (left, right) in FOLDS {
-        let one = is_one(rt.alloc(), left, right) == Ok(true);
-        assert!(rt; one, "{left} is {right}");
+fn folds(rt: HostRuntime) {
+    for &(left, right) in FOLDS {
+        assert!(rt;
+            is_one(rt.alloc(), left, right) == Ok(true),
+            "{left} is {right}"
+        );
     }
-    let other = is_one(rt.alloc(), "pr=!", "pr=") == Ok(false);
-    assert!(rt; other);
-    Ok(())
+    assert!(rt; is_one(rt.alloc(), "pr=!", "pr=") == Ok(false));
 }
 
 // ---- lists
@@ -159,41 +167,54 @@ fn of_none(terms: &mut Terms, all: bool) -> Result<u64, AllocError>
     }
 }
 
-/// Whether three attributes are joined as it is written, and no terms are a truth value.
-fn are_joined(alloc: Global, all: bool, text: &str) -> Result<bool, AllocError> {
-    let mut terms = Terms::new(alloc)?;
-    let three = of_three(alloc, &mut terms, all)?;
-    let written = number_of(alloc, &mut terms, text)?;
-    let none = of_none(&mut terms, all)?;
+fn are_joined_in(
+    alloc: Global,
+    terms: &mut Terms,
+    all: bool,
+    text: &str,
+) -> Result<bool, AllocError> {
+    let three = of_three(alloc, terms, all)?;
+    let written = number_of(alloc, terms, text)?;
+    let none = of_none(terms, all)?;
     Ok(three == written && terms.constant(none) == Some(all))
 }
 
+/// Whether three attributes are joined as it is written, and no terms are a truth value.
+fn are_joined(alloc: Global, all: bool, text: &str) -> Result<bool, AllocError> {
+    let mut terms = Terms::new(alloc)?;
+    are_joined_in(alloc, &mut terms, all, text)
+}
+
 #[test]
-fn first_half_is_rounded_down(rt: HostRuntime) -> Result<(), Fail> {
-    for (all, text) in [(true, "xyz&&"), (false, "xyz||")] {
-        let so = are_joined(rt.alloc(), all, text) == Ok(true);
-        assert!(rt; so, "{text}");
-    }
-    Ok(())
+fn first_half_is_rounded_down(rt: HostRuntime) {
+    assert!(rt; are_joined(rt.alloc(), true, "xyz&&") == Ok(true));
+    assert!(rt; are_joined(rt.alloc(), false, "xyz||") == Ok(true));
 }
 
 // ---- order
 
-/// Whether the first of two terms comes before the second, and the second after the first.
-fn is_before(alloc: Global, left: &str, right: &str) -> Result<bool, AllocError> {
-    let mut terms = Terms::new(alloc)?;
-    let left = number_of(alloc, &mut terms, left)?;
-    let right = number_of(alloc, &mut terms, right)?;
+fn is_before_in(
+    alloc: Global,
+    terms: &mut Terms,
+    left: &str,
+    right: &str,
+) -> Result<bool, AllocError> {
+    let left = number_of(alloc, terms, left)?;
+    let right = number_of(alloc, terms, right)?;
     Ok(terms.compare(left, right).is_lt() && terms.compare(right, left).is_gt())
 }
 
+/// Whether the first of two terms comes before the second, and the second after the first.
+fn is_before(alloc: Global, left: &str, right: &str) -> Result<bool, AllocError> {
+    let mut terms = Terms::new(alloc)?;
+    is_before_in(alloc, &mut terms, left, right)
+}
+
 #[test]
-fn terms_by_rows(rt: HostRuntime) -> Result<(), Fail> {
-    for (left, right) in [("t", "f"), ("f", "p"), ("r", "pr=")] {
-        let before = is_before(rt.alloc(), left, right) == Ok(true);
-        assert!(rt; before, "{left} before {right}");
-    }
-    Ok(())
+fn terms_by_rows(rt: HostRuntime) {
+    assert!(rt; is_before(rt.alloc(), "t", "f") == Ok(true));
+    assert!(rt; is_before(rt.alloc(), "f", "p") == Ok(true));
+    assert!(rt; is_before(rt.alloc(), "r", "pr=") == Ok(true));
 }
 
 // ---- sorts
@@ -205,18 +226,21 @@ fn is_of_users(sort: &Sort) -> bool {
     }
 }
 
-/// Whether the sort of a term is that of users.
-fn is_user(alloc: Global, text: &str) -> Result<bool, AllocError> {
-    let mut terms = Terms::new(alloc)?;
-    let number = number_of(alloc, &mut terms, text)?;
+fn is_user_in(alloc: Global, terms: &mut Terms, text: &str) -> Result<bool, AllocError> {
+    let number = number_of(alloc, terms, text)?;
     Ok(is_of_users(terms.sort(number)))
 }
 
+/// Whether the sort of a term is that of users.
+fn is_user(alloc: Global, text: &str) -> Result<bool, AllocError> {
+    let mut terms = Terms::new(alloc)?;
+    is_user_in(alloc, &mut terms, text)
+}
+
 #[test]
-fn choices_have_the_sort_of_their_branches(rt: HostRuntime) -> Result<(), Fail> {
-    for (text, user) in [("p", true), ("xpr?", true), ("x", false), ("xyz?", false)] {
-        let found = is_user(rt.alloc(), text);
-        assert!(rt; found == Ok(user), "{text}");
-    }
-    Ok(())
+fn choices_have_the_sort_of_their_branches(rt: HostRuntime) {
+    assert!(rt; is_user(rt.alloc(), "p") == Ok(true));
+    assert!(rt; is_user(rt.alloc(), "xpr?") == Ok(true));
+    assert!(rt; is_user(rt.alloc(), "x") == Ok(false));
+    assert!(rt; is_user(rt.alloc(), "xyz?") == Ok(false));
 }

@@ -2,11 +2,11 @@
 //! and what of it is skipped.
 use crate::samples::{sample, schema};
 use sc_ast::{Policy, PolicySet};
-use sc_lists::Fault;
+use sc_lists::{Boxed, Fault};
 use sc_schema::{Env, Schema, environments};
 use sc_typed::kinds::{is_false, is_true};
 use sc_typing::{TypeFault, TypeRule, TypedExpr, place_of, type_of, type_policy};
-use std::alloc::{AllocError, Global};
+use std::alloc::Global;
 
 /// What typing answers of a body.
 #[derive(Clone, Copy, PartialEq, Eq)]
@@ -80,8 +80,8 @@ fn residue_in(
     env: &Env,
     policy: &Policy,
 ) -> Result<(Answer, Skipped), Fault<TypeFault>> {
-    let condition = type_policy(alloc, schema, env, policy)?;
-    Ok((truth_of(&condition), skipped_of(&condition)))
+    let condition = Boxed::new(alloc, type_policy(alloc, schema, env, policy)?)?;
+    Ok((truth_of(condition.get()), skipped_of(condition.get())))
 }
 
 /// What typing answers of a policy in an environment.
@@ -90,37 +90,43 @@ fn answer_of(
     schema: &Schema,
     env: &Env,
     policy: &Policy,
-) -> Result<(Answer, Skipped), AllocError> {
+) -> Option<(Answer, Skipped)> {
     match residue_in(alloc, schema, env, policy) {
-        Ok(answer) => Ok(answer),
-        Err(Fault::Told(fault)) => {
-            Ok((
-                Answer::Breaks(fault.rule, fault.at.offset),
-                Skipped::Nothing,
-            ))
+        Ok(answer) => Some(answer),
+        Err(Fault::Told(TypeFault { rule, at })) => {
+            Some((Answer::Breaks(rule, at.offset), Skipped::Nothing))
         }
-        Err(Fault::NoMemory) => Err(AllocError),
+        Err(Fault::NoMemory) => None,
     }
 }
 
 /// What typing answers of the first of some policies where a user views a document.
-fn first_answer(
-    alloc: Global,
-    schema: &Schema,
-    policies: &PolicySet,
-) -> Result<(Answer, Skipped), AllocError> {
-    let Some(env) = environments(schema).get(2) else {
-        return Err(AllocError);
-    };
-    match policies.get(0) {
-        Some(policy) => answer_of(alloc, schema, env, policy),
-        None => Err(AllocError),
+fn first_answer(alloc: Global, schema: &Schema, policies: &PolicySet) -> Option<(Answer, Skipped)> {
+    let env = environments(schema).get(2)?;
+    let policy = policies.get(0)?;
+    answer_of(alloc, schema, env, policy)
+}
+
+fn typed_under(alloc: Global, schema: &Schema, body: &str) -> Option<(Answer, Skipped)> {
+    match sample(alloc, body) {
+        Ok(policies) => first_answer(alloc, schema, &policies),
+        Err(_) => None,
     }
 }
 
-/// What typing answers of a policy with this body, and what of the body is skipped.
-pub(crate) fn typed(alloc: Global, body: &str) -> Result<(Answer, Skipped), AllocError> {
-    let schema = schema(alloc)?;
-    let policies = sample(alloc, body)?;
-    first_answer(alloc, &schema, &policies)
+/// What typing answers of a policy with this body, and what of the body is skipped. None where memory
+/// is wanting.
+pub(crate) fn typed(alloc: Global, body: &str) -> Option<(Answer, Skipped)> {
+    match schema(alloc) {
+        Ok(schema) => typed_under(alloc, &schema, body),
+        Err(_) => None,
+    }
+}
+
+/// What typing answers of a policy with this body. None where memory is wanting.
+pub(crate) fn answer(alloc: Global, body: &str) -> Option<Answer> {
+    match typed(alloc, body) {
+        Some((answer, _)) => Some(answer),
+        None => None,
+    }
 }

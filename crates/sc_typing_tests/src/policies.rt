@@ -1,10 +1,10 @@
 //! The first policy that has no type in some environment, or none.
 use crate::samples::{at, policies, schema};
+use sc_ast::PolicySet;
 use sc_lists::Fault;
-use sc_schema::Env;
+use sc_schema::{Env, Schema};
 use sc_typing::{IllTyped, TypeFault, TypeRule, check_types};
-use std::alloc::{AllocError, Global};
-use std::test::Fail;
+use std::alloc::Global;
 
 /// A policy with a type, and one whose branches are of two kinds.
 const TWO_KINDS: &str =
@@ -19,57 +19,68 @@ const NICK: &str =
 const OF_USERS: &str =
     "permit(principal is User, action, resource) when { principal has nick && principal.nick == \"a\" };";
 
-/// The first of a file's policies that has no type in some environment.
-fn ill_typed(alloc: Global, file: &str) -> Result<Option<IllTyped>, AllocError> {
-    let schema = schema(alloc)?;
-    let policies = policies(alloc, file)?;
-    match check_types(alloc, &schema, &policies) {
-        Ok(()) => Ok(None),
-        Err(Fault::Told(found)) => Ok(Some(found)),
-        Err(Fault::NoMemory) => Err(AllocError),
-    }
-}
+/// The policy of a file that has no type, its fault, and the types of the principal and the resource for
+/// which it has none.
+type Told = (usize, TypeFault, (&'static str, &'static str));
 
 /// Whether it is the environment in which a principal of a type views a resource of a type.
-fn is_viewed(env: &Env, principal: &str, resource: &str) -> bool {
+fn is_viewed(env: &Env, (principal, resource): (&str, &str)) -> bool {
     env.principal.as_str() == principal
         && env.action.id.as_str() == "view"
         && env.resource.as_str() == resource
 }
 
-/// Whether this policy of a file is told, with this fault and in this environment.
-fn is_told(
-    alloc: Global,
-    file: &str,
-    policy: usize,
-    fault: TypeFault,
-    env: (&str, &str),
-) -> Result<bool, AllocError> {
-    match ill_typed(alloc, file)? {
-        Some(f) => Ok(f.policy == policy && f.fault == fault && is_viewed(&f.env, env.0, env.1)),
-        None => Ok(false),
+fn is_found(found: &IllTyped, told: Option<Told>) -> bool {
+    match told {
+        Some((policy, fault, env)) => {
+            found.policy == policy && found.fault == fault && is_viewed(&found.env, env)
+        }
+        None => false,
+    }
+}
+
+fn is_told_of(alloc: Global, schema: &Schema, policies: &PolicySet, told: Option<Told>) -> bool {
+    match check_types(alloc, schema, policies) {
+        Ok(()) => told.is_none(),
+        Err(Fault::Told(found)) => is_found(&found, told),
+        Err(Fault::NoMemory) => false,
+    }
+}
+
+fn is_told_under(alloc: Global, schema: &Schema, file: &str, told: Option<Told>) -> bool {
+    match policies(alloc, file) {
+        Ok(policies) => is_told_of(alloc, schema, &policies, told),
+        Err(_) => false,
+    }
+}
+
+/// Whether this is told of the first of a file's policies that has no type in some environment, or each
+/// has one in all where nothing is told.
+fn is_told(alloc: Global, file: &str, told: Option<Told>) -> bool {
+    match schema(alloc) {
+        Ok(schema) => is_told_under(alloc, &schema, file, told),
+        Err(_) => false,
+    }
+}
+
+/// The fault of a policy that breaks a rule at a byte.
+fn fault(rule: TypeRule, offset: u64) -> TypeFault {
+    TypeFault {
+        rule,
+        at: at(offset),
     }
 }
 
 #[test]
-fn policies_without_a_type(rt: HostRuntime) -> Result<(), Fail> {
-    for (file, policy, rule, offset, env) in [
-        (TWO_KINDS, 1, TypeRule::NoJoin, 140, ("Team", "Doc")),
-        (NICK, 0, TypeRule::NoAttribute, 71, ("Team", "Team")),
-    ] {
-        let fault = TypeFault {
-            rule,
-            at: at(offset),
-        };
-        let told = is_told(rt.alloc(), file, policy, fault, env)?;
-        assert!(rt; told, "{file}");
-    }
-    Ok(())
+fn policies_without_a_type(rt: HostRuntime) {
+    let alloc = rt.alloc();
+    let kinds = (1, fault(TypeRule::NoJoin, 140), ("Team", "Doc"));
+    assert!(rt; is_told(alloc, TWO_KINDS, Some(kinds)));
+    let nick = (0, fault(TypeRule::NoAttribute, 71), ("Team", "Team"));
+    assert!(rt; is_told(alloc, NICK, Some(nick)));
 }
 
 #[test]
-fn policies_with_types(rt: HostRuntime) -> Result<(), Fail> {
-    let found = ill_typed(rt.alloc(), OF_USERS)?;
-    assert!(rt; found.is_none());
-    Ok(())
+fn policies_with_types(rt: HostRuntime) {
+    assert!(rt; is_told(rt.alloc(), OF_USERS, None));
 }

@@ -38,6 +38,8 @@ pub(crate) fn policies(alloc: Global, file: &str) -> Result<PolicySet, AllocErro
 
 /// The sample with this body.
 pub(crate) fn sample(alloc: Global, body: &str) -> Result<PolicySet, AllocError> {
-    let file = SAMPLE.replace(alloc, "BODY", body)?;
-    policies(alloc, file.as_str())
+    match SAMPLE.replace(alloc, "BODY", body) {
+        Ok(file) => policies(alloc, file.as_str()),
+        Err(_) => Err(AllocError),
+    }
 }

@@ -1,4 +1,4 @@
-//! Names and uids, by their texts.
+//! Names and uids by their texts, and whether a text is the one that is meant.
 use sc_lists::Text;
 use sc_names::{Name, Uid};
 use std::alloc::{AllocError, Global};
@@ -13,4 +13,12 @@ pub fn uid(alloc: Global, (type_name, id): (&str, &str)) -> Result<Uid, AllocErr
         type_name: name(alloc, type_name)?,
         id: Text::from_str(alloc, id)?,
     })
+}
+
+/// Whether a text is made and is this one.
+pub fn is_text(found: Result<String, AllocError>, text: &str) -> bool {
+    match found {
+        Ok(found) => found.as_str() == text,
+        Err(_) => false,
+    }
 }

@@ -8,7 +8,6 @@ use sc_values::{
     is_proper, is_proper_record, is_same, is_uid_text, rec_of, set_of, subset, try_clone,
 };
 use std::alloc::{AllocError, Global};
-use std::test::Fail;
 
 /// What a value is made of.
 #[derive(Clone, Copy)]
@@ -25,7 +24,7 @@ enum Sample {
 }
 
 /// Values of all kinds, ascending.
-const SAMPLES: [Sample; 32] = [
+const SAMPLES: &[Sample] = &[
     Sample::Bool(false),
     Sample::Bool(true),
     Sample::Long(-9223372036854775808),
@@ -60,10 +59,15 @@ const SAMPLES: [Sample; 32] = [
     Sample::V6(1, 0),
 ];
 
+fn put_long(values: &mut Vec<Value>, number: i64) -> Result<(), AllocError> {
+    values.push(Value::Long(number))?;
+    Ok(())
+}
+
 fn longs(alloc: Global, numbers: &[i64]) -> Result<Vec<Value>, AllocError> {
     let mut values = Vec::new(alloc);
     for n in numbers {
-        values.push(Value::Long(*n))?;
+        put_long(&mut values, *n)?;
     }
     Ok(values)
 }
@@ -97,22 +101,44 @@ fn value_of(alloc: Global, sample: Sample) -> Result<Value, Fault<DuplicateKey>>
 
 fn values_in_order(alloc: Global) -> Result<Vec<Value>, Fault<DuplicateKey>> {
     let mut values = Vec::new(alloc);
-    for sample in SAMPLES {
+    for &sample in SAMPLES {
         values.push(value_of(alloc, sample)?)?;
     }
     Ok(values)
 }
 
-#[test]
-fn order_of_values(rt: HostRuntime) -> Result<(), Fail> {
-    let values = values_in_order(rt.alloc())?;
-    for (i, a) in values.iter().enumerate() {
-        for (j, b) in values.iter().enumerate() {
-            assert!(rt; cmp_value(a, b) == i.cmp(&j), "{i} {j}");
-            assert!(rt; is_same(a, b) == (i == j), "{i} {j}");
+/// Whether a value, which stands at a place among others, comes behind those before it and before those
+/// behind it.
+fn is_in_place(place: usize, value: &Value, values: &[Value]) -> bool {
+    for (i, other) in values.iter().enumerate() {
+        if cmp_value(value, other) != place.cmp(&i) || is_same(value, other) != (place == i) {
+            return false;
         }
     }
-    Ok(())
+    true
+}
+
+/// The place of the first of values that doesn't stand in its place, counted from 0.
+fn first_out_of_order(values: &[Value]) -> Option<usize> {
+    for (place, value) in values.iter().enumerate() {
+        if !is_in_place(place, value, values) {
+            return Some(place);
+        }
+    }
+    None
+}
+
+/// Whether the values of the samples are made, and ascend.
+fn are_in_order(alloc: Global) -> bool {
+    match values_in_order(alloc) {
+        Ok(values) => first_out_of_order(values.as_slice()).is_none(),
+        Err(_) => false,
+    }
+}
+
+#[test]
+fn order_of_values(rt: HostRuntime) {
+    assert!(rt; are_in_order(rt.alloc()));
 }
 
 /// Whether a value is proper, and has a copy that is the same.
@@ -123,18 +149,42 @@ fn is_copied(alloc: Global, value: &Value) -> bool {
     }
 }
 
+fn are_copied(alloc: Global, values: &[Value]) -> bool {
+    for value in values {
+        if !is_copied(alloc, value) {
+            return false;
+        }
+    }
+    true
+}
+
+/// Whether the values of the samples are made, and each has a copy.
+fn have_copies(alloc: Global) -> bool {
+    match values_in_order(alloc) {
+        Ok(values) => are_copied(alloc, values.as_slice()),
+        Err(_) => false,
+    }
+}
+
 #[test]
-fn copies_are_equal(rt: HostRuntime) -> Result<(), Fail> {
-    let values = values_in_order(rt.alloc())?;
-    assert!(rt; values.iter().all(|value| is_copied(rt.alloc(), value)));
-    Ok(())
+fn copies_are_equal(rt: HostRuntime) {
+    assert!(rt; have_copies(rt.alloc()));
+}
+
+/// Whether the copy of a set has these members in this order.
+fn has_copy_of(alloc: Global, set: &Set, members: &[i64]) -> bool {
+    match clone_set(alloc, set) {
+        Ok(copy) => are_longs(copy.as_slice(), members),
+        Err(_) => false,
+    }
 }
 
 /// Whether the set of numbers has these members in this order, and so has its copy.
-fn is_set_of(alloc: Global, numbers: &[i64], members: &[i64]) -> Result<bool, AllocError> {
-    let found = set(alloc, numbers)?;
-    let copy = clone_set(alloc, &found)?;
-    Ok(are_longs(found.as_slice(), members) && are_longs(copy.as_slice(), members))
+fn is_set_of(alloc: Global, numbers: &[i64], members: &[i64]) -> bool {
+    match set(alloc, numbers) {
+        Ok(found) => { are_longs(found.as_slice(), members) && has_copy_of(alloc, &found, members) }
+        Err(_) => false,
+    }
 }
 
 /// Whether values are just these numbers.
@@ -154,25 +204,52 @@ fn is_long(value: &Value, number: i64) -> bool {
 }
 
 #[test]
-fn sets_of_members(rt: HostRuntime) -> Result<(), Fail> {
-    assert!(rt; is_set_of(rt.alloc(), &[2, 1, 2], &[1, 2])?);
-    assert!(rt; is_set_of(rt.alloc(), &[], &[])?);
-    Ok(())
+fn sets_of_members(rt: HostRuntime) {
+    assert!(rt; is_set_of(rt.alloc(), &[2, 1, 2], &[1, 2]));
+    assert!(rt; is_set_of(rt.alloc(), &[], &[]));
+}
+
+fn has_number(set: &Set, number: i64) -> bool {
+    contains(set, &Value::Long(number))
+}
+
+fn has_truth(set: &Set) -> bool {
+    contains(set, &Value::Bool(true))
+}
+
+/// Whether the set of 3 and 2 has these members and no others.
+fn has_two(alloc: Global) -> bool {
+    match set(alloc, &[3, 2]) {
+        Ok(two) => {
+            has_number(&two, 3) && has_number(&two, 2) && !has_number(&two, 1) && !has_truth(&two)
+        }
+        Err(_) => false,
+    }
 }
 
 #[test]
-fn members_of_sets(rt: HostRuntime) -> Result<(), Fail> {
-    let two = set(rt.alloc(), &[3, 2])?;
-    assert!(rt; contains(&two, &Value::Long(3)) && contains(&two, &Value::Long(2)));
-    assert!(rt; !contains(&two, &Value::Long(1)) && !contains(&two, &Value::Bool(true)));
-    Ok(())
+fn members_of_sets(rt: HostRuntime) {
+    assert!(rt; has_two(rt.alloc()));
 }
 
-/// Whether one set is among the other, and whether they meet.
-fn relations(alloc: Global, first: &[i64], second: &[i64]) -> Result<(bool, bool), AllocError> {
-    let first = set(alloc, first)?;
-    let second = set(alloc, second)?;
-    Ok((subset(&first, &second), intersects(&first, &second)))
+/// Whether one set is among the other as is said, and whether they meet.
+fn are_related(first: &Set, second: &Set, among: bool, meet: bool) -> bool {
+    subset(first, second) == among && intersects(first, second) == meet
+}
+
+fn is_related(alloc: Global, first: &Set, second: &[i64], among: bool, meet: bool) -> bool {
+    match set(alloc, second) {
+        Ok(second) => are_related(first, &second, among, meet),
+        Err(_) => false,
+    }
+}
+
+/// The same of the sets of numbers.
+fn are_sets_related(alloc: Global, first: &[i64], second: &[i64], among: bool, meet: bool) -> bool {
+    match set(alloc, first) {
+        Ok(first) => is_related(alloc, &first, second, among, meet),
+        Err(_) => false,
+    }
 }
 
 /// Two sets each, whether the first is among the second, and whether they meet.
@@ -191,22 +268,36 @@ const RELATIONS: &[(&[i64], &[i64], bool, bool)] = &[
 ];
 
 #[test]
-fn relations_of_sets(rt: HostRuntime) -> Result<(), Fail> {
+fn relations_of_sets(rt: HostRuntime) {
     for &(first, second, among, meet) in RELATIONS {
-        assert_eq!(rt; relations(rt.alloc(), first, second)?, (among, meet));
+        assert!(rt; are_sets_related(rt.alloc(), first, second, among, meet));
     }
-    Ok(())
+}
+
+/// Numbers as a list in the order in which they are written.
+fn list(alloc: Global, numbers: &[i64]) -> Result<Set, AllocError> {
+    Ok(Seq::from_vec(longs(alloc, numbers)?))
+}
+
+fn is_list_related(alloc: Global, first: &Set, second: &[i64], among: bool, meet: bool) -> bool {
+    match list(alloc, second) {
+        Ok(second) => are_related(first, &second, among, meet),
+        Err(_) => false,
+    }
 }
 
 /// The same of two lists in the order in which they are written.
-fn list_relations(
+fn are_lists_related(
     alloc: Global,
     first: &[i64],
     second: &[i64],
-) -> Result<(bool, bool), AllocError> {
-    let first = Seq::from_vec(longs(alloc, first)?);
-    let second = Seq::from_vec(longs(alloc, second)?);
-    Ok((subset(&first, &second), intersects(&first, &second)))
+    among: bool,
+    meet: bool,
+) -> bool {
+    match list(alloc, first) {
+        Ok(first) => is_list_related(alloc, &first, second, among, meet),
+        Err(_) => false,
+    }
 }
 
 /// Two lists each that don't both ascend, whether each member of the first is one of the second, and
@@ -220,11 +311,10 @@ const LIST_RELATIONS: &[(&[i64], &[i64], bool, bool)] = &[
 ];
 
 #[test]
-fn relations_of_lists_out_of_order(rt: HostRuntime) -> Result<(), Fail> {
+fn relations_of_lists_out_of_order(rt: HostRuntime) {
     for &(first, second, among, meet) in LIST_RELATIONS {
-        assert_eq!(rt; list_relations(rt.alloc(), first, second)?, (among, meet));
+        assert!(rt; are_lists_related(rt.alloc(), first, second, among, meet));
     }
-    Ok(())
 }
 
 /// The number in a field of a record of numbers, if it has the field.
@@ -235,23 +325,43 @@ fn long_at(fields: &Rec, name: &str) -> Option<i64> {
     }
 }
 
-#[test]
-fn fields_of_records(rt: HostRuntime) -> Result<(), Fail> {
-    let fields = record(rt.alloc(), &[("b", 1), ("a", 2)])?;
-    assert!(rt; is_proper_record(&fields));
-    assert_eq!(rt; long_at(&fields, "a"), Some(2));
-    assert_eq!(rt; long_at(&fields, "b"), Some(1));
-    assert!(rt; field(&fields, "c").is_none());
-    Ok(())
+/// Whether a record is proper, and has just the field `a` of 2 and `b` of 1 among `a`, `b` and `c`.
+fn has_fields(fields: &Rec) -> bool {
+    is_proper_record(fields)
+        && long_at(fields, "a") == Some(2)
+        && long_at(fields, "b") == Some(1)
+        && field(fields, "c").is_none()
+}
+
+fn is_record_of_two(alloc: Global) -> bool {
+    match record(alloc, &[("b", 1), ("a", 2)]) {
+        Ok(fields) => has_fields(&fields),
+        Err(_) => false,
+    }
 }
 
 #[test]
-fn copies_of_records(rt: HostRuntime) -> Result<(), Fail> {
-    let fields = record(rt.alloc(), &[("a", 1)])?;
-    let copy = clone_rec(rt.alloc(), &fields)?;
-    assert_eq!(rt; copy.len(), 1);
-    assert_eq!(rt; long_at(&copy, "a"), Some(1));
-    Ok(())
+fn fields_of_records(rt: HostRuntime) {
+    assert!(rt; is_record_of_two(rt.alloc()));
+}
+
+fn has_copied_fields(alloc: Global, fields: &Rec) -> bool {
+    match clone_rec(alloc, fields) {
+        Ok(copy) => copy.len() == 1 && long_at(&copy, "a") == Some(1),
+        Err(_) => false,
+    }
+}
+
+fn is_record_copied(alloc: Global) -> bool {
+    match record(alloc, &[("a", 1)]) {
+        Ok(fields) => has_copied_fields(alloc, &fields),
+        Err(_) => false,
+    }
+}
+
+#[test]
+fn copies_of_records(rt: HostRuntime) {
+    assert!(rt; is_record_copied(rt.alloc()));
 }
 
 /// Whether fields have this least key that comes twice.
@@ -270,25 +380,35 @@ fn keys_that_come_twice(rt: HostRuntime) {
     assert!(rt; comes_twice(alloc, &[("k", 1), ("k", 2)], "k"));
 }
 
-/// Whether a set with these members in this order is proper.
-fn is_proper_list(alloc: Global, members: &[i64]) -> Result<bool, AllocError> {
-    let members = Seq::from_vec(longs(alloc, members)?);
-    Ok(is_proper(&Value::Set(members)))
-}
-
-#[test]
-fn members_of_proper_sets_ascend(rt: HostRuntime) -> Result<(), Fail> {
-    let alloc = rt.alloc();
-    for (members, proper) in [([1, 2], true), ([2, 1], false), ([1, 1], false)] {
-        assert_eq!(rt; is_proper_list(alloc, &members)?, proper);
+/// Whether a set with these members in this order is made, and is proper just where that is said.
+fn is_proper_list(alloc: Global, members: &[i64], proper: bool) -> bool {
+    match list(alloc, members) {
+        Ok(members) => is_proper(&Value::Set(members)) == proper,
+        Err(_) => false,
     }
-    Ok(())
 }
 
 #[test]
-fn what_is_proper_by_its_type(rt: HostRuntime) -> Result<(), Fail> {
-    let (address, prefix) = (0, 33);
-    assert!(rt; !is_proper(&Value::Ip(Ip::V4 { address, prefix })));
-    assert!(rt; is_uid_text(&uid(rt.alloc(), ("A", "é"))?));
-    Ok(())
+fn members_of_proper_sets_ascend(rt: HostRuntime) {
+    let alloc = rt.alloc();
+    assert!(rt; is_proper_list(alloc, &[1, 2], true));
+    assert!(rt; is_proper_list(alloc, &[2, 1], false));
+    assert!(rt; is_proper_list(alloc, &[1, 1], false));
+}
+
+fn is_proper_address(address: u32, prefix: u8) -> bool {
+    is_proper(&Value::Ip(Ip::V4 { address, prefix }))
+}
+
+fn has_uid_text(alloc: Global, of: (&str, &str)) -> bool {
+    match uid(alloc, of) {
+        Ok(uid) => is_uid_text(&uid),
+        Err(_) => false,
+    }
+}
+
+#[test]
+fn what_is_proper_by_its_type(rt: HostRuntime) {
+    assert!(rt; !is_proper_address(0, 33));
+    assert!(rt; has_uid_text(rt.alloc(), ("A", "é")));
 }

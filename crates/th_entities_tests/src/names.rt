@@ -1,16 +1,17 @@
 //! Closed terms and atoms of a problem by names. An attribute of the context and a declared action have
 //! their own, `choice` is the choice of two actions, and what is stored of an entity is, as `keys of other`,
 //! of that entity.
+//!
+//! A fact says of two terms that they are equal, `a = b`, or that the first is a member of the second,
+//! `a in b`, or of one that it is so, `a is so`. With `not ` before it that is false, or negated as a
+//! literal of a clause. What says that a term equals itself is the atom that is always true. Several facts
+//! have `; ` between them; `others` behind them are all atoms of which none of them is, and `nothing`
+//! stands for no facts.
 ghost use Rattle.std.specs.Prelude.{◌<◌, length};
 
 use sc_clauses::Lit;
 use sc_footprint::Problem;
 use sc_nodes::{BinaryOp, Leaf, Literal, Node, UnaryOp};
-
-/// What an atom says: of a term and another that they are equal, `=`, or that the first is a member of
-/// the second, `in`, or of one that it `is` so; and its truth, or as a literal of a clause its sign. What
-/// says that a term equals itself is the atom that is always true.
-pub(crate) type Fact = (&'static str, &'static str, &'static str, bool);
 
 // ---- terms
 
@@ -98,59 +99,113 @@ pub(crate) fn number(problem: &Problem<'_>, name: &str) -> Option<u64> {
     None
 }
 
-// ---- atoms
+// ---- facts
 
-fn are_named(problem: &Problem<'_>, a: u64, b: u64, fact: Fact) -> bool
+/// What a list begins with, and what stands behind the separator, if there is more.
+pub(crate) fn first_of<'t>(list: &'t str, separator: &str) -> (&'t str, Option<&'t str>) {
+    match list.split_once(separator) {
+        Some((first, rest)) => (first, Some(rest)),
+        None => (list, None),
+    }
+}
+
+/// What a fact says, and whether that is so.
+fn said_by(fact: &str) -> (&str, bool) {
+    match fact.strip_prefix("not ") {
+        Some(said) => (said, false),
+        None => (fact, true),
+    }
+}
+
+fn are_named(problem: &Problem<'_>, a: u64, b: u64, names: Option<(&str, &str)>) -> bool
     requires a { a < length problem.now.nodes }
     requires b { b < length problem.now.nodes }
 {
-    is_named(problem, a, fact.0) && is_named(problem, b, fact.2)
+    match names {
+        Some((first, second)) => is_named(problem, a, first) && is_named(problem, b, second),
+        None => false,
+    }
 }
 
-/// Whether an atom says this, apart from its truth.
-fn says(problem: &Problem<'_>, at: u64, fact: Fact) -> bool
+/// Whether it is said that two terms are equal.
+fn are_equal(problem: &Problem<'_>, a: u64, b: u64, said: &str) -> bool
+    requires a { a < length problem.now.nodes }
+    requires b { b < length problem.now.nodes }
+{
+    let names = said.split_once(" = ");
+    are_named(problem, a, b, names) || are_named(problem, b, a, names)
+}
+
+/// Whether it is said that a term equals itself.
+fn is_of_itself(said: &str) -> bool {
+    match said.split_once(" = ") {
+        Some((first, second)) => first == second,
+        None => false,
+    }
+}
+
+/// Whether it is said of a term that it is so.
+fn is_so(problem: &Problem<'_>, at: u64, said: &str) -> bool
+    requires { at < length problem.now.nodes }
+{
+    match said.strip_suffix(" is so") {
+        Some(name) => is_named(problem, at, name),
+        None => false,
+    }
+}
+
+/// Whether an atom says this.
+fn says(problem: &Problem<'_>, at: u64, said: &str) -> bool
     requires { at < length problem.now.nodes }
 {
     match problem.terms().node(at) {
-        Node::Leaf(Leaf::Literal(Literal::Bool(truth))) => {
-            *truth && fact.1 == "=" && fact.0 == fact.2
-        }
-        Node::Two(BinaryOp::Equal, a, b) => {
-            fact.1 == "=" && (are_named(problem, *a, *b, fact) || are_named(problem, *b, *a, fact))
-        }
-        Node::Two(BinaryOp::Member, a, b) => fact.1 == "in" && are_named(problem, *a, *b, fact),
-        _ => fact.1 == "is" && is_named(problem, at, fact.0),
+        Node::Leaf(Leaf::Literal(Literal::Bool(truth))) => *truth && is_of_itself(said),
+        Node::Two(BinaryOp::Equal, a, b) => are_equal(problem, *a, *b, said),
+        Node::Two(BinaryOp::Member, a, b) => are_named(problem, *a, *b, said.split_once(" in ")),
+        _ => is_so(problem, at, said),
     }
 }
 
 /// The truth that facts give an atom.
-pub(crate) fn truth_in(problem: &Problem<'_>, facts: &[Fact], atom: u64) -> Option<bool> {
+pub(crate) fn truth_in(problem: &Problem<'_>, facts: &str, atom: u64) -> Option<bool> {
     let Some(at) = problem.atom(atom) else {
         return None;
     };
-    for fact in facts {
-        if says(problem, at, *fact) {
-            return Some(fact.3);
+    for fact in facts.split("; ") {
+        let (said, truth) = said_by(fact);
+        if said == "others" || says(problem, at, said) {
+            return Some(truth);
         }
     }
     None
 }
 
-/// Whether an atom says this, apart from its truth.
-fn is_atom(problem: &Problem<'_>, atom: u64, fact: Fact) -> bool {
+/// Whether the atom of a number says this.
+fn is_atom(problem: &Problem<'_>, atom: u64, said: &str) -> bool {
     match problem.atom(atom) {
-        Some(at) => says(problem, at, fact),
+        Some(at) => says(problem, at, said),
         None => false,
     }
 }
 
-/// Whether facts are of atoms.
-pub(crate) fn are_atoms(problem: &Problem<'_>, facts: &[Fact]) -> bool {
-    let count = problem.atom_count();
-    facts.iter().all(|fact| (0..count).any(|before| is_atom(problem, before + 1, *fact)))
+/// Whether some atom says this.
+fn is_listed(problem: &Problem<'_>, said: &str) -> bool {
+    (0..problem.atom_count()).any(|before| is_atom(problem, before + 1, said))
 }
 
-/// Whether a literal says this.
-pub(crate) fn is_literal(problem: &Problem<'_>, literal: Lit, fact: Fact) -> bool {
-    is_atom(problem, literal.atom, fact) && literal.negated != fact.3
+/// Whether facts are of atoms.
+pub(crate) fn are_atoms(problem: &Problem<'_>, facts: &str) -> bool {
+    for fact in facts.split("; ") {
+        let (said, _) = said_by(fact);
+        if said != "others" && said != "nothing" && !is_listed(problem, said) {
+            return false;
+        }
+    }
+    true
+}
+
+/// Whether a literal is this fact.
+pub(crate) fn is_literal(problem: &Problem<'_>, literal: Lit, fact: &str) -> bool {
+    let (said, truth) = said_by(fact);
+    is_atom(problem, literal.atom, said) && literal.negated != truth
 }

@@ -6,9 +6,8 @@ use sc_clauses::{Assignment, Clause, Instance, Lit, Word};
 use sc_footprint::{Problem, Theory};
 use sc_lists::{Seq, Text};
 use sc_names::Lits;
-use sc_schema::environments;
+use sc_schema::{Schema, environments};
 use std::alloc::{AllocError, Global};
-use std::test::Fail;
 use th_equal::Equal;
 
 // ---- an instance
@@ -47,11 +46,28 @@ fn against(alloc: Global, clause: &Clause, atoms: u64) -> Result<Assignment, All
     Ok(Assignment::from_values(values))
 }
 
-fn is_of_rule(instance: &Option<Instance>, rule: &str) -> bool {
-    match instance {
-        Some(instance) => instance.rule.as_str() == rule,
-        None => false,
+/// Whether an instance of this rule is told in an assignment.
+fn is_told(
+    alloc: Global,
+    problem: &Problem<'_>,
+    rule: &str,
+    m: &Assignment,
+) -> Result<bool, AllocError> {
+    match Equal.violated(alloc, problem, m)? {
+        Some(told) => Ok(told.rule.as_str() == rule),
+        None => Ok(false),
     }
+}
+
+/// Whether falsifying a clause is found under this rule.
+fn is_found_against(
+    alloc: Global,
+    problem: &Problem<'_>,
+    rule: &str,
+    clause: &Clause,
+) -> Result<bool, AllocError> {
+    let m = against(alloc, clause, problem.atom_count())?;
+    is_told(alloc, problem, rule, &m)
 }
 
 /// Whether a problem has an instance, and falsifying it is found under its rule.
@@ -65,9 +81,7 @@ fn is_found(
         return Ok(false);
     }
     let clause = Equal.clause(alloc, problem, instance)?;
-    let m = against(alloc, &clause, problem.atom_count())?;
-    let found = Equal.violated(alloc, problem, &m)?;
-    Ok(is_of_rule(&found, rule))
+    is_found_against(alloc, problem, rule, &clause)
 }
 
 /// 1 where a rule has such an instance at these numbers, and else 0.
@@ -78,10 +92,9 @@ fn found(
     numbers: &[u64],
 ) -> Result<u64, AllocError> {
     let instance = instance(alloc, rule, numbers)?;
-    if is_found(alloc, problem, rule, &instance)? {
-        Ok(1)
-    } else {
-        Ok(0)
+    match is_found(alloc, problem, rule, &instance) {
+        Ok(found) => Ok(u64::from(found)),
+        Err(fault) => Err(fault),
     }
 }
 
@@ -138,54 +151,57 @@ fn found_in(
     Ok(count)
 }
 
-/// How many instances a rule has with so many numbers. That the problem is over the limit counts as
-/// want of memory.
-fn count(alloc: Global, rule: &str, size: u64) -> Result<u64, AllocError> {
-    let schema = schema(alloc)?;
-    let Some(env) = environments(&schema).get(0) else {
+fn count_under(alloc: Global, schema: &Schema, rule: &str, size: u64) -> Result<u64, AllocError> {
+    let Some(env) = environments(schema).get(0) else {
         return Err(AllocError);
     };
     let literals = Lits::new(alloc);
-    match problem(alloc, &schema, env, &literals) {
+    match problem(alloc, schema, env, &literals) {
         Ok(problem) => found_in(alloc, &problem, rule, size),
         Err(_) => Err(AllocError),
     }
 }
 
-fn has(alloc: Global, rule: &str, size: u64, expected: u64) -> bool {
-    match count(alloc, rule, size) {
-        Ok(found) => found == expected,
-        Err(_) => false,
-    }
+/// How many instances a rule has with so many numbers. That the problem is over the limit counts as
+/// want of memory.
+fn count(alloc: Global, rule: &str, size: u64) -> Result<u64, AllocError> {
+    let schema = schema(alloc)?;
+    count_under(alloc, &schema, rule, size)
 }
 
+/// Rules, at how many numbers, and how many instances they have there.
+///
 /// Eight texts are closed: the two, the choice, of each record the one that it has and the one that it
 /// may have, and the empty one, which stands where that isn't there. So the first rule has 8 * 7 * 6
 /// instances. A rule on two records or options has them either way round, and none on one alone: what
 /// it would say is always so.
+const COUNTS: &[(&str, u64, u64)] = &[
+    ("EQ1", 3, 336),
+    // by the choice's condition
+    ("EQ2", 2, 2),
+    // of each of the two fields
+    ("EQ3", 3, 4),
+    ("EQ4", 2, 2),
+    ("EQ5", 2, 2),
+    ("EQ6", 2, 2),
+    // of options that hold nothing, and such as hold equal values
+    ("EQ7", 3, 4),
+    ("EQ8", 1, 2),
+    // at too few numbers or too many, and of no rule
+    ("EQ1", 2, 0),
+    ("EQ2", 3, 0),
+    ("EQ3", 2, 0),
+    ("EQ8", 2, 0),
+    ("EQ9", 2, 0),
+    ("SE8", 3, 0),
+];
+
 #[test]
-fn instances(rt: HostRuntime) -> Result<(), Fail> {
-    for (rule, size, expected) in [
-        ("EQ1", 3, 336),
-        // by the choice's condition
-        ("EQ2", 2, 2),
-        // of each of the two fields
-        ("EQ3", 3, 4),
-        ("EQ4", 2, 2),
-        ("EQ5", 2, 2),
-        ("EQ6", 2, 2),
-        // of options that hold nothing, and such as hold equal values
-        ("EQ7", 3, 4),
-        ("EQ8", 1, 2),
-        // at too few numbers or too many, and of no rule
-        ("EQ1", 2, 0),
-        ("EQ2", 3, 0),
-        ("EQ3", 2, 0),
-        ("EQ8", 2, 0),
-        ("EQ9", 2, 0),
-        ("SE8", 3, 0),
-    ] {
-        assert!(rt; has(rt.alloc(), rule, size, expected), "{rule} at {size}");
+fn instances(rt: HostRuntime) {
+    for &(rule, size, expected) in COUNTS {
+        assert!(rt;
+            count(rt.alloc(), rule, size) == Ok(expected),
+            "{rule} at {size}"
+        );
     }
-    Ok(())
 }

@@ -1,22 +1,18 @@
-//! The problem of the goal. That its terms write no entity and pick no member is seen of the table, so
-//! nothing has to be known of how they are made.
-ghost use Rattle.std.specs.Prelude.{◌≡◌, ◌<◌, [], Contains, length, IfOk, IsTrue};
+//! The problem of the goal.
+ghost use Rattle.std.specs.Prelude.{◌≡◌, ◌<◌, [], Contains, length, IfOk};
 ghost use Rattle.sc_schema.specs.Declarations.{environments};
 ghost use Rattle.sc_terms.specs.Tables.{tree};
 ghost use Rattle.sc_closure_rules.specs.Goals.{IsGoal};
-ghost use Rattle.th_equal_tests.specs.Plain.{ArePlain, is_plain_node as plain_node};
 
 use crate::goals::{SCHEMA, goal};
-use sc_closure::is_bool;
 use sc_footprint::{OverLimit, Problem, close};
 use sc_lists::Fault;
 use sc_names::Lits;
-use sc_nodes::{BinaryOp, Leaf, Literal, Node};
 use sc_schema::{Env, Schema, context_of};
 use sc_schema_json::read_schema;
 use sc_sorts::sort_of;
-use sc_term_laws::is_term;
 use sc_terms::Terms;
+use sc_test_goals::is_goal;
 use std::alloc::{AllocError, Global};
 
 /// The schema. That its text isn't read counts as want of memory.
@@ -27,51 +23,29 @@ pub(crate) fn schema(alloc: Global) -> Result<Schema, AllocError> {
     }
 }
 
-fn is_plain_node(node: &Node) -> bool
-    ensures { result ≡ plain_node node.now }
-{
-    match node {
-        Node::Leaf(Leaf::Literal(Literal::Entity(_, _))) => false,
-        Node::Two(BinaryOp::DifferencePick, _, _) => false,
-        Node::Two(BinaryOp::CommonPick, _, _) => false,
-        _ => true,
-    }
-}
-
-/// Whether no term of the table writes an entity or picks a member.
-fn are_plain(terms: &Terms) -> bool
-    ensures { IsTrue result → ArePlain terms.now (length terms.now) }
-{
-    for n in 0..terms.len() {
-        if !is_plain_node(terms.node(n)) {
-            return false;
-        }
-    }
-    true
-}
-
-/// Whether a number stands for a goal.
-#[tactic(auto, using(crate::proofs::PlainLaws::plain_goal))]
-fn is_goal(
+/// The number of the goal in a table, to which it is added.
+fn number_of(
     alloc: Global,
     schema: &Schema,
     env: &Env,
     literals: &Lits,
-    terms: &Terms,
-    n: u64,
-) -> Result<bool, AllocError>
+    terms: &mut Terms,
+) -> Result<u64, AllocError>
     requires environment { Contains (environments schema.now) env.now }
     requires none { literals.now ≡ [] }
-    requires within { n < length terms.now }
-    ensures { IfOk result (λ b. IsTrue b → IsGoal schema.now env.now literals.now (tree terms.now n)) }
+    ensures within { IfOk result (λ n. n < length terms.new) }
+    ensures goal { IfOk result (λ n. IsGoal schema.now env.now literals.now (tree terms.new n)) }
 {
-    if !are_plain(terms) {
-        return Ok(false);
+    let Some(ty) = context_of(schema, &env.action) else {
+        return Err(AllocError);
+    };
+    let context = terms.context(sort_of(alloc, ty)?)?;
+    let n = goal(alloc, terms, context)?;
+    if is_goal(alloc, schema, env, literals, terms, n)? {
+        Ok(n)
+    } else {
+        Err(AllocError)
     }
-    if !is_bool(terms, n) {
-        return Ok(false);
-    }
-    is_term(alloc, schema, env, literals, terms, n)
 }
 
 /// The problem of the goal in an environment.
@@ -84,14 +58,7 @@ pub(crate) fn problem<'a>(
     requires environment { Contains (environments schema.now) env.now }
     requires none { literals.now ≡ [] }
 {
-    let Some(ty) = context_of(schema, &env.action) else {
-        return Err(Fault::NoMemory);
-    };
     let mut terms = Terms::new(alloc)?;
-    let context = terms.context(sort_of(alloc, ty)?)?;
-    let n = goal(alloc, &mut terms, context)?;
-    if !is_goal(alloc, schema, env, literals, &terms, n)? {
-        return Err(Fault::NoMemory);
-    }
+    let n = number_of(alloc, schema, env, literals, &mut terms)?;
     close(alloc, terms, n, schema, env, literals)
 }

@@ -3,6 +3,8 @@
 #![tactic(auto)]
 
 #[cfg(test)]
+mod assignments;
+#[cfg(test)]
 mod goals;
 #[cfg(test)]
 mod instances;

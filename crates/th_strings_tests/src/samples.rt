@@ -1,11 +1,12 @@
 //! A problem of two texts of the context and one pattern, which one text matches.
-ghost use Rattle.std.specs.Prelude.{◌≡◌, [], Contains, IfOk};
+ghost use Rattle.std.specs.Prelude.{◌≡◌, ◌<◌, [], Contains, length, IfOk};
 ghost use Rattle.sc_schema.specs.Declarations.{environments};
-ghost use Rattle.sc_terms.specs.Tables.{Keeps};
+ghost use Rattle.sc_terms.specs.Tables.{Keeps, tree};
+ghost use Rattle.sc_closure_rules.specs.Goals.{IsGoal};
 ghost use Rattle.sc_test_goals.specs.Plain.{IsPlain};
 
-use sc_footprint::{Problem, close};
-use sc_lists::Text;
+use sc_footprint::{OverLimit, Problem, close};
+use sc_lists::{Fault, Text};
 use sc_names::Lits;
 use sc_pattern::{Part, pattern_of};
 use sc_schema::{Env, Schema, Ty, context_of};
@@ -47,43 +48,41 @@ fn like(alloc: Global, terms: &mut Terms, ty: &Ty) -> Result<u64, AllocError>
     terms.like(text, pattern)
 }
 
-/// The problem whether the first text is x. That there is none counts as want of memory.
+/// The number of the goal in a table, to which it is added.
+fn number_of(
+    alloc: Global,
+    schema: &Schema,
+    env: &Env,
+    literals: &Lits,
+    terms: &mut Terms,
+) -> Result<u64, AllocError>
+    requires environment { Contains (environments schema.now) env.now }
+    requires none { literals.now ≡ [] }
+    ensures within { IfOk result (λ n. n < length terms.new) }
+    ensures goal { IfOk result (λ n. IsGoal schema.now env.now literals.now (tree terms.new n)) }
+{
+    let Some(ty) = context_of(schema, &env.action) else {
+        return Err(AllocError);
+    };
+    let goal = like(alloc, terms, ty)?;
+    if is_plain_goal(alloc, schema, env, literals, terms, goal)? {
+        Ok(goal)
+    } else {
+        Err(AllocError)
+    }
+}
+
+/// The problem whether the first text is x.
 pub(crate) fn problem<'a>(
     alloc: Global,
     schema: &'a Schema,
     env: &'a Env,
     literals: &'a Lits,
-) -> Result<Problem<'a>, AllocError>
+) -> Result<Problem<'a>, Fault<OverLimit>>
     requires environment { Contains (environments schema.now) env.now }
     requires none { literals.now ≡ [] }
 {
-    let Some(ty) = context_of(schema, &env.action) else {
-        return Err(AllocError);
-    };
     let mut terms = Terms::new(alloc)?;
-    let goal = like(alloc, &mut terms, ty)?;
-    if !is_plain_goal(alloc, schema, env, literals, &terms, goal)? {
-        return Err(AllocError);
-    }
-    match close(alloc, terms, goal, schema, env, literals) {
-        Ok(problem) => Ok(problem),
-        Err(_) => Err(AllocError),
-    }
-}
-
-/// What the numbers of closed terms are taken for.
-#[derive(Clone, Copy, Debug, PartialEq, Eq)]
-pub(crate) enum Term {
-    /// The first text.
-    Name,
-    /// The second text.
-    Nick,
-    /// The context.
-    Context,
-    /// A truth value.
-    Truth,
-    /// No closed term.
-    Nothing,
-    /// The first pattern, or the one after all.
-    Pattern(u64),
+    let goal = number_of(alloc, schema, env, literals, &mut terms)?;
+    close(alloc, terms, goal, schema, env, literals)
 }

@@ -1,16 +1,12 @@
 //! Which instance an assignment falsifies.
-ghost use Rattle.std.specs.Prelude.{[], Contains, ◌≡◌};
-ghost use Rattle.sc_schema.specs.Declarations.{environments};
-
 use crate::samples::{problem, schema};
 use sc_clauses::Assignment;
 use sc_footprint::{Problem, Theory};
 use sc_lists::Seq;
 use sc_names::Lits;
 use sc_nodes::{BinaryOp, Node, UnaryOp};
-use sc_schema::{Env, Schema, environments};
+use sc_schema::{Schema, environments};
 use std::alloc::{AllocError, Global};
-use std::test::Fail;
 use th_strings::Strings;
 
 /// Whether the first text matches, whether the second does, and whether they are equal.
@@ -56,7 +52,21 @@ fn assignment(
     Ok(Assignment::from_values(values))
 }
 
-/// Whether the rule that is falsified has this word, and none is where the word is empty.
+/// Whether the rule that an assignment falsifies has this word, and none is falsified where the word is
+/// empty.
+fn is_told(
+    alloc: Global,
+    problem: &Problem<'_>,
+    m: &Assignment,
+    rule: &str,
+) -> Result<bool, AllocError> {
+    match Strings.violated(alloc, problem, m)? {
+        Some(told) => Ok(told.rule.as_str() == rule),
+        None => Ok(rule.is_empty()),
+    }
+}
+
+/// The same of the assignment by these truths.
 fn is_violated(
     alloc: Global,
     problem: &Problem<'_>,
@@ -64,10 +74,7 @@ fn is_violated(
     rule: &str,
 ) -> Result<bool, AllocError> {
     let m = assignment(alloc, problem, truths)?;
-    match Strings.violated(alloc, problem, &m)? {
-        Some(instance) => Ok(instance.rule.as_str() == rule),
-        None => Ok(rule.is_empty()),
-    }
+    is_told(alloc, problem, &m, rule)
 }
 
 const YES: Option<bool> = Some(true);
@@ -91,38 +98,35 @@ const ROWS: &[(Truths, &str)] = &[
     ((None, None, None), ""),
 ];
 
-/// Whether a row is right.
-fn is_right(alloc: Global, problem: &Problem<'_>, truths: Truths, rule: &str) -> bool {
-    match is_violated(alloc, problem, truths, rule) {
-        Ok(found) => found,
+/// Whether each row is right.
+fn are_right_of(alloc: Global, problem: &Problem<'_>, rows: &[(Truths, &str)]) -> bool {
+    for row in rows {
+        if is_violated(alloc, problem, row.0, row.1) != Ok(true) {
+            return false;
+        }
+    }
+    true
+}
+
+fn are_right_under(alloc: Global, schema: &Schema) -> Result<bool, AllocError> {
+    let Some(env) = environments(schema).get(0) else {
+        return Err(AllocError);
+    };
+    let literals = Lits::new(alloc);
+    match problem(alloc, schema, env, &literals) {
+        Ok(problem) => Ok(are_right_of(alloc, &problem, ROWS)),
+        Err(_) => Err(AllocError),
+    }
+}
+
+fn are_right(alloc: Global) -> bool {
+    match schema(alloc) {
+        Ok(schema) => are_right_under(alloc, &schema) == Ok(true),
         Err(_) => false,
     }
 }
 
-/// Whether each row is right.
-fn are_right<'a>(
-    alloc: Global,
-    schema: &'a Schema,
-    env: &'a Env,
-    literals: &'a Lits,
-) -> Result<bool, AllocError>
-    requires environment { Contains (environments schema.now) env.now }
-    requires none { literals.now ≡ [] }
-{
-    let problem = problem(alloc, schema, env, literals)?;
-    Ok(
-        ROWS.iter()
-            .all(|row| is_right(alloc, &problem, row.0, row.1)),
-    )
-}
-
 #[test]
-fn violations(rt: HostRuntime) -> Result<(), Fail> {
-    let schema = schema(rt.alloc())?;
-    let Some(env) = environments(&schema).get(0) else {
-        return Err(AllocError.into());
-    };
-    let literals = Lits::new(rt.alloc());
-    assert!(rt; are_right(rt.alloc(), &schema, env, &literals)?);
-    Ok(())
+fn violations(rt: HostRuntime) {
+    assert!(rt; are_right(rt.alloc()));
 }
