@@ -1,6 +1,7 @@
 //! What schema files declare, by their texts.
 ghost use Rattle.std.specs.Prelude.{IfSome};
 ghost use Rattle.sc_schema_resolved.specs.Resolved.{IsResolved};
+ghost use Rattle.sc_schema_syntax.specs.WellWritten.{IsWritten};
 
 use sc_schema_names::{resolution_laws, resolve};
 use sc_schema_resolved::ResolvedSchema;
@@ -9,6 +10,7 @@ use std::alloc::Global;
 
 /// What a schema declares, if its names are known.
 fn resolved(alloc: Global, written: &WrittenSchema) -> Option<ResolvedSchema>
+    requires { IsWritten written.now }
     ensures { IfSome result IsResolved }
 {
     resolution_laws();
