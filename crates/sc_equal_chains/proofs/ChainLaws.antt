@@ -1,5 +1,5 @@
 -- What an assignment knows of each two strings and entities, and the instances of EQ1 that it falsifies.
-use Rattle.std.proofs.Common.{◌≡◌, ◌≢◌, ◌<◌, ◌≤◌, ◌&&◌, ◌==◌, ℕ, zero, suc, Bool, true, false, cond, List, [], ◌∷◌, length, slice_get, get_or, Option, Some, None, option_map, option_and_then, refl, sym, ap, ◌∙◌, subst, arith}
+use Rattle.std.proofs.Common.{◌≡◌, ◌≢◌, ◌<◌, ◌≤◌, ◌-◌, ◌&&◌, ◌==◌, ℕ, zero, suc, Bool, true, false, cond, List, [], ◌∷◌, length, slice_get, get_or, Option, Some, None, option_map, option_and_then, refl, sym, ap, ◌∙◌, subst, arith}
 use Rattle.std.proofs.lemmas.Bool.{and_parts, true≢false}
 use Rattle.std.specs.List.{AllByRecursion}
 use Rattle.sc_laws.proofs.NumberLaws.{nat_eq_true}
@@ -81,7 +81,7 @@ module _ (p : Posed) (m : Assignment) where
       by true e = absurd cc
       by false e = e
 
-  named_term : (ns : List ℕ) (i x : ℕ) → AreNamed p ns → named_at p ns i ≡ Some x → (term_of p (get_or ns i 0) ≡ Some (tree p.nodes x)) × (is_named (tree p.nodes x) ≡ true) × (i < length ns)
+  pub named_term : (ns : List ℕ) (i x : ℕ) → AreNamed p ns → named_at p ns i ≡ Some x → (term_of p (get_or ns i 0) ≡ Some (tree p.nodes x)) × (is_named (tree p.nodes x) ≡ true) × (i < length ns)
   named_term ns i x are e =
       let r = option_and_then_some (λ (n : ℕ). numbered p.closed n) (slice_get ns i) x e in
       let place = at_place ns i r.0 0 r.1 in
@@ -90,8 +90,17 @@ module _ (p : Posed) (m : Assignment) where
       let same : own.term ≡ tree p.nodes x = same_some (sym own.is ∙ is) in
       (ap (term_of p) place.1 ∙ is, subst (λ (t : Tree). is_named t ≡ true) same own.named, place.0)
 
+  pub named_within : (ns : List ℕ) (i x : ℕ) → IsPosed p → named_at p ns i ≡ Some x → x < length p.nodes
+  named_within ns i x posed e =
+      let r = option_and_then_some (λ (n : ℕ). numbered p.closed n) (slice_get ns i) x e in
+      by r.0 (r.0 == 0) r.2
+    where
+      by : (n : ℕ) (b : Bool) → cond b None (slice_get p.closed (n - 1)) ≡ Some x → x < length p.nodes
+      by n true h = absurd cc
+      by n false h = all_at (λ (k : ℕ). k < length p.nodes) p.closed (n - 1) x posed.within h
+
   module _ (ns : List ℕ) (are : AreNamed p ns) where
-    known_places : (i j : ℕ) (v : Bool) → truth_of p m ns i j ≡ Some v → (x : ℕ) × (y : ℕ) × (named_at p ns i ≡ Some x) × (named_at p ns j ≡ Some y)
+    pub known_places : (i j : ℕ) (v : Bool) → truth_of p m ns i j ≡ Some v → (x : ℕ) × (y : ℕ) × (named_at p ns i ≡ Some x) × (named_at p ns j ≡ Some y)
     known_places i j v = by (named_at p ns i) (named_at p ns j) refl refl
       where
         by : (o q : Option ℕ) → named_at p ns i ≡ o → named_at p ns j ≡ q → known_equal p m o q ≡ Some v → (x : ℕ) × (y : ℕ) × (named_at p ns i ≡ Some x) × (named_at p ns j ≡ Some y)
@@ -100,7 +109,7 @@ module _ (p : Posed) (m : Assignment) where
         by None (Some y) e f h = absurd cc
         by None None e f h = absurd cc
 
-    of_places : (i j x y : ℕ) (v : Bool) → named_at p ns i ≡ Some x → named_at p ns j ≡ Some y → truth_of p m ns i j ≡ Some v → known m (lit (tree p.nodes x) (tree p.nodes y)) ≡ Some v
+    pub of_places : (i j x y : ℕ) (v : Bool) → named_at p ns i ≡ Some x → named_at p ns j ≡ Some y → truth_of p m ns i j ≡ Some v → known m (lit (tree p.nodes x) (tree p.nodes y)) ≡ Some v
     of_places i j x y v e f h = plain_known x y v (sym (ap (λ (o : Option ℕ). known_equal p m o (named_at p ns j)) e ∙ ap (known_equal p m (Some x)) f) ∙ h)
 
     pub chain_places : (i j k : ℕ) → IsIntransitive (truth_of p m ns) i j k → (i < length ns) × (j < length ns) × (k < length ns)

@@ -1,2 +1,5 @@
 mod NamedLaws
+mod ClassLaws
+mod EquationLaws
 mod ChainLaws
+mod JoinLaws

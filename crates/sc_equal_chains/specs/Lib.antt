@@ -1,1 +1,4 @@
 pub mod Naming
+pub mod Classes
+pub mod Equations
+pub mod Joining

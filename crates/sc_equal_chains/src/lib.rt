@@ -3,5 +3,10 @@
 #![tactic(auto)]
 
 mod chains;
+mod classes;
+mod equations;
+mod joining;
+mod named;
 
 pub use chains::broken_chain;
+pub use equations::sides;

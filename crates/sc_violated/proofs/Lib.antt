@@ -2,6 +2,7 @@ mod NumberLaws
 mod ListLaws
 mod ClassLaws
 mod ChainLaws
+mod SizeLaws
 mod PathLaws
 mod CountLaws
 mod CrowdLaws

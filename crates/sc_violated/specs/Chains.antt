@@ -1,6 +1,7 @@
 -- What was looked at on the way to three items that break equality.
-use Rattle.std.specs.Prelude.{◌≡◌, ℕ, ◌<◌, ◌==◌, ◌⊎◌, Bool, true, false, List, length, get_or, Option, Some, None, if◌then◌else◌}
+use Rattle.std.specs.Prelude.{◌≡◌, ℕ, ◌<◌, ◌+◌, ◌==◌, ◌⊎◌, Bool, true, false, List, [], ◌∷◌, length, get_or, Option, Some, None, if◌then◌else◌}
 use Rattle.sc_violated.specs.Truths.{Truth}
+use Rattle.sc_violated.specs.Crowds.{one_if}
 
 -- no item before the n-th equals both
 abbrev pub NoneBetween : Truth → ℕ → ℕ → ℕ → Type 0
@@ -20,3 +21,12 @@ pub record IsRow (truth : Truth) (n a : ℕ) (row : List (Option Bool)) : Type 0
   pub known : (b : ℕ) (v : Bool) → get_or row b None ≡ Some v → truth a b ≡ Some v
   pub equal : (b : ℕ) → b < n → truth a b ≡ Some true → get_or row b None ≡ Some true
   pub apart : (c : ℕ) → c < n → truth a c ≡ Some false → (get_or row c None ≡ Some false) ⊎ NoneBetween truth n a c
+
+-- how many have a label
+abbrev pub count_of : List ℕ → ℕ → ℕ
+count_of [] l = 0
+count_of (x ∷ xs) l = one_if (x == l) + count_of xs l
+
+-- how many have each label that is counted
+pub record AreSizes (labels sizes : List ℕ) : Type 0 where
+  pub at : (l : ℕ) → l < length sizes → get_or sizes l 0 ≡ count_of labels l

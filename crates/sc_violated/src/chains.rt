@@ -1,10 +1,10 @@
 //! Equalities that don't go on: one item equals a second, that a third, and the first isn't the third.
-ghost use Rattle.std.specs.Prelude.{◌≡◌, ◌<◌, ◌+◌, slice_index_or, length, IfOk, IfSome, IfNone, IsTrue, ◌↔◌, Some, None, true, false};
+ghost use Rattle.std.specs.Prelude.{◌≡◌, ℕ, ◌<◌, ◌≤◌, ◌+◌, ◌==◌, get_or, slice_index_or, length, IfOk, IfSome, IfNone, IsTrue, ◌↔◌, Some, None, true, false};
 ghost use Rattle.sc_violated.specs.Truths.{IsIntransitive, NoneIntransitive};
 ghost use Rattle.sc_violated.specs.Classes.{AreLabels};
-ghost use Rattle.sc_violated.specs.Chains.{NoneBetween, NoneFrom, IsRow, seen};
+ghost use Rattle.sc_violated.specs.Chains.{NoneBetween, NoneFrom, IsRow, AreSizes, seen};
+ghost use Rattle.sc_violated.specs.Crowds.{one_if};
 
-use crate::classes::labels;
 use crate::truths::{Equalities, is};
 use std::alloc::{AllocError, Global};
 
@@ -82,20 +82,107 @@ fn from<E: Equalities>(items: &E, row: &[Option<bool>], a: usize) -> Option<(usi
     None
 }
 
-/// Three items of which the first equals the second, the second the third, and the first not the third, or none where no
-/// three are so.
-#[tactic(auto, using(crate::proofs::ChainLaws::from_each, crate::proofs::ChainLaws::none_intransitive))]
-pub fn intransitive_triple<E: Equalities>(
+/// Counts one more item of a label.
+fn count_one(sizes: &mut Vec<usize>, label: usize)
+    requires { get_or sizes.old.items label 0 < length sizes.old.items }
+    ensures sized { length sizes.new.items ≡ length sizes.old.items }
+    ensures counted { (l : ℕ) → l < length sizes.old.items
+        → get_or sizes.new.items l 0 ≡ one_if (label == l) + get_or sizes.old.items l 0 }
+{
+    if label < sizes.len() {
+        sizes[label] += 1;
+    }
+}
+
+/// Zeros at the places up to a last one.
+fn zeros(alloc: Global, last: usize) -> Result<Vec<usize>, AllocError>
+    ensures sized { IfOk result (λ v. length v.items ≡ last + 1) }
+    ensures zero { IfOk result (λ v. (i : ℕ) → get_or v.items i 0 ≡ 0) }
+{
+    let mut zeros = Vec::new(alloc);
+    for _item in 0..last {
+        zeros.push(0)?;
+    }
+    zeros.push(0)?;
+    Ok(zeros)
+}
+
+fn larger(a: usize, b: usize) -> usize
+    ensures { a ≤ result }
+{
+    if a < b { b } else { a }
+}
+
+/// The highest of some labels, and no less than how many they are.
+fn highest(labels: &[usize]) -> usize
+    ensures { length labels.now ≤ result }
+{
+    let mut most = labels.len();
+    for label in labels.iter() {
+        most = larger(most, *label);
+    }
+    most
+}
+
+/// How many items have each label.
+fn sizes(alloc: Global, labels: &[usize]) -> Result<Vec<usize>, AllocError>
+    ensures { IfOk result (λ v. AreSizes labels.now v.items) }
+{
+    let mut sizes = zeros(alloc, highest(labels))?;
+    for item in 0..labels.len() {
+        count_one(&mut sizes, labels[item]);
+    }
+    Ok(sizes)
+}
+
+/// Whether a label may be that of three items.
+fn may_be_of_three(sizes: &[usize], label: usize) -> bool
+    ensures within { result ≡ false → label < length sizes.now }
+    ensures few { result ≡ false → get_or sizes.now label 0 ≤ 2 }
+{
+    match sizes.get(label) {
+        Some(size) => *size > 2,
+        None => true,
+    }
+}
+
+/// Two items that make three with an item. Only a label of three items is looked into.
+fn beside<E: Equalities>(
     alloc: Global,
     items: &E,
+    labels: &[usize],
+    sizes: &[usize],
+    a: usize,
+) -> Result<Option<(usize, usize)>, AllocError>
+    requires labels { AreLabels (E.truth items.now) (E.size items.now) labels.now }
+    requires sizes { AreSizes labels.now sizes.now }
+    requires bound { a < E.size items.now }
+    ensures found { IfOk result (λ o. IfSome o (λ p. IsIntransitive (E.truth items.now) a p.0 p.1)) }
+    ensures none { IfOk result (λ o. IfNone o (NoneFrom (E.truth items.now) (E.size items.now) (E.size items.now) a)) }
+{
+    if !may_be_of_three(sizes, labels[a]) {
+        return Ok(None);
+    }
+    let row = row(alloc, items, labels, a)?;
+    Ok(from(items, row.as_slice(), a))
+}
+
+/// Three items of which the first equals the second, the second the third, and the first not the third, or none where no
+/// three are so. Items that are known to be equal have one label.
+#[tactic(auto, using(crate::proofs::ChainLaws::from_each, crate::proofs::ChainLaws::none_intransitive))]
+pub fn intransitive_among<E: Equalities>(
+    alloc: Global,
+    items: &E,
+    labels: &[usize],
 ) -> Result<Option<(usize, usize, usize)>, AllocError>
+    requires { AreLabels (E.truth items.now) (E.size items.now) labels.now }
     ensures found { IfOk result (λ o. IfSome o (λ t. IsIntransitive (E.truth items.now) t.0 t.1 t.2)) }
     ensures none { IfOk result (λ o. IfNone o (NoneIntransitive (E.truth items.now) (E.size items.now))) }
 {
-    let labels = labels(alloc, items)?;
+    let sizes = sizes(alloc, labels)?;
     for a in 0..labels.len() {
-        let row = row(alloc, items, labels.as_slice(), a)?;
-        if let Some((b, c)) = from(items, row.as_slice(), a) {
+        let next = beside(alloc, items, labels, sizes.as_slice(), a)?;
+        if let Some((b, c)) = next {
             return Ok(Some((a, b, c)));
         }
     }

@@ -12,7 +12,7 @@ mod tests;
 mod texts;
 mod truths;
 
-pub use chains::intransitive_triple;
+pub use chains::intransitive_among;
 pub use crowds::Crowd;
 pub use paths::{Paths, gap};
 pub use settled::crowd_of;

@@ -4,7 +4,8 @@
 ghost use Rattle.std.specs.Prelude.{◌≡◌, ◌<◌, ◌||◌, None, length, slice_get, slice_index_or};
 ghost use Rattle.sc_violated.specs.Tables.{is_of, told, told_either, with_sign, sign_in};
 
-use crate::{Equalities, Paths, Texts, crowd_of, gap, intransitive_triple};
+use crate::classes::labels;
+use crate::{Equalities, Paths, Texts, crowd_of, gap, intransitive_among};
 use std::alloc::{AllocError, Global};
 use std::test::Fail;
 
@@ -210,7 +211,9 @@ fn triple_is(
     rows: &[Row],
     wanted: Option<(usize, usize, usize)>,
 ) -> Result<bool, AllocError> {
-    let found = intransitive_triple(alloc, &Table { count, rows })?;
+    let items = Table { count, rows };
+    let labels = labels(alloc, &items)?;
+    let found = intransitive_among(alloc, &items, labels.as_slice())?;
     Ok(found == wanted)
 }
 

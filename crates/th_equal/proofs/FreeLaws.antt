@@ -18,7 +18,8 @@ use Rattle.sc_instances.specs.declared.rule.EqualRule.{EqualRule}
 use Rattle.sc_instances.specs.declared.rule.EqualRule.TheVariants.{Eq3, Eq4, Eq8}
 use Rattle.sc_instances.specs.Instances.{on_one, on_two}
 use Rattle.sc_instances.specs.Known.{is_falsified}
-use Rattle.th_equal.specs.Equations.{AreSides, is_choice}
+use Rattle.sc_equal_chains.specs.Equations.{AreSides}
+use Rattle.th_equal.specs.Equations.{is_choice}
 use Rattle.th_equal.specs.Free.{IsKept, IsFree, AreFieldsFree, AreRecordsFree, AreOptionsFree, IsPairFree, AreSidesFree, IsEquationFree, IsChoiceFree, IsTermFree, AreTermsFree, AreFirstFree}
 
 -- ---- what says nothing

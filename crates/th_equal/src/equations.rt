@@ -1,21 +1,10 @@
-//! Equations and choices of the table, and the numbers of closed terms.
+//! Choices of the table, and the numbers of closed terms.
 ghost use Rattle.std.specs.Prelude.{◌≡◌, ◌<◌, length};
 ghost use Rattle.sc_terms.specs.Tables.{tree};
-ghost use Rattle.th_equal.specs.Equations.{AreSidesIf, IsNumberIf, is_choice as choice_test};
+ghost use Rattle.th_equal.specs.Equations.{IsNumberIf, is_choice as choice_test};
 
 use sc_footprint::Problem;
-use sc_nodes::{BinaryOp, Node};
-
-/// The sides of an equation, by their numbers in the table. None exactly of another term.
-pub(crate) fn sides(problem: &Problem<'_>, at: u64) -> Option<(u64, u64)>
-    requires { at < length problem.now.nodes }
-    ensures { AreSidesIf problem.now (tree problem.now.nodes at) result }
-{
-    match problem.terms().node(at) {
-        Node::Two(BinaryOp::Equal, a, b) => Some((*a, *b)),
-        _ => None,
-    }
-}
+use sc_nodes::Node;
 
 /// Whether a term is a choice.
 pub(crate) fn is_choice(problem: &Problem<'_>, at: u64) -> bool

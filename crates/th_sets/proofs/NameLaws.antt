@@ -1,12 +1,13 @@
 -- All that closed terms name is listed, and what holds of each in the list holds of what any closed term names.
-use Rattle.std.proofs.Common.{◌≡◌, ◌++◌, ◌+◌, ℕ, List, [], ◌∷◌, length, arith}
+use Rattle.std.proofs.Common.{◌≡◌, ◌++◌, ◌+◌, ℕ, List, [], ◌∷◌, filter, length, refl, arith}
 use Rattle.std.specs.List.{AllByRecursion}
 use Rattle.sc_lists.proofs.MemberLaws.{Has-left, Has-last, AllByRecursion-Has}
 use Rattle.sc_lists.specs.Members.{Has}
 use Rattle.sc_footprint.specs.Problems.{Posed}
+use Rattle.sc_rules.proofs.MemberLaws.{filter_kept}
 use Rattle.th_sets.specs.declared.named.Named.{Named}
 use Rattle.th_sets.specs.declared.named.Named.TheVariants.{Member, Subset, Common, Other}
-use Rattle.th_sets.specs.Named.{named_at, IsNameAmong, AreNames, IsNamePut, AreFirst}
+use Rattle.th_sets.specs.Named.{named_at, IsNameAmong, AreNames, IsNamePut, AreFirst, is_of_sets, IsAmongSets, AreOfSets}
 use Rattle.th_sets.proofs.FreeLaws.{first_more}
 
 -- ---- one name more
@@ -34,6 +35,17 @@ unfolding AreFirst
 names_more p n xs ys by is put before =
     first_more p (IsNameAmong ys) n by is (among_now xs ys by put) (λ k less. among_still xs ys by (named_at p (k + 1)) put (before k less))
 
+-- ---- those of two sets
+
+pub of_sets : (p : Posed) (names : List Named) → AreNames p names → AreOfSets p (filter is_of_sets names)
+of_sets p names among n = by (named_at p n) (among n)
+  where
+    by : (b : Named) → IsNameAmong names b → IsAmongSets (filter is_of_sets names) b
+    by (Member x s) h = tt
+    by (Subset s t) h = filter_kept is_of_sets names (Subset s t) h refl
+    by (Common s t) h = filter_kept is_of_sets names (Common s t) h refl
+    by Other h = tt
+
 -- ---- what holds of each name, one less at a time
 
 module _ (p : Posed) (P : Named → Type 0) where
@@ -46,6 +58,15 @@ module _ (p : Posed) (P : Named → Type 0) where
     where
       by : (b : Named) → IsNameAmong names b → P b
       by (Member x s) h = AllByRecursion-Has P names (Member x s) all h
+      by (Subset s t) h = AllByRecursion-Has P names (Subset s t) all h
+      by (Common s t) h = AllByRecursion-Has P names (Common s t) all h
+      by Other h = other
+
+  pub left_sets : (names : List Named) → P Other → ((x s : ℕ) → P (Member x s)) → AreOfSets p names → IsLeft names
+  left_sets names other member among all n = by (named_at p n) (among n)
+    where
+      by : (b : Named) → IsAmongSets names b → P b
+      by (Member x s) h = member x s
       by (Subset s t) h = AllByRecursion-Has P names (Subset s t) all h
       by (Common s t) h = AllByRecursion-Has P names (Common s t) all h
       by Other h = other

@@ -1,6 +1,6 @@
 -- What a closed term names: a membership, an inclusion, or that two sets have a member in common. The parts have the numbers of closed
 -- terms; 0 is the number of none. No public promise speaks of it.
-use Rattle.std.specs.Prelude.{◌≡◌, ◌+◌, ◌++◌, ◌<◌, ⊤, ℕ, List, [], ◌∷◌, Option, Some, None}
+use Rattle.std.specs.Prelude.{◌≡◌, ◌+◌, ◌++◌, ◌<◌, ⊤, ℕ, Bool, true, false, List, [], ◌∷◌, Option, Some, None}
 use Rattle.sc_lists.specs.Members.{Has}
 use Rattle.sc_nodes.specs.declared.node.BinaryOp.TheVariants as binary
 use Rattle.sc_terms.specs.Trees.{Tree, two}
@@ -40,6 +40,21 @@ IsNameAmong names Other = ⊤
 
 abbrev pub AreNames : Posed → List Named → Type 0
 AreNames p names = (n : ℕ) → IsNameAmong names (named_at p n)
+
+-- a name is of two sets
+abbrev pub is_of_sets : Named → Bool
+is_of_sets (Subset s t) = true
+is_of_sets (Common s t) = true
+is_of_sets _ = false
+
+-- what a closed term names is among these, if that is of two sets
+abbrev pub IsAmongSets : List Named → Named → Type 0
+IsAmongSets names (Subset s t) = Has names (Subset s t)
+IsAmongSets names (Common s t) = Has names (Common s t)
+IsAmongSets names _ = ⊤
+
+abbrev pub AreOfSets : Posed → List Named → Type 0
+AreOfSets p names = (n : ℕ) → IsAmongSets names (named_at p n)
 
 -- what a closed term names comes after the others, if that is something
 abbrev pub IsNamePut : List Named → Named → List Named → Type 0

@@ -6,10 +6,10 @@ ghost use Rattle.sc_footprint.specs.Problems.{term_of};
 ghost use Rattle.sc_instances.specs.declared.rule.SetRule.TheVariants.{Se3};
 ghost use Rattle.sc_instances.specs.Instances.{set_said};
 ghost use Rattle.sc_instances.specs.Known.{is_falsified as falsified_of};
-ghost use Rattle.th_sets.specs.Named.{named_at as named_of, AreNames};
+ghost use Rattle.th_sets.specs.Named.{named_at as named_of, AreNames, AreOfSets};
 ghost use Rattle.th_sets.specs.Free.{IsFree, IsBesideFree, IsMemberFree, IsNamedFree, AreNamedFree, by_subset, by_common, member_count as members_of};
 
-use crate::named::{Named, names};
+use crate::named::{Named, names, names_of_sets};
 use crate::said::Said;
 use sc_clauses::Assignment;
 use sc_footprint::Problem;
@@ -100,15 +100,15 @@ fn beside_one(
 fn beside(
     problem: &Problem<'_>,
     m: &Assignment,
-    names: &[Named],
+    pairs: &[Named],
     x: u64,
     set: u64,
 ) -> Option<SetRule>
-    requires { AreNames problem.now names.now }
+    requires { AreOfSets problem.now pairs.now }
     ensures found { IfSome result (λ rule. falsified_of problem.now m.now (set_said problem.now rule) ≡ true) }
     ensures none { IfNone result ((n : ℕ) → IsBesideFree problem.now m.now x set (named_of problem.now n)) }
 {
-    let mut rest = names;
+    let mut rest = pairs;
     while let Some((by, later)) = rest.split_first() {
         if let Some(rule) = beside_one(problem, m, x, set, *by) {
             return Some(rule);
@@ -123,11 +123,11 @@ fn beside(
 fn at_member(
     problem: &Problem<'_>,
     m: &Assignment,
-    names: &[Named],
+    pairs: &[Named],
     x: u64,
     set: u64,
 ) -> Option<SetRule>
-    requires { AreNames problem.now names.now }
+    requires { AreOfSets problem.now pairs.now }
     ensures found { IfSome result (λ rule. falsified_of problem.now m.now (set_said problem.now rule) ≡ true) }
     ensures none { IfNone result (IsMemberFree problem.now m.now x set) }
 {
@@ -137,7 +137,7 @@ fn at_member(
     if let Some(rule) = standing(problem, m, x, set) {
         return Some(rule);
     }
-    beside(problem, m, names, x, set)
+    beside(problem, m, pairs, x, set)
 }
 
 // ---- by any closed term
@@ -179,28 +179,29 @@ fn at_common(problem: &Problem<'_>, m: &Assignment, s: u64, t: u64) -> Option<Se
     None
 }
 
-fn at_named(problem: &Problem<'_>, m: &Assignment, names: &[Named], by: Named) -> Option<SetRule>
-    requires { AreNames problem.now names.now }
+fn at_named(problem: &Problem<'_>, m: &Assignment, pairs: &[Named], by: Named) -> Option<SetRule>
+    requires { AreOfSets problem.now pairs.now }
     ensures found { IfSome result (λ rule. falsified_of problem.now m.now (set_said problem.now rule) ≡ true) }
     ensures none { IfNone result (IsNamedFree problem.now m.now by) }
 {
     match by {
-        Named::Member(x, s) => at_member(problem, m, names, x, s),
+        Named::Member(x, s) => at_member(problem, m, pairs, x, s),
         Named::Subset(s, t) => at_subset(problem, m, s, t),
         Named::Common(s, t) => at_common(problem, m, s, t),
         Named::Other => None,
     }
 }
 
-/// An instance that one of these names.
-fn among(problem: &Problem<'_>, m: &Assignment, names: &[Named]) -> Option<SetRule>
-    requires { AreNames problem.now names.now }
+/// An instance that one of these names; those of two sets stand apart too.
+fn among(problem: &Problem<'_>, m: &Assignment, names: &[Named], pairs: &[Named]) -> Option<SetRule>
+    requires names { AreNames problem.now names.now }
+    requires pairs { AreOfSets problem.now pairs.now }
     ensures found { IfSome result (λ rule. falsified_of problem.now m.now (set_said problem.now rule) ≡ true) }
     ensures none { IfNone result (AreNamedFree problem.now m.now) }
 {
     let mut rest = names;
     while let Some((by, later)) = rest.split_first() {
-        if let Some(rule) = at_named(problem, m, names, *by) {
+        if let Some(rule) = at_named(problem, m, pairs, *by) {
             return Some(rule);
         }
         rest = later;
@@ -219,5 +220,6 @@ pub(crate) fn falsified_row(
     ensures none { IfOk result (λ o. IfNone o (AreNamedFree problem.now m.now)) }
 {
     let names = names(alloc, problem)?;
-    Ok(among(problem, m, names.as_slice()))
+    let pairs = names_of_sets(alloc, names.as_slice())?;
+    Ok(among(problem, m, names.as_slice(), pairs.as_slice()))
 }

@@ -1,7 +1,7 @@
 //! What closed terms name.
-ghost use Rattle.std.specs.Prelude.{◌≡◌, ◌<◌, length, IfOk, OnOk};
+ghost use Rattle.std.specs.Prelude.{◌≡◌, ◌++◌, ◌<◌, [], ◌∷◌, length, filter, IfOk, OnOk};
 ghost use Rattle.sc_terms.specs.Tables.{tree, node_tree, PartsAreBelow};
-ghost use Rattle.th_sets.specs.Named.{number_in, named_in, named_at as named_of, AreNames, IsNamePut};
+ghost use Rattle.th_sets.specs.Named.{number_in, named_in, named_at as named_of, AreNames, IsNamePut, is_of_sets as sets_test};
 
 use sc_footprint::Problem;
 use sc_nodes::{BinaryOp, Node};
@@ -88,4 +88,40 @@ pub(crate) fn names(alloc: Global, problem: &Problem<'_>) -> Result<Vec<Named>, 
         put_name(&mut names, named_at(problem, n + 1))?;
     }
     Ok(names)
+}
+
+/// Whether a name is of two sets.
+fn is_of_sets(by: Named) -> bool
+    ensures { result ≡ sets_test by }
+{
+    match by {
+        Named::Subset(_, _) => true,
+        Named::Common(_, _) => true,
+        Named::Member(_, _) => false,
+        Named::Other => false,
+    }
+}
+
+/// Puts a name after the others, if it is of two sets.
+fn put_if_of_sets(names: &mut Vec<Named>, by: Named) -> Result<(), AllocError>
+    ensures { OnOk result (names.new.items ≡ names.old.items ++ filter sets_test (by ∷ [])) }
+{
+    if is_of_sets(by) {
+        names.push(by)?;
+        return Ok(());
+    }
+    Ok(())
+}
+
+/// Those of some names that are of two sets: there may be few beside many memberships.
+pub(crate) fn names_of_sets(alloc: Global, names: &[Named]) -> Result<Vec<Named>, AllocError>
+    ensures { IfOk result (λ v. v.items ≡ filter sets_test names.now) }
+{
+    let mut found = Vec::new(alloc);
+    let mut rest = names;
+    while let Some((by, later)) = rest.split_first() {
+        put_if_of_sets(&mut found, *by)?;
+        rest = later;
+    }
+    Ok(found)
 }

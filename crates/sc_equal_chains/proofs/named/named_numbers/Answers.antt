@@ -1,6 +1,6 @@
 use Rattle.std.proofs.Common.{arith}
 use Rattle.sc_equal_chains.proofs.NamedLaws.{all_named}
-use Rattle.sc_equal_chains.proofs.chains.named_numbers.Goals as goal
+use Rattle.sc_equal_chains.proofs.named.named_numbers.Goals as goal
 
 pub returns-clause-named : goal.returns-clause-named
 returns-clause-named c = all_named c.args.problem.now c.loop-place.place _ c.loop-place.invariant (omega (arith, c.loop-place-test.false, c.closed_count-place-end.ensures.value))

@@ -1,6 +1,6 @@
 use Rattle.std.proofs.Common.{◌∙◌, sym}
 use Rattle.sc_equal_chains.proofs.NamedLaws.{named_next, other_next}
-use Rattle.sc_equal_chains.proofs.chains.put_if_named.Goals as goal
+use Rattle.sc_equal_chains.proofs.named.put_if_named.Goals as goal
 
 pub returns-then-is_sort_named : goal.returns-then-is_sort_named
 returns-then-is_sort_named c =
