@@ -16,9 +16,6 @@ same_through ps i j k h g = record { same = λ ls l. h.same ls l ∙ g.same ls l
 
 -- ---- the lowest item
 
-pub root_start : (ps : List ℕ) (i : ℕ) → IsSame ps i i
-root_start ps i = same_itself ps i
-
 pub root_step : (ps : List ℕ) (i at p : ℕ) → at < length ps → get_or ps at 0 ≡ p → IsSame ps i at → IsSame ps i p
 root_step ps i at p less e h = record { same = λ ls l. h.same ls l ∙ l.along at less ∙ ap (λ (n : ℕ). get_or ls n 0) e }
 

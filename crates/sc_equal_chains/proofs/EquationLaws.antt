@@ -1,6 +1,6 @@
 -- Why an assignment knows two strings or entities to be equal: an equation of them is a listed atom that it makes true, or both are one
 -- entity, written beside different others.
-use Rattle.std.proofs.Common.{◌≡◌, ◌≢◌, ◌⊎◌, ◌==◌, ℕ, Bool, true, false, not, cond, inl, inr, [], ◌∷◌, Option, Some, None, option_map, refl, sym, ap, ◌∙◌, subst, ⊎_elim}
+use Rattle.std.proofs.Common.{◌≡◌, ◌≢◌, ◌⊎◌, ◌==◌, ℕ, Bool, true, false, cond, inl, inr, [], ◌∷◌, Option, Some, None, option_map, refl, sym, ap, ◌∙◌, subst, ⊎_elim}
 use Rattle.std.specs.Cmp.{Equal-is}
 use Rattle.std.specs.Ordering.{is_gt}
 use Rattle.sc_laws.proofs.NumberLaws.{nat_eq_true}

@@ -17,7 +17,7 @@ use Rattle.sc_equal_chains.specs.Naming.{AreNamed}
 use Rattle.sc_equal_chains.specs.Classes.{IsAlong, IsSame, IsCoarser}
 use Rattle.sc_equal_chains.specs.Equations.{AreSides}
 use Rattle.sc_equal_chains.specs.Joining.{AreSidesJoined, IsAtomJoined, AreAtomsJoined, IsPairJoined, IsRowJoined, IsItemJoined, AreRowsJoined, IsLabelAt, AreFirstLabels, has_choices}
-use Rattle.sc_equal_chains.proofs.ClassLaws.{same_coarser, same_turned}
+use Rattle.sc_equal_chains.proofs.ClassLaws.{same_coarser}
 use Rattle.sc_equal_chains.proofs.EquationLaws.{IsTrueAtom, Reason, first_twice, second_twice, by_atom, by_turned, reason}
 use Rattle.sc_equal_chains.proofs.ChainLaws.{known_places, named_term, named_within, of_places}
 
@@ -63,7 +63,7 @@ module _ (p : Posed) where
 
     pub atoms_start : (ps : List ℕ) → AreAtomsJoined p m 0 ps
     unfolding AreAtomsJoined
-    atoms_start ps n low = atom_none n ps (ap (numbered (atoms p)) (omega (arith, low)))
+    atoms_start ps n low = let none : n ≡ 0 = omega (arith, low) in atom_none n ps (ap (numbered (atoms p)) none)
 
     pub atoms_next : (n : ℕ) (ps qs : List ℕ) → AreAtomsJoined p m n ps → IsCoarser ps qs → IsAtomJoined p m (n + 1) qs → AreAtomsJoined p m (n + 1) qs
     unfolding AreAtomsJoined
@@ -79,24 +79,24 @@ module _ (p : Posed) where
     module _ (ns : List ℕ) where
       pub pair_apart : (i j : ℕ) (ps : List ℕ) → (truth_of p m ns i j ≡ Some true → ⊥) → IsPairJoined p m ns i j ps
       unfolding IsPairJoined
-      pair_apart i j ps other x y one two is = absurd (other is)
+      pair_apart i j ps other x y first second is = absurd (other is)
 
       pub pair_first_none : (i j : ℕ) (ps : List ℕ) → named_at p ns i ≡ None → IsPairJoined p m ns i j ps
       unfolding IsPairJoined
-      pair_first_none i j ps none x y one two is = let never : None ≡ Some x = sym none ∙ one in absurd cc
+      pair_first_none i j ps none x y first second is = let never : None ≡ Some x = sym none ∙ first in absurd cc
 
       pub pair_second_none : (i j : ℕ) (ps : List ℕ) → named_at p ns j ≡ None → IsPairJoined p m ns i j ps
       unfolding IsPairJoined
-      pair_second_none i j ps none x y one two is = let never : None ≡ Some y = sym none ∙ two in absurd cc
+      pair_second_none i j ps none x y first second is = let never : None ≡ Some y = sym none ∙ second in absurd cc
 
       pub pair_joined : (i j a b : ℕ) (ps : List ℕ) → Some a ≡ named_at p ns i → Some b ≡ named_at p ns j → IsSame ps a b → IsPairJoined p m ns i j ps
       unfolding IsPairJoined
-      pair_joined i j a b ps first second same x y one two is =
-          subst (λ (k : ℕ). IsSame ps k y) (same_some (first ∙ one)) (subst (λ (k : ℕ). IsSame ps a k) (same_some (second ∙ two)) same)
+      pair_joined i j a b ps left right same x y first second is =
+          subst (λ (k : ℕ). IsSame ps k y) (same_some (left ∙ first)) (subst (λ (k : ℕ). IsSame ps a k) (same_some (right ∙ second)) same)
 
       pair_coarser : (i j : ℕ) (ps qs : List ℕ) → IsCoarser ps qs → IsPairJoined p m ns i j ps → IsPairJoined p m ns i j qs
       unfolding IsPairJoined
-      pair_coarser i j ps qs coarser h x y one two is = same_coarser ps qs x y coarser (h x y one two is)
+      pair_coarser i j ps qs coarser h x y first second is = same_coarser ps qs x y coarser (h x y first second is)
 
       pub row_start : (i : ℕ) (ps : List ℕ) → IsRowJoined p m ns i 0 ps
       unfolding IsRowJoined

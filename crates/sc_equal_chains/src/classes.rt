@@ -31,7 +31,7 @@ fn above(parents: &[usize], item: usize) -> Option<usize>
 }
 
 /// The lowest item of an item's class.
-#[tactic(auto, using(crate::proofs::ClassLaws::root_start, crate::proofs::ClassLaws::root_step, crate::proofs::ClassLaws::root_end))]
+#[tactic(auto, using(crate::proofs::ClassLaws::same_itself, crate::proofs::ClassLaws::root_step, crate::proofs::ClassLaws::root_end))]
 fn root(parents: &[usize], item: usize) -> usize
     requires item { item < length parents.now }
     requires parents { AreParents parents.now }

@@ -88,10 +88,10 @@ fn has_choices(problem: &Problem<'_>, term: u64) -> bool
 /// Makes the classes of two items one, if they are known to be equal.
 #[tactic(auto, using(crate::proofs::JoinLaws::pair_apart, crate::proofs::JoinLaws::pair_first_none, crate::proofs::JoinLaws::pair_second_none, crate::proofs::JoinLaws::pair_joined, crate::proofs::ClassLaws::coarser_itself))]
 fn join_pair(named: &Named<'_, '_>, parents: &mut Vec<usize>, one: usize, other: usize)
-    requires sized { length parents.old.items ≡ length named.problem.now.nodes }
+    requires sized { length parents.old.items ≡ length named.now.problem.now.nodes }
     requires parents { AreParents parents.old.items }
     ensures coarser { IsCoarser parents.old.items parents.new.items }
-    ensures joined { IsPairJoined named.problem.now named.m.now named.numbers.items one other parents.new.items }
+    ensures joined { IsPairJoined named.now.problem.now named.now.m.now named.now.numbers.items one other parents.new.items }
 {
     if !is_so(named.equal(one, other)) {
         return;
@@ -108,11 +108,11 @@ fn join_pair(named: &Named<'_, '_>, parents: &mut Vec<usize>, one: usize, other:
 /// The same of one item and each other.
 #[tactic(auto, using(crate::proofs::JoinLaws::row_start, crate::proofs::JoinLaws::row_next, crate::proofs::JoinLaws::row_end, crate::proofs::ClassLaws::coarser_itself, crate::proofs::ClassLaws::coarser_through))]
 fn join_row(named: &Named<'_, '_>, parents: &mut Vec<usize>, one: usize)
-    requires sized { length parents.old.items ≡ length named.problem.now.nodes }
+    requires sized { length parents.old.items ≡ length named.now.problem.now.nodes }
     requires parents { AreParents parents.old.items }
     ensures coarser { IsCoarser parents.old.items parents.new.items }
-    ensures joined { IsRowJoined named.problem.now named.m.now named.numbers.items one
-        (few_items (length named.numbers.items)) parents.new.items }
+    ensures joined { IsRowJoined named.now.problem.now named.now.m.now named.now.numbers.items one
+        (few_items (length named.now.numbers.items)) parents.new.items }
 {
     for other in 0..named.len() {
         join_pair(named, parents, one, other);
@@ -122,10 +122,10 @@ fn join_row(named: &Named<'_, '_>, parents: &mut Vec<usize>, one: usize)
 /// The same of an item, if that is an entity with others beside it.
 #[tactic(auto, using(crate::proofs::JoinLaws::item_none, crate::proofs::JoinLaws::item_plain, crate::proofs::JoinLaws::item_joined, crate::proofs::ClassLaws::coarser_itself))]
 fn join_choices(named: &Named<'_, '_>, parents: &mut Vec<usize>, one: usize)
-    requires sized { length parents.old.items ≡ length named.problem.now.nodes }
+    requires sized { length parents.old.items ≡ length named.now.problem.now.nodes }
     requires parents { AreParents parents.old.items }
     ensures coarser { IsCoarser parents.old.items parents.new.items }
-    ensures joined { IsItemJoined named.problem.now named.m.now named.numbers.items one parents.new.items }
+    ensures joined { IsItemJoined named.now.problem.now named.now.m.now named.now.numbers.items one parents.new.items }
 {
     let Some(a) = named.term(one) else {
         return;
@@ -139,11 +139,11 @@ fn join_choices(named: &Named<'_, '_>, parents: &mut Vec<usize>, one: usize)
 /// The same of all items.
 #[tactic(auto, using(crate::proofs::JoinLaws::rows_start, crate::proofs::JoinLaws::rows_next, crate::proofs::JoinLaws::rows_end, crate::proofs::ClassLaws::coarser_itself, crate::proofs::ClassLaws::coarser_through))]
 fn join_rows(named: &Named<'_, '_>, parents: &mut Vec<usize>)
-    requires sized { length parents.old.items ≡ length named.problem.now.nodes }
+    requires sized { length parents.old.items ≡ length named.now.problem.now.nodes }
     requires parents { AreParents parents.old.items }
     ensures coarser { IsCoarser parents.old.items parents.new.items }
-    ensures joined { AreRowsJoined named.problem.now named.m.now named.numbers.items
-        (few_items (length named.numbers.items)) parents.new.items }
+    ensures joined { AreRowsJoined named.now.problem.now named.now.m.now named.now.numbers.items
+        (few_items (length named.now.numbers.items)) parents.new.items }
 {
     for one in 0..named.len() {
         join_choices(named, parents, one);
@@ -153,8 +153,8 @@ fn join_rows(named: &Named<'_, '_>, parents: &mut Vec<usize>)
 /// The label of an item's term.
 #[tactic(auto, using(crate::proofs::JoinLaws::label_none, crate::proofs::JoinLaws::label_some))]
 fn label_at(named: &Named<'_, '_>, labels: &[usize], item: usize) -> usize
-    requires { length labels.now ≡ length named.problem.now.nodes }
-    ensures { IsLabelAt named.problem.now named.numbers.items labels.now item result }
+    requires { length labels.now ≡ length named.now.problem.now.nodes }
+    ensures { IsLabelAt named.now.problem.now named.now.numbers.items labels.now item result }
 {
     match named.term(item) {
         Some(term) => labels[term as usize],
@@ -169,9 +169,9 @@ fn labels_at(
     named: &Named<'_, '_>,
     labels: &[usize],
 ) -> Result<Vec<usize>, AllocError>
-    requires { length labels.now ≡ length named.problem.now.nodes }
-    ensures { IfOk result (λ v. AreFirstLabels named.problem.now named.numbers.items labels.now
-        (few_items (length named.numbers.items)) v.items) }
+    requires { length labels.now ≡ length named.now.problem.now.nodes }
+    ensures { IfOk result (λ v. AreFirstLabels named.now.problem.now named.now.numbers.items labels.now
+        (few_items (length named.now.numbers.items)) v.items) }
 {
     let mut found = Vec::new(alloc);
     for item in 0..named.len() {
@@ -182,14 +182,16 @@ fn labels_at(
 
 /// A label for each item, equal where items are known to be equal.
 pub(crate) fn item_labels(alloc: Global, named: &Named<'_, '_>) -> Result<Vec<usize>, AllocError>
-    requires { AreNamed named.problem.now named.numbers.items }
-    ensures { IfOk result (λ v. AreLabels (truth_of named.problem.now named.m.now named.numbers.items)
-        (few_items (length named.numbers.items)) v.items) }
+    requires { AreNamed named.now.problem.now named.now.numbers.items }
+    ensures { IfOk result (λ v. AreLabels (truth_of named.now.problem.now named.now.m.now named.now.numbers.items)
+        (few_items (length named.now.numbers.items)) v.items) }
 {
     named.problem.laws();
+    named.problem.terms().laws();
     let mut parents = alone(alloc, named.problem.terms().len() as usize)?;
     join_atoms(named.problem, named.m, &mut parents);
     join_rows(named, &mut parents);
     let labels = labels(alloc, parents.as_slice())?;
-    labels_at(alloc, named, labels.as_slice())
+    let found = labels_at(alloc, named, labels.as_slice())?;
+    Ok(found)
 }

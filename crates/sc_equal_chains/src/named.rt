@@ -20,8 +20,8 @@ pub(crate) struct Named<'a, 'b> {
 impl<'a, 'b> Named<'a, 'b> {
     /// The term of an item, by its number in the table.
     pub(crate) fn term(&self, item: usize) -> Option<u64>
-        ensures value { result ≡ named_at self.problem.now self.numbers.items item }
-        ensures within { IfSome result (λ n. n < length self.problem.now.nodes) }
+        ensures value { result ≡ named_at self.now.problem.now self.now.numbers.items item }
+        ensures within { IfSome result (λ n. n < length self.now.problem.now.nodes) }
     {
         self.problem.term(*self.numbers.get(item)?)
     }

@@ -1,6 +1,6 @@
 -- Where nothing about the items is open: one item for each class of those that have some signs is the most that can be apart, and
 -- where no item's own signs make a crowd there is none, whatever is asked.
-use Rattle.std.proofs.Common.{◌≡◌, ℕ, zero, suc, ◌<◌, ◌≤◌, ◌+◌, ◌-◌, ◌==◌, ◌&&◌, ◌||◌, Bool, true, false, List, [], ◌∷◌, ◌++◌, length, get_or, set, Option, Some, None, ◌⊎◌, ⊎_elim, refl, sym, ◌∙◌, ap, subst, arith, length-append, length-set, get_or-set_same, get_or-set_other, eq-eqb}
+use Rattle.std.proofs.Common.{◌≡◌, ℕ, zero, suc, ◌<◌, ◌≤◌, ◌+◌, ◌-◌, ◌==◌, ◌&&◌, ◌||◌, Bool, true, false, List, [], ◌∷◌, ◌++◌, length, get_or, set, Option, Some, None, ⊎_elim, refl, sym, ◌∙◌, ap, subst, arith, length-append, length-set, get_or-set_same, get_or-set_other, eq-eqb}
 use Rattle.std.proofs.lemmas.Bool.{cases_Bool, cases_lt, cases_eq, eqb-true, and_parts, or_cases, or_left, or_right}
 use Rattle.std.proofs.lemmas.List.Elements.{All-cons, All-push, All-nil, All-weaker}
 use Rattle.std.proofs.lemmas.List.Quantifiers.{all_pairs_push}
@@ -10,7 +10,6 @@ use Rattle.sc_violated.specs.Truths.{Truth}
 use Rattle.sc_violated.specs.Crowds.{Signs, Few, IsWithin, Fits, IsCrowd, NoneCrowded, IsRow, one_if, count_from, IsFurther, NoneAfter}
 use Rattle.sc_violated.specs.Settled.{IsSettled, AreApart, HasMost, IsPicked, IsRowFree, AreRowsFree}
 use Rattle.sc_laws.proofs.NumberLaws.{last_or_before}
-use Rattle.sc_violated.proofs.NumberLaws.{apart}
 use Rattle.sc_violated.proofs.CountLaws.{count_more, is_in, all_in}
 use Rattle.sc_violated.proofs.CrowdLaws.{fits_less, row_most, asked_place, none_crowded}
 
