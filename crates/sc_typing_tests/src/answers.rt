@@ -124,7 +124,7 @@ pub(crate) fn typed(alloc: Global, body: &str) -> Option<(Answer, Skipped)> {
 }
 
 /// What typing answers of a policy with this body. None where memory is wanting.
-pub(crate) fn answer(alloc: Global, body: &str) -> Option<Answer> {
+pub(crate) fn answer_for(alloc: Global, body: &str) -> Option<Answer> {
     match typed(alloc, body) {
         Some((answer, _)) => Some(answer),
         None => None,

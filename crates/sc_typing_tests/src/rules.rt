@@ -2,7 +2,7 @@
 //! rule it breaks at which byte, and what of it is skipped.
 use crate::answers::Answer::{self, Always, Breaks, Either};
 use crate::answers::Skipped::{self, Names, Nothing, Operand};
-use crate::answers::{answer, typed};
+use crate::answers::{answer_for, typed};
 use sc_typing::TypeRule;
 use std::alloc::Global;
 
@@ -403,7 +403,7 @@ fn breaks(answer: Answer, rule: TypeRule) -> bool {
 
 /// Whether typing answers of a short body what it answers of the longer one.
 fn is_short(alloc: Global, short: &str, long: &str) -> bool {
-    match (answer(alloc, short), answer(alloc, long)) {
+    match (answer_for(alloc, short), answer_for(alloc, long)) {
         (Some(first), Some(second)) => is_alike(first, second),
         _ => false,
     }

@@ -1,6 +1,6 @@
 //! The types of bodies where a user views a document, and the first rules that they break.
 use crate::answers::Answer::{self, Always, Breaks, Either};
-use crate::answers::answer;
+use crate::answers::answer_for;
 use crate::samples::at;
 use sc_typing::{TypeFault, TypeRule};
 use std::test::Fail;
@@ -115,35 +115,35 @@ const OPERANDS: &[(&str, Answer)] = &[
 #[test]
 fn truth_values(rt: HostRuntime) {
     for &(body, expected) in LOGIC {
-        assert!(rt; answer(rt.alloc(), body) == Some(expected), "{body}");
+        assert!(rt; answer_for(rt.alloc(), body) == Some(expected), "{body}");
     }
 }
 
 #[test]
 fn sets_and_records(rt: HostRuntime) {
     for &(body, expected) in JOINED {
-        assert!(rt; answer(rt.alloc(), body) == Some(expected), "{body}");
+        assert!(rt; answer_for(rt.alloc(), body) == Some(expected), "{body}");
     }
 }
 
 #[test]
 fn entities_and_actions(rt: HostRuntime) {
     for &(body, expected) in ENTITIES {
-        assert!(rt; answer(rt.alloc(), body) == Some(expected), "{body}");
+        assert!(rt; answer_for(rt.alloc(), body) == Some(expected), "{body}");
     }
 }
 
 #[test]
 fn what_is_known(rt: HostRuntime) {
     for &(body, expected) in KNOWN {
-        assert!(rt; answer(rt.alloc(), body) == Some(expected), "{body}");
+        assert!(rt; answer_for(rt.alloc(), body) == Some(expected), "{body}");
     }
 }
 
 #[test]
 fn operands(rt: HostRuntime) {
     for &(body, expected) in OPERANDS {
-        assert!(rt; answer(rt.alloc(), body) == Some(expected), "{body}");
+        assert!(rt; answer_for(rt.alloc(), body) == Some(expected), "{body}");
     }
 }
 
