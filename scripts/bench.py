@@ -175,8 +175,8 @@ def products(size):
     return Question(schema({"n": LONG}), permits([tests]), "always-denies", None, script(constants(["n"], "(_ BitVec 64)"), f"(assert (and {value} (not {errs})))\n"))
 
 
-FAMILIES = [(refactoring, (30, 60, 120, 240)), (pigeons, (4, 5, 6, 7)), (random_clauses, (40, 60, 80, 100, 120)), (environments, (1, 10, 100, 1000)), (entities, (10, 20, 40, 80)),
-            (groups, (5, 10, 20, 40)), (sets, (5, 10, 20, 40)), (strings, (10, 20, 40, 80)), (patterns, (2, 4, 8)), (conditions, (5, 10, 20, 40)), (products, (1, 2, 5, 10))]
+FAMILIES = [(refactoring, (60, 120, 240, 480)), (pigeons, (5, 6, 7, 8)), (random_clauses, (60, 80, 100, 120, 140)), (environments, (1, 10, 100, 1000)), (entities, (40, 80, 160, 320)),
+            (groups, (10, 20, 40, 60)), (sets, (10, 20, 40, 80)), (strings, (40, 80, 160, 320)), (patterns, (4, 8, 16)), (conditions, (20, 40, 80, 160)), (products, (1, 2, 5, 10))]
 
 
 def timed(words):
