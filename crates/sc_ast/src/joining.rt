@@ -19,7 +19,7 @@ use std::alloc::{AllocError, Global};
 pub fn condition(alloc: Global, policy: &Policy) -> Result<Expr, AllocError>
     ensures { IfOk result (λ e. e ≡ condition policy.now) }
 {
-    let start = Expr::Literal(policy.place, Literal::Bool(true));
+    let start = Boxed::new(alloc, Expr::Literal(policy.place, Literal::Bool(true)))?;
     let asked = with_scope(alloc, start, Variable::Principal, &policy.principal)?;
     let asked = with_action(alloc, asked, &policy.action)?;
     let asked = with_scope(alloc, asked, Variable::Resource, &policy.resource)?;
@@ -27,19 +27,24 @@ pub fn condition(alloc: Global, policy: &Policy) -> Result<Expr, AllocError>
 }
 
 /// What is asked so far, and then one thing more.
-fn join(alloc: Global, asked: Expr, place: Place, more: Expr) -> Result<Expr, AllocError>
+fn join(
+    alloc: Global,
+    asked: Boxed<Expr>,
+    place: Place,
+    more: Boxed<Expr>,
+) -> Result<Boxed<Expr>, AllocError>
     ensures { IfOk result (λ e. e ≡ joined asked (place, more)) }
 {
-    Ok(Expr::And(place, Boxed::new(alloc, asked)?, Boxed::new(alloc, more)?))
+    Boxed::new(alloc, Expr::And(place, asked, more))
 }
 
 /// What is asked so far, and then what a scope asks of a variable.
 fn with_scope(
     alloc: Global,
-    asked: Expr,
+    asked: Boxed<Expr>,
     variable: Variable,
     scope: &Scope,
-) -> Result<Expr, AllocError>
+) -> Result<Boxed<Expr>, AllocError>
     ensures { IfOk result (λ e. e ≡ fold joined asked (scope_part variable scope.now)) }
 {
     match asked_of(alloc, variable, scope)? {
@@ -49,7 +54,11 @@ fn with_scope(
 }
 
 /// What is asked so far, and then what a scope asks of the action.
-fn with_action(alloc: Global, asked: Expr, scope: &ActionScope) -> Result<Expr, AllocError>
+fn with_action(
+    alloc: Global,
+    asked: Boxed<Expr>,
+    scope: &ActionScope,
+) -> Result<Boxed<Expr>, AllocError>
     ensures { IfOk result (λ e. e ≡ fold joined asked (action_part scope.now)) }
 {
     match asked_of_action(alloc, scope)? {
@@ -59,7 +68,11 @@ fn with_action(alloc: Global, asked: Expr, scope: &ActionScope) -> Result<Expr, 
 }
 
 /// What a scope asks of a variable, or none where it is bare.
-fn asked_of(alloc: Global, variable: Variable, scope: &Scope) -> Result<Option<Expr>, AllocError>
+fn asked_of(
+    alloc: Global,
+    variable: Variable,
+    scope: &Scope,
+) -> Result<Option<Boxed<Expr>>, AllocError>
     ensures { IfOk result (λ o. Asks o (asked (Expr.Variable scope.now.place variable) scope.now.constraint)) }
 {
     let x = Subject {
@@ -80,7 +93,7 @@ fn asked_of(alloc: Global, variable: Variable, scope: &Scope) -> Result<Option<E
 }
 
 /// What a scope asks of the action, or none where it is bare.
-fn asked_of_action(alloc: Global, scope: &ActionScope) -> Result<Option<Expr>, AllocError>
+fn asked_of_action(alloc: Global, scope: &ActionScope) -> Result<Option<Boxed<Expr>>, AllocError>
     ensures { IfOk result (λ o. Asks o (asked_of_action
         (Expr.Variable scope.now.place Variable.Action) scope.now.constraint)) }
 {
@@ -137,18 +150,21 @@ fn compared(
     place: Place,
     operator: BinaryOperator,
     l: &EntityLiteral,
-) -> Result<Expr, AllocError>
+) -> Result<Boxed<Expr>, AllocError>
     ensures { IfOk result (λ e. e ≡ Expr.Binary place operator (Expr.Variable x.place x.variable) (entity l.now)) }
 {
-    let other = boxed_entity(alloc, l)?;
-    Ok(Expr::Binary(place, operator, boxed(alloc, x)?, other))
+    let left = boxed(alloc, x)?;
+    let right = boxed_entity(alloc, l)?;
+    Boxed::new(alloc, Expr::Binary(place, operator, left, right))
 }
 
 /// `x is T`.
-fn typed(alloc: Global, x: Subject, place: Place, t: &TypeName) -> Result<Expr, AllocError>
+fn typed(alloc: Global, x: Subject, place: Place, t: &TypeName) -> Result<Boxed<Expr>, AllocError>
     ensures { IfOk result (λ e. e ≡ Expr.Is place (Expr.Variable x.place x.variable) t.now) }
 {
-    Ok(Expr::Is(place, boxed(alloc, x)?, t.try_clone(alloc)?))
+    let left = boxed(alloc, x)?;
+    let name = t.try_clone(alloc)?;
+    Boxed::new(alloc, Expr::Is(place, left, name))
 }
 
 /// `x is T in E`.
@@ -159,12 +175,13 @@ fn typed_in(
     t: &TypeName,
     in_place: Place,
     l: &EntityLiteral,
-) -> Result<Expr, AllocError>
+) -> Result<Boxed<Expr>, AllocError>
     ensures { IfOk result (λ e. e ≡ Expr.IsIn place (Expr.Variable x.place x.variable) t.now in_place (entity l.now)) }
 {
     let left = boxed(alloc, x)?;
     let right = boxed_entity(alloc, l)?;
-    Ok(Expr::IsIn(place, left, t.try_clone(alloc)?, in_place, right))
+    let name = t.try_clone(alloc)?;
+    Boxed::new(alloc, Expr::IsIn(place, left, name, in_place, right))
 }
 
 /// `x in [E, F]`, or `false` for `x in []`.
@@ -174,15 +191,22 @@ fn among(
     place: Place,
     bracket: Place,
     ls: &Seq<EntityLiteral>,
-) -> Result<Expr, AllocError>
+) -> Result<Boxed<Expr>, AllocError>
     ensures { IfOk result (λ e. e ≡ is_in_any (Expr.Variable x.place x.variable) place bracket ls.now) }
 {
     if ls.is_empty() {
-        return Ok(Expr::Literal(place, Literal::Bool(false)));
+        return Boxed::new(alloc, Expr::Literal(place, Literal::Bool(false)));
     }
-    let others = Expr::Set(bracket, entities(alloc, ls.as_slice())?);
-    let others = Boxed::new(alloc, others)?;
-    Ok(Expr::Binary(place, BinaryOperator::In, boxed(alloc, x)?, others))
+    let left = boxed(alloc, x)?;
+    let right = boxed_set(alloc, bracket, ls.as_slice())?;
+    Boxed::new(alloc, Expr::Binary(place, BinaryOperator::In, left, right))
+}
+
+/// Entities as the set that they are in brackets.
+fn boxed_set(alloc: Global, bracket: Place, ls: &[EntityLiteral]) -> Result<Boxed<Expr>, AllocError>
+    ensures { IfOk result (λ e. e ≡ Expr.Set bracket (map entity ls.now)) }
+{
+    Boxed::new(alloc, Expr::Set(bracket, entities(alloc, ls)?))
 }
 
 /// Entities as expressions.
@@ -197,27 +221,29 @@ fn entities(alloc: Global, ls: &[EntityLiteral]) -> Result<Seq<Expr>, AllocError
 }
 
 /// What is asked so far, and then what each clause asks.
-fn with_clauses(alloc: Global, mut asked: Expr, clauses: &[Condition]) -> Result<Expr, AllocError>
+fn with_clauses(
+    alloc: Global,
+    mut asked: Boxed<Expr>,
+    clauses: &[Condition],
+) -> Result<Expr, AllocError>
     ensures { IfOk result (λ e. e ≡ fold joined asked (map clause clauses.now)) }
 {
     for clause in clauses {
         let more = required(alloc, clause)?;
         asked = join(alloc, asked, clause.place, more)?;
     }
-    Ok(asked)
+    Ok(asked.into_inner())
 }
 
 /// What a clause asks.
-fn required(alloc: Global, clause: &Condition) -> Result<Expr, AllocError>
+fn required(alloc: Global, clause: &Condition) -> Result<Boxed<Expr>, AllocError>
     ensures { IfOk result (λ e. e ≡ required clause.now.kind clause.now.place clause.now.body) }
 {
-    let body = try_clone(alloc, &clause.body)?;
+    let body = Boxed::new(alloc, try_clone(alloc, &clause.body)?)?;
     match clause.kind {
         ConditionKind::When => Ok(body),
-        ConditionKind::Unless => Ok(Expr::Unary(
-            clause.place,
-            UnaryOperator::Not,
-            Boxed::new(alloc, body)?,
-        )),
+        ConditionKind::Unless => {
+            Boxed::new(alloc, Expr::Unary(clause.place, UnaryOperator::Not, body))
+        }
     }
 }
