@@ -6,7 +6,7 @@ ghost use Rattle.sc_schema.specs.declared.ty.Ty.{Ty as AnyTy};
 ghost use Rattle.sc_typed.specs.Outcomes.{made};
 ghost use Rattle.sc_typing_rules.specs.Rules.{all_joined, member_type, set_of, with_field, record_type};
 
-use crate::logic::joined_type;
+use crate::logic::joined_with;
 use sc_ast::Place;
 use sc_lists::{Boxed, Fault, Seq, Shared, Text};
 use sc_schema::{Presence, Ty};
@@ -53,8 +53,7 @@ fn all_joined(
     ensures { Gives result (all_joined place ty members.now) }
 {
     for member in members {
-        let other = Boxed::new(alloc, copy_of_ty(alloc, member)?)?;
-        ty = Boxed::new(alloc, joined_type(alloc, place, ty.get(), other.get())?)?;
+        ty = Boxed::new(alloc, joined_with(alloc, place, ty.get(), member)?)?;
     }
     Ok(ty.into_inner())
 }

@@ -11,7 +11,7 @@ use sc_schema::Ty;
 use sc_typed::capability::{common, joined};
 use sc_typed::operands::{boolean, copy_of_ty, is_false, is_true};
 use sc_typed::types::join;
-use sc_typed::{Capability, TypeFault, TypeRule, Typed, TypedExpr};
+use sc_typed::{Capability, TypeFault, TypeRule, Typed, TypedExpr, type_of};
 use std::alloc::{AllocError, Global};
 
 /// An expression that is skipped.
@@ -93,12 +93,9 @@ pub fn branches(
     ensures { Gives result (branches place c a b) }
 {
     boolean(c.expr.get())?;
-    let ty = Boxed::new(
-        alloc,
-        branches_type(alloc, place, a.expr.get(), b.expr.get())?,
-    )?;
     let given = common(alloc, joined(c.given, a.given)?, b.given.as_slice())?;
-    let expr = TypedExpr::If(place, ty.into_inner(), c.expr, a.expr, b.expr);
+    let ty = branches_type(alloc, place, a.expr.get(), b.expr.get())?;
+    let expr = TypedExpr::If(place, ty, c.expr, a.expr, b.expr);
     let expr = Boxed::new(alloc, expr)?;
     Ok(Typed { expr, given })
 }
@@ -112,9 +109,31 @@ pub fn branches_type(
 ) -> Result<Ty, Fault<TypeFault>>
     ensures { Gives result (joined place (ty a.now) (ty b.now)) }
 {
-    let first = Boxed::new(alloc, copy_of_ty(alloc, a)?)?;
-    let second = Boxed::new(alloc, copy_of_ty(alloc, b)?)?;
-    joined_type(alloc, place, first.get(), second.get())
+    match type_of(a) {
+        Some(first) => joined_with(alloc, place, first, b),
+        None => {
+            let first = Ty::Bool;
+            joined_with(alloc, place, &first, b)
+        }
+    }
+}
+
+/// The type that a type and that of an expression join to; where they don't, a fault at a place.
+pub(crate) fn joined_with(
+    alloc: Global,
+    place: Place,
+    first: &Ty,
+    b: &TypedExpr,
+) -> Result<Ty, Fault<TypeFault>>
+    ensures { Gives result (joined place first.now (ty b.now)) }
+{
+    match type_of(b) {
+        Some(second) => joined_type(alloc, place, first, second),
+        None => {
+            let second = Ty::Bool;
+            joined_type(alloc, place, first, &second)
+        }
+    }
 }
 
 /// `a || b` where a isn't always true.
@@ -128,7 +147,13 @@ pub fn disjunction(
 {
     boolean(a.expr.get())?;
     boolean(b.expr.get())?;
-    let ty = Boxed::new(alloc, or_type(alloc, a.expr.get(), b.expr.get())?)?;
+    Ok(either(alloc, place, a, b)?)
+}
+
+/// `a || b` of two truth values.
+fn either(alloc: Global, place: Place, a: Typed, b: Typed) -> Result<Typed, AllocError>
+    ensures { IfOk result (λ x. x ≡ made (TypedExpr.Or place (or_type a.expr b.expr) a.expr b.expr) (or_given a b)) }
+{
     let Typed {
         expr: a,
         given: first,
@@ -138,7 +163,8 @@ pub fn disjunction(
         given: second,
     } = b;
     let given = or_given(alloc, a.get(), b.get(), first, second)?;
-    let expr = Boxed::new(alloc, TypedExpr::Or(place, ty.into_inner(), a, b))?;
+    let ty = or_type(alloc, a.get(), b.get())?;
+    let expr = Boxed::new(alloc, TypedExpr::Or(place, ty, a, b))?;
     Ok(Typed { expr, given })
 }
 
@@ -187,7 +213,13 @@ pub fn conjunction(
 {
     boolean(a.expr.get())?;
     boolean(b.expr.get())?;
-    let ty = Boxed::new(alloc, and_type(alloc, a.expr.get(), b.expr.get())?)?;
+    Ok(both(alloc, place, a, b)?)
+}
+
+/// `a && b` of two truth values.
+fn both(alloc: Global, place: Place, a: Typed, b: Typed) -> Result<Typed, AllocError>
+    ensures { IfOk result (λ x. x ≡ made (TypedExpr.And place (and_type a.expr b.expr) a.expr b.expr) (and_given a b)) }
+{
     let Typed {
         expr: a,
         given: first,
@@ -197,7 +229,8 @@ pub fn conjunction(
         given: second,
     } = b;
     let given = and_given(alloc, b.get(), first, second)?;
-    let expr = Boxed::new(alloc, TypedExpr::And(place, ty.into_inner(), a, b))?;
+    let ty = and_type(alloc, a.get(), b.get())?;
+    let expr = Boxed::new(alloc, TypedExpr::And(place, ty, a, b))?;
     Ok(Typed { expr, given })
 }
 

@@ -14,7 +14,7 @@ ghost use Rattle.sc_typed.specs.Literals.{literal_of};
 ghost use Rattle.sc_typed.specs.Types.{join};
 ghost use Rattle.sc_typing_rules.specs.Operators.{longs, decimals, addresses, address, contained, sets, are_entities, compared, equal_by, may_be_in, within, tags, tag_test, tag_read, binary, given_tag, given_by, opposite, negated, negative, emptiness, reads, read_as, unary};
 
-use crate::logic::joined_type;
+use crate::logic::{joined_type, joined_with};
 use crate::setting::Setting;
 use sc_ast::{BinaryOperator, Expr, Place, UnaryOperator};
 use sc_decimal::read_decimal;
@@ -197,8 +197,7 @@ fn contained(
     ensures { Gives result (contained place x.now y.now) }
 {
     let member = set(x)?;
-    let other = Boxed::new(alloc, copy_of_ty(alloc, y)?)?;
-    let _both = Boxed::new(alloc, joined_type(alloc, place, member, other.get())?)?;
+    let _both = Boxed::new(alloc, joined_with(alloc, place, member, y)?)?;
     Ok(Ty::Bool)
 }
 
