@@ -5,6 +5,7 @@ use crate::expr::{Expr, TypeName};
 use crate::operator::BinaryOperator;
 use crate::place::Place;
 use sc_lists::{Boxed, Seq, Text};
+use sc_pattern::Pattern;
 use std::alloc::{AllocError, Global};
 
 /// A copy, which equals the expression.
@@ -14,31 +15,15 @@ pub fn try_clone(alloc: Global, expr: &Expr) -> Result<Expr, AllocError>
 {
     match expr {
         Expr::If(place, c, a, b) => clone_choice(alloc, *place, c, a, b),
-        Expr::Or(place, a, b) => Ok(Expr::Or(*place, boxed(alloc, a)?, boxed(alloc, b)?)),
-        Expr::And(place, a, b) => Ok(Expr::And(*place, boxed(alloc, a)?, boxed(alloc, b)?)),
+        Expr::Or(place, a, b) => clone_or(alloc, *place, a, b),
+        Expr::And(place, a, b) => clone_and(alloc, *place, a, b),
         Expr::Binary(place, operator, a, b) => clone_binary(alloc, *place, *operator, a, b),
-        Expr::Has(place, a, names) => Ok(Expr::Has(
-            *place,
-            boxed(alloc, a)?,
-            clone_names(alloc, names)?,
-        )),
-        Expr::Like(place, a, pattern) => Ok(Expr::Like(
-            *place,
-            boxed(alloc, a)?,
-            pattern.try_clone(alloc)?,
-        )),
-        Expr::Is(place, a, type_name) => Ok(Expr::Is(
-            *place,
-            boxed(alloc, a)?,
-            type_name.try_clone(alloc)?,
-        )),
+        Expr::Has(place, a, names) => clone_has(alloc, *place, a, names),
+        Expr::Like(place, a, pattern) => clone_like(alloc, *place, a, pattern),
+        Expr::Is(place, a, type_name) => clone_is(alloc, *place, a, type_name),
         Expr::IsIn(place, a, t, in_place, b) => clone_is_in(alloc, *place, a, t, *in_place, b),
         Expr::Unary(place, operator, a) => Ok(Expr::Unary(*place, *operator, boxed(alloc, a)?)),
-        Expr::Access(place, a, name) => Ok(Expr::Access(
-            *place,
-            boxed(alloc, a)?,
-            name.try_clone(alloc)?,
-        )),
+        Expr::Access(place, a, name) => clone_access(alloc, *place, a, name),
         Expr::Literal(place, literal) => Ok(Expr::Literal(*place, literal.try_clone(alloc)?)),
         Expr::Variable(place, variable) => Ok(Expr::Variable(*place, *variable)),
         Expr::Set(place, members) => Ok(Expr::Set(*place, clone_all(alloc, members)?)),
@@ -68,6 +53,32 @@ fn clone_choice(
     Ok(Expr::If(place, boxed(alloc, c)?, boxed(alloc, a)?, boxed(alloc, b)?))
 }
 
+/// A copy of `a || b`.
+#[cycle(copy)]
+fn clone_or(
+    alloc: Global,
+    place: Place,
+    a: &Boxed<Expr>,
+    b: &Boxed<Expr>,
+) -> Result<Expr, AllocError>
+    ensures { IfOk result (λ copy. copy ≡ Expr.Or place a.now b.now) }
+{
+    Ok(Expr::Or(place, boxed(alloc, a)?, boxed(alloc, b)?))
+}
+
+/// A copy of `a && b`.
+#[cycle(copy)]
+fn clone_and(
+    alloc: Global,
+    place: Place,
+    a: &Boxed<Expr>,
+    b: &Boxed<Expr>,
+) -> Result<Expr, AllocError>
+    ensures { IfOk result (λ copy. copy ≡ Expr.And place a.now b.now) }
+{
+    Ok(Expr::And(place, boxed(alloc, a)?, boxed(alloc, b)?))
+}
+
 /// A copy of an operator with two operands.
 #[cycle(copy)]
 fn clone_binary(
@@ -80,6 +91,45 @@ fn clone_binary(
     ensures { IfOk result (λ copy. copy ≡ Expr.Binary place operator a.now b.now) }
 {
     Ok(Expr::Binary(place, operator, boxed(alloc, a)?, boxed(alloc, b)?))
+}
+
+/// A copy of `a has b.c.d`.
+#[cycle(copy)]
+fn clone_has(
+    alloc: Global,
+    place: Place,
+    a: &Boxed<Expr>,
+    names: &Seq<Text>,
+) -> Result<Expr, AllocError>
+    ensures { IfOk result (λ copy. copy ≡ Expr.Has place a.now names.now) }
+{
+    Ok(Expr::Has(place, boxed(alloc, a)?, clone_names(alloc, names)?))
+}
+
+/// A copy of `a like "pattern"`.
+#[cycle(copy)]
+fn clone_like(
+    alloc: Global,
+    place: Place,
+    a: &Boxed<Expr>,
+    pattern: &Pattern,
+) -> Result<Expr, AllocError>
+    ensures { IfOk result (λ copy. copy ≡ Expr.Like place a.now pattern.now) }
+{
+    Ok(Expr::Like(place, boxed(alloc, a)?, pattern.try_clone(alloc)?))
+}
+
+/// A copy of `a is T`.
+#[cycle(copy)]
+fn clone_is(
+    alloc: Global,
+    place: Place,
+    a: &Boxed<Expr>,
+    type_name: &TypeName,
+) -> Result<Expr, AllocError>
+    ensures { IfOk result (λ copy. copy ≡ Expr.Is place a.now type_name.now) }
+{
+    Ok(Expr::Is(place, boxed(alloc, a)?, type_name.try_clone(alloc)?))
 }
 
 /// A copy of `a is T in b`.
@@ -101,6 +151,19 @@ fn clone_is_in(
         in_place,
         boxed(alloc, b)?,
     ))
+}
+
+/// A copy of `a.name`.
+#[cycle(copy)]
+fn clone_access(
+    alloc: Global,
+    place: Place,
+    a: &Boxed<Expr>,
+    name: &Text,
+) -> Result<Expr, AllocError>
+    ensures { IfOk result (λ copy. copy ≡ Expr.Access place a.now name.now) }
+{
+    Ok(Expr::Access(place, boxed(alloc, a)?, name.try_clone(alloc)?))
 }
 
 #[cycle(copy)]

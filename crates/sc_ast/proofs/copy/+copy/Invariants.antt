@@ -17,6 +17,24 @@ decreases-clone_binary l = 3 * max (size-Expr l.a.now) (size-Expr l.b.now) + 2
 abbrev pub decreases-clone_is_in : goal.decreases-clone_is_in
 decreases-clone_is_in l = 3 * max (size-Expr l.a.now) (size-Expr l.b.now) + 2
 
+abbrev pub decreases-clone_or : goal.decreases-clone_or
+decreases-clone_or l = 3 * max (size-Expr l.a.now) (size-Expr l.b.now) + 2
+
+abbrev pub decreases-clone_and : goal.decreases-clone_and
+decreases-clone_and l = 3 * max (size-Expr l.a.now) (size-Expr l.b.now) + 2
+
+abbrev pub decreases-clone_has : goal.decreases-clone_has
+decreases-clone_has l = 3 * size-Expr l.a.now + 2
+
+abbrev pub decreases-clone_like : goal.decreases-clone_like
+decreases-clone_like l = 3 * size-Expr l.a.now + 2
+
+abbrev pub decreases-clone_is : goal.decreases-clone_is
+decreases-clone_is l = 3 * size-Expr l.a.now + 2
+
+abbrev pub decreases-clone_access : goal.decreases-clone_access
+decreases-clone_access l = 3 * size-Expr l.a.now + 2
+
 abbrev pub decreases-clone_all : goal.decreases-clone_all
 decreases-clone_all l = 3 * goal.size-clone_all l + 1
 
