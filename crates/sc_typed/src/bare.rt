@@ -5,6 +5,7 @@ ghost use Rattle.sc_typed.specs.Capabilities.{nowhere, bare, bare_name};
 
 use sc_ast::{BinaryOperator, Expr, Place, TypeName};
 use sc_lists::{Boxed, Seq, Text};
+use sc_pattern::Pattern;
 use std::alloc::{AllocError, Global};
 
 /// The place in every expression without places.
@@ -18,33 +19,17 @@ pub fn bare(alloc: Global, expr: &Expr) -> Result<Expr, AllocError>
 {
     match expr {
         Expr::If(_, c, a, b) => bare_choice(alloc, c, a, b),
-        Expr::Or(_, a, b) => Ok(Expr::Or(NOWHERE, bare_boxed(alloc, a)?, bare_boxed(alloc, b)?)),
-        Expr::And(_, a, b) => Ok(Expr::And(NOWHERE, bare_boxed(alloc, a)?, bare_boxed(alloc, b)?)),
+        Expr::Or(_, a, b) => bare_or(alloc, a, b),
+        Expr::And(_, a, b) => bare_and(alloc, a, b),
         Expr::Binary(_, operator, a, b) => bare_binary(alloc, *operator, a, b),
-        Expr::Has(_, a, names) => Ok(Expr::Has(
-            NOWHERE,
-            bare_boxed(alloc, a)?,
-            copy_of_names(alloc, names.as_slice())?,
-        )),
-        Expr::Like(_, a, pattern) => Ok(Expr::Like(
-            NOWHERE,
-            bare_boxed(alloc, a)?,
-            pattern.try_clone(alloc)?,
-        )),
-        Expr::Is(_, a, type_name) => Ok(Expr::Is(
-            NOWHERE,
-            bare_boxed(alloc, a)?,
-            bare_name(alloc, type_name)?,
-        )),
+        Expr::Has(_, a, names) => bare_has(alloc, a, names),
+        Expr::Like(_, a, pattern) => bare_like(alloc, a, pattern),
+        Expr::Is(_, a, type_name) => bare_is(alloc, a, type_name),
         Expr::IsIn(_, a, type_name, _, b) => bare_is_in(alloc, a, type_name, b),
         Expr::Unary(_, operator, a) => {
             Ok(Expr::Unary(NOWHERE, *operator, bare_boxed(alloc, a)?))
         }
-        Expr::Access(_, a, name) => Ok(Expr::Access(
-            NOWHERE,
-            bare_boxed(alloc, a)?,
-            name.try_clone(alloc)?,
-        )),
+        Expr::Access(_, a, name) => bare_access(alloc, a, name),
         Expr::Literal(_, literal) => Ok(Expr::Literal(NOWHERE, literal.try_clone(alloc)?)),
         Expr::Variable(_, variable) => Ok(Expr::Variable(NOWHERE, *variable)),
         Expr::Set(_, members) => Ok(Expr::Set(NOWHERE, bare_all(alloc, members.as_slice())?)),
@@ -81,6 +66,22 @@ fn bare_choice(
     ))
 }
 
+/// `a || b` without places.
+#[cycle(bare)]
+fn bare_or(alloc: Global, a: &Boxed<Expr>, b: &Boxed<Expr>) -> Result<Expr, AllocError>
+    ensures { IfOk result (λ copy. copy ≡ Expr.Or nowhere (bare a.now) (bare b.now)) }
+{
+    Ok(Expr::Or(NOWHERE, bare_boxed(alloc, a)?, bare_boxed(alloc, b)?))
+}
+
+/// `a && b` without places.
+#[cycle(bare)]
+fn bare_and(alloc: Global, a: &Boxed<Expr>, b: &Boxed<Expr>) -> Result<Expr, AllocError>
+    ensures { IfOk result (λ copy. copy ≡ Expr.And nowhere (bare a.now) (bare b.now)) }
+{
+    Ok(Expr::And(NOWHERE, bare_boxed(alloc, a)?, bare_boxed(alloc, b)?))
+}
+
 /// An operator with two operands without places.
 #[cycle(bare)]
 fn bare_binary(
@@ -97,6 +98,34 @@ fn bare_binary(
         bare_boxed(alloc, a)?,
         bare_boxed(alloc, b)?,
     ))
+}
+
+/// `a has b.c.d` without places.
+#[cycle(bare)]
+fn bare_has(alloc: Global, a: &Boxed<Expr>, names: &Seq<Text>) -> Result<Expr, AllocError>
+    ensures { IfOk result (λ copy. copy ≡ Expr.Has nowhere (bare a.now) names.now) }
+{
+    Ok(Expr::Has(
+        NOWHERE,
+        bare_boxed(alloc, a)?,
+        copy_of_names(alloc, names.as_slice())?,
+    ))
+}
+
+/// `a like "pattern"` without places.
+#[cycle(bare)]
+fn bare_like(alloc: Global, a: &Boxed<Expr>, pattern: &Pattern) -> Result<Expr, AllocError>
+    ensures { IfOk result (λ copy. copy ≡ Expr.Like nowhere (bare a.now) pattern.now) }
+{
+    Ok(Expr::Like(NOWHERE, bare_boxed(alloc, a)?, pattern.try_clone(alloc)?))
+}
+
+/// `a is T` without places.
+#[cycle(bare)]
+fn bare_is(alloc: Global, a: &Boxed<Expr>, type_name: &TypeName) -> Result<Expr, AllocError>
+    ensures { IfOk result (λ copy. copy ≡ Expr.Is nowhere (bare a.now) (bare_name type_name.now)) }
+{
+    Ok(Expr::Is(NOWHERE, bare_boxed(alloc, a)?, bare_name(alloc, type_name)?))
 }
 
 /// `a is T in b` without places.
@@ -117,6 +146,14 @@ fn bare_is_in(
         NOWHERE,
         bare_boxed(alloc, b)?,
     ))
+}
+
+/// `a.name` without places.
+#[cycle(bare)]
+fn bare_access(alloc: Global, a: &Boxed<Expr>, name: &Text) -> Result<Expr, AllocError>
+    ensures { IfOk result (λ copy. copy ≡ Expr.Access nowhere (bare a.now) name.now) }
+{
+    Ok(Expr::Access(NOWHERE, bare_boxed(alloc, a)?, name.try_clone(alloc)?))
 }
 
 #[cycle(bare)]

@@ -18,6 +18,24 @@ decreases-bare_binary l = 3 * max (size-Expr l.a.now) (size-Expr l.b.now) + 2
 abbrev pub decreases-bare_is_in : goal.decreases-bare_is_in
 decreases-bare_is_in l = 3 * max (size-Expr l.a.now) (size-Expr l.b.now) + 2
 
+abbrev pub decreases-bare_or : goal.decreases-bare_or
+decreases-bare_or l = 3 * max (size-Expr l.a.now) (size-Expr l.b.now) + 2
+
+abbrev pub decreases-bare_and : goal.decreases-bare_and
+decreases-bare_and l = 3 * max (size-Expr l.a.now) (size-Expr l.b.now) + 2
+
+abbrev pub decreases-bare_has : goal.decreases-bare_has
+decreases-bare_has l = 3 * size-Expr l.a.now + 2
+
+abbrev pub decreases-bare_like : goal.decreases-bare_like
+decreases-bare_like l = 3 * size-Expr l.a.now + 2
+
+abbrev pub decreases-bare_is : goal.decreases-bare_is
+decreases-bare_is l = 3 * size-Expr l.a.now + 2
+
+abbrev pub decreases-bare_access : goal.decreases-bare_access
+decreases-bare_access l = 3 * size-Expr l.a.now + 2
+
 abbrev pub decreases-bare_all : goal.decreases-bare_all
 decreases-bare_all l = 3 * goal.size-bare_all l + 1
 
