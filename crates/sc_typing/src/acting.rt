@@ -6,6 +6,7 @@ ghost use Rattle.sc_typing.specs.Policies.{acting, acting_variable};
 use sc_ast::{BinaryOperator, Expr, Literal, Place, TypeName, Variable};
 use sc_lists::{Boxed, Seq, Text};
 use sc_names::Uid;
+use sc_pattern::Pattern;
 use sc_typed::bare::copy_of_names;
 use std::alloc::{AllocError, Global};
 
@@ -21,30 +22,14 @@ pub(crate) fn acting(alloc: Global, action: &Uid, expr: &Expr) -> Result<Expr, A
         Expr::Or(place, a, b) => acting_or(alloc, action, *place, a, b),
         Expr::And(place, a, b) => acting_and(alloc, action, *place, a, b),
         Expr::Binary(place, o, a, b) => acting_binary(alloc, action, *place, *o, a, b),
-        Expr::Has(place, a, names) => Ok(Expr::Has(
-            *place,
-            acting_boxed(alloc, action, a)?,
-            copy_of_names(alloc, names.as_slice())?,
-        )),
-        Expr::Like(place, a, pattern) => Ok(Expr::Like(
-            *place,
-            acting_boxed(alloc, action, a)?,
-            pattern.try_clone(alloc)?,
-        )),
-        Expr::Is(place, a, type_name) => Ok(Expr::Is(
-            *place,
-            acting_boxed(alloc, action, a)?,
-            type_name.try_clone(alloc)?,
-        )),
+        Expr::Has(place, a, names) => acting_has(alloc, action, *place, a, names),
+        Expr::Like(place, a, pattern) => acting_like(alloc, action, *place, a, pattern),
+        Expr::Is(place, a, type_name) => acting_is(alloc, action, *place, a, type_name),
         Expr::IsIn(place, a, t, at, b) => acting_is_in(alloc, action, *place, a, t, *at, b),
         Expr::Unary(place, operator, a) => {
             Ok(Expr::Unary(*place, *operator, acting_boxed(alloc, action, a)?))
         }
-        Expr::Access(place, a, name) => Ok(Expr::Access(
-            *place,
-            acting_boxed(alloc, action, a)?,
-            name.try_clone(alloc)?,
-        )),
+        Expr::Access(place, a, name) => acting_access(alloc, action, *place, a, name),
         Expr::Literal(place, literal) => Ok(Expr::Literal(*place, literal.try_clone(alloc)?)),
         Expr::Variable(place, variable) => Ok(acting_variable(alloc, action, *place, *variable)?),
         Expr::Set(place, members) => Ok(Expr::Set(*place, acting_all(alloc, action, members)?)),
@@ -140,6 +125,60 @@ fn acting_binary(
     ))
 }
 
+/// `a has b.c.d` with the action's uid.
+#[cycle(acting)]
+fn acting_has(
+    alloc: Global,
+    action: &Uid,
+    place: Place,
+    a: &Boxed<Expr>,
+    names: &Seq<Text>,
+) -> Result<Expr, AllocError>
+    ensures { IfOk result (λ copy. copy ≡ Expr.Has place (acting action.now a.now) names.now) }
+{
+    Ok(Expr::Has(
+        place,
+        acting_boxed(alloc, action, a)?,
+        copy_of_names(alloc, names.as_slice())?,
+    ))
+}
+
+/// `a like "pattern"` with the action's uid.
+#[cycle(acting)]
+fn acting_like(
+    alloc: Global,
+    action: &Uid,
+    place: Place,
+    a: &Boxed<Expr>,
+    pattern: &Pattern,
+) -> Result<Expr, AllocError>
+    ensures { IfOk result (λ copy. copy ≡ Expr.Like place (acting action.now a.now) pattern.now) }
+{
+    Ok(Expr::Like(
+        place,
+        acting_boxed(alloc, action, a)?,
+        pattern.try_clone(alloc)?,
+    ))
+}
+
+/// `a is T` with the action's uid.
+#[cycle(acting)]
+fn acting_is(
+    alloc: Global,
+    action: &Uid,
+    place: Place,
+    a: &Boxed<Expr>,
+    type_name: &TypeName,
+) -> Result<Expr, AllocError>
+    ensures { IfOk result (λ copy. copy ≡ Expr.Is place (acting action.now a.now) type_name.now) }
+{
+    Ok(Expr::Is(
+        place,
+        acting_boxed(alloc, action, a)?,
+        type_name.try_clone(alloc)?,
+    ))
+}
+
 /// `a is T in b` with the action's uid.
 #[cycle(acting)]
 fn acting_is_in(
@@ -160,6 +199,24 @@ fn acting_is_in(
         type_name.try_clone(alloc)?,
         in_place,
         acting_boxed(alloc, action, b)?,
+    ))
+}
+
+/// `a.name` with the action's uid.
+#[cycle(acting)]
+fn acting_access(
+    alloc: Global,
+    action: &Uid,
+    place: Place,
+    a: &Boxed<Expr>,
+    name: &Text,
+) -> Result<Expr, AllocError>
+    ensures { IfOk result (λ copy. copy ≡ Expr.Access place (acting action.now a.now) name.now) }
+{
+    Ok(Expr::Access(
+        place,
+        acting_boxed(alloc, action, a)?,
+        name.try_clone(alloc)?,
     ))
 }
 

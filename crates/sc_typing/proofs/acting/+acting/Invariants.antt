@@ -24,6 +24,18 @@ decreases-acting_all l = 3 * goal.size-acting_all l + 1
 abbrev pub decreases-acting_fields : goal.decreases-acting_fields
 decreases-acting_fields l = 3 * goal.size-acting_fields l + 1
 
+abbrev pub decreases-acting_has : goal.decreases-acting_has
+decreases-acting_has l = 3 * size-Expr l.a.now + 2
+
+abbrev pub decreases-acting_like : goal.decreases-acting_like
+decreases-acting_like l = 3 * size-Expr l.a.now + 2
+
+abbrev pub decreases-acting_is : goal.decreases-acting_is
+decreases-acting_is l = 3 * size-Expr l.a.now + 2
+
+abbrev pub decreases-acting_access : goal.decreases-acting_access
+decreases-acting_access l = 3 * size-Expr l.a.now + 2
+
 abbrev pub decreases-acting_or : goal.decreases-acting_or
 decreases-acting_or l = 3 * max (size-Expr l.a.now) (size-Expr l.b.now) + 2
 
