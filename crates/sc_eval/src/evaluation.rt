@@ -227,8 +227,9 @@ fn evaluate_fields(
 {
     let mut pairs = Seq::new(alloc);
     for field in fields {
+        let name = field.0.try_clone(alloc)?;
         let value = evaluate(alloc, &field.1, world)?;
-        pairs.push((field.0.try_clone(alloc)?, value))?;
+        pairs.push((name, value))?;
     }
     Ok(pairs)
 }
