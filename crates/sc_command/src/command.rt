@@ -2,7 +2,7 @@
 use sc_question::Question;
 
 /// What the program is asked to do.
-#[derive(Clone, Copy, Debug, PartialEq, Eq)]
+#[derive(Clone, Copy, PartialEq, Eq)]
 pub enum Command<'w> {
     /// To ask a question of policies.
     Analyse(Analyse<'w>),
@@ -15,7 +15,7 @@ pub enum Command<'w> {
 }
 
 /// A question, and the policies that it is asked of.
-#[derive(Clone, Copy, Debug, PartialEq, Eq)]
+#[derive(Clone, Copy, PartialEq, Eq)]
 pub struct Asked<'w> {
     /// The name of the schema file.
     pub schema: &'w str,
@@ -28,7 +28,7 @@ pub struct Asked<'w> {
 }
 
 /// The command to ask a question of policies.
-#[derive(Clone, Copy, Debug, PartialEq, Eq)]
+#[derive(Clone, Copy, PartialEq, Eq)]
 pub struct Analyse<'w> {
     /// What is asked.
     pub asked: Asked<'w>,
@@ -37,7 +37,7 @@ pub struct Analyse<'w> {
 }
 
 /// The command to tell what policies do in one world.
-#[derive(Clone, Copy, Debug, PartialEq, Eq)]
+#[derive(Clone, Copy, PartialEq, Eq)]
 pub struct Replay<'w> {
     /// The name of the schema file.
     pub schema: &'w str,
@@ -48,7 +48,7 @@ pub struct Replay<'w> {
 }
 
 /// The command to write the log that shows the answer to a question in one environment.
-#[derive(Clone, Copy, Debug, PartialEq, Eq)]
+#[derive(Clone, Copy, PartialEq, Eq)]
 pub struct Log<'w> {
     /// What is asked.
     pub asked: Asked<'w>,
@@ -59,7 +59,7 @@ pub struct Log<'w> {
 }
 
 /// The command to check a log that was written so.
-#[derive(Clone, Copy, Debug, PartialEq, Eq)]
+#[derive(Clone, Copy, PartialEq, Eq)]
 pub struct Check<'w> {
     /// What is asked.
     pub asked: Asked<'w>,

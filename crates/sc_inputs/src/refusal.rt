@@ -14,7 +14,7 @@ use sc_world_json::WorldFault;
 use std::alloc::{AllocError, Global};
 
 /// A policy set of a command.
-#[derive(Clone, Copy, Debug, PartialEq, Eq)]
+#[derive(Clone, Copy)]
 pub enum Side {
     /// The first one.
     Policies,
@@ -23,7 +23,7 @@ pub enum Side {
 }
 
 /// One of the files that a command names.
-#[derive(Clone, Copy, Debug, PartialEq, Eq)]
+#[derive(Clone, Copy)]
 pub enum FileName {
     /// The schema file.
     Schema,
@@ -36,7 +36,7 @@ pub enum FileName {
 }
 
 /// An answer other than a report.
-#[derive(Debug, PartialEq, Eq, Drop)]
+#[derive(Drop)]
 pub enum Refusal {
     /// The words are no command.
     Usage,

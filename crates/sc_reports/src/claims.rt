@@ -28,7 +28,7 @@ use sc_solver::Rules;
 use std::alloc::Global;
 
 /// What is said of a log.
-#[derive(Clone, Copy, Debug, PartialEq, Eq)]
+#[derive(Clone, Copy)]
 pub enum Answer {
     /// It shows that each well-formed world of the environment has the property.
     Accepted,

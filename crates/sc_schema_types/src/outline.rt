@@ -22,7 +22,7 @@ const MOST_NODES: u64 = 4096;
 
 /// What of a type decides whether it may stand where it does. Numbers that are larger than is
 /// allowed are given as one more than that.
-#[derive(Clone, Copy, Debug, PartialEq, Eq)]
+#[derive(Clone, Copy)]
 pub(crate) struct Outline {
     /// Whether it is a record type.
     pub is_record: bool,

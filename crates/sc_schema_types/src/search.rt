@@ -16,7 +16,7 @@ use std::alloc::{AllocError, Global};
 use std::collections::BTreeMap;
 
 /// How far the search has come with a common type.
-#[derive(Clone, Copy, Debug, PartialEq, Eq)]
+#[derive(Clone, Copy, PartialEq, Eq)]
 pub(crate) enum Mark {
     /// It is on the path.
     Open,

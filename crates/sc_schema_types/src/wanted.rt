@@ -1,7 +1,7 @@
 //! What is wanted of a type where it stands.
 
 /// What a type has to be where it stands.
-#[derive(Clone, Copy, Debug, PartialEq, Eq)]
+#[derive(Clone, Copy, PartialEq, Eq)]
 pub(crate) enum Wanted {
     /// Any type.
     AnyType,
