@@ -3,7 +3,7 @@ ghost use Rattle.std.specs.Prelude.{◌≡◌, ◌+◌, ◌<◌, ◌^◌};
 ghost use Rattle.sc_lexemes.specs.Depth.{fits, next, past, inside, back, deeper, outside};
 
 /// How far reading has come, and how deep the next token lies.
-#[derive(Clone, Copy, Debug, PartialEq, Eq)]
+#[derive(Clone, Copy)]
 pub struct Cursor {
     /// The number of tokens that are read.
     pub at: usize,

@@ -5,7 +5,7 @@ use sc_lists::{Seq, Text};
 use sc_pattern::Part;
 
 /// What a token says.
-#[derive(Debug, PartialEq, Eq, Drop)]
+#[derive(Drop)]
 pub enum Shape {
     /// A word.
     Word(Text),
@@ -18,7 +18,7 @@ pub enum Shape {
 }
 
 /// A token with its place.
-#[derive(Debug, PartialEq, Eq, Drop)]
+#[derive(Drop)]
 pub struct Lexeme {
     /// Where it begins.
     pub place: Place,

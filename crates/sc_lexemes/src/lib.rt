@@ -4,6 +4,7 @@
 #![tactic(auto)]
 
 mod cursor;
+mod equality;
 mod keys;
 mod laws;
 mod lexeme;

@@ -1,6 +1,6 @@
 //! Operators between two operands.
 /// An operator between two operands.
-#[derive(Clone, Copy, Debug, PartialEq, Eq)]
+#[derive(Clone, Copy, PartialEq, Eq)]
 pub enum Operator {
     /// `||`
     Or,
@@ -29,7 +29,7 @@ pub enum Operator {
 }
 
 /// How tightly an operator binds, from the loosest on.
-#[derive(Clone, Copy, Debug, PartialEq, Eq)]
+#[derive(Clone, Copy, PartialEq, Eq)]
 pub enum Level {
     /// `||`
     Or,
@@ -44,7 +44,7 @@ pub enum Level {
 }
 
 /// What ends an expression that is read inside of something.
-#[derive(Clone, Copy, Debug, PartialEq, Eq)]
+#[derive(Clone, Copy)]
 pub enum Close {
     /// `then`
     Then,

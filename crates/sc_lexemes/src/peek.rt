@@ -5,6 +5,7 @@ ghost use Rattle.sc_lexemes.specs.Tables.{least_digits};
 ghost use Rattle.sc_ast.specs.declared.operator.UnaryOperator.TheVariants.{Negate};
 ghost use Rattle.sc_lexemes.specs.declared.lexeme.Shape.TheVariants.{Word, Number, String as OfString, Sign};
 
+use crate::equality::equals;
 use crate::lexeme::{Lexeme, Shape};
 use crate::operator::{Close, Level, Operator};
 use crate::tables::{level_of, operator_of, prefix_of};
@@ -31,7 +32,7 @@ fn is_word(shape: &Shape, word: &str) -> bool
     ensures { IsTrue result ↔ (shape.now ≡ Word word.now) }
 {
     match shape {
-        Shape::Word(found) => found.as_str() == word,
+        Shape::Word(found) => equals(found.as_str(), word),
         _ => false,
     }
 }
@@ -137,7 +138,7 @@ fn is_number(shape: &Shape, digits: &str) -> bool
     ensures { IsTrue result ↔ (shape.now ≡ Number digits.now) }
 {
     match shape {
-        Shape::Number(found) => found.as_str() == digits,
+        Shape::Number(found) => equals(found.as_str(), digits),
         _ => false,
     }
 }
@@ -168,7 +169,9 @@ fn starts(shape: &Shape) -> bool
 {
     match shape {
         Shape::Word(word) => {
-            is_ident(word.as_str()) || word.as_str() == "true" || word.as_str() == "false"
+            is_ident(word.as_str())
+                || equals(word.as_str(), "true")
+                || equals(word.as_str(), "false")
         }
         Shape::Number(_) | Shape::String(_, _) => true,
         Shape::Sign(kind) => match kind {

@@ -5,7 +5,7 @@ ghost use Rattle.sc_lexemes.specs.declared.stop.Stop.TheVariants.{NoMemory};
 use std::alloc::{AllocError, AllocFailed};
 
 /// Why reading stops at a token, or where the tokens end.
-#[derive(Clone, Copy, Debug, PartialEq, Eq)]
+#[derive(Clone, Copy, PartialEq, Eq)]
 pub enum Stop {
     /// No policy file goes on so.
     Unexpected,

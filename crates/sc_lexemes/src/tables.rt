@@ -2,6 +2,7 @@
 ghost use Rattle.std.specs.Prelude.{◌≡◌, IfOk};
 ghost use Rattle.sc_lexemes.specs.Tables.{operator_of, operator_of_sign, level_of, joined, prefix_of, prefix_of_sign, variable_of, test_of, method_of, function_of, called, applied};
 
+use crate::equality::equals;
 use crate::lexeme::Shape;
 use crate::operation::{binary, prefixed};
 use crate::operator::{Level, Operator};
@@ -36,7 +37,7 @@ pub(crate) fn operator_of(shape: &Shape) -> Option<Operator>
     ensures { result ≡ operator_of shape.now }
 {
     match shape {
-        Shape::Word(word) if word.as_str() == "in" => Some(Operator::In),
+        Shape::Word(word) if equals(word.as_str(), "in") => Some(Operator::In),
         Shape::Sign(kind) => operator_of_sign(*kind),
         _ => None,
     }
@@ -117,13 +118,13 @@ pub(crate) fn prefix_of(shape: &Shape) -> Option<UnaryOperator>
 pub fn variable_of(word: &str) -> Option<Variable>
     ensures { result ≡ variable_of word.now }
 {
-    if word == "principal" {
+    if equals(word, "principal") {
         Some(Variable::Principal)
-    } else if word == "action" {
+    } else if equals(word, "action") {
         Some(Variable::Action)
-    } else if word == "resource" {
+    } else if equals(word, "resource") {
         Some(Variable::Resource)
-    } else if word == "context" {
+    } else if equals(word, "context") {
         Some(Variable::Context)
     } else {
         None
@@ -135,15 +136,15 @@ pub fn variable_of(word: &str) -> Option<Variable>
 fn test_of(word: &str) -> Option<UnaryOperator>
     ensures { result ≡ test_of word.now }
 {
-    if word == "isEmpty" {
+    if equals(word, "isEmpty") {
         Some(UnaryOperator::IsEmpty)
-    } else if word == "isIpv4" {
+    } else if equals(word, "isIpv4") {
         Some(UnaryOperator::IsIpv4)
-    } else if word == "isIpv6" {
+    } else if equals(word, "isIpv6") {
         Some(UnaryOperator::IsIpv6)
-    } else if word == "isLoopback" {
+    } else if equals(word, "isLoopback") {
         Some(UnaryOperator::IsLoopback)
-    } else if word == "isMulticast" {
+    } else if equals(word, "isMulticast") {
         Some(UnaryOperator::IsMulticast)
     } else {
         None
@@ -155,25 +156,25 @@ fn test_of(word: &str) -> Option<UnaryOperator>
 fn method_of(word: &str) -> Option<BinaryOperator>
     ensures { result ≡ method_of word.now }
 {
-    if word == "contains" {
+    if equals(word, "contains") {
         Some(BinaryOperator::Contains)
-    } else if word == "containsAll" {
+    } else if equals(word, "containsAll") {
         Some(BinaryOperator::ContainsAll)
-    } else if word == "containsAny" {
+    } else if equals(word, "containsAny") {
         Some(BinaryOperator::ContainsAny)
-    } else if word == "hasTag" {
+    } else if equals(word, "hasTag") {
         Some(BinaryOperator::HasTag)
-    } else if word == "getTag" {
+    } else if equals(word, "getTag") {
         Some(BinaryOperator::GetTag)
-    } else if word == "lessThan" {
+    } else if equals(word, "lessThan") {
         Some(BinaryOperator::LessThan)
-    } else if word == "lessThanOrEqual" {
+    } else if equals(word, "lessThanOrEqual") {
         Some(BinaryOperator::LessThanOrEqual)
-    } else if word == "greaterThan" {
+    } else if equals(word, "greaterThan") {
         Some(BinaryOperator::GreaterThan)
-    } else if word == "greaterThanOrEqual" {
+    } else if equals(word, "greaterThanOrEqual") {
         Some(BinaryOperator::GreaterThanOrEqual)
-    } else if word == "isInRange" {
+    } else if equals(word, "isInRange") {
         Some(BinaryOperator::IsInRange)
     } else {
         None
@@ -185,9 +186,9 @@ fn method_of(word: &str) -> Option<BinaryOperator>
 fn function_of(word: &str) -> Option<UnaryOperator>
     ensures { result ≡ function_of word.now }
 {
-    if word == "decimal" {
+    if equals(word, "decimal") {
         Some(UnaryOperator::Decimal)
-    } else if word == "ip" {
+    } else if equals(word, "ip") {
         Some(UnaryOperator::Ip)
     } else {
         None
