@@ -1,7 +1,7 @@
 //! Whether an attribute may be absent.
 
 /// Whether each record of a type has an attribute.
-#[derive(Clone, Copy, Debug, PartialEq, Eq)]
+#[derive(Clone, Copy)]
 pub enum WrittenPresence {
     /// Each one has it.
     Required,

@@ -1,7 +1,7 @@
 //! The extension types.
 
 /// An extension type.
-#[derive(Clone, Copy, Debug, PartialEq, Eq)]
+#[derive(Clone, Copy)]
 pub enum ExtensionKind {
     /// `ipaddr`: addresses of the internet protocol.
     Ipaddr,

@@ -6,7 +6,7 @@ use thiserror::Error;
 /// The first fault of a schema file. A text is the path of a value in the file, a JSON pointer
 /// (RFC 6901): for each member or item on the way a `/` and the member's name, with `~0` for `~` and
 /// `~1` for `/` in it, or the item's number, counted from 0.
-#[derive(Debug, PartialEq, Eq, Drop, Error)]
+#[derive(Debug, Drop, Error)]
 pub enum SchemaFault {
     /// The bytes aren't JSON (RFC 8259), or nest deeper than 127 levels.
     #[error("not JSON")]

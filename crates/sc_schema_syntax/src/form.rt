@@ -2,11 +2,12 @@
 ghost use Rattle.std.specs.Prelude.{◌≡◌};
 ghost use Rattle.sc_schema_syntax.specs.Forms.{admits_truth, admits_text, item_form};
 
+use crate::equality::equals;
 use crate::level::Level;
 use crate::position::Position;
 
 /// What has to stand at a place of a schema file.
-#[derive(Clone, Copy, Debug, PartialEq, Eq)]
+#[derive(Clone, Copy)]
 pub(crate) enum Form {
     /// Nothing: there may be no such member.
     Nothing,
@@ -45,7 +46,7 @@ pub(crate) fn admits_text(form: Form, text: &str) -> bool
 {
     match form {
         Form::Text => true,
-        Form::ExtensionName => text == "ipaddr" || text == "decimal",
+        Form::ExtensionName => equals(text, "ipaddr") || equals(text, "decimal"),
         _ => false,
     }
 }

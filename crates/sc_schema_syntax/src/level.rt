@@ -4,6 +4,7 @@ ghost use Rattle.serde_json.specs.View.{members_view};
 ghost use Rattle.sc_schema_syntax.specs.TypeWords.{is_reserved};
 ghost use Rattle.sc_schema_syntax.specs.Forms.{word_of, level_of, is_name, required_by, required, is_empty, is_whole};
 
+use crate::equality::equals;
 use crate::form::Form;
 use crate::member::member;
 use crate::position::Position;
@@ -12,7 +13,7 @@ use sc_names::{is_ident, is_path};
 use serde_json::{Map, Value};
 
 /// An object of a schema file, by what its members are.
-#[derive(Clone, Copy, Debug, PartialEq, Eq)]
+#[derive(Clone, Copy, PartialEq, Eq)]
 pub(crate) enum Level {
     /// Namespaces, by their names.
     Schema,
@@ -68,15 +69,15 @@ pub(crate) fn level_of(form: Form, members: &Map<String, Value>) -> Option<Level
 fn is_reserved(name: &str) -> bool
     ensures { result ≡ is_reserved name.now }
 {
-    name == "Bool"
-        || name == "Boolean"
-        || name == "Long"
-        || name == "String"
-        || name == "Set"
-        || name == "Record"
-        || name == "Entity"
-        || name == "Extension"
-        || name == "EntityOrCommon"
+    equals(name, "Bool")
+        || equals(name, "Boolean")
+        || equals(name, "Long")
+        || equals(name, "String")
+        || equals(name, "Set")
+        || equals(name, "Record")
+        || equals(name, "Entity")
+        || equals(name, "Extension")
+        || equals(name, "EntityOrCommon")
 }
 
 /// Whether a member may have the name.
@@ -85,7 +86,7 @@ pub(crate) fn is_name(level: Level, name: &str) -> bool
 {
     match level {
         Level::Schema => is_path(name) || name.is_empty(),
-        Level::EntityTypes => is_ident(name) && name != "Action",
+        Level::EntityTypes => is_ident(name) && !equals(name, "Action"),
         Level::CommonTypes => is_ident(name) && !is_reserved(name),
         _ => true,
     }

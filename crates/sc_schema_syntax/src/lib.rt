@@ -6,6 +6,7 @@ mod attribute;
 mod building;
 mod checking;
 mod entries;
+mod equality;
 mod extension;
 mod fault;
 mod form;

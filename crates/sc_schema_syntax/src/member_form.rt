@@ -3,6 +3,7 @@ ghost use Rattle.std.specs.Prelude.{◌≡◌, [], ◌∷◌, ◌++◌, Some, if
 ghost use Rattle.std.specs.Str.{bytes_eq};
 ghost use Rattle.sc_schema_syntax.specs.Forms.{member_form, among, namespace_members, entity_type_members, action_members, parent_members, applies_to_members, word_members, position_members, unread_type_member, type_member};
 
+use crate::equality::equals;
 use crate::form::Form;
 use crate::level::Level;
 use crate::position::Position;
@@ -32,7 +33,7 @@ pub(crate) fn member_form(level: Level, name: &str) -> Option<Form>
 fn fixed(name: &str, form: Form) -> Option<Form>
     ensures { result ≡ (if bytes_eq name.now (codes "annotations") then None else Some form) }
 {
-    if name == "annotations" {
+    if equals(name, "annotations") {
         None
     } else {
         Some(form)
@@ -42,11 +43,11 @@ fn fixed(name: &str, form: Form) -> Option<Form>
 fn namespace_member(name: &str) -> Form
     ensures { result ≡ among namespace_members name.now }
 {
-    if name == "actions" {
+    if equals(name, "actions") {
         Form::Object(Level::Actions)
-    } else if name == "commonTypes" {
+    } else if equals(name, "commonTypes") {
         Form::Object(Level::CommonTypes)
-    } else if name == "entityTypes" {
+    } else if equals(name, "entityTypes") {
         Form::Object(Level::EntityTypes)
     } else {
         Form::Nothing
@@ -56,9 +57,9 @@ fn namespace_member(name: &str) -> Form
 fn entity_type_member(name: &str) -> Form
     ensures { result ≡ among entity_type_members name.now }
 {
-    if name == "memberOfTypes" {
+    if equals(name, "memberOfTypes") {
         Form::Texts
-    } else if name == "shape" || name == "tags" {
+    } else if equals(name, "shape") || equals(name, "tags") {
         Form::Type(Position::Elsewhere)
     } else {
         Form::Nothing
@@ -68,11 +69,11 @@ fn entity_type_member(name: &str) -> Form
 fn action_member(name: &str) -> Form
     ensures { result ≡ among action_members name.now }
 {
-    if name == "appliesTo" {
+    if equals(name, "appliesTo") {
         Form::Object(Level::AppliesTo)
-    } else if name == "attributes" {
+    } else if equals(name, "attributes") {
         Form::Object(Level::NoAttributes)
-    } else if name == "memberOf" {
+    } else if equals(name, "memberOf") {
         Form::Parents
     } else {
         Form::Nothing
@@ -82,7 +83,7 @@ fn action_member(name: &str) -> Form
 fn parent_member(name: &str) -> Form
     ensures { result ≡ among parent_members name.now }
 {
-    if name == "id" || name == "type" {
+    if equals(name, "id") || equals(name, "type") {
         Form::Text
     } else {
         Form::Nothing
@@ -92,9 +93,9 @@ fn parent_member(name: &str) -> Form
 fn applies_to_member(name: &str) -> Form
     ensures { result ≡ among applies_to_members name.now }
 {
-    if name == "context" {
+    if equals(name, "context") {
         Form::Type(Position::Elsewhere)
-    } else if name == "principalTypes" || name == "resourceTypes" {
+    } else if equals(name, "principalTypes") || equals(name, "resourceTypes") {
         Form::Texts
     } else {
         Form::Nothing
@@ -115,7 +116,7 @@ fn type_member(position: Position, word: Option<TypeWord>, name: &str) -> Option
 fn unread_type_member(name: &str) -> Option<Form>
     ensures { result ≡ unread_type_member name.now }
 {
-    if name == "type" {
+    if equals(name, "type") {
         Some(Form::Text)
     } else {
         None
@@ -125,7 +126,7 @@ fn unread_type_member(name: &str) -> Option<Form>
 fn known_type_member(position: Position, word: TypeWord, name: &str) -> Form
     ensures { result ≡ among ((codes "type", Form.Text) ∷ (position_members position ++ word_members word)) name.now }
 {
-    if name == "type" {
+    if equals(name, "type") {
         return Form::Text;
     }
     match position {
@@ -137,7 +138,7 @@ fn known_type_member(position: Position, word: TypeWord, name: &str) -> Form
 fn attribute_member(word: TypeWord, name: &str) -> Form
     ensures { result ≡ among (position_members Position.Attribute ++ word_members word) name.now }
 {
-    if name == "required" {
+    if equals(name, "required") {
         Form::Truth
     } else {
         word_member(word, name)
@@ -160,7 +161,7 @@ fn word_member(word: TypeWord, name: &str) -> Form
 fn set_member(name: &str) -> Form
     ensures { result ≡ among (word_members TypeWord.Set) name.now }
 {
-    if name == "element" {
+    if equals(name, "element") {
         Form::Type(Position::Elsewhere)
     } else {
         Form::Nothing
@@ -170,9 +171,9 @@ fn set_member(name: &str) -> Form
 fn record_member(name: &str) -> Form
     ensures { result ≡ among (word_members TypeWord.Record) name.now }
 {
-    if name == "attributes" {
+    if equals(name, "attributes") {
         Form::Object(Level::Attributes)
-    } else if name == "additionalAttributes" {
+    } else if equals(name, "additionalAttributes") {
         Form::False
     } else {
         Form::Nothing
@@ -183,5 +184,9 @@ fn record_member(name: &str) -> Form
 fn named_member(name: &str, form: Form) -> Form
     ensures { result ≡ among ((codes "name", form) ∷ []) name.now }
 {
-    if name == "name" { form } else { Form::Nothing }
+    if equals(name, "name") {
+        form
+    } else {
+        Form::Nothing
+    }
 }

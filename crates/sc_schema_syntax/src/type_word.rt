@@ -2,8 +2,10 @@
 ghost use Rattle.std.specs.Prelude.{◌≡◌};
 ghost use Rattle.sc_schema_syntax.specs.TypeWords.{type_word};
 
+use crate::equality::equals;
+
 /// What a word at the member `type` of a type means.
-#[derive(Clone, Copy, Debug, PartialEq, Eq)]
+#[derive(Clone, Copy, PartialEq, Eq)]
 pub(crate) enum TypeWord {
     /// `Boolean`.
     Boolean,
@@ -29,21 +31,21 @@ pub(crate) enum TypeWord {
 pub(crate) fn type_word(word: &str) -> TypeWord
     ensures { result ≡ type_word word.now }
 {
-    if word == "Boolean" {
+    if equals(word, "Boolean") {
         TypeWord::Boolean
-    } else if word == "Long" {
+    } else if equals(word, "Long") {
         TypeWord::Long
-    } else if word == "String" {
+    } else if equals(word, "String") {
         TypeWord::String
-    } else if word == "Set" {
+    } else if equals(word, "Set") {
         TypeWord::Set
-    } else if word == "Record" {
+    } else if equals(word, "Record") {
         TypeWord::Record
-    } else if word == "Entity" {
+    } else if equals(word, "Entity") {
         TypeWord::Entity
-    } else if word == "Extension" {
+    } else if equals(word, "Extension") {
         TypeWord::Extension
-    } else if word == "EntityOrCommon" {
+    } else if equals(word, "EntityOrCommon") {
         TypeWord::EntityOrCommon
     } else {
         TypeWord::Common

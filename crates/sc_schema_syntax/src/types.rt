@@ -6,6 +6,7 @@ ghost use Rattle.sc_schema_syntax.specs.Written.{text_of, extension_of, presence
 
 use crate::attribute::WrittenPresence;
 use crate::entries::text_of;
+use crate::equality::equals;
 use crate::extension::ExtensionKind;
 use crate::member::value_at;
 use crate::type_word::{TypeWord, type_word};
@@ -98,7 +99,7 @@ fn name_of(alloc: Global, value: &Value) -> Result<Text, AllocError>
 fn extension_of(value: &Value) -> ExtensionKind
     ensures { result ≡ extension_of (text_of (get (codes "name") (view value.now))) }
 {
-    if text_of(value_at(value, "name")) == "ipaddr" {
+    if equals(text_of(value_at(value, "name")), "ipaddr") {
         ExtensionKind::Ipaddr
     } else {
         ExtensionKind::Decimal

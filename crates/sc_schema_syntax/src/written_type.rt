@@ -7,7 +7,7 @@ use sc_lists::{Boxed, Seq, Text};
 pub type WrittenAttributes = Seq<(Text, WrittenPresence, WrittenType)>;
 
 /// A type as a schema file says it. No name in it is looked up yet.
-#[derive(Debug, PartialEq, Eq, Drop)]
+#[derive(Drop)]
 pub enum WrittenType {
     /// Truth values.
     Boolean,
