@@ -3,7 +3,7 @@ use sc_lists::Text;
 use thiserror::Error;
 
 /// The first fault of a world's text.
-#[derive(Debug, PartialEq, Eq, Drop, Error)]
+#[derive(Debug, Drop, Error)]
 pub enum WorldFault {
     /// The bytes aren't JSON (RFC 8259), or nest deeper than 127 levels.
     #[error("not JSON")]

@@ -8,7 +8,7 @@ use crate::level::Level;
 use serde_json::Number;
 
 /// What has to stand at a place of a world.
-#[derive(Clone, Copy, Debug, PartialEq, Eq)]
+#[derive(Clone, Copy)]
 pub(crate) enum Form {
     /// A text.
     Text,

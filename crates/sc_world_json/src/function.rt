@@ -5,12 +5,13 @@ ghost use Rattle.sc_ip.specs.IpValue.{ip_of};
 ghost use Rattle.sc_values.specs.Proper.{IsProper};
 ghost use Rattle.sc_world_json.specs.Marks.{function_named, value_by};
 
+use crate::equality::equals;
 use sc_decimal::read_decimal;
 use sc_ip::read_ip;
 use sc_values::Value;
 
 /// A function that gives a value for a text.
-#[derive(Clone, Copy, Debug, PartialEq, Eq)]
+#[derive(Clone, Copy)]
 pub(crate) enum Function {
     /// `decimal`: a decimal number.
     Decimal,
@@ -22,9 +23,9 @@ pub(crate) enum Function {
 pub(crate) fn function_named(name: &str) -> Option<Function>
     ensures { result ≡ function_named name.now }
 {
-    if name == "decimal" {
+    if equals(name, "decimal") {
         Some(Function::Decimal)
-    } else if name == "ip" {
+    } else if equals(name, "ip") {
         Some(Function::Ip)
     } else {
         None

@@ -10,7 +10,7 @@ use crate::member::member;
 use serde_json::{Map, Value as Json};
 
 /// An object of a world, by what its members are.
-#[derive(Clone, Copy, Debug, PartialEq, Eq)]
+#[derive(Clone, Copy)]
 pub(crate) enum Level {
     /// A stored entity.
     Entity,

@@ -4,6 +4,7 @@
 
 mod building;
 mod checking;
+mod equality;
 mod fault;
 mod first_fault;
 mod form;

@@ -3,10 +3,11 @@ ghost use Rattle.std.specs.Prelude.{◌≡◌, option_map};
 ghost use Rattle.serde_json.specs.View.{members_view};
 ghost use Rattle.sc_world_json.specs.Marks.{only_name, mark_named, mark_of};
 
+use crate::equality::equals;
 use serde_json::{Map, Value as Json};
 
 /// What an object with just one member is marked as, by the member's name.
-#[derive(Clone, Copy, Debug, PartialEq, Eq)]
+#[derive(Clone, Copy)]
 pub(crate) enum Mark {
     /// `__entity`: an entity, by its uid.
     Entity,
@@ -18,9 +19,9 @@ pub(crate) enum Mark {
 pub(crate) fn mark_named(name: &str) -> Option<Mark>
     ensures { result ≡ mark_named name.now }
 {
-    if name == "__entity" {
+    if equals(name, "__entity") {
         Some(Mark::Entity)
-    } else if name == "__extn" {
+    } else if equals(name, "__extn") {
         Some(Mark::Extension)
     } else {
         None

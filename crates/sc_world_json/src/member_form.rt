@@ -6,6 +6,7 @@ ghost use Rattle.serde_json.specs.View.{members_view};
 ghost use Rattle.sc_world_json.specs.declared.level.Level.TheVariants as level;
 ghost use Rattle.sc_world_json.specs.Forms.{fixed_members, among, has_just, has_members, member_form};
 
+use crate::equality::equals;
 use crate::form::Form;
 use crate::function::Function;
 use crate::level::Level;
@@ -30,13 +31,13 @@ pub(crate) fn member_form(level: Level, name: &str) -> Option<Form>
 fn entity_member(name: &str) -> Option<Form>
     ensures { result ≡ among (fixed_members level.Entity) name.now }
 {
-    if name == "attrs" {
+    if equals(name, "attrs") {
         Some(Form::Record)
-    } else if name == "parents" {
+    } else if equals(name, "parents") {
         Some(Form::Uids)
-    } else if name == "tags" {
+    } else if equals(name, "tags") {
         Some(Form::Record)
-    } else if name == "uid" {
+    } else if equals(name, "uid") {
         Some(Form::Object(Level::Uid))
     } else {
         None
@@ -46,13 +47,13 @@ fn entity_member(name: &str) -> Option<Form>
 fn request_member(name: &str) -> Option<Form>
     ensures { result ≡ among (fixed_members level.Request) name.now }
 {
-    if name == "action" {
+    if equals(name, "action") {
         Some(Form::Object(Level::Uid))
-    } else if name == "context" {
+    } else if equals(name, "context") {
         Some(Form::Record)
-    } else if name == "principal" {
+    } else if equals(name, "principal") {
         Some(Form::Object(Level::Uid))
-    } else if name == "resource" {
+    } else if equals(name, "resource") {
         Some(Form::Object(Level::Uid))
     } else {
         None
@@ -62,9 +63,9 @@ fn request_member(name: &str) -> Option<Form>
 fn uid_member(name: &str) -> Option<Form>
     ensures { result ≡ among (fixed_members level.Uid) name.now }
 {
-    if name == "id" {
+    if equals(name, "id") {
         Some(Form::Text)
-    } else if name == "type" {
+    } else if equals(name, "type") {
         Some(Form::Text)
     } else {
         None
@@ -74,7 +75,7 @@ fn uid_member(name: &str) -> Option<Form>
 fn reference_member(name: &str) -> Option<Form>
     ensures { result ≡ among (fixed_members level.Reference) name.now }
 {
-    if name == "__entity" {
+    if equals(name, "__entity") {
         Some(Form::Object(Level::Uid))
     } else {
         None
@@ -84,7 +85,7 @@ fn reference_member(name: &str) -> Option<Form>
 fn extension_member(name: &str) -> Option<Form>
     ensures { result ≡ among (fixed_members level.Extension) name.now }
 {
-    if name == "__extn" {
+    if equals(name, "__extn") {
         Some(Form::Call)
     } else {
         None
@@ -94,9 +95,9 @@ fn extension_member(name: &str) -> Option<Form>
 fn call_member(function: Option<Function>, name: &str) -> Option<Form>
     ensures { result ≡ among (fixed_members (level.Call function)) name.now }
 {
-    if name == "arg" {
+    if equals(name, "arg") {
         Some(Form::Argument(function))
-    } else if name == "fn" {
+    } else if equals(name, "fn") {
         Some(Form::FunctionName)
     } else {
         None
