@@ -39,8 +39,8 @@ fn world_of(
     defining_laws();
     rebuilding_laws();
     rebuilt_laws();
-    let request = request_of(alloc, problem, m, names)?;
     let given = given_of(alloc, problem, m, names)?;
+    let request = request_of(alloc, problem, m, names)?;
     world_with(alloc, problem.schema(), request, given, problem.lits())
 }
 
