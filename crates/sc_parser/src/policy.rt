@@ -7,11 +7,11 @@ ghost use Rattle.sc_parser.specs.ReadsFiles.{ReadsClauses, ReadsPolicy, ReadsPol
 
 use crate::expr::enclosed;
 use crate::head::head;
-use crate::scopes::read_scopes;
-use sc_ast::{Condition, Policy};
+use crate::scopes::{Scopes, read_scopes};
+use sc_ast::{Condition, Effect, Place, Policy};
 use sc_lexemes::{Close, Cursor, Lexeme, Stop, clause_at, policy_at, sign_at};
 use sc_lexer::Kind;
-use sc_lists::{Boxed, Seq};
+use sc_lists::Seq;
 use std::alloc::Global;
 
 /// Reads `when` and `unless` clauses.
@@ -52,21 +52,34 @@ fn policy(alloc: Global, ts: &[Lexeme], cursor: &mut Cursor) -> Result<Policy, S
     ensures err { IfErr result (λ f. Halts (ReadsPolicy ts.now cursor.old) f cursor.new) }
 {
     let (place, effect) = head(ts, cursor)?;
-    let scopes = Boxed::new(alloc, read_scopes(alloc, ts, cursor)?)?;
+    let scopes = read_scopes(alloc, ts, cursor)?;
     let conditions = clauses(alloc, ts, cursor)?;
     let Some(_) = sign_at(ts, cursor.at, Kind::Semicolon) else {
         return Err(Stop::Unexpected);
     };
     *cursor = cursor.next();
-    let scopes = scopes.into_inner();
-    Ok(Policy {
+    Ok(policy_of(place, effect, scopes, conditions))
+}
+
+/// The policy of these parts.
+fn policy_of(place: Place, effect: Effect, scopes: Scopes, conditions: Seq<Condition>) -> Policy
+    ensures { result ≡ record {
+      place = place;
+      effect = effect;
+      principal = scopes.principal;
+      action = scopes.action;
+      resource = scopes.resource;
+      conditions = conditions;
+    } }
+{
+    Policy {
         place,
         effect,
-        principal: scopes.principal,
-        action: scopes.action,
-        resource: scopes.resource,
+        principal: scopes.principal.into_inner(),
+        action: scopes.action.into_inner(),
+        resource: scopes.resource.into_inner(),
         conditions,
-    })
+    }
 }
 
 /// Whether a file may have one more policy, where it has so many.

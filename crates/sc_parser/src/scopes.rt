@@ -7,22 +7,28 @@ use crate::constraint::{action_constraint, constraint};
 use sc_ast::{ActionScope, Scope};
 use sc_lexemes::{Cursor, Lexeme, Stop, sign_at, word_at};
 use sc_lexer::Kind;
+use sc_lists::Boxed;
 use std::alloc::Global;
 
 /// The scope of a policy.
-#[derive(Debug, PartialEq, Eq, Drop)]
+#[derive(Drop)]
 pub(crate) struct Scopes {
     /// Which principals it speaks of.
-    pub principal: Scope,
+    pub principal: Boxed<Scope>,
     /// Which actions it speaks of.
-    pub action: ActionScope,
+    pub action: Boxed<ActionScope>,
     /// Which resources it speaks of.
-    pub resource: Scope,
+    pub resource: Boxed<Scope>,
 }
 
 /// Reads this word, and what is asked of what it stands for.
 #[tactic(auto, using(crate::specs::ReadsFiles::no_scope, crate::specs::ReadsFiles::constraint_halts, crate::specs::ReadsFiles::scope))]
-fn scope(alloc: Global, ts: &[Lexeme], word: &str, cursor: &mut Cursor) -> Result<Scope, Stop>
+fn scope(
+    alloc: Global,
+    ts: &[Lexeme],
+    word: &str,
+    cursor: &mut Cursor,
+) -> Result<Boxed<Scope>, Stop>
     requires { cursor.old.at ≤ length ts.now }
     ensures forward { cursor.old.at ≤ cursor.new.at }
     ensures within { cursor.new.at ≤ length ts.now }
@@ -34,12 +40,12 @@ fn scope(alloc: Global, ts: &[Lexeme], word: &str, cursor: &mut Cursor) -> Resul
     };
     *cursor = cursor.next();
     let constraint = constraint(alloc, ts, cursor)?;
-    Ok(Scope { place, constraint })
+    Ok(Boxed::new(alloc, Scope { place, constraint })?)
 }
 
 /// Reads the part on the principal, and the comma behind it.
 #[tactic(auto, using(crate::specs::ReadsFiles::principal_halts, crate::specs::ReadsFiles::no_principal_comma, crate::specs::ReadsFiles::principal))]
-fn principal(alloc: Global, ts: &[Lexeme], cursor: &mut Cursor) -> Result<Scope, Stop>
+fn principal(alloc: Global, ts: &[Lexeme], cursor: &mut Cursor) -> Result<Boxed<Scope>, Stop>
     requires { cursor.old.at ≤ length ts.now }
     ensures forward { cursor.old.at ≤ cursor.new.at }
     ensures within { cursor.new.at ≤ length ts.now }
@@ -56,7 +62,7 @@ fn principal(alloc: Global, ts: &[Lexeme], cursor: &mut Cursor) -> Result<Scope,
 
 /// Reads the part on the action, and the comma behind it.
 #[tactic(auto, using(crate::specs::ReadsFiles::no_action, crate::specs::ReadsFiles::action_halts, crate::specs::ReadsFiles::no_action_comma, crate::specs::ReadsFiles::action_scope))]
-fn action(alloc: Global, ts: &[Lexeme], cursor: &mut Cursor) -> Result<ActionScope, Stop>
+fn action(alloc: Global, ts: &[Lexeme], cursor: &mut Cursor) -> Result<Boxed<ActionScope>, Stop>
     requires { cursor.old.at ≤ length ts.now }
     ensures forward { cursor.old.at ≤ cursor.new.at }
     ensures within { cursor.new.at ≤ length ts.now }
@@ -68,16 +74,17 @@ fn action(alloc: Global, ts: &[Lexeme], cursor: &mut Cursor) -> Result<ActionSco
     };
     *cursor = cursor.next();
     let constraint = action_constraint(alloc, ts, cursor)?;
+    let action = Boxed::new(alloc, ActionScope { place, constraint })?;
     let Some(_) = sign_at(ts, cursor.at, Kind::Comma) else {
         return Err(Stop::Unexpected);
     };
     *cursor = cursor.next();
-    Ok(ActionScope { place, constraint })
+    Ok(action)
 }
 
 /// Reads the part on the resource, perhaps a comma, and the closing parenthesis.
 #[tactic(auto, using(crate::specs::ReadsFiles::resource_halts, crate::specs::ReadsFiles::resource, crate::specs::ReadsFiles::scope_unclosed, crate::specs::ReadsFiles::resource_comma, crate::specs::ReadsFiles::scope_comma_unclosed))]
-fn resource(alloc: Global, ts: &[Lexeme], cursor: &mut Cursor) -> Result<Scope, Stop>
+fn resource(alloc: Global, ts: &[Lexeme], cursor: &mut Cursor) -> Result<Boxed<Scope>, Stop>
     requires { cursor.old.at ≤ length ts.now }
     ensures forward { cursor.old.at ≤ cursor.new.at }
     ensures within { cursor.new.at ≤ length ts.now }
