@@ -19,10 +19,9 @@ pub(crate) fn world_of(alloc: Global, value: &Json) -> Result<World, AllocError>
     ensures value { IfOk result (λ world. world ≡ world_of (view value.now)) }
     ensures proper { IfOk result (λ world. IsProperWorld world) }
 {
-    Ok(World {
-        request: request_of(alloc, value.get("request"))?,
-        store: store_of(alloc, value.get("entities"))?,
-    })
+    let store = store_of(alloc, value.get("entities"))?;
+    let request = request_of(alloc, value.get("request"))?;
+    Ok(World { request, store })
 }
 
 /// The request that a value says.
@@ -62,11 +61,10 @@ fn entity_of(alloc: Global, value: &Json) -> Result<(Uid, EntityData), AllocErro
     ensures value { IfOk result (λ entity. entity ≡ entity_of (view value.now)) }
     ensures proper { IfOk result (λ entity. IsProperEntry entity) }
 {
-    let uid = uid_of(alloc, value.get("uid"))?;
     let entity = EntityData {
         attrs: record_of(alloc, value.get("attrs"))?,
         ancestors: uids_of(alloc, value.get("parents"))?,
         tags: record_of(alloc, value.get("tags"))?,
     };
-    Ok((uid, entity))
+    Ok((uid_of(alloc, value.get("uid"))?, entity))
 }

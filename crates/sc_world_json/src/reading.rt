@@ -1,5 +1,5 @@
 //! Reads a world.
-ghost use Rattle.std.specs.Prelude.{IfOk, IfErr};
+ghost use Rattle.std.specs.Prelude.{ℕ, List, IfOk, IfErr};
 ghost use Rattle.serde_json.specs.View.{view};
 ghost use Rattle.sc_world.specs.WellFormed.{IsProperWorld};
 ghost use Rattle.sc_json_views.specs.Trees.{HasTree};
@@ -30,13 +30,21 @@ pub fn read_world(alloc: Global, bytes: &[u8]) -> Result<World, Fault<WorldFault
     ensures proper { IfOk result (λ world. IsProperWorld world) }
     ensures err { IfErr result (λ fault. RefusesWorld bytes.now fault) }
 {
-    let tree = match tree_of(alloc, bytes) {
-        Ok(tree) => tree,
-        Err(fault) => return Err(fault),
-    };
-    match first_fault(alloc, &tree)? {
+    match tree_of(alloc, bytes) {
+        Ok(tree) => world_in(alloc, &tree),
+        Err(fault) => Err(fault),
+    }
+}
+
+/// The world that a tree says, or its first fault.
+fn world_in(alloc: Global, tree: &Value) -> Result<World, Fault<WorldFault>>
+    ensures ok { IfOk result (λ world. (bytes : List ℕ) → HasTree bytes (view tree.now) → SpellsWorld bytes world) }
+    ensures proper { IfOk result (λ world. IsProperWorld world) }
+    ensures err { IfErr result (λ fault. (bytes : List ℕ) → HasTree bytes (view tree.now) → RefusesWorld bytes fault) }
+{
+    match first_fault(alloc, tree)? {
         Some(fault) => Err(Fault::Told(fault)),
-        None => Ok(world_of(alloc, &tree)?),
+        None => Ok(world_of(alloc, tree)?),
     }
 }
 

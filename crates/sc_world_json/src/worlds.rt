@@ -10,7 +10,7 @@ use crate::names::{uid_value, uid_values};
 use crate::values::field_values;
 use sc_names::Uid;
 use sc_world::{EntityData, Request, Store, World};
-use serde_json::{Value as Json, json};
+use serde_json::{Map, Value as Json, json, put};
 use std::alloc::{AllocError, Global};
 
 /// What is stored of an entity: its attributes, its ancestors, its tags and its uid.
@@ -19,11 +19,16 @@ fn entity_value(alloc: Global, uid: &Uid, entity: &EntityData) -> Result<Json, A
     requires tags { IsProperRecord entity.now.tags }
     ensures { IfOk result (λ v. view v ≡ entity_data (uid.now, entity.now)) }
 {
+    let mut members = Map::new(alloc);
     let attrs = Json::Object(field_values(alloc, &entity.attrs)?);
+    put(&mut members, alloc, "attrs", attrs)?;
     let parents = uid_values(alloc, &entity.ancestors)?;
+    put(&mut members, alloc, "parents", parents)?;
     let tags = Json::Object(field_values(alloc, &entity.tags)?);
+    put(&mut members, alloc, "tags", tags)?;
     let uid = uid_value(alloc, uid)?;
-    json!(in alloc; {"attrs": attrs, "parents": parents, "tags": tags, "uid": uid})
+    put(&mut members, alloc, "uid", uid)?;
+    Ok(Json::Object(members))
 }
 
 /// The stored entities, ascending by uid.
@@ -43,11 +48,16 @@ fn request_value(alloc: Global, request: &Request) -> Result<Json, AllocError>
     requires { IsProperRecord request.now.context }
     ensures { IfOk result (λ v. view v ≡ request_data request.now) }
 {
+    let mut members = Map::new(alloc);
     let action = uid_value(alloc, &request.action)?;
+    put(&mut members, alloc, "action", action)?;
     let context = Json::Object(field_values(alloc, &request.context)?);
+    put(&mut members, alloc, "context", context)?;
     let principal = uid_value(alloc, &request.principal)?;
+    put(&mut members, alloc, "principal", principal)?;
     let resource = uid_value(alloc, &request.resource)?;
-    json!(in alloc; {"action": action, "context": context, "principal": principal, "resource": resource})
+    put(&mut members, alloc, "resource", resource)?;
+    Ok(Json::Object(members))
 }
 
 /// A world as a JSON value: the stored entities by uid, and the request. Members of objects are in
@@ -59,9 +69,10 @@ pub fn world_value(alloc: Global, world: &World) -> Result<Json, AllocError>
     requires { IsProperWorld world.now }
     ensures { IfOk result (λ v. view v ≡ world_data world.now) }
 {
-    let entities = entity_values(alloc, &world.store)?;
-    let request = request_value(alloc, &world.request)?;
-    json!(in alloc; {"entities": entities, "request": request})
+    json!(in alloc; {
+        "entities": entity_values(alloc, &world.store)?,
+        "request": request_value(alloc, &world.request)?
+    })
 }
 
 /// The text of a world's JSON value, without white space.
