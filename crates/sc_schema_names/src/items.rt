@@ -9,7 +9,7 @@ use crate::declared::Declared;
 use crate::lookup::action_named;
 use crate::unknown_types::{entity_type_fault, inside};
 use sc_lists::{Seq, Text};
-use sc_schema_syntax::{SchemaFault, WrittenParent, under};
+use sc_schema_syntax::{SchemaFault, WrittenParent, under_item};
 use std::alloc::{AllocError, Global};
 
 /// An item of a list of names.
@@ -52,8 +52,7 @@ fn first_item<T: Item>(
 {
     for (number, item) in items.as_slice().iter().enumerate() {
         if let Some(fault) = item.own_fault(alloc, declared, namespace)? {
-            let key = format!(in alloc; "{number}")?;
-            return Ok(Some(under(alloc, key.as_str(), fault)?));
+            return Ok(Some(under_item(alloc, number, fault)?));
         }
     }
     Ok(None)

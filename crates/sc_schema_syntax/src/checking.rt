@@ -10,7 +10,7 @@ use crate::fault::SchemaFault;
 use crate::form::{Form, admits_text, admits_truth, item_form};
 use crate::level::{Level, is_name, is_whole, level_of};
 use crate::member_form::member_form;
-use crate::pointer::under;
+use crate::pointer::{under, under_item};
 use sc_lists::Text;
 use serde_json::{Map, Value};
 use std::alloc::{AllocError, Global};
@@ -64,8 +64,7 @@ fn items_fault(
 {
     for (number, item) in items.iter().enumerate() {
         if let Some(fault) = value_fault(alloc, form, item)? {
-            let key = format!(in alloc; "{number}")?;
-            return Ok(Some(under(alloc, key.as_str(), fault)?));
+            return Ok(Some(under_item(alloc, number, fault)?));
         }
     }
     Ok(None)

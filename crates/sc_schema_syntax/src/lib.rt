@@ -30,7 +30,7 @@ pub use attribute::WrittenPresence;
 pub use extension::ExtensionKind;
 pub use fault::SchemaFault;
 pub use law::syntax_laws;
-pub use pointer::under;
+pub use pointer::{under, under_item};
 pub use reading::read_syntax;
 pub use written_action::{WrittenAction, WrittenParent};
 pub use written_common_type::WrittenCommonType;

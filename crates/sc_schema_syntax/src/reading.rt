@@ -1,5 +1,5 @@
 //! Reads the syntax of a schema file.
-ghost use Rattle.std.specs.Prelude.{IfOk, IfErr};
+ghost use Rattle.std.specs.Prelude.{ℕ, List, IfOk, IfErr};
 ghost use Rattle.serde_json.specs.View.{view};
 ghost use Rattle.sc_json_views.specs.Trees.{HasTree};
 ghost use Rattle.sc_schema_syntax.specs.Syntax.{Spells, Refuses};
@@ -26,13 +26,20 @@ pub fn read_syntax(alloc: Global, bytes: &[u8]) -> Result<WrittenSchema, Fault<S
     ensures ok { IfOk result (λ schema. Spells bytes.now schema) }
     ensures err { IfErr result (λ fault. Refuses bytes.now fault) }
 {
-    let tree = match tree_of(alloc, bytes) {
-        Ok(tree) => tree,
-        Err(fault) => return Err(fault),
-    };
-    match first_fault(alloc, &tree)? {
+    match tree_of(alloc, bytes) {
+        Ok(tree) => schema_in(alloc, &tree),
+        Err(fault) => Err(fault),
+    }
+}
+
+/// The schema that a tree says, or its first fault.
+fn schema_in(alloc: Global, tree: &Value) -> Result<WrittenSchema, Fault<SchemaFault>>
+    ensures ok { IfOk result (λ schema. (bytes : List ℕ) → HasTree bytes (view tree.now) → Spells bytes schema) }
+    ensures err { IfErr result (λ fault. (bytes : List ℕ) → HasTree bytes (view tree.now) → Refuses bytes fault) }
+{
+    match first_fault(alloc, tree)? {
         Some(fault) => Err(Fault::Told(fault)),
-        None => Ok(schema_of(alloc, &tree)?),
+        None => Ok(schema_of(alloc, tree)?),
     }
 }
 

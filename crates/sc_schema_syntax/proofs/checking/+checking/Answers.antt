@@ -1,5 +1,4 @@
 use Rattle.std.proofs.Common.{◌≡◌, ◌∙◌, ℕ, List, Option, Some, IfOk, string_bytes, length, get_or, ap, sym, subst, rules, arith}
-use Rattle.std.specs.Fmt.{decimal}
 use Rattle.serde_json.specs.View.{view}
 use Rattle.sc_schema_syntax.specs.declared.fault.SchemaFault.{SchemaFault}
 use Rattle.sc_schema_syntax.specs.Pointers.{under}
@@ -59,8 +58,7 @@ items_fault-returns-in-Some t c =
     let all = c.deref-item-items.ensures.value in
     let x = c.item-item.result in
     let here = subst (λ vs. x ≡ get_or vs n x) all c.item-item.is in
-    let key : c.as_str.result.now ≡ decimal n = search rules in
-    ap Some (c.in_ok-under.ensures ∙ ap (λ k. under k c.in-Some.fault) key)
+    ap Some c.in_ok-under_item.ensures
     ∙ fault_of_item (items_walk c.args.form) c.args.items.now.items n x c.in-Some.fault here (omega (arith, ap length all)) c.loop-number.invariant (sym c.in-Some.is ∙ c.in_ok-fault.ensures)
 
 pub items_fault-loop-number-preserved : goal.items_fault-loop-number-preserved
