@@ -54,7 +54,7 @@ object_fault-returns-in-None t c = rw (← c.in-None.ensures) c.shape_fault.ensu
 
 pub items_fault-returns-in-Some : goal.items_fault-returns-in-Some
 items_fault-returns-in-Some t c =
-    let n = c.loop-number.number-counter in
+    let n = c.loop-number.number in
     let all = c.deref-item-items.ensures.value in
     let x = c.item-item.result in
     let here = subst (λ vs. x ≡ get_or vs n x) all c.item-item.is in
@@ -63,7 +63,7 @@ items_fault-returns-in-Some t c =
 
 pub items_fault-loop-number-preserved : goal.items_fault-loop-number-preserved
 items_fault-loop-number-preserved t c =
-    let n = c.loop-number.number-counter in
+    let n = c.loop-number.number in
     let all = c.deref-item-items.ensures.value in
     let x = c.item-item.result in
     let here = subst (λ vs. x ≡ get_or vs n x) all c.item-item.is in
@@ -72,7 +72,7 @@ items_fault-loop-number-preserved t c =
 pub items_fault-returns : goal.items_fault-returns
 items_fault-returns t c =
     let all = c.deref-item-items.ensures.value in
-    no_items_left (items_walk c.args.form) c.args.items.now.items c.loop-number.number-counter (omega (arith, ap length all)) c.loop-number.invariant
+    no_items_left (items_walk c.args.form) c.args.items.now.items c.loop-number.number (omega (arith, ap length all)) c.loop-number.invariant
 
 pub members_fault-returns-in-Some-2 : goal.members_fault-returns-in-Some-2
 members_fault-returns-in-Some-2 t c =

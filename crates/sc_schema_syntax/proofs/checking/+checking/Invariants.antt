@@ -5,7 +5,7 @@ use Rattle.sc_schema_syntax.proofs.checking.+checking.Given as goal
 
 abbrev pub invariant-items_fault-loop-number : goal.invariant-items_fault-loop-number
 invariant-items_fault-loop-number l =
-    items_fault l.form 0 (items_view l.items.items) ≡ items_fault l.form l.number-counter (items_view (drop l.number-counter l.items.items))
+    items_fault l.form 0 (items_view l.items.items) ≡ items_fault l.form l.number (items_view (drop l.number l.items.items))
 
 abbrev pub invariant-members_fault-loop-name : goal.invariant-members_fault-loop-name
 invariant-members_fault-loop-name l = record {
