@@ -10,24 +10,22 @@ use Rattle.sc_names.specs.Uids.{uid_cmp}
 use Rattle.sc_names.proofs.UidLaws.{uid_cmp_level}
 use Rattle.sc_clauses.specs.Assignments.{Assignment, value_of}
 use Rattle.sc_clauses.specs.Clauses.{bool_eq, positive}
-use Rattle.sc_sorts.proofs.OutLaws.{out_Bool}
 use Rattle.sc_nodes.specs.declared.node.BinaryOp.TheVariants.{Equal}
 use Rattle.sc_nodes.specs.declared.node.Leaf.TheVariants.{Literal}
 use Rattle.sc_nodes.specs.declared.node.Literal.{Literal as AnyLiteral}
 use Rattle.sc_nodes.specs.declared.node.Literal.TheVariants as literals
 use Rattle.sc_nodes.specs.Literals.{same_entity}
 use Rattle.sc_terms.specs.Trees.{Tree, leaf, two}
-use Rattle.sc_terms.specs.TreeSorts.{tree_sort}
 use Rattle.sc_terms.specs.Order.{tree_cmp, tree_eq}
-use Rattle.sc_terms.specs.Folds.{constant, literal_of, literals_same, literal_term, truth_term, equation, other_equal, equal_term}
+use Rattle.sc_terms.specs.Folds.{literal_of, literals_same, literal_term, truth_term, equation, other_equal, equal_term}
 use Rattle.sc_terms.proofs.OrderLaws.{tree_cmp_level, tree_eq-exact}
-use Rattle.sc_terms.proofs.EqualLaws.{constant_is}
 use Rattle.sc_footprint.specs.Problems.{Posed, IsPosed, atoms, numbered, atom_number, literal, literal_in}
 use Rattle.sc_footprint.proofs.NumberingLaws.{numbered_back}
 use Rattle.sc_instances.specs.Known.{only_true, seen_value, known}
 use Rattle.sc_instances.proofs.FalseLaws.{known_atom}
 use Rattle.sc_instances.proofs.LiteralLaws.{literal_truth, number_there}
-use Rattle.sc_rules.specs.Terms.{is_named, is_named_level}
+use Rattle.sc_rules.specs.Terms.{is_named}
+use Rattle.sc_rules.proofs.NamedLaws.{named_plain}
 use Rattle.sc_equal_chains.specs.Joining.{has_choices}
 
 -- ---- one entity twice
@@ -45,19 +43,6 @@ written_twice : (x y : Tree) → literals_same (literal_of x) (literal_of y) ≡
 written_twice (leaf (Literal l)) (leaf (Literal k)) h apart = twice l k (same_some h) (λ same. apart (ap literal_term same))
 written_twice (leaf (Literal l)) _ h apart = absurd cc
 written_twice _ y h apart = absurd cc
-
--- ---- what is named is no truth value
-
-truth_unnamed : (b : Bool) → is_named (truth_term b) ≡ false
-unfolding tree_sort
-truth_unnamed b = ap is_named_level out_Bool
-
-plain : (x : Tree) → is_named x ≡ true → constant x ≡ None
-plain x h = by (constant x) refl
-  where
-    by : (o : Option Bool) → constant x ≡ o → constant x ≡ None
-    by None e = e
-    by (Some b) e = let never : true ≡ false = sym h ∙ ap is_named (constant_is x b e) ∙ truth_unnamed b in absurd cc
 
 -- ---- a listed atom
 
@@ -115,7 +100,7 @@ module _ (p : Posed) (m : Assignment) where
   reason x y posed e f apart h = by (tree_eq x y) (literals_same (literal_of x) (literal_of y)) (is_gt (tree_cmp x y)) refl refl refl (subst (λ (t : Tree). known m (literal_in p t) ≡ Some true) folded h)
     where
       folded : equal_term x y ≡ other_equal (tree_eq x y) (literals_same (literal_of x) (literal_of y)) x y
-      folded = rw (plain x e, plain y f) refl
+      folded = rw (named_plain x e, named_plain y f) refl
 
       turn : (t : Bool) → is_gt (tree_cmp x y) ≡ t → known m (literal_in p (other_equal false None x y)) ≡ Some true → Reason p m x y
       turn true i k = let a = atom_true (two Equal y x) (subst (λ (b : Bool). known m (literal_in p (equation b x y)) ≡ Some true) i k) in by_turned a.0 a.1

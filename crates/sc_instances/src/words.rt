@@ -6,6 +6,7 @@ ghost use Rattle.sc_instances.specs.Names as names;
 
 use crate::rule::{EntityRule, EqualRule, SetRule};
 use sc_clauses::{Instance, Word};
+use sc_lists::equals;
 
 /// A log holds numbers below this one, which have at most 18 digits.
 pub(crate) const NUMBER_LIMIT: u64 = 1_000_000_000_000_000_000;
@@ -68,13 +69,13 @@ fn numbers_in(words: &[Word]) -> Numbers
 fn equal_two(rule: &str, a: u64, b: u64) -> Option<EqualRule>
     ensures { result ≡ names.equal_two rule.now a b }
 {
-    if rule == "EQ2" {
+    if equals(rule, "EQ2") {
         Some(EqualRule::Eq2(a, b))
-    } else if rule == "EQ4" {
+    } else if equals(rule, "EQ4") {
         Some(EqualRule::Eq4(a, b))
-    } else if rule == "EQ5" {
+    } else if equals(rule, "EQ5") {
         Some(EqualRule::Eq5(a, b))
-    } else if rule == "EQ6" {
+    } else if equals(rule, "EQ6") {
         Some(EqualRule::Eq6(a, b))
     } else {
         None
@@ -84,11 +85,11 @@ fn equal_two(rule: &str, a: u64, b: u64) -> Option<EqualRule>
 fn equal_three(rule: &str, a: u64, b: u64, c: u64) -> Option<EqualRule>
     ensures { result ≡ names.equal_three rule.now a b c }
 {
-    if rule == "EQ1" {
+    if equals(rule, "EQ1") {
         Some(EqualRule::Eq1(a, b, c))
-    } else if rule == "EQ3" {
+    } else if equals(rule, "EQ3") {
         Some(EqualRule::Eq3(a, b, c))
-    } else if rule == "EQ7" {
+    } else if equals(rule, "EQ7") {
         Some(EqualRule::Eq7(a, b, c))
     } else {
         None
@@ -102,7 +103,7 @@ pub fn equal_rule(instance: &Instance) -> Option<EqualRule>
     let rule = instance.rule.as_str();
     match numbers_in(instance.words.as_slice()) {
         Numbers::One(a) => {
-            if rule == "EQ8" {
+            if equals(rule, "EQ8") {
                 Some(EqualRule::Eq8(a))
             } else {
                 None
@@ -117,19 +118,19 @@ pub fn equal_rule(instance: &Instance) -> Option<EqualRule>
 fn set_three(rule: &str, a: u64, b: u64, c: u64) -> Option<SetRule>
     ensures { result ≡ names.set_three rule.now a b c }
 {
-    if rule == "SE1" {
+    if equals(rule, "SE1") {
         Some(SetRule::Se1(a, b, c))
-    } else if rule == "SE3" {
+    } else if equals(rule, "SE3") {
         Some(SetRule::Se3(a, b, c))
-    } else if rule == "SE4" {
+    } else if equals(rule, "SE4") {
         Some(SetRule::Se4(a, b, c))
-    } else if rule == "SE5" {
+    } else if equals(rule, "SE5") {
         Some(SetRule::Se5(a, b, c))
-    } else if rule == "SE6" {
+    } else if equals(rule, "SE6") {
         Some(SetRule::Se6(a, b, c))
-    } else if rule == "SE7" {
+    } else if equals(rule, "SE7") {
         Some(SetRule::Se7(a, b, c))
-    } else if rule == "SE8" {
+    } else if equals(rule, "SE8") {
         Some(SetRule::Se8(a, b, c))
     } else {
         None
@@ -143,7 +144,7 @@ pub fn set_rule(instance: &Instance) -> Option<SetRule>
     let rule = instance.rule.as_str();
     match numbers_in(instance.words.as_slice()) {
         Numbers::Two(a, b) => {
-            if rule == "SE2" {
+            if equals(rule, "SE2") {
                 Some(SetRule::Se2(a, b))
             } else {
                 None
@@ -157,11 +158,11 @@ pub fn set_rule(instance: &Instance) -> Option<SetRule>
 fn entity_one(rule: &str, a: u64) -> Option<EntityRule>
     ensures { result ≡ names.entity_one rule.now a }
 {
-    if rule == "EN4" {
+    if equals(rule, "EN4") {
         Some(EntityRule::En4(a))
-    } else if rule == "EN6" {
+    } else if equals(rule, "EN6") {
         Some(EntityRule::En6(a))
-    } else if rule == "EN8" {
+    } else if equals(rule, "EN8") {
         Some(EntityRule::En8(a))
     } else {
         None
@@ -171,11 +172,11 @@ fn entity_one(rule: &str, a: u64) -> Option<EntityRule>
 fn entity_two(rule: &str, a: u64, b: u64) -> Option<EntityRule>
     ensures { result ≡ names.entity_two rule.now a b }
 {
-    if rule == "EN1" {
+    if equals(rule, "EN1") {
         Some(EntityRule::En1(a, b))
-    } else if rule == "EN3" {
+    } else if equals(rule, "EN3") {
         Some(EntityRule::En3(a, b))
-    } else if rule == "EN7" {
+    } else if equals(rule, "EN7") {
         Some(EntityRule::En7(a, b))
     } else {
         None
@@ -191,14 +192,14 @@ pub fn entity_rule(instance: &Instance) -> Option<EntityRule>
         Numbers::One(a) => entity_one(rule, a),
         Numbers::Two(a, b) => entity_two(rule, a, b),
         Numbers::Three(a, b, c) => {
-            if rule == "EN2" {
+            if equals(rule, "EN2") {
                 Some(EntityRule::En2(a, b, c))
             } else {
                 None
             }
         }
         Numbers::Four(a, b, c, d) => {
-            if rule == "EN5" {
+            if equals(rule, "EN5") {
                 Some(EntityRule::En5(a, b, c, d))
             } else {
                 None

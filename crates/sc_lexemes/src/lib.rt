@@ -4,7 +4,6 @@
 #![tactic(auto)]
 
 mod cursor;
-mod equality;
 mod keys;
 mod laws;
 mod lexeme;

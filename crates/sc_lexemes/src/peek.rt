@@ -5,12 +5,12 @@ ghost use Rattle.sc_lexemes.specs.Tables.{least_digits};
 ghost use Rattle.sc_ast.specs.declared.operator.UnaryOperator.TheVariants.{Negate};
 ghost use Rattle.sc_lexemes.specs.declared.lexeme.Shape.TheVariants.{Word, Number, String as OfString, Sign};
 
-use crate::equality::equals;
 use crate::lexeme::{Lexeme, Shape};
 use crate::operator::{Close, Level, Operator};
 use crate::tables::{level_of, operator_of, prefix_of};
 use sc_ast::{ConditionKind, Effect, Place, UnaryOperator};
 use sc_lexer::Kind;
+use sc_lists::equals;
 use sc_names::is_ident;
 use sc_pattern::Part;
 

@@ -2,13 +2,12 @@
 ghost use Rattle.std.specs.Prelude.{◌≡◌, IfOk};
 ghost use Rattle.sc_lexemes.specs.Tables.{operator_of, operator_of_sign, level_of, joined, prefix_of, prefix_of_sign, variable_of, test_of, method_of, function_of, called, applied};
 
-use crate::equality::equals;
 use crate::lexeme::Shape;
 use crate::operation::{binary, prefixed};
 use crate::operator::{Level, Operator};
 use sc_ast::{BinaryOperator, Expr, Place, UnaryOperator, Variable};
 use sc_lexer::Kind;
-use sc_lists::{Boxed, Seq};
+use sc_lists::{Boxed, Seq, equals};
 use std::alloc::{AllocError, Global};
 
 /// The operator that a sign is.

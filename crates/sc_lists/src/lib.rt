@@ -4,6 +4,7 @@
 #![tactic(auto)]
 
 mod boxed;
+mod equality;
 mod fault;
 pub mod members;
 pub mod pairs;
@@ -14,6 +15,7 @@ mod tests;
 mod text;
 
 pub use boxed::Boxed;
+pub use equality::{equals, same_bytes};
 pub use fault::Fault;
 pub use seq::Seq;
 pub use shared::Shared;

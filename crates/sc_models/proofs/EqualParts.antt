@@ -1,5 +1,5 @@
 -- The rules of equations, choices, records and options speak of truth values.
-use Rattle.std.proofs.Common.{◌≡◌, ◌&&◌, ℕ, zero, suc, true, false, List, Contains, slice_get, Option, Some, None, refl, sym, ◌∙◌}
+use Rattle.std.proofs.Common.{◌≡◌, ◌&&◌, ℕ, zero, suc, true, List, Contains, slice_get, Option, Some, None, refl, sym, ◌∙◌}
 use Rattle.std.specs.List.{AllByRecursion}
 use Rattle.sc_laws.proofs.BoolLaws.{and_first, and_second}
 use Rattle.sc_lists.proofs.ListLaws.{contains_place}
@@ -17,26 +17,20 @@ use Rattle.sc_sorts.specs.declared.sort.Sort.TheOpen as s
 use Rattle.sc_sorts.specs.Inside.{SortField, SortFields, held_sort}
 use Rattle.sc_terms.specs.Trees.{Tree, choice}
 use Rattle.sc_terms.specs.TreeSorts.{tree_sort}
-use Rattle.sc_terms.specs.Folds.{constant, equal_term, field_term, present_term, held_term, default_term}
+use Rattle.sc_terms.specs.Folds.{equal_term, field_term, present_term, held_term, default_term}
 use Rattle.sc_term_laws.specs.Judging.{IsTermOf, IsTerm}
 use Rattle.sc_term_laws.specs.Judging as judged
 use Rattle.sc_term_laws.proofs.DefaultMade.{default_made, held_made}
 use Rattle.sc_term_laws.proofs.MadeLaws.{field_made, present_made}
 use Rattle.sc_term_laws.proofs.TestLaws.{at_level, option_sort, same_sorts}
 use Rattle.sc_term_laws.proofs.UnaryJudged.{of_sort}
-use Rattle.sc_footprint.specs.Atoms.{is_bool, is_bool_in}
+use Rattle.sc_footprint.specs.Atoms.{is_bool}
 use Rattle.sc_footprint.proofs.SortLaws.{found, names_ascend, held_lawful}
 use Rattle.sc_rules.specs.Signed.{Said, unless}
-use Rattle.sc_rules.specs.Terms.{one_sort, is_named_level, is_named, is_option, fields_level}
+use Rattle.sc_rules.specs.Terms.{one_sort, is_named, is_option, fields_level}
+use Rattle.sc_rules.proofs.NamedLaws.{named_plain}
 use Rattle.sc_rules.specs.Equal.{field_equal, eq1, eq2, eq3_of, field_at, eq3, eq4_of, eq4, are_options, eq5, eq6, eq7, eq8}
-use Rattle.sc_models.proofs.PartSorts.{plain, plain_equal, bool_of, same_equal, IsOfTruths, given_truths, mapped_truths}
-
-named_at : (k : Sort-F Sort) → is_named_level k ≡ true → is_bool_in k ≡ false
-named_at s.Bool h = absurd cc
-named_at _ h = refl
-
-named_plain : (t : Tree) → is_named t ≡ true → constant t ≡ None
-named_plain t h = plain t (named_at (out-Sort (tree_sort t)) h)
+use Rattle.sc_models.proofs.PartSorts.{plain_equal, bool_of, same_equal, IsOfTruths, given_truths, mapped_truths}
 
 module _ (d : Declarations) (env : Env) (written : List Uid) where
   abbrev Of : Sort → Tree → Type 0

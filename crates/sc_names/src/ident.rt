@@ -3,7 +3,7 @@ ghost use Rattle.std.specs.Prelude.{◌≡◌, true, IfOk, if◌then◌else◌};
 ghost use Rattle.std.specs.List.{list_all};
 ghost use Rattle.sc_names.specs.Names.{begins_word, goes_on_word, is_word, is_reserved, is_ident};
 
-use sc_lists::Text;
+use sc_lists::{Text, same_bytes};
 use std::alloc::{AllocError, Global};
 use std::marker::Model;
 
@@ -42,16 +42,16 @@ pub fn is_word(bytes: &[u8]) -> bool
 pub fn is_reserved(word: &[u8]) -> bool
     ensures { result ≡ is_reserved word.now }
 {
-    word == b"true".as_slice()
-        || word == b"false".as_slice()
-        || word == b"if".as_slice()
-        || word == b"then".as_slice()
-        || word == b"else".as_slice()
-        || word == b"in".as_slice()
-        || word == b"like".as_slice()
-        || word == b"is".as_slice()
-        || word == b"has".as_slice()
-        || word == b"__cedar".as_slice()
+    same_bytes(word, b"true")
+        || same_bytes(word, b"false")
+        || same_bytes(word, b"if")
+        || same_bytes(word, b"then")
+        || same_bytes(word, b"else")
+        || same_bytes(word, b"in")
+        || same_bytes(word, b"like")
+        || same_bytes(word, b"is")
+        || same_bytes(word, b"has")
+        || same_bytes(word, b"__cedar")
 }
 
 /// Whether the bytes are an identifier.

@@ -3,6 +3,7 @@ use Rattle.std.proofs.Common.{◌≡◌, ◌+◌, ◌<◌, ◌≤◌, ℕ, List,
 use Rattle.std.specs.List.{list_all}
 use Rattle.std.specs.Option.{option_to_list}
 use Rattle.std.proofs.lemmas.Bool.{eq-eqb, eqb-true, ne_eqb, not-true, true≢false}
+use Rattle.sc_laws.proofs.BoolLaws.{not_false}
 use Rattle.sc_clauses.specs.declared.lit.Lit.{Lit}
 use Rattle.sc_clauses.specs.Clauses.{Clause, lit_eq, negation}
 use Rattle.sc_clauses.proofs.LitLaws.{lit_eq-true, lit_eq-itself}
@@ -63,14 +64,10 @@ second_same o l rest e = ap (λ (b : Bool). cond (b && list_all (lit_eq o) rest)
 second_other : (o l : Lit) (rest : Clause) → lit_eq o l ≡ false → residual (o ∷ l ∷ rest) ≡ Open
 second_other o l rest e = ap (λ (b : Bool). cond (b && list_all (lit_eq o) rest) (Unit o) Open) e
 
-not-false : (b : Bool) → not b ≡ false → b ≡ true
-not-false true e = refl
-not-false false e = absurd (true≢false e)
-
 taken_by : (found : Option Lit) (l : Lit) (rest : Clause) → is_other found l ≡ false → residual (option_to_list found ++ l ∷ rest) ≡ residual (l ∷ rest)
 taken_by None l rest e = refl
 taken_by (Some o) l rest e =
-    let same : lit_eq o l ≡ true = not-false (lit_eq o l) e in
+    let same : lit_eq o l ≡ true = not_false (lit_eq o l) e in
     second_same o l rest same ∙ ap (λ (m : Lit). residual (m ∷ rest)) (lit_eq-true o l same)
 
 open_by : (found : Option Lit) (l : Lit) (rest : Clause) → is_other found l ≡ true → residual (option_to_list found ++ l ∷ rest) ≡ Open

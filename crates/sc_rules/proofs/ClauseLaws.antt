@@ -2,7 +2,7 @@
 use Rattle.std.proofs.Common.{◌≡◌, ◌||◌, Bool, true, false, not, List, [], ◌∷◌, map, inl, inr, refl, ap, sym, ◌∙◌}
 use Rattle.std.proofs.lemmas.Bool.{or_left, or_right}
 use Rattle.sc_lists.specs.Members.{Has}
-use Rattle.sc_laws.proofs.BoolLaws.{or_first, or_second}
+use Rattle.sc_laws.proofs.BoolLaws.{or_first, or_second, not_false}
 use Rattle.sc_world.specs.declared.world.World.{World}
 use Rattle.sc_terms.specs.Trees.{Tree}
 use Rattle.sc_rules.specs.Signed.{Signed, so, unless, given, is_true, holds_in, some_holds, Holds}
@@ -14,10 +14,6 @@ unless_by false d h = refl
 so_by : (b d : Bool) → (b ≡ false → d ≡ true) → (b || d) ≡ true
 so_by true d h = refl
 so_by false d h = h refl
-
-pub not_false : (b : Bool) → not b ≡ false → b ≡ true
-not_false true e = refl
-not_false false e = absurd cc
 
 not_by : (b d : Bool) → b ≡ false → (not b || d) ≡ true
 not_by true d h = absurd cc

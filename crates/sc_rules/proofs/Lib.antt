@@ -2,6 +2,7 @@ pub mod MemberLaws
 pub mod FieldLaws
 pub mod ClauseLaws
 pub mod EquationLaws
+pub mod NamedLaws
 pub mod MemberTruths
 pub mod SortValues
 pub mod EqualSound

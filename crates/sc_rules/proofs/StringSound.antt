@@ -5,7 +5,7 @@ use Rattle.std.proofs.lemmas.Bool.{and_parts}
 use Rattle.std.specs.List.{AllByRecursion, flat_map, list_all}
 use Rattle.std.specs.Str.{IsUtf8, chars, encode_utf8_all}
 use Rattle.sc_lists.specs.Members.{Has}
-use Rattle.sc_laws.proofs.BoolLaws.{or_first, or_second, never}
+use Rattle.sc_laws.proofs.BoolLaws.{or_first, or_second, not_false, never}
 use Rattle.sc_languages.specs.Strings.{IsText, AreDistinct}
 use Rattle.sc_languages.proofs.TextLaws.{text_chars}
 use Rattle.sc_pattern.specs.Language.{is_match}
@@ -20,7 +20,7 @@ use Rattle.sc_terms.specs.Values.{Val, it, val, level, like_seen}
 use Rattle.sc_rules.specs.Signed.{Signed, so, unless, some_holds, Holds, is_true}
 use Rattle.sc_rules.specs.Terms.{is_string}
 use Rattle.sc_rules.specs.Strings.{Pattern, Signs, st1_of, st1, HasSign, HasSigns, AreFew, other_sign, other_signs, some_equal, crowd, st3, is_asked_all, st2}
-use Rattle.sc_rules.proofs.ClauseLaws.{not_false, unless_else, so_holds, given_holds}
+use Rattle.sc_rules.proofs.ClauseLaws.{unless_else, so_holds, given_holds}
 use Rattle.sc_rules.proofs.SortValues.{IsAString}
 use Rattle.sc_rules.proofs.EquationLaws.{is_equal, equal_so}
 use Rattle.sc_rules.proofs.MemberTruths.{like_truth}

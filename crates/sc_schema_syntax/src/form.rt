@@ -2,9 +2,9 @@
 ghost use Rattle.std.specs.Prelude.{◌≡◌};
 ghost use Rattle.sc_schema_syntax.specs.Forms.{admits_truth, admits_text, item_form};
 
-use crate::equality::equals;
 use crate::level::Level;
 use crate::position::Position;
+use sc_lists::equals;
 
 /// What has to stand at a place of a schema file.
 #[derive(Clone, Copy)]

@@ -4,11 +4,11 @@ ghost use Rattle.serde_json.specs.View.{members_view};
 ghost use Rattle.sc_schema_syntax.specs.TypeWords.{is_reserved};
 ghost use Rattle.sc_schema_syntax.specs.Forms.{word_of, level_of, is_name, required_by, required, is_empty, is_whole};
 
-use crate::equality::equals;
 use crate::form::Form;
 use crate::member::member;
 use crate::position::Position;
 use crate::type_word::{TypeWord, type_word};
+use sc_lists::equals;
 use sc_names::{is_ident, is_path};
 use serde_json::{Map, Value};
 

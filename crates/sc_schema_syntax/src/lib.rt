@@ -6,7 +6,6 @@ mod attribute;
 mod building;
 mod checking;
 mod entries;
-mod equality;
 mod extension;
 mod fault;
 mod form;

@@ -3,11 +3,11 @@ ghost use Rattle.std.specs.Prelude.{◌≡◌, [], ◌∷◌, ◌++◌, Some, if
 ghost use Rattle.std.specs.Str.{bytes_eq};
 ghost use Rattle.sc_schema_syntax.specs.Forms.{member_form, among, namespace_members, entity_type_members, action_members, parent_members, applies_to_members, word_members, position_members, unread_type_member, type_member};
 
-use crate::equality::equals;
 use crate::form::Form;
 use crate::level::Level;
 use crate::position::Position;
 use crate::type_word::TypeWord;
+use sc_lists::equals;
 
 /// What has to stand at a member, if it is looked at.
 pub(crate) fn member_form(level: Level, name: &str) -> Option<Form>

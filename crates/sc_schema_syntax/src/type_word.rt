@@ -2,7 +2,7 @@
 ghost use Rattle.std.specs.Prelude.{◌≡◌};
 ghost use Rattle.sc_schema_syntax.specs.TypeWords.{type_word};
 
-use crate::equality::equals;
+use sc_lists::equals;
 
 /// What a word at the member `type` of a type means.
 #[derive(Clone, Copy, PartialEq, Eq)]

@@ -6,12 +6,11 @@ ghost use Rattle.sc_schema_syntax.specs.Written.{text_of, extension_of, presence
 
 use crate::attribute::WrittenPresence;
 use crate::entries::text_of;
-use crate::equality::equals;
 use crate::extension::ExtensionKind;
 use crate::member::value_at;
 use crate::type_word::{TypeWord, type_word};
 use crate::written_type::{WrittenAttributes, WrittenType};
-use sc_lists::{Boxed, Seq, Text};
+use sc_lists::{Boxed, Seq, Text, equals};
 use serde_json::Value;
 use std::alloc::{AllocError, Global};
 

@@ -6,6 +6,7 @@ use crate::numbers::{are_numbers, copied_signs, numbers};
 use crate::rule::StringRule;
 use sc_clauses::{Instance, Word};
 use sc_instances::are_written;
+use sc_lists::equals;
 use std::alloc::{AllocError, Global};
 
 /// The three numbers that words are.
@@ -24,7 +25,7 @@ fn plain_rule(rule: &str, words: &[Word]) -> Option<StringRule>
 {
     match three_numbers(words) {
         Some((a, b, pattern)) => {
-            if rule == "ST1" {
+            if equals(rule, "ST1") {
                 Some(StringRule::St1(a, b, pattern))
             } else {
                 None
@@ -46,12 +47,12 @@ fn counted_rule(
     if !are_numbers(words) {
         return Ok(None);
     }
-    if rule == "ST2" {
+    if equals(rule, "ST2") {
         let signs = copied_signs(alloc, signs)?;
         let strings = numbers(alloc, words)?;
         return Ok(Some(StringRule::St2(signs, strings)));
     }
-    if rule == "ST3" {
+    if equals(rule, "ST3") {
         let signs = copied_signs(alloc, signs)?;
         let strings = numbers(alloc, words)?;
         return Ok(Some(StringRule::St3(signs, strings)));

@@ -5,9 +5,9 @@ ghost use Rattle.sc_ip.specs.IpValue.{ip_of};
 ghost use Rattle.sc_values.specs.Proper.{IsProper};
 ghost use Rattle.sc_world_json.specs.Marks.{function_named, value_by};
 
-use crate::equality::equals;
 use sc_decimal::read_decimal;
 use sc_ip::read_ip;
+use sc_lists::equals;
 use sc_values::Value;
 
 /// A function that gives a value for a text.

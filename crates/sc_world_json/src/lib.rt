@@ -4,7 +4,6 @@
 
 mod building;
 mod checking;
-mod equality;
 mod fault;
 mod first_fault;
 mod form;

@@ -3,7 +3,7 @@ ghost use Rattle.std.specs.Prelude.{◌≡◌, option_map};
 ghost use Rattle.serde_json.specs.View.{members_view};
 ghost use Rattle.sc_world_json.specs.Marks.{only_name, mark_named, mark_of};
 
-use crate::equality::equals;
+use sc_lists::equals;
 use serde_json::{Map, Value as Json};
 
 /// What an object with just one member is marked as, by the member's name.

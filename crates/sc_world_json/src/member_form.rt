@@ -6,11 +6,11 @@ ghost use Rattle.serde_json.specs.View.{members_view};
 ghost use Rattle.sc_world_json.specs.declared.level.Level.TheVariants as level;
 ghost use Rattle.sc_world_json.specs.Forms.{fixed_members, among, has_just, has_members, member_form};
 
-use crate::equality::equals;
 use crate::form::Form;
 use crate::function::Function;
 use crate::level::Level;
 use crate::member::member;
+use sc_lists::equals;
 use serde_json::{Map, Value as Json};
 
 /// What has to stand at a member, if an object of the level may have it.

@@ -2,9 +2,8 @@
 use Rattle.std.proofs.Common.{◌≡◌, ◌==◌, ◌∙◌, ℕ, zero, suc, Bool, true, false, cond, List, [], ◌∷◌, Option, Some, None, refl, sym, ap, subst, arith}
 use Rattle.std.proofs.lemmas.Bool.{and_parts}
 use Rattle.std.proofs.lemmas.Bool.Decides.{nat_tests}
-use Rattle.std.specs.List.{AllByRecursion, list_any}
-use Rattle.sc_lists.proofs.MemberLaws.{AllByRecursion-Has, Contains-from_Has, Has-AllByRecursion, Has-from_Contains}
-use Rattle.sc_lists.proofs.ListLaws.{any_contained}
+use Rattle.std.specs.List.{AllByRecursion}
+use Rattle.sc_lists.proofs.MemberLaws.{AllByRecursion-Has, Has-AllByRecursion, Has-from_Contains}
 use Rattle.sc_lists.specs.Members.{Has}
 use Rattle.sc_clauses.specs.Assignments.{Assignment}
 use Rattle.sc_nodes.specs.declared.node.UnaryOp.TheVariants as unary
@@ -22,6 +21,7 @@ use Rattle.sc_instances.specs.Known.{is_falsified}
 use Rattle.sc_instances.specs.Clauses.{literal_for}
 use Rattle.sc_instances.proofs.FalseLaws.{false_negation, known_atom}
 use Rattle.sc_instances.proofs.LiteralLaws.{number_at, number_closed}
+use Rattle.sc_rules.proofs.MemberLaws.{has_any}
 use Rattle.sc_rules.specs.Signed.{Signed, Said, so, unless, given}
 use Rattle.sc_rules.specs.Entities.{en2, en4, en5, same_sets}
 use Rattle.sc_rules.specs.Terms.{above, member}
@@ -149,9 +149,6 @@ module _ (p : Posed) (m : Assignment) where
 itself : (n : ℕ) → (n == n) ≡ true
 itself n = grind (arith, nat_tests)
 
-any_Has : {X : Type 0} (p : X → Bool) (xs : List X) (x : X) → Has xs x → p x ≡ true → list_any p xs ≡ true
-any_Has p xs x has h = any_contained p xs x (Contains-from_Has xs x has) h
-
 module _ (p : Posed) (m : Assignment) where
   pub run_under : (e : ℕ) (lows : List Membership) (f : ℕ) (ups : List Membership) → AllByRecursion (λ (k : Membership). k.owner ≡ f) ups → AreLifted p m e f lows ups → AllByRecursion (IsUnder p m e lows) ups
   run_under e lows f ups alike lifted = Has-AllByRecursion (IsUnder p m e lows) ups each_of
@@ -169,6 +166,6 @@ module _ (p : Posed) (m : Assignment) where
       each_of low there up here own =
           let same : low.owner ≡ e = AllByRecursion-Has (λ (k : Membership). k.owner ≡ e) lows low alike there in
           let is : (low.member == up.owner) ≡ true = ap (λ (i : ℕ). low.member == i) own ∙ itself low.member in
-          let below : has_member lows up.owner ≡ true = any_Has (λ (k : Membership). k.member == up.owner) lows low there is in
+          let below : has_member lows up.owner ≡ true = has_any (λ (k : Membership). k.member == up.owner) lows low there is in
           let free = AllByRecursion-Has (IsUnder p m e lows) known up under here below in
           subst (λ (i : ℕ). IsLifted p m i low.member up) (sym same) (subst (λ (i : ℕ). IsLifted p m e i up) own free)

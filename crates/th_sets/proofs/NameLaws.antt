@@ -1,5 +1,5 @@
 -- All that closed terms name is listed, and what holds of each in the list holds of what any closed term names.
-use Rattle.std.proofs.Common.{◌≡◌, ◌++◌, ◌+◌, ℕ, List, [], ◌∷◌, filter, length, refl, arith}
+use Rattle.std.proofs.Common.{◌≡◌, ◌+◌, ℕ, List, [], ◌∷◌, filter, length, refl, arith}
 use Rattle.std.specs.List.{AllByRecursion}
 use Rattle.sc_lists.proofs.MemberLaws.{Has-left, Has-last, AllByRecursion-Has}
 use Rattle.sc_lists.specs.Members.{Has}

@@ -1,5 +1,3 @@
-use Rattle.std.proofs.Common.{◌∙◌, ap, sym, subst}
-use Rattle.th_sets.specs.Named.{AreNames, AreOfSets}
 use Rattle.th_sets.proofs.NameLaws.{of_sets}
 use Rattle.th_sets.proofs.finding.falsified_row.Goals as goal
 
