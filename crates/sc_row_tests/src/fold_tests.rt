@@ -226,175 +226,117 @@ fn defaults(rt: HostRuntime) {
 
 // ---- what isn't folded
 
-/// The rows of terms that stay.
-const NOT: u8 = 11;
+/// The row of what a word makes, and 0 where none of the terms below ends in it.
+fn row_of(word: &Word) -> u8 {
+    match word {
+        One(Not) => 11,
+        Two(And) => 12,
+        Two(Or) => 13,
+        Choice => 14,
+        Two(Equal) => 15,
+        Two(Sum) => 16,
+        Two(Difference) => 17,
+        Two(SumOverflows) => 19,
+        Two(Less) => 22,
+        One(Bit(_)) => 23,
+        Two(InRange) => 24,
+        One(Field(_)) => 33,
+        One(Present) => 36,
+        One(Held) => 37,
+        Two(Member) => 38,
+        Two(Subset) => 39,
+        Two(Common) => 40,
+        Two(DifferencePick) => 41,
+        One(Like(_)) => 43,
+        _ => 0,
+    }
+}
 
-const AND: u8 = 12;
-
-const OR: u8 = 13;
-
-const CHOICE: u8 = 14;
-
-const EQUAL: u8 = 15;
-
-const SUM: u8 = 16;
-
-const DIFFERENCE: u8 = 17;
-
-const SUM_OVERFLOWS: u8 = 19;
-
-const LESS: u8 = 22;
-
-const BIT: u8 = 23;
-
-const IN_RANGE: u8 = 24;
-
-const FIELD: u8 = 33;
-
-const PRESENT: u8 = 36;
-
-const HELD: u8 = 37;
-
-const MEMBER: u8 = 38;
-
-const SUBSET: u8 = 39;
-
-const COMMON: u8 = 40;
-
-const DIFFERENCE_PICK: u8 = 41;
-
-const LIKE: u8 = 43;
-
-/// Terms that stay as they are written, with their rows.
-const KEPT: &[(&[Word], u8)] = &[
+/// Terms that stay as they are written, each of the row of its last word.
+const KEPT: &[&[Word]] = &[
     // a term beside its negation, and beside a term that holds it
-    (&[Leaf(My("on")), Leaf(My("on")), One(Not), Two(And)], AND),
-    (&[Leaf(My("on")), Leaf(My("on")), One(Not), Two(Or)], OR),
-    (
-        &[Leaf(My("on")), Leaf(My("on")), One(Not), Two(Equal)],
-        EQUAL,
-    ),
-    (
-        &[
-            Leaf(My("on")),
-            Leaf(My("on")),
-            Leaf(My("up")),
-            Two(And),
-            Two(Or),
-        ],
-        OR,
-    ),
-    (&[Leaf(My("on")), Leaf(My("up")), Two(And), One(Not)], NOT),
+    &[Leaf(My("on")), Leaf(My("on")), One(Not), Two(And)],
+    &[Leaf(My("on")), Leaf(My("on")), One(Not), Two(Or)],
+    &[Leaf(My("on")), Leaf(My("on")), One(Not), Two(Equal)],
+    &[
+        Leaf(My("on")),
+        Leaf(My("on")),
+        Leaf(My("up")),
+        Two(And),
+        Two(Or),
+    ],
+    &[Leaf(My("on")), Leaf(My("up")), Two(And), One(Not)],
     // a choice of truth values, or by a negation
-    (&[Leaf(My("on")), Leaf(True), Leaf(False), Choice], CHOICE),
-    (
-        &[
-            Leaf(My("on")),
-            One(Not),
-            Leaf(Number(1)),
-            Leaf(Number(2)),
-            Choice,
-        ],
-        CHOICE,
-    ),
+    &[Leaf(My("on")), Leaf(True), Leaf(False), Choice],
+    &[
+        Leaf(My("on")),
+        One(Not),
+        Leaf(Number(1)),
+        Leaf(Number(2)),
+        Choice,
+    ],
     // equations of what is made of literals, and isn't one
-    (
-        &[
-            Leaf(Number(1)),
-            One(RecordOf("a")),
-            Leaf(Number(2)),
-            One(RecordOf("a")),
-            Two(Equal),
-        ],
-        EQUAL,
-    ),
-    (
-        &[
-            Leaf(Empty(Kind::Long)),
-            Leaf(Number(2)),
-            One(SetOf(Kind::Long)),
-            Two(Equal),
-        ],
-        EQUAL,
-    ),
-    (
-        &[
-            Leaf(Number(1)),
-            One(SetOf(Kind::Long)),
-            Leaf(Number(1)),
-            Leaf(Number(1)),
-            Two(SetOfBoth(Kind::Long)),
-            Two(Equal),
-        ],
-        EQUAL,
-    ),
-    (
-        &[Leaf(Absent(Kind::String)), Leaf(My("nick")), Two(Equal)],
-        EQUAL,
-    ),
+    &[
+        Leaf(Number(1)),
+        One(RecordOf("a")),
+        Leaf(Number(2)),
+        One(RecordOf("a")),
+        Two(Equal),
+    ],
+    &[
+        Leaf(Empty(Kind::Long)),
+        Leaf(Number(2)),
+        One(SetOf(Kind::Long)),
+        Two(Equal),
+    ],
+    &[
+        Leaf(Number(1)),
+        One(SetOf(Kind::Long)),
+        Leaf(Number(1)),
+        Leaf(Number(1)),
+        Two(SetOfBoth(Kind::Long)),
+        Two(Equal),
+    ],
+    &[Leaf(Absent(Kind::String)), Leaf(My("nick")), Two(Equal)],
     // numbers and addresses that are written
-    (&[Leaf(Number(1)), Leaf(Number(2)), Two(Sum)], SUM),
-    (
-        &[Leaf(Number(0)), Leaf(My("level")), Two(Difference)],
-        DIFFERENCE,
-    ),
-    (
-        &[Leaf(Number(1)), Leaf(Number(2)), Two(SumOverflows)],
-        SUM_OVERFLOWS,
-    ),
-    (&[Leaf(Number(1)), Leaf(Number(2)), Two(Less)], LESS),
-    (&[Leaf(My("level")), Leaf(My("level")), Two(Less)], LESS),
-    (
-        &[Leaf(Address(1, 8)), Leaf(Address(1, 8)), Two(InRange)],
-        IN_RANGE,
-    ),
+    &[Leaf(Number(1)), Leaf(Number(2)), Two(Sum)],
+    &[Leaf(Number(0)), Leaf(My("level")), Two(Difference)],
+    &[Leaf(Number(1)), Leaf(Number(2)), Two(SumOverflows)],
+    &[Leaf(Number(1)), Leaf(Number(2)), Two(Less)],
+    &[Leaf(My("level")), Leaf(My("level")), Two(Less)],
+    &[Leaf(Address(1, 8)), Leaf(Address(1, 8)), Two(InRange)],
     // what isn't a literal, a record term or an absent option
-    (&[Leaf(My("level")), One(Bit(0))], BIT),
-    (
-        &[Leaf(Number(1)), Leaf(Number(2)), Two(Sum), One(Bit(0))],
-        BIT,
-    ),
-    (&[Leaf(My("name")), One(Like(&[Star]))], LIKE),
-    (&[Leaf(My("nick")), One(Present)], PRESENT),
-    (&[Leaf(My("nick")), One(Held)], HELD),
-    (
-        &[Leaf(Number(1)), One(RecordOf("a")), One(Field("b"))],
-        FIELD,
-    ),
+    &[Leaf(My("level")), One(Bit(0))],
+    &[Leaf(Number(1)), Leaf(Number(2)), Two(Sum), One(Bit(0))],
+    &[Leaf(My("name")), One(Like(&[Star]))],
+    &[Leaf(My("nick")), One(Present)],
+    &[Leaf(My("nick")), One(Held)],
+    &[Leaf(Number(1)), One(RecordOf("a")), One(Field("b"))],
     // sets
-    (
-        &[Leaf(Number(1)), Leaf(Empty(Kind::Long)), Two(Member)],
-        MEMBER,
-    ),
-    (
-        &[Leaf(My("friends")), Leaf(My("friends")), Two(Subset)],
-        SUBSET,
-    ),
-    (
-        &[Leaf(My("friends")), Leaf(Empty(Kind::User)), Two(Common)],
-        COMMON,
-    ),
-    (
-        &[
-            Leaf(Empty(Kind::Long)),
-            Leaf(Empty(Kind::Long)),
-            Two(DifferencePick),
-        ],
-        DIFFERENCE_PICK,
-    ),
+    &[Leaf(Number(1)), Leaf(Empty(Kind::Long)), Two(Member)],
+    &[Leaf(My("friends")), Leaf(My("friends")), Two(Subset)],
+    &[Leaf(My("friends")), Leaf(Empty(Kind::User)), Two(Common)],
+    &[
+        Leaf(Empty(Kind::Long)),
+        Leaf(Empty(Kind::Long)),
+        Two(DifferencePick),
+    ],
 ];
 
-/// Whether a term is of this row.
-fn stays(alloc: Global, words: &[Word], wanted: u8) -> Result<bool, AllocError> {
+/// Whether a term is of the row of its last word.
+fn stays(alloc: Global, words: &[Word]) -> Result<bool, AllocError> {
+    let Some(last) = words.last() else {
+        return Ok(false);
+    };
     let mut terms = Terms::new(alloc)?;
     let number = number_of(alloc, &mut terms, words)?;
-    Ok(row(terms.node(number)) == wanted)
+    Ok(row(terms.node(number)) == row_of(last))
 }
 
 /// The place of the first term that isn't of its row, counted from 0.
-fn first_folded(alloc: Global, kept: &[(&[Word], u8)]) -> Option<usize> {
-    for (place, row) in kept.iter().enumerate() {
-        if stays(alloc, row.0, row.1) != Ok(true) {
+fn first_folded(alloc: Global, kept: &[&[Word]]) -> Option<usize> {
+    for (place, &words) in kept.iter().enumerate() {
+        if stays(alloc, words) != Ok(true) {
             return Some(place);
         }
     }

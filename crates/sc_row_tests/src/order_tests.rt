@@ -16,10 +16,15 @@ use std::cmp::Ordering::{self, Greater, Less};
 /// Two terms, and how the first compares with the second.
 type Pair = (&'static [Word], &'static [Word], Ordering);
 
+/// Whether the first term compares so with the second, and the second the other way round with the first.
+fn are_ordered(alloc: Global, left: &[Word], right: &[Word], order: Ordering) -> bool {
+    orders(alloc, left, right) == Ok((order, order.reverse()))
+}
+
 /// The place of the first pair whose terms don't compare so, or not the other way round.
 fn first_other(alloc: Global, pairs: &[Pair]) -> Option<usize> {
     for (place, pair) in pairs.iter().enumerate() {
-        if orders(alloc, pair.0, pair.1) != Ok((pair.2, pair.2.reverse())) {
+        if !are_ordered(alloc, pair.0, pair.1, pair.2) {
             return Some(place);
         }
     }
@@ -43,55 +48,32 @@ const LITERALS: &[Pair] = &[
     (&[Leaf(User("b"))], &[Leaf(User("a"))], Greater),
 ];
 
+/// Two kinds, and how the absent option of the first compares with that of the second: by kinds in their order, and then by
+/// what is inside them.
+const ABSENT: &[(Kind, Kind, Ordering)] = &[
+    (Kind::Bool, Kind::Long, Less),
+    (Kind::String, Kind::Long, Greater),
+    (Kind::Ip, Kind::Decimal, Greater),
+    (Kind::Ip, Kind::User, Less),
+    (Kind::Longs, Kind::User, Greater),
+    (Kind::Longs, Kind::Person, Less),
+    (Kind::Nick, Kind::Person, Greater),
+    (Kind::Action, Kind::User, Less),
+    (Kind::Users, Kind::Strings, Greater),
+    (Kind::Record, Kind::Person, Less),
+];
+
+/// The place of the first row whose options don't compare so.
+fn first_other_absent(alloc: Global) -> Option<usize> {
+    for (place, &(left, right, order)) in ABSENT.iter().enumerate() {
+        if !are_ordered(alloc, &[Leaf(Absent(left))], &[Leaf(Absent(right))], order) {
+            return Some(place);
+        }
+    }
+    None
+}
+
 const SORTED: &[Pair] = &[
-    // by kinds of sorts in their order
-    (
-        &[Leaf(Absent(Kind::Bool))],
-        &[Leaf(Absent(Kind::Long))],
-        Less,
-    ),
-    (
-        &[Leaf(Absent(Kind::String))],
-        &[Leaf(Absent(Kind::Long))],
-        Greater,
-    ),
-    (
-        &[Leaf(Absent(Kind::Ip))],
-        &[Leaf(Absent(Kind::Decimal))],
-        Greater,
-    ),
-    (&[Leaf(Absent(Kind::Ip))], &[Leaf(Absent(Kind::User))], Less),
-    (
-        &[Leaf(Absent(Kind::Longs))],
-        &[Leaf(Absent(Kind::User))],
-        Greater,
-    ),
-    (
-        &[Leaf(Absent(Kind::Longs))],
-        &[Leaf(Absent(Kind::Person))],
-        Less,
-    ),
-    (
-        &[Leaf(Absent(Kind::Nick))],
-        &[Leaf(Absent(Kind::Person))],
-        Greater,
-    ),
-    // and then by what is inside them
-    (
-        &[Leaf(Absent(Kind::Action))],
-        &[Leaf(Absent(Kind::User))],
-        Less,
-    ),
-    (
-        &[Leaf(Absent(Kind::Users))],
-        &[Leaf(Absent(Kind::Strings))],
-        Greater,
-    ),
-    (
-        &[Leaf(Absent(Kind::Record))],
-        &[Leaf(Absent(Kind::Person))],
-        Less,
-    ),
     (
         &[Leaf(Principal(Kind::User))],
         &[Leaf(Principal(Kind::Action))],
@@ -130,47 +112,36 @@ const SORTED: &[Pair] = &[
     ),
 ];
 
+/// Two numbers, and the names of the fields of a record in which they stand.
+type Fields = (i64, i64, &'static str, &'static str);
+
+/// Two records, and how the first compares with the second: by the name of a field, then its part, then the next name.
+const RECORDS: &[(Fields, Fields, Ordering)] = &[
+    ((2, 0, "a", "b"), (1, 9, "a", "c"), Greater),
+    ((1, 0, "a", "c"), (1, 9, "a", "b"), Greater),
+    ((9, 9, "a", "b"), (0, 0, "b", "c"), Less),
+];
+
+fn record_of(fields: Fields) -> [Word; 3] {
+    let (first, second, name, other) = fields;
+    [
+        Leaf(Number(first)),
+        Leaf(Number(second)),
+        Two(RecordOfBoth(name, other)),
+    ]
+}
+
+/// The place of the first row whose records don't compare so.
+fn first_other_record(alloc: Global) -> Option<usize> {
+    for (place, &(left, right, order)) in RECORDS.iter().enumerate() {
+        if !are_ordered(alloc, &record_of(left), &record_of(right), order) {
+            return Some(place);
+        }
+    }
+    None
+}
+
 const LISTS: &[Pair] = &[
-    // the name of a field, then its part, then the next name
-    (
-        &[
-            Leaf(Number(2)),
-            Leaf(Number(0)),
-            Two(RecordOfBoth("a", "b")),
-        ],
-        &[
-            Leaf(Number(1)),
-            Leaf(Number(9)),
-            Two(RecordOfBoth("a", "c")),
-        ],
-        Greater,
-    ),
-    (
-        &[
-            Leaf(Number(1)),
-            Leaf(Number(0)),
-            Two(RecordOfBoth("a", "c")),
-        ],
-        &[
-            Leaf(Number(1)),
-            Leaf(Number(9)),
-            Two(RecordOfBoth("a", "b")),
-        ],
-        Greater,
-    ),
-    (
-        &[
-            Leaf(Number(9)),
-            Leaf(Number(9)),
-            Two(RecordOfBoth("a", "b")),
-        ],
-        &[
-            Leaf(Number(0)),
-            Leaf(Number(0)),
-            Two(RecordOfBoth("b", "c")),
-        ],
-        Less,
-    ),
     // a proper prefix comes first
     (
         &[Leaf(Number(1)), One(RecordOf("a"))],
@@ -303,11 +274,13 @@ fn literals(rt: HostRuntime) {
 
 #[test]
 fn terms_with_sorts(rt: HostRuntime) {
+    assert!(rt; first_other_absent(rt.alloc()).is_none());
     assert!(rt; first_other(rt.alloc(), SORTED).is_none());
 }
 
 #[test]
 fn records_and_sets(rt: HostRuntime) {
+    assert!(rt; first_other_record(rt.alloc()).is_none());
     assert!(rt; first_other(rt.alloc(), LISTS).is_none());
 }
 

@@ -1,6 +1,6 @@
 //! Questions about entities, attributes and records.
 use crate::questions::{all_fail, all_hold};
-use crate::schemas::{FULL, NAMED, TRUTH};
+use sc_test_runs::schemas::{FULL, NAMED, TRUTH};
 use std::test::Fail;
 
 /// Questions that hold, where there is one text: the question, and its conditions.

@@ -1,8 +1,8 @@
 //! Budgets: what is said where one is spent, the log that is kept, and what one suffices for.
-use crate::reports::reports;
-use crate::runs::{Ended, Failing, ends_so, ran, text_in};
-use crate::samples::{CONTRADICTION, HOLDS};
-use crate::schemas::{FULL, TWO_TRUTHS};
+use sc_test_runs::reports::reports;
+use sc_test_runs::runs::{Ended, Failing, ends_so, ran, text_in};
+use sc_test_runs::samples::{CONTRADICTION, HOLDS};
+use sc_test_runs::schemas::{FULL, TWO_TRUTHS};
 use std::alloc::{AllocError, Global};
 use std::test::Fail;
 

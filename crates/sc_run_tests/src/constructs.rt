@@ -1,8 +1,9 @@
 //! Policies of many scopes and under conditions of many constructs, with the bytes of each answer.
-use crate::questions::{part, policy_under};
-use crate::reports::{are_reported, reports};
-use crate::samples::{HOLDS, OF_USER, OF_USER_BY_DEFAULT};
-use crate::schemas::{FULL, TRUTH, VIEWED_GROUPS};
+use crate::reports::are_reported;
+use sc_test_runs::questions::{part, policy_under};
+use sc_test_runs::reports::reports;
+use sc_test_runs::samples::{HOLDS, OF_USER, OF_USER_BY_DEFAULT};
+use sc_test_runs::schemas::{FULL, TRUTH, VIEWED_GROUPS};
 use std::alloc::{AllocError, Global};
 use std::test::Fail;
 

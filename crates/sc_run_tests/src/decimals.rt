@@ -1,6 +1,6 @@
 //! Questions about decimal numbers.
 use crate::questions::{all_fail, all_hold};
-use crate::schemas::{FULL, PRICED};
+use sc_test_runs::schemas::{FULL, PRICED};
 use std::test::Fail;
 
 /// Questions that hold, where there are values of many kinds: the question, and its conditions.

@@ -1,7 +1,8 @@
 //! Questions about groups and scopes.
-use crate::questions::{all_fail, all_hold, is_answered};
-use crate::samples::HOLDS;
-use crate::schemas::FULL;
+use crate::questions::{all_fail, all_hold};
+use sc_test_runs::questions::is_answered;
+use sc_test_runs::samples::HOLDS;
+use sc_test_runs::schemas::FULL;
 use std::test::Fail;
 
 /// Questions that hold: the question, and its conditions.

@@ -1,7 +1,7 @@
 //! Questions of one policy set or of two, with the bytes of each answer.
-use crate::questions::is_answered;
-use crate::samples::{HOLDS, OF_USER, OF_USER_BY_DEFAULT, PERMIT, PERMIT_ALL};
-use crate::schemas::TRUTH;
+use sc_test_runs::questions::is_answered;
+use sc_test_runs::samples::{HOLDS, OF_USER, OF_USER_BY_DEFAULT, PERMIT, PERMIT_ALL};
+use sc_test_runs::schemas::TRUTH;
 use std::alloc::Global;
 use std::process::Abort;
 use std::test::Fail;

@@ -1,8 +1,9 @@
 //! Schemas and policies that are refused.
-use crate::questions::{is_told, policy_under};
-use crate::reports::{are_reported, reports};
-use crate::samples::HOLDS;
-use crate::schemas::{FULL, TRUTH};
+use crate::reports::are_reported;
+use sc_test_runs::questions::{is_told, policy_under};
+use sc_test_runs::reports::reports;
+use sc_test_runs::samples::HOLDS;
+use sc_test_runs::schemas::{FULL, TRUTH};
 use std::alloc::{AllocError, Global};
 use std::test::Fail;
 

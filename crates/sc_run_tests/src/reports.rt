@@ -1,21 +1,12 @@
 //! The lines of a report, one an environment.
-use crate::runs::ends;
-use crate::samples::{DENIES, HOLDS, OF_AGE, OF_USER, OF_USER_BY_DEFAULT, PERMIT, PERMIT_ALL};
-use crate::schemas::{BOSSES, FULL, NO_TYPES, TRUTH, TWO_ACTIONS, TWO_ATTRIBUTES, TWO_TYPES};
-use std::alloc::{AllocError, Global};
+use sc_test_runs::reports::reports;
+use sc_test_runs::samples::{HOLDS, OF_AGE, OF_USER, OF_USER_BY_DEFAULT, PERMIT, PERMIT_ALL};
+use sc_test_runs::schemas::{
+    BOSSES, FULL, NO_TYPES, TRUTH, TWO_ACTIONS, TWO_ATTRIBUTES, TWO_TYPES,
+};
+use std::alloc::Global;
 use std::process::Abort;
 use std::test::Fail;
-
-/// Whether the report on policies ends with this status and these lines.
-pub(crate) fn reports(
-    alloc: Global,
-    schema: &str,
-    policies: &str,
-    told: (u8, &str),
-) -> Result<bool, AllocError> {
-    let held = [("s", schema.as_bytes()), ("p", policies.as_bytes())];
-    ends(alloc, DENIES, &held, told)
-}
 
 /// Asserts of policies that the report on them ends with the status and the lines beside them.
 pub(crate) fn are_reported(

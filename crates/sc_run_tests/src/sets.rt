@@ -1,6 +1,6 @@
 //! Questions about sets and their members.
 use crate::questions::{all_fail, all_hold};
-use crate::schemas::FULL;
+use sc_test_runs::schemas::FULL;
 use std::test::Fail;
 
 /// Questions that hold: the question, and its conditions.

@@ -1,6 +1,7 @@
 //! Questions about tags.
-use crate::questions::{all_fail, all_hold, is_told};
-use crate::schemas::{FULL, TAGGED};
+use crate::questions::{all_fail, all_hold};
+use sc_test_runs::questions::is_told;
+use sc_test_runs::schemas::{FULL, TAGGED};
 use std::test::Fail;
 
 /// Questions that hold, where documents have tags: the question, and its conditions.

@@ -1,6 +1,6 @@
 //! Questions about texts and patterns.
 use crate::questions::{all_fail, all_hold};
-use crate::schemas::{FULL, NAMED};
+use sc_test_runs::schemas::{FULL, NAMED};
 use std::test::Fail;
 
 /// Questions that hold: the question, and its conditions.

@@ -1,7 +1,7 @@
 //! What policies do in worlds.
-use crate::runs::ends;
-use crate::samples::{OF_AGE, OF_USER, PERMIT, REPLAYS};
-use crate::schemas::TRUTH;
+use sc_test_runs::runs::ends;
+use sc_test_runs::samples::{OF_AGE, OF_USER, PERMIT, REPLAYS};
+use sc_test_runs::schemas::TRUTH;
 use std::alloc::{AllocError, Global};
 use std::process::Abort;
 use std::test::Fail;

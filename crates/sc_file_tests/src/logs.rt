@@ -1,7 +1,7 @@
 //! Logs that are written are accepted, and others aren't.
-use crate::runs::{Failing, ends, ends_so, is_cut, text_in, written};
-use crate::samples::{CONTRADICTION, OF_USER, PERMIT};
-use crate::schemas::{FULL, NO_TYPES, TRUTH, TWO_TRUTHS, TWO_TYPES};
+use sc_test_runs::runs::{Failing, ends, ends_so, is_cut, text_in, written};
+use sc_test_runs::samples::{CONTRADICTION, OF_USER, PERMIT};
+use sc_test_runs::schemas::{FULL, NO_TYPES, TRUTH, TWO_TRUTHS, TWO_TYPES};
 use std::alloc::{AllocError, Global};
 use std::test::Fail;
 

@@ -1,9 +1,9 @@
 //! Files that were cut or are deep.
-use crate::questions::is_told;
-use crate::reports::reports;
-use crate::runs::{ends, written};
-use crate::samples::{DENIES, HOLDS};
-use crate::schemas::{FULL, TRUTH};
+use sc_test_runs::questions::is_told;
+use sc_test_runs::reports::reports;
+use sc_test_runs::runs::{ends, written};
+use sc_test_runs::samples::{DENIES, HOLDS};
+use sc_test_runs::schemas::{FULL, TRUTH};
 use std::alloc::{AllocError, Global};
 use std::test::Fail;
 

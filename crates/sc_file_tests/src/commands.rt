@@ -1,7 +1,7 @@
 //! The words of a command.
-use crate::runs::ends;
-use crate::samples::{HOLDS, REPLAYS};
-use crate::schemas::TRUTH;
+use sc_test_runs::runs::ends;
+use sc_test_runs::samples::{HOLDS, REPLAYS};
+use sc_test_runs::schemas::TRUTH;
 use std::alloc::{AllocError, Global};
 use std::test::Fail;
 

@@ -1,9 +1,9 @@
 //! Files that can't be read or are too long, and lines that can't be written.
 use crate::logs::{CHECKS, REFUTES};
 use crate::replays::WORLD;
-use crate::runs::{Failing, ends, ends_so, is_cut};
-use crate::samples::{DENIES, HOLDS, PERMIT, REPLAYS};
-use crate::schemas::{TRUTH, TWO_TYPES};
+use sc_test_runs::runs::{Failing, ends, ends_so, is_cut};
+use sc_test_runs::samples::{DENIES, HOLDS, PERMIT, REPLAYS};
+use sc_test_runs::schemas::{TRUTH, TWO_TYPES};
 use std::alloc::{AllocError, Global};
 use std::test::Fail;
 

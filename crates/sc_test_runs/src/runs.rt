@@ -7,7 +7,7 @@ use std::str;
 
 /// Which call of a run fails, the calls being counted from 0.
 #[derive(Clone, Copy)]
-pub(crate) enum Failing {
+pub enum Failing {
     /// None does.
     Nothing,
     /// The call for a file of this number.
@@ -18,7 +18,7 @@ pub(crate) enum Failing {
 
 /// How a run ends.
 #[derive(Drop)]
-pub(crate) struct Ended {
+pub struct Ended {
     /// Its status.
     pub code: u8,
     /// What it writes.
@@ -134,7 +134,7 @@ fn ran_over(
 }
 
 /// How a run over these files ends.
-pub(crate) fn ran(
+pub fn ran(
     alloc: Global,
     line: &str,
     held: &[(&str, &[u8])],
@@ -159,7 +159,7 @@ fn lines_in(text: &[u8]) -> &str {
 }
 
 /// Whether a run ends with this status and these lines, and keeps so many logs, where a call fails.
-pub(crate) fn ends_so(
+pub fn ends_so(
     alloc: Global,
     line: &str,
     held: &[(&str, &[u8])],
@@ -172,7 +172,7 @@ pub(crate) fn ends_so(
 }
 
 /// Whether a run over these files ends with this status and these lines, and keeps no log.
-pub(crate) fn ends(
+pub fn ends(
     alloc: Global,
     line: &str,
     held: &[(&str, &[u8])],
@@ -182,7 +182,7 @@ pub(crate) fn ends(
 }
 
 /// Whether this text is written where a call keeps so many bytes of its piece and fails.
-pub(crate) fn is_cut(
+pub fn is_cut(
     alloc: Global,
     line: &str,
     held: &[(&str, &[u8])],
@@ -194,7 +194,7 @@ pub(crate) fn is_cut(
 }
 
 /// What a run over these files writes, where it ends with this status, and else nothing.
-pub(crate) fn written(
+pub fn written(
     alloc: Global,
     line: &str,
     held: &[(&str, &[u8])],
@@ -208,7 +208,7 @@ pub(crate) fn written(
 }
 
 /// The text that bytes are, and else none.
-pub(crate) fn text_in(bytes: &[u8]) -> &str {
+pub fn text_in(bytes: &[u8]) -> &str {
     match str::from_utf8(bytes) {
         Ok(text) => text,
         Err(_) => "",

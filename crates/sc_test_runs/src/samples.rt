@@ -1,26 +1,25 @@
 //! Words, policies and lines that many tests share.
 
 /// Whether policies never allow.
-pub(crate) const DENIES: &str =
-    "analyse --schema s --policies p --query always-denies --budget 10000";
+pub const DENIES: &str = "analyse --schema s --policies p --query always-denies --budget 10000";
 
-pub(crate) const REPLAYS: &str = "replay --schema s --policies p --world w";
+pub const REPLAYS: &str = "replay --schema s --policies p --world w";
 
-pub(crate) const PERMIT_ALL: &str = "permit(principal, action, resource);";
+pub const PERMIT_ALL: &str = "permit(principal, action, resource);";
 
-pub(crate) const PERMIT: &str = "permit(principal, action, resource) when { context.mfa };";
+pub const PERMIT: &str = "permit(principal, action, resource) when { context.mfa };";
 
-pub(crate) const OF_AGE: &str = "permit(principal, action, resource) when { context.age };";
+pub const OF_AGE: &str = "permit(principal, action, resource) when { context.age };";
 
 /// Each of the four values of two attributes is excluded.
-pub(crate) const CONTRADICTION: &str =
+pub const CONTRADICTION: &str =
     "permit(principal, action, resource) when { (context.x || context.y) && (context.x || !context.y) && (!context.x || context.y) && (!context.x || !context.y) };";
 
-pub(crate) const HOLDS: &str = "env User Action::\"view\" Doc: holds";
+pub const HOLDS: &str = "env User Action::\"view\" Doc: holds";
 
-pub(crate) const OF_USER: &str =
+pub const OF_USER: &str =
     r#"env User Action::"view" Doc: counterexample {"entities":[{"attrs":{},"parents":[],"tags":{},"uid":{"id":"view","type":"Action"}},{"attrs":{},"parents":[],"tags":{},"uid":{"id":"0","type":"Doc"}},{"attrs":{},"parents":[],"tags":{},"uid":{"id":"0","type":"User"}}],"request":{"action":{"id":"view","type":"Action"},"context":{"mfa":true},"principal":{"id":"0","type":"User"},"resource":{"id":"0","type":"Doc"}}}"#;
 
 /// The same with the truth value that a context has by default.
-pub(crate) const OF_USER_BY_DEFAULT: &str =
+pub const OF_USER_BY_DEFAULT: &str =
     r#"env User Action::"view" Doc: counterexample {"entities":[{"attrs":{},"parents":[],"tags":{},"uid":{"id":"view","type":"Action"}},{"attrs":{},"parents":[],"tags":{},"uid":{"id":"0","type":"Doc"}},{"attrs":{},"parents":[],"tags":{},"uid":{"id":"0","type":"User"}}],"request":{"action":{"id":"view","type":"Action"},"context":{"mfa":false},"principal":{"id":"0","type":"User"},"resource":{"id":"0","type":"Doc"}}}"#;
