@@ -4,4 +4,5 @@ pub mod Soundness
 pub mod AcceptedLaws
 pub mod ProgressLaws
 pub mod StreamLaws
+mod PieceLaws
 pub mod StreamVerdicts

@@ -1,12 +1,15 @@
 -- What is held after the bytes of lines.
 use Rattle.std.proofs.Common.{◌≡◌, ◌+◌, ◌<◌, ◌==◌, ℕ, suc, List, [], ◌∷◌, ◌++◌, length, Bool, true, false, not, cond, Option, Some, None, is_some, refl, sym, ap, ◌∙◌, append_assoc, arith}
+use Rattle.std.specs.List.{list_all}
 use Rattle.std.proofs.Math.Dec.{eqb-suc-zero}
 use Rattle.std.proofs.lemmas.Bool.{and_parts, and_from, not-true, eqb-true, true≢false}
 use Rattle.std.proofs.lemmas.List.{append-nil, length-append}
+use Rattle.sc_clauses.specs.Clauses.{Clause}
 use Rattle.sc_clauses.specs.declared.step.Instance as instance
 use Rattle.sc_clauses.specs.declared.step.Learned as learned
 use Rattle.sc_clauses.specs.declared.step.Step.{Step}
 use Rattle.sc_clauses.specs.declared.step.Step.TheVariants.{Instance, Learned}
+use Rattle.sc_refutations.specs.Arenas.{has_code}
 use Rattle.sc_footprint.specs.Problems.{Posed}
 use Rattle.sc_checker.specs.declared.checking.Reason.{Reason}
 use Rattle.sc_checker.specs.declared.checking.Reason.TheVariants.{Malformed}
@@ -16,7 +19,7 @@ use Rattle.sc_logs.specs.Readings.{AreWritable, Reads}
 use Rattle.sc_checker.specs.Streams.{Checking, unread, first_words, after_reading, ended_line, after_byte, after}
 use Rattle.sc_logs.specs.Texts.{has_no_newline, step_line, steps_text, first_line}
 use Rattle.sc_checker.specs.Verdicts.{Rules, of_instance, of_learned}
-use Rattle.sc_logs.specs.Writable.{is_learned, is_writable}
+use Rattle.sc_logs.specs.Writable.{is_lit, is_learned, is_writable}
 use Rattle.sc_footprint.specs.Written.{is_instance}
 use Rattle.sc_logs.proofs.LineLaws.{neither_read}
 use Rattle.sc_logs.proofs.LineStepLaws.{step_is}
@@ -125,6 +128,16 @@ learned_line rules line g h l none read is = is ∙ (sym (no_fault rules g (Lear
 pub instance_line : (rules : Rules) (line : List ℕ) (g h : Progress) (i : instance.Instance) → g.fault ≡ None → Reads is_instance (λ k. step_line (Instance k)) line (Some i)
     → h ≡ taken (of_instance rules i) g → h ≡ after_reading rules g (step_of line)
 instance_line rules line g h i none read is = is ∙ (sym (no_fault rules g (Instance i) none) ∙ ap (after_reading rules g) (step_is line (Some (Instance i)) read))
+
+-- each literal of a learned clause that has a text has a number
+lits_coded : (c : Clause) → list_all is_lit c ≡ true → list_all has_code c ≡ true
+lits_coded [] e = refl
+lits_coded (l ∷ c) e =
+    let parts = and_parts (is_lit l) (list_all is_lit c) e in
+    and_from (has_code l) (list_all has_code c) (and_parts (has_code l) _ parts.0).0 (lits_coded c parts.1)
+
+pub learned_coded : (l : learned.Learned) → is_learned l ≡ true → list_all has_code l.clause ≡ true
+learned_coded l e = lits_coded l.clause (and_parts (list_all is_lit l.clause) _ e).0
 
 -- a learned clause whose line bytes begin with, where a line begins
 pub whole_taken : (rules : Rules) (begun : Bool) (line : List ℕ) (c : Checking) (g h : Progress) (bytes later : List ℕ) (l : learned.Learned) → held begun line g ≡ c → c ≡ between c.progress → c.progress.fault ≡ None

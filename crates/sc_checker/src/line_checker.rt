@@ -1,7 +1,7 @@
 //! The checker of a log's lines, whose bytes come in pieces.
-ghost use Rattle.std.specs.Prelude.{◌≡◌, ◌++◌, ◌∷◌, ◌<◌, ◌≤◌, [], None, OnOk, IfOk, IsTrue, MatchOption, true, length};
+ghost use Rattle.std.specs.Prelude.{◌≡◌, ◌++◌, ◌∷◌, ◌<◌, ◌≤◌, ◌⊎◌, [], None, OnOk, IfOk, IsTrue, true, take, drop, length};
 ghost use Rattle.std.specs.Str.{bytes_eq};
-ghost use Rattle.sc_logs.specs.LineSteps.{step_of};
+ghost use Rattle.sc_logs.specs.LineSteps.{step_of, ends_line};
 ghost use Rattle.sc_checker.specs.Progress.{IsChecked};
 ghost use Rattle.sc_checker.specs.Streams.{unread, first_words, after_reading, ended_line, line_number, after, ended};
 ghost use Rattle.sc_logs.specs.Texts.{has_no_newline};
@@ -55,7 +55,7 @@ fn take_line<T: Theory>(
     ensures checked { OnOk result (IsChecked problem.now steps.new) }
 {
     if read_learned(line, room)? {
-        return steps.take_learned(room.clause.as_slice(), room.hints.as_slice());
+        return steps.take_lits(alloc, room.clause.as_slice(), room.hints.as_slice());
     }
     match read_instance(alloc, line)? {
         Some(instance) => steps.take_instance(alloc, rules, problem, &instance),
@@ -68,7 +68,9 @@ fn take_line<T: Theory>(
 
 /// Where the last line that ends within bytes ends, or 0.
 fn lines_end(bytes: &[u8]) -> usize
-    ensures { result ≤ length bytes.now }
+    ensures within { result ≤ length bytes.now }
+    ensures ended { (result ≡ 0) ⊎ IsTrue (ends_line (take result bytes.now)) }
+    ensures rest { IsTrue (has_no_newline (drop result bytes.now)) }
 {
     let mut left = bytes;
     while let Some((last, before)) = left.split_last() {
@@ -168,60 +170,62 @@ impl LineChecker {
         self.begun && self.line.is_empty() && !self.steps.is_at_fault()
     }
 
-    /// Reads the line that bytes begin with. What follows its newline, where it has one.
-    fn read_cut<'b, T: Theory>(
+    /// Reads the line at a place of bytes that end with a newline. The place behind the line's newline.
+    fn read_cut<T: Theory>(
         &mut self,
         alloc: Global,
         rules: &T,
         problem: &Problem<'_>,
-        bytes: &'b [u8],
-    ) -> Result<Option<&'b [u8]>, AllocError>
-        requires { IsChecked problem.now self.old.progress }
-        ensures read { IfOk result (λ o. MatchOption o (IsTrue (has_no_newline bytes.now) × (self.new ≡ self.old))
-            (λ later. (length later.now < length bytes.now) × ((tests : AnyRules)
-            → AreRules T.has_instance T.clause_of rules.now problem.now tests
-            → after tests self.new later.now ≡ after tests self.old bytes.now))) }
+        bytes: &[u8],
+        from: usize,
+    ) -> Result<usize, AllocError>
+        requires checked { IsChecked problem.now self.old.progress }
+        requires ended { IsTrue (ends_line bytes.now) }
+        requires within { from < length bytes.now }
+        ensures read { IfOk result (λ next. (length (drop next bytes.now) < length (drop from bytes.now))
+            × ((tests : AnyRules) → AreRules T.has_instance T.clause_of rules.now problem.now tests
+            → after tests self.new (drop next bytes.now) ≡ after tests self.old (drop from bytes.now))) }
         ensures checked { OnOk result (IsChecked problem.now self.new.progress) }
     {
-        match cut_line(bytes) {
-            Some((line, later)) => {
-                self.read_end(alloc, rules, problem, line)?;
-                Ok(Some(later))
-            }
-            None => Ok(None),
-        }
+        let Some((line, _)) = cut_line(&bytes[from..]) else {
+            unreachable!()
+        };
+        self.read_end(alloc, rules, problem, line)?;
+        Ok(from + line.len() + 1)
     }
 
-    /// Reads the line that bytes begin with, that of a learned clause in one pass. What follows its newline, where it
-    /// has one.
-    fn read_line<'b, T: Theory>(
+    /// Reads the line at a place of bytes that end with a newline, that of a learned clause in one pass. The place behind
+    /// the line's newline.
+    fn read_line<T: Theory>(
         &mut self,
         alloc: Global,
         rules: &T,
         problem: &Problem<'_>,
-        bytes: &'b [u8],
-    ) -> Result<Option<&'b [u8]>, AllocError>
-        requires { IsChecked problem.now self.old.progress }
-        ensures read { IfOk result (λ o. MatchOption o (IsTrue (has_no_newline bytes.now) × (self.new ≡ self.old))
-            (λ later. (length later.now < length bytes.now) × ((tests : AnyRules)
-            → AreRules T.has_instance T.clause_of rules.now problem.now tests
-            → after tests self.new later.now ≡ after tests self.old bytes.now))) }
+        bytes: &[u8],
+        from: usize,
+    ) -> Result<usize, AllocError>
+        requires checked { IsChecked problem.now self.old.progress }
+        requires ended { IsTrue (ends_line bytes.now) }
+        requires within { from < length bytes.now }
+        ensures read { IfOk result (λ next. (length (drop next bytes.now) < length (drop from bytes.now))
+            × ((tests : AnyRules) → AreRules T.has_instance T.clause_of rules.now problem.now tests
+            → after tests self.new (drop next bytes.now) ≡ after tests self.old (drop from bytes.now))) }
         ensures checked { OnOk result (IsChecked problem.now self.new.progress) }
     {
         if !self.is_between() {
-            return self.read_cut(alloc, rules, problem, bytes);
+            return self.read_cut(alloc, rules, problem, bytes, from);
         }
-        match read_whole(bytes, &mut self.room)? {
-            Some(later) => {
-                let clause = self.room.clause.as_slice();
+        match read_whole(bytes, from, &mut self.room)? {
+            Some(next) => {
+                let clause = self.room.codes.as_slice();
                 self.steps.take_learned(clause, self.room.hints.as_slice())?;
-                Ok(Some(later))
+                Ok(next)
             }
-            None => self.read_cut(alloc, rules, problem, bytes),
+            None => self.read_cut(alloc, rules, problem, bytes, from),
         }
     }
 
-    /// Reads bytes of a log's text, one line after another.
+    /// Reads lines of a log's text, one after another: no bytes, or bytes that end with a newline.
     fn read_lines<T: Theory>(
         &mut self,
         alloc: Global,
@@ -229,20 +233,20 @@ impl LineChecker {
         problem: &Problem<'_>,
         bytes: &[u8],
     ) -> Result<(), AllocError>
-        requires { IsChecked problem.now self.old.progress }
+        requires checked { IsChecked problem.now self.old.progress }
+        requires ended { (length bytes.now ≡ 0) ⊎ IsTrue (ends_line bytes.now) }
         ensures read { OnOk result ((tests : AnyRules) → AreRules T.has_instance T.clause_of rules.now problem.now tests
             → self.new ≡ after tests self.old bytes.now) }
         ensures checked { OnOk result (IsChecked problem.now self.new.progress) }
     {
-        let mut rest = bytes;
-        while let Some(later) = self.read_line(alloc, rules, problem, rest)? {
-            rest = later;
+        let mut place = 0;
+        while place < bytes.len() {
+            place = self.read_line(alloc, rules, problem, bytes, place)?;
         }
-        self.keep(rest)
+        Ok(())
     }
 
-    /// Reads a piece of a log's text. The lines that end within it are read by themselves, so that what is left of them
-    /// always ends with a newline.
+    /// Reads a piece of a log's text: the lines that end within it, and then what is left of it, which is kept.
     pub(crate) fn read<T: Theory>(
         &mut self,
         alloc: Global,
@@ -257,7 +261,7 @@ impl LineChecker {
     {
         let (lines, rest) = piece.split_at(lines_end(piece));
         self.read_lines(alloc, rules, problem, lines)?;
-        self.read_lines(alloc, rules, problem, rest)
+        self.keep(rest)
     }
 
     /// The number of the line that isn't ended.

@@ -1,8 +1,10 @@
 //! The checker of steps, one after another.
-ghost use Rattle.std.specs.Prelude.{◌≡◌, ◌&&◌, ◌+◌, ◌<◌, None, OnOk, IfOk, IsTrue, length};
+ghost use Rattle.std.specs.Prelude.{◌≡◌, ◌&&◌, ◌+◌, ◌<◌, None, OnOk, IfOk, IsTrue, map, length};
+ghost use Rattle.std.specs.List.{list_all};
 ghost use Rattle.std.specs.Option.{is_some};
 ghost use Rattle.sc_lists.specs.Told.{Gives};
 ghost use Rattle.sc_checker.specs.Progress.{IsChecked, start, failed, counted, grown, taken, after_step, verdict_of};
+ghost use Rattle.sc_refutations.specs.Arenas.{lit_of, has_code};
 ghost use Rattle.sc_refutations.specs.Refutations.{are_listed, is_clause, refutes, negated};
 ghost use Rattle.sc_checker.specs.Verdicts.{Rules as AnyRules, AreRules, of_instance, of_learned};
 
@@ -109,23 +111,34 @@ impl StepChecker {
         self.steps = self.next_number();
     }
 
-    /// Counts one step more, and tells whether its clause is shown by its hints.
-    fn shows(&mut self, clause: &[Lit], hints: &[u64]) -> bool
+    /// Counts one step more, and tells whether its clause, given by the numbers of its literals, is shown by its hints.
+    fn shows(&mut self, clause: &[u32], hints: &[u64]) -> bool
         requires room { self.old.steps < length self.old.clauses }
         requires listed { IsTrue (are_listed self.old.listed self.old.clauses) }
+        requires codes { IsTrue (list_all has_code (map lit_of clause.now)) }
         ensures counted { self.new ≡ counted self.old }
-        ensures shown { result ≡ is_clause self.old.listed clause.now
-            && refutes self.old.clauses (negated clause.now) hints.now }
+        ensures shown { result ≡ is_clause self.old.listed (map lit_of clause.now)
+            && refutes self.old.clauses (negated (map lit_of clause.now)) hints.now }
     {
         self.steps = self.next_number();
         is_shown(&mut self.known, self.steps, &self.clauses, clause, hints)
     }
 
-    /// Adds the clause of the last step.
-    fn add(&mut self, clause: &[Lit]) -> Result<(), AllocError>
-        ensures { OnOk result (self.new ≡ grown clause.now self.old) }
+    /// Adds the clause of the last step, by the numbers of its literals.
+    fn add(&mut self, clause: &[u32]) -> Result<(), AllocError>
+        requires { IsTrue (list_all has_code (map lit_of clause.now)) }
+        ensures { OnOk result (self.new ≡ grown (map lit_of clause.now) self.old) }
     {
         self.clauses.push(clause)?;
+        self.is_empty = clause.is_empty();
+        Ok(())
+    }
+
+    /// Adds the clause of the last step.
+    fn add_lits(&mut self, clause: &[Lit]) -> Result<(), AllocError>
+        ensures { OnOk result (self.new ≡ grown clause.now self.old) }
+    {
+        self.clauses.push_lits(clause)?;
         self.is_empty = clause.is_empty();
         Ok(())
     }
@@ -151,7 +164,7 @@ impl StepChecker {
         problem_laws();
         self.count();
         match instance_clause(alloc, rules, problem, instance) {
-            Ok(clause) => self.add(clause.as_slice()),
+            Ok(clause) => self.add_lits(clause.as_slice()),
             Err(Fault::Told(reason)) => {
                 self.fail(self.steps, reason);
                 Ok(())
@@ -160,18 +173,42 @@ impl StepChecker {
         }
     }
 
-    /// Takes a learned clause and its hints.
-    pub(crate) fn take_learned(&mut self, clause: &[Lit], hints: &[u64]) -> Result<(), AllocError>
+    /// Takes a learned clause, by the numbers of its literals, and its hints.
+    pub(crate) fn take_learned(&mut self, clause: &[u32], hints: &[u64]) -> Result<(), AllocError>
         requires room { self.old.steps < length self.old.clauses }
         requires listed { IsTrue (are_listed self.old.listed self.old.clauses) }
+        requires codes { IsTrue (list_all has_code (map lit_of clause.now)) }
         ensures { OnOk result (self.new ≡ taken (of_learned self.old.listed self.old.clauses
-            (record { clause = clause.now; hints = hints.now })) self.old) }
+            (record { clause = map lit_of clause.now; hints = hints.now })) self.old) }
     {
         if self.shows(clause, hints) {
             return self.add(clause);
         }
         self.fail(self.steps, Reason::NotRefuted);
         Ok(())
+    }
+
+    /// Takes a learned clause and its hints.
+    pub(crate) fn take_lits(
+        &mut self,
+        alloc: Global,
+        clause: &[Lit],
+        hints: &[u64],
+    ) -> Result<(), AllocError>
+        requires room { self.old.steps < length self.old.clauses }
+        requires listed { IsTrue (are_listed self.old.listed self.old.clauses) }
+        ensures { OnOk result (self.new ≡ taken (of_learned self.old.listed self.old.clauses
+            (record { clause = clause.now; hints = hints.now })) self.old) }
+    {
+        match self.known.codes_of(alloc, clause)? {
+            Some(codes) => self.take_learned(codes.as_slice(), hints),
+            // A literal that has no number is of no listed atom.
+            None => {
+                self.count();
+                self.fail(self.steps, Reason::NotRefuted);
+                Ok(())
+            }
+        }
     }
 
     /// Takes a step, unless one was at fault.
@@ -194,7 +231,7 @@ impl StepChecker {
         match step {
             Step::Instance(instance) => self.take_instance(alloc, rules, problem, instance),
             Step::Learned(learned) => {
-                self.take_learned(learned.clause.as_slice(), learned.hints.as_slice())
+                self.take_lits(alloc, learned.clause.as_slice(), learned.hints.as_slice())
             }
         }
     }

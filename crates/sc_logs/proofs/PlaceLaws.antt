@@ -1,23 +1,15 @@
 -- Laws of places in bytes that end with a newline.
-use Rattle.std.proofs.Common.{◌≡◌, ◌+◌, ◌-◌, ◌*◌, ◌<◌, ◌≤◌, ◌^◌, ℕ, List, [], ◌∷◌, ◌++◌, take, drop, get_or, length, Bool, true, false, ◌&&◌, nat_lt, refl, sym, ap, ◌∙◌, subst, arith}
+use Rattle.std.proofs.Common.{◌≡◌, ◌+◌, ◌-◌, ◌*◌, ◌<◌, ◌≤◌, ◌^◌, ℕ, List, ◌∷◌, ◌++◌, take, drop, get_or, length, Bool, true, false, ◌&&◌, nat_lt, refl, sym, ap, ◌∙◌, subst, arith}
 use Rattle.std.specs.Fmt.{decimal}
 use Rattle.std.specs.Int.{IsInRange}
 use Rattle.std.specs.Str.Parse.{AllDigits, digits_value}
-use Rattle.std.proofs.lemmas.Bool.{eqb-true, ltb-true, ltb-false, true≢false}
+use Rattle.std.proofs.lemmas.Bool.{eqb-true, ltb-true, ltb-false}
 use Rattle.std.proofs.lemmas.Int.Digits.{digits_more}
 use Rattle.std.proofs.lemmas.List.{drop-drop, drop_more, get_or-drop, length-drop}
 use Rattle.std.proofs.lemmas.Str.{digit_value_digit}
 use Rattle.sc_logs.specs.LineSteps.{ends_line}
 use Rattle.sc_logs.proofs.NumberLaws.{from_small, from_more, from_read}
 use Rattle.sc_footprint.specs.Written.{is_number}
-
-pub nothing_ends : (bytes : List ℕ) → length bytes ≡ 0 → false ≡ ends_line bytes
-nothing_ends [] h = refl
-nothing_ends (b ∷ bytes) h = absurd (omega (arith, h))
-
-pub some_bytes : (bytes : List ℕ) → ends_line bytes ≡ true → 0 < length bytes
-some_bytes [] e = absurd (true≢false (sym e))
-some_bytes (b ∷ bytes) e = omega arith
 
 -- another byte than a newline has one behind it
 next_by : (bytes : List ℕ) (place : ℕ) (t : Bool) → nat_lt (place + 1) (length bytes) ≡ t → ends_line bytes ≡ true → place < length bytes → (get_or bytes place 0 ≡ 10 → ⊥) → place + 1 < length bytes
@@ -47,8 +39,8 @@ first_stands bytes place h = drop_more bytes place 0 h
 pub first_next : (bytes : List ℕ) (place : ℕ) → ends_line bytes ≡ true → place < length bytes → 49 ≤ get_or bytes place 0 → place + 1 < length bytes
 first_next bytes place ended h low = next_place bytes place ended h (λ (q : get_or bytes place 0 ≡ 10). absurd (omega (arith, q)))
 
-pub newline_stands : (bytes rest : List ℕ) (place : ℕ) → place < length bytes → get_or bytes place 0 ≡ 10 → rest ≡ drop (place + 1) bytes → drop place bytes ≡ 10 ∷ rest
-newline_stands bytes rest place h e is = byte_stands bytes place 10 h e ∙ ap (λ (t : List ℕ). 10 ∷ t) (sym is)
+pub newline_stands : (bytes : List ℕ) (place : ℕ) → place < length bytes → get_or bytes place 0 ≡ 10 → drop place bytes ≡ 10 ∷ drop (place + 1) bytes
+newline_stands bytes place h e = byte_stands bytes place 10 h e
 
 -- ---- digits from a place on
 

@@ -6,6 +6,8 @@ use Rattle.std.proofs.lemmas.Bool.{and_from}
 use Rattle.std.proofs.lemmas.List.{length-append, map-append}
 use Rattle.std.proofs.lemmas.List.Folds.{list_all-append}
 use Rattle.sc_clauses.specs.declared.lit.Lit.{Lit}
+use Rattle.sc_refutations.specs.Arenas.{code_of, lit_of}
+use Rattle.sc_refutations.proofs.CodeLaws.{lit_again}
 use Rattle.sc_clauses.specs.declared.step.Learned as learned
 use Rattle.sc_clauses.specs.declared.step.Step.TheVariants.{Learned}
 use Rattle.sc_logs.specs.Texts.{lit_text, spaced, step_line}
@@ -36,14 +38,19 @@ word_shorter rest word text later next read =
     let short : length word ≡ length text + length later = ap length read ∙ length-append text later in
     omega (arith, long, short)
 
--- ---- literals
+-- ---- literals, by their numbers
 
-pub lits_fit : (xs : List Lit) (l : Lit) → list_all is_lit xs ≡ true → is_lit l ≡ true → list_all is_lit (xs ++ l ∷ []) ≡ true
-lits_fit xs l fit e = more_fit is_lit xs l fit e
+codes_more : (codes : List ℕ) (l : Lit) (code : ℕ) → code ≡ code_of l → map lit_of (codes ++ code ∷ []) ≡ map lit_of codes ++ l ∷ []
+codes_more codes l code is = map-append lit_of codes (code ∷ []) ∙ ap (λ (m : Lit). map lit_of codes ++ m ∷ []) (ap lit_of is ∙ lit_again l)
 
-pub lits_text : (bytes rest word later : List ℕ) (xs : List Lit) (l : Lit) → bytes ≡ spaced (map lit_text xs) ++ rest → rest ≡ 32 ∷ word → word ≡ lit_text l ++ later
-    → bytes ≡ spaced (map lit_text (xs ++ l ∷ [])) ++ later
-lits_text bytes rest word later xs l is next read = more_text lit_text bytes rest word later xs l is next read
+pub codes_fit : (codes : List ℕ) (l : Lit) (code : ℕ) → list_all is_lit (map lit_of codes) ≡ true → is_lit l ≡ true → code ≡ code_of l → list_all is_lit (map lit_of (codes ++ code ∷ [])) ≡ true
+codes_fit codes l code fit e is = ap (list_all is_lit) (codes_more codes l code is) ∙ more_fit is_lit (map lit_of codes) l fit e
+
+pub codes_text : (bytes rest word later codes : List ℕ) (l : Lit) (code : ℕ) → bytes ≡ spaced (map lit_text (map lit_of codes)) ++ rest → rest ≡ 32 ∷ word → word ≡ lit_text l ++ later → code ≡ code_of l
+    → bytes ≡ spaced (map lit_text (map lit_of (codes ++ code ∷ []))) ++ later
+codes_text bytes rest word later codes l code is next read number =
+    more_text lit_text bytes rest word later (map lit_of codes) l is next read
+    ∙ ap (λ (c : List Lit). spaced (map lit_text c) ++ later) (sym (codes_more codes l code number))
 
 -- ---- hints
 

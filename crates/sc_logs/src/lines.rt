@@ -19,6 +19,8 @@ use std::str;
 pub struct Room {
     /// The literals of the clause.
     pub clause: Vec<Lit>,
+    /// The numbers of its literals, where the line was read in one pass.
+    pub codes: Vec<u32>,
     /// The hints.
     pub hints: Vec<u64>,
 }
@@ -28,6 +30,7 @@ impl Room {
     pub fn new(alloc: Global) -> Room {
         Room {
             clause: Vec::new(alloc),
+            codes: Vec::new(alloc),
             hints: Vec::new(alloc),
         }
     }
@@ -141,7 +144,11 @@ pub(crate) fn read_step(alloc: Global, line: &[u8]) -> Result<Option<Step>, Allo
 {
     let mut room = Room::new(alloc);
     if read_learned(line, &mut room)? {
-        let Room { clause, hints } = room;
+        let Room {
+            clause,
+            codes: _,
+            hints,
+        } = room;
         return Ok(Some(Step::Learned(Learned {
             clause: Seq::from_vec(clause),
             hints: Seq::from_vec(hints),

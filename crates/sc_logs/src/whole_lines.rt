@@ -1,29 +1,18 @@
-//! Reads the line of a learned clause in one pass, where bytes begin with it and end with a newline. Each other byte
-//! then has one behind it, so that a place is never past the end. Bytes that aren't read here may still begin with a
-//! line of a log, which is then cut into words.
+//! Reads the line of a learned clause in one pass, where it stands at a place of bytes that end with a newline. Each
+//! other byte then has one behind it, so that a place is never past the end. A line that isn't read here may still be
+//! one of a log: it is then cut into words.
 ghost use Rattle.std.specs.Prelude.{◌≡◌, ◌<◌, ◌≤◌, ◌+◌, ◌-◌, ◌∷◌, ◌++◌, map, drop, get_or, length, decimal, IfSome, IfOk, IsTrue};
 ghost use Rattle.std.specs.Int.{IsInRange};
 ghost use Rattle.std.specs.List.{list_all};
 ghost use Rattle.sc_logs.specs.LineSteps.{ends_line};
+ghost use Rattle.sc_refutations.specs.Arenas.{lit_of};
 ghost use Rattle.sc_logs.specs.Texts.{lit_text, spaced, step_line};
 ghost use Rattle.sc_logs.specs.Writable.{is_lit, is_hint, is_learned};
 
 use crate::lines::Room;
 use sc_clauses::{Lit, Step};
+use sc_refutations::code_of;
 use std::alloc::AllocError;
-
-/// Whether bytes end with a newline.
-#[inline(always)]
-#[tactic(auto, using(crate::proofs::PlaceLaws::nothing_ends))]
-fn ends_line(bytes: &[u8]) -> bool
-    ensures { result ≡ ends_line bytes.now }
-{
-    let count = bytes.len();
-    if count == 0 {
-        return false;
-    }
-    bytes[count - 1] == b'\n'
-}
 
 /// The place behind a byte other than a newline, where it stands at a place.
 #[inline(always)]
@@ -137,17 +126,19 @@ fn lit_at(bytes: &[u8], place: usize) -> Option<(Lit, usize)>
     }
 }
 
-/// Reads literals from a place on with a space before each, and the `0` after them. The place behind it, where such
-/// stand there.
+/// Reads literals from a place on with a space before each, and the `0` after them, as their numbers. The place behind
+/// it, where such stand there.
 #[inline(always)]
-#[tactic(auto, using(crate::proofs::WholeLineLaws::lits_fit, crate::proofs::WholeLineLaws::lits_text, crate::proofs::WholeLineLaws::word_shorter))]
-fn read_lits(bytes: &[u8], from: usize, lits: &mut Vec<Lit>) -> Result<Option<usize>, AllocError>
+#[tactic(auto, using(crate::proofs::WholeLineLaws::codes_fit, crate::proofs::WholeLineLaws::codes_text, crate::proofs::WholeLineLaws::word_shorter))]
+fn read_lits(bytes: &[u8], from: usize, codes: &mut Vec<u32>) -> Result<Option<usize>, AllocError>
     requires ended { IsTrue (ends_line bytes.now) }
     requires within { from < length bytes.now }
-    ensures { IfOk result (λ o. IfSome o (λ end. (end < length bytes.now) × IsTrue (list_all is_lit lits.new.items)
-        × (drop from bytes.now ≡ spaced (map lit_text lits.new.items) ++ 32 ∷ 48 ∷ drop end bytes.now))) }
+    ensures { IfOk result (λ o. IfSome o (λ end. (end < length bytes.now)
+        × IsTrue (list_all is_lit (map lit_of codes.new.items))
+        × (drop from bytes.now
+        ≡ spaced (map lit_text (map lit_of codes.new.items)) ++ 32 ∷ 48 ∷ drop end bytes.now))) }
 {
-    lits.clear();
+    codes.clear();
     let mut place = from;
     while let Some(word) = after_byte(bytes, place, b' ') {
         if let Some(later) = after_byte(bytes, word, b'0') {
@@ -156,7 +147,10 @@ fn read_lits(bytes: &[u8], from: usize, lits: &mut Vec<Lit>) -> Result<Option<us
         let Some((lit, later)) = lit_at(bytes, word) else {
             return Ok(None);
         };
-        lits.push(lit)?;
+        let Some(code) = code_of(lit) else {
+            return Ok(None);
+        };
+        codes.push(code)?;
         place = later;
     }
     Ok(None)
@@ -187,36 +181,34 @@ fn read_hints(bytes: &[u8], from: usize, hints: &mut Vec<u64>) -> Result<Option<
     Ok(None)
 }
 
-/// What follows a newline, where it stands at a place.
+/// The place behind a newline, where it stands at a place.
 #[inline(always)]
 #[tactic(auto, using(crate::proofs::PlaceLaws::newline_stands))]
-fn after_newline(bytes: &[u8], place: usize) -> Option<&[u8]>
+fn after_newline(bytes: &[u8], place: usize) -> Option<usize>
     requires { place < length bytes.now }
-    ensures { IfSome result (λ rest. drop place bytes.now ≡ 10 ∷ rest.now) }
+    ensures { IfSome result (λ next. drop place bytes.now ≡ 10 ∷ drop next bytes.now) }
 {
     if bytes[place] == b'\n' {
-        let (_, rest) = bytes.split_at(place + 1);
-        return Some(rest);
+        return Some(place + 1);
     }
     None
 }
 
-/// Reads a learned clause and its hints, where bytes begin with the line of such and end with a newline. What follows
-/// the line's newline.
+/// Reads a learned clause and its hints, where the line of such stands at a place of bytes that end with a newline. The
+/// place behind the line's newline.
 #[inline(always)]
-#[tactic(auto, using(crate::proofs::PlaceLaws::some_bytes))]
-pub fn read_whole<'b>(bytes: &'b [u8], room: &mut Room) -> Result<Option<&'b [u8]>, AllocError>
-    ensures { IfOk result (λ o. IfSome o (λ rest. IsTrue (is_learned
-        (record { clause = room.new.clause.items; hints = room.new.hints.items })) × (bytes.now ≡ step_line (Step.Learned
-        (record { clause = room.new.clause.items; hints = room.new.hints.items })) ++ 10 ∷ rest.now))) }
+pub fn read_whole(bytes: &[u8], from: usize, room: &mut Room) -> Result<Option<usize>, AllocError>
+    requires ended { IsTrue (ends_line bytes.now) }
+    requires within { from < length bytes.now }
+    ensures { IfOk result (λ o. IfSome o (λ next. IsTrue (is_learned
+        (record { clause = map lit_of room.new.codes.items; hints = room.new.hints.items }))
+        × (drop from bytes.now ≡ step_line (Step.Learned
+        (record { clause = map lit_of room.new.codes.items; hints = room.new.hints.items })) ++ 10 ∷ drop next bytes.now))) }
 {
-    if !ends_line(bytes) {
-        return Ok(None);
-    }
-    let Some(lits) = after_byte(bytes, 0, b'l') else {
+    let Some(lits) = after_byte(bytes, from, b'l') else {
         return Ok(None);
     };
-    let Some(hints) = read_lits(bytes, lits, &mut room.clause)? else {
+    let Some(hints) = read_lits(bytes, lits, &mut room.codes)? else {
         return Ok(None);
     };
     let Some(end) = read_hints(bytes, hints, &mut room.hints)? else {

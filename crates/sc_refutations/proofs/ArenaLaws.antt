@@ -1,57 +1,14 @@
 -- Laws of clauses in one array of numbers.
-use Rattle.std.proofs.Common.{◌≡◌, ◌+◌, ◌*◌, ◌/◌, ◌%◌, ◌<◌, ◌≤◌, ◌==◌, ℕ, zero, suc, List, [], ◌∷◌, ◌++◌, take, drop, drop-cons, get_or, map, length, Bool, true, false, cond, Some, None, slice_get, option_map, refl, sym, ap, ◌∙◌, subst, append_assoc, arith}
+use Rattle.std.proofs.Common.{◌≡◌, ◌+◌, ◌<◌, ◌≤◌, ◌==◌, ℕ, zero, suc, List, [], ◌∷◌, ◌++◌, take, drop, drop-cons, get_or, map, length, Bool, true, false, cond, Some, None, slice_get, option_map, refl, sym, ap, ◌∙◌, subst, append_assoc, arith}
 use Rattle.std.specs.List.{list_all}
-use Rattle.std.proofs.lemmas.Bool.{and_parts, and_from, ne_eqb, eq-eqb, eqb-true, ltb-true, true≢false}
+use Rattle.std.proofs.lemmas.Bool.{and_parts, and_from, ne_eqb, eq-eqb, true≢false}
 use Rattle.std.proofs.lemmas.List.Folds.{list_all-append}
 use Rattle.std.proofs.lemmas.List.{map-append, take_more, take_all}
 use Rattle.std.proofs.lemmas.Option.{slice_get-map}
 use Rattle.sc_clauses.specs.declared.lit.Lit.{Lit}
 use Rattle.sc_clauses.specs.Clauses.{Clause}
 use Rattle.sc_refutations.specs.Arenas.{code_of, lit_of, has_code, run, is_ended, runs, are_ended, AreKept}
-
--- ---- numbers of literals
-
-odd_half : (n : ℕ) → (n * 2 + 1) / 2 ≡ n
-odd_half n = omega arith
-
-odd_rest : (n : ℕ) → (n * 2 + 1) % 2 ≡ 1
-odd_rest n = omega arith
-
-even_half : (n : ℕ) → (n * 2) / 2 ≡ n
-even_half n = omega arith
-
-even_rest : (n : ℕ) → (n * 2) % 2 ≡ 0
-even_rest n = omega arith
-
-lit_by : (n : ℕ) (b : Bool) → lit_of (code_of (record { atom = n; negated = b })) ≡ record { atom = n; negated = b }
-lit_by n true = λ i. record { atom = odd_half n i; negated = ap (λ (r : ℕ). r == 1) (odd_rest n) i }
-lit_by n false = λ i. record { atom = even_half n i; negated = ap (λ (r : ℕ). r == 1) (even_rest n) i }
-
--- the literal of its number
-pub lit_again : (l : Lit) → lit_of (code_of l) ≡ l
-lit_again l = lit_by l.atom l.negated
-
-pub code_same : (a b : Lit) → code_of a ≡ code_of b → a ≡ b
-code_same a b e = sym (lit_again a) ∙ (ap lit_of e ∙ lit_again b)
-
-code_by : (code : ℕ) (t : Bool) → (code % 2 == 1) ≡ t → cond t (code / 2 * 2 + 1) (code / 2 * 2) ≡ code
-code_by code true e =
-    let odd : code % 2 ≡ 1 = eqb-true (code % 2) 1 e in
-    omega (arith, odd)
-code_by code false e =
-    let even : code % 2 ≡ 1 → ⊥ = λ (q : code % 2 ≡ 1). true≢false (sym (eq-eqb (code % 2) 1 q) ∙ e) in
-    omega (arith, even)
-
--- the number of its literal
-pub code_again : (code : ℕ) → code_of (lit_of code) ≡ code
-code_again code = code_by code (code % 2 == 1) refl
-
-some_code_by : (n : ℕ) (b : Bool) → 0 < n → code_of (record { atom = n; negated = b }) ≡ 0 → ⊥
-some_code_by n true h e = absurd (omega (arith, e))
-some_code_by n false h e = absurd (omega (arith, e))
-
-some_code : (l : Lit) → has_code l ≡ true → (code_of l == 0) ≡ false
-some_code l e = ne_eqb (code_of l) 0 (some_code_by l.atom l.negated (ltb-true 0 l.atom e))
+use Rattle.sc_refutations.proofs.CodeLaws.{lit_again, some_code, code_some}
 
 -- ---- one clause
 
@@ -181,13 +138,20 @@ more_have c i d h e f =
     ap (list_all has_code) (take_more c i d h) ∙ (list_all-append has_code (take i c) (get_or c i d ∷ [])
     ∙ and_from (list_all has_code (take i c)) _ e (and_from (has_code (get_or c i d)) true f refl))
 
--- the clause, where a 0 stands behind it
-written_run : (c : Clause) → list_all has_code c ≡ true → run (map code_of c ++ 0 ∷ []) ≡ c
+-- the clause, where a 0 stands behind its numbers
+pub written_run : (c : Clause) → list_all has_code c ≡ true → run (map code_of c ++ 0 ∷ []) ≡ c
 written_run [] e = run_first 0 [] true refl
 written_run (l ∷ c) e =
     let parts = and_parts (has_code l) (list_all has_code c) e in
     run_first (code_of l) (map code_of c ++ 0 ∷ []) false (some_code l parts.0)
     ∙ (ap (λ (m : Lit). m ∷ run (map code_of c ++ 0 ∷ [])) (lit_again l) ∙ ap (λ (d : Clause). l ∷ d) (written_run c parts.1))
+
+-- the clause of numbers, where a 0 stands behind them
+pub coded_run : (codes : List ℕ) → list_all has_code (map lit_of codes) ≡ true → run (codes ++ 0 ∷ []) ≡ map lit_of codes
+coded_run [] e = run_first 0 [] true refl
+coded_run (code ∷ codes) e =
+    let parts = and_parts (has_code (lit_of code)) (list_all has_code (map lit_of codes)) e in
+    run_first code (codes ++ 0 ∷ []) false (code_some code parts.0) ∙ ap (λ (c : Clause). lit_of code ∷ c) (coded_run codes parts.1)
 
 ended_later : (code : ℕ) (codes : List ℕ) (b : Bool) → is_ended codes ≡ true → cond b true (is_ended codes) ≡ true
 ended_later code codes true e = refl
@@ -200,20 +164,20 @@ written_ended (code ∷ codes) = ended_later code (codes ++ 0 ∷ []) (code == 0
 
 -- ---- a clause that is put behind the others
 
-pushed_codes : (codes next : List ℕ) (c : Clause) → next ≡ (codes ++ map code_of c) ++ 0 ∷ [] → next ≡ codes ++ (map code_of c ++ 0 ∷ [])
-pushed_codes codes next c is = is ∙ append_assoc codes (map code_of c) (0 ∷ [])
+pushed_codes : (codes next written : List ℕ) → next ≡ (codes ++ written) ++ 0 ∷ [] → next ≡ codes ++ (written ++ 0 ∷ [])
+pushed_codes codes next written is = is ∙ append_assoc codes written (0 ∷ [])
 
-pub pushed : (codes next starts : List ℕ) (c : Clause) (start : ℕ) → are_ended codes starts ≡ true → list_all has_code c ≡ true → start ≡ length codes → next ≡ (codes ++ map code_of c) ++ 0 ∷ []
+pub pushed : (codes next starts written : List ℕ) (c : Clause) (start : ℕ) → are_ended codes starts ≡ true → run (written ++ 0 ∷ []) ≡ c → start ≡ length codes → next ≡ (codes ++ written) ++ 0 ∷ []
     → runs next (starts ++ start ∷ []) ≡ runs codes starts ++ c ∷ []
-pushed codes next starts c start e have at is =
-    ap (λ (s : ℕ). runs next (starts ++ s ∷ [])) at ∙ (ap (λ (xs : List ℕ). runs xs (starts ++ length codes ∷ [])) (pushed_codes codes next c is)
-    ∙ (runs_more codes (map code_of c ++ 0 ∷ []) starts e ∙ ap (λ (d : Clause). runs codes starts ++ d ∷ []) (written_run c have)))
+pushed codes next starts written c start e reads at is =
+    ap (λ (s : ℕ). runs next (starts ++ s ∷ [])) at ∙ (ap (λ (xs : List ℕ). runs xs (starts ++ length codes ∷ [])) (pushed_codes codes next written is)
+    ∙ (runs_more codes (written ++ 0 ∷ []) starts e ∙ ap (λ (d : Clause). runs codes starts ++ d ∷ []) reads))
 
-pub pushed_ends : (codes next starts : List ℕ) (c : Clause) (start : ℕ) → are_ended codes starts ≡ true → start ≡ length codes → next ≡ (codes ++ map code_of c) ++ 0 ∷ []
+pub pushed_ends : (codes next starts written : List ℕ) (start : ℕ) → are_ended codes starts ≡ true → start ≡ length codes → next ≡ (codes ++ written) ++ 0 ∷ []
     → are_ended next (starts ++ start ∷ []) ≡ true
-pushed_ends codes next starts c start e at is =
-    ap (λ (s : ℕ). are_ended next (starts ++ s ∷ [])) at ∙ (ap (λ (xs : List ℕ). are_ended xs (starts ++ length codes ∷ [])) (pushed_codes codes next c is)
-    ∙ ends_more codes (map code_of c ++ 0 ∷ []) starts e (written_ended (map code_of c)))
+pushed_ends codes next starts written start e at is =
+    ap (λ (s : ℕ). are_ended next (starts ++ s ∷ [])) at ∙ (ap (λ (xs : List ℕ). are_ended xs (starts ++ length codes ∷ [])) (pushed_codes codes next written is)
+    ∙ ends_more codes (written ++ 0 ∷ []) starts e (written_ended written))
 
 -- numbers that are no clause yet
 pub unpushed_ends : (codes next more : List ℕ) → next ≡ codes ++ more → AreKept codes next

@@ -1,14 +1,17 @@
 -- The literals that marks make true.
-use Rattle.std.proofs.Common.{◌≡◌, ◌≢◌, ◌<◌, ◌≤◌, ◌==◌, ℕ, zero, suc, List, [], ◌∷◌, ◌++◌, set, get_or, length, Bool, true, false, ◌||◌, nat_le, Some, slice_get, refl, sym, ap, ◌∙◌, arith}
+use Rattle.std.proofs.Common.{◌≡◌, ◌≢◌, ◌+◌, ◌-◌, ◌*◌, ◌<◌, ◌≤◌, ◌==◌, ℕ, zero, suc, List, [], ◌∷◌, ◌++◌, drop, set, get_or, length, Bool, true, false, cond, ◌||◌, nat_lt, nat_le, Some, None, slice_get, refl, sym, ap, ◌∙◌, arith}
+use Rattle.std.specs.List.{list_all}
 use Rattle.std.proofs.Math.Path.{fun_ext}
-use Rattle.std.proofs.lemmas.Bool.{leb-true, le-leb, ne_eqb, eq-eqb, and_parts, and_from, true≢false}
+use Rattle.std.proofs.lemmas.Bool.{leb-true, le-leb, ltb-true, lt-ltb, ne_eqb, eq-eqb, and_parts, and_from, true≢false}
 use Rattle.sc_clauses.specs.declared.lit.Lit.{Lit}
-use Rattle.sc_clauses.specs.Clauses.{lit_eq, negation}
+use Rattle.sc_clauses.specs.Clauses.{Clause, lit_eq, negation}
 use Rattle.sc_clauses.proofs.LitLaws.{lit_eq-true, lit_eq-itself, negation_twice}
-use Rattle.sc_refutations.specs.Arenas.{code_of, lit_of}
-use Rattle.sc_refutations.specs.Refutations.{with_lit}
-use Rattle.sc_refutations.specs.Known.{says, marked, is_stamped}
-use Rattle.sc_refutations.proofs.ArenaLaws.{code_same, code_again}
+use Rattle.sc_refutations.specs.Arenas.{code_of, lit_of, run}
+use Rattle.sc_refutations.specs.Refutations.{with_lit, is_listed, are_listed, clause_at}
+use Rattle.sc_refutations.specs.Known.{says, marked, is_stamped, have_marks}
+use Rattle.sc_refutations.proofs.CodeLaws.{code_same, code_again}
+use Rattle.sc_refutations.proofs.ArenaLaws.{run_goes}
+use Rattle.sc_refutations.proofs.RefutationLaws.{listed_at}
 
 slice_get-set_same : {X : Type 0} (xs : List X) (i : ℕ) (x : X) → i < length xs → slice_get (set xs i x) i ≡ Some x
 slice_get-set_same [] i x h = absurd (omega arith)
@@ -82,6 +85,41 @@ slice_get-there : (xs : List ℕ) (i d : ℕ) → i < length xs → slice_get xs
 slice_get-there [] i d h = absurd (omega arith)
 slice_get-there (x ∷ xs) zero d h = refl
 slice_get-there (x ∷ xs) (suc i) d h = slice_get-there xs i d (omega arith)
+
+pub says_at : (step : ℕ) (marks : List ℕ) (code d : ℕ) → code < length marks → (get_or marks code d == step) ≡ says step (slice_get marks code)
+says_at step marks code d h = ap (says step) (sym (slice_get-there marks code d h))
+
+-- ---- clauses whose literals have marks
+
+code_below : (atom count n : ℕ) (b : Bool) → atom ≤ count → n ≡ count * 2 + 2 → code_of (record { atom = atom; negated = b }) < n
+code_below atom count n true h e = omega (arith, e)
+code_below atom count n false h e = omega (arith, e)
+
+all_marked : (count n : ℕ) (c : Clause) → n ≡ count * 2 + 2 → list_all (is_listed count) c ≡ true → have_marks n c ≡ true
+all_marked count n [] e h = refl
+all_marked count n (l ∷ c) e h =
+    let parts = and_parts (is_listed count l) (list_all (is_listed count) c) h in
+    let most : l.atom ≤ count = leb-true l.atom count (and_parts (nat_lt 0 l.atom) (nat_le l.atom count) parts.0).1 in
+    and_from (nat_lt (code_of l) n) (have_marks n c) (lt-ltb (code_of l) n (code_below l.atom count n l.negated most e)) (all_marked count n c e parts.1)
+
+marked_by : (count n number : ℕ) (clauses : List Clause) (c : Clause) (b : Bool) → are_listed count clauses ≡ true → n ≡ count * 2 + 2 → Some c ≡ cond b None (slice_get clauses (number - 1))
+    → have_marks n c ≡ true
+marked_by count n number clauses c true a e is = absurd cc
+marked_by count n number clauses c false a e is = all_marked count n c e (listed_at count clauses (number - 1) c a (sym is))
+
+-- the clause of a number
+pub clause_marked : (count n number : ℕ) (clauses : List Clause) (c : Clause) → are_listed count clauses ≡ true → n ≡ count * 2 + 2 → Some c ≡ clause_at clauses number → have_marks n c ≡ true
+clause_marked count n number clauses c a e is = marked_by count n number clauses c (number == 0) a e is
+
+-- the literal at a place in a clause, and those behind it
+pub marked_here : (n : ℕ) (codes : List ℕ) (i : ℕ) → i < length codes → (get_or codes i 0 ≡ 0 → ⊥) → have_marks n (run (drop i codes)) ≡ true
+    → (get_or codes i 0 < n) × (have_marks n (run (drop (i + 1) codes)) ≡ true)
+marked_here n codes i h some e =
+    let parts
+    = and_parts (nat_lt (code_of (lit_of (get_or codes i 0))) n) (have_marks n (run (drop (i + 1) codes))) (ap (have_marks n) (sym (run_goes codes i h some)) ∙ e) in
+    let below : code_of (lit_of (get_or codes i 0)) < n = ltb-true (code_of (lit_of (get_or codes i 0))) n parts.0 in
+    let same = code_again (get_or codes i 0) in
+    (omega (arith, below, same), parts.1)
 
 -- what the mark at a literal's place says
 pub marked_at : (step : ℕ) (marks : List ℕ) (l m : Lit) (place d : ℕ) → m ≡ negation l → place ≡ code_of m → place < length marks → (get_or marks place d == step) ≡ marked step marks l

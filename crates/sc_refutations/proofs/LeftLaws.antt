@@ -11,7 +11,8 @@ use Rattle.sc_refutations.specs.declared.refuting.Residual.{Residual}
 use Rattle.sc_refutations.specs.declared.refuting.Residual.TheVariants.{Conflict, Unit, Open}
 use Rattle.sc_refutations.specs.Arenas.{code_of, lit_of, lit_found, run}
 use Rattle.sc_refutations.specs.Refutations.{LitSet, open_lits, residual, is_other}
-use Rattle.sc_refutations.proofs.ArenaLaws.{code_again, run_stops, run_goes, run_past}
+use Rattle.sc_refutations.proofs.CodeLaws.{code_again}
+use Rattle.sc_refutations.proofs.ArenaLaws.{run_stops, run_goes, run_past}
 
 -- ---- the number of the literal that was found, or 0
 

@@ -36,7 +36,7 @@ unit_of known count l (m ∷ ls) a e =
     let here = and_parts (is_listed count m) (not (known (negation m))) (and_parts (is_listed count m && not (known (negation m))) _ a).0 in
     unit_at known count l m (list_all (lit_eq m) ls) here.0 (not-true (known (negation m)) here.1) e
 
-listed_at : (count : ℕ) (clauses : List Clause) (n : ℕ) (c : Clause) → are_listed count clauses ≡ true → slice_get clauses n ≡ Some c → list_all (is_listed count) c ≡ true
+pub listed_at : (count : ℕ) (clauses : List Clause) (n : ℕ) (c : Clause) → are_listed count clauses ≡ true → slice_get clauses n ≡ Some c → list_all (is_listed count) c ≡ true
 listed_at count [] n c a e = absurd cc
 listed_at count (d ∷ clauses) zero c a e =
     let same : d ≡ c = cc in

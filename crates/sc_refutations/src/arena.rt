@@ -1,10 +1,12 @@
 //! Clauses in one array of numbers, one for each literal, with a 0 behind each clause. A literal takes a quarter of
 //! the memory that it takes by itself, and a clause is found by one look.
-ghost use Rattle.std.specs.Prelude.{◌≡◌, ◌++◌, ◌∷◌, [], IsTrue, map, slice_get, length, option_map, IfOk, OnOk};
+ghost use Rattle.std.specs.Prelude.{◌≡◌, ◌≤◌, ◌+◌, ◌++◌, ◌∷◌, [], IsTrue, map, slice_get, length, option_map, IfOk, OnOk};
 ghost use Rattle.std.specs.List.{list_all};
 ghost use Rattle.std.specs.Option.{option_copied};
+ghost use Rattle.std.specs.Vec.{vec_len, vec_capacity};
 ghost use Rattle.sc_refutations.specs.Arenas.{code_of, lit_of, has_code, run, AreKept};
 
+use crate::codes::code_of;
 use sc_clauses::{Clauses, Lit};
 use std::alloc::{AllocError, Global};
 use std::marker::Model;
@@ -29,33 +31,6 @@ impl Model for Arena {
     ghost invariant = { λ a. IsTrue (are_ended a.codes.items a.starts.items) };
 }
 
-/// The number of a literal, where its atom has one of 31 bits other than 0.
-#[inline(always)]
-fn code_of(lit: Lit) -> Result<u32, AllocError>
-    ensures code { IfOk result (λ code. code ≡ code_of lit) }
-    ensures has { IfOk result (λ _. IsTrue (has_code lit)) }
-{
-    if lit.atom == 0 {
-        return Err(AllocError);
-    }
-    if lit.atom >= 2147483648 {
-        return Err(AllocError);
-    }
-    let even = lit.atom as u32 * 2;
-    if lit.negated { Ok(even + 1) } else { Ok(even) }
-}
-
-/// The literal of a number.
-#[inline(always)]
-pub(crate) fn lit_of(code: u32) -> Lit
-    ensures { result ≡ lit_of code }
-{
-    Lit {
-        atom: (code / 2) as u64,
-        negated: code % 2 == 1,
-    }
-}
-
 /// Puts the numbers of literals after others.
 #[inline(always)]
 fn write(codes: &mut Vec<u32>, clause: &[Lit]) -> Result<(), AllocError>
@@ -64,10 +39,24 @@ fn write(codes: &mut Vec<u32>, clause: &[Lit]) -> Result<(), AllocError>
     ensures kept { AreKept codes.old.items codes.new.items }
 {
     for lit in clause {
-        let code = code_of(*lit)?;
+        let Some(code) = code_of(*lit) else {
+            return Err(AllocError);
+        };
         codes.push(code)?;
     }
     Ok(())
+}
+
+/// Puts numbers of literals and a 0 after others, where there is room for all.
+#[inline(always)]
+fn write_reserved(codes: &mut Vec<u32>, clause: &[u32])
+    requires { vec_len codes.old + (length clause.now + 1) ≤ vec_capacity codes.old }
+    ensures { codes.new.items ≡ (codes.old.items ++ clause.now) ++ 0 ∷ [] }
+{
+    for code in clause {
+        codes.push_reserved(*code);
+    }
+    codes.push_reserved(0);
 }
 
 impl Arena {
@@ -89,7 +78,7 @@ impl Arena {
         let mut arena = Arena::new(alloc);
         for place in 0..clauses.len() {
             if let Some(clause) = clauses.get(place) {
-                arena.push(clause)?;
+                arena.push_lits(clause)?;
             }
         }
         Ok(arena)
@@ -112,10 +101,25 @@ impl Arena {
         Some(codes)
     }
 
-    /// Puts a clause after the others. It is refused as too large where an atom's number has more than 31 bits, or the
-    /// place of its first literal more than 32.
+    /// Puts a clause after the others, by the numbers of its literals. It is refused as too large where the place of its
+    /// first literal has more than 32 bits.
     #[inline(always)]
-    pub fn push(&mut self, clause: &[Lit]) -> Result<(), AllocError>
+    pub fn push(&mut self, clause: &[u32]) -> Result<(), AllocError>
+        requires { IsTrue (list_all has_code (map lit_of clause.now)) }
+        ensures { OnOk result (self.new ≡ self.old ++ map lit_of clause.now ∷ []) }
+    {
+        let Ok(start) = u32::try_from(self.codes.len()) else {
+            return Err(AllocError);
+        };
+        self.codes.reserve(clause.len() + 1)?;
+        write_reserved(&mut self.codes, clause);
+        self.starts.push(start)?;
+        Ok(())
+    }
+
+    /// Puts a clause after the others. It is refused as too large where a literal has no number, or the place of its
+    /// first literal more than 32 bits.
+    pub fn push_lits(&mut self, clause: &[Lit]) -> Result<(), AllocError>
         ensures { OnOk result (self.new ≡ self.old ++ clause.now ∷ []) }
     {
         let Ok(start) = u32::try_from(self.codes.len()) else {

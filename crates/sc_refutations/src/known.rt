@@ -1,10 +1,12 @@
 //! The literals that are known to be true in the check of one step.
-ghost use Rattle.std.specs.Prelude.{◌≡◌, ◌<◌, ◌+◌, ◌*◌, false, IfOk, IsTrue, slice_get, length};
+ghost use Rattle.std.specs.Prelude.{◌≡◌, ◌<◌, ◌+◌, ◌*◌, ◌&&◌, false, not, IfOk, IsTrue, MatchOption, map, slice_get, length};
+ghost use Rattle.std.specs.List.{list_all};
 ghost use Rattle.sc_clauses.specs.Clauses.{negation};
-ghost use Rattle.sc_refutations.specs.Arenas.{code_of};
+ghost use Rattle.sc_refutations.specs.Arenas.{code_of, lit_of, has_code};
 ghost use Rattle.sc_refutations.specs.Known.{says, marked, is_stamped};
-ghost use Rattle.sc_refutations.specs.Refutations.{is_listed, with_lit};
+ghost use Rattle.sc_refutations.specs.Refutations.{is_listed, is_clause, with_lit};
 
+use crate::codes::{code_of, negation_of};
 use sc_clauses::{Lit, negation};
 use std::alloc::{AllocError, Global};
 
@@ -20,24 +22,26 @@ pub struct Known {
     pub marks: Vec<u64>,
     ghost room: { length marks.items ≡ count * 2 + 2 },
     ghost stamped: { IsTrue (is_stamped step marks.items) },
+    ghost few: { count < 2147483648 },
 }
 
-/// Whether the literal of a number is false by the marks of a step.
+/// Whether the literal of a number that has a mark is false by the marks of a step.
 #[inline(always)]
 pub(crate) fn is_false(marks: &[u64], step: u64, code: u32) -> bool
+    requires { code < length marks.now }
     ensures { result ≡ says step (slice_get marks.now code) }
 {
-    match marks.get(code as usize) {
-        Some(mark) => *mark == step,
-        None => false,
-    }
+    marks[code as usize] == step
 }
 
 impl Known {
-    /// Nothing is known of so many atoms.
+    /// Nothing is known of so many atoms. More than 31 bits can tell are refused as too many.
     pub fn new(alloc: Global, count: u64) -> Result<Known, AllocError>
         ensures { IfOk result (λ k. (k.count ≡ count) × (k.step ≡ 0)) }
     {
+        if count >= 2147483648 {
+            return Err(AllocError);
+        }
         let mut marks = Vec::new(alloc);
         for _ in 0..count {
             marks.push(0)?;
@@ -74,13 +78,44 @@ impl Known {
         if lit.negated { even + 1 } else { even }
     }
 
-    /// Whether a literal of a listed atom is known to be true.
+    /// Whether the literal of a number is of a listed atom.
     #[inline(always)]
-    pub(crate) fn contains(&self, lit: Lit) -> bool
-        requires { IsTrue (is_listed self.now.count lit) }
-        ensures { result ≡ marked self.now.step self.now.marks.items lit }
+    fn has_mark(&self, code: u32) -> bool
+        requires { IsTrue (has_code (lit_of code)) }
+        ensures { result ≡ is_listed self.now.count (lit_of code) }
     {
-        self.marks[self.place_of(negation(lit))] == self.step
+        (code as usize) < self.marks.len()
+    }
+
+    /// Whether the literal of a number, one of a listed atom, is known to be true.
+    #[inline(always)]
+    fn contains(&self, code: u32) -> bool
+        requires { IsTrue (is_listed self.now.count (lit_of code)) }
+        ensures { result ≡ marked self.now.step self.now.marks.items (lit_of code) }
+    {
+        is_false(self.marks.as_slice(), self.step, negation_of(code))
+    }
+
+    /// Whether the literal of a number is of a listed atom, and isn't known to be true.
+    #[inline(always)]
+    pub(crate) fn is_free(&self, code: u32) -> bool
+        requires { IsTrue (has_code (lit_of code)) }
+        ensures { result ≡ (is_listed self.now.count (lit_of code)
+            && not (marked self.now.step self.now.marks.items (lit_of code))) }
+    {
+        self.has_mark(code) && !self.contains(code)
+    }
+
+    /// Takes the literal of a number, one of a listed atom, as false.
+    #[inline(always)]
+    pub(crate) fn set_false(&mut self, code: u32)
+        requires { IsTrue (is_listed self.old.count (lit_of code)) }
+        ensures known { marked self.new.step self.new.marks.items
+            ≡ with_lit (marked self.old.step self.old.marks.items) (negation (lit_of code)) }
+        ensures count { self.new.count ≡ self.old.count }
+        ensures number { self.new.step ≡ self.old.step }
+    {
+        self.marks[code as usize] = self.step;
     }
 
     /// Takes a literal of a listed atom as true.
@@ -94,5 +129,20 @@ impl Known {
     {
         let place = self.place_of(negation(lit));
         self.marks[place] = self.step;
+    }
+
+    /// The numbers of the literals of a clause. None where one of them is of no listed atom.
+    pub fn codes_of(&self, alloc: Global, clause: &[Lit]) -> Result<Option<Vec<u32>>, AllocError>
+        ensures { IfOk result (λ o. MatchOption o (is_clause self.now.count clause.now ≡ false)
+            (λ codes. (map lit_of codes.items ≡ clause.now) × IsTrue (list_all has_code clause.now))) }
+    {
+        let mut codes = Vec::new(alloc);
+        for lit in clause {
+            let Some(code) = code_of(*lit) else {
+                return Ok(None);
+            };
+            codes.push(code)?;
+        }
+        Ok(Some(codes))
     }
 }

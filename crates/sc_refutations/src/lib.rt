@@ -3,9 +3,11 @@
 #![tactic(auto)]
 
 mod arena;
+mod codes;
 mod known;
 mod refuting;
 
 pub use arena::Arena;
+pub use codes::{code_of, lit_of};
 pub use known::Known;
 pub use refuting::{Residual, is_shown};

@@ -1,13 +1,15 @@
 //! Whether the hints of a learned clause show it.
-ghost use Rattle.std.specs.Prelude.{◌≡◌, ◌&&◌, ◌<◌, false, not, option_map, IsTrue};
+ghost use Rattle.std.specs.Prelude.{◌≡◌, ◌&&◌, ◌<◌, false, map, length, option_map, IsTrue};
+ghost use Rattle.std.specs.List.{list_all};
 ghost use Rattle.std.specs.Option.{option_copied, option_to_list};
-ghost use Rattle.sc_refutations.specs.Arenas.{lit_of, lit_found, run};
-ghost use Rattle.sc_refutations.specs.Known.{marked};
-ghost use Rattle.sc_refutations.specs.Refutations.{residual, is_other, open_lits, residual_at, clause_at, is_listed, is_clause, are_listed, negated, refutes};
+ghost use Rattle.sc_refutations.specs.Arenas.{lit_of, has_code, lit_found, run};
+ghost use Rattle.sc_refutations.specs.Known.{marked, have_marks};
+ghost use Rattle.sc_refutations.specs.Refutations.{residual, is_other, open_lits, residual_at, clause_at, is_clause, are_listed, negated, refutes};
 
-use crate::arena::{Arena, lit_of};
+use crate::arena::Arena;
+use crate::codes::lit_of;
 use crate::known::{Known, is_false};
-use sc_clauses::{Lit, negation};
+use sc_clauses::Lit;
 
 /// What is left of a clause where its false literals are left out.
 #[derive(Clone, Copy)]
@@ -44,6 +46,7 @@ fn is_other(found: u32, code: u32) -> bool
 /// What is left of the clause that numbers begin with, by the marks of a step.
 #[inline(always)]
 fn left_of(marks: &[u64], step: u64, codes: &[u32]) -> Residual
+    requires { IsTrue (have_marks (length marks.now) (run codes.now)) }
     ensures { result ≡ residual (open_lits (marked step marks.now) (run codes.now)) }
 {
     let mut found = 0u32;
@@ -74,6 +77,7 @@ fn clause_at(clauses: &Arena, number: u64) -> Option<&[u32]>
 
 #[inline(always)]
 fn left_at(known: &Known, clauses: &Arena, number: u64) -> Residual
+    requires { IsTrue (are_listed known.now.count clauses.now) }
     ensures { result ≡ residual_at (marked known.now.step known.now.marks.items) (clause_at clauses.now number) }
 {
     match clause_at(clauses, number) {
@@ -82,36 +86,21 @@ fn left_at(known: &Known, clauses: &Arena, number: u64) -> Residual
     }
 }
 
-/// Whether a literal is of a listed atom.
-#[inline(always)]
-fn is_listed(count: u64, lit: Lit) -> bool
-    ensures { result ≡ is_listed count lit }
-{
-    0 < lit.atom && lit.atom <= count
-}
-
-/// Whether a literal is of a listed atom, and isn't known to be true.
-#[inline(always)]
-fn is_free(known: &Known, lit: Lit) -> bool
-    ensures { result ≡ (is_listed known.now.count lit
-        && not (marked known.now.step known.now.marks.items lit)) }
-{
-    is_listed(known.count, lit) && !known.contains(lit)
-}
-
 /// Takes the literals of a clause as false. It stops at one that is of no listed atom, or true.
-fn assume_false(known: &mut Known, clause: &[Lit]) -> bool
-    requires { marked known.old.step known.old.marks.items ≡ λ _. false }
-    ensures clause { result ≡ is_clause known.old.count clause.now }
-    ensures known { IsTrue result → marked known.new.step known.new.marks.items ≡ negated clause.now }
+fn assume_false(known: &mut Known, clause: &[u32]) -> bool
+    requires nothing { marked known.old.step known.old.marks.items ≡ λ _. false }
+    requires codes { IsTrue (list_all has_code (map lit_of clause.now)) }
+    ensures clause { result ≡ is_clause known.old.count (map lit_of clause.now) }
+    ensures known { IsTrue result
+        → marked known.new.step known.new.marks.items ≡ negated (map lit_of clause.now) }
     ensures count { known.new.count ≡ known.old.count }
     ensures number { known.new.step ≡ known.old.step }
 {
-    for lit in clause {
-        if !is_free(known, *lit) {
+    for code in clause {
+        if !known.is_free(*code) {
             return false;
         }
-        known.insert(negation(*lit));
+        known.set_false(*code);
     }
     true
 }
@@ -133,18 +122,19 @@ fn follow(known: &mut Known, clauses: &Arena, hints: &[u64]) -> bool
     false
 }
 
-/// Whether a learned clause is shown by its hints.
+/// Whether a learned clause, given by the numbers of its literals, is shown by its hints.
 pub fn is_shown(
     known: &mut Known,
     number: u64,
     clauses: &Arena,
-    clause: &[Lit],
+    clause: &[u32],
     hints: &[u64],
 ) -> bool
     requires later { known.old.step < number }
     requires listed { IsTrue (are_listed known.old.count clauses.now) }
-    ensures shown { result ≡ is_clause known.old.count clause.now
-        && refutes clauses.now (negated clause.now) hints.now }
+    requires codes { IsTrue (list_all has_code (map lit_of clause.now)) }
+    ensures shown { result ≡ is_clause known.old.count (map lit_of clause.now)
+        && refutes clauses.now (negated (map lit_of clause.now)) hints.now }
     ensures count { known.new.count ≡ known.old.count }
     ensures number { known.new.step ≡ number }
 {

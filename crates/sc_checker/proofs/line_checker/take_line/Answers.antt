@@ -9,15 +9,15 @@ use Rattle.sc_checker.proofs.line_checker.take_line.Goals as goal
 
 pub returns-then-branch-clause-taken : goal.returns-then-branch-clause-taken
 returns-then-branch-clause-taken g c =
-    on_ok_weaker c.take_learned.result (λ e tests are.
+    on_ok_weaker c.take_lits.result (λ e tests are.
     learned_line tests c.args.line.now c.args.steps.now _ _ c.requires.going (rw c.if-branch.true at c.in_ok-read_learned.ensures)
-    (learned_taken c.args.steps.now _ _ _ _ c.as_slice.ensures.value c.as_slice-then-branch.ensures.value e)) c.take_learned.ensures
+    (learned_taken c.args.steps.now _ _ _ _ c.as_slice.ensures.value c.as_slice-then-branch.ensures.value e)) c.take_lits.ensures
 
 pub returns-then-branch-clause-checked : goal.returns-then-branch-clause-checked
 returns-then-branch-clause-checked g c =
     let l : learned.Learned = record { clause = c.as_slice.result.now; hints = c.as_slice-then-branch.result.now } in
-    on_ok_weaker c.take_learned.result (λ e.
-    learned_checked c.args.problem.now c.args.steps.now _ (Learned l) l c.requires.checked (sym (ap is_some c.requires.going)) refl e) c.take_learned.ensures
+    on_ok_weaker c.take_lits.result (λ e.
+    learned_checked c.args.problem.now c.args.steps.now _ (Learned l) l c.requires.checked (sym (ap is_some c.requires.going)) refl e) c.take_lits.ensures
 
 pub returns-in-Some-clause-taken : goal.returns-in-Some-clause-taken
 returns-in-Some-clause-taken g c =

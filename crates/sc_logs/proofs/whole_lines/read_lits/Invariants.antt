@@ -1,5 +1,6 @@
 use Rattle.std.proofs.Common.{◌≡◌, ◌<◌, ◌++◌, true, map, drop, length}
 use Rattle.std.specs.List.{list_all}
+use Rattle.sc_refutations.specs.Arenas.{lit_of}
 use Rattle.sc_logs.specs.Texts.{lit_text, spaced}
 use Rattle.sc_logs.specs.Writable.{is_lit}
 use Rattle.sc_logs.proofs.whole_lines.read_lits.Given as goal
@@ -8,8 +9,8 @@ use Rattle.sc_logs.proofs.whole_lines.read_lits.Given as goal
 abbrev pub invariant-loop-word : goal.invariant-loop-word
 invariant-loop-word l = record {
   within : l.place < length l.bytes;
-  fit : list_all is_lit l.lits.items ≡ true;
-  text : drop l.from l.bytes ≡ spaced (map lit_text l.lits.items) ++ drop l.place l.bytes;
+  fit : list_all is_lit (map lit_of l.codes.items) ≡ true;
+  text : drop l.from l.bytes ≡ spaced (map lit_text (map lit_of l.codes.items)) ++ drop l.place l.bytes;
 }
 
 abbrev pub decreases-loop-word : goal.decreases-loop-word

@@ -6,8 +6,8 @@ use Rattle.sc_checker.proofs.steps.StepChecker.take.Goals as goal
 pub take_instance-requires-clause-going : goal.take_instance-requires-clause-going
 take_instance-requires-clause-going g c = none_is c.args.self.now.fault c.if-is_at_fault.ensures
 
-pub take_learned-requires-clause-room : goal.take_learned-requires-clause-room
-take_learned-requires-clause-room g c = c.requires.room (none_is c.args.self.now.fault c.if-is_at_fault.ensures)
+pub take_lits-requires-clause-room : goal.take_lits-requires-clause-room
+take_lits-requires-clause-room g c = c.requires.room (none_is c.args.self.now.fault c.if-is_at_fault.ensures)
 
 pub returns-then-is_at_fault-clause-taken : goal.returns-then-is_at_fault-clause-taken
 returns-then-is_at_fault-clause-taken g c = λ tests are. stays_at_fault tests c.args.self.now c.args.step.now c.if-is_at_fault.ensures
@@ -18,10 +18,10 @@ returns-in-Instance-clause-taken g c =
 
 pub returns-in-Learned-clause-taken : goal.returns-in-Learned-clause-taken
 returns-in-Learned-clause-taken g c =
-    on_ok_weaker c.take_learned.result (λ e tests are. taken_step tests c.args.self.now _ c.args.step.now (Learned c.in-Learned.learned) c.if-is_at_fault.ensures c.in-Learned.is
-    (learned_taken c.args.self.now _ _ _ c.in-Learned.learned c.as_slice.ensures c.as_slice-in-Learned.ensures e)) c.take_learned.ensures
+    on_ok_weaker c.take_lits.result (λ e tests are. taken_step tests c.args.self.now _ c.args.step.now (Learned c.in-Learned.learned) c.if-is_at_fault.ensures c.in-Learned.is
+    (learned_taken c.args.self.now _ _ _ c.in-Learned.learned c.as_slice.ensures c.as_slice-in-Learned.ensures e)) c.take_lits.ensures
 
 pub returns-in-Learned-clause-checked : goal.returns-in-Learned-clause-checked
 returns-in-Learned-clause-checked g c =
-    on_ok_weaker c.take_learned.result (λ e. learned_checked c.args.problem.now c.args.self.now _ c.args.step.now c.in-Learned.learned c.requires c.if-is_at_fault.ensures c.in-Learned.is
-    (learned_taken c.args.self.now _ _ _ c.in-Learned.learned c.as_slice.ensures c.as_slice-in-Learned.ensures e)) c.take_learned.ensures
+    on_ok_weaker c.take_lits.result (λ e. learned_checked c.args.problem.now c.args.self.now _ c.args.step.now c.in-Learned.learned c.requires c.if-is_at_fault.ensures c.in-Learned.is
+    (learned_taken c.args.self.now _ _ _ c.in-Learned.learned c.as_slice.ensures c.as_slice-in-Learned.ensures e)) c.take_lits.ensures

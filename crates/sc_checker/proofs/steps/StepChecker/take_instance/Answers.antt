@@ -16,4 +16,4 @@ returns-in-Ok-clause-checked g c =
     instance_checked p c.args.self.now c.args.instance.now c.in-Ok.clause lawful
     (λ w formed. subst (IsTrueIn p w) (sym c.in-Ok.ensures.clause) (g.met.T.Theory.sound c.args.rules.now p c.args.instance.now w c.problem_laws.ensures.terms c.laws.ensures c.in-Ok.ensures.has formed))
     c.requires.checked c.requires.going in
-    on_ok_weaker c.add.result (λ e. subst (IsChecked p) (sym (e ∙ ap (λ (d : Clause). grown d c.count.new.self) c.as_slice.ensures ∙ ap (grown c.in-Ok.clause) c.count.ensures)) checked) c.add.ensures
+    on_ok_weaker c.add_lits.result (λ e. subst (IsChecked p) (sym (e ∙ ap (λ (d : Clause). grown d c.count.new.self) c.as_slice.ensures ∙ ap (grown c.in-Ok.clause) c.count.ensures)) checked) c.add_lits.ensures

@@ -8,6 +8,7 @@ pub invariant_of-self : goal.invariant_of-self
 invariant_of-self c = record {
   room = length-set c.args.self.now.marks.items _ c.args.self.now.step ∙ c.args.self.now.room;
   stamped = stamped_set c.args.self.now.step c.args.self.now.marks.items _ c.args.self.now.stamped;
+  few = c.args.self.now.few;
 }
 
 pub returns-clause-known : goal.returns-clause-known

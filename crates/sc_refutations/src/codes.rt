@@ -1,0 +1,46 @@
+//! The number of a literal, which takes a quarter of the memory that the literal takes by itself.
+ghost use Rattle.std.specs.Prelude.{◌≡◌, ◌≤◌, ◌⊎◌, IsTrue, MatchOption};
+ghost use Rattle.sc_clauses.specs.Clauses.{negation};
+ghost use Rattle.sc_refutations.specs.Arenas.{code_of, lit_of, has_code};
+
+use sc_clauses::Lit;
+
+/// The number of a literal, where its atom has one of 31 bits other than 0.
+#[inline(always)]
+pub fn code_of(lit: Lit) -> Option<u32>
+    ensures { MatchOption result ((lit.atom ≡ 0) ⊎ (2147483648 ≤ lit.atom)) (λ code. (code ≡ code_of lit)
+        × IsTrue (has_code lit)) }
+{
+    if lit.atom == 0 {
+        return None;
+    }
+    if lit.atom >= 2147483648 {
+        return None;
+    }
+    let even = lit.atom as u32 * 2;
+    if lit.negated {
+        Some(even + 1)
+    } else {
+        Some(even)
+    }
+}
+
+/// The literal of a number.
+#[inline(always)]
+pub fn lit_of(code: u32) -> Lit
+    ensures { result ≡ lit_of code }
+{
+    Lit {
+        atom: (code / 2) as u64,
+        negated: code % 2 == 1,
+    }
+}
+
+/// The number of the negation of a number's literal.
+#[inline(always)]
+#[tactic(auto, using(crate::proofs::CodeLaws::odd_negation, crate::proofs::CodeLaws::even_negation))]
+pub(crate) fn negation_of(code: u32) -> u32
+    ensures { result ≡ code_of (negation (lit_of code)) }
+{
+    if code % 2 == 1 { code - 1 } else { code + 1 }
+}
