@@ -6,6 +6,8 @@ mod definitions;
 mod heap;
 mod order;
 mod restarts;
+mod suggestions;
 
 pub use order::Order;
 pub use restarts::Restarts;
+pub use suggestions::Suggestions;

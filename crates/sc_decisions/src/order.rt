@@ -21,8 +21,30 @@ pub struct Order {
     /// Whether the last value of each atom was false; before it has one too.
     phases: Vec<bool>,
     definitions: Definitions,
+    /// Whether each atom stands in a clause that was given.
+    occurring: Vec<bool>,
     /// The literal of the atom that was taken, if a definition gave it.
     tried: Option<Lit>,
+}
+
+/// Marks the atoms of a clause.
+fn mark(marks: &mut Vec<bool>, clause: &[Lit]) {
+    for lit in clause {
+        if let Some(mark) = marks.get_mut(lit.atom as usize) {
+            *mark = true;
+        }
+    }
+}
+
+/// Whether each atom stands in one of these clauses.
+fn atoms_of(alloc: Global, cells: usize, clauses: &Clauses) -> Result<Vec<bool>, AllocError> {
+    let mut marks = Vec::from_elem(alloc, false, cells)?;
+    for place in 0..clauses.len() {
+        if let Some(clause) = clauses.get(place) {
+            mark(&mut marks, clause);
+        }
+    }
+    Ok(marks)
 }
 
 impl Order {
@@ -33,6 +55,7 @@ impl Order {
             step: FIRST_STEP,
             phases: Vec::from_elem(alloc, true, cells)?,
             definitions: Definitions::new(alloc, cells, clauses)?,
+            occurring: atoms_of(alloc, cells, clauses)?,
             tried: None,
         })
     }
@@ -74,6 +97,18 @@ impl Order {
             *phase = negated;
         }
         self.heap.put_back(atom);
+    }
+
+    /// Whether it's worth to know that a literal is true: that an atom is false which stands in no clause given is not, since
+    /// it would be tried as false.
+    pub fn is_of_use(&self, lit: Lit) -> bool {
+        if !lit.negated {
+            return true;
+        }
+        match self.occurring.get(lit.atom as usize) {
+            Some(occurs) => *occurs,
+            None => false,
+        }
     }
 
     /// Counts a conflict that met these atoms.

@@ -6,7 +6,7 @@ use Rattle.sc_clauses.specs.declared.step.Step.{Step}
 use Rattle.sc_clauses.specs.Clauses.{Clause}
 use Rattle.sc_clauses.specs.Assignments.{Assignment}
 use Rattle.sc_world.specs.declared.world.World.{World}
-use Rattle.sc_search.specs.Steps.{AreListed, added}
+use Rattle.sc_trails.specs.Steps.{AreListed, added}
 use Rattle.sc_search.specs.declared.searching.Found.{Found}
 use Rattle.sc_search.specs.declared.searching.Found.TheVariants.{Refuted, Consistent, Spent}
 use Rattle.sc_search.specs.Findings as found

@@ -9,8 +9,8 @@ use Rattle.sc_clauses.specs.declared.step.Learned as learned
 use Rattle.sc_clauses.specs.declared.step.Step.{Step}
 use Rattle.sc_clauses.specs.declared.step.Step.TheVariants.{Instance, Learned}
 use Rattle.sc_clauses.specs.Clauses.{Clause, bool_eq, lit_eq, negation, is_in, holds, clause_holds}
-use Rattle.sc_search.specs.Steps.{IsNumbered, IsClause, Refutes, conflict, one_left, IsNumber, IsShown, IsLawful}
-use Rattle.sc_search.specs.Steps as search
+use Rattle.sc_trails.specs.Steps.{IsNumbered, IsClause, Refutes, conflict, one_left, IsNumber, IsShown, IsLawful}
+use Rattle.sc_trails.specs.Steps as search
 use Rattle.sc_checker.specs.Refutations.{LitSet, negated, with_lit, open_lits, residual, clause_at, refutes, is_listed, is_clause}
 use Rattle.sc_checker.specs.Verdicts.{Rules, added}
 use Rattle.sc_checker.specs.Writable.{is_lit, is_hint, are_hints, is_writable}

@@ -4,8 +4,8 @@ use Rattle.std.specs.List.{list_all}
 use Rattle.sc_clauses.specs.declared.step.Instance as instance
 use Rattle.sc_clauses.specs.declared.step.Step.{Step}
 use Rattle.sc_clauses.specs.Clauses.{Clause, clause_holds}
-use Rattle.sc_search.specs.Steps.{after, IsLawful}
-use Rattle.sc_search.specs.Steps as search
+use Rattle.sc_trails.specs.Steps.{after, IsLawful}
+use Rattle.sc_trails.specs.Steps as search
 use Rattle.sc_search.specs.Findings as found
 use Rattle.sc_search.specs.Findings.{IsRefutation}
 use Rattle.sc_checker.specs.Verdicts.{Rules, Adds, no_step, first_step}

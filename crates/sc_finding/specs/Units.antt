@@ -2,7 +2,7 @@
 use Rattle.std.specs.Prelude.{◌≡◌, ◌≢◌, List, [], ◌∷◌, ◌++◌, false}
 use Rattle.std.specs.List.{Contains}
 use Rattle.sc_clauses.specs.Clauses.{Clause, contained}
-use Rattle.sc_search.specs.Propagation.{IsNew}
+use Rattle.sc_trails.specs.Propagation.{IsNew}
 
 -- It isn't empty, has not all literals of a clause before it, and has a literal such that unit propagation over the clauses before it,
 -- where its other literals are false, gives neither that literal nor a conflict.

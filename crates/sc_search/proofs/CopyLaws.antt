@@ -3,7 +3,7 @@ use Rattle.std.proofs.Common.{◌≡◌, ◌+◌, ◌<◌, ℕ, zero, suc, List,
 use Rattle.std.specs.List.{Contains}
 use Rattle.sc_laws.proofs.OptionLaws.{same_some}
 use Rattle.sc_clauses.specs.Clauses.{Clause}
-use Rattle.sc_search.specs.Steps.{At, AreListed}
+use Rattle.sc_trails.specs.Steps.{AreListed}
 
 pub copied_more : (cs : List Clause) (i : ℕ) (c : Clause) → slice_get cs i ≡ Some c → take (i + 1) cs ≡ take i cs ++ c ∷ []
 copied_more [] i c e = absurd cc
@@ -20,16 +20,6 @@ pub place_inside : (cs : List Clause) (i : ℕ) (c : Clause) → slice_get cs i 
 place_inside [] i c e = absurd cc
 place_inside (d ∷ cs) zero c e = omega arith
 place_inside (d ∷ cs) (suc i) c e = let h = place_inside cs i c e in omega (arith, h)
-
-pub at_get : (cs : List Clause) (i : ℕ) (c : Clause) → slice_get cs i ≡ Some c → At cs i c
-at_get [] i c e = absurd cc
-at_get (d ∷ cs) zero c e = (omega arith, same_some e)
-at_get (d ∷ cs) (suc i) c e = let h = at_get cs i c e in let lt : i < length cs = h.0 in (omega arith, h.1)
-
-pub none_inside : (cs : List Clause) (i : ℕ) → i < length cs → slice_get cs i ≡ None → ⊥
-none_inside [] i lt e = omega arith
-none_inside (d ∷ cs) zero lt e = cc
-none_inside (d ∷ cs) (suc i) lt e = none_inside cs i (omega arith) e
 
 pub listed_copies : (atoms : ℕ) (cs copies : List Clause) → copies ≡ cs → ((c : Clause) → Contains cs c → AreListed atoms c) → (c : Clause) → Contains copies c → AreListed atoms c
 listed_copies atoms cs copies same h c k = h c (subst (λ (l : List Clause). Contains l c) same k)

@@ -1,12 +1,4 @@
-mod LitLaws
-mod NewnessLaws
-mod CellLaws
-mod TrailLaws
-mod ReadingLaws
-mod WatchingLaws
-mod VisitLaws
-mod AnalysisLaws
-mod RoomLaws
 mod DueLaws
+mod GivenLaws
 mod SearchLaws
 mod CopyLaws

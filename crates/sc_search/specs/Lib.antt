@@ -1,9 +1,3 @@
-pub mod Propagation
-pub mod Steps
 pub mod Findings
-pub mod Trails
-pub mod Readings
-pub mod Visits
-pub mod Watching
-pub mod Analyses
+pub mod Given
 pub mod Turns

@@ -1,27 +1,19 @@
 -- What a turn of the search does.
-use Rattle.std.specs.Prelude.{◌≡◌, ◌≢◌, ◌+◌, ◌<◌, ◌≤◌, ◌++◌, ℕ, List, [], ◌∷◌, Bool, not, length, Option, Some, None}
-use Rattle.std.specs.List.{Contains, slice_index_or}
-use Rattle.sc_clauses.specs.declared.lit.Lit.{Lit}
+use Rattle.std.specs.Prelude.{◌≡◌, ◌≢◌, ◌+◌, ◌-◌, ◌≤◌, ◌++◌, ℕ, List, [], ◌∷◌, length, Option, Some, None}
 use Rattle.sc_clauses.specs.declared.step.Instance as instance
 use Rattle.sc_clauses.specs.declared.step.Learned as learned
 use Rattle.sc_clauses.specs.declared.step.Step.{Step}
 use Rattle.sc_clauses.specs.declared.step.Step.TheVariants.{Learned}
 use Rattle.sc_clauses.specs.Clauses.{Clause}
-use Rattle.sc_search.specs.declared.cell.Cell.{Cell}
-use Rattle.sc_search.specs.declared.cell.Cell.TheVariants.{Free, Decided, Implied}
 use Rattle.sc_search.specs.declared.solver.Solver.{Solver}
 use Rattle.sc_search.specs.declared.solver.Turn.{Turn}
 use Rattle.sc_search.specs.declared.solver.Turn.TheVariants as turn
-use Rattle.sc_search.specs.Propagation.{IsNew, HasConflict}
-use Rattle.sc_search.specs.Steps.{IsShown, IsLawful, after, added}
+use Rattle.sc_trails.specs.Propagation.{IsNew, HasConflict}
+use Rattle.sc_trails.specs.Steps.{IsShown, IsLawful, after, added}
 use Rattle.sc_search.specs.Findings.{IsUnit, AreUnits, IsConsistent, IsDue}
-use Rattle.sc_search.specs.Trails.{true_before, AreQuiet, HoldsTrail, AreInCells, AreAllSet}
-use Rattle.sc_search.specs.Readings.{IsFalsified}
-use Rattle.sc_search.specs.Visits.{AreAlive, AreSeenBut, IsWellWatched}
-use Rattle.sc_search.specs.Watching.{AreOpen}
-use Rattle.sc_watches.specs.Watches.{IsWatched}
-use Rattle.sc_search.specs.declared.room.Room.{Room}
-use Rattle.sc_watches.specs.declared.watches.Watch.{Watch}
+use Rattle.sc_trails.specs.Trails.{true_before, AreQuiet, HoldsTrail, AreInCells, AreAllSet}
+use Rattle.sc_trails.specs.Readings.{IsFalsified}
+use Rattle.sc_trails.specs.Visits.{AreAlive, AreSeenBut, IsWellWatched}
 
 -- the solver's clauses, what they watch and the trail fit; it has n cells, the first of no atom
 pub record IsReady (n : ℕ) (s : Solver) : Type 0 where
@@ -29,18 +21,6 @@ pub record IsReady (n : ℕ) (s : Solver) : Type 0 where
   pub watched : IsWellWatched n s.clauses s.trail s.watches
   pub trail : HoldsTrail n s.clauses s.trail
   pub seen : AreSeenBut s.clauses s.trail s.watches s.pending
-
--- two literals of a clause that aren't false before a place
-pub record IsOpenPair (cells : List Cell) (place : ℕ) (c : Clause) (w : Watch) : Type 0 where
-  pub first : Contains c w.first
-  pub second : Contains c w.second
-  pub neither_false : AreOpen (true_before cells place) (Some w)
-
--- at most so many levels, each of which begins with two literals of the clause that aren't false
-pub record IsRoom (cells : List Cell) (levels : List ℕ) (c : Clause) (most : ℕ) (r : Room) : Type 0 where
-  pub within : r.level ≤ most
-  pub members : (l : Lit) → IsWatched r.watch l → Contains c l
-  pub open_at : (k : ℕ) → k < r.level → AreOpen (true_before cells (slice_index_or levels k 0)) r.watch
 
 -- the clauses and steps are as they were
 pub record IsKept (clauses : List Clause) (steps : List Step) (s : Solver) : Type 0 where
@@ -52,6 +32,16 @@ pub record IsTotal (s : Solver) : Type 0 where
   pub quiet : AreQuiet (true_before s.trail.cells.items (length s.trail.lits.items)) s.clauses
   pub alive : AreAlive s.clauses s.trail s.watches
   pub full : AreAllSet s.trail.cells.items
+
+-- no clause gives a literal or is falsified
+pub record IsQuietNow (s : Solver) : Type 0 where
+  pub quiet : AreQuiet (true_before s.trail.cells.items (length s.trail.lits.items)) s.clauses
+  pub alive : AreAlive s.clauses s.trail s.watches
+
+-- a falsified clause, or nothing that a clause gives
+abbrev pub IsCalm : Solver → Option ℕ → Type 0
+IsCalm s None = IsQuietNow s
+IsCalm s (Some i) = IsFalsified s.clauses s.trail.cells.items (length s.trail.lits.items) i
 
 -- a falsified clause, or values of all atoms
 abbrev pub IsAtRest : Solver → Option ℕ → Type 0
@@ -101,14 +91,14 @@ IsTurn atoms has_instance clause_of clauses steps budget s turn.Refuted = HasEnd
 IsTurn atoms has_instance clause_of clauses steps budget s (turn.Consistent m) = IsConsistent atoms has_instance clause_of clauses m
 IsTurn atoms has_instance clause_of clauses steps budget s turn.Spent = (s.steps.items ≡ steps) × (length steps ≡ budget) × IsDue has_instance clause_of clauses
 
+-- what a turn begins with: nothing that is logged, or the turn
+abbrev pub HasBegun : ℕ → (instance.Instance → Type 0) → (instance.Instance → Clause) → List Clause → List Step → ℕ → Solver → Option Turn → Type 0
+HasBegun n has_instance clause_of clauses steps budget s None = IsReady n s × IsKept clauses steps s
+HasBegun n has_instance clause_of clauses steps budget s (Some t) = IsTurn (n - 1) has_instance clause_of clauses steps budget s t
+
 -- the search so far: units after the clauses given, as many as the budget at most
 pub record IsSearching (atoms : ℕ) (has_instance : instance.Instance → Type 0) (clause_of : instance.Instance → Clause) (clauses : List Clause) (budget : ℕ) (s : Solver) : Type 0 where
   pub ready : IsReady (atoms + 1) s
   pub clauses_are : s.clauses ≡ after clause_of clauses s.steps.items
   pub are_units : AreUnits atoms has_instance clause_of clauses s.steps.items
   pub within : length s.steps.items ≤ budget
-
-abbrev pub cell_value : Cell → Option Bool
-cell_value Free = None
-cell_value (Decided n q) = Some (not n)
-cell_value (Implied n q r) = Some (not n)

@@ -5,16 +5,10 @@
 //! unit propagation over the clauses before it, so none is spent on what was known.
 #![tactic(auto)]
 
-mod analysis;
-mod cell;
-mod choice;
-mod clause;
-mod propagation;
-mod room;
+mod giving;
 mod searching;
 mod solver;
 mod source;
-mod trail;
 
 pub use searching::{Found, search};
 pub use source::Source;

@@ -4,9 +4,11 @@ ghost use Rattle.std.specs.List.{Contains};
 ghost use Rattle.sc_clauses.specs.Assignments.{falsifies};
 ghost use Rattle.sc_clauses.specs.Clauses.{Clause};
 ghost use Rattle.sc_search.specs.Findings.{IsRefutation, IsConsistent, IsSpent, IfRefuted, IfConsistent, IfSpent};
-ghost use Rattle.sc_search.specs.Steps.{AreListed};
-ghost use Rattle.sc_search.specs.Turns.{IsReady, IsTotal, IsTurn, cell_value};
+ghost use Rattle.sc_trails.specs.Steps.{AreListed};
+ghost use Rattle.sc_search.specs.Turns.{HasBegun, IsReady, IsTotal, IsTurn};
+ghost use Rattle.sc_trails.specs.Rooms.{cell_value};
 
+use crate::giving::{Given, next_given};
 use crate::solver::{Solver, Turn};
 use crate::source::Source;
 use sc_clauses::{Assignment, Clauses, Instance, Step};
@@ -98,6 +100,60 @@ fn turns_over<S: Source>(
 impl Solver {
     /// Goes on to the next step, or to the end.
     fn turn<S: Source>(
+        &mut self,
+        alloc: Global,
+        source: &S,
+        budget: u64,
+    ) -> Result<Turn, AllocError>
+        requires ready { IsReady (length self.old.trail.cells.items) self.old }
+        requires some { 0 < length self.old.trail.cells.items }
+        requires few_cells { length self.old.trail.cells.items ≤ 10 ^ 18 }
+        requires few_clauses { length self.old.steps.items ≢ budget → length self.old.clauses < 10 ^ 18 }
+        ensures { IfOk result (λ t. IsTurn (length self.old.trail.cells.items - 1) (S.has_instance source.now)
+            (S.clause_of source.now) self.old.clauses self.old.steps.items budget self.new t) }
+    {
+        match self.begin(alloc, source, budget)? {
+            Some(turn) => Ok(turn),
+            None => self.go_on(alloc, source, budget),
+        }
+    }
+
+    /// Where nothing is decided: logs an instance that gives a literal, or settles a conflict. None where neither is known,
+    /// or the budget is spent.
+    fn begin<S: Source>(
+        &mut self,
+        alloc: Global,
+        source: &S,
+        budget: u64,
+    ) -> Result<Option<Turn>, AllocError>
+        requires ready { IsReady (length self.old.trail.cells.items) self.old }
+        requires some { 0 < length self.old.trail.cells.items }
+        requires few_cells { length self.old.trail.cells.items ≤ 10 ^ 18 }
+        requires few_clauses { length self.old.steps.items ≢ budget → length self.old.clauses < 10 ^ 18 }
+        ensures { IfOk result (λ o. HasBegun (length self.old.trail.cells.items) (S.has_instance source.now)
+            (S.clause_of source.now) self.old.clauses self.old.steps.items budget self.new o) }
+    {
+        if !self.trail.levels.is_empty() {
+            return Ok(None);
+        }
+        if self.is_spent(budget) {
+            return Ok(None);
+        }
+        if let Some(conflict) = self.come_to_rest()? {
+            return Ok(Some(self.settle(alloc, conflict, budget)?));
+        }
+        let given = next_given(&self.trail, source, &self.order, &mut self.suggestions)?;
+        match given {
+            None => Ok(None),
+            Some(Given { instance, clause }) => {
+                self.log(instance, clause.as_slice())?;
+                Ok(Some(Turn::Added))
+            }
+        }
+    }
+
+    /// Goes on to the next step, or to the end, by decisions.
+    fn go_on<S: Source>(
         &mut self,
         alloc: Global,
         source: &S,

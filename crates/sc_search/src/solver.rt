@@ -1,17 +1,16 @@
 //! The state of a search, and the steps that it logs.
 ghost use Rattle.std.specs.Prelude.{◌≡◌, ◌≢◌, ◌↔◌, ◌+◌, ◌-◌, ◌^◌, ◌<◌, ◌≤◌, ◌++◌, [], ◌∷◌, ℕ, length, map, drop, slice_index_or, IfOk, IsTrue};
-ghost use Rattle.sc_search.specs.Readings.{IsFalsified};
-ghost use Rattle.sc_search.specs.Trails.{AllInCells, AreInCells, HoldsTrail};
-ghost use Rattle.sc_search.specs.Visits.{AreAlive, AreSeenBut, IsWellWatched};
-ghost use Rattle.sc_search.specs.Turns.{IsReady, IsKept, IsAtRest, HasLearned, HasRefuted, HasSettled, cell_value};
+ghost use Rattle.sc_clauses.specs.declared.step.Step.TheVariants as step;
+ghost use Rattle.sc_trails.specs.Readings.{IsFalsified};
+ghost use Rattle.sc_trails.specs.Trails.{AllInCells, AreInCells, HoldsTrail};
+ghost use Rattle.sc_trails.specs.Visits.{AreAlive, AreSeenBut, IsWellWatched};
+ghost use Rattle.sc_search.specs.Turns.{IsReady, IsKept, IsCalm, IsAtRest, HasLearned, HasRefuted, HasSettled};
+ghost use Rattle.sc_trails.specs.Rooms.{cell_value};
 
-use crate::analysis::Resolvent;
-use crate::cell::{Cell, value_of};
-use crate::propagation::Pending;
-use crate::trail::Trail;
-use sc_clauses::{Assignment, Clauses, Learned, Lit, Step, negation};
-use sc_decisions::{Order, Restarts};
+use sc_clauses::{Assignment, Clauses, Instance, Learned, Lit, Step, negation};
+use sc_decisions::{Order, Restarts, Suggestions};
 use sc_lists::Seq;
+use sc_trails::{Cell, Pending, Resolvent, Trail, value_of};
 use sc_watches::Watches;
 use std::alloc::{AllocError, Global};
 
@@ -38,6 +37,7 @@ pub(crate) struct Solver {
     pub pending: Pending,
     pub order: Order,
     pub restarts: Restarts,
+    pub suggestions: Suggestions,
 }
 
 /// The values that cells tell.
@@ -85,6 +85,7 @@ impl Solver {
             pending: Pending::Each,
             order,
             restarts: Restarts::new(),
+            suggestions: Suggestions::new(alloc),
         })
     }
 
@@ -102,6 +103,25 @@ impl Solver {
     {
         let values = later_values(alloc, &self.trail.cells)?;
         Ok(Assignment::from_values(values))
+    }
+
+    /// Propagates until a clause is falsified (its place) or none gives anything.
+    pub fn come_to_rest(&mut self) -> Result<Option<usize>, AllocError>
+        requires { IsReady (length self.old.trail.cells.items) self.old }
+        ensures ready { IfOk result (λ _. IsReady (length self.old.trail.cells.items) self.new) }
+        ensures kept { IfOk result (λ _. IsKept self.old.clauses self.old.steps.items self.new) }
+        ensures calm { IfOk result (λ r. IsCalm self.new r) }
+    {
+        let conflict = self
+            .trail
+            .propagate(&self.clauses, &mut self.watches, self.pending)?;
+        if let Some(conflict) = conflict {
+            self.pending = Pending::Each;
+            return Ok(Some(conflict));
+        }
+        let place = self.trail.lits.len();
+        self.pending = Pending::From(place);
+        Ok(None)
     }
 
     /// Propagates and decides until a clause is falsified (its place) or each atom has a value.
@@ -130,6 +150,21 @@ impl Solver {
                 negated,
             })?;
         }
+    }
+
+    /// Logs an instance, of which this is the clause.
+    pub fn log(&mut self, instance: Instance, clause: &[Lit]) -> Result<(), AllocError>
+        requires ready { IsReady (length self.old.trail.cells.items) self.old }
+        requires in_cells { AllInCells (length self.old.trail.cells.items) clause.now }
+        requires alive { AreAlive self.old.clauses self.old.trail self.old.watches }
+        ensures ready { IfOk result (λ _. IsReady (length self.old.trail.cells.items) self.new) }
+        ensures clauses { IfOk result (λ _. self.new.clauses ≡ self.old.clauses ++ clause.now ∷ []) }
+        ensures steps { IfOk result (λ _. self.new.steps.items ≡ self.old.steps.items ++ step.Instance instance ∷ []) }
+    {
+        let most = self.trail.levels.len();
+        self.attach(clause, most)?;
+        self.steps.push(Step::Instance(instance))?;
+        Ok(())
     }
 
     /// Whether as many steps were logged.

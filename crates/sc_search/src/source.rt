@@ -4,7 +4,7 @@ ghost use Rattle.sc_clauses.specs.Assignments.{falsifies};
 ghost use Rattle.sc_clauses.specs.Clauses.{Clause};
 ghost use Rattle.sc_clauses.specs.declared.step.Instance.{Instance};
 
-use sc_clauses::{Assignment, Clause, Instance};
+use sc_clauses::{Assignment, Clause, Instance, Lit};
 use std::alloc::AllocError;
 
 /// A source of clauses that are true besides those given, each with the instance that tells it. There may be far too
@@ -27,4 +27,13 @@ pub trait Source {
     fn clause(&self, instance: &Instance) -> Result<Clause, AllocError>
         requires { has_instance self.now instance.now }
         ensures { IfOk result (λ c. c ≡ clause_of self.now instance.now) };
+
+    /// Instances that may give a literal where these literals are all that are true, the first `seen` of which it was told
+    /// before. Nothing is promised of them. Want of memory is its one fault.
+    fn suggested(&self, lits: &[Lit], seen: usize) -> Result<Vec<Instance>, AllocError>;
+
+    /// The clause of an instance, if it has that. Want of memory is its one fault.
+    fn told(&self, instance: &Instance) -> Result<Option<Clause>, AllocError>
+        ensures accepted { IfOk result (λ o. IfSome o (λ c. has_instance self.now instance.now)) }
+        ensures clause { IfOk result (λ o. IfSome o (λ c. c ≡ clause_of self.now instance.now)) };
 }

@@ -1,9 +1,10 @@
 //! The rules of a theory at a problem.
 ghost use Rattle.std.specs.Prelude.{◌≡◌};
 
-use sc_clauses::{Assignment, Clause, Instance};
+use sc_clauses::{Assignment, Clause, Instance, Lit};
 use sc_footprint::{Problem, Theory};
 use sc_search::Source;
+use sc_suggested::suggested;
 use std::alloc::{AllocError, Global};
 
 /// The rules of a theory at a problem: the search asks for an instance of one that an assignment falsifies.
@@ -39,5 +40,16 @@ impl<'t, 'p, T: Theory> Source for RulesAt<'t, 'p, T> {
 
     fn clause(&self, instance: &Instance) -> Result<Clause, AllocError> {
         self.theory.clause(self.alloc, self.problem, instance)
+    }
+
+    fn suggested(&self, lits: &[Lit], seen: usize) -> Result<Vec<Instance>, AllocError> {
+        suggested(self.alloc, self.problem, lits, seen)
+    }
+
+    fn told(&self, instance: &Instance) -> Result<Option<Clause>, AllocError> {
+        if !self.theory.accepts(self.alloc, self.problem, instance)? {
+            return Ok(None);
+        }
+        Ok(Some(self.theory.clause(self.alloc, self.problem, instance)?))
     }
 }

@@ -41,6 +41,14 @@ impl Source for Told {
         })?;
         Ok(lits)
     }
+
+    fn suggested(&self, _lits: &[Lit], _seen: usize) -> Result<Vec<Instance>, AllocError> {
+        Ok(Vec::new(self.alloc))
+    }
+
+    fn told(&self, _instance: &Instance) -> Result<Option<Clause>, AllocError> {
+        Ok(None)
+    }
 }
 
 /// A literal as it is written in DIMACS files: a number, or minus a number.

@@ -1,9 +1,9 @@
 use Rattle.std.proofs.Common.{◌≡◌, ◌<◌, ◌≤◌, List, length, subst, sym, arith, rules}
 use Rattle.sc_clauses.specs.Clauses.{Clause}
-use Rattle.sc_search.proofs.RoomLaws.{all-of, attached-seen, attached-trail, attached-watched, in-cells-more}
+use Rattle.sc_trails.proofs.RoomLaws.{all-of, attached-seen, attached-trail, attached-watched, in-cells-more}
 use Rattle.sc_search.proofs.solver.Solver.attach.Goals as goal
-use Rattle.sc_search.specs.Trails.{AreInCells, HoldsTrail}
-use Rattle.sc_search.specs.Visits.{AreAliveBut, IsWellWatched}
+use Rattle.sc_trails.specs.Trails.{AreInCells, HoldsTrail}
+use Rattle.sc_trails.specs.Visits.{AreAliveBut, IsWellWatched}
 
 pub room-room-requires-clause-in_cells : goal.room-room-requires-clause-in_cells
 room-room-requires-clause-in_cells c =

@@ -1,0 +1,6 @@
+//! Which of so many numbers are marked.
+#![tactic(auto)]
+
+mod marks;
+
+pub use marks::Marks;

@@ -1,9 +1,0 @@
-use Rattle.std.proofs.Common.{sym}
-use Rattle.sc_search.proofs.CopyLaws.{at_get, none_inside}
-use Rattle.sc_search.proofs.clause.clause_at.Goals as goal
-
-pub returns-in-Some : goal.returns-in-Some
-returns-in-Some c = at_get c.args.clauses.now c.args.place c.in-Some.clause.now (sym c.in-Some.ensures)
-
-pub returns-in-None : goal.returns-in-None
-returns-in-None c = absurd (none_inside c.args.clauses.now c.args.place c.requires (sym c.in-None.ensures))

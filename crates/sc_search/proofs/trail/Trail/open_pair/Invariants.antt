@@ -1,8 +1,0 @@
-use Rattle.std.proofs.Common.{◌≡◌, IfSome, false}
-use Rattle.std.specs.List.{Contains}
-use Rattle.sc_clauses.specs.Clauses.{negation}
-use Rattle.sc_search.specs.Trails.{true_before}
-use Rattle.sc_search.proofs.trail.Trail.open_pair.Given as goal
-
-abbrev pub invariant-loop-lit : goal.invariant-loop-lit
-invariant-loop-lit l = IfSome l.open (λ u. Contains l.clause u × (true_before l.self.cells.items l.place (negation u) ≡ false))

@@ -1,6 +1,0 @@
-use Rattle.std.proofs.Common.{take, length}
-use Rattle.sc_search.specs.Readings.{IsSoFar}
-use Rattle.sc_search.proofs.trail.Trail.status.Given as goal
-
-abbrev pub invariant-loop-lit : goal.invariant-loop-lit
-invariant-loop-lit l = IsSoFar l.self.cells.items (length l.self.lits.items) (take l.lit-index l.clause) l.open

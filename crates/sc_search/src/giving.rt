@@ -1,0 +1,62 @@
+//! Instances that give a literal.
+ghost use Rattle.std.specs.Prelude.{◌≡◌, IfOk, IfSome};
+ghost use Rattle.sc_search.specs.Given.{IsGiven};
+ghost use Rattle.sc_trails.specs.Trails.{Agree};
+
+use crate::source::Source;
+use sc_clauses::{Clause, Instance};
+use sc_decisions::{Order, Suggestions};
+use sc_trails::Trail;
+use std::alloc::AllocError;
+
+/// An instance that gives a literal, and its clause.
+#[derive(Drop)]
+pub(crate) struct Given {
+    pub instance: Instance,
+    pub clause: Clause,
+}
+
+/// An instance with its clause, if that gives a literal.
+fn if_given<S: Source>(
+    trail: &Trail,
+    source: &S,
+    order: &Order,
+    instance: Instance,
+) -> Result<Option<Given>, AllocError>
+    requires { Agree trail.now.cells.items trail.now.lits.items }
+    ensures { IfOk result (λ o. IfSome o
+        (IsGiven (S.has_instance source.now) (S.clause_of source.now) trail.now)) }
+{
+    let Some(clause) = source.told(&instance)? else {
+        return Ok(None);
+    };
+    if !trail.gives(order, clause.as_slice()) {
+        return Ok(None);
+    }
+    Ok(Some(Given { instance, clause }))
+}
+
+/// The next suggestion that gives a literal, if there is one.
+pub(crate) fn next_given<S: Source>(
+    trail: &Trail,
+    source: &S,
+    order: &Order,
+    suggestions: &mut Suggestions,
+) -> Result<Option<Given>, AllocError>
+    requires { Agree trail.now.cells.items trail.now.lits.items }
+    ensures { IfOk result (λ o. IfSome o
+        (IsGiven (S.has_instance source.now) (S.clause_of source.now) trail.now)) }
+{
+    if let Some(seen) = suggestions.first_new(trail.lits.len()) {
+        suggestions.put(source.suggested(&trail.lits, seen)?, trail.lits.len());
+    }
+    for _left in 0..suggestions.len() {
+        let Some(instance) = suggestions.take() else {
+            return Ok(None);
+        };
+        if let Some(found) = if_given(trail, source, order, instance)? {
+            return Ok(Some(found));
+        }
+    }
+    Ok(None)
+}

@@ -1,0 +1,10 @@
+mod PlaceLaws
+pub mod LitLaws
+pub mod NewnessLaws
+pub mod CellLaws
+pub mod TrailLaws
+pub mod ReadingLaws
+pub mod WatchingLaws
+pub mod VisitLaws
+pub mod AnalysisLaws
+pub mod RoomLaws

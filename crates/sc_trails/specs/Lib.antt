@@ -1,0 +1,9 @@
+pub mod Propagation
+pub mod Steps
+pub mod Trails
+pub mod Readings
+pub mod Visits
+pub mod Watching
+pub mod Analyses
+pub mod Rooms
+pub mod Giving

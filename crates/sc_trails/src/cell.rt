@@ -1,0 +1,92 @@
+//! What is known of an atom.
+ghost use Rattle.std.specs.Prelude.{◌≡◌, ◌↔◌, IsTrue};
+ghost use Rattle.sc_trails.specs.Readings.{truth_of};
+ghost use Rattle.sc_trails.specs.Trails.{set_before};
+ghost use Rattle.sc_trails.specs.Rooms.{cell_value};
+
+/// What is known of an atom, and from which place of the trail on.
+#[derive(Clone, Copy)]
+pub enum Cell {
+    /// Nothing.
+    Free,
+    /// A value that was tried.
+    Decided {
+        negated: bool,
+        place: usize,
+    },
+    /// A value that a clause gave: the one at `reason`, whose other literals were false.
+    Implied {
+        negated: bool,
+        place: usize,
+        reason: usize,
+    },
+}
+
+/// What is known of a literal.
+#[derive(Clone, Copy)]
+pub enum Truth {
+    True,
+    False,
+    Open,
+}
+
+/// What a cell says of its atom's literal, or of the negation of that.
+pub fn truth_of(cell: Cell, negated: bool) -> Truth
+    ensures { result ≡ truth_of cell negated }
+{
+    match cell {
+        Cell::Free => Truth::Open,
+        Cell::Decided { negated: sign, .. } => {
+            if sign == negated {
+                Truth::True
+            } else {
+                Truth::False
+            }
+        }
+        Cell::Implied { negated: sign, .. } => {
+            if sign == negated {
+                Truth::True
+            } else {
+                Truth::False
+            }
+        }
+    }
+}
+
+/// Whether a cell has this sign from a place before `end` on.
+pub fn is_set_before(cell: Cell, end: usize, negated: bool) -> bool
+    ensures { result ≡ set_before cell end negated }
+{
+    match cell {
+        Cell::Free => false,
+        Cell::Decided {
+            negated: sign,
+            place,
+        } => sign == negated && place < end,
+        Cell::Implied {
+            negated: sign,
+            place,
+            ..
+        } => sign == negated && place < end,
+    }
+}
+
+/// Whether a cell has no value.
+pub fn is_free(cell: Cell) -> bool
+    ensures { IsTrue result ↔ cell ≡ Cell.Free }
+{
+    match cell {
+        Cell::Free => true,
+        Cell::Decided { .. } | Cell::Implied { .. } => false,
+    }
+}
+
+/// The value of a cell's atom, where it has one.
+pub fn value_of(cell: Cell) -> Option<bool>
+    ensures { result ≡ cell_value cell }
+{
+    match cell {
+        Cell::Free => None,
+        Cell::Decided { negated, .. } | Cell::Implied { negated, .. } => Some(!negated),
+    }
+}

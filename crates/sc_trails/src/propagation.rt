@@ -1,0 +1,363 @@
+//! Unit propagation, by the clauses that watch what became false.
+ghost use Rattle.std.specs.Prelude.{◌≡◌, ◌+◌, ◌<◌, length, Some, IfOk, IfSome, IsTrue, true};
+ghost use Rattle.std.specs.List.{Contains};
+ghost use Rattle.sc_clauses.specs.Clauses.{Clause};
+ghost use Rattle.sc_clauses.specs.declared.lit.Lit.{Lit};
+ghost use Rattle.sc_trails.specs.Readings.{HasStatus, IsOpen};
+ghost use Rattle.sc_trails.specs.Steps.{At};
+ghost use Rattle.sc_trails.specs.Trails.{Agree, HoldsTrail, AllInCells, AreInCells, true_before};
+ghost use Rattle.sc_trails.specs.Visits.{AreAliveBut, AreSeen, AreSeenBut, HasFollowed, HasPropagated, HasVisited, HasVisitedEach, IsWellWatched, KeepsOthers, MovesOn};
+ghost use Rattle.sc_watches.specs.Watches.{IsWatched, watch_of};
+
+use crate::cell::Truth;
+use crate::clause::clause_at;
+use crate::trail::{Trail, is_same};
+use sc_clauses::{Clauses, Lit, negation};
+use sc_watches::{Watch, Watches};
+use std::alloc::AllocError;
+
+/// What a clause says under the assignment.
+#[derive(Clone, Copy)]
+pub enum Status {
+    /// Nothing: this literal is true.
+    Satisfied(Lit),
+    /// Nothing: these two literals are open.
+    Open(Watch),
+    /// That this literal is true, since the others are false.
+    Unit(Lit),
+    /// All its literals are false.
+    Falsified,
+}
+
+/// Which clauses are still to be visited. The others give nothing.
+#[derive(Clone, Copy)]
+pub enum Pending {
+    /// Each of them may be.
+    Each,
+    /// The one at this place.
+    One(usize),
+    /// Those that watch a literal which became false at this place of the trail or after it.
+    From(usize),
+}
+
+impl Trail {
+    pub fn status(&self, clause: &[Lit]) -> Status
+        requires agree { Agree self.now.cells.items self.now.lits.items }
+        requires in_cells { AllInCells (length self.now.cells.items) clause.now }
+        ensures { HasStatus self.now.cells.items (length self.now.lits.items) clause.now result }
+    {
+        let mut open: Option<Lit> = None;
+        for lit in clause {
+            match self.truth(*lit) {
+                Truth::True => return Status::Satisfied(*lit),
+                Truth::False => {}
+                Truth::Open => match open {
+                    None => open = Some(*lit),
+                    Some(other) => {
+                        if !is_same(other, *lit) {
+                            return Status::Open(Watch {
+                                first: other,
+                                second: *lit,
+                            });
+                        }
+                    }
+                },
+            }
+        }
+        match open {
+            None => Status::Falsified,
+            Some(lit) => Status::Unit(lit),
+        }
+    }
+
+    fn is_true(&self, lit: Lit) -> bool
+        requires agree { Agree self.now.cells.items self.now.lits.items }
+        requires in_cells { lit.atom < length self.now.cells.items }
+        ensures { IsTrue result → true_before self.now.cells.items (length self.now.lits.items) lit ≡ true }
+    {
+        match self.truth(lit) {
+            Truth::True => true,
+            Truth::False => false,
+            Truth::Open => false,
+        }
+    }
+
+    /// Whether one of two literals is true.
+    fn is_one_true(&self, watch: Watch) -> bool
+        requires agree { Agree self.now.cells.items self.now.lits.items }
+        requires first { watch.first.atom < length self.now.cells.items }
+        requires second { watch.second.atom < length self.now.cells.items }
+        ensures { IsTrue result → (l : Lit) × IsWatched (Some watch) l
+            × (true_before self.now.cells.items (length self.now.lits.items) l ≡ true) }
+    {
+        if self.is_true(watch.first) {
+            return true;
+        }
+        self.is_true(watch.second)
+    }
+
+    /// Whether a literal that the clause at a place watches is true.
+    fn is_satisfied(&self, watches: &Watches, place: usize) -> bool
+        requires agree { Agree self.now.cells.items self.now.lits.items }
+        requires in_cells { (l : Lit) → IsWatched (watch_of watches.now place) l → l.atom < length self.now.cells.items }
+        ensures { IsTrue result → (l : Lit) × IsWatched (watch_of watches.now place) l
+            × (true_before self.now.cells.items (length self.now.lits.items) l ≡ true) }
+    {
+        match watches.pair(place) {
+            None => false,
+            Some(watch) => self.is_one_true(watch),
+        }
+    }
+
+    fn is_open(&self, lit: Lit) -> bool
+        requires agree { Agree self.now.cells.items self.now.lits.items }
+        requires in_cells { lit.atom < length self.now.cells.items }
+        ensures { IsTrue result → IsOpen self.now.cells.items lit }
+    {
+        match self.truth(lit) {
+            Truth::Open => true,
+            Truth::True | Truth::False => false,
+        }
+    }
+
+    /// A literal that the clause at a place watches and that is open.
+    fn open_watched(&self, watches: &Watches, place: usize) -> Option<Lit>
+        requires agree { Agree self.now.cells.items self.now.lits.items }
+        requires in_cells { (l : Lit) → IsWatched (watch_of watches.now place) l → l.atom < length self.now.cells.items }
+        ensures { IfSome result (λ l. IsWatched (watch_of watches.now place) l × IsOpen self.now.cells.items l) }
+    {
+        let Some(watch) = watches.pair(place) else {
+            return None;
+        };
+        if self.is_open(watch.first) {
+            return Some(watch.first);
+        }
+        if self.is_open(watch.second) {
+            return Some(watch.second);
+        }
+        None
+    }
+
+    /// Lets the clause at a place watch its literal that is true in place of one that it watched, if the other one is open:
+    /// so it isn't read again as long as that literal is true.
+    fn watch_true(
+        &self,
+        clauses: &Clauses,
+        watches: &mut Watches,
+        place: usize,
+        lit: Lit,
+    ) -> Result<(), AllocError>
+        requires in_cells { AreInCells (length self.now.cells.items) clauses.now }
+        requires trail { HoldsTrail (length self.now.cells.items) clauses.now self.now }
+        requires watched { IsWellWatched (length self.now.cells.items) clauses.now self.now watches.old }
+        requires satisfied { (c : Clause) × At clauses.now place c × Contains c lit
+            × (true_before self.now.cells.items (length self.now.lits.items) lit ≡ true) }
+        ensures moves { IfOk result (λ _. MovesOn (length self.now.cells.items) clauses.now self.now watches.old
+            self.now watches.new) }
+        ensures others { IfOk result (λ _. KeepsOthers self.now place watches.old watches.new) }
+    {
+        let Some(open) = self.open_watched(watches, place) else {
+            return Ok(());
+        };
+        let watch = Watch {
+            first: lit,
+            second: open,
+        };
+        watches.watch(place, watch)?;
+        Ok(())
+    }
+
+    /// Reads the clause at a place. It then watches two literals that are open, or what it gives is made true. Whether
+    /// it's falsified.
+    fn read(
+        &mut self,
+        clauses: &Clauses,
+        watches: &mut Watches,
+        place: usize,
+    ) -> Result<bool, AllocError>
+        requires in_cells { AreInCells (length self.old.cells.items) clauses.now }
+        requires trail { HoldsTrail (length self.old.cells.items) clauses.now self.old }
+        requires watched { IsWellWatched (length self.old.cells.items) clauses.now self.old watches.old }
+        requires within { place < length clauses.now }
+        ensures moves { IfOk result (λ _. MovesOn (length self.old.cells.items) clauses.now self.old watches.old
+            self.new watches.new) }
+        ensures visited { IfOk result (λ f. HasVisited clauses.now self.new watches.new place f) }
+        ensures others { IfOk result (λ _. KeepsOthers self.old place watches.old watches.new) }
+    {
+        match self.status(clause_at(clauses, place)) {
+            Status::Satisfied(lit) => {
+                self.watch_true(clauses, watches, place, lit)?;
+                Ok(false)
+            }
+            Status::Open(watch) => {
+                watches.watch(place, watch)?;
+                Ok(false)
+            }
+            Status::Unit(lit) => {
+                self.imply(lit, place)?;
+                Ok(false)
+            }
+            Status::Falsified => Ok(true),
+        }
+    }
+
+    /// Reads the clause at a place unless a literal that it watches is true. Whether it's falsified.
+    fn visit(
+        &mut self,
+        clauses: &Clauses,
+        watches: &mut Watches,
+        place: usize,
+    ) -> Result<bool, AllocError>
+        requires in_cells { AreInCells (length self.old.cells.items) clauses.now }
+        requires trail { HoldsTrail (length self.old.cells.items) clauses.now self.old }
+        requires watched { IsWellWatched (length self.old.cells.items) clauses.now self.old watches.old }
+        requires within { place < length clauses.now }
+        ensures moves { IfOk result (λ _. MovesOn (length self.old.cells.items) clauses.now self.old watches.old
+            self.new watches.new) }
+        ensures visited { IfOk result (λ f. HasVisited clauses.now self.new watches.new place f) }
+        ensures others { IfOk result (λ _. KeepsOthers self.old place watches.old watches.new) }
+    {
+        if self.is_satisfied(watches, place) {
+            return Ok(false);
+        }
+        self.read(clauses, watches, place)
+    }
+
+    /// Visits each clause, until one is falsified (its place).
+    fn visit_each(
+        &mut self,
+        clauses: &Clauses,
+        watches: &mut Watches,
+    ) -> Result<Option<usize>, AllocError>
+        requires in_cells { AreInCells (length self.old.cells.items) clauses.now }
+        requires trail { HoldsTrail (length self.old.cells.items) clauses.now self.old }
+        requires watched { IsWellWatched (length self.old.cells.items) clauses.now self.old watches.old }
+        ensures moves { IfOk result (λ _. MovesOn (length self.old.cells.items) clauses.now self.old watches.old
+            self.new watches.new) }
+        ensures visited { IfOk result (λ r. HasVisitedEach clauses.now self.new watches.new (length self.old.lits.items) r) }
+    {
+        for place in 0..clauses.len() {
+            if self.visit(clauses, watches, place)? {
+                return Ok(Some(place));
+            }
+        }
+        Ok(None)
+    }
+
+    /// Visits the clauses that watch the negation of the literal at a place of the trail, until one is falsified (its
+    /// place). Those that no longer watch it are taken out of its list.
+    fn visit_watching(
+        &mut self,
+        clauses: &Clauses,
+        watches: &mut Watches,
+        first: usize,
+    ) -> Result<Option<usize>, AllocError>
+        requires in_cells { AreInCells (length self.old.cells.items) clauses.now }
+        requires trail { HoldsTrail (length self.old.cells.items) clauses.now self.old }
+        requires watched { IsWellWatched (length self.old.cells.items) clauses.now self.old watches.old }
+        requires within { first < length self.old.lits.items }
+        requires seen { AreSeen clauses.now self.old watches.old first }
+        ensures moves { IfOk result (λ _. MovesOn (length self.old.cells.items) clauses.now self.old watches.old
+            self.new watches.new) }
+        ensures done { IfOk result (λ r. HasFollowed clauses.now self.new watches.new (first + 1) r) }
+    {
+        let lit = negation(self.lits[first]);
+        let mut at = 0;
+        while let Some(place) = watches.place_at(lit, at) {
+            if self.visit(clauses, watches, place)? {
+                return Ok(Some(place));
+            }
+            at = watches.sift(lit, at, place);
+        }
+        Ok(None)
+    }
+
+    /// Visits the clauses that watch a literal which is false from a place of the trail or a later one on.
+    fn follow(
+        &mut self,
+        clauses: &Clauses,
+        watches: &mut Watches,
+        first: usize,
+    ) -> Result<Option<usize>, AllocError>
+        requires in_cells { AreInCells (length self.old.cells.items) clauses.now }
+        requires trail { HoldsTrail (length self.old.cells.items) clauses.now self.old }
+        requires watched { IsWellWatched (length self.old.cells.items) clauses.now self.old watches.old }
+        requires seen { AreSeen clauses.now self.old watches.old first }
+        ensures moves { IfOk result (λ _. MovesOn (length self.old.cells.items) clauses.now self.old watches.old
+            self.new watches.new) }
+        ensures done { IfOk result (λ r. HasPropagated clauses.now self.new watches.new r) }
+    {
+        let mut place = first;
+        'literals: while place < self.lits.len() {
+            if let Some(conflict) = self.visit_watching(clauses, watches, place)? {
+                return Ok(Some(conflict));
+            }
+            place += 1;
+        }
+        Ok(None)
+    }
+
+    /// Visits the clause at a place, and then those that watch what became false.
+    fn visit_one(
+        &mut self,
+        clauses: &Clauses,
+        watches: &mut Watches,
+        one: usize,
+    ) -> Result<Option<usize>, AllocError>
+        requires in_cells { AreInCells (length self.old.cells.items) clauses.now }
+        requires trail { HoldsTrail (length self.old.cells.items) clauses.now self.old }
+        requires watched { IsWellWatched (length self.old.cells.items) clauses.now self.old watches.old }
+        requires pending { AreAliveBut clauses.now self.old watches.old one }
+        ensures moves { IfOk result (λ _. MovesOn (length self.old.cells.items) clauses.now self.old watches.old
+            self.new watches.new) }
+        ensures done { IfOk result (λ r. HasPropagated clauses.now self.new watches.new r) }
+    {
+        let place = self.lits.len();
+        if self.visit(clauses, watches, one)? {
+            return Ok(Some(one));
+        }
+        self.follow(clauses, watches, place)
+    }
+
+    /// Visits all clauses, and then those that watch what became false.
+    fn visit_all(
+        &mut self,
+        clauses: &Clauses,
+        watches: &mut Watches,
+    ) -> Result<Option<usize>, AllocError>
+        requires in_cells { AreInCells (length self.old.cells.items) clauses.now }
+        requires trail { HoldsTrail (length self.old.cells.items) clauses.now self.old }
+        requires watched { IsWellWatched (length self.old.cells.items) clauses.now self.old watches.old }
+        ensures moves { IfOk result (λ _. MovesOn (length self.old.cells.items) clauses.now self.old watches.old
+            self.new watches.new) }
+        ensures done { IfOk result (λ r. HasPropagated clauses.now self.new watches.new r) }
+    {
+        let place = self.lits.len();
+        if let Some(conflict) = self.visit_each(clauses, watches)? {
+            return Ok(Some(conflict));
+        }
+        self.follow(clauses, watches, place)
+    }
+
+    /// Makes true what the clauses give, until one of them is falsified (its place) or none gives anything.
+    pub fn propagate(
+        &mut self,
+        clauses: &Clauses,
+        watches: &mut Watches,
+        pending: Pending,
+    ) -> Result<Option<usize>, AllocError>
+        requires in_cells { AreInCells (length self.old.cells.items) clauses.now }
+        requires trail { HoldsTrail (length self.old.cells.items) clauses.now self.old }
+        requires watched { IsWellWatched (length self.old.cells.items) clauses.now self.old watches.old }
+        requires pending { AreSeenBut clauses.now self.old watches.old pending }
+        ensures moves { IfOk result (λ _. MovesOn (length self.old.cells.items) clauses.now self.old watches.old
+            self.new watches.new) }
+        ensures done { IfOk result (λ r. HasPropagated clauses.now self.new watches.new r) }
+    {
+        match pending {
+            Pending::From(place) => self.follow(clauses, watches, place),
+            Pending::One(place) => self.visit_one(clauses, watches, place),
+            Pending::Each => self.visit_all(clauses, watches),
+        }
+    }
+}

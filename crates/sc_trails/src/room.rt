@@ -1,0 +1,94 @@
+//! How far to go back for a new clause.
+ghost use Rattle.std.specs.Prelude.{◌≡◌, ◌-◌, ◌<◌, ◌≤◌, ℕ, length, slice_index_or, take, IfSome};
+ghost use Rattle.std.specs.List.{All};
+ghost use Rattle.sc_trails.specs.Analyses.{IsHighest};
+ghost use Rattle.sc_trails.specs.Trails.{AreLevels, HoldsTrail, true_before};
+ghost use Rattle.sc_trails.specs.Rooms.{IsOpenPair, IsRoom};
+
+use crate::trail::{Trail, is_same};
+use sc_clauses::{Clauses, Lit, negation};
+use sc_decisions::Order;
+use sc_watches::Watch;
+
+/// How many levels a clause leaves, and what it may watch there.
+#[derive(Clone, Copy)]
+pub struct Room {
+    pub level: usize,
+    /// Two literals that aren't false where any of these levels begins; none where there is no level.
+    pub watch: Option<Watch>,
+}
+
+impl Trail {
+    /// Where the highest level begins.
+    pub fn level_start(&self) -> usize
+        requires some { 0 < length self.now.levels.items }
+        requires levels { AreLevels self.now.cells.items self.now.levels.items (length self.now.lits.items) }
+        ensures highest { IsHighest self.now.levels.items result }
+        ensures value { result ≡ slice_index_or self.now.levels.items (length self.now.levels.items - 1) 0 }
+    {
+        self.levels[self.levels.len() - 1]
+    }
+
+    /// Two literals of a clause that weren't false before a place.
+    fn open_pair(&self, clause: &[Lit], place: usize) -> Option<Watch>
+        requires in_cells { All (λ m. m.atom < length self.now.cells.items) clause.now }
+        ensures { IfSome result (IsOpenPair self.now.cells.items place clause.now) }
+    {
+        let mut open: Option<Lit> = None;
+        for lit in clause {
+            if !self.is_true_before(negation(*lit), place) {
+                match open {
+                    None => open = Some(*lit),
+                    Some(other) => {
+                        if !is_same(other, *lit) {
+                            return Some(Watch {
+                                first: other,
+                                second: *lit,
+                            });
+                        }
+                    }
+                }
+            }
+        }
+        None
+    }
+
+    /// The highest level, up to one, below which each level begins with two literals of a clause that aren't false.
+    pub fn room(&self, clause: &[Lit], most: usize) -> Room
+        requires in_cells { All (λ m. m.atom < length self.now.cells.items) clause.now }
+        requires levels { AreLevels self.now.cells.items self.now.levels.items (length self.now.lits.items) }
+        requires most { most ≤ length self.now.levels.items }
+        ensures { IsRoom self.now.cells.items self.now.levels.items clause.now most result }
+    {
+        let mut level = most;
+        'down: while level > 0 {
+            let place = self.levels[level - 1];
+            if let Some(watch) = self.open_pair(clause, place) {
+                return Room {
+                    level,
+                    watch: Some(watch),
+                };
+            }
+            level -= 1;
+        }
+        Room { level, watch: None }
+    }
+
+    /// Takes back the levels from one on, if there are so many.
+    pub fn go_back(&mut self, clauses: &Clauses, order: &mut Order, level: usize)
+        requires trail { HoldsTrail (length self.old.cells.items) clauses.now self.old }
+        requires within { level ≤ length self.old.levels.items }
+        ensures trail { HoldsTrail (length self.old.cells.items) clauses.now self.new }
+        ensures levels { self.new.levels.items ≡ take level self.old.levels.items }
+        ensures start { level < length self.old.levels.items → length self.new.lits.items
+            ≡ slice_index_or self.old.levels.items level 0 }
+        ensures end { level ≡ length self.old.levels.items → length self.new.lits.items ≡ length self.old.lits.items }
+        ensures kept { (q : ℕ) → q ≤ length self.new.lits.items → true_before self.new.cells.items q
+            ≡ true_before self.old.cells.items q }
+    {
+        if level >= self.levels.len() {
+            return;
+        }
+        self.backtrack(clauses, order, level);
+    }
+}
