@@ -7,8 +7,6 @@ mod address;
 mod address_bits;
 mod bits;
 mod laws;
-#[cfg(test)]
-mod tests;
 
 pub use address::ip_from_bits;
 pub use address_bits::ip_bit;

@@ -6,8 +6,6 @@ mod clause;
 mod clauses;
 mod lit;
 mod step;
-#[cfg(test)]
-mod tests;
 
 pub use assignment::{Assignment, falsifies, is_false};
 pub use clause::{Clause, contained, is_in};

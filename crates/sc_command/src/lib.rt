@@ -4,8 +4,6 @@
 mod command;
 mod numbers;
 mod reading;
-#[cfg(test)]
-mod tests;
 mod tool;
 
 pub use command::{Analyse, Asked, Check, Command, Log, Replay};

@@ -6,8 +6,6 @@ mod compare;
 mod decimal;
 mod laws;
 mod read;
-#[cfg(test)]
-mod tests;
 mod write;
 
 pub use compare::{le, lt};

@@ -6,8 +6,6 @@ mod ascending;
 mod cycles;
 mod path;
 mod reaching;
-#[cfg(test)]
-mod tests;
 
 pub use cycles::least_cycle;
 pub use reaching::Reachability;

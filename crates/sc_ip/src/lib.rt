@@ -8,8 +8,6 @@ mod laws;
 mod notation;
 mod range;
 mod read;
-#[cfg(test)]
-mod tests;
 mod write;
 
 pub use ip::Ip;

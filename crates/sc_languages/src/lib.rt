@@ -13,8 +13,6 @@ mod reading;
 mod search;
 mod strings;
 mod symbols;
-#[cfg(test)]
-mod tests;
 mod visited;
 
 pub use strings::strings_of;

@@ -12,8 +12,6 @@ mod piece;
 mod sign;
 mod spelling;
 mod string;
-#[cfg(test)]
-mod tests;
 mod token;
 mod unescaping;
 

@@ -10,8 +10,6 @@ pub mod members;
 pub mod pairs;
 mod seq;
 mod shared;
-#[cfg(test)]
-mod tests;
 mod text;
 
 pub use boxed::Boxed;

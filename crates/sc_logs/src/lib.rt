@@ -8,8 +8,6 @@ mod lines;
 mod log;
 mod numbers;
 mod reading;
-#[cfg(test)]
-mod tests;
 mod whole_lines;
 mod words;
 mod writing;

@@ -5,8 +5,6 @@ mod laws;
 mod matching;
 mod part;
 mod pattern;
-#[cfg(test)]
-mod tests;
 
 pub use laws::pattern_laws;
 pub use matching::matches;

@@ -2,7 +2,5 @@
 #![tactic(auto)]
 
 mod pointer;
-#[cfg(test)]
-mod tests;
 
 pub use pointer::below;

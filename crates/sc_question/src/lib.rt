@@ -3,8 +3,6 @@
 
 mod name;
 mod question;
-#[cfg(test)]
-mod tests;
 
 pub use name::{name_laws, question_named};
 pub use question::{Question, takes_two};

@@ -1,4 +1,5 @@
-use crate::{Assignment, Clauses, Lit, contained, falsifies, negation};
+//! Tests of clauses, lists of them and assignments.
+use sc_clauses::{Assignment, Clauses, Lit, contained, falsifies, negation};
 use sc_lists::Seq;
 use std::alloc::{AllocError, Global};
 use std::test::Fail;

@@ -1,7 +1,5 @@
 //! Tests of what can be reached.
-#![tactic(auto)]
-
-use crate::{Reachability, least_cycle};
+use sc_graphs::{Reachability, least_cycle};
 use sc_lists::Seq;
 use std::alloc::{AllocError, Global};
 use std::test::Fail;

@@ -1,12 +1,10 @@
 //! Calls with ample memory, and orders that no clause spells out.
-#![tactic(auto)]
-
 ghost use Rattle.std.specs.Prelude.{IfOk};
 ghost use Rattle.std.specs.List.Sorted.{IsStrictlySortedBy};
 ghost use Rattle.std.specs.Map.{keys_of};
 ghost use Rattle.std.specs.Ordering.{nat_cmp};
 
-use crate::{Boxed, Fault, Seq, Shared, Text, members, pairs};
+use sc_lists::{Boxed, Fault, Seq, Shared, Text, members, pairs};
 use std::alloc::{AllocError, Global};
 use std::cmp::Ordering;
 use std::test::Fail;
@@ -171,7 +169,7 @@ fn faults(rt: HostRuntime) -> Result<(), Fail> {
 }
 
 /// Three members, one of them put twice.
-#[tactic(auto, using(crate::proofs::OrderedLaws::none_ascends))]
+#[tactic(auto, using(sc_lists::proofs::OrderedLaws::none_ascends))]
 fn members_put(alloc: Global) -> Result<Seq<u8>, AllocError>
     ensures { IfOk result (λ list. IsStrictlySortedBy nat_cmp list) }
 {
@@ -195,7 +193,7 @@ fn members_in_order(rt: HostRuntime) -> Result<(), Fail> {
 }
 
 /// Two pairs, the value of one of them put twice.
-#[tactic(auto, using(crate::proofs::OrderedLaws::no_pair_ascends))]
+#[tactic(auto, using(sc_lists::proofs::OrderedLaws::no_pair_ascends))]
 fn pairs_put(alloc: Global) -> Result<Seq<(u8, u16)>, AllocError>
     ensures { IfOk result (λ list. IsStrictlySortedBy nat_cmp (keys_of list)) }
 {

@@ -1,6 +1,6 @@
 //! Worked rows of patterns and texts.
-use crate::Part::{Char, Star};
-use crate::{Pattern, matches, pattern_of};
+use sc_pattern::Part::{Char, Star};
+use sc_pattern::{Pattern, matches, pattern_of};
 use std::test::Fail;
 
 /// Whether a pattern matches just those texts of a table that are marked.

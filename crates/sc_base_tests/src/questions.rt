@@ -1,4 +1,5 @@
-use crate::{Question, question_named, takes_two};
+//! Tests of the names of questions.
+use sc_question::{Question, question_named, takes_two};
 
 fn is_named(word: &str, question: Question) -> bool {
     question_named(word) == Some(question)

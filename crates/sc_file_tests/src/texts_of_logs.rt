@@ -1,7 +1,7 @@
 //! What is read of a log's text and written of it, where a word of signs has each of them.
 
-use crate::{read_log, write_log, write_step};
 use sc_lists::Fault;
+use sc_logs::{read_log, write_log, write_step};
 use std::alloc::{AllocError, Global};
 use std::test::Fail;
 

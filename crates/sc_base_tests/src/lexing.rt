@@ -1,10 +1,11 @@
-use crate::Kind::{
+//! Tests of the tokens of policies and of their texts.
+use sc_lexer::Kind::{
     And, CloseBrace, CloseParenthesis, Colon, Comma, Dot, DoubleColon, Equal, Less, LessOrEqual,
     Number, OpenBrace, OpenParenthesis, Semicolon, Str, Word,
 };
-use crate::LexFault::{BadEscape, BadToken, BadUtf8};
-use crate::Piece::{Char, EscapedStar, Star};
-use crate::{Kind, LexFault, Span, Token, pieces, text, tokens, unescape};
+use sc_lexer::LexFault::{BadEscape, BadToken, BadUtf8};
+use sc_lexer::Piece::{Char, EscapedStar, Star};
+use sc_lexer::{Kind, LexFault, Span, Token, pieces, text, tokens, unescape};
 use sc_lists::{Fault, Seq};
 use std::alloc::Global;
 use std::test::Fail;

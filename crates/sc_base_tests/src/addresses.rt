@@ -1,4 +1,5 @@
-use super::*;
+//! Tests of addresses: texts that are read and written, ranges.
+use sc_ip::{in_range, is_loopback, is_multicast, is_v4, read_ip, write_ip};
 use std::alloc::{AllocError, Global};
 use std::test::Fail;
 

@@ -1,5 +1,6 @@
-use crate::below;
+//! Tests of pointers into JSON.
 use sc_lists::Text;
+use sc_pointers::below;
 use std::alloc::{AllocError, Global};
 use std::test::Fail;
 

@@ -1,4 +1,5 @@
-use super::*;
+//! Tests of decimal numbers: texts that are read and written, and their order.
+use sc_decimal::{Decimal, le, lt, read_decimal, write_decimal};
 use std::test::Fail;
 
 fn ten_thousandths(text: &str) -> Option<i64> {

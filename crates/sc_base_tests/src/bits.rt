@@ -1,4 +1,5 @@
-use super::*;
+//! Tests of the bits of numbers and addresses.
+use sc_bits::{bit, from_bits, ip_bit, ip_from_bits};
 use sc_ip::Ip;
 use std::test::Fail;
 

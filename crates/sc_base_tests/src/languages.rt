@@ -1,5 +1,5 @@
 //! Texts of worked patterns.
-use crate::strings_of;
+use sc_languages::strings_of;
 use sc_pattern::Part::{Char, Star};
 use sc_pattern::{Pattern, pattern_of};
 use std::alloc::{AllocError, Global};

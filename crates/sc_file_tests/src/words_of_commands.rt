@@ -1,4 +1,5 @@
-use crate::{Analyse, Asked, Check, Command, Log, Replay, command_of};
+//! Tests of the words of commands.
+use sc_command::{Analyse, Asked, Check, Command, Log, Replay, command_of};
 use sc_question::Question;
 use std::alloc::{AllocError, Global};
 
