@@ -5,5 +5,3 @@ pub mod Crowds
 pub mod Paths
 pub mod Colours
 pub mod Settled
-pub mod Tables
-pub mod TableLaws

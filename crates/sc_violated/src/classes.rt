@@ -60,7 +60,7 @@ fn numbers(alloc: Global, count: usize) -> Result<Vec<usize>, AllocError>
 
 /// A label for each item, equal where items are known to be equal.
 #[tactic(auto, using(crate::proofs::ClassLaws::joined_start, crate::proofs::ClassLaws::joined_end))]
-pub(crate) fn labels<E: Equalities>(alloc: Global, items: &E) -> Result<Vec<usize>, AllocError>
+pub fn labels<E: Equalities>(alloc: Global, items: &E) -> Result<Vec<usize>, AllocError>
     ensures { IfOk result (λ v. AreLabels (E.truth items.now) (E.size items.now) v.items) }
 {
     let count = items.len();

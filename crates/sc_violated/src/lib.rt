@@ -7,12 +7,11 @@ mod crowds;
 mod needs;
 mod paths;
 mod settled;
-#[cfg(test)]
-mod tests;
 mod texts;
 mod truths;
 
 pub use chains::intransitive_among;
+pub use classes::labels;
 pub use crowds::Crowd;
 pub use paths::{Paths, gap};
 pub use settled::crowd_of;

@@ -1,11 +1,8 @@
 //! Tests of what is found under partial assignments, given by tables.
-#![tactic(auto)]
-
 ghost use Rattle.std.specs.Prelude.{◌≡◌, ◌<◌, ◌||◌, None, length, slice_get, slice_index_or};
-ghost use Rattle.sc_violated.specs.Tables.{is_of, told, told_either, with_sign, sign_in};
+ghost use Rattle.sc_violated_tests.specs.Tables.{is_of, told, told_either, with_sign, sign_in};
 
-use crate::classes::labels;
-use crate::{Equalities, Paths, Texts, crowd_of, gap, intransitive_among};
+use sc_violated::{Equalities, Paths, Texts, crowd_of, gap, intransitive_among, labels};
 use std::alloc::{AllocError, Global};
 use std::test::Fail;
 
@@ -58,8 +55,8 @@ struct Table<'a> {
 }
 
 impl<'a> Equalities for Table<'a> {
-    ghost use Rattle.sc_violated.specs.Tables.{equal_by};
-    ghost use Rattle.sc_violated.specs.TableLaws.{equal_turned, equal_itself};
+    ghost use Rattle.sc_violated_tests.specs.Tables.{equal_by};
+    ghost use Rattle.sc_violated_tests.specs.TableLaws.{equal_turned, equal_itself};
 
     ghost size = { λ s. s.count };
 
@@ -90,7 +87,7 @@ struct Steps<'a> {
 }
 
 impl<'a> Paths for Steps<'a> {
-    ghost use Rattle.sc_violated.specs.Tables.{told};
+    ghost use Rattle.sc_violated_tests.specs.Tables.{told};
 
     ghost starts = { λ s. 3 };
 
@@ -168,8 +165,8 @@ fn sign_at(signs: &[Option<bool>], item: usize) -> Option<bool>
 
 impl<'a> Texts for OnePattern<'a> {
     ghost use Rattle.std.specs.Prelude.{slice_get};
-    ghost use Rattle.sc_violated.specs.Tables.{sign_in, are_few};
-    ghost use Rattle.sc_violated.specs.TableLaws.{few_none, few_greater, few_asked, few_split};
+    ghost use Rattle.sc_violated_tests.specs.Tables.{sign_in, are_few};
+    ghost use Rattle.sc_violated_tests.specs.TableLaws.{few_none, few_greater, few_asked, few_split};
 
     ghost patterns = { λ s. 1 };
 

@@ -1,6 +1,6 @@
 use Rattle.std.proofs.Common.{◌≡◌, drop}
-use Rattle.sc_violated.specs.Tables.{told_either}
-use Rattle.sc_violated.proofs.tests.told_either.Given as goal
+use Rattle.sc_violated_tests.specs.Tables.{told_either}
+use Rattle.sc_violated_tests.proofs.tables.told_either.Given as goal
 
 abbrev pub invariant-loop-row : goal.invariant-loop-row
 invariant-loop-row l = told_either (drop l.row-index l.rows) l.one l.other ≡ told_either l.rows l.one l.other

@@ -5,7 +5,7 @@ use Rattle.sc_laws.proofs.BoolLaws.{never}
 use Rattle.sc_laws.proofs.NumberLaws.{eqb_false}
 use Rattle.sc_laws.proofs.OptionLaws.{same_some}
 use Rattle.sc_violated.specs.Crowds.{Signs, IsWithin}
-use Rattle.sc_violated.specs.Tables.{Row, is_of, told_either, equal_by, with_sign, are_few}
+use Rattle.sc_violated_tests.specs.Tables.{Row, is_of, told_either, equal_by, with_sign, are_few}
 
 or_turned : (a b : Bool) → (a || b) ≡ (b || a)
 or_turned true true = refl
