@@ -69,8 +69,8 @@ impl StepChecker {
         defining_laws();
         problem.laws();
         let defined = defining(alloc, problem)?;
-        let clauses = Arena::of(alloc, &defined)?;
         let known = Known::new(alloc, problem.atom_count())?;
+        let clauses = Arena::of(alloc, &known, &defined)?;
         Ok(StepChecker {
             known,
             steps: 0,
@@ -126,7 +126,6 @@ impl StepChecker {
 
     /// Adds the clause of the last step, by the numbers of its literals.
     fn add(&mut self, clause: &[u32]) -> Result<(), AllocError>
-        requires { IsTrue (list_all has_code (map lit_of clause.now)) }
         ensures { OnOk result (self.new ≡ grown (map lit_of clause.now) self.old) }
     {
         self.clauses.push(clause)?;
@@ -135,10 +134,10 @@ impl StepChecker {
     }
 
     /// Adds the clause of the last step.
-    fn add_lits(&mut self, clause: &[Lit]) -> Result<(), AllocError>
+    fn add_lits(&mut self, alloc: Global, clause: &[Lit]) -> Result<(), AllocError>
         ensures { OnOk result (self.new ≡ grown clause.now self.old) }
     {
-        self.clauses.push_lits(clause)?;
+        self.clauses.push_lits(alloc, &self.known, clause)?;
         self.is_empty = clause.is_empty();
         Ok(())
     }
@@ -164,7 +163,7 @@ impl StepChecker {
         problem_laws();
         self.count();
         match instance_clause(alloc, rules, problem, instance) {
-            Ok(clause) => self.add_lits(clause.as_slice()),
+            Ok(clause) => self.add_lits(alloc, clause.as_slice()),
             Err(Fault::Told(reason)) => {
                 self.fail(self.steps, reason);
                 Ok(())

@@ -42,13 +42,6 @@ code_by code false e =
 pub code_again : (code : ℕ) → code_of (lit_of code) ≡ code
 code_again code = code_by code (code % 2 == 1) refl
 
-some_code_by : (n : ℕ) (b : Bool) → 0 < n → code_of (record { atom = n; negated = b }) ≡ 0 → ⊥
-some_code_by n true h e = absurd (omega (arith, e))
-some_code_by n false h e = absurd (omega (arith, e))
-
-pub some_code : (l : Lit) → has_code l ≡ true → (code_of l == 0) ≡ false
-some_code l e = ne_eqb (code_of l) 0 (some_code_by l.atom l.negated (ltb-true 0 l.atom e))
-
 -- the number of a literal of an atom
 pub code_some : (code : ℕ) → has_code (lit_of code) ≡ true → (code == 0) ≡ false
 code_some code e = ne_eqb code 0 (λ (q : code ≡ 0). let more : 0 < code / 2 = ltb-true 0 (code / 2) e in absurd (omega (arith, more, q)))

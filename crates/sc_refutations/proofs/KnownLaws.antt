@@ -1,16 +1,16 @@
 -- The literals that marks make true.
-use Rattle.std.proofs.Common.{◌≡◌, ◌≢◌, ◌+◌, ◌-◌, ◌*◌, ◌<◌, ◌≤◌, ◌==◌, ℕ, zero, suc, List, [], ◌∷◌, ◌++◌, drop, set, get_or, length, Bool, true, false, cond, ◌||◌, nat_lt, nat_le, Some, None, slice_get, refl, sym, ap, ◌∙◌, arith}
+use Rattle.std.proofs.Common.{◌≡◌, ◌≢◌, ◌+◌, ◌-◌, ◌*◌, ◌<◌, ◌≤◌, ◌==◌, ℕ, zero, suc, List, [], ◌∷◌, ◌++◌, map, drop, set, get_or, length, Bool, true, false, cond, ◌||◌, nat_lt, nat_le, Some, None, slice_get, refl, sym, ap, ◌∙◌, arith}
 use Rattle.std.specs.List.{list_all}
 use Rattle.std.proofs.Math.Path.{fun_ext}
 use Rattle.std.proofs.lemmas.Bool.{leb-true, le-leb, ltb-true, lt-ltb, ne_eqb, eq-eqb, and_parts, and_from, true≢false}
 use Rattle.sc_clauses.specs.declared.lit.Lit.{Lit}
 use Rattle.sc_clauses.specs.Clauses.{Clause, lit_eq, negation}
 use Rattle.sc_clauses.proofs.LitLaws.{lit_eq-true, lit_eq-itself, negation_twice}
-use Rattle.sc_refutations.specs.Arenas.{code_of, lit_of, run}
+use Rattle.sc_refutations.specs.Arenas.{code_of, lit_of, has_code}
 use Rattle.sc_refutations.specs.Refutations.{with_lit, is_listed, are_listed, clause_at}
 use Rattle.sc_refutations.specs.Known.{says, marked, is_stamped, have_marks}
-use Rattle.sc_refutations.proofs.CodeLaws.{code_same, code_again}
-use Rattle.sc_refutations.proofs.ArenaLaws.{run_goes}
+use Rattle.sc_refutations.proofs.CodeLaws.{code_same, code_again, code_some}
+use Rattle.sc_refutations.proofs.LeftLaws.{lits_go}
 use Rattle.sc_refutations.proofs.RefutationLaws.{listed_at}
 
 slice_get-set_same : {X : Type 0} (xs : List X) (i : ℕ) (x : X) → i < length xs → slice_get (set xs i x) i ≡ Some x
@@ -102,6 +102,19 @@ all_marked count n (l ∷ c) e h =
     let most : l.atom ≤ count = leb-true l.atom count (and_parts (nat_lt 0 l.atom) (nat_le l.atom count) parts.0).1 in
     and_from (nat_lt (code_of l) n) (have_marks n c) (lt-ltb (code_of l) n (code_below l.atom count n l.negated most e)) (all_marked count n c e parts.1)
 
+all_coded : (count : ℕ) (c : Clause) → list_all (is_listed count) c ≡ true → list_all has_code c ≡ true
+all_coded count [] h = refl
+all_coded count (l ∷ c) h =
+    let parts = and_parts (is_listed count l) (list_all (is_listed count) c) h in
+    and_from (has_code l) (list_all has_code c) (and_parts (has_code l) (nat_le l.atom count) parts.0).0 (all_coded count c parts.1)
+
+coded_by : (count number : ℕ) (clauses : List Clause) (c : Clause) (b : Bool) → are_listed count clauses ≡ true → Some c ≡ cond b None (slice_get clauses (number - 1)) → list_all has_code c ≡ true
+coded_by count number clauses c true a is = absurd cc
+coded_by count number clauses c false a is = all_coded count c (listed_at count clauses (number - 1) c a (sym is))
+
+pub clause_coded : (count number : ℕ) (clauses : List Clause) (c : Clause) → are_listed count clauses ≡ true → Some c ≡ clause_at clauses number → list_all has_code c ≡ true
+clause_coded count number clauses c a is = coded_by count number clauses c (number == 0) a is
+
 marked_by : (count n number : ℕ) (clauses : List Clause) (c : Clause) (b : Bool) → are_listed count clauses ≡ true → n ≡ count * 2 + 2 → Some c ≡ cond b None (slice_get clauses (number - 1))
     → have_marks n c ≡ true
 marked_by count n number clauses c true a e is = absurd cc
@@ -112,14 +125,22 @@ pub clause_marked : (count n number : ℕ) (clauses : List Clause) (c : Clause) 
 clause_marked count n number clauses c a e is = marked_by count n number clauses c (number == 0) a e is
 
 -- the literal at a place in a clause, and those behind it
-pub marked_here : (n : ℕ) (codes : List ℕ) (i : ℕ) → i < length codes → (get_or codes i 0 ≡ 0 → ⊥) → have_marks n (run (drop i codes)) ≡ true
-    → (get_or codes i 0 < n) × (have_marks n (run (drop (i + 1) codes)) ≡ true)
-marked_here n codes i h some e =
-    let parts
-    = and_parts (nat_lt (code_of (lit_of (get_or codes i 0))) n) (have_marks n (run (drop (i + 1) codes))) (ap (have_marks n) (sym (run_goes codes i h some)) ∙ e) in
+pub marked_here : (n : ℕ) (codes : List ℕ) (i : ℕ) → i < length codes → have_marks n (map lit_of (drop i codes)) ≡ true
+    → (get_or codes i 0 < n) × (have_marks n (map lit_of (drop (i + 1) codes)) ≡ true)
+marked_here n codes i h e =
+    let parts = and_parts (nat_lt (code_of (lit_of (get_or codes i 0))) n) (have_marks n (map lit_of (drop (i + 1) codes))) (ap (have_marks n) (sym (lits_go codes i h)) ∙ e) in
     let below : code_of (lit_of (get_or codes i 0)) < n = ltb-true (code_of (lit_of (get_or codes i 0))) n parts.0 in
     let same = code_again (get_or codes i 0) in
     (omega (arith, below, same), parts.1)
+
+pub coded_here : (codes : List ℕ) (i : ℕ) → i < length codes → list_all has_code (map lit_of (drop i codes)) ≡ true
+    → (get_or codes i 0 ≡ 0 → ⊥) × (list_all has_code (map lit_of (drop (i + 1) codes)) ≡ true)
+coded_here codes i h e =
+    let parts = and_parts (has_code (lit_of (get_or codes i 0))) (list_all has_code (map lit_of (drop (i + 1) codes))) (ap (list_all has_code) (sym (lits_go codes i h)) ∙ e) in
+    (not_zero (get_or codes i 0) (code_some (get_or codes i 0) parts.0), parts.1)
+  where
+    not_zero : (code : ℕ) → (code == 0) ≡ false → code ≡ 0 → ⊥
+    not_zero code e q = true≢false (sym (eq-eqb code 0 q) ∙ e)
 
 -- what the mark at a literal's place says
 pub marked_at : (step : ℕ) (marks : List ℕ) (l m : Lit) (place d : ℕ) → m ≡ negation l → place ≡ code_of m → place < length marks → (get_or marks place d == step) ≡ marked step marks l

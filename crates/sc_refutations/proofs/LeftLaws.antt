@@ -1,7 +1,8 @@
 -- What is left of the clause that numbers begin with, one number after another.
-use Rattle.std.proofs.Common.{◌≡◌, ◌+◌, ◌<◌, ◌≤◌, ℕ, List, [], ◌∷◌, ◌++◌, drop, get_or, length, Bool, true, false, not, cond, ◌&&◌, ◌==◌, Option, Some, None, refl, sym, ap, ◌∙◌, append-nil}
+use Rattle.std.proofs.Common.{◌≡◌, ◌+◌, ◌<◌, ◌≤◌, ℕ, zero, suc, List, [], ◌∷◌, ◌++◌, map, drop, get_or, length, Bool, true, false, not, cond, ◌&&◌, ◌==◌, Option, Some, None, refl, sym, ap, ◌∙◌, append-nil, arith}
 use Rattle.std.specs.List.{list_all}
 use Rattle.std.specs.Option.{option_to_list}
+use Rattle.std.proofs.lemmas.List.{drop_more}
 use Rattle.std.proofs.lemmas.Bool.{eq-eqb, eqb-true, ne_eqb, not-true, true≢false}
 use Rattle.sc_laws.proofs.BoolLaws.{not_false}
 use Rattle.sc_clauses.specs.declared.lit.Lit.{Lit}
@@ -9,10 +10,9 @@ use Rattle.sc_clauses.specs.Clauses.{Clause, lit_eq, negation}
 use Rattle.sc_clauses.proofs.LitLaws.{lit_eq-true, lit_eq-itself}
 use Rattle.sc_refutations.specs.declared.refuting.Residual.{Residual}
 use Rattle.sc_refutations.specs.declared.refuting.Residual.TheVariants.{Conflict, Unit, Open}
-use Rattle.sc_refutations.specs.Arenas.{code_of, lit_of, lit_found, run}
+use Rattle.sc_refutations.specs.Arenas.{code_of, lit_of, lit_found}
 use Rattle.sc_refutations.specs.Refutations.{LitSet, open_lits, residual, is_other}
 use Rattle.sc_refutations.proofs.CodeLaws.{code_again}
-use Rattle.sc_refutations.proofs.ArenaLaws.{run_stops, run_goes, run_past}
 
 -- ---- the number of the literal that was found, or 0
 
@@ -47,17 +47,26 @@ other_code found code = other_by found code (found == 0) refl
 
 -- ---- what is left from a place on
 
--- what is left from a place on, where the literal there is false or not
-left_at : (known : LitSet) (codes : List ℕ) (i : ℕ) (t : Bool) → i < length codes → (get_or codes i 0 ≡ 0 → ⊥) → known (negation (lit_of (get_or codes i 0))) ≡ t
-    → open_lits known (run (drop i codes)) ≡ cond (not t) (lit_of (get_or codes i 0) ∷ open_lits known (run (drop (i + 1) codes))) (open_lits known (run (drop (i + 1) codes)))
-left_at known codes i t h some e =
-    ap (open_lits known) (run_goes codes i h some)
-    ∙ ap (λ (b : Bool). cond (not b) (lit_of (get_or codes i 0) ∷ open_lits known (run (drop (i + 1) codes))) (open_lits known (run (drop (i + 1) codes)))) e
+pub lits_go : (codes : List ℕ) (i : ℕ) → i < length codes → map lit_of (drop i codes) ≡ lit_of (get_or codes i 0) ∷ map lit_of (drop (i + 1) codes)
+lits_go codes i h = ap (map lit_of) (drop_more codes i 0 h)
 
-pub left_skipped : (known : LitSet) (codes : List ℕ) (i : ℕ) (found : Option Lit) (w : Residual) → i < length codes → (get_or codes i 0 ≡ 0 → ⊥)
-    → known (negation (lit_of (get_or codes i 0))) ≡ true → residual (option_to_list found ++ open_lits known (run (drop i codes))) ≡ w
-    → residual (option_to_list found ++ open_lits known (run (drop (i + 1) codes))) ≡ w
-left_skipped known codes i found w h some e is = ap (λ (c : Clause). residual (option_to_list found ++ c)) (sym (left_at known codes i true h some e)) ∙ is
+none_past : (codes : List ℕ) (i : ℕ) → length codes ≤ i → drop i codes ≡ []
+none_past [] zero h = refl
+none_past [] (suc i) h = refl
+none_past (code ∷ codes) zero h = absurd (omega arith)
+none_past (code ∷ codes) (suc i) h = none_past codes i (omega arith)
+
+-- what is left from a place on, where the literal there is false or not
+left_at : (known : LitSet) (codes : List ℕ) (i : ℕ) (t : Bool) → i < length codes → known (negation (lit_of (get_or codes i 0))) ≡ t
+    → open_lits known (map lit_of (drop i codes)) ≡ cond (not t) (lit_of (get_or codes i 0) ∷ open_lits known (map lit_of (drop (i + 1) codes))) (open_lits known (map lit_of (drop (i + 1) codes)))
+left_at known codes i t h e =
+    ap (open_lits known) (lits_go codes i h)
+    ∙ ap (λ (b : Bool). cond (not b) (lit_of (get_or codes i 0) ∷ open_lits known (map lit_of (drop (i + 1) codes))) (open_lits known (map lit_of (drop (i + 1) codes)))) e
+
+pub left_skipped : (known : LitSet) (codes : List ℕ) (i : ℕ) (found : Option Lit) (w : Residual) → i < length codes
+    → known (negation (lit_of (get_or codes i 0))) ≡ true → residual (option_to_list found ++ open_lits known (map lit_of (drop i codes))) ≡ w
+    → residual (option_to_list found ++ open_lits known (map lit_of (drop (i + 1) codes))) ≡ w
+left_skipped known codes i found w h e is = ap (λ (c : Clause). residual (option_to_list found ++ c)) (sym (left_at known codes i true h e)) ∙ is
 
 second_same : (o l : Lit) (rest : Clause) → lit_eq o l ≡ true → residual (o ∷ l ∷ rest) ≡ residual (o ∷ rest)
 second_same o l rest e = ap (λ (b : Bool). cond (b && list_all (lit_eq o) rest) (Unit o) Open) e
@@ -75,28 +84,24 @@ open_by : (found : Option Lit) (l : Lit) (rest : Clause) → is_other found l �
 open_by None l rest e = absurd (true≢false (sym e))
 open_by (Some o) l rest e = second_other o l rest (not-true (lit_eq o l) e)
 
-pub left_taken : (known : LitSet) (codes : List ℕ) (i : ℕ) (found : Option Lit) (w : Residual) → i < length codes → (get_or codes i 0 ≡ 0 → ⊥)
+pub left_taken : (known : LitSet) (codes : List ℕ) (i : ℕ) (found : Option Lit) (w : Residual) → i < length codes
     → known (negation (lit_of (get_or codes i 0))) ≡ false → is_other found (lit_of (get_or codes i 0)) ≡ false
-    → residual (option_to_list found ++ open_lits known (run (drop i codes))) ≡ w → residual (lit_of (get_or codes i 0) ∷ open_lits known (run (drop (i + 1) codes))) ≡ w
-left_taken known codes i found w h some e same is =
-    sym (taken_by found (lit_of (get_or codes i 0)) (open_lits known (run (drop (i + 1) codes))) same)
-    ∙ (ap (λ (c : Clause). residual (option_to_list found ++ c)) (sym (left_at known codes i false h some e)) ∙ is)
+    → residual (option_to_list found ++ open_lits known (map lit_of (drop i codes))) ≡ w → residual (lit_of (get_or codes i 0) ∷ open_lits known (map lit_of (drop (i + 1) codes))) ≡ w
+left_taken known codes i found w h e same is =
+    sym (taken_by found (lit_of (get_or codes i 0)) (open_lits known (map lit_of (drop (i + 1) codes))) same)
+    ∙ (ap (λ (c : Clause). residual (option_to_list found ++ c)) (sym (left_at known codes i false h e)) ∙ is)
 
-pub left_open : (known : LitSet) (codes : List ℕ) (i : ℕ) (found : Option Lit) (w : Residual) → i < length codes → (get_or codes i 0 ≡ 0 → ⊥)
+pub left_open : (known : LitSet) (codes : List ℕ) (i : ℕ) (found : Option Lit) (w : Residual) → i < length codes
     → known (negation (lit_of (get_or codes i 0))) ≡ false → is_other found (lit_of (get_or codes i 0)) ≡ true
-    → residual (option_to_list found ++ open_lits known (run (drop i codes))) ≡ w → Open ≡ w
-left_open known codes i found w h some e other is =
-    sym (open_by found (lit_of (get_or codes i 0)) (open_lits known (run (drop (i + 1) codes))) other)
-    ∙ (ap (λ (c : Clause). residual (option_to_list found ++ c)) (sym (left_at known codes i false h some e)) ∙ is)
+    → residual (option_to_list found ++ open_lits known (map lit_of (drop i codes))) ≡ w → Open ≡ w
+left_open known codes i found w h e other is =
+    sym (open_by found (lit_of (get_or codes i 0)) (open_lits known (map lit_of (drop (i + 1) codes))) other)
+    ∙ (ap (λ (c : Clause). residual (option_to_list found ++ c)) (sym (left_at known codes i false h e)) ∙ is)
 
 none_left : (known : LitSet) (found : Option Lit) (c : Clause) (w : Residual) → c ≡ [] → residual (option_to_list found ++ open_lits known c) ≡ w → residual (option_to_list found) ≡ w
 none_left known found c w e is =
     ap residual (sym (append-nil (option_to_list found))) ∙ (ap (λ (d : Clause). residual (option_to_list found ++ open_lits known d)) (sym e) ∙ is)
 
-pub left_ended : (known : LitSet) (codes : List ℕ) (i : ℕ) (found : Option Lit) (w : Residual) → i < length codes → get_or codes i 0 ≡ 0
-    → residual (option_to_list found ++ open_lits known (run (drop i codes))) ≡ w → residual (option_to_list found) ≡ w
-left_ended known codes i found w h zero_is is = none_left known found (run (drop i codes)) w (run_stops codes i h zero_is) is
-
 pub left_past : (known : LitSet) (codes : List ℕ) (i : ℕ) (found : Option Lit) (w : Residual) → length codes ≤ i
-    → residual (option_to_list found ++ open_lits known (run (drop i codes))) ≡ w → residual (option_to_list found) ≡ w
-left_past known codes i found w h is = none_left known found (run (drop i codes)) w (run_past codes i h) is
+    → residual (option_to_list found ++ open_lits known (map lit_of (drop i codes))) ≡ w → residual (option_to_list found) ≡ w
+left_past known codes i found w h is = none_left known found (map lit_of (drop i codes)) w (ap (map lit_of) (none_past codes i h)) is

@@ -1,6 +1,6 @@
 pub mod CodeLaws
 mod ArenaLaws
-mod KnownLaws
 mod LeftLaws
+mod KnownLaws
 mod RefutationLaws
 mod AssumedLaws

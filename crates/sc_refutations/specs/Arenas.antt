@@ -1,6 +1,5 @@
--- Clauses in one array of numbers, one for each literal, with a 0 behind each clause.
-use Rattle.std.specs.Prelude.{◌≡◌, ◌==◌, ◌+◌, ◌*◌, ◌/◌, ◌%◌, ℕ, List, [], ◌∷◌, map, drop, Bool, true, false, nat_lt, Option, Some, None, if◌then◌else◌}
-use Rattle.std.specs.List.{list_all}
+-- Clauses in one array of numbers, one for each literal, and of each clause the place where its numbers end.
+use Rattle.std.specs.Prelude.{◌==◌, ◌+◌, ◌-◌, ◌*◌, ◌/◌, ◌%◌, ◌&&◌, ℕ, zero, suc, List, [], ◌∷◌, map, take, drop, Bool, nat_lt, nat_le, Option, Some, None, if◌then◌else◌}
 use Rattle.sc_clauses.specs.declared.lit.Lit.{Lit}
 use Rattle.sc_clauses.specs.Clauses.{Clause}
 
@@ -18,23 +17,18 @@ lit_found code = if code == 0 then None else Some (lit_of code)
 abbrev pub has_code : Lit → Bool
 has_code l = nat_lt 0 l.atom
 
--- the literals up to the first 0
-unfoldable pub run : List ℕ → Clause
-run [] = []
-run (code ∷ codes) = if code == 0 then [] else lit_of code ∷ run codes
+-- where the clause at a place begins, the first of them at a start
+abbrev pub begin_at : ℕ → List ℕ → ℕ → ℕ
+begin_at start ends zero = start
+begin_at start [] (suc place) = start
+begin_at start (e ∷ ends) (suc place) = begin_at e ends place
 
--- there is a 0
-unfoldable pub is_ended : List ℕ → Bool
-is_ended [] = false
-is_ended (code ∷ codes) = if code == 0 then true else is_ended codes
+-- the clauses that end at these places, one behind the other
+unfoldable pub pieces : ℕ → List ℕ → List ℕ → List Clause
+pieces start codes [] = []
+pieces start codes (e ∷ ends) = map lit_of (take (e - start) (drop start codes)) ∷ pieces e codes ends
 
--- the clauses that begin at these places
-unfoldable pub runs : List ℕ → List ℕ → List Clause
-runs codes starts = map (λ start. run (drop start codes)) starts
-
-unfoldable pub are_ended : List ℕ → List ℕ → Bool
-are_ended codes starts = list_all (λ start. is_ended (drop start codes)) starts
-
--- wherever clauses begin in the first numbers, clauses begin in the second
-abbrev pub AreKept : List ℕ → List ℕ → Type 0
-AreKept codes next = (starts : List ℕ) → are_ended codes starts ≡ true → are_ended next starts ≡ true
+-- no clause ends before it begins, and the last ends behind all numbers
+unfoldable pub are_ordered : ℕ → List ℕ → ℕ → Bool
+are_ordered start [] count = start == count
+are_ordered start (e ∷ ends) count = nat_le start e && are_ordered e ends count

@@ -35,7 +35,7 @@ pub(crate) fn is_false(marks: &[u64], step: u64, code: u32) -> bool
 }
 
 impl Known {
-    /// Nothing is known of so many atoms. More than 31 bits can tell are refused as too many.
+    /// Nothing is known of so many atoms. More than 31 bits can count are refused as too many.
     pub fn new(alloc: Global, count: u64) -> Result<Known, AllocError>
         ensures { IfOk result (λ k. (k.count ≡ count) × (k.step ≡ 0)) }
     {
@@ -131,7 +131,7 @@ impl Known {
         self.marks[place] = self.step;
     }
 
-    /// The numbers of the literals of a clause. None where one of them is of no listed atom.
+    /// The numbers of the literals of a clause. None where one of them has none: then it is of no listed atom.
     pub fn codes_of(&self, alloc: Global, clause: &[Lit]) -> Result<Option<Vec<u32>>, AllocError>
         ensures { IfOk result (λ o. MatchOption o (is_clause self.now.count clause.now ≡ false)
             (λ codes. (map lit_of codes.items ≡ clause.now) × IsTrue (list_all has_code clause.now))) }

@@ -2,7 +2,7 @@
 ghost use Rattle.std.specs.Prelude.{◌≡◌, ◌&&◌, ◌<◌, false, map, length, option_map, IsTrue};
 ghost use Rattle.std.specs.List.{list_all};
 ghost use Rattle.std.specs.Option.{option_copied, option_to_list};
-ghost use Rattle.sc_refutations.specs.Arenas.{lit_of, has_code, lit_found, run};
+ghost use Rattle.sc_refutations.specs.Arenas.{lit_of, has_code, lit_found};
 ghost use Rattle.sc_refutations.specs.Known.{marked, have_marks};
 ghost use Rattle.sc_refutations.specs.Refutations.{residual, is_other, open_lits, residual_at, clause_at, is_clause, are_listed, negated, refutes};
 
@@ -43,17 +43,15 @@ fn is_other(found: u32, code: u32) -> bool
     found != 0 && found != code
 }
 
-/// What is left of the clause that numbers begin with, by the marks of a step.
+/// What is left of the clause of numbers, by the marks of a step.
 #[inline(always)]
 fn left_of(marks: &[u64], step: u64, codes: &[u32]) -> Residual
-    requires { IsTrue (have_marks (length marks.now) (run codes.now)) }
-    ensures { result ≡ residual (open_lits (marked step marks.now) (run codes.now)) }
+    requires marks { IsTrue (have_marks (length marks.now) (map lit_of codes.now)) }
+    requires codes { IsTrue (list_all has_code (map lit_of codes.now)) }
+    ensures { result ≡ residual (open_lits (marked step marks.now) (map lit_of codes.now)) }
 {
     let mut found = 0u32;
     for code in codes {
-        if *code == 0 {
-            return left_by(found);
-        }
         if !is_false(marks, step, *code) {
             if is_other(found, *code) {
                 return Residual::Open;
@@ -64,10 +62,10 @@ fn left_of(marks: &[u64], step: u64, codes: &[u32]) -> Residual
     left_by(found)
 }
 
-/// What begins with the numbers of the clause of a number, counted from 1.
+/// The numbers of the clause of a number, counted from 1.
 #[inline(always)]
 fn clause_at(clauses: &Arena, number: u64) -> Option<&[u32]>
-    ensures { option_map run (option_copied result) ≡ clause_at clauses.now number }
+    ensures { option_map (map lit_of) (option_copied result) ≡ clause_at clauses.now number }
 {
     if number == 0 {
         return None;
