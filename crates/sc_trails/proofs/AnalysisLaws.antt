@@ -227,16 +227,16 @@ module _ (cs : List Clause) (cells : List Cell) (trail : List Lit) (agree : Agre
   pub uip-here : true_before cells first uip ≡ false
   uip-here = at-not-before cells uip i first uip-at from
 
-  pub refutes-final : Refutes cs (map negation (lower ++ negation uip ∷ [])) (reverse hints)
+  pub refutes-final : Refutes cs (map negation (negation uip ∷ lower)) (reverse hints)
   refutes-final =
-      let C = lower ++ negation uip ∷ [] in
+      let C = negation uip ∷ lower in
       let in_range : i < length trail = at.0 in
       let low = λ (m : Lit) (b : true_before cells first m ≡ true) (is_met : IsMet met m).
-      subst (λ (w : Lit). Contains (map negation C) w) (negation_twice m) (has-neg C (negation m) (Contains-append_left lower (negation uip ∷ []) (negation m) (collected.covers m b is_met))) in
+      subst (λ (w : Lit). Contains (map negation C) w) (negation_twice m) (has-neg C (negation m) (tail-has (negation uip) (negation m) lower (collected.covers m b is_met))) in
       h (map negation C)
       (λ m b is_met.
       ⊎_elim
-      (λ (e : uip ≡ m). subst (λ (w : Lit). Contains (map negation C) w) (negation_twice uip ∙ e) (has-neg C (negation uip) (Contains-push lower (negation uip))))
+      (λ (e : uip ≡ m). subst (λ (w : Lit). Contains (map negation C) w) (negation_twice uip ∙ e) (has-neg C (negation uip) (contains_first (negation uip) lower)))
       (λ (b' : true_before cells i m ≡ true).
       let w = before-at cells m i b' in
       ⊎_elim
@@ -248,17 +248,17 @@ module _ (cs : List Clause) (cells : List Cell) (trail : List Lit) (agree : Agre
       (before-cases cells trail agree i uip m at b))
       (λ m has.
       ⊎_elim
+      (λ (e : negation uip ≡ negation m). subst (λ (w : Lit). true_before cells (length trail) w ≡ true) (sym (negation_twice uip) ∙ ap negation e ∙ negation_twice m) uip-true)
       (λ (old : Contains lower (negation m)).
       before-more cells first (length trail) m (omega arith) (subst (λ (w : Lit). true_before cells first w ≡ true) (negation_twice m) (collected.are_lower (negation m) old)))
-      (λ (e : negation uip ≡ negation m). subst (λ (w : Lit). true_before cells (length trail) w ≡ true) (sym (negation_twice uip) ∙ ap negation e ∙ negation_twice m) uip-true)
-      (Contains-push_cases lower (negation uip) (negation m) (from-neg C m has)))
+      (cons-cases (negation uip) (negation m) lower (from-neg C m has)))
 
-  pub learned-new : AreQuiet (true_before cells first) cs → IsNew cs (lower ++ negation uip ∷ [])
+  pub learned-new : AreQuiet (true_before cells first) cs → IsNew cs (negation uip ∷ lower)
   learned-new quiet = (
     negation uip,
-    new-by (true_before cells first) (consistent cells first) cs quiet (lower ++ negation uip ∷ []) (negation uip)
-        (λ m has ne. ⊎_elim (λ (old : Contains lower m). collected.are_lower m old) (λ (e : negation uip ≡ m). absurd (ne (sym e))) (Contains-push_cases lower (negation uip) m has))
-        (Contains-push lower (negation uip))
+    new-by (true_before cells first) (consistent cells first) cs quiet (negation uip ∷ lower) (negation uip)
+        (λ m has ne. ⊎_elim (λ (e : negation uip ≡ m). absurd (ne (sym e))) (λ (old : Contains lower m). collected.are_lower m old) (cons-cases (negation uip) m lower has))
+        (contains_first (negation uip) lower)
         (not-lower cells first (length trail) (negation uip) (consistent cells (length trail) uip uip-true) (let lt : i < length trail = at.0 in omega arith)),
   )
 

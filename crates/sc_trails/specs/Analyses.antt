@@ -52,8 +52,8 @@ IsHighest levels first = (Contains levels first) × ((k : ℕ) → Contains leve
 
 -- A clause of literals that were false before the level and the negation of one that became true in it.
 pub record IsResolvent (clauses : List Clause) (cells : List Cell) (p first : ℕ) (lower : List Lit) (uip : Lit) (hints : List ℕ) : Type 0 where
-  pub refutes : Refutes clauses (map negation (lower ++ negation uip ∷ [])) hints
-  pub is_new : IsNew clauses (lower ++ negation uip ∷ [])
+  pub refutes : Refutes clauses (map negation (negation uip ∷ lower)) hints
+  pub is_new : IsNew clauses (negation uip ∷ lower)
   pub are_lower : AreLower cells first lower
   pub uip_true : true_before cells p uip ≡ true
   pub uip_here : true_before cells first uip ≡ false
