@@ -11,7 +11,7 @@ use Rattle.sc_clauses.specs.Clauses.{negation, Clause}
 use Rattle.sc_clauses.specs.declared.lit.Lit.{Lit}
 use Rattle.sc_trails.proofs.CellLaws.{consistent, before-more, at-before, before-at, at-not-before}
 use Rattle.sc_trails.proofs.NewnessLaws.{new-by}
-use Rattle.sc_trails.specs.Analyses.{IsMet, RefutesMet, MeetsMore, IsCollected, AreMet, MayBeMet, NoneMet}
+use Rattle.sc_trails.specs.Analyses.{HaveSame, IsMet, RefutesMet, MeetsMore, IsCollected, AreMet, MayBeMet, NoneMet}
 use Rattle.sc_trails.specs.Propagation.{IsNew}
 use Rattle.sc_trails.specs.Readings.{AreFalse}
 use Rattle.sc_trails.specs.Steps.{At, IsNumbered, IsNumber, Refutes, conflict, one_left}
@@ -114,6 +114,9 @@ grow-set met m lt w h =
     (λ (e : w.atom ≡ m.atom). subst (λ (k : ℕ). get_or (set met m.atom true) k false ≡ true) (sym e) (get_or-set_same met m.atom true false lt))
     (λ (ne : w.atom ≢ m.atom). get_or-set_other met m.atom w.atom true false ne ∙ h)
     (cases_eq w.atom m.atom)
+
+pub same-lower : (n : ℕ) (cells : List Cell) (first : ℕ) (met : List Bool) (a b : List Lit) → HaveSame b a → IsCollected n cells first met a → IsCollected n cells first met b
+same-lower n cells first met a b s h = record { sized = h.sized; covers = λ w bw mw. s.back (negation w) (h.covers w bw mw); are_lower = λ w has. h.are_lower w (s.there w has) }
 
 -- a false literal is met: it was false before the level, or became so in it
 module _ (n : ℕ) (cells : List Cell) (p first : ℕ) (met : List Bool) (lower : List Lit) (m : Lit) (h : IsCollected n cells first met lower) (is_false : true_before cells p (negation m) ≡ true) where

@@ -27,6 +27,11 @@ Covers cells first met lower = (m : Lit) → true_before cells first m ≡ true 
 abbrev pub AreLower : List Cell → ℕ → List Lit → Type 0
 AreLower cells first lower = (m : Lit) → Contains lower m → true_before cells first (negation m) ≡ true
 
+-- the same literals stand in both
+pub record HaveSame (a b : List Lit) : Type 0 where
+  pub there : (m : Lit) → Contains a m → Contains b m
+  pub back : (m : Lit) → Contains b m → Contains a m
+
 abbrev pub MeetsMore : List Bool → List Bool → Type 0
 MeetsMore old new = (m : Lit) → IsMet old m → IsMet new m
 
