@@ -4,6 +4,9 @@
 use sc_clauses::{Clauses, Lit, negation};
 use std::alloc::{AllocError, Global};
 
+/// How many clauses a table has.
+const ROWS: u64 = 4;
+
 /// The clauses of three literals that end in one literal.
 #[derive(Clone, Copy)]
 struct Rows {
@@ -24,6 +27,8 @@ pub(crate) struct Definitions {
     atoms: Vec<Rows>,
     /// Those that end in an atom's negation, by the atom's number.
     negations: Vec<Rows>,
+    /// In how many clauses of three literals each atom stands before the last one.
+    uses: Vec<u64>,
     /// How many true literals were looked at, in the order in which they became true.
     passed: usize,
     /// The second literal to try by the table of the last of them.
@@ -63,12 +68,21 @@ fn rows_at(rows: &[Rows], atom: usize) -> Option<Rows> {
     }
 }
 
+/// A literal of an atom.
+fn literal(atom: usize, negated: bool) -> Lit {
+    Lit {
+        atom: atom as u64,
+        negated,
+    }
+}
+
 impl Definitions {
     /// Those that clauses tell, of atoms below `cells`.
     pub fn new(alloc: Global, cells: usize, clauses: &Clauses) -> Result<Definitions, AllocError> {
         let mut definitions = Definitions {
             atoms: no_rows(alloc, cells)?,
             negations: no_rows(alloc, cells)?,
+            uses: Vec::from_elem(alloc, 0, cells)?,
             passed: 0,
             second: None,
         };
@@ -85,6 +99,8 @@ impl Definitions {
         if clause.len() != 3 {
             return;
         }
+        self.count_use(clause[0]);
+        self.count_use(clause[1]);
         let last = clause[2];
         if last.negated {
             count_row(
@@ -95,6 +111,12 @@ impl Definitions {
             );
         } else {
             count_row(&mut self.atoms, last.atom as usize, clause[0], clause[1]);
+        }
+    }
+
+    fn count_use(&mut self, lit: Lit) {
+        if let Some(count) = self.uses.get_mut(lit.atom as usize) {
+            *count = count.saturating_add(1);
         }
     }
 
@@ -116,6 +138,49 @@ impl Definitions {
             return Some((rows.first, rows.second));
         }
         None
+    }
+
+    /// The literal of an atom that is a disjunction of two, if its table says so.
+    pub fn disjunction(&self, atom: usize) -> Option<Lit> {
+        let rows = rows_at(&self.atoms, atom)?;
+        let others = rows_at(&self.negations, atom)?;
+        if rows.count == 3 && others.count == 1 {
+            return Some(literal(atom, false));
+        }
+        if rows.count == 1 && others.count == 3 {
+            return Some(literal(atom, true));
+        }
+        None
+    }
+
+    /// Two literals of which one is true exactly where this one is.
+    pub fn disjuncts(&self, lit: Lit) -> Option<(Lit, Lit)> {
+        let rows = self.rows(lit)?;
+        let others = self.rows(negation(lit))?;
+        if rows.count == 3 && others.count == 1 {
+            return Some((others.first, others.second));
+        }
+        None
+    }
+
+    /// Whether a table ends in a literal or in its negation.
+    pub fn is_defined(&self, lit: Lit) -> bool {
+        self.has_row(lit) || self.has_row(negation(lit))
+    }
+
+    /// Whether more than one table looks at a literal.
+    pub fn is_shared(&self, lit: Lit) -> bool {
+        match self.uses.get(lit.atom as usize) {
+            Some(count) => *count > ROWS,
+            None => false,
+        }
+    }
+
+    fn has_row(&self, lit: Lit) -> bool {
+        match self.rows(lit) {
+            Some(rows) => rows.count > 0,
+            None => false,
+        }
     }
 
     /// The next literal to try by the tables of those which are true.

@@ -2,7 +2,9 @@
 //! these choices but that a conflict leaves no more levels than it may: whatever is chosen, the search ends.
 #![tactic(auto)]
 
+mod cases;
 mod definitions;
+mod disjunctions;
 mod heap;
 mod order;
 mod restarts;

@@ -1,5 +1,6 @@
 //! Which atom to decide on, and which value to try.
 
+use crate::cases::Cases;
 use crate::definitions::Definitions;
 use crate::heap::Heap;
 use sc_clauses::{Clauses, Lit};
@@ -12,7 +13,7 @@ const FIRST_STEP: u64 = 1_024;
 const LARGEST_STEP: u64 = 1_099_511_627_776;
 
 /// The atoms in the order in which they are decided on: first the parts of what defines an atom that is true, then those
-/// that conflicts met most of late, since a later one counts more.
+/// of long disjunctions that are true, and then those that conflicts met most of late, since a later one counts more.
 #[derive(Drop)]
 pub struct Order {
     heap: Heap,
@@ -21,9 +22,10 @@ pub struct Order {
     /// Whether the last value of each atom was false; before it has one too.
     phases: Vec<bool>,
     definitions: Definitions,
+    cases: Cases,
     /// Whether each atom stands in a clause that was given.
     occurring: Vec<bool>,
-    /// The literal of the atom that was taken, if a definition gave it.
+    /// The literal of the atom that was taken, if a definition or a disjunction gave it.
     tried: Option<Lit>,
 }
 
@@ -50,11 +52,14 @@ fn atoms_of(alloc: Global, cells: usize, clauses: &Clauses) -> Result<Vec<bool>,
 impl Order {
     /// The order of the atoms' numbers, which are less than `cells`, and the definitions that clauses tell.
     pub fn new(alloc: Global, cells: usize, clauses: &Clauses) -> Result<Order, AllocError> {
+        let definitions = Definitions::new(alloc, cells, clauses)?;
+        let cases = Cases::new(alloc, cells, &definitions)?;
         Ok(Order {
             heap: Heap::new(alloc, cells)?,
             step: FIRST_STEP,
             phases: Vec::from_elem(alloc, true, cells)?,
-            definitions: Definitions::new(alloc, cells, clauses)?,
+            definitions,
+            cases,
             occurring: atoms_of(alloc, cells, clauses)?,
             tried: None,
         })
@@ -62,7 +67,10 @@ impl Order {
 
     /// Takes the first atom out of the order, if there is one, where these literals are true.
     pub fn take(&mut self, lits: &[Lit]) -> Option<usize> {
-        self.tried = self.definitions.next_part(lits);
+        self.tried = match self.definitions.next_part(lits) {
+            Some(part) => Some(part),
+            None => self.cases.next(&self.heap, lits),
+        };
         match self.tried {
             Some(lit) => Some(lit.atom as usize),
             None => self.heap.take(),
@@ -72,10 +80,11 @@ impl Order {
     /// Comes back to where so many literals were true.
     pub fn come_back(&mut self, count: usize) {
         self.definitions.come_back(count);
+        self.cases.come_back(count);
     }
 
-    /// Whether to try an atom as false: one that a definition gave as that says, and one that had a value as that says, if
-    /// the search keeps phases.
+    /// Whether to try an atom as false: one that a definition or a disjunction gave as that says, and one that had a value
+    /// as that says, if the search keeps phases.
     pub fn is_negated(&self, atom: usize, keeps_phases: bool) -> bool {
         if let Some(lit) = self.tried {
             if lit.atom as usize == atom {
@@ -96,6 +105,7 @@ impl Order {
         if let Some(phase) = self.phases.get_mut(atom) {
             *phase = negated;
         }
+        self.cases.put_back(atom);
         self.heap.put_back(atom);
     }
 

@@ -194,7 +194,8 @@ impl Solver {
         } = self.trail.analyse(alloc, &self.clauses, conflict, first)?;
         self.order.raise(&met);
         let mut lits = lower;
-        lits.push(negation(uip))?;
+        // It is what the clause gives where the search goes on, so a look at the clause meets it first.
+        lits.insert(0, negation(uip))?;
         let most = self.restarts.most_levels(self.trail.levels.len() - 1);
         self.attach(&lits, most)?;
         self.steps.push(Step::Learned(Learned {

@@ -11,7 +11,7 @@ use Rattle.sc_clauses.specs.Clauses.{negation, Clause}
 use Rattle.sc_clauses.specs.declared.lit.Lit.{Lit}
 use Rattle.sc_trails.proofs.CellLaws.{consistent, before-more, at-before, before-at, at-not-before}
 use Rattle.sc_trails.proofs.NewnessLaws.{new-by}
-use Rattle.sc_trails.specs.Analyses.{IsMet, RefutesMet, MeetsMore, IsCollected, AreMet, MayBeMet, NoneMet}
+use Rattle.sc_trails.specs.Analyses.{HaveSame, IsMet, RefutesMet, MeetsMore, IsCollected, AreMet, MayBeMet, NoneMet}
 use Rattle.sc_trails.specs.Propagation.{IsNew}
 use Rattle.sc_trails.specs.Readings.{AreFalse}
 use Rattle.sc_trails.specs.Steps.{At, IsNumbered, IsNumber, Refutes, conflict, one_left}
@@ -114,6 +114,9 @@ grow-set met m lt w h =
     (λ (e : w.atom ≡ m.atom). subst (λ (k : ℕ). get_or (set met m.atom true) k false ≡ true) (sym e) (get_or-set_same met m.atom true false lt))
     (λ (ne : w.atom ≢ m.atom). get_or-set_other met m.atom w.atom true false ne ∙ h)
     (cases_eq w.atom m.atom)
+
+pub same-lower : (n : ℕ) (cells : List Cell) (first : ℕ) (met : List Bool) (a b : List Lit) → HaveSame b a → IsCollected n cells first met a → IsCollected n cells first met b
+same-lower n cells first met a b s h = record { sized = h.sized; covers = λ w bw mw. s.back (negation w) (h.covers w bw mw); are_lower = λ w has. h.are_lower w (s.there w has) }
 
 -- a false literal is met: it was false before the level, or became so in it
 module _ (n : ℕ) (cells : List Cell) (p first : ℕ) (met : List Bool) (lower : List Lit) (m : Lit) (h : IsCollected n cells first met lower) (is_false : true_before cells p (negation m) ≡ true) where
@@ -227,16 +230,16 @@ module _ (cs : List Clause) (cells : List Cell) (trail : List Lit) (agree : Agre
   pub uip-here : true_before cells first uip ≡ false
   uip-here = at-not-before cells uip i first uip-at from
 
-  pub refutes-final : Refutes cs (map negation (lower ++ negation uip ∷ [])) (reverse hints)
+  pub refutes-final : Refutes cs (map negation (negation uip ∷ lower)) (reverse hints)
   refutes-final =
-      let C = lower ++ negation uip ∷ [] in
+      let C = negation uip ∷ lower in
       let in_range : i < length trail = at.0 in
       let low = λ (m : Lit) (b : true_before cells first m ≡ true) (is_met : IsMet met m).
-      subst (λ (w : Lit). Contains (map negation C) w) (negation_twice m) (has-neg C (negation m) (Contains-append_left lower (negation uip ∷ []) (negation m) (collected.covers m b is_met))) in
+      subst (λ (w : Lit). Contains (map negation C) w) (negation_twice m) (has-neg C (negation m) (tail-has (negation uip) (negation m) lower (collected.covers m b is_met))) in
       h (map negation C)
       (λ m b is_met.
       ⊎_elim
-      (λ (e : uip ≡ m). subst (λ (w : Lit). Contains (map negation C) w) (negation_twice uip ∙ e) (has-neg C (negation uip) (Contains-push lower (negation uip))))
+      (λ (e : uip ≡ m). subst (λ (w : Lit). Contains (map negation C) w) (negation_twice uip ∙ e) (has-neg C (negation uip) (contains_first (negation uip) lower)))
       (λ (b' : true_before cells i m ≡ true).
       let w = before-at cells m i b' in
       ⊎_elim
@@ -248,17 +251,17 @@ module _ (cs : List Clause) (cells : List Cell) (trail : List Lit) (agree : Agre
       (before-cases cells trail agree i uip m at b))
       (λ m has.
       ⊎_elim
+      (λ (e : negation uip ≡ negation m). subst (λ (w : Lit). true_before cells (length trail) w ≡ true) (sym (negation_twice uip) ∙ ap negation e ∙ negation_twice m) uip-true)
       (λ (old : Contains lower (negation m)).
       before-more cells first (length trail) m (omega arith) (subst (λ (w : Lit). true_before cells first w ≡ true) (negation_twice m) (collected.are_lower (negation m) old)))
-      (λ (e : negation uip ≡ negation m). subst (λ (w : Lit). true_before cells (length trail) w ≡ true) (sym (negation_twice uip) ∙ ap negation e ∙ negation_twice m) uip-true)
-      (Contains-push_cases lower (negation uip) (negation m) (from-neg C m has)))
+      (cons-cases (negation uip) (negation m) lower (from-neg C m has)))
 
-  pub learned-new : AreQuiet (true_before cells first) cs → IsNew cs (lower ++ negation uip ∷ [])
+  pub learned-new : AreQuiet (true_before cells first) cs → IsNew cs (negation uip ∷ lower)
   learned-new quiet = (
     negation uip,
-    new-by (true_before cells first) (consistent cells first) cs quiet (lower ++ negation uip ∷ []) (negation uip)
-        (λ m has ne. ⊎_elim (λ (old : Contains lower m). collected.are_lower m old) (λ (e : negation uip ≡ m). absurd (ne (sym e))) (Contains-push_cases lower (negation uip) m has))
-        (Contains-push lower (negation uip))
+    new-by (true_before cells first) (consistent cells first) cs quiet (negation uip ∷ lower) (negation uip)
+        (λ m has ne. ⊎_elim (λ (e : negation uip ≡ m). absurd (ne (sym e))) (λ (old : Contains lower m). collected.are_lower m old) (cons-cases (negation uip) m lower has))
+        (contains_first (negation uip) lower)
         (not-lower cells first (length trail) (negation uip) (consistent cells (length trail) uip uip-true) (let lt : i < length trail = at.0 in omega arith)),
   )
 

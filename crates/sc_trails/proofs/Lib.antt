@@ -7,4 +7,5 @@ pub mod ReadingLaws
 pub mod WatchingLaws
 pub mod VisitLaws
 pub mod AnalysisLaws
+mod ExchangeLaws
 pub mod RoomLaws

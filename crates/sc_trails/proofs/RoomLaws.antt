@@ -9,6 +9,7 @@ use Rattle.sc_clauses.specs.declared.lit.Lit.{Lit}
 use Rattle.sc_clauses.specs.declared.step.Learned as step
 use Rattle.sc_trails.proofs.AnalysisLaws.{not-lower, trail-in-cells, some-hint, hint-number}
 use Rattle.sc_trails.proofs.CellLaws.{consistent, before-more, before-at}
+use Rattle.sc_trails.proofs.LitLaws.{cons-cases}
 use Rattle.sc_trails.proofs.TrailLaws.{trail-learn}
 use Rattle.sc_trails.proofs.WatchingLaws.{added-listed, at-cases, open-quiet}
 use Rattle.sc_watches.proofs.WatchLaws.{added-below, added-last}
@@ -64,26 +65,26 @@ module _ (n : ℕ) (cs : List Clause) (cells : List Cell) (trail : List Lit) (le
       let h = sound.are_levels.within k lt in
       omega arith
 
-  pub learned-false : (m : Lit) → Contains (lower ++ negation uip ∷ []) m → true_before cells (length trail) (negation m) ≡ true
+  pub learned-false : (m : Lit) → Contains (negation uip ∷ lower) m → true_before cells (length trail) (negation m) ≡ true
   learned-false m has =
       ⊎_elim
-      (λ (old : Contains lower m). before-more cells first (length trail) (negation m) first-in (learned.are_lower m old))
       (λ (e : negation uip ≡ m). subst (λ (w : Lit). true_before cells (length trail) w ≡ true) (sym (negation_twice uip) ∙ ap negation e) learned.uip_true)
-      (Contains-push_cases lower (negation uip) m has)
+      (λ (old : Contains lower m). before-more cells first (length trail) (negation m) first-in (learned.are_lower m old))
+      (cons-cases (negation uip) m lower has)
 
-  pub learned-in-cells : AllInCells (length cells) (lower ++ negation uip ∷ [])
-  learned-in-cells = in-cells-of-false cells trail (length trail) (lower ++ negation uip ∷ []) sound.agree learned-false
+  pub learned-in-cells : AllInCells (length cells) (negation uip ∷ lower)
+  learned-in-cells = in-cells-of-false cells trail (length trail) (negation uip ∷ lower) sound.agree learned-false
 
-  pub learned-clause : (atoms : ℕ) → n ≡ atoms + 1 → IsClause atoms (lower ++ negation uip ∷ [])
-  learned-clause atoms e = clause-of-false cells trail (length trail) atoms (lower ++ negation uip ∷ []) (sound.sized ∙ e) sound.agree learned-false
+  pub learned-clause : (atoms : ℕ) → n ≡ atoms + 1 → IsClause atoms (negation uip ∷ lower)
+  learned-clause atoms e = clause-of-false cells trail (length trail) atoms (negation uip ∷ lower) (sound.sized ∙ e) sound.agree learned-false
 
   -- the step that logs it
-  pub learned-shown : (atoms : ℕ) (s : step.Learned) → n ≡ atoms + 1 → n ≤ 10 ^ 18 → length cs < 10 ^ 18 → s.clause ≡ lower ++ negation uip ∷ [] → s.hints ≡ hints → IsShown atoms cs s
+  pub learned-shown : (atoms : ℕ) (s : step.Learned) → n ≡ atoms + 1 → n ≤ 10 ^ 18 → length cs < 10 ^ 18 → s.clause ≡ negation uip ∷ lower → s.hints ≡ hints → IsShown atoms cs s
   learned-shown atoms s e few_cells few_clauses clause same =
       let size = sound.sized in
       record {
         is_clause = subst (λ (c : Clause). IsClause atoms c) (sym clause) (learned-clause atoms e);
-        refutes = subst (λ (c : Clause). Refutes cs (map negation c) s.hints) (sym clause) (subst (λ (hs : List ℕ). Refutes cs (map negation (lower ++ negation uip ∷ [])) hs) (sym same) learned.refutes);
+        refutes = subst (λ (c : Clause). Refutes cs (map negation c) s.hints) (sym clause) (subst (λ (hs : List ℕ). Refutes cs (map negation (negation uip ∷ lower)) hs) (sym same) learned.refutes);
         some = subst (λ (hs : List ℕ). 0 < length hs) (sym same) (some-hint cs _ hints learned.refutes);
         lit_numbers = λ l has.
             let w = learned-in-cells l (subst (λ (c : Clause). Contains c l) clause has) in

@@ -27,6 +27,11 @@ Covers cells first met lower = (m : Lit) → true_before cells first m ≡ true 
 abbrev pub AreLower : List Cell → ℕ → List Lit → Type 0
 AreLower cells first lower = (m : Lit) → Contains lower m → true_before cells first (negation m) ≡ true
 
+-- the same literals stand in both
+pub record HaveSame (a b : List Lit) : Type 0 where
+  pub there : (m : Lit) → Contains a m → Contains b m
+  pub back : (m : Lit) → Contains b m → Contains a m
+
 abbrev pub MeetsMore : List Bool → List Bool → Type 0
 MeetsMore old new = (m : Lit) → IsMet old m → IsMet new m
 
@@ -52,8 +57,8 @@ IsHighest levels first = (Contains levels first) × ((k : ℕ) → Contains leve
 
 -- A clause of literals that were false before the level and the negation of one that became true in it.
 pub record IsResolvent (clauses : List Clause) (cells : List Cell) (p first : ℕ) (lower : List Lit) (uip : Lit) (hints : List ℕ) : Type 0 where
-  pub refutes : Refutes clauses (map negation (lower ++ negation uip ∷ [])) hints
-  pub is_new : IsNew clauses (lower ++ negation uip ∷ [])
+  pub refutes : Refutes clauses (map negation (negation uip ∷ lower)) hints
+  pub is_new : IsNew clauses (negation uip ∷ lower)
   pub are_lower : AreLower cells first lower
   pub uip_true : true_before cells p uip ≡ true
   pub uip_here : true_before cells first uip ≡ false

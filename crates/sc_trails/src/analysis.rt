@@ -4,7 +4,7 @@ ghost use Rattle.std.specs.Prelude.{false, replicate, ◌≡◌, ◌⊎◌, ◌+
 ghost use Rattle.std.specs.List.{Contains};
 ghost use Rattle.sc_clauses.specs.Clauses.{negation};
 ghost use Rattle.sc_clauses.specs.declared.lit.Lit.{Lit};
-ghost use Rattle.sc_trails.specs.Analyses.{IsMet, RefutesMet, IsCollected, MeetsMore, MayBeMet, AreMet, NoneMet, IsHighest, IsResolvent};
+ghost use Rattle.sc_trails.specs.Analyses.{HaveSame, IsMet, RefutesMet, IsCollected, MeetsMore, MayBeMet, AreMet, NoneMet, IsHighest, IsResolvent};
 ghost use Rattle.sc_trails.specs.Readings.{IsFalsified};
 ghost use Rattle.sc_trails.specs.Steps.{Refutes};
 ghost use Rattle.sc_trails.specs.Trails.{Agree, HoldsTrail, AllInCells, AreInCells, IsReason, true_before};
@@ -23,8 +23,11 @@ pub struct Analysis {
     pub met: Marks,
     /// The same atoms in a list, of which nothing is promised.
     pub atoms: Vec<usize>,
-    /// The literals that were false before the level.
+    /// The literals that were false before the level. Those that were so before any decision come last, since a clause is
+    /// read from its first literal on.
     pub lower: Vec<Lit>,
+    /// How many come first.
+    pub open: usize,
     /// How many of the level are still to be resolved. It only says when it is worth to look whether one is left.
     pub left: usize,
     /// The numbers of the clauses, the last to be followed first.
@@ -41,6 +44,7 @@ impl Analysis {
             met: Marks::new(alloc, cells)?,
             atoms: Vec::new(alloc),
             lower: Vec::new(alloc),
+            open: 0,
             left: 0,
             hints: Vec::new(alloc),
         })
@@ -70,7 +74,31 @@ fn number_of(clauses: &Clauses, place: usize) -> u64
     place as u64 + 1
 }
 
+/// Puts a literal at a place, and what stood there at the end.
+fn put_at(lits: &mut Vec<Lit>, place: usize, lit: Lit) -> Result<(), AllocError>
+    ensures { IfOk result (λ _. HaveSame lits.new.items (lits.old.items ++ lit ∷ [])) }
+{
+    if place >= lits.len() {
+        lits.push(lit)?;
+        return Ok(());
+    }
+    let other = lits[place];
+    lits.push(other)?;
+    lits[place] = lit;
+    Ok(())
+}
+
 impl Trail {
+    /// Whether a literal that is false was so before any decision.
+    fn is_ground(&self, lit: Lit) -> bool
+        requires { lit.atom < length self.now.cells.items }
+    {
+        match self.levels.first() {
+            Some(place) => self.is_true_before(negation(lit), *place),
+            None => true,
+        }
+    }
+
     /// Meets a literal that is false.
     fn meet(&self, analysis: &mut Analysis, first: usize, lit: Lit) -> Result<(), AllocError>
         requires in_cells { lit.atom < length self.now.cells.items }
@@ -93,7 +121,12 @@ impl Trail {
             analysis.left = analysis.left.saturating_add(1);
             return Ok(());
         }
-        analysis.lower.push(lit)?;
+        if self.is_ground(lit) {
+            analysis.lower.push(lit)?;
+            return Ok(());
+        }
+        put_at(&mut analysis.lower, analysis.open, lit)?;
+        analysis.open = analysis.open.saturating_add(1);
         Ok(())
     }
 

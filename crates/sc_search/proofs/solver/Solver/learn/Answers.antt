@@ -21,10 +21,10 @@ attach-requires-clause-in_cells c =
     let cs = c.args.self.now.clauses in
     let first = c.level_start-first.result in
     let f = c.in_ok-lower.field-0 in
-    let C = f.lower.items ++ negation f.uip ∷ [] in
+    let C = negation f.uip ∷ f.lower.items in
     let learned : IsResolvent cs cells (length trail) first f.lower.items f.uip f.hints.items = c.in_ok-lower.ensures in
     let within = learned-in-cells n cs cells trail t.levels.items c.requires.ready.trail first c.level_start-first.ensures.highest f.lower.items f.uip f.hints.items learned in
-    let lits : c.push.new.self.items ≡ C = c.in_ok-push.ensures.items ∙ ap (λ (w : Lit). f.lower.items ++ w ∷ []) c.negation.ensures in
+    let lits : c.insert.new.self.items ≡ C = c.in_ok-insert.ensures.items ∙ ap (λ (w : Lit). w ∷ f.lower.items) c.negation.ensures in
     let is : c.deref-2.result.now ≡ C = c.deref-2.ensures.value ∙ lits in
     subst (λ (ls : List Lit). AllInCells n ls) (sym is) within
 
@@ -48,10 +48,10 @@ returns c =
     let cs = c.args.self.now.clauses in
     let first = c.level_start-first.result in
     let f = c.in_ok-lower.field-0 in
-    let C = f.lower.items ++ negation f.uip ∷ [] in
+    let C = negation f.uip ∷ f.lower.items in
     let highest = c.level_start-first.ensures.highest in
     let learned : IsResolvent cs cells (length trail) first f.lower.items f.uip f.hints.items = c.in_ok-lower.ensures in
-    let lits : c.push.new.self.items ≡ C = c.in_ok-push.ensures.items ∙ ap (λ (w : Lit). f.lower.items ++ w ∷ []) c.negation.ensures in
+    let lits : c.insert.new.self.items ≡ C = c.in_ok-insert.ensures.items ∙ ap (λ (w : Lit). w ∷ f.lower.items) c.negation.ensures in
     let is : c.deref-2.result.now ≡ C = c.deref-2.ensures.value ∙ lits in
     let logged : c.from_vec.result ≡ C = c.from_vec.ensures ∙ lits in
     let made = c.in_ok-attach.ensures in
@@ -59,7 +59,7 @@ returns c =
       ready = record { in_cells = made.ready.in_cells; watched = made.ready.watched; trail = made.ready.trail; seen = made.ready.seen };
       step = record { clause = c.from_vec.result; hints = c.from_vec-2.result };
       clauses_more = made.clauses ∙ ap (λ (d : Clause). cs ++ d ∷ []) (is ∙ sym logged);
-      steps_more = c.in_ok-push-2.ensures.items ∙ ap (λ (v : Vec Step Global). v.items ++ Learned (record { clause = c.from_vec.result; hints = c.from_vec-2.result }) ∷ []) made.steps;
+      steps_more = c.in_ok-push.ensures.items ∙ ap (λ (v : Vec Step Global). v.items ++ Learned (record { clause = c.from_vec.result; hints = c.from_vec-2.result }) ∷ []) made.steps;
       is_shown = λ atoms e. learned-shown n cs cells trail levels c.requires.ready.trail first highest f.lower.items f.uip f.hints.items learned atoms (record { clause = c.from_vec.result; hints = c.from_vec-2.result })
           e c.requires.few_cells c.requires.few_clauses logged c.from_vec-2.ensures;
       is_new = subst (λ (ls : List Lit). IsNew cs ls) (sym logged) learned.is_new;

@@ -27,7 +27,7 @@ returns c =
     let is : get_or c.args.self.now.levels.items k 0 ≡ first = get_or_default c.args.self.now.levels.items k 0 first highest.1 ∙ highest.2 in
     let quiet : AreQuiet (true_before cells first) cs = subst (λ (q : ℕ). AreQuiet (true_before cells q) cs) is (sound.quiet k highest.1) in
     record {
-      refutes = subst (λ (hs : List ℕ). Refutes cs (map negation (lower ++ negation uip ∷ [])) hs) (sym c.reverse.ensures.items)
+      refutes = subst (λ (hs : List ℕ). Refutes cs (map negation (negation uip ∷ lower)) hs) (sym c.reverse.ensures.items)
           (refutes-final cs cells trail sound.agree first i met lower hints uip n at walked.from walked.collected walked.none walked.refutes);
       is_new = learned-new cs cells trail sound.agree first i met lower hints uip n at walked.from walked.collected walked.none walked.refutes quiet;
       are_lower = walked.collected.are_lower;
