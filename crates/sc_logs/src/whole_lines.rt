@@ -11,7 +11,7 @@ ghost use Rattle.sc_logs.specs.Writable.{is_lit, is_hint, is_learned};
 
 use crate::lines::Room;
 use sc_clauses::{Lit, Step};
-use sc_refutations::code_of;
+use sc_refutations::{append, code_of};
 use std::alloc::AllocError;
 
 /// The place behind a byte other than a newline, where it stands at a place.
@@ -150,7 +150,7 @@ fn read_lits(bytes: &[u8], from: usize, codes: &mut Vec<u32>) -> Result<Option<u
         let Some(code) = code_of(lit) else {
             return Ok(None);
         };
-        codes.push(code)?;
+        append(codes, code)?;
         place = later;
     }
     Ok(None)
@@ -175,7 +175,7 @@ fn read_hints(bytes: &[u8], from: usize, hints: &mut Vec<u64>) -> Result<Option<
         let Some((hint, later)) = number_at(bytes, word) else {
             return Ok(None);
         };
-        hints.push(hint)?;
+        append(hints, hint)?;
         place = later;
     }
     Ok(None)

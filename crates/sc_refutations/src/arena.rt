@@ -5,6 +5,7 @@ ghost use Rattle.std.specs.Option.{option_copied};
 ghost use Rattle.std.specs.Vec.{vec_len, vec_capacity};
 ghost use Rattle.sc_refutations.specs.Arenas.{lit_of, begin_at};
 
+use crate::growing::make_room;
 use crate::known::Known;
 use sc_clauses::{Clauses, Lit};
 use std::alloc::{AllocError, Global};
@@ -113,8 +114,8 @@ impl Arena {
     pub fn push(&mut self, clause: &[u32]) -> Result<(), AllocError>
         ensures { OnOk result (self.new ≡ self.old ++ map lit_of clause.now ∷ []) }
     {
-        self.ends.reserve(1)?;
-        self.codes.reserve(clause.len())?;
+        make_room(&mut self.ends, 1)?;
+        make_room(&mut self.codes, clause.len())?;
         let Ok(end) = u32::try_from(self.codes.len() + clause.len()) else {
             return Err(AllocError);
         };

@@ -4,10 +4,12 @@
 
 mod arena;
 mod codes;
+mod growing;
 mod known;
 mod refuting;
 
 pub use arena::Arena;
 pub use codes::{code_of, lit_of};
+pub use growing::append;
 pub use known::Known;
 pub use refuting::{Residual, is_shown};
