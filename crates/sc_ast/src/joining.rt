@@ -1,7 +1,6 @@
 //! The condition of a policy: its scope and its clauses as one expression.
 ghost use Rattle.std.specs.Prelude.{◌≡◌, fold, map, IfOk};
-ghost use Rattle.sc_ast.specs.Conditions.{entity, asked, asked_of_action, is_in_any, required, joined, scope_part, action_part, clause, condition};
-ghost use Rattle.sc_ast.specs.Parts.{Asks};
+ghost use Rattle.sc_ast.specs.Conditions.{entity, is_in_any, required, joined, scope_part, action_part, clause, condition};
 
 use crate::copy::try_clone;
 use crate::expr::{Expr, TypeName, Variable};
@@ -31,10 +30,11 @@ fn join(
     alloc: Global,
     asked: Boxed<Expr>,
     place: Place,
-    more: Boxed<Expr>,
+    more: Expr,
 ) -> Result<Boxed<Expr>, AllocError>
     ensures { IfOk result (λ e. e ≡ joined asked (place, more)) }
 {
+    let more = Boxed::new(alloc, more)?;
     Boxed::new(alloc, Expr::And(place, asked, more))
 }
 
@@ -47,9 +47,18 @@ fn with_scope(
 ) -> Result<Boxed<Expr>, AllocError>
     ensures { IfOk result (λ e. e ≡ fold joined asked (scope_part variable scope.now)) }
 {
-    match asked_of(alloc, variable, scope)? {
-        None => Ok(asked),
-        Some(more) => join(alloc, asked, scope.place, more),
+    let x = Subject {
+        place: scope.place,
+        variable,
+    };
+    match &scope.constraint {
+        Constraint::Any => Ok(asked),
+        Constraint::Equal(place, l) => compared(alloc, asked, x, *place, BinaryOperator::Equal, l),
+        Constraint::In(place, l) => compared(alloc, asked, x, *place, BinaryOperator::In, l),
+        Constraint::Is(place, t) => typed(alloc, asked, x, *place, t),
+        Constraint::IsIn(place, t, in_place, l) => {
+            typed_in(alloc, asked, x, *place, t, *in_place, l)
+        }
     }
 }
 
@@ -61,56 +70,18 @@ fn with_action(
 ) -> Result<Boxed<Expr>, AllocError>
     ensures { IfOk result (λ e. e ≡ fold joined asked (action_part scope.now)) }
 {
-    match asked_of_action(alloc, scope)? {
-        None => Ok(asked),
-        Some(more) => join(alloc, asked, scope.place, more),
-    }
-}
-
-/// What a scope asks of a variable, or none where it is bare.
-fn asked_of(
-    alloc: Global,
-    variable: Variable,
-    scope: &Scope,
-) -> Result<Option<Boxed<Expr>>, AllocError>
-    ensures { IfOk result (λ o. Asks o (asked (Expr.Variable scope.now.place variable) scope.now.constraint)) }
-{
-    let x = Subject {
-        place: scope.place,
-        variable,
-    };
-    match &scope.constraint {
-        Constraint::Any => Ok(None),
-        Constraint::Equal(place, l) => {
-            Ok(Some(compared(alloc, x, *place, BinaryOperator::Equal, l)?))
-        }
-        Constraint::In(place, l) => Ok(Some(compared(alloc, x, *place, BinaryOperator::In, l)?)),
-        Constraint::Is(place, t) => Ok(Some(typed(alloc, x, *place, t)?)),
-        Constraint::IsIn(place, t, in_place, l) => {
-            Ok(Some(typed_in(alloc, x, *place, t, *in_place, l)?))
-        }
-    }
-}
-
-/// What a scope asks of the action, or none where it is bare.
-fn asked_of_action(alloc: Global, scope: &ActionScope) -> Result<Option<Boxed<Expr>>, AllocError>
-    ensures { IfOk result (λ o. Asks o (asked_of_action
-        (Expr.Variable scope.now.place Variable.Action) scope.now.constraint)) }
-{
     let x = Subject {
         place: scope.place,
         variable: Variable::Action,
     };
     match &scope.constraint {
-        ActionConstraint::Any => Ok(None),
+        ActionConstraint::Any => Ok(asked),
         ActionConstraint::Equal(place, l) => {
-            Ok(Some(compared(alloc, x, *place, BinaryOperator::Equal, l)?))
+            compared(alloc, asked, x, *place, BinaryOperator::Equal, l)
         }
-        ActionConstraint::In(place, l) => {
-            Ok(Some(compared(alloc, x, *place, BinaryOperator::In, l)?))
-        }
+        ActionConstraint::In(place, l) => compared(alloc, asked, x, *place, BinaryOperator::In, l),
         ActionConstraint::InAny(place, bracket, ls) => {
-            Ok(Some(among(alloc, x, *place, *bracket, ls)?))
+            with_any(alloc, asked, x, *place, *bracket, ls)
         }
     }
 }
@@ -143,45 +114,82 @@ fn boxed_entity(alloc: Global, l: &EntityLiteral) -> Result<Boxed<Expr>, AllocEr
     Boxed::new(alloc, entity(alloc, l)?)
 }
 
-/// `x == E` or `x in E`.
+/// What is asked so far, and then `x == E` or `x in E`.
 fn compared(
     alloc: Global,
+    asked: Boxed<Expr>,
     x: Subject,
     place: Place,
     operator: BinaryOperator,
     l: &EntityLiteral,
 ) -> Result<Boxed<Expr>, AllocError>
-    ensures { IfOk result (λ e. e ≡ Expr.Binary place operator (Expr.Variable x.place x.variable) (entity l.now)) }
+    ensures { IfOk result (λ e. e ≡ joined asked
+        (x.place, Expr.Binary place operator (Expr.Variable x.place x.variable) (entity l.now))) }
 {
     let left = boxed(alloc, x)?;
     let right = boxed_entity(alloc, l)?;
-    Boxed::new(alloc, Expr::Binary(place, operator, left, right))
+    join(
+        alloc,
+        asked,
+        x.place,
+        Expr::Binary(place, operator, left, right),
+    )
 }
 
-/// `x is T`.
-fn typed(alloc: Global, x: Subject, place: Place, t: &TypeName) -> Result<Boxed<Expr>, AllocError>
-    ensures { IfOk result (λ e. e ≡ Expr.Is place (Expr.Variable x.place x.variable) t.now) }
+/// What is asked so far, and then `x is T`.
+fn typed(
+    alloc: Global,
+    asked: Boxed<Expr>,
+    x: Subject,
+    place: Place,
+    t: &TypeName,
+) -> Result<Boxed<Expr>, AllocError>
+    ensures { IfOk result (λ e. e ≡ joined asked
+        (x.place, Expr.Is place (Expr.Variable x.place x.variable) t.now)) }
 {
-    let left = boxed(alloc, x)?;
     let name = t.try_clone(alloc)?;
-    Boxed::new(alloc, Expr::Is(place, left, name))
+    let left = boxed(alloc, x)?;
+    join(alloc, asked, x.place, Expr::Is(place, left, name))
 }
 
-/// `x is T in E`.
+/// What is asked so far, and then `x is T in E`.
 fn typed_in(
     alloc: Global,
+    asked: Boxed<Expr>,
     x: Subject,
     place: Place,
     t: &TypeName,
     in_place: Place,
     l: &EntityLiteral,
 ) -> Result<Boxed<Expr>, AllocError>
-    ensures { IfOk result (λ e. e ≡ Expr.IsIn place (Expr.Variable x.place x.variable) t.now in_place (entity l.now)) }
+    ensures { IfOk result (λ e. e ≡ joined asked
+        (x.place, Expr.IsIn place (Expr.Variable x.place x.variable) t.now in_place (entity l.now))) }
 {
+    let name = t.try_clone(alloc)?;
     let left = boxed(alloc, x)?;
     let right = boxed_entity(alloc, l)?;
-    let name = t.try_clone(alloc)?;
-    Boxed::new(alloc, Expr::IsIn(place, left, name, in_place, right))
+    join(
+        alloc,
+        asked,
+        x.place,
+        Expr::IsIn(place, left, name, in_place, right),
+    )
+}
+
+/// What is asked so far, and then `x in [E, F]`.
+fn with_any(
+    alloc: Global,
+    asked: Boxed<Expr>,
+    x: Subject,
+    place: Place,
+    bracket: Place,
+    ls: &Seq<EntityLiteral>,
+) -> Result<Boxed<Expr>, AllocError>
+    ensures { IfOk result (λ e. e ≡ joined asked
+        (x.place, is_in_any (Expr.Variable x.place x.variable) place bracket ls.now)) }
+{
+    let more = among(alloc, x, place, bracket, ls)?;
+    join(alloc, asked, x.place, more)
 }
 
 /// `x in [E, F]`, or `false` for `x in []`.
@@ -191,15 +199,15 @@ fn among(
     place: Place,
     bracket: Place,
     ls: &Seq<EntityLiteral>,
-) -> Result<Boxed<Expr>, AllocError>
+) -> Result<Expr, AllocError>
     ensures { IfOk result (λ e. e ≡ is_in_any (Expr.Variable x.place x.variable) place bracket ls.now) }
 {
     if ls.is_empty() {
-        return Boxed::new(alloc, Expr::Literal(place, Literal::Bool(false)));
+        return Ok(Expr::Literal(place, Literal::Bool(false)));
     }
     let left = boxed(alloc, x)?;
     let right = boxed_set(alloc, bracket, ls.as_slice())?;
-    Boxed::new(alloc, Expr::Binary(place, BinaryOperator::In, left, right))
+    Ok(Expr::Binary(place, BinaryOperator::In, left, right))
 }
 
 /// Entities as the set that they are in brackets.
@@ -236,14 +244,15 @@ fn with_clauses(
 }
 
 /// What a clause asks.
-fn required(alloc: Global, clause: &Condition) -> Result<Boxed<Expr>, AllocError>
+fn required(alloc: Global, clause: &Condition) -> Result<Expr, AllocError>
     ensures { IfOk result (λ e. e ≡ required clause.now.kind clause.now.place clause.now.body) }
 {
-    let body = Boxed::new(alloc, try_clone(alloc, &clause.body)?)?;
+    let body = try_clone(alloc, &clause.body)?;
     match clause.kind {
         ConditionKind::When => Ok(body),
         ConditionKind::Unless => {
-            Boxed::new(alloc, Expr::Unary(clause.place, UnaryOperator::Not, body))
+            let body = Boxed::new(alloc, body)?;
+            Ok(Expr::Unary(clause.place, UnaryOperator::Not, body))
         }
     }
 }

@@ -34,7 +34,7 @@ impl Literal {
 }
 
 /// An entity's uid as a policy's scope writes it.
-#[derive(Debug, PartialEq, Eq, Drop)]
+#[derive(Drop)]
 pub struct EntityLiteral {
     /// The place of its first token.
     pub place: Place,

@@ -23,7 +23,7 @@ pub enum ConditionKind {
 }
 
 /// A `when` or `unless` clause.
-#[derive(Debug, PartialEq, Eq, Drop)]
+#[derive(Drop)]
 pub struct Condition {
     /// The place of the word `when` or `unless`.
     pub place: Place,
@@ -34,7 +34,7 @@ pub struct Condition {
 }
 
 /// A policy.
-#[derive(Debug, PartialEq, Eq, Drop)]
+#[derive(Drop)]
 pub struct Policy {
     /// The place of the word `permit` or `forbid`.
     pub place: Place,

@@ -5,7 +5,7 @@ use crate::place::Place;
 use sc_lists::Seq;
 
 /// What a scope asks of the principal or of the resource. Places are those of `==`, `is` and `in`.
-#[derive(Debug, PartialEq, Eq, Drop)]
+#[derive(Drop)]
 pub enum Constraint {
     /// Nothing.
     Any,
@@ -20,7 +20,7 @@ pub enum Constraint {
 }
 
 /// What a scope asks of the action. Places are those of `==`, `in` and the opening bracket.
-#[derive(Debug, PartialEq, Eq, Drop)]
+#[derive(Drop)]
 pub enum ActionConstraint {
     /// Nothing.
     Any,
@@ -33,7 +33,7 @@ pub enum ActionConstraint {
 }
 
 /// The scope's part on the principal or on the resource.
-#[derive(Debug, PartialEq, Eq, Drop)]
+#[derive(Drop)]
 pub struct Scope {
     /// The place of the word `principal` or `resource`.
     pub place: Place,
@@ -42,7 +42,7 @@ pub struct Scope {
 }
 
 /// The scope's part on the action.
-#[derive(Debug, PartialEq, Eq, Drop)]
+#[derive(Drop)]
 pub struct ActionScope {
     /// The place of the word `action`.
     pub place: Place,
