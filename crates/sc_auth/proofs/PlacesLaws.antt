@@ -1,7 +1,7 @@
 -- The places of policies that pass a test.
 use Rattle.std.proofs.Common.{◌≡◌, ℕ, ◌+◌, ◌<◌, List, [], ◌∷◌, ◌++◌, length, take, get_or, map, Bool, true, false, ◌&&◌, ◌||◌, not, Ok, Err, is_err, if◌then◌else◌, refl, sym, ap, ◌∙◌, arith, add-zero, zero-add}
 use Rattle.std.specs.List.{list_any}
-use Rattle.std.proofs.lemmas.List.{take_more, length-take-le, map-append}
+use Rattle.std.proofs.lemmas.List.{take_more, length-map, length-take-le, map-append}
 use Rattle.sc_ast.specs.declared.policy.Policy.{Policy}
 use Rattle.sc_ast.specs.Conditions.{condition}
 use Rattle.sc_values.specs.declared.value.Value.{out-Value}
@@ -78,25 +78,30 @@ decision_is w ps d permits forbids p f h =
 
 -- ---- one more policy is counted
 
-more : (test : Policy → Bool) (ps : List Policy) (i : ℕ) (p : Policy) (told : Bool) (old new : List ℕ) → i < length ps → p ≡ get_or ps i p → told ≡ test p
-    → old ≡ places test (take i ps) → new ≡ old ++ listed told i → new ≡ places test (take (i + 1) ps)
-more test ps i p told old new within is same before after =
-    after ∙ ap (λ ns. ns ++ listed told i) before ∙ ap (λ b. places test (take i ps) ++ listed b i) same ∙ sym (places-more test ps i p within is)
+-- as many have been counted as stand before the next one
+pub counted : (w : World) (ps : List Policy) (i : ℕ) (ss : List Standing) → i < length ps → ss ≡ map (standing_of w) (take i ps) → length ss ≡ i
+counted w ps i ss within before =
+    ap (λ (s : List Standing). length s) before ∙ length-map (take i ps) (standing_of w) ∙ length-take-le i ps (omega arith)
 
-pub permits_more : (w : World) (ps : List Policy) (i : ℕ) (p : Policy) (s : Standing) (old new : List ℕ) → i < length ps → p ≡ get_or ps i p → s ≡ standing_of w p
-    → old ≡ places (is_permitting w) (take i ps) → new ≡ old ++ listed (permits p.effect && is_satisfied s) i → new ≡ places (is_permitting w) (take (i + 1) ps)
-permits_more w ps i p s old new within is stands =
-    more (is_permitting w) ps i p (permits p.effect && is_satisfied s) old new within is (ap (λ b. permits p.effect && b) (ap is_satisfied stands ∙ is_satisfied-standing_of w p))
+more : (test : Policy → Bool) (ps : List Policy) (i : ℕ) (p : Policy) (told : Bool) (old new : List ℕ) (n : ℕ) → i < length ps → p ≡ get_or ps i p → told ≡ test p → n ≡ i
+    → old ≡ places test (take i ps) → new ≡ old ++ listed told n → new ≡ places test (take (i + 1) ps)
+more test ps i p told old new n within is same placed before after =
+    after ∙ ap (λ m. old ++ listed told m) placed ∙ ap (λ ns. ns ++ listed told i) before ∙ ap (λ b. places test (take i ps) ++ listed b i) same ∙ sym (places-more test ps i p within is)
 
-pub forbids_more : (w : World) (ps : List Policy) (i : ℕ) (p : Policy) (s : Standing) (old new : List ℕ) → i < length ps → p ≡ get_or ps i p → s ≡ standing_of w p
-    → old ≡ places (is_forbidding w) (take i ps) → new ≡ old ++ listed (not (permits p.effect) && is_satisfied s) i → new ≡ places (is_forbidding w) (take (i + 1) ps)
-forbids_more w ps i p s old new within is stands =
-    more (is_forbidding w) ps i p (not (permits p.effect) && is_satisfied s) old new within is (ap (λ b. not (permits p.effect) && b) (ap is_satisfied stands ∙ is_satisfied-standing_of w p))
+pub permits_more : (w : World) (ps : List Policy) (i : ℕ) (p : Policy) (s : Standing) (old new : List ℕ) (n : ℕ) → i < length ps → p ≡ get_or ps i p → s ≡ standing_of w p → n ≡ i
+    → old ≡ places (is_permitting w) (take i ps) → new ≡ old ++ listed (permits p.effect && is_satisfied s) n → new ≡ places (is_permitting w) (take (i + 1) ps)
+permits_more w ps i p s old new n within is stands =
+    more (is_permitting w) ps i p (permits p.effect && is_satisfied s) old new n within is (ap (λ b. permits p.effect && b) (ap is_satisfied stands ∙ is_satisfied-standing_of w p))
 
-pub erring_more : (w : World) (ps : List Policy) (i : ℕ) (p : Policy) (s : Standing) (old new : List ℕ) → i < length ps → p ≡ get_or ps i p → s ≡ standing_of w p
-    → old ≡ places (errs w) (take i ps) → new ≡ old ++ listed (has_erred s) i → new ≡ places (errs w) (take (i + 1) ps)
-erring_more w ps i p s old new within is stands =
-    more (errs w) ps i p (has_erred s) old new within is (ap has_erred stands ∙ has_erred-standing_of w p)
+pub forbids_more : (w : World) (ps : List Policy) (i : ℕ) (p : Policy) (s : Standing) (old new : List ℕ) (n : ℕ) → i < length ps → p ≡ get_or ps i p → s ≡ standing_of w p → n ≡ i
+    → old ≡ places (is_forbidding w) (take i ps) → new ≡ old ++ listed (not (permits p.effect) && is_satisfied s) n → new ≡ places (is_forbidding w) (take (i + 1) ps)
+forbids_more w ps i p s old new n within is stands =
+    more (is_forbidding w) ps i p (not (permits p.effect) && is_satisfied s) old new n within is (ap (λ b. not (permits p.effect) && b) (ap is_satisfied stands ∙ is_satisfied-standing_of w p))
+
+pub erring_more : (w : World) (ps : List Policy) (i : ℕ) (p : Policy) (s : Standing) (old new : List ℕ) (n : ℕ) → i < length ps → p ≡ get_or ps i p → s ≡ standing_of w p → n ≡ i
+    → old ≡ places (errs w) (take i ps) → new ≡ old ++ listed (has_erred s) n → new ≡ places (errs w) (take (i + 1) ps)
+erring_more w ps i p s old new n within is stands =
+    more (errs w) ps i p (has_erred s) old new n within is (ap has_erred stands ∙ has_erred-standing_of w p)
 
 pub standings_more : (w : World) (ps : List Policy) (i : ℕ) (p : Policy) (s : Standing) (old new : List Standing) → i < length ps → p ≡ get_or ps i p → s ≡ standing_of w p
     → old ≡ map (standing_of w) (take i ps) → new ≡ old ++ s ∷ [] → new ≡ map (standing_of w) (take (i + 1) ps)

@@ -1,7 +1,7 @@
 //! Decisions.
 
 /// Whether a request is allowed.
-#[derive(Clone, Copy, Debug, PartialEq, Eq, PartialOrd, Ord)]
+#[derive(Clone, Copy, Debug, PartialEq, Eq)]
 pub enum Decision {
     /// Some permit is satisfied, and no forbid is.
     Allow,

@@ -5,7 +5,7 @@ use sc_lists::Seq;
 
 /// What a policy set answers to a request. Policies are named by their places in the set, counted
 /// from 0, in ascending order.
-#[derive(Debug, PartialEq, Eq, Drop)]
+#[derive(Drop)]
 pub struct Response {
     /// Whether the request is allowed.
     pub decision: Decision,

@@ -1,5 +1,5 @@
 //! How policies stand: which are satisfied, and which err.
-ghost use Rattle.std.specs.Prelude.{◌≡◌, ◌++◌, [], ◌∷◌, ◌&&◌, not, if◌then◌else◌, map, IfOk, OnOk};
+ghost use Rattle.std.specs.Prelude.{◌≡◌, ◌++◌, [], ◌∷◌, ◌&&◌, not, if◌then◌else◌, length, map, IfOk, OnOk};
 ghost use Rattle.sc_auth.specs.Decisions.{permits, first_some, places, is_permitting, is_forbidding, errs, decided};
 ghost use Rattle.sc_auth.specs.Standings.{standing_of, listed, is_satisfied, has_erred, is_some};
 
@@ -22,15 +22,17 @@ pub(crate) struct Tally {
 }
 
 impl Tally {
-    /// Counts the policy at a place.
-    fn count(&mut self, place: usize, effect: Effect, standing: Standing) -> Result<(), AllocError>
+    /// Counts the next policy.
+    fn count(&mut self, effect: Effect, standing: Standing) -> Result<(), AllocError>
         ensures permits { OnOk result (self.new.permits ≡ self.old.permits
-            ++ listed (permits effect && is_satisfied standing) place) }
+            ++ listed (permits effect && is_satisfied standing) (length self.old.standings)) }
         ensures forbids { OnOk result (self.new.forbids ≡ self.old.forbids
-            ++ listed (not (permits effect) && is_satisfied standing) place) }
-        ensures erring { OnOk result (self.new.erring ≡ self.old.erring ++ listed (has_erred standing) place) }
+            ++ listed (not (permits effect) && is_satisfied standing) (length self.old.standings)) }
+        ensures erring { OnOk result (self.new.erring ≡ self.old.erring
+            ++ listed (has_erred standing) (length self.old.standings)) }
         ensures standings { OnOk result (self.new.standings ≡ self.old.standings ++ standing ∷ []) }
     {
+        let place = self.standings.len();
         self.standings.push(standing)?;
         self.list(place, effect, standing)
     }
@@ -98,9 +100,9 @@ pub(crate) fn tally_of(
         erring: Seq::new(alloc),
         standings: Seq::new(alloc),
     };
-    for (place, policy) in policies.iter().enumerate() {
+    for policy in policies {
         let standing = standing_of(alloc, policy, world)?;
-        tally.count(place, policy.effect, standing)?;
+        tally.count(policy.effect, standing)?;
     }
     Ok(tally)
 }
