@@ -1,5 +1,5 @@
 -- Nodes that `==` finds equal are one.
-use Rattle.std.proofs.Common.{◌≡◌, ℕ, Bool, true, false, ◌&&◌, nat_eq, List, [], ◌∷◌, ap, refl, sym, ◌∙◌}
+use Rattle.std.proofs.Common.{◌≡◌, ℕ, Bool, true, false, ◌&&◌, nat_eq, is_eq, List, [], ◌∷◌, ap, refl, sym, ◌∙◌}
 use Rattle.std.proofs.lemmas.Bool.{false≢true}
 use Rattle.std.proofs.lemmas.Map.Lookups.{exact_unsigned, exact_signed, exact_bytes}
 use Rattle.std.specs.Cmp.{first_so, second_so}
@@ -67,8 +67,8 @@ same_pattern (x ∷ xs) (y ∷ ys) h =
 
 exact_bool : (a b : Bool) → bool_cmp a b ≡ Equal → a ≡ b
 exact_bool true true h = refl
-exact_bool true false h = cc
-exact_bool false true h = cc
+exact_bool true false h = never _ (ap is_eq h)
+exact_bool false true h = never _ (ap is_eq h)
 exact_bool false false h = refl
 
 both_numbers : (m n p q : ℕ) → ordering_then (nat_cmp m n) (nat_cmp p q) ≡ Equal → (m ≡ n) × (p ≡ q)
@@ -76,14 +76,14 @@ both_numbers m n p q h = let parts = ordering_then_equal (nat_cmp m n) (nat_cmp 
 
 exact_ip : (a b : Ip) → ip_ord.cmp a b ≡ Equal → a ≡ b
 exact_ip (V4 m p) (V4 n q) h = let same = both_numbers m n p q h in λ i. V4 (same.0 i) (same.1 i)
-exact_ip (V4 m p) (V6 n q) h = cc
-exact_ip (V6 m p) (V4 n q) h = cc
+exact_ip (V4 m p) (V6 n q) h = never _ (ap is_eq h)
+exact_ip (V6 m p) (V4 n q) h = never _ (ap is_eq h)
 exact_ip (V6 m p) (V6 n q) h = let same = both_numbers m n p q h in λ i. V6 (same.0 i) (same.1 i)
 
 exact_uids : (us vs : List Uid) → slice_cmp uid_cmp us vs ≡ Equal → us ≡ vs
 exact_uids [] [] h = refl
-exact_uids [] (v ∷ vs) h = cc
-exact_uids (u ∷ us) [] h = cc
+exact_uids [] (v ∷ vs) h = never _ (ap is_eq h)
+exact_uids (u ∷ us) [] h = never _ (ap is_eq h)
 exact_uids (u ∷ us) (v ∷ vs) h =
     let p = ordering_then_equal _ _ h in
     let first : u ≡ v = uid_cmp_level u v p.0 in
@@ -92,21 +92,21 @@ exact_uids (u ∷ us) (v ∷ vs) h =
 
 pub exact_literal : (a b : Literal) → literal_ord.cmp a b ≡ Equal → a ≡ b
 exact_literal (literal.Bool a) (literal.Bool b) h = ap literal.Bool (exact_bool a b h)
-exact_literal (literal.Bool a) _ h = absurd cc
+exact_literal (literal.Bool a) _ h = never _ (ap is_eq h)
 exact_literal (literal.Long a) (literal.Long b) h = ap literal.Long (exact_signed a b h)
-exact_literal (literal.Long a) _ h = absurd cc
+exact_literal (literal.Long a) _ h = never _ (ap is_eq h)
 exact_literal (literal.String a) (literal.String b) h = ap literal.String (exact_bytes a b h)
-exact_literal (literal.String a) _ h = absurd cc
+exact_literal (literal.String a) _ h = never _ (ap is_eq h)
 exact_literal (literal.Decimal a) (literal.Decimal b) h = ap literal.Decimal (exact_signed a b h)
-exact_literal (literal.Decimal a) _ h = absurd cc
+exact_literal (literal.Decimal a) _ h = never _ (ap is_eq h)
 exact_literal (literal.Ip a) (literal.Ip b) h = ap literal.Ip (exact_ip a b h)
-exact_literal (literal.Ip a) _ h = absurd cc
+exact_literal (literal.Ip a) _ h = never _ (ap is_eq h)
 exact_literal (literal.Entity u us) (literal.Entity v vs) h =
     let p = ordering_then_equal _ _ h in
     let first : u ≡ v = uid_cmp_level u v p.0 in
     let rest : us ≡ vs = exact_uids us vs p.1 in
     λ i. literal.Entity (first i) (rest i)
-exact_literal (literal.Entity u us) _ h = absurd cc
+exact_literal (literal.Entity u us) _ h = never _ (ap is_eq h)
 
 pub same_literal : (a b : Literal) → literal_eq.eq a b ≡ true → a ≡ b
 same_literal a b h = exact_literal a b (is_eq_true (literal_ord.cmp a b) (sym (literal_level a b) ∙ h))
