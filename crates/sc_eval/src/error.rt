@@ -3,7 +3,7 @@ use sc_lists::Fault;
 use thiserror::Error;
 
 /// Why an expression has no value.
-#[derive(Clone, Copy, Debug, PartialEq, Eq, PartialOrd, Ord, Error)]
+#[derive(Clone, Copy, Debug, PartialEq, Eq, Error)]
 pub enum EvalError {
     /// A value is of another kind than its place asks for.
     #[error("a value of another kind")]

@@ -13,7 +13,7 @@ use crate::records::record_value;
 use crate::sets::set_value;
 use crate::texts::is_like;
 use sc_ast::{BinaryOperator, Expr, TypeName, UnaryOperator};
-use sc_lists::{Fault, Seq, Text};
+use sc_lists::{Boxed, Fault, Seq, Text};
 use sc_pattern::Pattern;
 use sc_values::Value;
 use sc_world::World;
@@ -45,6 +45,14 @@ pub fn evaluate(alloc: Global, expr: &Expr, world: &World) -> Result<Value, Faul
     }
 }
 
+/// The value of an operand.
+#[cycle(evaluate)]
+fn operand(alloc: Global, expr: &Expr, world: &World) -> Result<Boxed<Value>, Fault<EvalError>>
+    ensures { Gives result (eval expr.now world.now) }
+{
+    Ok(Boxed::new(alloc, evaluate(alloc, expr, world)?)?)
+}
+
 #[cycle(evaluate)]
 fn choose(
     alloc: Global,
@@ -55,7 +63,7 @@ fn choose(
 ) -> Result<Value, Fault<EvalError>>
     ensures { Gives result (choice (eval c.now) (eval a.now) (eval b.now) world.now) }
 {
-    if bool_in(&evaluate(alloc, c, world)?)? {
+    if bool_in(operand(alloc, c, world)?.get())? {
         evaluate(alloc, a, world)
     } else {
         evaluate(alloc, b, world)
@@ -66,10 +74,10 @@ fn choose(
 fn or_else(alloc: Global, a: &Expr, b: &Expr, world: &World) -> Result<Value, Fault<EvalError>>
     ensures { Gives result (either (eval a.now) (eval b.now) world.now) }
 {
-    if bool_in(&evaluate(alloc, a, world)?)? {
+    if bool_in(operand(alloc, a, world)?.get())? {
         Ok(Value::Bool(true))
     } else {
-        Ok(Value::Bool(bool_in(&evaluate(alloc, b, world)?)?))
+        Ok(Value::Bool(bool_in(operand(alloc, b, world)?.get())?))
     }
 }
 
@@ -77,8 +85,8 @@ fn or_else(alloc: Global, a: &Expr, b: &Expr, world: &World) -> Result<Value, Fa
 fn and_also(alloc: Global, a: &Expr, b: &Expr, world: &World) -> Result<Value, Fault<EvalError>>
     ensures { Gives result (both (eval a.now) (eval b.now) world.now) }
 {
-    if bool_in(&evaluate(alloc, a, world)?)? {
-        Ok(Value::Bool(bool_in(&evaluate(alloc, b, world)?)?))
+    if bool_in(operand(alloc, a, world)?.get())? {
+        Ok(Value::Bool(bool_in(operand(alloc, b, world)?.get())?))
     } else {
         Ok(Value::Bool(false))
     }
@@ -94,9 +102,9 @@ fn operate(
 ) -> Result<Value, Fault<EvalError>>
     ensures { Gives result (operated operator (eval a.now) (eval b.now) world.now) }
 {
-    let x = evaluate(alloc, a, world)?;
-    let y = evaluate(alloc, b, world)?;
-    binary(alloc, operator, world, &x, &y)
+    let x = operand(alloc, a, world)?;
+    let y = operand(alloc, b, world)?;
+    binary(alloc, operator, world, x.get(), y.get())
 }
 
 #[cycle(evaluate)]
@@ -108,8 +116,8 @@ fn has_names(
 ) -> Result<Value, Fault<EvalError>>
     ensures { Gives result (having names.now (eval a.now) world.now) }
 {
-    let x = evaluate(alloc, a, world)?;
-    Ok(Value::Bool(has_path(world, &x, names)?))
+    let x = operand(alloc, a, world)?;
+    Ok(Value::Bool(has_path(world, x.get(), names)?))
 }
 
 #[cycle(evaluate)]
@@ -121,8 +129,8 @@ fn like(
 ) -> Result<Value, Fault<EvalError>>
     ensures { Gives result (matching pattern.now (eval a.now) world.now) }
 {
-    let x = evaluate(alloc, a, world)?;
-    Ok(Value::Bool(is_like(&x, pattern)?))
+    let x = operand(alloc, a, world)?;
+    Ok(Value::Bool(is_like(x.get(), pattern)?))
 }
 
 #[cycle(evaluate)]
@@ -134,8 +142,8 @@ fn is(
 ) -> Result<Value, Fault<EvalError>>
     ensures { Gives result (typed type_name.now.name (eval a.now) world.now) }
 {
-    let x = evaluate(alloc, a, world)?;
-    Ok(Value::Bool(is_of(&x, type_name)?))
+    let x = operand(alloc, a, world)?;
+    Ok(Value::Bool(is_of(x.get(), type_name)?))
 }
 
 #[cycle(evaluate)]
@@ -148,10 +156,10 @@ fn is_and_in(
 ) -> Result<Value, Fault<EvalError>>
     ensures { Gives result (typed_in type_name.now.name (eval a.now) (eval b.now) world.now) }
 {
-    let x = evaluate(alloc, a, world)?;
-    if is_of(&x, type_name)? {
-        let y = evaluate(alloc, b, world)?;
-        Ok(Value::Bool(is_in(world, &x, &y)?))
+    let x = operand(alloc, a, world)?;
+    if is_of(x.get(), type_name)? {
+        let y = operand(alloc, b, world)?;
+        Ok(Value::Bool(is_in(world, x.get(), y.get())?))
     } else {
         Ok(Value::Bool(false))
     }
@@ -166,16 +174,16 @@ fn apply(
 ) -> Result<Value, Fault<EvalError>>
     ensures { Gives result (applied operator (eval a.now) world.now) }
 {
-    let x = evaluate(alloc, a, world)?;
-    Ok(unary(operator, &x)?)
+    let x = operand(alloc, a, world)?;
+    Ok(unary(operator, x.get())?)
 }
 
 #[cycle(evaluate)]
 fn read(alloc: Global, a: &Expr, name: &Text, world: &World) -> Result<Value, Fault<EvalError>>
     ensures { Gives result (accessed name.now (eval a.now) world.now) }
 {
-    let x = evaluate(alloc, a, world)?;
-    access(alloc, world, &x, name)
+    let x = operand(alloc, a, world)?;
+    access(alloc, world, x.get(), name)
 }
 
 #[cycle(evaluate)]

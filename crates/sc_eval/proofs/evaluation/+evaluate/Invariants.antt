@@ -7,35 +7,38 @@ use Rattle.sc_eval.proofs.evaluation.+evaluate.Given as goal
 abbrev pub decreases-evaluate : goal.decreases-evaluate
 decreases-evaluate l = 3 * size-Expr l.expr.now
 
+abbrev pub decreases-operand : goal.decreases-operand
+decreases-operand l = 3 * size-Expr l.expr.now + 1
+
 abbrev pub decreases-choose : goal.decreases-choose
-decreases-choose l = 3 * max (size-Expr l.c.now) (max (size-Expr l.a.now) (size-Expr l.b.now)) + 1
+decreases-choose l = 3 * max (size-Expr l.c.now) (max (size-Expr l.a.now) (size-Expr l.b.now)) + 2
 
 abbrev pub decreases-or_else : goal.decreases-or_else
-decreases-or_else l = 3 * max (size-Expr l.a.now) (size-Expr l.b.now) + 1
+decreases-or_else l = 3 * max (size-Expr l.a.now) (size-Expr l.b.now) + 2
 
 abbrev pub decreases-and_also : goal.decreases-and_also
-decreases-and_also l = 3 * max (size-Expr l.a.now) (size-Expr l.b.now) + 1
+decreases-and_also l = 3 * max (size-Expr l.a.now) (size-Expr l.b.now) + 2
 
 abbrev pub decreases-operate : goal.decreases-operate
-decreases-operate l = 3 * max (size-Expr l.a.now) (size-Expr l.b.now) + 1
+decreases-operate l = 3 * max (size-Expr l.a.now) (size-Expr l.b.now) + 2
 
 abbrev pub decreases-is_and_in : goal.decreases-is_and_in
-decreases-is_and_in l = 3 * max (size-Expr l.a.now) (size-Expr l.b.now) + 1
+decreases-is_and_in l = 3 * max (size-Expr l.a.now) (size-Expr l.b.now) + 2
 
 abbrev pub decreases-has_names : goal.decreases-has_names
-decreases-has_names l = 3 * size-Expr l.a.now + 1
+decreases-has_names l = 3 * size-Expr l.a.now + 2
 
 abbrev pub decreases-like : goal.decreases-like
-decreases-like l = 3 * size-Expr l.a.now + 1
+decreases-like l = 3 * size-Expr l.a.now + 2
 
 abbrev pub decreases-is : goal.decreases-is
-decreases-is l = 3 * size-Expr l.a.now + 1
+decreases-is l = 3 * size-Expr l.a.now + 2
 
 abbrev pub decreases-apply : goal.decreases-apply
-decreases-apply l = 3 * size-Expr l.a.now + 1
+decreases-apply l = 3 * size-Expr l.a.now + 2
 
 abbrev pub decreases-read : goal.decreases-read
-decreases-read l = 3 * size-Expr l.a.now + 1
+decreases-read l = 3 * size-Expr l.a.now + 2
 
 abbrev pub decreases-make_set : goal.decreases-make_set
 decreases-make_set l = 3 * goal.size-make_set l + 2
