@@ -8,7 +8,7 @@ use sc_lists::{Boxed, Seq, Text};
 use std::alloc::{AllocError, Global};
 
 /// What an object is known to have.
-#[derive(Debug, PartialEq, Eq, Drop)]
+#[derive(PartialEq, Eq, Drop)]
 pub enum Key {
     /// An attribute.
     Attribute(Text),
@@ -18,7 +18,7 @@ pub enum Key {
 
 /// That an object has an attribute or a tag wherever an expression is evaluated. All places in it are
 /// 0.
-#[derive(Debug, PartialEq, Eq, Drop)]
+#[derive(PartialEq, Eq, Drop)]
 pub struct Capability {
     /// The expression of the object.
     pub object: Expr,
@@ -98,8 +98,9 @@ pub fn common(
 {
     let mut kept = Seq::new(alloc);
     for capability in first.into_vec() {
-        if is_known(second, &capability) {
-            kept.push(capability)?;
+        let one = Boxed::new(alloc, capability)?;
+        if is_known(second, one.get()) {
+            kept.push(one.into_inner())?;
         }
     }
     Ok(kept)

@@ -4,7 +4,7 @@ use sc_lists::Fault;
 use thiserror::Error;
 
 /// The rule of typing that an expression breaks, in the order of the rules.
-#[derive(Clone, Copy, Debug, PartialEq, Eq, PartialOrd, Ord)]
+#[derive(Clone, Copy, Debug, PartialEq, Eq)]
 pub enum TypeRule {
     /// An operand isn't of a Boolean type.
     NotBoolean,

@@ -7,9 +7,10 @@ use sc_ast::{BinaryOperator, Expr, Literal, Place, TypeName, UnaryOperator, Vari
 use sc_lists::{Boxed, Seq, Text};
 use sc_pattern::Pattern;
 use sc_schema::Ty;
+use std::fmt;
 
 /// A name after `has`.
-#[derive(Debug, Drop)]
+#[derive(Drop)]
 pub struct HasStep {
     /// The name.
     pub name: Text,
@@ -21,7 +22,7 @@ pub struct HasStep {
 
 /// An expression with its type, as the expression that it was made of but for the types. `action` is
 /// a literal.
-#[derive(Debug, Drop)]
+#[derive(Drop)]
 pub enum TypedExpr {
     /// `if c then a else b`. Where c is true or false, the other branch is skipped.
     If(Place, Ty, Boxed<TypedExpr>, Boxed<TypedExpr>, Boxed<TypedExpr>),
@@ -54,6 +55,15 @@ pub enum TypedExpr {
     Record(Place, Ty, Seq<(Text, TypedExpr)>),
     /// An expression that is never evaluated, and has no type.
     Skipped(Expr),
+}
+
+/// An expression may be as long as a policy, so it is told by its place.
+impl fmt::Debug for TypedExpr {
+    fn fmt<W: fmt::Write>(&self, f: &mut fmt::Formatter<W>) -> fmt::Result {
+        f.debug_struct("TypedExpr")
+            .field("place", &place_of(self))
+            .finish()
+    }
 }
 
 /// The type of an expression. None exactly where the expression is skipped.
