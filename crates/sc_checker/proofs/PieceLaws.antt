@@ -81,12 +81,6 @@ pub some_ended : (bytes : List ℕ) (place : ℕ) → place < length bytes → (
 some_ended bytes place h (inl none) = absurd (omega (arith, none))
 some_ended bytes place h (inr ended) = ended
 
-pub nothing_left : (bytes : List ℕ) (place : ℕ) → length bytes ≤ place → drop place bytes ≡ []
-nothing_left [] zero h = refl
-nothing_left [] (suc place) h = refl
-nothing_left (b ∷ bytes) zero h = absurd (omega arith)
-nothing_left (b ∷ bytes) (suc place) h = nothing_left bytes place (omega arith)
-
 -- the front of bytes up to a place
 pub front_ended : (bytes front : List ℕ) (n : ℕ) → front ≡ take n bytes → length front ≡ n → (n ≡ 0) ⊎ (ends_line (take n bytes) ≡ true) → (length front ≡ 0) ⊎ (ends_line front ≡ true)
 front_ended bytes front n is long (inl none) = inl (long ∙ none)

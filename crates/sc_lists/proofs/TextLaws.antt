@@ -1,6 +1,7 @@
 -- Texts that are the same byte by byte, and the bytes that pass a test from the front on.
-use Rattle.std.proofs.Common.{◌≡◌, ◌≢◌, ◌≤◌, ℕ, List, [], ◌∷◌, length, take, drop, Bool, true, false, cond, refl, sym, ◌∙◌, arith, ◌<◌, get_or, append-nil, inl, inr}
+use Rattle.std.proofs.Common.{◌≡◌, ◌≢◌, ◌≤◌, ◌-◌, ℕ, List, Option, Some, ap, [], ◌∷◌, length, take, drop, Bool, true, false, cond, refl, sym, ◌∙◌, arith, ◌<◌, get_or, append-nil, inl, inr}
 use Rattle.std.specs.Cmp.{both_ways}
+use Rattle.std.specs.Prelude.{slice_get, unwrap_or}
 use Rattle.std.specs.List.{list_all, take_while}
 use Rattle.std.specs.Str.{bytes_eq}
 use Rattle.std.proofs.lemmas.List.Folds.{length-prefix_len}
@@ -24,6 +25,11 @@ bytes_eq_false a b differ = by (bytes_eq a b) refl where
   by : (t : Bool) → bytes_eq a b ≡ t → bytes_eq a b ≡ false
   by true e = absurd (differ (bytes_eq_true a b e))
   by false e = e
+
+-- where the last bytes differ, so do the lists
+pub ends_apart : (a b : List ℕ) (x y : ℕ) → slice_get a (length a - 1) ≡ Some x → slice_get b (length b - 1) ≡ Some y → x ≢ y → bytes_eq a b ≡ false
+ends_apart a b x y in_a in_b differ =
+    bytes_eq_false a b (λ same. differ (ap (λ (o : Option ℕ). unwrap_or o 0) (sym in_a ∙ ap (λ (zs : List ℕ). slice_get zs (length zs - 1)) same ∙ in_b)))
 
 pub take_while_passes : (p : ℕ → Bool) (cs : List ℕ) → list_all p (take_while p cs) ≡ true
 take_while_passes p [] = refl

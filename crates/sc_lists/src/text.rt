@@ -5,6 +5,7 @@ ghost use Rattle.std.specs.Ordering.{nat_cmp};
 ghost use Rattle.std.specs.Cmp.Lexicographic.{slice_cmp};
 ghost use Rattle.std.specs.Str.{bytes_eq};
 
+use crate::equality::same_bytes;
 use std::alloc::{AllocError, Global};
 use std::cmp::Ordering;
 use std::marker::Model;
@@ -62,7 +63,7 @@ impl Text {
     pub fn is_same(&self, other: &Text) -> bool
         ensures { result ≡ bytes_eq self.now other.now }
     {
-        self.as_str() == other.as_str()
+        same_bytes(self.as_str().as_bytes(), other.as_str().as_bytes())
     }
 
     /// A copy, which equals the text and shares its bytes.

@@ -2,7 +2,7 @@
 use Rattle.std.proofs.Common.{◌≡◌, ◌+◌, ◌<◌, ◌≤◌, ℕ, zero, suc, List, [], ◌∷◌, ◌++◌, map, drop, get_or, length, Bool, true, false, not, cond, ◌&&◌, ◌==◌, Option, Some, None, refl, sym, ap, ◌∙◌, append-nil, arith}
 use Rattle.std.specs.List.{list_all}
 use Rattle.std.specs.Option.{option_to_list}
-use Rattle.std.proofs.lemmas.List.{drop_more}
+use Rattle.std.proofs.lemmas.List.{drop_all, drop_more}
 use Rattle.std.proofs.lemmas.Bool.{eq-eqb, eqb-true, ne_eqb, not-true, true≢false}
 use Rattle.sc_laws.proofs.BoolLaws.{not_false}
 use Rattle.sc_clauses.specs.declared.lit.Lit.{Lit}
@@ -49,12 +49,6 @@ other_code found code = other_by found code (found == 0) refl
 
 pub lits_go : (codes : List ℕ) (i : ℕ) → i < length codes → map lit_of (drop i codes) ≡ lit_of (get_or codes i 0) ∷ map lit_of (drop (i + 1) codes)
 lits_go codes i h = ap (map lit_of) (drop_more codes i 0 h)
-
-none_past : (codes : List ℕ) (i : ℕ) → length codes ≤ i → drop i codes ≡ []
-none_past [] zero h = refl
-none_past [] (suc i) h = refl
-none_past (code ∷ codes) zero h = absurd (omega arith)
-none_past (code ∷ codes) (suc i) h = none_past codes i (omega arith)
 
 -- what is left from a place on, where the literal there is false or not
 left_at : (known : LitSet) (codes : List ℕ) (i : ℕ) (t : Bool) → i < length codes → known (negation (lit_of (get_or codes i 0))) ≡ t
@@ -104,4 +98,4 @@ none_left known found c w e is =
 
 pub left_past : (known : LitSet) (codes : List ℕ) (i : ℕ) (found : Option Lit) (w : Residual) → length codes ≤ i
     → residual (option_to_list found ++ open_lits known (map lit_of (drop i codes))) ≡ w → residual (option_to_list found) ≡ w
-left_past known codes i found w h is = none_left known found (map lit_of (drop i codes)) w (ap (map lit_of) (none_past codes i h)) is
+left_past known codes i found w h is = none_left known found (map lit_of (drop i codes)) w (ap (map lit_of) (drop_all i codes h)) is
