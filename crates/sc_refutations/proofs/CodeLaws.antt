@@ -1,5 +1,5 @@
 -- Laws of the numbers of literals.
-use Rattle.std.proofs.Common.{◌≡◌, ◌+◌, ◌-◌, ◌*◌, ◌/◌, ◌%◌, ◌<◌, ◌≤◌, ◌==◌, ◌⊎◌, inl, inr, ℕ, Bool, true, false, not, cond, nat_lt, nat_le, refl, sym, ap, ◌∙◌, arith}
+use Rattle.std.proofs.Common.{◌≡◌, ◌+◌, ◌*◌, ◌/◌, ◌%◌, ◌<◌, ◌≤◌, ◌==◌, ◌⊎◌, inl, inr, ℕ, Bool, true, false, not, cond, nat_lt, nat_le, refl, sym, ap, ◌∙◌, arith}
 use Rattle.std.proofs.lemmas.Bool.{and_parts, and_from, and_left, and_right, eq-eqb, eqb-true, ne_eqb, leb-true, le-leb, lt-leb, ltb-true, ltb-false, true≢false}
 use Rattle.sc_clauses.specs.declared.lit.Lit.{Lit}
 use Rattle.sc_clauses.specs.Clauses.{negation}
@@ -51,17 +51,11 @@ code_some code e = ne_eqb code 0 (λ (q : code ≡ 0). let more : 0 < code / 2 =
 negation_at : (code : ℕ) (t : Bool) → (code % 2 == 1) ≡ t → code_of (negation (lit_of code)) ≡ cond (not t) (code / 2 * 2 + 1) (code / 2 * 2)
 negation_at code t e = ap (λ (b : Bool). cond (not b) (code / 2 * 2 + 1) (code / 2 * 2)) e
 
-before_odd : (code : ℕ) → code % 2 ≡ 1 → code - 1 ≡ code / 2 * 2
-before_odd code odd = omega (arith, odd)
+pub odd_negation : (code : ℕ) → code % 2 ≡ 1 → code / 2 * 2 ≡ code_of (negation (lit_of code))
+odd_negation code odd = sym (negation_at code true (eq-eqb (code % 2) 1 odd))
 
-after_even : (code : ℕ) → (code % 2 ≡ 1 → ⊥) → code + 1 ≡ code / 2 * 2 + 1
-after_even code even = omega (arith, even)
-
-pub odd_negation : (code : ℕ) → code % 2 ≡ 1 → code - 1 ≡ code_of (negation (lit_of code))
-odd_negation code odd = before_odd code odd ∙ sym (negation_at code true (eq-eqb (code % 2) 1 odd))
-
-pub even_negation : (code : ℕ) → (code % 2 ≡ 1 → ⊥) → code + 1 ≡ code_of (negation (lit_of code))
-even_negation code even = after_even code even ∙ sym (negation_at code false (ne_eqb (code % 2) 1 even))
+pub even_negation : (code : ℕ) → (code % 2 ≡ 1 → ⊥) → code / 2 * 2 + 1 ≡ code_of (negation (lit_of code))
+even_negation code even = sym (negation_at code false (ne_eqb (code % 2) 1 even))
 
 -- ---- marks
 

@@ -42,5 +42,6 @@ pub fn lit_of(code: u32) -> Lit
 pub(crate) fn negation_of(code: u32) -> u32
     ensures { result ≡ code_of (negation (lit_of code)) }
 {
-    if code % 2 == 1 { code - 1 } else { code + 1 }
+    let even = code / 2 * 2;
+    if code % 2 == 1 { even } else { even + 1 }
 }

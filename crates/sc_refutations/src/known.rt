@@ -73,9 +73,12 @@ impl Known {
         ensures code { result ≡ code_of lit }
         ensures within { result < length self.now.marks.items }
     {
-        let _bound = self.marks.len();
-        let even = lit.atom as usize * 2;
-        if lit.negated { even + 1 } else { even }
+        let even = lit.atom as u32 * 2;
+        if lit.negated {
+            (even + 1) as usize
+        } else {
+            even as usize
+        }
     }
 
     /// Whether the literal of a number is of a listed atom.
