@@ -11,8 +11,7 @@ use Rattle.sc_terms.specs.Order.{tree_eq}
 use Rattle.sc_terms.specs.Trees.{Tree, one}
 use Rattle.sc_terms.proofs.OrderLaws.{tree_eq-exact, tree_eq-itself}
 use Rattle.sc_rules.specs.Signed.{Signed, so}
-use Rattle.sc_rules.specs.Strings.{Pattern, Signs, HasSign, HasSigns, other_sign, other_signs, some_equal, crowd}
-use Rattle.sc_string_rows.specs.Patterns.{asked_of}
+use Rattle.sc_rules.specs.Strings.{Pattern, Signs, HasSign, HasSigns, other_sign, other_signs, some_equal, crowd, asked_of}
 
 -- ---- a sign that is asked of a pattern
 

@@ -15,8 +15,8 @@ use Rattle.sc_pattern.specs.declared.part.Part.TheVariants as part
 use Rattle.sc_term_laws.proofs.MemberLaws.{any_found}
 use Rattle.sc_terms.specs.Trees.{Tree}
 use Rattle.sc_footprint.specs.Problems.{Posed, closed_terms}
-use Rattle.sc_rules.specs.Strings.{Pattern}
-use Rattle.sc_string_rows.specs.Patterns.{asked_of, with_new, with_asked, patterns}
+use Rattle.sc_rules.specs.Strings.{Pattern, asked_of}
+use Rattle.sc_string_rows.specs.Patterns.{with_new, with_asked, patterns}
 
 -- ---- what the comparison of patterns says is one is one
 

@@ -21,8 +21,8 @@ pub use literals::{
     FALSE, NOWHERE, TRUE, common, equal, literal_if, member, negated_if, present, subset,
 };
 pub use parts::{
-    above, attributes, closed_at, entity, field_count, is_one_sort, is_sort_named, is_sort_option,
-    is_sort_set, keys, members,
+    above, asked_at, attributes, closed_at, entity, field_count, is_one_sort, is_sort_named,
+    is_sort_option, is_sort_set, keys, members,
 };
 pub use rule::{EntityRule, EqualRule, SetRule};
 pub use saying::{Saying, clause_of, is_falsified, is_instance};

@@ -1,10 +1,12 @@
 //! The terms that rules speak of, by their numbers in the table, found without memory.
 ghost use Rattle.std.specs.Prelude.{◌≡◌, ◌<◌, ◌+◌, Some, length, find, map, option_map, IfSome};
 ghost use Rattle.std.specs.List.{AllByRecursion};
+ghost use Rattle.std.specs.Option.{option_copied};
 ghost use Rattle.sc_footprint.specs.Problems.{closed_terms, numbered, term_of};
 ghost use Rattle.sc_terms.specs.Tables.{tree};
 ghost use Rattle.sc_instances.specs.Attributes.{attributes_of, is_entity_literal};
 ghost use Rattle.sc_instances.specs.Lookups.{IsClosedFound, IsFoundAmong, IsMembers, IsNumberAmong, is_above as above_test};
+ghost use Rattle.sc_rules.specs.Strings.{asked_of};
 ghost use Rattle.sc_rules.specs.Entities.{are_attributes_of as attributes_test};
 ghost use Rattle.sc_rules.specs.Terms as term;
 
@@ -12,6 +14,7 @@ use sc_footprint::{Kind, Problem};
 use sc_lists::Text;
 use sc_names::Uid;
 use sc_nodes::{Leaf, Literal, ManyOp, Node, UnaryOp};
+use sc_pattern::Pattern;
 use sc_sorts::Sort;
 
 // ---- sorts
@@ -197,4 +200,17 @@ pub fn entity(problem: &Problem<'_>, uid: &Uid) -> Option<u64>
         }
     }
     None
+}
+
+// ---- patterns
+
+/// The pattern of which a term asks whether a string matches it. None exactly of another term.
+pub fn asked_at<'a>(problem: &'a Problem<'_>, n: u64) -> Option<&'a Pattern>
+    requires { n < length problem.now.nodes }
+    ensures { option_copied result ≡ asked_of (tree problem.now.nodes n) }
+{
+    match problem.terms().node(n) {
+        Node::One(UnaryOp::Like(pattern), _) => Some(pattern),
+        _ => None,
+    }
 }

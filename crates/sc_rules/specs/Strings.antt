@@ -4,13 +4,19 @@ use Rattle.std.specs.List.{AllByRecursion, flat_map, list_all}
 use Rattle.sc_pattern.specs.declared.part.Part.{Part}
 use Rattle.sc_pattern.specs.Language.{IsMatch}
 use Rattle.sc_languages.specs.Strings.{IsText, AreDistinct}
-use Rattle.sc_terms.specs.Trees.{Tree}
+use Rattle.sc_nodes.specs.declared.node.UnaryOp.TheVariants.{Like}
+use Rattle.sc_terms.specs.Trees.{Tree, one}
 use Rattle.sc_terms.specs.Folds.{equal_term, like_term}
 use Rattle.sc_rules.specs.Signed.{Signed, Said, so, unless, given}
 use Rattle.sc_rules.specs.Terms.{is_string}
 
 abbrev pub Pattern : Type 0
 Pattern = List Part
+
+-- the pattern of which a term asks whether a string matches it
+abbrev pub asked_of : Tree → Option Pattern
+asked_of (one (Like q) t) = Some q
+asked_of _ = None
 
 -- a sign for each pattern: it matches, it doesn't, or it isn't asked
 abbrev pub Signs : Type 0

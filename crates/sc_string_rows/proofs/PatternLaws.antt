@@ -12,8 +12,8 @@ use Rattle.sc_terms.specs.Tables.{tree}
 use Rattle.sc_terms.specs.Trees.{Tree, one}
 use Rattle.sc_footprint.specs.Problems.{Posed, IsPosed, numbered, atom_number, literal, literal_in}
 use Rattle.sc_instances.proofs.LiteralLaws.{not_in_table, not_listed}
-use Rattle.sc_rules.specs.Strings.{Pattern}
-use Rattle.sc_string_rows.specs.Patterns.{asked_of, with_new, with_asked, patterns}
+use Rattle.sc_rules.specs.Strings.{Pattern, asked_of}
+use Rattle.sc_string_rows.specs.Patterns.{with_new, with_asked, patterns}
 
 -- ---- closed terms one after the other
 

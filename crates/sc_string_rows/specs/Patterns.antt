@@ -3,15 +3,9 @@
 use Rattle.std.specs.Prelude.{List, [], ◌∷◌, ◌++◌, Option, Some, None, if◌then◌else◌}
 use Rattle.std.specs.List.{list_any}
 use Rattle.sc_pattern.specs.contracts.pattern.PatternPartialEq.TheImpl.{ghosts as same}
-use Rattle.sc_nodes.specs.declared.node.UnaryOp.TheVariants as unary
-use Rattle.sc_terms.specs.Trees.{Tree, one}
+use Rattle.sc_terms.specs.Trees.{Tree}
 use Rattle.sc_footprint.specs.Problems.{Posed, closed_terms}
-use Rattle.sc_rules.specs.Strings.{Pattern}
-
--- the pattern that a term asks
-abbrev pub asked_of : Tree → Option Pattern
-asked_of (one (unary.Like q) t) = Some q
-asked_of _ = None
+use Rattle.sc_rules.specs.Strings.{Pattern, asked_of}
 
 -- a pattern comes after the others, if it is a new one
 abbrev pub with_new : List Pattern → Option Pattern → List Pattern

@@ -2,26 +2,13 @@
 ghost use Rattle.std.specs.Prelude.{◌≡◌, ◌<◌, length, IfOk, OnOk};
 ghost use Rattle.std.specs.List.{list_any};
 ghost use Rattle.std.specs.Option.{option_copied};
-ghost use Rattle.sc_terms.specs.Tables.{tree};
 ghost use Rattle.sc_pattern.specs.contracts.pattern.PatternPartialEq.TheImpl.{ghosts as same};
-ghost use Rattle.sc_string_rows.specs.Patterns.{asked_of, with_new, patterns as patterns_in};
+ghost use Rattle.sc_string_rows.specs.Patterns.{with_new, patterns as patterns_in};
 
 use sc_footprint::Problem;
-use sc_instances::closed_at;
-use sc_nodes::{Node, UnaryOp};
+use sc_instances::{asked_at, closed_at};
 use sc_pattern::Pattern;
 use std::alloc::{AllocError, Global};
-
-/// The pattern of which a term asks whether a string matches it. None exactly of another term.
-pub fn asked_at<'a>(problem: &'a Problem<'_>, n: u64) -> Option<&'a Pattern>
-    requires { n < length problem.now.nodes }
-    ensures { option_copied result ≡ asked_of (tree problem.now.nodes n) }
-{
-    match problem.terms().node(n) {
-        Node::One(UnaryOp::Like(pattern), _) => Some(pattern),
-        _ => None,
-    }
-}
 
 /// Whether a pattern is one of some.
 fn is_among(patterns: &[Pattern], pattern: &Pattern) -> bool

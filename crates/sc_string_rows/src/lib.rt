@@ -16,7 +16,7 @@ mod rule;
 mod said;
 mod writing;
 
-pub use asking::{asked_at, patterns};
+pub use asking::patterns;
 pub use clauses::{accepted, clause_of};
 pub use few::are_few;
 pub use laws::string_laws;
