@@ -12,7 +12,3 @@ mod logs;
 mod outside;
 #[cfg(test)]
 mod replays;
-#[cfg(test)]
-mod texts_of_logs;
-#[cfg(test)]
-mod words_of_commands;

@@ -40,43 +40,50 @@ fn fault_of(alloc: Global, text: &str) -> Option<u64> {
     }
 }
 
+/// Texts of logs.
+const LOGS: &[&str] = &[
+    "log 1\n",
+    "log 1\nt ST3 +.- 1 2\n",
+    "log 1\nt ST3 ...\nt ST3 . 0 -\n",
+    "log 1\nl 3 -12 3 0 1 999999999999999999 0\nl 0 10 0\nt EQ2 0 15\nt SE1\n",
+];
+
 #[test]
 fn what_is_read_is_written_the_same(rt: HostRuntime) -> Result<(), Fail> {
-    let alloc = rt.alloc();
-    for text in [
-        "log 1\n",
-        "log 1\nt ST3 +.- 1 2\n",
-        "log 1\nt ST3 ...\nt ST3 . 0 -\n",
-        "log 1\nl 3 -12 3 0 1 999999999999999999 0\nl 0 10 0\nt EQ2 0 15\nt SE1\n",
-    ] {
-        let is_kept = is_kept(alloc, text)?;
-        assert!(rt; is_kept, "{text}");
+    for &text in LOGS {
+        assert!(rt; is_kept(rt.alloc(), text)?, "{text}");
     }
     Ok(())
+}
+
+/// Whether this is the line of the first step of a log.
+fn has_first_line(alloc: Global, text: &str, line: &str) -> Result<bool, AllocError> {
+    Ok(first_line(alloc, text)?.as_str() == line)
 }
 
 #[test]
 fn a_step_is_written_as_its_line(rt: HostRuntime) -> Result<(), Fail> {
-    let line = first_line(rt.alloc(), "log 1\nt ST3 +.- 1 2\nl 0 1 0\n")?;
-    assert!(rt; line.as_str() == "t ST3 +.- 1 2");
+    let text = "log 1\nt ST3 +.- 1 2\nl 0 1 0\n";
+    assert!(rt; has_first_line(rt.alloc(), text, "t ST3 +.- 1 2")?);
     Ok(())
 }
 
+/// Texts that aren't those of logs, each with the line at fault.
+const MALFORMED: &[(&str, u64)] = &[
+    ("log 1\nt ST3 +,- 1\n", 1),
+    ("log 1\nt ST3 +.1\n", 1),
+    ("log 1\nt ST3 1.0\n", 1),
+    ("log 1\nt S.3 +\n", 1),
+    ("log 1\nt ST3 00\n", 1),
+    ("log 1\nt ST3 1000000000000000000\n", 1),
+    ("log 1\nl 0 1 0\nl . 0 1 0\n", 2),
+    ("log 1\nl 0 1 0 0\n", 1),
+    ("log 1\nl 0 1 0 \n", 1),
+];
+
 #[test]
-fn other_words_are_malformed(rt: HostRuntime) -> Result<(), Fail> {
-    let alloc = rt.alloc();
-    for (text, step) in [
-        ("log 1\nt ST3 +,- 1\n", 1),
-        ("log 1\nt ST3 +.1\n", 1),
-        ("log 1\nt ST3 1.0\n", 1),
-        ("log 1\nt S.3 +\n", 1),
-        ("log 1\nt ST3 00\n", 1),
-        ("log 1\nt ST3 1000000000000000000\n", 1),
-        ("log 1\nl 0 1 0\nl . 0 1 0\n", 2),
-        ("log 1\nl 0 1 0 0\n", 1),
-        ("log 1\nl 0 1 0 \n", 1),
-    ] {
-        assert!(rt; fault_of(alloc, text) == Some(step), "{text}");
+fn other_words_are_malformed(rt: HostRuntime) {
+    for &(text, step) in MALFORMED {
+        assert!(rt; fault_of(rt.alloc(), text) == Some(step), "{text}");
     }
-    Ok(())
 }
