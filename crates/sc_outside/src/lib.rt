@@ -11,12 +11,10 @@ mod memory;
 mod never_fails;
 mod started;
 mod system;
-#[cfg(test)]
-mod tests;
 mod traits;
 
 pub use faults::{FileFault, SinkFault};
 pub use memory::{MemFiles, MemSink};
 pub use never_fails::NeverFails;
-pub use system::{RealFiles, RealSink};
+pub use system::{RealFiles, RealSink, piece_of};
 pub use traits::{Files, Sink};

@@ -125,8 +125,9 @@ fn bytes_of<R: rt::Files>(
     Err(FileFault::Failed)
 }
 
-/// The next bytes of an open file, as many as one read gives. Room for them is made before.
-pub(crate) fn piece_of<F: Read>(file: &mut F, alloc: Global, max: u64) -> Result<Vec<u8>, FileFault>
+/// The next bytes of an open file, as many as one read gives and at most `max` of them. A read that is
+/// interrupted is tried again. Room for the bytes is made before.
+pub fn piece_of<F: Read>(file: &mut F, alloc: Global, max: u64) -> Result<Vec<u8>, FileFault>
     ensures within { IfOk result (λ piece. length piece.items ≤ max) }
     ensures never_long { result ≢ Err FileFault.TooLong }
 {

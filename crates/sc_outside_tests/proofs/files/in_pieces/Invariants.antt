@@ -1,5 +1,5 @@
 use Rattle.std.specs.Prelude.{IsSome}
-use Rattle.sc_outside.proofs.tests.in_pieces.Given as goal
+use Rattle.sc_outside_tests.proofs.files.in_pieces.Given as goal
 
 abbrev pub invariant-loop : goal.invariant-loop
 invariant-loop g l = IsSome (g.F.Files.left l.files)
