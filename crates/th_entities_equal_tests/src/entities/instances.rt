@@ -1,0 +1,344 @@
+//! Which instances a problem has, and what each of them says.
+//!
+//! An instance is written as `EN1: principal | other`: a rule, and the terms that it is applied to, or `nothing`
+//! where these are none. A row of an instance that a problem has goes on with `=>` and the instance's
+//! literals.
+
+use crate::entities::assignments::assignment;
+use crate::entities::goals::Asked;
+use crate::entities::names::{first_of, is_literal, number};
+use crate::entities::problems::{Rows, first_wrong};
+use sc_clauses::{Assignment, Instance, Lit, Word};
+use sc_footprint::{Problem, Theory};
+use sc_lists::{Seq, Text};
+use std::alloc::{AllocError, Global};
+use std::test::Fail;
+use th_entities::Entities;
+
+// ---- an instance
+
+/// The word of one sign.
+fn sign(alloc: Global) -> Result<Word, AllocError> {
+    let mut signs = Seq::new(alloc);
+    signs.push(Some(true))?;
+    Ok(Word::Signs(signs))
+}
+
+/// The word that is meant: `+` is a sign, and else it is a number. None where no term has this name.
+fn word(alloc: Global, problem: &Problem<'_>, name: &str) -> Result<Option<Word>, AllocError> {
+    if name == "+" {
+        return Ok(Some(sign(alloc)?));
+    }
+    match number(problem, name) {
+        Some(n) => Ok(Some(Word::Number(n))),
+        None => Ok(None),
+    }
+}
+
+/// The words that are meant. None where one of them is that of no term.
+fn words(
+    alloc: Global,
+    problem: &Problem<'_>,
+    names: &str,
+) -> Result<Option<Seq<Word>>, AllocError> {
+    let mut words = Seq::new(alloc);
+    for name in names.split(" | ") {
+        match word(alloc, problem, name)? {
+            Some(word) => words.push(word)?,
+            None => return Ok(None),
+        }
+    }
+    Ok(Some(words))
+}
+
+/// The same, where `nothing` is no word.
+fn listed(
+    alloc: Global,
+    problem: &Problem<'_>,
+    names: &str,
+) -> Result<Option<Seq<Word>>, AllocError> {
+    if names == "nothing" {
+        Ok(Some(Seq::new(alloc)))
+    } else {
+        words(alloc, problem, names)
+    }
+}
+
+fn instance_of(
+    alloc: Global,
+    problem: &Problem<'_>,
+    rule: &str,
+    names: &str,
+) -> Result<Option<Instance>, AllocError> {
+    match listed(alloc, problem, names)? {
+        Some(words) => {
+            let rule = Text::from_str(alloc, rule)?;
+            Ok(Some(Instance { rule, words }))
+        }
+        None => Ok(None),
+    }
+}
+
+/// The instance that is written. None where it isn't one, as a term has no such name.
+fn instance(
+    alloc: Global,
+    problem: &Problem<'_>,
+    written: &str,
+) -> Result<Option<Instance>, AllocError> {
+    match written.split_once(": ") {
+        Some((rule, names)) => instance_of(alloc, problem, rule, names),
+        None => Ok(None),
+    }
+}
+
+// ---- instances that are none
+
+fn refuses(alloc: Global, problem: &Problem<'_>, instance: &Instance) -> Result<bool, AllocError> {
+    Ok(!Entities.accepts(alloc, problem, instance)?)
+}
+
+/// Whether these are words, and the instance of a rule at them isn't one of the problem.
+pub(crate) fn is_refused(
+    alloc: Global,
+    problem: &Problem<'_>,
+    written: &str,
+) -> Result<bool, AllocError> {
+    match instance(alloc, problem, written)? {
+        Some(instance) => refuses(alloc, problem, &instance),
+        None => Ok(false),
+    }
+}
+
+const FORGED: &str = "# numbers of no closed term
+EN1: 0 | other
+EN1: principal | past
+EN4: past
+EN5: principal | resource | top | past
+EN6: 1000000000000000000
+EN8: past
+# terms of other sorts
+EN1: principal | context
+EN1: principal | resource
+EN2: key | ancestors of principal | ancestors of other
+EN2: resource | ancestors of principal | keys of other
+EN2: resource | ancestors of principal | ancestors of resource
+EN2: resource | resource | top
+EN2: resource | attributes of principal | attributes of other
+EN3: principal | other
+EN3: tag of principal | vip of other
+EN4: key
+EN5: principal | key | top | ancestors of resource
+EN6: keys of principal
+EN6: vip of principal
+EN7: principal | resource
+EN8: true
+# entities that are no actions
+EN7: ancestors of principal | resource
+EN8: principal
+# the ancestors of another entity
+EN5: principal | resource | top | ancestors of principal
+EN5: principal | top | resource | ancestors of resource
+EN5: principal | other | resource | ancestors of other
+# atoms that aren't listed: attributes of groups, users above users, and what is above the group
+EN1: resource | top
+EN4: principal
+EN4: top
+# what is always so: an entity equals itself, and what is above is above
+EN1: principal | principal
+EN2: resource | ancestors of principal | ancestors of principal
+EN3: tag of principal | tag of principal
+EN5: resource | resource | top | ancestors of resource
+EN5: principal | resource | resource | ancestors of resource
+# words too few, too many, or no numbers
+EN4: nothing
+EN4: resource | resource
+EN4: +
+EN1: principal
+EN1: principal | other | 0
+EN1: principal | +
+EN2: resource | ancestors of principal
+EN5: principal | resource | top
+EN5: principal | resource | top | ancestors of resource | 0
+EN6: tag of principal | 0
+# no rules on entities
+EN9: principal
+EN: principal | other
+en4: resource
+SE1: resource | top | ancestors of principal";
+
+const FORGED_OF_ACTIONS: &str = "# no action
+EN8: principal
+EN8: flag
+EN7: ancestors of view | principal
+EN7: ancestors of view | flag
+# no ancestors, or those of an action that isn't written
+EN7: view | all
+EN7: ancestors of choice | all
+# an action is one of the declared ones, and no other
+EN8: view
+EN8: all
+EN2: all | ancestors of all | ancestors of view
+# attributes that aren't asked for
+EN1: view | choice
+# what is above is above
+EN5: view | view | all | ancestors of view
+EN5: choice | view | view | ancestors of view
+# words too few or too many
+EN7: ancestors of view
+EN7: ancestors of view | all | 0
+EN8: choice | choice";
+
+// ---- instances
+
+/// Whether a clause has these literals, one after the other.
+fn are_literals(problem: &Problem<'_>, clause: &[Lit], facts: &str) -> bool {
+    let mut rest = Some(facts);
+    for literal in clause {
+        let Some(facts) = rest else {
+            return false;
+        };
+        let (fact, others) = first_of(facts, "; ");
+        if !is_literal(problem, *literal, fact) {
+            return false;
+        }
+        rest = others;
+    }
+    rest.is_none()
+}
+
+/// Whether an instance of this rule is told in an assignment.
+fn is_told(
+    alloc: Global,
+    problem: &Problem<'_>,
+    m: &Assignment,
+    rule: &str,
+) -> Result<bool, AllocError> {
+    match Entities.violated(alloc, problem, m)? {
+        Some(told) => Ok(told.rule.as_str() == rule),
+        None => Ok(false),
+    }
+}
+
+/// Whether an instance of this rule is told where just these literals are false.
+fn is_found(
+    alloc: Global,
+    problem: &Problem<'_>,
+    rule: &str,
+    facts: &str,
+) -> Result<bool, AllocError> {
+    let m = assignment(alloc, problem, facts, true)?;
+    is_told(alloc, problem, &m, rule)
+}
+
+/// Whether an instance is one of the problem, and has these literals.
+fn has_literals(
+    alloc: Global,
+    problem: &Problem<'_>,
+    instance: &Instance,
+    facts: &str,
+) -> Result<bool, AllocError> {
+    if !Entities.accepts(alloc, problem, instance)? {
+        return Ok(false);
+    }
+    let clause = Entities.clause(alloc, problem, instance)?;
+    Ok(are_literals(problem, clause.as_slice(), facts))
+}
+
+/// Whether an instance is one of the problem, has these literals, and is found where they are false.
+fn has_clause(
+    alloc: Global,
+    problem: &Problem<'_>,
+    instance: &Instance,
+    facts: &str,
+) -> Result<bool, AllocError> {
+    if !has_literals(alloc, problem, instance, facts)? {
+        return Ok(false);
+    }
+    is_found(alloc, problem, instance.rule.as_str(), facts)
+}
+
+/// The same of the instance that is written.
+fn is_instance(
+    alloc: Global,
+    problem: &Problem<'_>,
+    written: &str,
+    facts: &str,
+) -> Result<bool, AllocError> {
+    match instance(alloc, problem, written)? {
+        Some(instance) => has_clause(alloc, problem, &instance, facts),
+        None => Ok(false),
+    }
+}
+
+/// The same of a row.
+pub(crate) fn is_accepted(
+    alloc: Global,
+    problem: &Problem<'_>,
+    row: &str,
+) -> Result<bool, AllocError> {
+    match row.split_once(" => ") {
+        Some((written, facts)) => is_instance(alloc, problem, written, facts),
+        None => Ok(false),
+    }
+}
+
+const RIGHT: &str =
+    "EN1: principal | other => not principal = other; attributes of principal = attributes of other
+EN1: other | principal => not other = principal; attributes of other = attributes of principal
+EN2: resource | ancestors of principal | ancestors of other => not principal = other; not resource in ancestors of principal; resource in ancestors of other
+EN2: top | ancestors of other | ancestors of principal => not other = principal; not top in ancestors of other; top in ancestors of principal
+EN2: key | keys of principal | keys of other => not principal = other; not key in keys of principal; key in keys of other
+EN3: tag of principal | tag of other => not principal = other; not key = word; tag of principal = tag of other
+EN4: resource => not resource in ancestors of resource
+EN5: principal | resource | top | ancestors of resource => not resource in ancestors of principal; not top in ancestors of resource; top in ancestors of principal
+# a truth value is the default where it isn't so
+EN6: tag of principal => key in keys of principal; not tag of principal is so
+EN6: tag of other => word in keys of other; not tag of other is so";
+
+const RIGHT_OF_ACTIONS: &str =
+    "EN2: most | ancestors of view | ancestors of choice => not view = choice; not most in ancestors of view; most in ancestors of choice
+EN4: choice => not choice in ancestors of choice
+EN4: view => not view in ancestors of view
+EN5: choice | view | all | ancestors of view => not view in ancestors of choice; not all in ancestors of view; all in ancestors of choice
+EN5: view | most | all | ancestors of most => not most in ancestors of view; not all in ancestors of most; all in ancestors of view
+# declared ancestors are above, and nothing else is
+EN7: ancestors of view | all => all in ancestors of view
+EN7: ancestors of view | most => most in ancestors of view
+EN7: ancestors of most | all => all in ancestors of most
+EN7: ancestors of view | choice => not choice in ancestors of view; choice = all; choice = most
+EN7: ancestors of most | choice => not choice in ancestors of most; choice = all
+EN7: ancestors of all | choice => not choice in ancestors of all
+# a declared action is no other
+EN7: ancestors of most | view => not view in ancestors of most; not view = view
+# an action is one of the declared ones
+EN8: choice => choice = all; choice = most; choice = view";
+
+// ---- tests
+
+#[test]
+fn refused(rt: HostRuntime) -> Result<(), Fail> {
+    let wrong = first_wrong(rt.alloc(), Asked::Stored, Rows::Forged, FORGED)?;
+    assert!(rt; wrong.is_none(), "{wrong:?}");
+    Ok(())
+}
+
+#[test]
+fn refused_of_actions(rt: HostRuntime) -> Result<(), Fail> {
+    let wrong = first_wrong(rt.alloc(), Asked::Declared, Rows::Forged, FORGED_OF_ACTIONS)?;
+    assert!(rt; wrong.is_none(), "{wrong:?}");
+    Ok(())
+}
+
+#[test]
+fn accepted(rt: HostRuntime) -> Result<(), Fail> {
+    let wrong = first_wrong(rt.alloc(), Asked::Stored, Rows::Right, RIGHT)?;
+    assert!(rt; wrong.is_none(), "{wrong:?}");
+    Ok(())
+}
+
+#[test]
+fn accepted_of_actions(rt: HostRuntime) -> Result<(), Fail> {
+    let wrong = first_wrong(rt.alloc(), Asked::Declared, Rows::Right, RIGHT_OF_ACTIONS)?;
+    assert!(rt; wrong.is_none(), "{wrong:?}");
+    Ok(())
+}

@@ -1,0 +1,4 @@
+//! The theory of strings.
+mod instances;
+mod samples;
+mod violations;
