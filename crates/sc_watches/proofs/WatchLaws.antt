@@ -16,8 +16,8 @@ use Rattle.sc_watches.specs.declared.lists.Lists.{Lists}
 use Rattle.sc_watches.specs.declared.watches.Watch.{Watch}
 use Rattle.sc_watches.specs.declared.watches.Watches.{Watches}
 
-pub listed-too : (place : ℕ) (lit : Lit) (was : Option Watch) (o new : Lists) → IsListSet lit (places_of o lit ++ place ∷ []) o new → IsListedToo place lit was o new
-listed-too place lit was o new h = record {
+pub listed-too : (place : ℕ) (lit : Lit) (was : Option Watch) (o new : Lists) → ¬ IsWatched was lit → IsListSet lit (places_of o lit ++ place ∷ []) o new → IsListedToo place lit was o new
+listed-too place lit was o new apart h = record {
   sizes = h.sizes;
   kept = λ l i has.
       ⊎_elim
@@ -37,10 +37,11 @@ listed-too place lit was o new h = record {
       (λ (ne : l ≢ lit). inl (subst (λ (ps : List ℕ). Contains ps i) (h.elsewhere l ne) has))
       (lit-cases l lit);
   elsewhere = h.elsewhere;
+  same = λ w. absurd (apart w);
 }
 
 pub listed-already : (place : ℕ) (lit : Lit) (was : Option Watch) (o : Lists) → IsWatched was lit → IsListedToo place lit was o o
-listed-already place lit was o h = record { sizes = λ s. refl; kept = λ l i has. has; added = inr h; only = λ l i has. inl has; elsewhere = λ l ne. refl }
+listed-already place lit was o h = record { sizes = λ s. refl; kept = λ l i has. has; added = inr h; only = λ l i has. inl has; elsewhere = λ l ne. refl; same = λ w. refl }
 
 pub rewatched : (place : ℕ) (watch : Watch) (pairs : List (Option Watch)) (was : Option Watch) (o a : Lists) (new : Watches) → was ≡ watch_in pairs place → IsListedToo place watch.first (watch_in pairs place) o a → IsListedToo place watch.second was a new.lists
     → new.pairs.items ≡ set pairs place (Some watch) → IsRewatched place watch pairs o new
@@ -67,6 +68,24 @@ rewatched place watch pairs was o a new same h k is = record {
       (λ (e : i ≡ place). inr e)
       (k.only l i has);
   elsewhere = λ l no. k.elsewhere l (λ e. no (inr e)) ∙ h.elsewhere l (λ e. no (inl e));
+  same = λ l watched.
+      let in_second : places_of new.lists l ≡ places_of a l =
+      ⊎_elim
+      (λ (e : l ≡ watch.second).
+      let old : IsWatched was watch.second = subst (λ (p : Option Watch). IsWatched p watch.second) (sym same) (subst (λ (m : Lit). IsWatched (watch_in pairs place) m) e (watched (inr e))) in
+      subst (λ (m : Lit). places_of new.lists m ≡ places_of a m) (sym e) (k.same old))
+      (λ (ne : l ≢ watch.second). k.elsewhere l ne)
+      (lit-cases l watch.second)
+      in
+      let in_first : places_of a l ≡ places_of o l =
+      ⊎_elim
+      (λ (e : l ≡ watch.first).
+      let old : IsWatched (watch_in pairs place) watch.first = subst (λ (m : Lit). IsWatched (watch_in pairs place) m) e (watched (inl e)) in
+      subst (λ (m : Lit). places_of a m ≡ places_of o m) (sym e) (h.same old))
+      (λ (ne : l ≢ watch.first). h.elsewhere l ne)
+      (lit-cases l watch.first)
+      in
+      in_second ∙ in_first;
 }
 
 pub set-watch-here : (pairs : List (Option Watch)) (new : List (Option Watch)) (place : ℕ) (watch : Watch) → place < length pairs → new ≡ set pairs place (Some watch) → watch_in new place ≡ Some watch

@@ -31,6 +31,7 @@ pub record IsListedToo (place : ℕ) (lit : Lit) (was : Option Watch) (old new :
   pub added : Contains (places_of new lit) place ⊎ IsWatched was lit
   pub only : (l : Lit) (i : ℕ) → Contains (places_of new l) i → Contains (places_of old l) i ⊎ (i ≡ place)
   pub elsewhere : (l : Lit) → l ≢ lit → places_of new l ≡ places_of old l
+  pub same : IsWatched was lit → places_of new lit ≡ places_of old lit
 
 -- the clause at a place watches these, and is listed for them if it watched them before
 pub record IsRewatched (place : ℕ) (watch : Watch) (pairs : List (Option Watch)) (old : Lists) (new : Watches) : Type 0 where
@@ -40,6 +41,7 @@ pub record IsRewatched (place : ℕ) (watch : Watch) (pairs : List (Option Watch
   pub added : (l : Lit) → IsWatched (Some watch) l → Contains (places_of new.lists l) place ⊎ IsWatched (watch_in pairs place) l
   pub only : (l : Lit) (i : ℕ) → Contains (places_of new.lists l) i → Contains (places_of old l) i ⊎ (i ≡ place)
   pub elsewhere : (l : Lit) → ¬ IsWatched (Some watch) l → places_of new.lists l ≡ places_of old l
+  pub same : (l : Lit) → (IsWatched (Some watch) l → IsWatched (watch_in pairs place) l) → places_of new.lists l ≡ places_of old l
 
 -- one clause more, which watches these
 abbrev pub IsAdded : Option Watch → Watches → Watches → Type 0

@@ -1,3 +1,4 @@
+use Rattle.std.proofs.Common.{true≢false, sym, ◌∙◌}
 use Rattle.sc_watches.proofs.WatchLaws.{listed-already, listed-too}
 use Rattle.sc_watches.proofs.watches.Watches.list.Goals as goal
 use Rattle.sc_watches.specs.Watches.{watch_of}
@@ -10,4 +11,4 @@ returns-then-is_watched-clause-lists c =
 pub returns-clause-lists : goal.returns-clause-lists
 returns-clause-lists c =
     let w = c.args.self.now in
-    listed-too c.args.place c.args.lit (watch_of w c.args.place) w.lists c.list.new.self c.in_ok-list.ensures
+    listed-too c.args.place c.args.lit (watch_of w c.args.place) w.lists c.list.new.self (λ watched. true≢false (sym (c.is_watched.ensures.1 watched) ∙ c.if-is_watched.false)) c.in_ok-list.ensures
