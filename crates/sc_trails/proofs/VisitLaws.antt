@@ -13,15 +13,14 @@ use Rattle.sc_trails.proofs.CellLaws.{at-before, before-at, before-more, consist
 use Rattle.sc_watches.proofs.RemovedLaws.{removed-kept}
 use Rattle.sc_trails.proofs.ReadingLaws.{at-end, free-before}
 use Rattle.sc_trails.proofs.TrailLaws.{before-kept, decided-holds, free-set, implied-holds, trail-imply-to}
-use Rattle.sc_trails.proofs.WatchingLaws.{rewatched-here, rewatched-listed, rewatched-other, sifted-watching, two-open}
+use Rattle.sc_trails.proofs.WatchingLaws.{rewatched-here, rewatched-listed, rewatched-other, same-clause, sifted-watching, two-open}
 use Rattle.sc_watches.proofs.WatchLaws.{sifted-pairs}
 use Rattle.sc_watches.specs.Lists.{places_of}
 use Rattle.sc_trails.specs.Readings.{AreTwoOpen}
 use Rattle.sc_trails.specs.Steps.{At}
-use Rattle.sc_trails.specs.Trails.{Agree, HasPlace, HoldsTrail, InCells, IsReason, cell_of, free_count, set_before, true_before}
-use Rattle.sc_trails.specs.Rooms.{IsOpenPair}
-use Rattle.sc_trails.specs.Visits.{AreAlive, AreAliveBut, AreSeen, GoesOn, HasVisited, HasVisitedEach, IsSeen, IsSeenBy, IsWaiting, IsWellWatched, KeepsOthers, MovesOn}
-use Rattle.sc_trails.specs.Watching.{AreAliveAtLevels, AreAliveBy, AreOpen, IsAlive, IsWatching}
+use Rattle.sc_trails.specs.Trails.{Agree, HasPlace, HoldsTrail, InCells, IsReason, cell_of, free_count, true_before}
+use Rattle.sc_trails.specs.Visits.{AreAlive, AreAliveBut, AreSeen, GoesOn, HasVisited, HasVisitedEach, IsLate, IsSeen, IsSeenBy, IsWaiting, IsWellWatched, KeepsOthers, MayWatch, MovesOn}
+use Rattle.sc_trails.specs.Watching.{AreAliveAtLevels, AreAliveBy, IsAlive, IsWatching}
 use Rattle.sc_watches.specs.Watches.{IsRewatched, IsSifted, IsWatched, watch_in, watch_of}
 use Rattle.sc_trails.specs.declared.cell.Cell.{Cell}
 use Rattle.sc_trails.specs.declared.cell.Cell.TheVariants.{Free, Decided, Implied}
@@ -147,70 +146,88 @@ moves-nowhere n cs t w sound h = moves-trail n cs t t w sound h (goes-nowhere n 
 pub keeps-others : (t : Trail) (place : ℕ) (w : Watches) → KeepsOthers t place w w
 keeps-others t place w = record { pairs = λ i ne. refl; lists = λ l e. refl }
 
--- two literals of a clause that are open
-pub open-pair : (cells : List Cell) (p : ℕ) (c : Clause) (watch : Watch) → AreTwoOpen cells c watch → IsOpenPair cells p c watch
-open-pair cells p c watch both = record { first = both.0; second = both.1; neither_false = two-open cells p c watch both }
+-- two literals that are open
+pub open-may : (t : Trail) (was : Option Watch) (c : Clause) (watch : Watch) → AreTwoOpen t.cells.items c watch → MayWatch t was c watch
+open-may t was c watch both =
+    let cells = t.cells.items in
+    let p = length t.lits.items in
+    record {
+      first = both.0;
+      second = both.1;
+      alive = inr (two-open cells p c watch both);
+      at_levels = λ k lt. inr (two-open cells (get_or t.levels.items k 0) c watch both);
+      listed = λ l watched.
+          inl
+          (⊎_elim
+          (λ (e : l ≡ watch.first). subst (λ (m : Lit). true_before t.cells.items (length t.lits.items) (negation m) ≡ false) (sym e) (free-before cells p watch.first both.3))
+          (λ (e : l ≡ watch.second). subst (λ (m : Lit). true_before t.cells.items (length t.lits.items) (negation m) ≡ false) (sym e) (free-before cells p watch.second both.4))
+          watched);
+    }
 
--- one that is true and one that is open
-pub true-pair : (cells : List Cell) (p : ℕ) (c : Clause) (y l : Lit) → Contains c y → true_before cells p y ≡ true → Contains c l → cell_of cells l ≡ Free → IsOpenPair cells p c (record { first = y; second = l })
-true-pair cells p c y l cy is_true cl free = record {
-  first = cy;
-  second = cl;
-  neither_false = (
-    (λ (e : y ≡ l). true≢false (sym is_true ∙ ap (λ (x : Cell). set_before x p y.negated) (subst (λ (m : Lit). cell_of cells m ≡ Free) (sym e) free))),
-    consistent cells p y is_true,
-    free-before cells p l free,
-  );
-}
+-- one that is true, and one that was watched and wasn't false where a level begins
+pub true-may : (n : ℕ) (cs : List Clause) (t : Trail) (was : Option Watch) (c : Clause) (y l : Lit) → HoldsTrail n cs t → Contains c y → true_before t.cells.items (length t.lits.items) y ≡ true → Contains c l → IsWatched was l → IsLate t l → y ≢ l
+    → MayWatch t was c (record { first = y; second = l })
+true-may n cs t was c y l sound cy is_true cl watched late apart =
+    let not_false : true_before t.cells.items (length t.lits.items) (negation y) ≡ false = consistent t.cells.items (length t.lits.items) y is_true in
+    record {
+      first = cy;
+      second = cl;
+      alive = inl (y, cy, is_true);
+      at_levels = λ k lt.
+          let start = sound.are_levels.within k lt in
+          inr (apart, not-lower t.cells.items (get_or t.levels.items k 0) (length t.lits.items) (negation y) not_false (omega arith), late.at_levels k lt);
+      listed = λ m w.
+          ⊎_elim
+          (λ (e : m ≡ y). inl (subst (λ (x : Lit). true_before t.cells.items (length t.lits.items) (negation x) ≡ false) (sym e) not_false))
+          (λ (e : m ≡ l). inr (subst (λ (x : Lit). IsWatched was x) (sym e) watched))
+          w;
+    }
 
--- the clause at a place watches two literals that aren't false
+-- the clause at a place watches two other literals that keep it alive
 module _ (n : ℕ) (cs : List Clause) (t : Trail) (old new : Watches) (place : ℕ) (c : Clause) (watch : Watch) (sound : HoldsTrail n cs t) (h : IsWellWatched n cs t old)
-    (at : At cs place c) (both : IsOpenPair t.cells.items (length t.lits.items) c watch) (k : IsRewatched place watch old.pairs.items old.lists new) where
+    (at : At cs place c) (may : MayWatch t (watch_of old place) c watch) (k : IsRewatched place watch old.pairs.items old.lists new) where
   here : watch_of new place ≡ Some watch
-  here = rewatched-here n cs old.pairs.items old.lists new place watch c h.watching k at both.first both.second
+  here = rewatched-here n cs old.pairs.items old.lists new place watch c h.watching k at may.first may.second
 
   other : (i : ℕ) → i ≢ place → watch_of new i ≡ watch_of old i
-  other = rewatched-other n cs old.pairs.items old.lists new place watch c h.watching k at both.first both.second
+  other = rewatched-other n cs old.pairs.items old.lists new place watch c h.watching k at may.first may.second
 
-  open-at : (q : ℕ) → q ≤ length t.lits.items → AreOpen (true_before t.cells.items q) (watch_of new place)
-  open-at q le =
-      let p = length t.lits.items in
-      let neither = both.neither_false in
-      subst (λ (o : Option Watch). AreOpen (true_before t.cells.items q) o) (sym here)
-      (neither.0, not-lower t.cells.items q p (negation watch.first) neither.1 le, not-lower t.cells.items q p (negation watch.second) neither.2 le)
-
-  alive-or : (q i : ℕ) (d : Clause) → q ≤ length t.lits.items → (i ≢ place → IsAlive (true_before t.cells.items q) (watch_of old i) d) → IsAlive (true_before t.cells.items q) (watch_of new i) d
-  alive-or q i d le was =
+  alive-or : (q i : ℕ) (d : Clause) → At cs i d → IsAlive (true_before t.cells.items q) (Some watch) c → (i ≢ place → IsAlive (true_before t.cells.items q) (watch_of old i) d) → IsAlive (true_before t.cells.items q) (watch_of new i) d
+  alive-or q i d there mine was =
       ⊎_elim
-      (λ (e : i ≡ place). inr (subst (λ (j : ℕ). AreOpen (true_before t.cells.items q) (watch_of new j)) (sym e) (open-at q le)))
-      (λ (ne : i ≢ place). subst (λ (p : Option Watch). IsAlive (true_before t.cells.items q) p d) (sym (other i ne)) (was ne))
+      (λ (e : i ≡ place).
+      let same : c ≡ d = same-clause cs place c d at (subst (λ (j : ℕ). At cs j d) e there) in
+      subst (λ (j : ℕ). IsAlive (true_before t.cells.items q) (watch_of new j) d) (sym e)
+      (subst (λ (o : Option Watch). IsAlive (true_before t.cells.items q) o d) (sym here) (subst (λ (x : Clause). IsAlive (true_before t.cells.items q) (Some watch) x) same mine)))
+      (λ (ne : i ≢ place). subst (λ (o : Option Watch). IsAlive (true_before t.cells.items q) o d) (sym (other i ne)) (was ne))
       (cases_eq i place)
 
-  pub open-moves : MovesOn n cs t old t new
-  open-moves = record {
+  pub rewatched-moves : MovesOn n cs t old t new
+  rewatched-moves = record {
     goes_on = goes-nowhere n cs t sound;
     watched = record {
-      watching = rewatched-listed n cs old.pairs.items old.lists new place watch c h.watching k at both.first both.second;
-      alive = λ j lt i d there.
-          let start = sound.are_levels.within j lt in
-          alive-or (get_or t.levels.items j 0) i d (omega arith) (λ ne. h.alive j lt i d there);
+      watching = rewatched-listed n cs old.pairs.items old.lists new place watch c h.watching k at may.first may.second;
+      alive = λ j lt i d there. alive-or (get_or t.levels.items j 0) i d there (may.at_levels j lt) (λ ne. h.alive j lt i d there);
     };
     seen = λ p i d le there s.
         ⊎_elim
-        (λ (e : i ≡ place). inl (inr (subst (λ (j : ℕ). AreOpen (true_before t.cells.items (length t.lits.items)) (watch_of new j)) (sym e) (open-at (length t.lits.items) (omega arith)))))
+        (λ (e : i ≡ place). inl (alive-or (length t.lits.items) i d there may.alive (λ ne. absurd (ne e))))
         (λ (ne : i ≢ place). subst (λ (o : Option Watch). IsSeenBy t.cells.items t.lits.items p o d) (sym (other i ne)) s)
         (cases_eq i place);
   }
 
-  pub open-visited : HasVisited cs t new place false
-  open-visited = λ d there. inr (open-at (length t.lits.items) (omega arith))
+  pub rewatched-visited : HasVisited cs t new place false
+  rewatched-visited = λ d there. alive-or (length t.lits.items) place d there may.alive (λ ne. absurd (ne refl))
 
-  not-false : (l : Lit) → IsWatched (Some watch) l → true_before t.cells.items (length t.lits.items) (negation l) ≡ false
-  not-false l (inl e) = subst (λ (m : Lit). true_before t.cells.items (length t.lits.items) (negation m) ≡ false) (sym e) both.neither_false.1
-  not-false l (inr e) = subst (λ (m : Lit). true_before t.cells.items (length t.lits.items) (negation m) ≡ false) (sym e) both.neither_false.2
+  was-watched : (l : Lit) → true_before t.cells.items (length t.lits.items) (negation l) ≡ true → IsWatched (Some watch) l → IsWatched (watch_of old place) l
+  was-watched l e watched =
+      ⊎_elim
+      (λ (f : true_before t.cells.items (length t.lits.items) (negation l) ≡ false). absurd (true≢false (sym e ∙ f)))
+      (λ (was : IsWatched (watch_of old place) l). was)
+      (may.listed l watched)
 
-  pub open-others : KeepsOthers t place old new
-  open-others = record { pairs = other; lists = λ l e. k.elsewhere l (λ w. true≢false (sym e ∙ not-false l w)) }
+  pub rewatched-others : KeepsOthers t place old new
+  rewatched-others = record { pairs = other; lists = λ l e. k.same l (was-watched l e) }
 
 -- a literal that a clause gives is put at the end of the trail
 module _ (n : ℕ) (cs : List Clause) (old new : Trail) (l : Lit) (r : ℕ) (sound : HoldsTrail n cs old) (free : cell_of old.cells.items l ≡ Free) (in_range : InCells n l) (why : IsReason cs old.cells.items l (length old.lits.items) r)

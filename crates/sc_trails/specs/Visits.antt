@@ -1,6 +1,6 @@
 -- What propagation has visited, and what is still to be visited.
 use Rattle.std.specs.Prelude.{◌≡◌, ◌≢◌, ◌⊎◌, ◌+◌, ◌<◌, ◌≤◌, ⊤, ℕ, List, Bool, true, false, length, Option, Some, None}
-use Rattle.std.specs.List.{slice_index_or}
+use Rattle.std.specs.List.{Contains, slice_index_or}
 use Rattle.sc_clauses.specs.declared.lit.Lit.{Lit}
 use Rattle.sc_clauses.specs.Clauses.{Clause, negation}
 use Rattle.sc_trails.specs.declared.cell.Cell.{Cell}
@@ -55,6 +55,18 @@ AreAlive clauses t w = AreAliveBy (true_before t.cells.items (length t.lits.item
 pub record IsWellWatched (n : ℕ) (clauses : List Clause) (t : Trail) (w : Watches) : Type 0 where
   pub watching : IsWatching n clauses w
   pub alive : AreAliveAtLevels t.cells.items t.levels.items w.pairs.items clauses
+
+-- no level begins where the literal was false
+pub record IsLate (t : Trail) (l : Lit) : Type 0 where
+  pub at_levels : (k : ℕ) → k < length t.levels.items → true_before t.cells.items (slice_index_or t.levels.items k 0) (negation l) ≡ false
+
+-- Two literals of a clause that keep it alive, now and where each level begins. One of them that is false was watched before.
+pub record MayWatch (t : Trail) (was : Option Watch) (c : Clause) (w : Watch) : Type 0 where
+  pub first : Contains c w.first
+  pub second : Contains c w.second
+  pub alive : IsAlive (true_before t.cells.items (length t.lits.items)) (Some w) c
+  pub at_levels : (k : ℕ) → k < length t.levels.items → IsAlive (true_before t.cells.items (slice_index_or t.levels.items k 0)) (Some w) c
+  pub listed : (l : Lit) → IsWatched (Some w) l → (true_before t.cells.items (length t.lits.items) (negation l) ≡ false) ⊎ IsWatched was l
 
 -- The trail is as it was or longer: each literal more is of an atom that was free, and what was seen is seen.
 pub record GoesOn (n : ℕ) (clauses : List Clause) (old new : Trail) : Type 0 where

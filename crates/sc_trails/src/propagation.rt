@@ -5,8 +5,8 @@ ghost use Rattle.sc_clauses.specs.Clauses.{Clause};
 ghost use Rattle.sc_clauses.specs.declared.lit.Lit.{Lit};
 ghost use Rattle.sc_trails.specs.Readings.{HasStatus, IsOpen};
 ghost use Rattle.sc_trails.specs.Steps.{At};
-ghost use Rattle.sc_trails.specs.Trails.{Agree, HoldsTrail, AllInCells, AreInCells, true_before};
-ghost use Rattle.sc_trails.specs.Visits.{AreAliveBut, AreSeen, AreSeenBut, HasFollowed, HasPropagated, HasVisited, HasVisitedEach, IsWellWatched, KeepsOthers, MovesOn};
+ghost use Rattle.sc_trails.specs.Trails.{Agree, AreLevels, HoldsTrail, AllInCells, AreInCells, true_before};
+ghost use Rattle.sc_trails.specs.Visits.{AreAliveBut, AreSeen, AreSeenBut, HasFollowed, HasPropagated, HasVisited, HasVisitedEach, IsLate, IsWellWatched, KeepsOthers, MovesOn};
 ghost use Rattle.sc_watches.specs.Watches.{IsWatched, watch_of};
 
 use crate::cell::Truth;
@@ -120,11 +120,29 @@ impl Trail {
         }
     }
 
-    /// A literal that the clause at a place watches and that is open.
-    fn open_watched(&self, watches: &Watches, place: usize) -> Option<Lit>
+    /// Whether a literal was false at no level before the last one.
+    fn is_late(&self, lit: Lit) -> bool
+        requires in_cells { lit.atom < length self.now.cells.items }
+        requires levels { AreLevels self.now.cells.items self.now.levels.items (length self.now.lits.items) }
+        ensures { IsTrue result → IsLate self.now lit }
+    {
+        if self.levels.is_empty() {
+            return true;
+        }
+        let first = self.level_start();
+        if self.is_true_before(negation(lit), first) {
+            return false;
+        }
+        true
+    }
+
+    /// A literal that the clause at a place watches and may watch beside one that is true: one that is open, if it's the
+    /// first, or else one that was false at no level before the last.
+    fn kept_watched(&self, watches: &Watches, place: usize) -> Option<Lit>
         requires agree { Agree self.now.cells.items self.now.lits.items }
+        requires levels { AreLevels self.now.cells.items self.now.levels.items (length self.now.lits.items) }
         requires in_cells { (l : Lit) → IsWatched (watch_of watches.now place) l → l.atom < length self.now.cells.items }
-        ensures { IfSome result (λ l. IsWatched (watch_of watches.now place) l × IsOpen self.now.cells.items l) }
+        ensures { IfSome result (λ l. IsWatched (watch_of watches.now place) l × IsLate self.now l) }
     {
         let Some(watch) = watches.pair(place) else {
             return None;
@@ -132,14 +150,17 @@ impl Trail {
         if self.is_open(watch.first) {
             return Some(watch.first);
         }
-        if self.is_open(watch.second) {
+        if self.is_late(watch.second) {
             return Some(watch.second);
+        }
+        if self.is_late(watch.first) {
+            return Some(watch.first);
         }
         None
     }
 
-    /// Lets the clause at a place watch its literal that is true in place of one that it watched, if the other one is open:
-    /// so it isn't read again as long as that literal is true.
+    /// Lets the clause at a place watch its literal that is true in place of one that it watched, if the other one is open
+    /// or became false in the last level: so it isn't read again as long as that literal is true.
     fn watch_true(
         &self,
         clauses: &Clauses,
@@ -156,12 +177,15 @@ impl Trail {
             self.now watches.new) }
         ensures others { IfOk result (λ _. KeepsOthers self.now place watches.old watches.new) }
     {
-        let Some(open) = self.open_watched(watches, place) else {
+        let Some(kept) = self.kept_watched(watches, place) else {
             return Ok(());
         };
+        if is_same(lit, kept) {
+            return Ok(());
+        }
         let watch = Watch {
             first: lit,
-            second: open,
+            second: kept,
         };
         watches.watch(place, watch)?;
         Ok(())

@@ -1,4 +1,4 @@
-use Rattle.std.proofs.Common.{◌≡◌, ℕ, List, ◌∷◌, [], ◌++◌, length, get_or, subst, sym, ◌∙◌, map}
+use Rattle.std.proofs.Common.{◌≡◌, ℕ, List, ◌∷◌, length, get_or, subst, sym, ◌∙◌, map}
 use Rattle.std.proofs.lemmas.List.{get_or_default}
 use Rattle.sc_clauses.specs.Clauses.{negation}
 use Rattle.sc_clauses.specs.declared.lit.Lit.{Lit}

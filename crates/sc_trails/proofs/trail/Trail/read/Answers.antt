@@ -2,7 +2,7 @@ use Rattle.std.proofs.Common.{inl, ◌<◌, length, subst, arith}
 use Rattle.std.specs.List.{Contains}
 use Rattle.sc_clauses.specs.Clauses.{Clause}
 use Rattle.sc_trails.proofs.ReadingLaws.{reason-of}
-use Rattle.sc_trails.proofs.VisitLaws.{goes-implied, implied-alive, keeps-others, moves-nowhere, moves-trail, open-moves, open-others, open-pair, open-visited}
+use Rattle.sc_trails.proofs.VisitLaws.{goes-implied, implied-alive, keeps-others, moves-nowhere, moves-trail, open-may, rewatched-moves, rewatched-others, rewatched-visited}
 use Rattle.sc_trails.proofs.WatchingLaws.{same-clause}
 use Rattle.sc_trails.proofs.trail.Trail.read.Goals as goal
 use Rattle.sc_trails.specs.Readings.{AreTwoOpen, IsUnitAt}
@@ -49,24 +49,24 @@ returns-in_ok-watch-in-Open-clause-moves c =
     let t = c.args.self.now in
     let C = c.clause_at.result.now in
     let both : AreTwoOpen t.cells.items C c.in-Open.watch = c.in-Open.ensures in
-    open-moves _ c.args.clauses.now t c.args.watches.now c.watch.new.self c.args.place C c.in-Open.watch c.requires.trail c.requires.watched c.clause_at.ensures
-    (open-pair t.cells.items (length t.lits.items) C c.in-Open.watch both) c.in_ok-watch-in-Open.ensures
+    rewatched-moves _ c.args.clauses.now t c.args.watches.now c.watch.new.self c.args.place C c.in-Open.watch c.requires.trail c.requires.watched c.clause_at.ensures
+    (open-may t (watch_of c.args.watches.now c.args.place) C c.in-Open.watch both) c.in_ok-watch-in-Open.ensures
 
 pub returns-in_ok-watch-in-Open-clause-visited : goal.returns-in_ok-watch-in-Open-clause-visited
 returns-in_ok-watch-in-Open-clause-visited c =
     let t = c.args.self.now in
     let C = c.clause_at.result.now in
     let both : AreTwoOpen t.cells.items C c.in-Open.watch = c.in-Open.ensures in
-    open-visited _ c.args.clauses.now t c.args.watches.now c.watch.new.self c.args.place C c.in-Open.watch c.requires.trail c.requires.watched c.clause_at.ensures
-    (open-pair t.cells.items (length t.lits.items) C c.in-Open.watch both) c.in_ok-watch-in-Open.ensures
+    rewatched-visited _ c.args.clauses.now t c.args.watches.now c.watch.new.self c.args.place C c.in-Open.watch c.requires.trail c.requires.watched c.clause_at.ensures
+    (open-may t (watch_of c.args.watches.now c.args.place) C c.in-Open.watch both) c.in_ok-watch-in-Open.ensures
 
 pub returns-in_ok-watch-in-Open-clause-others : goal.returns-in_ok-watch-in-Open-clause-others
 returns-in_ok-watch-in-Open-clause-others c =
     let t = c.args.self.now in
     let C = c.clause_at.result.now in
     let both : AreTwoOpen t.cells.items C c.in-Open.watch = c.in-Open.ensures in
-    open-others _ c.args.clauses.now t c.args.watches.now c.watch.new.self c.args.place C c.in-Open.watch c.requires.trail c.requires.watched c.clause_at.ensures
-    (open-pair t.cells.items (length t.lits.items) C c.in-Open.watch both) c.in_ok-watch-in-Open.ensures
+    rewatched-others _ c.args.clauses.now t c.args.watches.now c.watch.new.self c.args.place C c.in-Open.watch c.requires.trail c.requires.watched c.clause_at.ensures
+    (open-may t (watch_of c.args.watches.now c.args.place) C c.in-Open.watch both) c.in_ok-watch-in-Open.ensures
 
 pub imply-requires : goal.imply-requires
 imply-requires c =

@@ -1,14 +1,21 @@
-use Rattle.std.proofs.Common.{◌<◌, length, arith}
-use Rattle.sc_trails.proofs.VisitLaws.{keeps-others, moves-nowhere, open-moves, open-others, true-pair}
+use Rattle.std.proofs.Common.{◌≡◌, ◌<◌, ◌∙◌, sym, true≢false, length, arith}
+use Rattle.sc_trails.proofs.VisitLaws.{keeps-others, moves-nowhere, rewatched-moves, rewatched-others, true-may}
 use Rattle.sc_trails.proofs.WatchingLaws.{watched-in-cells}
 use Rattle.sc_trails.proofs.trail.Trail.watch_true.Goals as goal
+use Rattle.sc_watches.specs.Watches.{watch_of}
 
-pub open_watched-requires-clause-in_cells : goal.open_watched-requires-clause-in_cells
-open_watched-requires-clause-in_cells c =
+pub kept_watched-requires-clause-in_cells : goal.kept_watched-requires-clause-in_cells
+kept_watched-requires-clause-in_cells c =
     watched-in-cells _ c.args.clauses.now c.args.watches.now c.args.place c.requires.in_cells c.requires.watched.watching c.requires.satisfied.1.0
 
 pub returns-in_default-clause-moves : goal.returns-in_default-clause-moves
 returns-in_default-clause-moves c = moves-nowhere _ c.args.clauses.now c.args.self.now c.args.watches.now c.requires.trail c.requires.watched
+
+pub returns-then-is_same-clause-moves : goal.returns-then-is_same-clause-moves
+returns-then-is_same-clause-moves c = moves-nowhere _ c.args.clauses.now c.args.self.now c.args.watches.now c.requires.trail c.requires.watched
+
+pub returns-then-is_same-clause-others : goal.returns-then-is_same-clause-others
+returns-then-is_same-clause-others c = keeps-others c.args.self.now c.args.place c.args.watches.now
 
 pub returns-in_default-clause-others : goal.returns-in_default-clause-others
 returns-in_default-clause-others c = keeps-others c.args.self.now c.args.place c.args.watches.now
@@ -29,7 +36,7 @@ watch-requires-clause-first c =
 pub watch-requires-clause-second : goal.watch-requires-clause-second
 watch-requires-clause-second c =
     let t = c.args.self.now in
-    let l = c.in-Some.open in
+    let l = c.in-Some.kept in
     let lt : l.atom < length t.cells.items =
     watched-in-cells _ c.args.clauses.now c.args.watches.now c.args.place c.requires.in_cells c.requires.watched.watching c.requires.satisfied.1.0 l c.in-Some.ensures.0 in
     λ sign. let e = c.requires.watched.watching.sized sign in omega arith
@@ -38,16 +45,18 @@ pub returns-clause-moves : goal.returns-clause-moves
 returns-clause-moves c =
     let t = c.args.self.now in
     let w = c.requires.satisfied in
-    let l = c.in-Some.open in
+    let l = c.in-Some.kept in
     let own = c.requires.watched.watching.members c.args.place w.0 l w.1 c.in-Some.ensures.0 in
-    open-moves _ c.args.clauses.now t c.args.watches.now c.watch.new.self c.args.place w.0 (record { first = c.args.lit; second = l }) c.requires.trail c.requires.watched w.1
-    (true-pair t.cells.items (length t.lits.items) w.0 c.args.lit l w.2 w.3 own c.in-Some.ensures.1) c.in_ok-watch.ensures
+    rewatched-moves _ c.args.clauses.now t c.args.watches.now c.watch.new.self c.args.place w.0 (record { first = c.args.lit; second = l }) c.requires.trail c.requires.watched w.1
+    (true-may _ c.args.clauses.now t (watch_of c.args.watches.now c.args.place) w.0 c.args.lit l c.requires.trail w.2 w.3 own c.in-Some.ensures.0 c.in-Some.ensures.1
+    (λ (e : c.args.lit ≡ l). true≢false (sym (c.is_same.ensures.1 e) ∙ c.if-is_same.false))) c.in_ok-watch.ensures
 
 pub returns-clause-others : goal.returns-clause-others
 returns-clause-others c =
     let t = c.args.self.now in
     let w = c.requires.satisfied in
-    let l = c.in-Some.open in
+    let l = c.in-Some.kept in
     let own = c.requires.watched.watching.members c.args.place w.0 l w.1 c.in-Some.ensures.0 in
-    open-others _ c.args.clauses.now t c.args.watches.now c.watch.new.self c.args.place w.0 (record { first = c.args.lit; second = l }) c.requires.trail c.requires.watched w.1
-    (true-pair t.cells.items (length t.lits.items) w.0 c.args.lit l w.2 w.3 own c.in-Some.ensures.1) c.in_ok-watch.ensures
+    rewatched-others _ c.args.clauses.now t c.args.watches.now c.watch.new.self c.args.place w.0 (record { first = c.args.lit; second = l }) c.requires.trail c.requires.watched w.1
+    (true-may _ c.args.clauses.now t (watch_of c.args.watches.now c.args.place) w.0 c.args.lit l c.requires.trail w.2 w.3 own c.in-Some.ensures.0 c.in-Some.ensures.1
+    (λ (e : c.args.lit ≡ l). true≢false (sym (c.is_same.ensures.1 e) ∙ c.if-is_same.false))) c.in_ok-watch.ensures
