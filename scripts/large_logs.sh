@@ -54,7 +54,12 @@ timed() {
     printf '%-8s %10d bytes %8.2f s  status %3d  %s\n' "$1" "$(wc -c <"$folder/$1.log")" "$seconds" "$status" "$(cat "$folder/out")"
 }
 
-timed read
-read_seconds=$seconds
-timed checked
-echo "$seconds $read_seconds" | awk '{ printf "checking took %.1f times as long as reading\n", $1 / $2 }'
+# by turns, since a machine's memory is faster at one time than at another; the least of each counts
+for turn in 1 2 3 4 5 6 7; do
+    timed read
+    echo "$seconds" >>"$folder/read.seconds"
+    timed checked
+    echo "$seconds" >>"$folder/checked.seconds"
+done
+least() { sort -n "$folder/$1.seconds" | head -n 1; }
+echo "$(least checked) $(least read)" | awk '{ printf "checking took %.1f times as long as reading (the least of seven runs each)\n", $1 / $2 }'
