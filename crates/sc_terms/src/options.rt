@@ -62,7 +62,9 @@ impl Terms {
         match self.absent(a) {
             Some(sort) => {
                 let sort = try_clone(alloc, sort)?;
-                self.default(&sort)
+                let outcome = self.default(&sort);
+                drop(sort);
+                outcome
             }
             None => self.add(Node::One(UnaryOp::Held, a)),
         }

@@ -117,20 +117,29 @@ impl Terms {
         ensures err { OnErr result (self.new ≡ self.old) }
     {
         match self.find(&node) {
-            Some(n) => Ok(n),
-            None => self.add_new(node),
+            Some(n) => {
+                drop(node);
+                Ok(n)
+            }
+            None => match self.node_sort(&node) {
+                Ok(sort) => self.add_new(node, sort),
+                Err(refused) => {
+                    drop(node);
+                    Err(refused)
+                }
+            },
         }
     }
 
-    fn add_new(&mut self, node: Node) -> Result<u64, AllocError>
+    fn add_new(&mut self, node: Node, sort: Sort) -> Result<u64, AllocError>
         requires parts { PartsAreBelow (length self.old) node }
         requires absent { list_any (node_equality.eq node) self.old ≡ false }
+        requires sorted { sort ≡ tree_sort (node_tree self.old node) }
         ensures ok { IfOk result (λ n. StandsFor self.new n (node_tree self.old node)) }
         ensures kept { Keeps self.old self.new }
         ensures grows { length self.new ≤ length self.old + 1 }
         ensures err { OnErr result (self.new ≡ self.old) }
     {
-        let sort = self.node_sort(&node)?;
         let n = put(&mut self.nodes, &mut self.sorts, node, sort)?;
         Ok(n)
     }
@@ -169,11 +178,16 @@ fn put(
     ensures err_beside { OnErr result (sorts.new.items ≡ sorts.old.items) }
 {
     let place = nodes.len() as u64;
-    sorts.push(sort)?;
-    match nodes.insert_full(node) {
-        Ok(_) => Ok(place),
+    match sorts.push(sort) {
+        Ok(()) => match nodes.insert_full(node) {
+            Ok(_) => Ok(place),
+            Err(refused) => {
+                let _ = sorts.pop();
+                Err(refused.into())
+            }
+        },
         Err(refused) => {
-            let _ = sorts.pop();
+            drop(node);
             Err(refused.into())
         }
     }

@@ -56,7 +56,8 @@ impl Terms {
         ensures { OnOk result (fields.new ≡ fields.old
             ++ (part.now.0, sorting.tree_sort (tree self.now part.now.1)) ∷ []) }
     {
+        let name = part.0.try_clone(self.alloc)?;
         let sort = try_clone(self.alloc, self.sort(part.1))?;
-        fields.push((part.0.try_clone(self.alloc)?, sort))
+        fields.push((name, sort))
     }
 }
