@@ -69,7 +69,7 @@ pub fn is_ident(text: &str) -> bool
 }
 
 /// An identifier, such as `owner` or `Shop`, by its text.
-#[derive(Debug, PartialEq, Eq, PartialOrd, Ord, Drop)]
+#[derive(Debug, PartialEq, Eq, Drop)]
 pub struct Ident {
     text: Text,
 }
