@@ -5,7 +5,7 @@ ghost use Rattle.sc_definitions.specs.Making.{count_by, shape_by};
 use crate::function::{Function, Shape};
 
 /// A row of the table of definitions. Numbers of terms come first, then places.
-#[derive(Clone, Copy, Debug)]
+#[derive(Clone, Copy)]
 pub(crate) enum Row {
     /// Nothing defines the term.
     Free,
