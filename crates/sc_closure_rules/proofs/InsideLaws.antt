@@ -40,7 +40,7 @@ places_later xs ys n count k e within sorted is =
 
 module _ (s0 s1 s2 s3 : List Node) (n : ℕ) (l0 l1 l2 l3 : List ℕ) (names : List (List ℕ)) (count : ℕ) (within : n < length s0)
     (named : names ≡ keys_of (fields_in (out-Sort (tree_sort (tree s0 n))))) (counts : count ≡ bit_count (tree_sort (tree s0 n)))
-    (p1 : Puts s0 s1 l0 l1 (map (λ (name : List ℕ). field_term name (tree s0 n)) names)) (p2 : Puts s1 s2 l1 l2 (held_terms (held_option (out-Sort (tree_sort (tree s0 n)))) (tree s1 n)))
+    (p1 : Puts s0 s1 l0 l1 (map (λ (name : List ℕ). field_term name (tree s0 n)) names)) (p2 : Puts s1 s2 l1 l2 (held_terms (held_option (out-Sort (tree_sort (tree s1 n)))) (tree s1 n)))
     (p3 : Puts s2 s3 l2 l3 (bit_terms count (tree s2 n))) where
   abbrev x : Tree
   x = tree s0 n
@@ -58,7 +58,7 @@ module _ (s0 s1 s2 s3 : List Node) (n : ℕ) (l0 l1 l2 l3 : List ℕ) (names : L
   fields_put = subst (λ (ns : List (List ℕ)). Puts s0 s1 l0 l1 (map (λ (name : List ℕ). field_term name x) ns)) named p1
 
   held_put : Puts s1 s2 l1 l2 (held_terms (held_option level) x)
-  held_put = subst (λ (t : Tree). Puts s1 s2 l1 l2 (held_terms (held_option level) t)) x1 p2
+  held_put = subst (λ (t : Tree). Puts s1 s2 l1 l2 (held_terms (held_option (out-Sort (tree_sort t))) t)) x1 p2
 
   bits_put : Puts s2 s3 l2 l3 (bit_terms (bits_in level) x)
   bits_put = subst (λ (c : ℕ). Puts s2 s3 l2 l3 (bit_terms c x)) counts (subst (λ (t : Tree). Puts s2 s3 l2 l3 (bit_terms count t)) x2 p3)

@@ -260,8 +260,8 @@ fn of_action(
         action.now))) }
     ensures kept { Keeps terms.old terms.new }
 {
-    let sort = try_clone(alloc, own)?;
     let entity = uid_number(alloc, terms, choices, action)?;
+    let sort = try_clone(alloc, own)?;
     let n = terms.ancestors(entity, sort)?;
     Ok(n)
 }
@@ -381,5 +381,8 @@ pub(crate) fn put_ancestors(
 {
     let own = own_sort(alloc, terms.node(n))?;
     let sort = try_clone(alloc, terms.sort(entity))?;
-    put_by_sort(alloc, schema, terms, &own, &sort, entity, numbers)
+    let outcome = put_by_sort(alloc, schema, terms, &own, &sort, entity, numbers);
+    drop(own);
+    drop(sort);
+    outcome
 }

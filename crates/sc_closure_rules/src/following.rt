@@ -215,9 +215,9 @@ fn put_bits(terms: &mut Terms, n: u64, count: u64, numbers: &mut Vec<u64>) -> Re
     Ok(())
 }
 
-/// Puts what tells an option, if a term is one.
+/// Puts what tells an option of a sort, if there is one.
 #[tactic(auto, using(sc_definitions::proofs::MakingLaws::puts_nothing))]
-fn put_held(
+fn put_option_if(
     terms: &mut Terms,
     n: u64,
     held: &Option<Sort>,
@@ -234,6 +234,24 @@ fn put_held(
     }
 }
 
+/// Puts what tells an option, if a term is one.
+fn put_held(
+    alloc: Global,
+    terms: &mut Terms,
+    n: u64,
+    numbers: &mut Vec<u64>,
+) -> Result<(), AllocError>
+    requires { n < length terms.old }
+    ensures ok { OnOk result (Puts terms.old terms.new numbers.old.items numbers.new.items (held_terms (held_option
+        (out-Sort (tree_sort (tree terms.old n)))) (tree terms.old n))) }
+    ensures kept { Keeps terms.old terms.new }
+{
+    let held = held_of(alloc, terms.sort(n))?;
+    let outcome = put_option_if(terms, n, &held, numbers);
+    drop(held);
+    outcome
+}
+
 /// Puts what tells a term's value, by its sort.
 fn put_inside(
     alloc: Global,
@@ -247,10 +265,9 @@ fn put_inside(
     ensures kept { Keeps terms.old terms.new }
 {
     let names = field_names(alloc, terms.sort(n))?;
-    let held = held_of(alloc, terms.sort(n))?;
     let count = bit_count(terms.sort(n));
     put_fields(alloc, terms, n, names.as_slice(), numbers)?;
-    put_held(terms, n, &held, numbers)?;
+    put_held(alloc, terms, n, numbers)?;
     put_bits(terms, n, count, numbers)?;
     Ok(())
 }
@@ -436,6 +453,19 @@ fn put_inclusions(
     Ok(())
 }
 
+/// The number of the equation of a term with the default of its sort.
+fn is_own_default(alloc: Global, terms: &mut Terms, n: u64) -> Result<u64, AllocError>
+    requires { n < length terms.old }
+    ensures ok { IfOk result (λ m. StandsFor terms.new m (equal_term (tree terms.old n) (default_term (tree_sort
+        (tree terms.old n))))) }
+    ensures kept { Keeps terms.old terms.new }
+{
+    let sort = try_clone(alloc, terms.sort(n))?;
+    let outcome = is_default(terms, n, &sort);
+    drop(sort);
+    outcome
+}
+
 /// Puts what goes with a tag: the keys, whether its key is one, and whether it is the default.
 #[tactic(auto, using(sc_definitions::proofs::MakingLaws::puts_three))]
 fn put_tag(
@@ -454,10 +484,9 @@ fn put_tag(
         ∷ equal_term (tree terms.old n) (default_term (tree_sort (tree terms.old n))) ∷ [])) }
     ensures kept { Keeps terms.old terms.new }
 {
-    let sort = try_clone(alloc, terms.sort(n))?;
     let keys = terms.keys(entity)?;
     let is_key = terms.member(key, keys)?;
-    let equation = is_default(terms, n, &sort)?;
+    let equation = is_own_default(alloc, terms, n)?;
     put_three(keys, is_key, equation, numbers)?;
     Ok(())
 }

@@ -5,4 +5,4 @@ use Rattle.sc_closure_rules.proofs.ancestors.put_ancestors.Goals as goal
 
 pub returns-clause-ok : goal.returns-clause-ok
 returns-clause-ok c =
-    on_ok_weaker c.put_by_sort.result (ancestors_put _ _ _ _ _ _ _ _ _ _ c.requires.is c.node.ensures.stands c.in_ok-own.ensures (c.in_ok-sort.ensures ∙ c.sort.ensures)) c.put_by_sort.ensures.ok
+    on_ok_weaker c.put_by_sort-outcome.result (ancestors_put _ _ _ _ _ _ _ _ _ _ c.requires.is c.node.ensures.stands c.in_ok-own.ensures (c.in_ok-sort.ensures ∙ c.sort.ensures)) c.put_by_sort-outcome.ensures.ok
