@@ -32,7 +32,7 @@ pub struct Action {
 }
 
 /// An environment: which requests are looked at together.
-#[derive(Debug, PartialEq, Eq, PartialOrd, Ord, Drop)]
+#[derive(Debug, PartialEq, Eq, Drop)]
 pub struct Env {
     /// The principal's type.
     pub principal: Name,

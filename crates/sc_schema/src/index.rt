@@ -152,11 +152,18 @@ fn put_principal(
     ensures { OnOk result (list.new ≡ list.old ++ map (environment action.now principal.now) action.now.resources) }
 {
     for resource in action.resources.as_slice() {
-        list.push(Env {
-            principal: principal.try_clone(alloc)?,
-            action: action.uid.try_clone(alloc)?,
-            resource: resource.try_clone(alloc)?,
-        })?;
+        list.push(env_of(alloc, principal, &action.uid, resource)?)?;
     }
     Ok(())
+}
+
+fn env_of(alloc: Global, principal: &Name, action: &Uid, resource: &Name) -> Result<Env, AllocError>
+    ensures { IfOk result (λ env. env
+        ≡ record { principal = principal.now; action = action.now; resource = resource.now }) }
+{
+    Ok(Env {
+        principal: principal.try_clone(alloc)?,
+        action: action.try_clone(alloc)?,
+        resource: resource.try_clone(alloc)?,
+    })
 }

@@ -6,7 +6,7 @@ use sc_names::Name;
 use std::alloc::{AllocError, Global};
 
 /// Whether each record of a type has a field.
-#[derive(Clone, Copy, Debug, PartialEq, Eq, PartialOrd, Ord)]
+#[derive(Clone, Copy, Debug, PartialEq, Eq)]
 pub enum Presence {
     /// Each one has it.
     Required,
@@ -19,7 +19,7 @@ pub enum Presence {
 pub type Attributes = Shared<Seq<(Text, Presence, Ty)>>;
 
 /// A type of values.
-#[derive(Debug, PartialEq, Eq, PartialOrd, Ord, Drop)]
+#[derive(Drop)]
 pub enum Ty {
     /// The truth value `true` alone.
     True,
