@@ -54,8 +54,9 @@ fn put_field(alloc: Global, field: &(Text, Sort), defaults: &mut Rec) -> Result<
     if is_option(&field.1) {
         return Ok(());
     }
+    let name = field.0.try_clone(alloc)?;
     let value = default_of(alloc, &field.1)?;
-    defaults.push((field.0.try_clone(alloc)?, value))
+    defaults.push((name, value))
 }
 
 fn is_option(sort: &Sort) -> bool

@@ -56,9 +56,10 @@ fn put_field(
 ) -> Result<(), AllocError>
     ensures { OnOk result (fields.new ≡ fields.old ++ field_sort attribute.now ∷ []) }
 {
+    let name = attribute.0.try_clone(alloc)?;
     let sort = sort_of(alloc, &attribute.2)?;
     let sort = present_as(alloc, attribute.1, sort)?;
-    fields.push((attribute.0.try_clone(alloc)?, sort))
+    fields.push((name, sort))
 }
 
 /// The sort itself, or options of it.

@@ -4,7 +4,7 @@ use sc_names::{Name, Uid};
 
 /// What the values of a term are. Sorts are ordered by their kinds, in this order, and then by
 /// what they are made of.
-#[derive(Debug, PartialEq, Eq, PartialOrd, Ord, Drop)]
+#[derive(PartialEq, Eq, PartialOrd, Ord, Drop)]
 pub enum Sort {
     /// Truth values.
     Bool,
