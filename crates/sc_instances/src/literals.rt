@@ -59,11 +59,13 @@ pub fn literal_if(problem: &Problem<'_>, term: Option<u64>) -> Lit
 }
 
 /// The number of the term of a node.
-fn find(problem: &Problem<'_>, node: &Node) -> Option<u64>
-    requires { PartsAreBelow (length problem.now.nodes) node.now }
-    ensures { IsFound problem.now.nodes (node_tree problem.now.nodes node.now) result }
+pub(crate) fn find(problem: &Problem<'_>, node: Node) -> Option<u64>
+    requires { PartsAreBelow (length problem.now.nodes) node }
+    ensures { IsFound problem.now.nodes (node_tree problem.now.nodes node) result }
 {
-    problem.terms().find(node)
+    let found = problem.terms().find(&node);
+    drop(node);
+    found
 }
 
 /// The literal of an operator on two terms, which doesn't fold.
@@ -73,8 +75,7 @@ fn of_two(problem: &Problem<'_>, op: BinaryOp, a: u64, b: u64) -> Lit
     ensures { result ≡ literal_in problem.now (two op (tree problem.now.nodes a) (tree problem.now.nodes b)) }
 {
     problem.laws();
-    let node = Node::Two(op, a, b);
-    literal_if(problem, find(problem, &node))
+    literal_if(problem, find(problem, Node::Two(op, a, b)))
 }
 
 /// The literal of `member`: whether a set has a member.
@@ -186,6 +187,5 @@ pub fn present(problem: &Problem<'_>, option: u64) -> Lit
     if is_absent(problem, option) {
         return of_truth(false);
     }
-    let node = Node::One(UnaryOp::Present, option);
-    literal_if(problem, find(problem, &node))
+    literal_if(problem, find(problem, Node::One(UnaryOp::Present, option)))
 }

@@ -10,6 +10,7 @@ ghost use Rattle.sc_rules.specs.Strings.{asked_of};
 ghost use Rattle.sc_rules.specs.Entities.{are_attributes_of as attributes_test};
 ghost use Rattle.sc_rules.specs.Terms as term;
 
+use crate::literals::find as find_number;
 use sc_footprint::{Kind, Problem};
 use sc_lists::Text;
 use sc_names::Uid;
@@ -162,8 +163,7 @@ pub fn keys(problem: &Problem<'_>, entity: u64) -> Option<u64>
     ensures { IsClosedFound problem.now (term.keys (tree problem.now.nodes entity)) result }
 {
     problem.laws();
-    let node = Node::One(UnaryOp::Keys, entity);
-    problem.terms().find(&node)
+    find_number(problem, Node::One(UnaryOp::Keys, entity))
 }
 
 fn is_literal_of(problem: &Problem<'_>, n: u64, uid: &Uid) -> bool

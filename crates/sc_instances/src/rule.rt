@@ -2,7 +2,7 @@
 //! number.
 
 /// An instance of a rule on equations.
-#[derive(Clone, Copy, Debug)]
+#[derive(Clone, Copy)]
 pub enum EqualRule {
     /// a, b, c: what equals one thing is equal.
     Eq1(u64, u64, u64),
@@ -23,7 +23,7 @@ pub enum EqualRule {
 }
 
 /// An instance of a rule on sets.
-#[derive(Clone, Copy, Debug)]
+#[derive(Clone, Copy)]
 pub enum SetRule {
     /// x, y, S: what equals a member is a member.
     Se1(u64, u64, u64),
@@ -44,7 +44,7 @@ pub enum SetRule {
 }
 
 /// An instance of a rule on what is stored of entities.
-#[derive(Clone, Copy, Debug)]
+#[derive(Clone, Copy)]
 pub enum EntityRule {
     /// e, f: equal entities have equal attributes.
     En1(u64, u64),

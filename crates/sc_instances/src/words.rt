@@ -12,7 +12,7 @@ use sc_lists::equals;
 pub(crate) const NUMBER_LIMIT: u64 = 1_000_000_000_000_000_000;
 
 /// The numbers that words are, where there are one to four.
-#[derive(Clone, Copy, Debug)]
+#[derive(Clone, Copy)]
 pub(crate) enum Numbers {
     One(u64),
     Two(u64, u64),
