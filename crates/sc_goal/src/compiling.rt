@@ -52,7 +52,11 @@ fn compile_policy(
     ensures kept { Keeps terms.old terms.new }
 {
     match type_policy(setting.alloc, setting.schema, setting.env, policy) {
-        Ok(condition) => compile_in(setting, terms, &condition),
+        Ok(condition) => {
+            let outcome = compile_in(setting, terms, &condition);
+            drop(condition);
+            outcome
+        }
         Err(Fault::Told(_)) => unreachable!(),
         Err(Fault::NoMemory) => Err(AllocError),
     }
