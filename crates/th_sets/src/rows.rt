@@ -1,7 +1,8 @@
 //! What each rule says of terms of the table, literal by literal.
 ghost use Rattle.std.specs.Prelude.{◌≡◌, ◌<◌, ◌&&◌, length, None, IfSome};
 ghost use Rattle.sc_clauses.specs.Clauses.{positive, negation as negated};
-ghost use Rattle.sc_terms.specs.Tables.{tree, AreBelow};
+ghost use Rattle.sc_terms.specs.Finding.{IsFound};
+ghost use Rattle.sc_terms.specs.Tables.{tree, node_tree, AreBelow, PartsAreBelow};
 ghost use Rattle.sc_terms.specs.TreeSorts.{tree_sort};
 ghost use Rattle.sc_rules.specs.Sets.{se2, se3};
 ghost use Rattle.sc_rules.specs.Terms.{is_set};
@@ -300,6 +301,16 @@ fn side_count(side: u64) -> Option<u128>
     }
 }
 
+/// The number of the term of a node.
+fn find(problem: &Problem<'_>, node: Node) -> Option<u64>
+    requires { PartsAreBelow (length problem.now.nodes) node }
+    ensures { IsFound problem.now.nodes (node_tree problem.now.nodes node) result }
+{
+    let found = problem.terms().find(&node);
+    drop(node);
+    found
+}
+
 /// The literal of a pick being a member of a set; one of no atom where the pick isn't in the table.
 fn pick_member(problem: &Problem<'_>, pick: Option<u64>, set: u64) -> Lit
     requires pick_in { IfSome pick (λ n. n < length problem.now.nodes) }
@@ -321,8 +332,11 @@ fn missing_member(problem: &Problem<'_>, s: u64, t: u64, set: u64) -> Lit
     ensures { result ≡ missing_lit problem.now s t set }
 {
     problem.laws();
-    let node = Node::Two(BinaryOp::DifferencePick, s, t);
-    pick_member(problem, problem.terms().find(&node), set)
+    pick_member(
+        problem,
+        find(problem, Node::Two(BinaryOp::DifferencePick, s, t)),
+        set,
+    )
 }
 
 /// The literal of the least member of two sets being a member of a third.
@@ -333,8 +347,11 @@ fn shared_member(problem: &Problem<'_>, s: u64, t: u64, set: u64) -> Lit
     ensures { result ≡ shared_lit problem.now s t set }
 {
     problem.laws();
-    let node = Node::Two(BinaryOp::CommonPick, s, t);
-    pick_member(problem, problem.terms().find(&node), set)
+    pick_member(
+        problem,
+        find(problem, Node::Two(BinaryOp::CommonPick, s, t)),
+        set,
+    )
 }
 
 fn missing_literal(problem: &Problem<'_>, s: u64, t: u64, side: u64, place: u128) -> Lit
