@@ -32,11 +32,13 @@ fn of_truth(truth: bool) -> Lit
 }
 
 /// The number of the term of a node.
-fn find(problem: &Problem<'_>, node: &Node) -> Option<u64>
-    requires { PartsAreBelow (length problem.now.nodes) node.now }
-    ensures { IsFound problem.now.nodes (node_tree problem.now.nodes node.now) result }
+fn find(problem: &Problem<'_>, node: Node) -> Option<u64>
+    requires { PartsAreBelow (length problem.now.nodes) node }
+    ensures { IsFound problem.now.nodes (node_tree problem.now.nodes node) result }
 {
-    problem.terms().find(node)
+    let found = problem.terms().find(&node);
+    drop(node);
+    found
 }
 
 /// The literal of a match that doesn't fold.
@@ -51,7 +53,7 @@ fn found_like(
 {
     problem.laws();
     let node = Node::One(UnaryOp::Like(pattern.try_clone(alloc)?), text);
-    Ok(literal_if(problem, find(problem, &node)))
+    Ok(literal_if(problem, find(problem, node)))
 }
 
 /// The literal of whether a string matches a pattern, whatever it folds to.
