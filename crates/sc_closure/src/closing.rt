@@ -1,11 +1,13 @@
 //! The closed terms of a goal: those that are followed, from a few on, until there is no further
 //! one, or too many of them are atoms.
-ghost use Rattle.std.specs.Prelude.{◌≡◌, ◌<◌, ◌≤◌, length, IfOk, IfErr};
+ghost use Rattle.std.specs.Prelude.{◌≡◌, ◌<◌, ◌≤◌, List, length, IfOk, IfErr};
 ghost use Rattle.std.specs.List.{AllByRecursion};
+ghost use Rattle.sc_nodes.specs.declared.node.Node.{Node as AnyNode};
 ghost use Rattle.sc_terms.specs.Tables.{tree, Keeps};
+ghost use Rattle.sc_closure_rules.specs.Closure.{Role};
 ghost use Rattle.sc_closure_rules.specs.Making.{stood, IsSomeTerm};
 ghost use Rattle.sc_closure.specs.Atoms.{IsRefused, most_atoms};
-ghost use Rattle.sc_closure.specs.Following.{seeds as seeds_of, atoms_of, AreRoles, StandsForClosed, Follows};
+ghost use Rattle.sc_closure.specs.Following.{seeds as seeds_of, atoms_of, AreRoles, Held, StandsForClosed, Follows};
 ghost use Rattle.sc_closure_rules.specs.Goals.{IsGoal};
 
 use crate::limit::{MOST_ATOMS, OverLimit};
@@ -63,6 +65,47 @@ fn follow(
     Ok(numbers)
 }
 
+/// The closed terms of a goal, with the roles of those that have been followed, which are none at first.
+fn closed_with(
+    alloc: Global,
+    terms: &mut Terms,
+    goal: u64,
+    schema: &Schema,
+    env: &Env,
+    literals: &Lits,
+    roles: &mut Roles,
+) -> Result<IndexSet<u64>, Fault<OverLimit>>
+    requires within { goal < length terms.old }
+    requires goal { IsGoal schema.now env.now literals.now (tree terms.old goal) }
+    requires none { (xs : List AnyNode) (p : Role) → Held xs roles.old p → ⊥ }
+    requires are { (xs : List AnyNode) → AreRoles xs roles.old }
+    ensures closed { IfOk result (λ s. StandsForClosed schema.now env.now (tree terms.old goal) terms.new s.keys) }
+    ensures few { IfOk result (λ s. length (atoms_of terms.new s.keys) ≤ most_atoms) }
+    ensures kept { Keeps terms.old terms.new }
+    ensures err { IfErr result (IsRefused schema.now env.now (tree terms.old goal)) }
+{
+    order_laws();
+    closed_laws();
+    schema.laws();
+    let first = seeds(alloc, terms, goal, schema, env)?;
+    let mut closed = IndexSet::new(alloc);
+    put_all(&mut closed, &first)?;
+    let mut atoms = count_atoms(terms, &closed, 0);
+    let mut done = 0;
+    while let Some(n) = number_at(&closed, done) {
+        let counted = closed.len() as u64;
+        let more = follow(alloc, schema, terms, roles, n)?;
+        put_all(&mut closed, &more)?;
+        atoms += count_atoms(terms, &closed, counted);
+        if atoms > MOST_ATOMS {
+            terms.laws();
+            return Err(Fault::Told(OverLimit));
+        }
+        done += 1;
+    }
+    Ok(closed)
+}
+
 /// The numbers of the closed terms of a goal, in the order in which they were met. The fault comes
 /// exactly where more of them are atoms than may be; it comes as soon as so many are met.
 pub fn closed_terms(
@@ -80,25 +123,8 @@ pub fn closed_terms(
     ensures kept { Keeps terms.old terms.new }
     ensures err { IfErr result (IsRefused schema.now env.now (tree terms.old goal)) }
 {
-    order_laws();
-    closed_laws();
-    schema.laws();
-    let first = seeds(alloc, terms, goal, schema, env)?;
-    let mut closed = IndexSet::new(alloc);
-    put_all(&mut closed, &first)?;
     let mut roles = Roles::new(alloc);
-    let mut atoms = count_atoms(terms, &closed, 0);
-    let mut done = 0;
-    while let Some(n) = number_at(&closed, done) {
-        let counted = closed.len() as u64;
-        let more = follow(alloc, schema, terms, &mut roles, n)?;
-        put_all(&mut closed, &more)?;
-        atoms += count_atoms(terms, &closed, counted);
-        if atoms > MOST_ATOMS {
-            terms.laws();
-            return Err(Fault::Told(OverLimit));
-        }
-        done += 1;
-    }
-    Ok(closed)
+    let outcome = closed_with(alloc, terms, goal, schema, env, literals, &mut roles);
+    drop(roles);
+    outcome
 }

@@ -7,7 +7,7 @@ use Rattle.sc_closure.proofs.ClosingLaws.{closing_start, closing_step, closing_e
 use Rattle.sc_closure.proofs.CountingLaws.{atoms_grow, seeds_few}
 use Rattle.sc_closure.proofs.OverLimitLaws.{over_limit}
 use Rattle.sc_closure.proofs.PuttingLaws.{put_longer, put_first, put_once, put_within}
-use Rattle.sc_closure.proofs.closing.closed_terms.Goals as goal
+use Rattle.sc_closure.proofs.closing.closed_with.Goals as goal
 
 pub count_atoms-atoms-requires : goal.count_atoms-atoms-requires
 count_atoms-atoms-requires c =
@@ -18,8 +18,8 @@ loop-n-init c = record {
   short = omega arith;
   once = rw (c.in_ok-put_all.ensures, c.new-closed.ensures.empty, c.deref.ensures.value) (put_first c.in_ok-first.first.items);
   closing = rw (c.in_ok-put_all.ensures, c.new-closed.ensures.empty, c.deref.ensures.value)
-      (closing_start _ _ _ _ c.in_ok-first.first.items c.in_ok-first.ensures.within c.in_ok-first.ensures.ok (Held _ c.new-roles.result) (c.new-roles.ensures.none _));
-  are = c.new-roles.ensures.are _;
+      (closing_start _ _ _ _ c.in_ok-first.first.items c.in_ok-first.ensures.within c.in_ok-first.ensures.ok (Held _ c.args.roles.now) (c.requires.none _));
+  are = c.requires.are _;
   counted = c.count_atoms-atoms.ensures.value;
   few = omega (arith, c.count_atoms-atoms.ensures.within, ap length (rw (c.new-closed.ensures.empty, c.deref.ensures.value) at c.in_ok-put_all.ensures), seeds_few c.args.schema.now c.args.env.now (tree c.args.terms.now c.args.goal) _ c.in_ok-first.first.items c.in_ok-first.ensures.ok);
   kept = c.in_ok-first.ensures.kept;

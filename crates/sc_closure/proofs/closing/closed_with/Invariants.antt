@@ -3,7 +3,7 @@ use Rattle.std.specs.List.{IsDistinct}
 use Rattle.sc_terms.specs.Tables.{tree, Keeps}
 use Rattle.sc_closure.specs.Atoms.{most_atoms}
 use Rattle.sc_closure.specs.Following.{atoms_of, Held, AreRoles, IsClosing}
-use Rattle.sc_closure.proofs.closing.closed_terms.Given as goal
+use Rattle.sc_closure.proofs.closing.closed_with.Given as goal
 
 abbrev pub invariant-loop-n : goal.invariant-loop-n
 invariant-loop-n l = record {
