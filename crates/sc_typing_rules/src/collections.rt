@@ -7,6 +7,7 @@ ghost use Rattle.sc_typed.specs.Outcomes.{made};
 ghost use Rattle.sc_typing_rules.specs.Rules.{all_joined, member_type, set_of, with_field, record_type};
 
 use crate::logic::joined_with;
+use crate::outcome::plain;
 use sc_ast::Place;
 use sc_lists::{Boxed, Fault, Seq, Shared, Text};
 use sc_schema::{Presence, Ty};
@@ -25,8 +26,7 @@ pub fn set_of(
 {
     let member = member_type(alloc, place, members.as_slice())?;
     let ty = Ty::Set(Shared::new(alloc, member)?);
-    let expr = Boxed::new(alloc, TypedExpr::Set(place, ty, members))?;
-    Ok(Typed::plain(alloc, expr))
+    Ok(plain(alloc, TypedExpr::Set(place, ty, members))?)
 }
 
 /// The type that those of all members join to.
@@ -67,8 +67,7 @@ pub fn record_of(
     ensures { IfOk result (λ x. x ≡ made (TypedExpr.Record place (record_type fields) fields) []) }
 {
     let ty = record_type(alloc, fields.as_slice())?;
-    let expr = Boxed::new(alloc, TypedExpr::Record(place, ty, fields))?;
-    Ok(Typed::plain(alloc, expr))
+    plain(alloc, TypedExpr::Record(place, ty, fields))
 }
 
 /// The type of a record: the types of its fields in the order of names, all required.

@@ -4,6 +4,7 @@ ghost use Rattle.sc_schema.specs.Declarations.{context_of};
 ghost use Rattle.sc_typed.specs.Outcomes.{made};
 ghost use Rattle.sc_typing_rules.specs.Rules.{literal_type, literal_typed, variable_type, leaf, leaves, first_type};
 
+use crate::outcome::plain;
 use crate::setting::Setting;
 use sc_ast::{Expr, Literal, Place, Variable, try_clone};
 use sc_lists::{Boxed, Seq, Shared};
@@ -39,8 +40,7 @@ fn literal_typed(alloc: Global, place: Place, literal: &Literal) -> Result<Typed
 pub fn literal(alloc: Global, place: Place, literal: &Literal) -> Result<Typed, AllocError>
     ensures { IfOk result (λ x. x ≡ made (literal_typed place literal.now) []) }
 {
-    let expr = Boxed::new(alloc, literal_typed(alloc, place, literal)?)?;
-    Ok(Typed::plain(alloc, expr))
+    plain(alloc, literal_typed(alloc, place, literal)?)
 }
 
 /// The type of a variable in an environment.
@@ -76,8 +76,7 @@ pub fn variable(
         (variable_type setting.now.schema.now setting.now.env.now variable) variable) []) }
 {
     let ty = variable_type(setting, variable)?;
-    let expr = Boxed::new(setting.alloc, TypedExpr::Variable(place, ty, variable))?;
-    Ok(Typed::plain(setting.alloc, expr))
+    plain(setting.alloc, TypedExpr::Variable(place, ty, variable))
 }
 
 /// A literal with its type; anything else is skipped.

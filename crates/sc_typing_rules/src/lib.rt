@@ -9,6 +9,7 @@ pub mod logic;
 pub mod objects;
 pub mod operations;
 mod operators;
+mod outcome;
 mod path;
 mod setting;
 

@@ -1,17 +1,18 @@
 //! `if`, `||` and `&&`, of operands with their types.
 ghost use Rattle.std.specs.Prelude.{◌≡◌, ◌++◌, [], IfOk, if◌then◌else◌};
 ghost use Rattle.sc_lists.specs.Told.{Gives};
-ghost use Rattle.sc_typed.specs.Outcomes.{ty, made, or_fails, joined};
+ghost use Rattle.sc_typed.specs.Outcomes.{ty, made, joined};
 ghost use Rattle.sc_typed.specs.Types.{is_false};
 ghost use Rattle.sc_typing_rules.specs.Rules.{first_branch, second_branch, branches, or_type, or_given, disjunction, and_type, and_given, conjunction};
 
+use crate::outcome::{made, plain};
 use sc_ast::{Expr, Place, try_clone};
 use sc_lists::{Boxed, Fault, Seq};
 use sc_schema::Ty;
 use sc_typed::capability::{common, joined};
 use sc_typed::operands::{boolean, copy_of_ty, is_false, is_true};
 use sc_typed::types::join;
-use sc_typed::{Capability, TypeFault, TypeRule, Typed, TypedExpr, type_of};
+use sc_typed::{Capability, TypeFault, TypeRule, Typed, TypedExpr};
 use std::alloc::{AllocError, Global};
 
 /// An expression that is skipped.
@@ -25,18 +26,13 @@ pub fn skipped(alloc: Global, expr: &Expr) -> Result<Boxed<TypedExpr>, AllocErro
 pub fn joined_type(alloc: Global, place: Place, a: &Ty, b: &Ty) -> Result<Ty, Fault<TypeFault>>
     ensures { Gives result (joined place a.now b.now) }
 {
-    let both = join(alloc, a, b)?;
-    Ok(or_no_join(place, both)?)
-}
-
-/// The type, or a fault at a place that there is none.
-fn or_no_join(place: Place, both: Option<Ty>) -> Result<Ty, TypeFault>
-    ensures { result ≡ or_fails TypeRule.NoJoin place both }
-{
-    both.ok_or(TypeFault {
-        rule: TypeRule::NoJoin,
-        at: place,
-    })
+    match join(alloc, a, b)? {
+        Some(both) => Ok(both),
+        None => Err(Fault::Told(TypeFault {
+            rule: TypeRule::NoJoin,
+            at: place,
+        })),
+    }
 }
 
 /// `if c then a else b` where c is always true.
@@ -60,8 +56,7 @@ pub fn first_branch(
     } = a;
     let given = joined(first, second)?;
     let ty = copy_of_ty(alloc, a.get())?;
-    let expr = Boxed::new(alloc, TypedExpr::If(place, ty, c, a, other))?;
-    Ok(Typed { expr, given })
+    made(alloc, TypedExpr::If(place, ty, c, a, other), given)
 }
 
 /// `if c then a else b` where c is always false.
@@ -78,8 +73,7 @@ pub fn second_branch(
     let other = skipped(alloc, a)?;
     let ty = copy_of_ty(alloc, taken.get())?;
     let expr = TypedExpr::If(place, ty, c.into_expr(), other, taken);
-    let expr = Boxed::new(alloc, expr)?;
-    Ok(Typed { expr, given })
+    made(alloc, expr, given)
 }
 
 /// `if c then a else b` where c may be true or false.
@@ -96,8 +90,7 @@ pub fn branches(
     let given = common(alloc, joined(c.given, a.given)?, b.given.as_slice())?;
     let ty = branches_type(alloc, place, a.expr.get(), b.expr.get())?;
     let expr = TypedExpr::If(place, ty, c.expr, a.expr, b.expr);
-    let expr = Boxed::new(alloc, expr)?;
-    Ok(Typed { expr, given })
+    Ok(made(alloc, expr, given)?)
 }
 
 /// The type that those of two expressions join to; where they don't, a fault at a place.
@@ -109,13 +102,8 @@ pub fn branches_type(
 ) -> Result<Ty, Fault<TypeFault>>
     ensures { Gives result (joined place (ty a.now) (ty b.now)) }
 {
-    match type_of(a) {
-        Some(first) => joined_with(alloc, place, first, b),
-        None => {
-            let first = Ty::Bool;
-            joined_with(alloc, place, &first, b)
-        }
-    }
+    let first = Boxed::new(alloc, copy_of_ty(alloc, a)?)?;
+    joined_with(alloc, place, first.get(), b)
 }
 
 /// The type that a type and that of an expression join to; where they don't, a fault at a place.
@@ -127,13 +115,8 @@ pub(crate) fn joined_with(
 ) -> Result<Ty, Fault<TypeFault>>
     ensures { Gives result (joined place first.now (ty b.now)) }
 {
-    match type_of(b) {
-        Some(second) => joined_type(alloc, place, first, second),
-        None => {
-            let second = Ty::Bool;
-            joined_type(alloc, place, first, &second)
-        }
-    }
+    let second = Boxed::new(alloc, copy_of_ty(alloc, b)?)?;
+    joined_type(alloc, place, first, second.get())
 }
 
 /// `a || b` where a isn't always true.
@@ -164,8 +147,7 @@ fn either(alloc: Global, place: Place, a: Typed, b: Typed) -> Result<Typed, Allo
     } = b;
     let given = or_given(alloc, a.get(), b.get(), first, second)?;
     let ty = or_type(alloc, a.get(), b.get())?;
-    let expr = Boxed::new(alloc, TypedExpr::Or(place, ty, a, b))?;
-    Ok(Typed { expr, given })
+    made(alloc, TypedExpr::Or(place, ty, a, b), given)
 }
 
 fn or_type(alloc: Global, a: &TypedExpr, b: &TypedExpr) -> Result<Ty, AllocError>
@@ -230,8 +212,7 @@ fn both(alloc: Global, place: Place, a: Typed, b: Typed) -> Result<Typed, AllocE
     } = b;
     let given = and_given(alloc, b.get(), first, second)?;
     let ty = and_type(alloc, a.get(), b.get())?;
-    let expr = Boxed::new(alloc, TypedExpr::And(place, ty, a, b))?;
-    Ok(Typed { expr, given })
+    made(alloc, TypedExpr::And(place, ty, a, b), given)
 }
 
 fn and_type(alloc: Global, a: &TypedExpr, b: &TypedExpr) -> Result<Ty, AllocError>
@@ -266,8 +247,7 @@ pub fn or_true(alloc: Global, place: Place, a: Typed, b: &Expr) -> Result<Typed,
     ensures { IfOk result (λ x. x ≡ made (TypedExpr.Or place Ty.True a.expr (TypedExpr.Skipped b.now)) []) }
 {
     let other = skipped(alloc, b)?;
-    let expr = TypedExpr::Or(place, Ty::True, a.into_expr(), other);
-    Ok(Typed::plain(alloc, Boxed::new(alloc, expr)?))
+    plain(alloc, TypedExpr::Or(place, Ty::True, a.into_expr(), other))
 }
 
 /// `a && b` where a is always false.
@@ -275,6 +255,8 @@ pub fn and_false(alloc: Global, place: Place, a: Typed, b: &Expr) -> Result<Type
     ensures { IfOk result (λ x. x ≡ made (TypedExpr.And place Ty.False a.expr (TypedExpr.Skipped b.now)) []) }
 {
     let other = skipped(alloc, b)?;
-    let expr = TypedExpr::And(place, Ty::False, a.into_expr(), other);
-    Ok(Typed::plain(alloc, Boxed::new(alloc, expr)?))
+    plain(
+        alloc,
+        TypedExpr::And(place, Ty::False, a.into_expr(), other),
+    )
 }

@@ -9,6 +9,7 @@ ghost use Rattle.sc_typed.specs.Types.{is_required};
 ghost use Rattle.sc_typing_rules.specs.Paths.{no_names, step, ended, held, has_always, named, longer, along};
 ghost use Rattle.sc_typing_rules.specs.Rules.{subject, read_type, access, path_of};
 
+use crate::outcome::{made, plain};
 use crate::path::Path;
 use crate::setting::Setting;
 use sc_ast::{Expr, Place, try_clone};
@@ -96,8 +97,7 @@ pub fn access(
 {
     let own_name = name.try_clone(setting.alloc)?;
     let ty = read_type(setting, place, name, a, x.get())?;
-    let expr = Boxed::new(setting.alloc, TypedExpr::Access(place, ty, x, own_name))?;
-    Ok(Typed::plain(setting.alloc, expr))
+    Ok(plain(setting.alloc, TypedExpr::Access(place, ty, x, own_name))?)
 }
 
 /// `a has b.c.d`.
@@ -129,9 +129,11 @@ fn with_path(
         given,
         skipped,
     } = path;
-    let expr = TypedExpr::Has(place, found, object, steps, skipped);
-    let expr = Boxed::new(alloc, expr)?;
-    Ok(Typed { expr, given })
+    made(
+        alloc,
+        TypedExpr::Has(place, found, object, steps, skipped),
+        given,
+    )
 }
 
 fn path_of(
@@ -234,8 +236,8 @@ fn end(
     let found = Boxed::new(alloc, Ty::False)?;
     path.steps.push(step(alloc, name, ty, found)?)?;
     path.skipped = copy_of_names(alloc, names)?;
-    path.found = Ty::False;
     path.given = Seq::new(alloc);
+    set_found(path, Ty::False);
     Ok(())
 }
 
@@ -259,6 +261,19 @@ fn lengthen(
     }
     path.given.push(capability.into_inner())?;
     maybe_hold(setting.alloc, path, ty, name)
+}
+
+/// Puts whether all names are there.
+fn set_found(path: &mut Path, found: Ty)
+    ensures { path.new
+        ≡ record {
+          steps = path.old.steps;
+          found = found;
+          given = path.old.given;
+          skipped = path.old.skipped;
+        } }
+{
+    path.found = found;
 }
 
 /// Whether each object of a type has an attribute.
@@ -302,7 +317,7 @@ fn maybe_hold(alloc: Global, path: &mut Path, ty: &Ty, name: &Text) -> Result<()
 {
     let found = Boxed::new(alloc, Ty::Bool)?;
     path.steps.push(step(alloc, name, ty, found)?)?;
-    path.found = Ty::Bool;
     path.skipped = Seq::new(alloc);
+    set_found(path, Ty::Bool);
     Ok(())
 }

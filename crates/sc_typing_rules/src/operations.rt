@@ -7,6 +7,7 @@ ghost use Rattle.sc_typing_rules.specs.Rules.{operation, application, with_right
 
 use crate::logic::skipped;
 use crate::operators::{binary, given_by, unary, within};
+use crate::outcome::{made, plain};
 use crate::setting::Setting;
 use sc_ast::{BinaryOperator, Expr, Place, TypeName, UnaryOperator};
 use sc_lists::{Boxed, Fault};
@@ -36,8 +37,7 @@ pub fn operate(
     )?;
     let given = given_by(alloc, operator, a, b, ty.get())?;
     let expr = TypedExpr::Binary(place, ty.into_inner(), operator, x, y);
-    let expr = Boxed::new(alloc, expr)?;
-    Ok(Typed { expr, given })
+    Ok(made(alloc, expr, given)?)
 }
 
 /// `a in b`, of a and of what is found of b.
@@ -50,8 +50,10 @@ pub fn contain(
     ensures { IfOk result (λ t. t ≡ made (TypedExpr.Binary place right.0 In x right.1) []) }
 {
     let (ty, y) = right;
-    let expr = TypedExpr::Binary(place, ty, BinaryOperator::In, x, y);
-    Ok(Typed::plain(alloc, Boxed::new(alloc, expr)?))
+    plain(
+        alloc,
+        TypedExpr::Binary(place, ty, BinaryOperator::In, x, y),
+    )
 }
 
 /// The type of `in`, and its right side.
@@ -77,8 +79,7 @@ pub fn like(
 {
     string(x.get())?;
     let pattern = pattern.try_clone(alloc)?;
-    let expr = TypedExpr::Like(place, Ty::Bool, x, pattern);
-    Ok(Typed::plain(alloc, Boxed::new(alloc, expr)?))
+    Ok(plain(alloc, TypedExpr::Like(place, Ty::Bool, x, pattern))?)
 }
 
 /// Whether an entity is of a type.
@@ -100,8 +101,7 @@ pub fn is(
 {
     let is = is_of(x.get(), type_name)?;
     let name = type_name.try_clone(alloc)?;
-    let expr = TypedExpr::Is(place, truth(is), x, name);
-    Ok(Typed::plain(alloc, Boxed::new(alloc, expr)?))
+    Ok(plain(alloc, TypedExpr::Is(place, truth(is), x, name))?)
 }
 
 /// `a is T in b` where a isn't of the type T.
@@ -119,7 +119,7 @@ pub fn is_not(
     let other = skipped(alloc, b)?;
     let name = type_name.try_clone(alloc)?;
     let expr = TypedExpr::IsIn(place, Ty::False, x, name, in_place, other);
-    Ok(Typed::plain(alloc, Boxed::new(alloc, expr)?))
+    plain(alloc, expr)
 }
 
 /// `a is T in b` where a is of the type T, of a and of what is found of b.
@@ -137,7 +137,7 @@ pub fn is_in(
     let ty = Boxed::new(alloc, ty)?;
     let name = type_name.try_clone(alloc)?;
     let expr = TypedExpr::IsIn(place, ty.into_inner(), x, name, in_place, y);
-    Ok(Typed::plain(alloc, Boxed::new(alloc, expr)?))
+    plain(alloc, expr)
 }
 
 /// An operator with one operand.
@@ -151,6 +151,5 @@ pub fn apply(
     ensures { Gives result (application place operator a.now x) }
 {
     let ty = unary(place, operator, a, x.get())?;
-    let expr = TypedExpr::Unary(place, ty, operator, x);
-    Ok(Typed::plain(alloc, Boxed::new(alloc, expr)?))
+    Ok(plain(alloc, TypedExpr::Unary(place, ty, operator, x))?)
 }

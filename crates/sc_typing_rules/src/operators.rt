@@ -49,11 +49,11 @@ pub(crate) fn binary(
         BinaryOperator::Less
         | BinaryOperator::LessOrEqual
         | BinaryOperator::Greater
-        | BinaryOperator::GreaterOrEqual => Ok(long_comparison(x, y)?),
+        | BinaryOperator::GreaterOrEqual => long_comparison(x, y),
         BinaryOperator::Equal => equal(setting.alloc, place, a, b, x, y),
-        BinaryOperator::In => Ok(within(setting.schema, x, y)?),
+        BinaryOperator::In => membership(setting.schema, x, y),
         BinaryOperator::Add | BinaryOperator::Subtract | BinaryOperator::Multiply => {
-            Ok(arithmetic(x, y)?)
+            arithmetic(x, y)
         }
         BinaryOperator::Contains => contained(setting.alloc, place, x, y),
         BinaryOperator::ContainsAll | BinaryOperator::ContainsAny => {
@@ -64,37 +64,37 @@ pub(crate) fn binary(
         BinaryOperator::LessThan
         | BinaryOperator::LessThanOrEqual
         | BinaryOperator::GreaterThan
-        | BinaryOperator::GreaterThanOrEqual => Ok(decimals(x, y)?),
-        BinaryOperator::IsInRange => Ok(addresses(x, y)?),
+        | BinaryOperator::GreaterThanOrEqual => decimals(x, y),
+        BinaryOperator::IsInRange => addresses(x, y),
     }
 }
 
-fn long_comparison(x: &TypedExpr, y: &TypedExpr) -> Result<Ty, TypeFault>
-    ensures { result ≡ longs x.now y.now Ty.Bool }
+fn long_comparison(x: &TypedExpr, y: &TypedExpr) -> Result<Ty, Fault<TypeFault>>
+    ensures { Gives result (longs x.now y.now Ty.Bool) }
 {
     long(x)?;
     long(y)?;
     Ok(Ty::Bool)
 }
 
-fn arithmetic(x: &TypedExpr, y: &TypedExpr) -> Result<Ty, TypeFault>
-    ensures { result ≡ longs x.now y.now Ty.Long }
+fn arithmetic(x: &TypedExpr, y: &TypedExpr) -> Result<Ty, Fault<TypeFault>>
+    ensures { Gives result (longs x.now y.now Ty.Long) }
 {
     long(x)?;
     long(y)?;
     Ok(Ty::Long)
 }
 
-fn decimals(x: &TypedExpr, y: &TypedExpr) -> Result<Ty, TypeFault>
-    ensures { result ≡ decimals x.now y.now }
+fn decimals(x: &TypedExpr, y: &TypedExpr) -> Result<Ty, Fault<TypeFault>>
+    ensures { Gives result (decimals x.now y.now) }
 {
     decimal(x)?;
     decimal(y)?;
     Ok(Ty::Bool)
 }
 
-fn addresses(x: &TypedExpr, y: &TypedExpr) -> Result<Ty, TypeFault>
-    ensures { result ≡ addresses x.now y.now }
+fn addresses(x: &TypedExpr, y: &TypedExpr) -> Result<Ty, Fault<TypeFault>>
+    ensures { Gives result (addresses x.now y.now) }
 {
     ip(x)?;
     ip(y)?;
@@ -131,10 +131,17 @@ fn compared(
 {
     let first = Boxed::new(alloc, copy_of_ty(alloc, x)?)?;
     let second = Boxed::new(alloc, copy_of_ty(alloc, y)?)?;
-    if join_to_any(alloc, first.get(), second.get())? {
+    compared_types(alloc, place, first.get(), second.get())
+}
+
+/// The same, of the types of the two.
+fn compared_types(alloc: Global, place: Place, s: &Ty, t: &Ty) -> Result<Ty, Fault<TypeFault>>
+    ensures { Gives result (compared place s.now t.now) }
+{
+    if join_to_any(alloc, s, t)? {
         return Ok(Ty::Bool);
     }
-    if are_entities(first.get(), second.get()) {
+    if are_entities(s, t) {
         return Ok(Ty::False);
     }
     Err(Fault::Told(TypeFault {
@@ -147,8 +154,13 @@ fn compared(
 fn join_to_any(alloc: Global, s: &Ty, t: &Ty) -> Result<bool, AllocError>
     ensures { IfOk result (λ joins. joins ≡ is_some (join s.now t.now)) }
 {
-    let both = join(alloc, s, t)?;
-    Ok(both.is_some())
+    match join(alloc, s, t)? {
+        Some(both) => {
+            let _both = Boxed::new(alloc, both)?;
+            Ok(true)
+        }
+        None => Ok(false),
+    }
 }
 
 fn are_entities(s: &Ty, t: &Ty) -> bool
@@ -164,6 +176,13 @@ pub(crate) fn within(schema: &Schema, x: &TypedExpr, y: &TypedExpr) -> Result<Ty
     let t = entity(x)?;
     let u = group(y)?;
     Ok(may_be(may_be_in(schema, t, u)))
+}
+
+/// The type of `a in b`.
+fn membership(schema: &Schema, x: &TypedExpr, y: &TypedExpr) -> Result<Ty, Fault<TypeFault>>
+    ensures { Gives result (within schema.now x.now y.now) }
+{
+    Ok(within(schema, x, y)?)
 }
 
 fn may_be(may: bool) -> Ty
@@ -317,8 +336,8 @@ pub(crate) fn unary(
         | UnaryOperator::IsIpv6
         | UnaryOperator::IsLoopback
         | UnaryOperator::IsMulticast => address(x),
-        UnaryOperator::Decimal => read_as(reads_decimal(a), place, Ty::Decimal),
-        UnaryOperator::Ip => read_as(reads_ip(a), place, Ty::Ip),
+        UnaryOperator::Decimal => decimal_type(place, a),
+        UnaryOperator::Ip => address_type(place, a),
     }
 }
 
@@ -379,9 +398,18 @@ fn reads_ip(a: &Expr) -> bool
     }
 }
 
-fn read_as(reads: bool, place: Place, ty: Ty) -> Result<Ty, TypeFault>
-    ensures { result ≡ read_as reads place ty }
+/// The type of `decimal(a)`, where a is a literal that reads as one.
+fn decimal_type(place: Place, a: &Expr) -> Result<Ty, TypeFault>
+    ensures { result ≡ read_as (reads decimal_of a.now) place Ty.Decimal }
 {
-    check(reads, TypeRule::BadLiteral, place)?;
-    Ok(ty)
+    check(reads_decimal(a), TypeRule::BadLiteral, place)?;
+    Ok(Ty::Decimal)
+}
+
+/// The type of `ip(a)`, where a is a literal that reads as an address.
+fn address_type(place: Place, a: &Expr) -> Result<Ty, TypeFault>
+    ensures { result ≡ read_as (reads ip_of a.now) place Ty.Ip }
+{
+    check(reads_ip(a), TypeRule::BadLiteral, place)?;
+    Ok(Ty::Ip)
 }
