@@ -2,7 +2,8 @@
 ghost use Rattle.std.specs.Prelude.{◌≡◌, IfOk};
 
 use crate::expr::{Expr, TypeName};
-use crate::operator::BinaryOperator;
+use crate::literal::Literal;
+use crate::operator::{BinaryOperator, UnaryOperator};
 use crate::place::Place;
 use sc_lists::{Boxed, Seq, Text};
 use sc_pattern::Pattern;
@@ -22,12 +23,12 @@ pub fn try_clone(alloc: Global, expr: &Expr) -> Result<Expr, AllocError>
         Expr::Like(place, a, pattern) => clone_like(alloc, *place, a, pattern),
         Expr::Is(place, a, type_name) => clone_is(alloc, *place, a, type_name),
         Expr::IsIn(place, a, t, in_place, b) => clone_is_in(alloc, *place, a, t, *in_place, b),
-        Expr::Unary(place, operator, a) => Ok(Expr::Unary(*place, *operator, boxed(alloc, a)?)),
+        Expr::Unary(place, operator, a) => clone_unary(alloc, *place, *operator, a),
         Expr::Access(place, a, name) => clone_access(alloc, *place, a, name),
-        Expr::Literal(place, literal) => Ok(Expr::Literal(*place, literal.try_clone(alloc)?)),
+        Expr::Literal(place, literal) => clone_literal(alloc, *place, literal),
         Expr::Variable(place, variable) => Ok(Expr::Variable(*place, *variable)),
-        Expr::Set(place, members) => Ok(Expr::Set(*place, clone_all(alloc, members)?)),
-        Expr::Record(place, fields) => Ok(Expr::Record(*place, clone_fields(alloc, fields)?)),
+        Expr::Set(place, members) => clone_set(alloc, *place, members),
+        Expr::Record(place, fields) => clone_record(alloc, *place, fields),
     }
 }
 
@@ -166,26 +167,48 @@ fn clone_access(
     Ok(Expr::Access(place, boxed(alloc, a)?, name.try_clone(alloc)?))
 }
 
+/// A copy of a prefix, or of a call with one operand.
 #[cycle(copy)]
-fn clone_all(alloc: Global, exprs: &Seq<Expr>) -> Result<Seq<Expr>, AllocError>
-    ensures { IfOk result (λ copy. copy ≡ exprs.now) }
+fn clone_unary(
+    alloc: Global,
+    place: Place,
+    operator: UnaryOperator,
+    a: &Boxed<Expr>,
+) -> Result<Expr, AllocError>
+    ensures { IfOk result (λ copy. copy ≡ Expr.Unary place operator a.now) }
 {
-    let mut copies = Seq::new(alloc);
-    for expr in exprs.as_slice() {
-        copies.push(try_clone(alloc, expr)?)?;
-    }
-    Ok(copies)
+    Ok(Expr::Unary(place, operator, boxed(alloc, a)?))
 }
 
+/// A copy of a literal.
+fn clone_literal(alloc: Global, place: Place, literal: &Literal) -> Result<Expr, AllocError>
+    ensures { IfOk result (λ copy. copy ≡ Expr.Literal place literal.now) }
+{
+    Ok(Expr::Literal(place, literal.try_clone(alloc)?))
+}
+
+/// A copy of `[a, b]`.
 #[cycle(copy)]
-fn clone_fields(alloc: Global, fields: &Seq<(Text, Expr)>) -> Result<Seq<(Text, Expr)>, AllocError>
-    ensures { IfOk result (λ copy. copy ≡ fields.now) }
+fn clone_set(alloc: Global, place: Place, members: &Seq<Expr>) -> Result<Expr, AllocError>
+    ensures { IfOk result (λ copy. copy ≡ Expr.Set place members.now) }
+{
+    let mut copies = Seq::new(alloc);
+    for member in members.as_slice() {
+        copies.push(try_clone(alloc, member)?)?;
+    }
+    Ok(Expr::Set(place, copies))
+}
+
+/// A copy of `{a: x, "b": y}`.
+#[cycle(copy)]
+fn clone_record(alloc: Global, place: Place, fields: &Seq<(Text, Expr)>) -> Result<Expr, AllocError>
+    ensures { IfOk result (λ copy. copy ≡ Expr.Record place fields.now) }
 {
     let mut copies = Seq::new(alloc);
     for field in fields.as_slice() {
         copies.push((field.0.try_clone(alloc)?, try_clone(alloc, &field.1)?))?;
     }
-    Ok(copies)
+    Ok(Expr::Record(place, copies))
 }
 
 /// Copies of names.

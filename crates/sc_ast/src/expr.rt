@@ -26,7 +26,7 @@ pub enum Variable {
 }
 
 /// The name of an entity type as a policy writes it.
-#[derive(Debug, PartialEq, Eq, Drop)]
+#[derive(PartialEq, Eq, Drop)]
 pub struct TypeName {
     /// The place of its first token.
     pub place: Place,
@@ -47,7 +47,7 @@ impl TypeName {
 }
 
 /// An expression.
-#[derive(Debug, PartialEq, Eq, Drop)]
+#[derive(PartialEq, Eq, Drop)]
 pub enum Expr {
     /// `if c then a else b`.
     If(Place, Boxed<Expr>, Boxed<Expr>, Boxed<Expr>),

@@ -7,7 +7,7 @@ use sc_names::Uid;
 use std::alloc::{AllocError, Global};
 
 /// A literal of the policy language.
-#[derive(Debug, PartialEq, Eq, Drop)]
+#[derive(PartialEq, Eq, Drop)]
 pub enum Literal {
     /// `true` or `false`.
     Bool(bool),

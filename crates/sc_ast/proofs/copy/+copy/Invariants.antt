@@ -35,14 +35,17 @@ decreases-clone_is l = 3 * size-Expr l.a.now + 2
 abbrev pub decreases-clone_access : goal.decreases-clone_access
 decreases-clone_access l = 3 * size-Expr l.a.now + 2
 
-abbrev pub decreases-clone_all : goal.decreases-clone_all
-decreases-clone_all l = 3 * goal.size-clone_all l + 1
+abbrev pub decreases-clone_unary : goal.decreases-clone_unary
+decreases-clone_unary l = 3 * size-Expr l.a.now + 2
 
-abbrev pub decreases-clone_fields : goal.decreases-clone_fields
-decreases-clone_fields l = 3 * goal.size-clone_fields l + 1
+abbrev pub decreases-clone_set : goal.decreases-clone_set
+decreases-clone_set l = 3 * goal.size-clone_set l + 1
 
-abbrev pub invariant-clone_all-loop-expr : goal.invariant-clone_all-loop-expr
-invariant-clone_all-loop-expr l = l.copies ≡ take l.expr-index l.exprs
+abbrev pub decreases-clone_record : goal.decreases-clone_record
+decreases-clone_record l = 3 * goal.size-clone_record l + 1
 
-abbrev pub invariant-clone_fields-loop-field : goal.invariant-clone_fields-loop-field
-invariant-clone_fields-loop-field l = l.copies ≡ take l.field-index l.fields
+abbrev pub invariant-clone_set-loop-member : goal.invariant-clone_set-loop-member
+invariant-clone_set-loop-member l = l.copies ≡ take l.member-index l.members
+
+abbrev pub invariant-clone_record-loop-field : goal.invariant-clone_record-loop-field
+invariant-clone_record-loop-field l = l.copies ≡ take l.field-index l.fields
