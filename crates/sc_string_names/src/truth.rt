@@ -52,11 +52,13 @@ pub fn is_equal(problem: &Problem<'_>, m: &Assignment, a: u64, b: u64) -> bool
 }
 
 /// The number of the term of a node.
-fn find(problem: &Problem<'_>, node: &Node) -> Option<u64>
-    requires { PartsAreBelow (length problem.now.nodes) node.now }
-    ensures { IsFound problem.now.nodes (node_tree problem.now.nodes node.now) result }
+fn find(problem: &Problem<'_>, node: Node) -> Option<u64>
+    requires { PartsAreBelow (length problem.now.nodes) node }
+    ensures { IsFound problem.now.nodes (node_tree problem.now.nodes node) result }
 {
-    problem.terms().find(node)
+    let found = problem.terms().find(&node);
+    drop(node);
+    found
 }
 
 /// Whether what is no literal matches a pattern.
@@ -66,7 +68,7 @@ fn is_like_other(problem: &Problem<'_>, m: &Assignment, x: u64, pattern: Pattern
 {
     problem.laws();
     let node = Node::One(UnaryOp::Like(pattern), x);
-    literal_truth(m, literal_if(problem, find(problem, &node)))
+    literal_truth(m, literal_if(problem, find(problem, node)))
 }
 
 /// Whether a string matches a pattern under an assignment.
