@@ -46,7 +46,11 @@ fn policies(alloc: Global, file: &str) -> Result<PolicySet, AllocError>
 
 /// Checks that policies have types. That they have none counts as want of memory.
 #[tactic(auto, using(sc_typing::proofs::CheckingLaws::none_where_passed))]
-fn with_types(alloc: Global, schema: &Schema, policies: &PolicySet) -> Result<(), AllocError>
+pub(crate) fn with_types(
+    alloc: Global,
+    schema: &Schema,
+    policies: &PolicySet,
+) -> Result<(), AllocError>
     ensures { OnOk result (type_fault schema.now policies.now ≡ None) }
 {
     match check_types(alloc, schema, policies) {

@@ -1,32 +1,20 @@
 //! Goals of questions, in a new table, where 0 is `true` and 1 is `false`, 2, 3 and 4 come to be principal,
 //! resource and context, and from 5 on terms are numbered as they are made.
-ghost use Rattle.std.specs.Prelude.{◌≡◌, None, true, false, Contains, OnOk, IfOk, IsSome};
+ghost use Rattle.std.specs.Prelude.{◌≡◌, true, false, Contains, IfOk, IsSome};
 ghost use Rattle.sc_goal.specs.Goals.{all_compiled};
 ghost use Rattle.sc_goal.specs.Queries.{second};
 ghost use Rattle.sc_question.specs.Questions.{takes_two};
 ghost use Rattle.sc_schema.specs.Declarations.{environments};
-ghost use Rattle.sc_typing.specs.Checking.{type_fault};
 
+use crate::declared_policies::with_types;
 use crate::samples::{policies, schema};
 use sc_ast::PolicySet;
 use sc_goal::{Query, Question, goal, goal_laws, query};
 use sc_question::takes_two;
 use sc_schema::{Env, Schema, environments};
 use sc_terms::Terms;
-use sc_typing::check_types;
 use std::alloc::{AllocError, Global};
 use std::test::Fail;
-
-/// Checks that policies have types. That they have none counts as want of memory.
-#[tactic(auto, using(sc_typing::proofs::CheckingLaws::none_where_passed))]
-fn check(alloc: Global, schema: &Schema, policies: &PolicySet) -> Result<(), AllocError>
-    ensures { OnOk result (type_fault schema.now policies.now ≡ None) }
-{
-    match check_types(alloc, schema, policies) {
-        Ok(()) => Ok(()),
-        Err(_) => Err(AllocError),
-    }
-}
 
 /// The policies of a file, which are compiled in an environment.
 fn admitted(alloc: Global, schema: &Schema, env: &Env, file: &str) -> Result<PolicySet, AllocError>
@@ -35,7 +23,7 @@ fn admitted(alloc: Global, schema: &Schema, env: &Env, file: &str) -> Result<Pol
 {
     goal_laws();
     let policies = policies(alloc, file)?;
-    check(alloc, schema, &policies)?;
+    with_types(alloc, schema, &policies)?;
     Ok(policies)
 }
 
