@@ -1,5 +1,5 @@
 -- Crowds: what is chosen one after the other, and what can't be one.
-use Rattle.std.proofs.Common.{◌≡◌, ℕ, suc, ◌<◌, ◌≤◌, ◌+◌, ◌-◌, Bool, true, false, List, [], ◌∷◌, ◌++◌, length, get_or, Option, Some, None, ⊎_elim, refl, sym, ◌∙◌, ap, subst, arith, length-append}
+use Rattle.std.proofs.Common.{◌≡◌, ℕ, suc, ◌<◌, ◌≤◌, ◌+◌, ◌-◌, Bool, true, false, List, [], ◌∷◌, ◌++◌, length, get_or, Option, Some, None, Result, Ok, Err, IfOk, IfNone, ⊎_elim, refl, sym, ◌∙◌, ap, subst, arith, length-append}
 use Rattle.std.proofs.lemmas.Bool.{cases_Bool, cases_lt}
 use Rattle.std.proofs.lemmas.List.{get_or_past}
 use Rattle.std.proofs.lemmas.List.Elements.{All-push, All-nil, All-weaker}
@@ -8,6 +8,12 @@ use Rattle.std.specs.List.{All, AllPairs}
 use Rattle.sc_violated.specs.Truths.{Truth}
 use Rattle.sc_violated.specs.Crowds.{Signs, Few, IsWithin, Fits, IsChosen, NoneCrowded, agreed, IsRow, IsMeet, one_if, count_from, IsFurther, HasRoom, HasRoomFrom, NoneOn, NoneIn, NoneAfter}
 use Rattle.sc_violated.proofs.CountLaws.{is_in, AreDistinct, members, all_in, in_cases}
+
+-- what is so where nothing is found, taken on
+pub if_none : {T E A B : Type 0} (r : Result (Option T) E) → (A → B) → IfOk r (λ o. IfNone o A) → IfOk r (λ o. IfNone o B)
+if_none (Ok None) f h = f h
+if_none (Ok (Some x)) f h = h
+if_none (Err e) f h = h
 
 -- ---- signs
 

@@ -183,8 +183,19 @@ fn copy(alloc: Global, list: &[usize]) -> Result<Vec<usize>, AllocError>
     list.to_vec(alloc)
 }
 
+/// Those that were chosen, as a crowd.
+fn crowd_of(alloc: Global, chosen: &[usize], signs: &[Option<bool>]) -> Result<Crowd, AllocError>
+    ensures items { IfOk result (λ c. c.items.items ≡ chosen.now) }
+    ensures signs { IfOk result (λ c. c.signs.items ≡ signs.now) }
+{
+    let items = copy(alloc, chosen)?;
+    let signs = copy_signs(alloc, signs)?;
+    Ok(Crowd { items, signs })
+}
+
 /// A crowd of those that were chosen and items from a place on, or none where there is none.
-#[tactic(auto, using(crate::proofs::CrowdLaws::chosen_more, crate::proofs::CrowdLaws::in_end, crate::proofs::CrowdLaws::in_room, crate::proofs::CrowdLaws::in_skip, crate::proofs::CrowdLaws::in_take))]
+#[cycle(visit)]
+#[tactic(auto, using(crate::proofs::CrowdLaws::in_end, crate::proofs::CrowdLaws::in_room, crate::proofs::CrowdLaws::in_skip))]
 fn visit<E: Equalities, S: Texts>(
     alloc: Global,
     items: &E,
@@ -208,32 +219,60 @@ fn visit<E: Equalities, S: Texts>(
         return Ok(None);
     }
     if texts.few(alloc, signs, chosen.len())? {
-        let items = copy(alloc, chosen)?;
-        let signs = copy_signs(alloc, signs)?;
-        return Ok(Some(Crowd { items, signs }));
+        return Ok(Some(crowd_of(alloc, chosen, signs)?));
     }
     let mut at = items.len();
     while at > from {
         at -= 1;
         if is_apart(items, chosen, at) {
-            let met = meet(alloc, texts, signs, at)?;
-            if texts.few(alloc, met.as_slice(), bound)? {
-                let further = longer(alloc, chosen, at)?;
-                let outcome = visit(
-                    alloc,
-                    items,
-                    texts,
-                    further.as_slice(),
-                    met.as_slice(),
-                    at + 1,
-                )?;
-                if let Some(found) = outcome {
-                    return Ok(Some(found));
-                }
+            let outcome = visit_with(alloc, items, texts, chosen, signs, at, most)?;
+            if let Some(found) = outcome {
+                return Ok(Some(found));
             }
         }
     }
     Ok(None)
+}
+
+/// A crowd of those that were chosen, this item and later ones, where no more than so many further ones can be apart.
+#[cycle(visit)]
+fn visit_with<E: Equalities, S: Texts>(
+    alloc: Global,
+    items: &E,
+    texts: &S,
+    chosen: &[usize],
+    signs: &[Option<bool>],
+    at: usize,
+    most: usize,
+) -> Result<Option<Crowd>, AllocError>
+    requires chosen { IsChosen (E.truth items.now) (S.sign texts.now) (E.size items.now)
+        (S.patterns texts.now) chosen.now signs.now }
+    requires at { at < E.size items.now }
+    requires short { length chosen.now ≤ at }
+    requires apart { All (λ c. E.truth items.now c at ≡ Some false) chosen.now }
+    requires room { HasRoomFrom (E.truth items.now) (S.sign texts.now) (E.size items.now) chosen.now at most }
+    requires few { most ≤ E.size items.now }
+    requires small { E.size items.now < 2 ^ 62 }
+    ensures found { IfOk result (λ o. IfSome o (λ c. IsCrowd (E.truth items.now) (S.sign texts.now) (S.few texts.now)
+        (E.size items.now) (S.patterns texts.now) c.items.items c.signs.items)) }
+    ensures none { IfOk result (λ o. IfNone o (NoneIn (E.truth items.now) (S.sign texts.now) (S.few texts.now)
+        (E.size items.now) signs.now chosen.now (at + 1)
+        → NoneIn (E.truth items.now) (S.sign texts.now) (S.few texts.now) (E.size items.now) signs.now chosen.now at)) }
+{
+    let met = meet(alloc, texts, signs, at)?;
+    let bound = chosen.len() + most;
+    if !texts.few(alloc, met.as_slice(), bound)? {
+        return Ok(None);
+    }
+    let further = longer(alloc, chosen, at)?;
+    visit(
+        alloc,
+        items,
+        texts,
+        further.as_slice(),
+        met.as_slice(),
+        at + 1,
+    )
 }
 
 /// A crowd whose first item is this one, where no more than so many items can be apart.
@@ -262,17 +301,14 @@ fn begin<E: Equalities, S: Texts>(
         return Ok(None);
     }
     let chosen = longer(alloc, empty, item)?;
-    match visit(
+    visit(
         alloc,
         items,
         texts,
         chosen.as_slice(),
         signs.as_slice(),
         item + 1,
-    )? {
-        Some(found) => Ok(Some(found)),
-        None => Ok(None),
-    }
+    )
 }
 
 /// Items, each two of them known to be apart, that are known to have signs which fewer texts have than there are of these

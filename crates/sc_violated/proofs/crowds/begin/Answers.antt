@@ -1,5 +1,6 @@
-use Rattle.std.proofs.Common.{rules, ◌∙◌, ap, ◌++◌, ◌∷◌, [], List, ℕ}
-use Rattle.sc_violated.proofs.CrowdLaws.{after_room, after_next}
+use Rattle.std.proofs.Common.{rules, ◌∙◌, ap, sym, subst, ◌++◌, ◌∷◌, [], List, ℕ}
+use Rattle.sc_violated.specs.Crowds.{IsRow, Signs}
+use Rattle.sc_violated.proofs.CrowdLaws.{after_room, after_next, if_none}
 use Rattle.sc_violated.proofs.crowds.begin.Goals as goal
 
 pub returns-then-not-branch-clause-none : goal.returns-then-not-branch-clause-none
@@ -11,7 +12,10 @@ returns-then-not-branch-clause-none g c =
 
 pub returns-clause-none : goal.returns-clause-none
 returns-clause-none g c =
-    after_next (g.E.Equalities.truth c.args.items.now) (g.S.Texts.sign c.args.texts.now) (g.S.Texts.few c.args.texts.now) (g.E.Equalities.size c.args.items.now) (g.S.Texts.patterns c.args.texts.now)
-    c.in_ok-chosen.chosen.items c.in_ok-signs.signs.items c.args.item c.requires.bound c.in_ok-signs.ensures
-    (c.in_ok-chosen.ensures ∙ ap (λ (l : List ℕ). l ++ c.args.item ∷ []) c.requires.empty)
-    (rw (c.in-None.is, c.as_slice-2.ensures.value, c.as_slice-3.ensures.value) at c.in_ok-found.ensures.none)
+    let row : IsRow (g.S.Texts.sign c.args.texts.now) (g.S.Texts.patterns c.args.texts.now) c.args.item c.as_slice-3.result.now =
+    subst (λ (v : Signs). IsRow (g.S.Texts.sign c.args.texts.now) (g.S.Texts.patterns c.args.texts.now) c.args.item v) (sym c.as_slice-3.ensures.value) c.in_ok-signs.ensures in
+    if_none c.visit.result
+    (after_next (g.E.Equalities.truth c.args.items.now) (g.S.Texts.sign c.args.texts.now) (g.S.Texts.few c.args.texts.now) (g.E.Equalities.size c.args.items.now) (g.S.Texts.patterns c.args.texts.now)
+    c.as_slice-2.result.now c.as_slice-3.result.now c.args.item c.requires.bound row
+    (c.as_slice-2.ensures.value ∙ c.in_ok-chosen.ensures ∙ ap (λ (l : List ℕ). l ++ c.args.item ∷ []) c.requires.empty))
+    c.visit.ensures.none
