@@ -5,7 +5,7 @@ ghost use Rattle.sc_clauses.specs.Assignments.{falsifies};
 ghost use Rattle.sc_clauses.specs.Clauses.{Clause};
 ghost use Rattle.sc_search.specs.Findings.{IsRefutation, IsConsistent, IsSpent, IfRefuted, IfConsistent, IfSpent};
 ghost use Rattle.sc_trails.specs.Steps.{AreListed};
-ghost use Rattle.sc_search.specs.Turns.{HasBegun, IsReady, IsTotal, IsTurn};
+ghost use Rattle.sc_search.specs.Turns.{HasBegun, IsReady, IsSearching, IsTotal, IsTurn};
 ghost use Rattle.sc_trails.specs.Rooms.{cell_value};
 
 use crate::giving::{Given, next_given};
@@ -87,17 +87,39 @@ fn turns_over<S: Source>(
         (S.clause_of source.now) clauses budget) f) }
 {
     let mut solver = Solver::new(alloc, atoms, clauses)?;
-    'turns: loop {
-        match solver.turn(alloc, source, budget)? {
-            Turn::Added => {}
-            Turn::Refuted => return Ok(Found::Refuted(solver.into_steps())),
-            Turn::Consistent(m) => return Ok(Found::Consistent(m)),
-            Turn::Spent => return Ok(Found::Spent(solver.into_steps())),
-        }
-    }
+    solver.find(alloc, source, budget)
 }
 
 impl Solver {
+    /// Goes on to the end, from its first turn.
+    fn find<S: Source>(
+        &mut self,
+        alloc: Global,
+        source: &S,
+        budget: u64,
+    ) -> Result<Found, AllocError>
+        requires begun { IsSearching (length self.old.trail.cells.items - 1) (S.has_instance source.now)
+            (S.clause_of source.now) self.old.clauses budget self.old }
+        requires some { 0 < length self.old.trail.cells.items }
+        requires few_cells { length self.old.trail.cells.items ≤ 10 ^ 18 }
+        requires few_clauses { length self.old.clauses + budget < 10 ^ 18 }
+        ensures refuted { IfOk result (λ f. IfRefuted (IsRefutation (length self.old.trail.cells.items - 1)
+            (S.has_instance source.now) (S.clause_of source.now) self.old.clauses budget) f) }
+        ensures consistent { IfOk result (λ f. IfConsistent (IsConsistent (length self.old.trail.cells.items - 1)
+            (S.has_instance source.now) (S.clause_of source.now) self.old.clauses) f) }
+        ensures spent { IfOk result (λ f. IfSpent (IsSpent (length self.old.trail.cells.items - 1)
+            (S.has_instance source.now) (S.clause_of source.now) self.old.clauses budget) f) }
+    {
+        'turns: loop {
+            match self.turn(alloc, source, budget)? {
+                Turn::Added => {}
+                Turn::Refuted => return Ok(Found::Refuted(self.take_steps(alloc))),
+                Turn::Consistent(m) => return Ok(Found::Consistent(m)),
+                Turn::Spent => return Ok(Found::Spent(self.take_steps(alloc))),
+            }
+        }
+    }
+
     /// Goes on to the next step, or to the end.
     fn turn<S: Source>(
         &mut self,

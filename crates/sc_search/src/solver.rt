@@ -13,6 +13,7 @@ use sc_lists::Seq;
 use sc_trails::{Cell, Pending, Resolvent, Trail, value_of};
 use sc_watches::Watches;
 use std::alloc::{AllocError, Global};
+use std::mem;
 
 /// What a turn of the search ends with.
 #[derive(Drop)]
@@ -89,12 +90,11 @@ impl Solver {
         })
     }
 
-    /// The steps.
-    pub fn into_steps(self) -> Seq<Step>
-        ensures { result ≡ self.steps.items }
+    /// The steps, which the solver gives up.
+    pub fn take_steps(&mut self, alloc: Global) -> Seq<Step>
+        ensures { result ≡ self.old.steps.items }
     {
-        let Solver { steps, .. } = self;
-        Seq::from_vec(steps)
+        Seq::from_vec(mem::replace(&mut self.steps, Vec::new(alloc)))
     }
 
     /// The values of all atoms.

@@ -1,106 +1,63 @@
-use Rattle.std.proofs.Common.{◌≡◌, ◌≢◌, ◌+◌, ◌-◌, ℕ, List, length, subst, sym, ap, ◌∙◌, arith}
-use Rattle.sc_clauses.specs.declared.step.Step.{Step}
-use Rattle.sc_search.proofs.SearchLaws.{consistent-given, count-after, count-more, listed-in-cells, refutation, searching-begins, searching-more, spent}
+use Rattle.std.proofs.Common.{◌≡◌, ◌+◌, ◌-◌, ◌<◌, ◌≤◌, ◌^◌, ℕ, List, length, subst, sym, ap, arith, IfOk}
+use Rattle.sc_clauses.specs.Clauses.{Clause}
+use Rattle.sc_search.proofs.SearchLaws.{listed-in-cells, searching-begins}
 use Rattle.sc_search.proofs.searching.turns_over.Goals as goal
-use Rattle.sc_search.specs.Findings.{IsConsistent, IsDue, IsRefutation, IsSpent}
-use Rattle.sc_search.specs.Turns.{HasAdded, HasEnded, IsReady, IsTurn}
-use Rattle.sc_search.specs.declared.solver.Turn.{Turn}
-use Rattle.sc_search.specs.declared.solver.Turn.TheVariants as turn
+use Rattle.sc_search.specs.Findings.{IfConsistent, IfRefuted, IfSpent, IsConsistent, IsRefutation, IsSpent}
+use Rattle.sc_search.specs.Turns.{IsSearching}
 
 pub new-requires-clause-in_cells : goal.new-requires-clause-in_cells
 new-requires-clause-in_cells g c = listed-in-cells c.args.atoms c.args.clauses c.requires.listed
 
-pub turns-init : goal.turns-init
-turns-init g c =
+pub find-requires-clause-begun : goal.find-requires-clause-begun
+find-requires-clause-begun g c =
     let A = g.S.Source.has_instance c.args.source.now in
     let K = g.S.Source.clause_of c.args.source.now in
+    let s = c.in_ok-solver.solver in
     let made = c.in_ok-solver.ensures in
-    searching-begins A K c.args.atoms c.args.clauses c.args.budget c.in_ok-solver.solver c.requires.listed made.watched made.trail made.seen made.clauses made.steps
+    let size : length s.trail.cells.items ≡ c.args.atoms + 1 = made.count in
+    let e : c.args.atoms ≡ length s.trail.cells.items - 1 = omega arith in
+    subst (λ (m : ℕ). IsSearching m A K s.clauses c.args.budget s) e
+    (subst (λ (cs : List Clause). IsSearching c.args.atoms A K cs c.args.budget s) (sym made.clauses)
+    (searching-begins A K c.args.atoms c.args.clauses c.args.budget s c.requires.listed made.watched made.trail made.seen made.clauses made.steps))
 
-pub turn-requires-clause-ready : goal.turn-requires-clause-ready
-turn-requires-clause-ready g c =
-    let s = c.turns.solver in
-    let ready = c.turns.invariant.ready in
-    subst (λ (m : ℕ). IsReady m s) (sym ready.trail.sized) ready
+pub find-requires-clause-some : goal.find-requires-clause-some
+find-requires-clause-some g c = let size = c.in_ok-solver.ensures.count in omega arith
 
-pub turn-requires-clause-some : goal.turn-requires-clause-some
-turn-requires-clause-some g c = let k = c.turns.invariant.ready.trail.sized in omega arith
+pub find-requires-clause-few_cells : goal.find-requires-clause-few_cells
+find-requires-clause-few_cells g c = let size = c.in_ok-solver.ensures.count in let few = c.requires.few_atoms in omega arith
 
-pub turn-requires-clause-few_cells : goal.turn-requires-clause-few_cells
-turn-requires-clause-few_cells g c = let k = c.turns.invariant.ready.trail.sized in let few = c.requires.few_atoms in omega arith
-
-pub turn-requires-clause-few_clauses : goal.turn-requires-clause-few_clauses
-turn-requires-clause-few_clauses g c =
-    let K = g.S.Source.clause_of c.args.source.now in
-    let s = c.turns.solver in
-    let le = c.turns.invariant.within in
+pub find-requires-clause-few_clauses : goal.find-requires-clause-few_clauses
+find-requires-clause-few_clauses g c =
     let few = c.requires.few_clauses in
-    let count : length s.clauses ≡ length c.args.clauses + length s.steps.items = ap length c.turns.invariant.clauses_are ∙ count-after K c.args.clauses s.steps.items in
-    λ ne. omega arith
-
-pub turns-smaller : goal.turns-smaller
-turns-smaller g c =
-    let A = g.S.Source.has_instance c.args.source.now in
-    let K = g.S.Source.clause_of c.args.source.now in
-    let s = c.turns.solver in
-    let n = length s.trail.cells.items in
-    let size : n ≡ c.args.atoms + 1 = c.turns.invariant.ready.trail.sized in
-    let e : n - 1 ≡ c.args.atoms = omega arith in
-    let fact : HasAdded c.args.atoms A K s.clauses s.steps.items c.turn.new.self × (length s.steps.items ≢ c.args.budget) =
-    subst (λ (m : ℕ). IsTurn m A K s.clauses s.steps.items c.args.budget c.turn.new.self turn.Added) e
-    (subst (λ (t : Turn). IsTurn (n - 1) A K s.clauses s.steps.items c.args.budget c.turn.new.self t) c.in-Added.is c.in_ok-turn.ensures) in
-    let more = count-more A K c.args.atoms c.args.clauses c.args.budget s c.turn.new.self c.turns.invariant fact.0 in
-    let le = c.turns.invariant.within in
-    let ne = fact.1 in
+    let same : length c.in_ok-solver.solver.clauses ≡ length c.args.clauses = ap length c.in_ok-solver.ensures.clauses in
     omega arith
 
-pub turns-preserved : goal.turns-preserved
-turns-preserved g c =
+pub returns-clause-refuted : goal.returns-clause-refuted
+returns-clause-refuted g c =
     let A = g.S.Source.has_instance c.args.source.now in
     let K = g.S.Source.clause_of c.args.source.now in
-    let s = c.turns.solver in
-    let n = length s.trail.cells.items in
-    let size : n ≡ c.args.atoms + 1 = c.turns.invariant.ready.trail.sized in
-    let e : n - 1 ≡ c.args.atoms = omega arith in
-    let fact : HasAdded c.args.atoms A K s.clauses s.steps.items c.turn.new.self × (length s.steps.items ≢ c.args.budget) =
-    subst (λ (m : ℕ). IsTurn m A K s.clauses s.steps.items c.args.budget c.turn.new.self turn.Added) e
-    (subst (λ (t : Turn). IsTurn (n - 1) A K s.clauses s.steps.items c.args.budget c.turn.new.self t) c.in-Added.is c.in_ok-turn.ensures) in
-    searching-more A K c.args.atoms c.args.clauses c.args.budget s c.turn.new.self c.turns.invariant fact.0 fact.1
+    let s = c.in_ok-solver.solver in
+    let size : length s.trail.cells.items ≡ c.args.atoms + 1 = c.in_ok-solver.ensures.count in
+    let e : length s.trail.cells.items - 1 ≡ c.args.atoms = omega arith in
+    subst (λ (m : ℕ). IfOk c.find.result (λ f. IfRefuted (IsRefutation m A K c.args.clauses c.args.budget) f)) e
+    (subst (λ (cs : List Clause). IfOk c.find.result (λ f. IfRefuted (IsRefutation (length s.trail.cells.items - 1) A K cs c.args.budget) f)) c.in_ok-solver.ensures.clauses c.find.ensures.refuted)
 
-pub returns-in-Refuted-clause-refuted : goal.returns-in-Refuted-clause-refuted
-returns-in-Refuted-clause-refuted g c =
+pub returns-clause-consistent : goal.returns-clause-consistent
+returns-clause-consistent g c =
     let A = g.S.Source.has_instance c.args.source.now in
     let K = g.S.Source.clause_of c.args.source.now in
-    let s = c.turns.solver in
-    let n = length s.trail.cells.items in
-    let size : n ≡ c.args.atoms + 1 = c.turns.invariant.ready.trail.sized in
-    let e : n - 1 ≡ c.args.atoms = omega arith in
-    let fact : HasEnded c.args.atoms A K s.clauses s.steps.items c.turn.new.self × (length s.steps.items ≢ c.args.budget) =
-    subst (λ (m : ℕ). IsTurn m A K s.clauses s.steps.items c.args.budget c.turn.new.self turn.Refuted) e
-    (subst (λ (t : Turn). IsTurn (n - 1) A K s.clauses s.steps.items c.args.budget c.turn.new.self t) c.in-Refuted.is c.in_ok-turn.ensures) in
-    subst (λ (ss : List Step). IsRefutation c.args.atoms A K c.args.clauses c.args.budget ss) (sym c.into_steps.ensures)
-    (refutation A K c.args.atoms c.args.clauses c.args.budget s c.turn.new.self c.turns.invariant fact.0 fact.1)
+    let s = c.in_ok-solver.solver in
+    let size : length s.trail.cells.items ≡ c.args.atoms + 1 = c.in_ok-solver.ensures.count in
+    let e : length s.trail.cells.items - 1 ≡ c.args.atoms = omega arith in
+    subst (λ (m : ℕ). IfOk c.find.result (λ f. IfConsistent (IsConsistent m A K c.args.clauses) f)) e
+    (subst (λ (cs : List Clause). IfOk c.find.result (λ f. IfConsistent (IsConsistent (length s.trail.cells.items - 1) A K cs) f)) c.in_ok-solver.ensures.clauses c.find.ensures.consistent)
 
-pub returns-in-Consistent-clause-consistent : goal.returns-in-Consistent-clause-consistent
-returns-in-Consistent-clause-consistent g c =
+pub returns-clause-spent : goal.returns-clause-spent
+returns-clause-spent g c =
     let A = g.S.Source.has_instance c.args.source.now in
     let K = g.S.Source.clause_of c.args.source.now in
-    let s = c.turns.solver in
-    let n = length s.trail.cells.items in
-    let size : n ≡ c.args.atoms + 1 = c.turns.invariant.ready.trail.sized in
-    let e : n - 1 ≡ c.args.atoms = omega arith in
-    let fact : IsConsistent c.args.atoms A K s.clauses c.in-Consistent.m =
-    subst (λ (m : ℕ). IsConsistent m A K s.clauses c.in-Consistent.m) e
-    (subst (λ (t : Turn). IsTurn (n - 1) A K s.clauses s.steps.items c.args.budget c.turn.new.self t) c.in-Consistent.is c.in_ok-turn.ensures) in
-    consistent-given A K c.args.atoms c.args.clauses c.args.budget s c.turn.new.self c.turns.invariant c.in-Consistent.m fact
-
-pub returns-in-Spent-clause-spent : goal.returns-in-Spent-clause-spent
-returns-in-Spent-clause-spent g c =
-    let A = g.S.Source.has_instance c.args.source.now in
-    let K = g.S.Source.clause_of c.args.source.now in
-    let s = c.turns.solver in
-    let n = length s.trail.cells.items in
-    let fact : (c.turn.new.self.steps.items ≡ s.steps.items) × (length s.steps.items ≡ c.args.budget) × IsDue A K s.clauses =
-    subst (λ (t : Turn). IsTurn (n - 1) A K s.clauses s.steps.items c.args.budget c.turn.new.self t) c.in-Spent.is c.in_ok-turn.ensures in
-    subst (λ (ss : List Step). IsSpent c.args.atoms A K c.args.clauses c.args.budget ss) (sym c.into_steps-in-Spent.ensures)
-    (spent A K c.args.atoms c.args.clauses c.args.budget s c.turn.new.self c.turns.invariant fact.0 fact.1 fact.2)
+    let s = c.in_ok-solver.solver in
+    let size : length s.trail.cells.items ≡ c.args.atoms + 1 = c.in_ok-solver.ensures.count in
+    let e : length s.trail.cells.items - 1 ≡ c.args.atoms = omega arith in
+    subst (λ (m : ℕ). IfOk c.find.result (λ f. IfSpent (IsSpent m A K c.args.clauses c.args.budget) f)) e
+    (subst (λ (cs : List Clause). IfOk c.find.result (λ f. IfSpent (IsSpent (length s.trail.cells.items - 1) A K cs c.args.budget) f)) c.in_ok-solver.ensures.clauses c.find.ensures.spent)
