@@ -1,12 +1,13 @@
 //! Actions with all actions that they are in.
-ghost use Rattle.std.specs.Prelude.{◌≡◌, map, IfOk};
-ghost use Rattle.std.specs.List.{AllZip, IsDistinct};
+ghost use Rattle.std.specs.Prelude.{◌≡◌, List, [], Some, map, IfOk, OnOk};
+ghost use Rattle.std.specs.List.{AllZip, IsDistinct, slice_get};
 ghost use Rattle.std.specs.List.Sorted.{IsStrictlySortedBy};
 ghost use Rattle.std.specs.Map.{keys_of};
 ghost use Rattle.sc_names.specs.Uids.{uid_cmp};
 ghost use Rattle.sc_schema.specs.Declarations.{uid_eq};
 ghost use Rattle.sc_schema_resolved.specs.declared.expanded.ExpandedAction.{ExpandedAction as AnyAction};
 ghost use Rattle.sc_schema_hierarchy.specs.Above.{NamesKeys};
+ghost use Rattle.sc_schema_hierarchy.specs.Graphs.{IsGraphOf};
 ghost use Rattle.sc_schema_hierarchy.specs.Schemas.{action_links, AreInOrder, IsActionOf, AreActionsOf};
 
 use crate::above::keys_above;
@@ -47,17 +48,58 @@ fn actions_with_ancestors(
     let graph = graph_of(alloc, links.as_slice())?;
     let mut reachability = Reachability::new(alloc);
     let mut actions = Seq::new(alloc);
-    for action in declared.into_vec() {
-        let ancestors = keys_above(
-            alloc,
-            links.as_slice(),
-            graph.as_slice(),
-            &mut reachability,
-            actions.len(),
-        )?;
-        actions.push(with_ancestors(action, ancestors))?;
-    }
+    put_actions(
+        alloc,
+        &mut actions,
+        links.as_slice(),
+        graph.as_slice(),
+        &mut reachability,
+        declared,
+    )?;
     Ok(actions)
+}
+
+/// Puts actions, each with all actions that it is in, into a list that has none yet.
+fn put_actions(
+    alloc: Global,
+    actions: &mut Seq<Action>,
+    links: &[(Uid, Seq<Uid>)],
+    graph: &[Seq<usize>],
+    reachability: &mut Reachability,
+    declared: Seq<ExpandedAction>,
+) -> Result<(), AllocError>
+    requires none { actions.old ≡ [] }
+    requires links { links.now ≡ action_links declared }
+    requires ascending { IsStrictlySortedBy uid_cmp (keys_of links.now) }
+    requires named { NamesKeys links.now }
+    requires graph { IsGraphOf links.now graph.now }
+    ensures { OnOk result (AllZip (IsActionOf (action_links declared)) declared actions.new) }
+{
+    for action in declared.into_vec() {
+        let at = actions.len();
+        let made = action_with_ancestors(alloc, links, graph, reachability, at, action)?;
+        actions.push(made)?;
+    }
+    Ok(())
+}
+
+/// The action at a place, with all actions that it is in.
+fn action_with_ancestors(
+    alloc: Global,
+    links: &[(Uid, Seq<Uid>)],
+    graph: &[Seq<usize>],
+    reachability: &mut Reachability,
+    at: usize,
+    declared: ExpandedAction,
+) -> Result<Action, AllocError>
+    requires ascending { IsStrictlySortedBy uid_cmp (keys_of links.now) }
+    requires named { NamesKeys links.now }
+    requires graph { IsGraphOf links.now graph.now }
+    ensures { IfOk result (λ made. (all : List AnyAction) → links.now ≡ action_links all
+        → slice_get all at ≡ Some declared → IsActionOf (action_links all) declared made) }
+{
+    let ancestors = keys_above(alloc, links, graph, reachability, at)?;
+    Ok(with_ancestors(declared, ancestors))
 }
 
 /// The uids of actions, each with those of the actions that it is directly in.

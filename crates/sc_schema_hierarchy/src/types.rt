@@ -1,11 +1,12 @@
 //! Entity types with all types that stand above them.
-ghost use Rattle.std.specs.Prelude.{◌≡◌, map, IfOk};
-ghost use Rattle.std.specs.List.{AllZip, IsDistinct};
+ghost use Rattle.std.specs.Prelude.{◌≡◌, List, [], Some, map, IfOk, OnOk};
+ghost use Rattle.std.specs.List.{AllZip, IsDistinct, slice_get};
 ghost use Rattle.std.specs.Map.{keys_of};
 ghost use Rattle.std.specs.Str.{bytes_eq};
 ghost use Rattle.sc_schema.specs.Lawful.{AreAscending};
 ghost use Rattle.sc_schema_resolved.specs.declared.expanded.ExpandedEntityType.{ExpandedEntityType as AnyType};
 ghost use Rattle.sc_schema_hierarchy.specs.Above.{NamesKeys};
+ghost use Rattle.sc_schema_hierarchy.specs.Graphs.{IsGraphOf};
 ghost use Rattle.sc_schema_hierarchy.specs.Schemas.{type_links, IsEntityTypeOf, AreTypesOf};
 
 use crate::above::keys_above;
@@ -46,17 +47,58 @@ fn types_with_ancestors(
     let graph = graph_of(alloc, links.as_slice())?;
     let mut reachability = Reachability::new(alloc);
     let mut types = Seq::new(alloc);
-    for entity_type in declared.into_vec() {
-        let ancestors = keys_above(
-            alloc,
-            links.as_slice(),
-            graph.as_slice(),
-            &mut reachability,
-            types.len(),
-        )?;
-        types.push(with_ancestors(entity_type, ancestors))?;
-    }
+    put_types(
+        alloc,
+        &mut types,
+        links.as_slice(),
+        graph.as_slice(),
+        &mut reachability,
+        declared,
+    )?;
     Ok(types)
+}
+
+/// Puts entity types, each with all types that stand above it, into a list that has none yet.
+fn put_types(
+    alloc: Global,
+    types: &mut Seq<EntityType>,
+    links: &[(Name, Seq<Name>)],
+    graph: &[Seq<usize>],
+    reachability: &mut Reachability,
+    declared: Seq<ExpandedEntityType>,
+) -> Result<(), AllocError>
+    requires none { types.old ≡ [] }
+    requires links { links.now ≡ type_links declared }
+    requires ascending { AreAscending (keys_of links.now) }
+    requires named { NamesKeys links.now }
+    requires graph { IsGraphOf links.now graph.now }
+    ensures { OnOk result (AllZip (IsEntityTypeOf (type_links declared)) declared types.new) }
+{
+    for entity_type in declared.into_vec() {
+        let at = types.len();
+        let made = type_with_ancestors(alloc, links, graph, reachability, at, entity_type)?;
+        types.push(made)?;
+    }
+    Ok(())
+}
+
+/// The entity type at a place, with all types that stand above it.
+fn type_with_ancestors(
+    alloc: Global,
+    links: &[(Name, Seq<Name>)],
+    graph: &[Seq<usize>],
+    reachability: &mut Reachability,
+    at: usize,
+    declared: ExpandedEntityType,
+) -> Result<EntityType, AllocError>
+    requires ascending { AreAscending (keys_of links.now) }
+    requires named { NamesKeys links.now }
+    requires graph { IsGraphOf links.now graph.now }
+    ensures { IfOk result (λ made. (all : List AnyType) → links.now ≡ type_links all
+        → slice_get all at ≡ Some declared → IsEntityTypeOf (type_links all) declared made) }
+{
+    let ancestors = keys_above(alloc, links, graph, reachability, at)?;
+    Ok(with_ancestors(declared, ancestors))
 }
 
 /// The names of entity types, each with those of the types that stand directly above it.

@@ -1,7 +1,7 @@
 use Rattle.std.specs.Vec.Iter.{into_iter_items}
 use Rattle.sc_schema_hierarchy.specs.Schemas.{type_links, IsEntityTypeOf}
 use Rattle.sc_schema_hierarchy.proofs.BuildingLaws.{AreBuilt}
-use Rattle.sc_schema_hierarchy.proofs.types.types_with_ancestors.Given as goal
+use Rattle.sc_schema_hierarchy.proofs.types.put_types.Given as goal
 
 abbrev pub invariant-loop-entity_type : goal.invariant-loop-entity_type
 invariant-loop-entity_type l = record {

@@ -1,7 +1,7 @@
 use Rattle.std.specs.Vec.Iter.{into_iter_items}
 use Rattle.sc_schema_hierarchy.specs.Schemas.{action_links, IsActionOf}
 use Rattle.sc_schema_hierarchy.proofs.BuildingLaws.{AreBuilt}
-use Rattle.sc_schema_hierarchy.proofs.actions.actions_with_ancestors.Given as goal
+use Rattle.sc_schema_hierarchy.proofs.actions.put_actions.Given as goal
 
 abbrev pub invariant-loop-action : goal.invariant-loop-action
 invariant-loop-action l = record {
