@@ -1,3 +1,4 @@
+mod BareLaws
 pub mod JoinLaws
 pub mod TypeOfLaws
 pub mod UntypedLaws

@@ -3,7 +3,7 @@ ghost use Rattle.std.specs.Prelude.{◌≡◌, ℕ, List, map, IfOk};
 ghost use Rattle.sc_ast.specs.declared.expr.Expr.{Expr as AnyExpr};
 ghost use Rattle.sc_typed.specs.Capabilities.{nowhere, bare, bare_name};
 
-use sc_ast::{BinaryOperator, Expr, Place, TypeName};
+use sc_ast::{BinaryOperator, Expr, Literal, Place, TypeName, UnaryOperator};
 use sc_lists::{Boxed, Seq, Text};
 use sc_pattern::Pattern;
 use std::alloc::{AllocError, Global};
@@ -26,17 +26,12 @@ pub fn bare(alloc: Global, expr: &Expr) -> Result<Expr, AllocError>
         Expr::Like(_, a, pattern) => bare_like(alloc, a, pattern),
         Expr::Is(_, a, type_name) => bare_is(alloc, a, type_name),
         Expr::IsIn(_, a, type_name, _, b) => bare_is_in(alloc, a, type_name, b),
-        Expr::Unary(_, operator, a) => {
-            Ok(Expr::Unary(NOWHERE, *operator, bare_boxed(alloc, a)?))
-        }
+        Expr::Unary(_, operator, a) => bare_unary(alloc, *operator, a),
         Expr::Access(_, a, name) => bare_access(alloc, a, name),
-        Expr::Literal(_, literal) => Ok(Expr::Literal(NOWHERE, literal.try_clone(alloc)?)),
+        Expr::Literal(_, literal) => bare_literal(alloc, literal),
         Expr::Variable(_, variable) => Ok(Expr::Variable(NOWHERE, *variable)),
-        Expr::Set(_, members) => Ok(Expr::Set(NOWHERE, bare_all(alloc, members.as_slice())?)),
-        Expr::Record(_, fields) => Ok(Expr::Record(
-            NOWHERE,
-            bare_fields(alloc, fields.as_slice())?,
-        )),
+        Expr::Set(_, members) => bare_set(alloc, members),
+        Expr::Record(_, fields) => bare_record(alloc, fields),
     }
 }
 
@@ -156,26 +151,44 @@ fn bare_access(alloc: Global, a: &Boxed<Expr>, name: &Text) -> Result<Expr, Allo
     Ok(Expr::Access(NOWHERE, bare_boxed(alloc, a)?, name.try_clone(alloc)?))
 }
 
+/// A prefix, or a call with one operand, without places.
 #[cycle(bare)]
-fn bare_all(alloc: Global, exprs: &[Expr]) -> Result<Seq<Expr>, AllocError>
-    ensures { IfOk result (λ copies. copies ≡ map bare exprs.now) }
+fn bare_unary(alloc: Global, operator: UnaryOperator, a: &Boxed<Expr>) -> Result<Expr, AllocError>
+    ensures { IfOk result (λ copy. copy ≡ Expr.Unary nowhere operator (bare a.now)) }
 {
-    let mut copies = Seq::new(alloc);
-    for expr in exprs {
-        copies.push(bare(alloc, expr)?)?;
-    }
-    Ok(copies)
+    Ok(Expr::Unary(NOWHERE, operator, bare_boxed(alloc, a)?))
 }
 
+/// A literal without a place.
+fn bare_literal(alloc: Global, literal: &Literal) -> Result<Expr, AllocError>
+    ensures { IfOk result (λ copy. copy ≡ Expr.Literal nowhere literal.now) }
+{
+    Ok(Expr::Literal(NOWHERE, literal.try_clone(alloc)?))
+}
+
+/// `[a, b]` without places.
 #[cycle(bare)]
-fn bare_fields(alloc: Global, fields: &[(Text, Expr)]) -> Result<Seq<(Text, Expr)>, AllocError>
-    ensures { IfOk result (λ copies. copies ≡ map (λ (f : List ℕ × AnyExpr). (f.0, bare f.1)) fields.now) }
+fn bare_set(alloc: Global, members: &Seq<Expr>) -> Result<Expr, AllocError>
+    ensures { IfOk result (λ copy. copy ≡ Expr.Set nowhere (map bare members.now)) }
 {
     let mut copies = Seq::new(alloc);
-    for field in fields {
+    for member in members.as_slice() {
+        copies.push(bare(alloc, member)?)?;
+    }
+    Ok(Expr::Set(NOWHERE, copies))
+}
+
+/// `{a: x, "b": y}` without places.
+#[cycle(bare)]
+fn bare_record(alloc: Global, fields: &Seq<(Text, Expr)>) -> Result<Expr, AllocError>
+    ensures { IfOk result (λ copy. copy ≡ Expr.Record nowhere
+        (map (λ (f : List ℕ × AnyExpr). (f.0, bare f.1)) fields.now)) }
+{
+    let mut copies = Seq::new(alloc);
+    for field in fields.as_slice() {
         copies.push((field.0.try_clone(alloc)?, bare(alloc, &field.1)?))?;
     }
-    Ok(copies)
+    Ok(Expr::Record(NOWHERE, copies))
 }
 
 fn bare_name(alloc: Global, type_name: &TypeName) -> Result<TypeName, AllocError>

@@ -36,14 +36,17 @@ decreases-bare_is l = 3 * size-Expr l.a.now + 2
 abbrev pub decreases-bare_access : goal.decreases-bare_access
 decreases-bare_access l = 3 * size-Expr l.a.now + 2
 
-abbrev pub decreases-bare_all : goal.decreases-bare_all
-decreases-bare_all l = 3 * goal.size-bare_all l + 1
+abbrev pub decreases-bare_unary : goal.decreases-bare_unary
+decreases-bare_unary l = 3 * size-Expr l.a.now + 2
 
-abbrev pub decreases-bare_fields : goal.decreases-bare_fields
-decreases-bare_fields l = 3 * goal.size-bare_fields l + 1
+abbrev pub decreases-bare_set : goal.decreases-bare_set
+decreases-bare_set l = 3 * goal.size-bare_set l + 1
 
-abbrev pub invariant-bare_all-loop-expr : goal.invariant-bare_all-loop-expr
-invariant-bare_all-loop-expr l = l.copies ≡ map bare (take l.expr-index l.exprs)
+abbrev pub decreases-bare_record : goal.decreases-bare_record
+decreases-bare_record l = 3 * goal.size-bare_record l + 1
 
-abbrev pub invariant-bare_fields-loop-field : goal.invariant-bare_fields-loop-field
-invariant-bare_fields-loop-field l = l.copies ≡ map (λ (f : List ℕ × Expr). (f.0, bare f.1)) (take l.field-index l.fields)
+abbrev pub invariant-bare_set-loop-member : goal.invariant-bare_set-loop-member
+invariant-bare_set-loop-member l = l.copies ≡ map bare (take l.member-index l.members)
+
+abbrev pub invariant-bare_record-loop-field : goal.invariant-bare_record-loop-field
+invariant-bare_record-loop-field l = l.copies ≡ map (λ (f : List ℕ × Expr). (f.0, bare f.1)) (take l.field-index l.fields)
