@@ -38,8 +38,8 @@ pub fn evaluate(alloc: Global, expr: &Expr, world: &World) -> Result<Value, Faul
         Expr::IsIn(_, a, type_name, _, b) => is_and_in(alloc, a.get(), type_name, b.get(), world),
         Expr::Unary(_, operator, a) => apply(alloc, *operator, a.get(), world),
         Expr::Access(_, a, name) => read(alloc, a.get(), name, world),
-        Expr::Literal(_, literal) => Ok(literal_value(alloc, literal)?),
-        Expr::Variable(_, variable) => Ok(variable_value(alloc, *variable, &world.request)?),
+        Expr::Literal(_, literal) => literal_value(alloc, literal),
+        Expr::Variable(_, variable) => variable_value(alloc, *variable, &world.request),
         Expr::Set(_, members) => make_set(alloc, members.as_slice(), world),
         Expr::Record(_, fields) => make_record(alloc, fields.as_slice(), world),
     }

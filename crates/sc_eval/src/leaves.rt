@@ -1,15 +1,18 @@
 //! Literals and variables.
-ghost use Rattle.std.specs.Prelude.{◌≡◌, IfOk};
+ghost use Rattle.std.specs.Prelude.{Ok};
+ghost use Rattle.sc_lists.specs.Told.{Gives};
 ghost use Rattle.sc_eval.specs.Operators.{literal_value, variable_value};
 
+use crate::error::EvalError;
 use sc_ast::{Literal, Variable};
+use sc_lists::Fault;
 use sc_values::{Value, clone_rec};
 use sc_world::Request;
-use std::alloc::{AllocError, Global};
+use std::alloc::Global;
 
 /// A literal's value.
-pub(crate) fn literal_value(alloc: Global, literal: &Literal) -> Result<Value, AllocError>
-    ensures { IfOk result (λ v. v ≡ literal_value literal.now) }
+pub(crate) fn literal_value(alloc: Global, literal: &Literal) -> Result<Value, Fault<EvalError>>
+    ensures { Gives result (Ok (literal_value literal.now)) }
 {
     match literal {
         Literal::Bool(b) => Ok(Value::Bool(*b)),
@@ -24,8 +27,8 @@ pub(crate) fn variable_value(
     alloc: Global,
     variable: Variable,
     request: &Request,
-) -> Result<Value, AllocError>
-    ensures { IfOk result (λ v. v ≡ variable_value variable request.now) }
+) -> Result<Value, Fault<EvalError>>
+    ensures { Gives result (Ok (variable_value variable request.now)) }
 {
     match variable {
         Variable::Principal => Ok(Value::Entity(request.principal.try_clone(alloc)?)),

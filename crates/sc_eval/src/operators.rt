@@ -1,6 +1,7 @@
 //! The operators, in the order of the grammar.
 ghost use Rattle.std.specs.Prelude.{◌≡◌};
 ghost use Rattle.sc_lists.specs.Told.{Gives};
+ghost use Rattle.sc_ast.specs.declared.operator.BinaryOperator.TheVariants.{In};
 ghost use Rattle.sc_eval.specs.Operators.{binary, unary};
 
 use crate::addresses::{is_in_range, is_ipv4, is_ipv6, is_loopback, is_multicast};
@@ -31,26 +32,40 @@ pub(crate) fn binary(
     ensures { Gives result (binary operator world.now x.now y.now) }
 {
     match operator {
-        BinaryOperator::Less => Ok(less(x, y)?),
-        BinaryOperator::LessOrEqual => Ok(less_or_equal(x, y)?),
-        BinaryOperator::Greater => Ok(greater(x, y)?),
-        BinaryOperator::GreaterOrEqual => Ok(greater_or_equal(x, y)?),
+        BinaryOperator::Less => told(less(x, y)),
+        BinaryOperator::LessOrEqual => told(less_or_equal(x, y)),
+        BinaryOperator::Greater => told(greater(x, y)),
+        BinaryOperator::GreaterOrEqual => told(greater_or_equal(x, y)),
         BinaryOperator::Equal => Ok(Value::Bool(is_equal(x, y))),
-        BinaryOperator::In => Ok(Value::Bool(is_in(world, x, y)?)),
-        BinaryOperator::Add => Ok(add(x, y)?),
-        BinaryOperator::Subtract => Ok(subtract(x, y)?),
-        BinaryOperator::Multiply => Ok(multiply(x, y)?),
-        BinaryOperator::Contains => Ok(contains(x, y)?),
-        BinaryOperator::ContainsAll => Ok(contains_all(x, y)?),
-        BinaryOperator::ContainsAny => Ok(contains_any(x, y)?),
-        BinaryOperator::HasTag => Ok(has_tag(world, x, y)?),
+        BinaryOperator::In => told(membership(world, x, y)),
+        BinaryOperator::Add => told(add(x, y)),
+        BinaryOperator::Subtract => told(subtract(x, y)),
+        BinaryOperator::Multiply => told(multiply(x, y)),
+        BinaryOperator::Contains => told(contains(x, y)),
+        BinaryOperator::ContainsAll => told(contains_all(x, y)),
+        BinaryOperator::ContainsAny => told(contains_any(x, y)),
+        BinaryOperator::HasTag => told(has_tag(world, x, y)),
         BinaryOperator::GetTag => get_tag(alloc, world, x, y),
-        BinaryOperator::LessThan => Ok(decimal_less(x, y)?),
-        BinaryOperator::LessThanOrEqual => Ok(decimal_less_or_equal(x, y)?),
-        BinaryOperator::GreaterThan => Ok(decimal_greater(x, y)?),
-        BinaryOperator::GreaterThanOrEqual => Ok(decimal_greater_or_equal(x, y)?),
-        BinaryOperator::IsInRange => Ok(is_in_range(x, y)?),
+        BinaryOperator::LessThan => told(decimal_less(x, y)),
+        BinaryOperator::LessThanOrEqual => told(decimal_less_or_equal(x, y)),
+        BinaryOperator::GreaterThan => told(decimal_greater(x, y)),
+        BinaryOperator::GreaterThanOrEqual => told(decimal_greater_or_equal(x, y)),
+        BinaryOperator::IsInRange => told(is_in_range(x, y)),
     }
+}
+
+/// What is given, where an error is the call's own fault.
+fn told(given: Result<Value, EvalError>) -> Result<Value, Fault<EvalError>>
+    ensures { Gives result given }
+{
+    Ok(given?)
+}
+
+/// `x in y`.
+fn membership(world: &World, x: &Value, y: &Value) -> Result<Value, EvalError>
+    ensures { result ≡ binary In world.now x.now y.now }
+{
+    Ok(Value::Bool(is_in(world, x, y)?))
 }
 
 /// What an operator with one operand gives.
