@@ -36,14 +36,17 @@ fn is_contained(alloc: Global, c: &[(u64, bool)], d: &[(u64, bool)]) -> Result<b
     Ok(contained(&c, &d))
 }
 
+fn put(alloc: Global, clauses: &mut Clauses, lits: &[(u64, bool)]) -> Result<(), AllocError> {
+    let clause = clause(alloc, lits)?;
+    clauses.push(clause.as_slice())
+}
+
 /// Three clauses, the second one empty.
 fn clauses(alloc: Global) -> Result<Clauses, AllocError> {
     let mut clauses = Clauses::new(alloc);
-    let first = clause(alloc, &[(1, true), (2, false)])?;
-    clauses.push(first.as_slice())?;
-    clauses.push(&[])?;
-    let last = clause(alloc, &[(3, false)])?;
-    clauses.push(last.as_slice())?;
+    put(alloc, &mut clauses, &[(1, true), (2, false)])?;
+    put(alloc, &mut clauses, &[])?;
+    put(alloc, &mut clauses, &[(3, false)])?;
     Ok(clauses)
 }
 

@@ -12,23 +12,21 @@ fn nodes(alloc: Global, numbers: &[usize]) -> Result<Seq<usize>, AllocError> {
     Ok(list)
 }
 
-/// 0 goes to 2 and 1, 1 to 3, 3 back to 1 and to a node past the lists, 2 to none, 4 to itself, 5 to
-/// nodes past the lists alone, to one of them twice, 6 to nodes of the lists alone.
-fn graph(alloc: Global) -> Result<Seq<Seq<usize>>, AllocError> {
+fn graph_of(alloc: Global, lists: &[&[usize]]) -> Result<Seq<Seq<usize>>, AllocError> {
     let mut graph = Seq::new(alloc);
-    graph.push(nodes(alloc, &[2, 1])?)?;
-    graph.push(nodes(alloc, &[3])?)?;
-    graph.push(nodes(alloc, &[])?)?;
-    graph.push(nodes(alloc, &[1, 9])?)?;
-    graph.push(nodes(alloc, &[4])?)?;
-    graph.push(nodes(alloc, &[9, 7, 9])?)?;
-    graph.push(nodes(alloc, &[4, 2, 4])?)?;
+    for list in lists {
+        graph.push(nodes(alloc, list)?)?;
+    }
     Ok(graph)
 }
 
+/// 0 goes to 2 and 1, 1 to 3, 3 back to 1 and to a node past the lists, 2 to none, 4 to itself, 5 to
+/// nodes past the lists alone, to one of them twice, 6 to nodes of the lists alone.
+const GRAPH: &[&[usize]] = &[&[2, 1], &[3], &[], &[1, 9], &[4], &[9, 7, 9], &[4, 2, 4]];
+
 /// Whether searches from these nodes, one after another, find just the nodes beside them.
 fn reach(alloc: Global, searches: &[(usize, &[usize])]) -> Result<bool, AllocError> {
-    let graph = graph(alloc)?;
+    let graph = graph_of(alloc, GRAPH)?;
     let mut reachability = Reachability::new(alloc);
     let mut all = true;
     for &(start, wanted) in searches {
@@ -82,10 +80,7 @@ fn a_search_finds_the_same_after_others(rt: HostRuntime) -> Result<(), Fail> {
 
 /// Whether this is the least node of the graph on a cycle.
 fn has_least(alloc: Global, lists: &[&[usize]], least: Option<usize>) -> Result<bool, AllocError> {
-    let mut graph = Seq::new(alloc);
-    for list in lists {
-        graph.push(nodes(alloc, list)?)?;
-    }
+    let graph = graph_of(alloc, lists)?;
     Ok(least_cycle(alloc, graph.as_slice())? == least)
 }
 

@@ -14,15 +14,32 @@ fn pattern(alloc: Global, text: &str) -> Result<Pattern, AllocError> {
     pattern_of(alloc, parts.as_slice())
 }
 
-/// Texts of some patterns with their signs.
-fn texts(alloc: Global, rows: &[(&str, bool)], wanted: u64) -> Result<Vec<String>, AllocError> {
+fn patterns_of(alloc: Global, rows: &[(&str, bool)]) -> Result<Vec<Pattern>, AllocError> {
     let mut patterns = Vec::new(alloc);
-    let mut signs = Vec::new(alloc);
-    for (text, sign) in rows {
+    for (text, _) in rows {
         patterns.push(pattern(alloc, text)?)?;
+    }
+    Ok(patterns)
+}
+
+fn signs_of(alloc: Global, rows: &[(&str, bool)]) -> Result<Vec<bool>, AllocError> {
+    let mut signs = Vec::new(alloc);
+    for (_, sign) in rows {
         signs.push(*sign)?;
     }
+    Ok(signs)
+}
+
+/// Texts of some patterns with their signs.
+fn texts(alloc: Global, rows: &[(&str, bool)], wanted: u64) -> Result<Vec<String>, AllocError> {
+    let patterns = patterns_of(alloc, rows)?;
+    let signs = signs_of(alloc, rows)?;
     strings_of(alloc, patterns.as_slice(), signs.as_slice(), wanted)
+}
+
+/// How many texts are found of some patterns with their signs.
+fn count(alloc: Global, rows: &[(&str, bool)], wanted: u64) -> Result<usize, AllocError> {
+    Ok(texts(alloc, rows, wanted)?.len())
 }
 
 /// Whether there is just this text.
@@ -33,42 +50,45 @@ fn is_only(found: &[String], text: &str) -> bool {
     }
 }
 
+/// Whether just this text is found of some patterns with their signs.
+fn is_only_text(
+    alloc: Global,
+    rows: &[(&str, bool)],
+    wanted: u64,
+    text: &str,
+) -> Result<bool, AllocError> {
+    let found = texts(alloc, rows, wanted)?;
+    Ok(is_only(found.as_slice(), text))
+}
+
 #[test]
 fn one_of_two_wanted(rt: HostRuntime) -> Result<(), Fail> {
-    let found = texts(
-        rt.alloc(),
-        &[("ab*", true), ("a*b", true), ("*b*b", false)],
-        2,
-    )?;
-    assert!(rt; is_only(found.as_slice(), "ab"));
+    let rows = [("ab*", true), ("a*b", true), ("*b*b", false)];
+    assert!(rt; is_only_text(rt.alloc(), &rows, 2, "ab")?);
     Ok(())
 }
 
 #[test]
 fn none(rt: HostRuntime) -> Result<(), Fail> {
-    let found = texts(rt.alloc(), &[("*", false)], 1)?;
-    assert!(rt; found.is_empty());
+    assert!(rt; count(rt.alloc(), &[("*", false)], 1)? == 0);
     Ok(())
 }
 
 #[test]
 fn one_text(rt: HostRuntime) -> Result<(), Fail> {
-    let found = texts(rt.alloc(), &[("a", true)], 5)?;
-    assert!(rt; is_only(found.as_slice(), "a"));
+    assert!(rt; is_only_text(rt.alloc(), &[("a", true)], 5, "a")?);
     Ok(())
 }
 
 #[test]
 fn no_patterns(rt: HostRuntime) -> Result<(), Fail> {
-    let found = texts(rt.alloc(), &[], 3)?;
-    assert!(rt; found.len() == 3);
+    assert!(rt; count(rt.alloc(), &[], 3)? == 3);
     Ok(())
 }
 
 #[test]
 fn many(rt: HostRuntime) -> Result<(), Fail> {
-    let found = texts(rt.alloc(), &[("a*", true), ("*\u{e9}*", true)], 40)?;
-    assert!(rt; found.len() == 40);
+    assert!(rt; count(rt.alloc(), &[("a*", true), ("*\u{e9}*", true)], 40)? == 40);
     Ok(())
 }
 
@@ -97,18 +117,13 @@ const ORDINARY: &[(&str, bool)] = &[
 
 #[test]
 fn twenty_ordinary_patterns(rt: HostRuntime) -> Result<(), Fail> {
-    let found = texts(rt.alloc(), ORDINARY, 3)?;
-    assert!(rt; found.len() == 3);
+    assert!(rt; count(rt.alloc(), ORDINARY, 3)? == 3);
     Ok(())
 }
 
 #[test]
 fn prefixes_that_exclude_each_other(rt: HostRuntime) -> Result<(), Fail> {
-    let found = texts(
-        rt.alloc(),
-        &[("a*", true), ("b*", true), ("*.png", false)],
-        1,
-    )?;
-    assert!(rt; found.is_empty());
+    let rows = [("a*", true), ("b*", true), ("*.png", false)];
+    assert!(rt; count(rt.alloc(), &rows, 1)? == 0);
     Ok(())
 }

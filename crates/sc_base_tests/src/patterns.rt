@@ -1,6 +1,7 @@
 //! Worked rows of patterns and texts.
 use sc_pattern::Part::{Char, Star};
-use sc_pattern::{Pattern, matches, pattern_of};
+use sc_pattern::{Part, Pattern, matches, pattern_of};
+use std::alloc::{AllocError, Global};
 use std::test::Fail;
 
 /// Whether a pattern matches just those texts of a table that are marked.
@@ -10,79 +11,97 @@ fn answers(pattern: &Pattern, table: &[(&str, bool)]) -> bool {
         .all(|(text, wanted)| matches(pattern, text) == *wanted)
 }
 
+/// Whether the pattern of these parts does.
+fn parts_answer(alloc: Global, parts: &[Part], table: &[(&str, bool)]) -> Result<bool, AllocError> {
+    let pattern = pattern_of(alloc, parts)?;
+    Ok(answers(&pattern, table))
+}
+
+/// Whether a pattern has these parts.
+fn has_parts(alloc: Global, parts: &[Part]) -> Result<bool, AllocError> {
+    Ok(pattern_of(alloc, parts)?.parts() == parts)
+}
+
+/// Whether a copy of a pattern is equal to it.
+fn is_copied(alloc: Global, parts: &[Part]) -> Result<bool, AllocError> {
+    let pattern = pattern_of(alloc, parts)?;
+    let copy: Pattern = pattern.try_clone(alloc)?;
+    Ok(copy == pattern)
+}
+
 #[test]
 fn copies(rt: HostRuntime) -> Result<(), Fail> {
-    let parts = [Char('a'), Star, Char('*')];
-    let pattern = pattern_of(rt.alloc(), &parts)?;
-    assert!(rt; pattern.parts() == parts.as_slice());
-    let copy: Pattern = pattern.try_clone(rt.alloc())?;
-    assert!(rt; copy == pattern);
+    assert!(rt; has_parts(rt.alloc(), &[Char('a'), Star, Char('*')])?);
+    assert!(rt; is_copied(rt.alloc(), &[Char('a'), Star, Char('*')])?);
     Ok(())
 }
+
+/// Texts, each with whether the empty pattern matches it.
+const OF_NOTHING: &[(&str, bool)] = &[("", true), ("a", false)];
+
+/// Texts, each with whether the pattern of a star's character matches it.
+const OF_STAR_ALONE: &[(&str, bool)] = &[("*", true), ("", false), ("a", false), ("**", false)];
+
+/// Texts, each with whether the pattern of one letter with an accent matches it.
+const OF_ACCENT: &[(&str, bool)] = &[("\u{e9}", true), ("e\u{301}", false), ("e", false)];
 
 #[test]
 fn no_star(rt: HostRuntime) -> Result<(), Fail> {
-    let none = pattern_of(rt.alloc(), &[])?;
-    assert!(rt; answers(&none, &[("", true), ("a", false)]));
-    let star = pattern_of(rt.alloc(), &[Char('*')])?;
-    assert!(rt;
-        answers(
-            &star,
-            &[("*", true), ("", false), ("a", false), ("**", false)]
-        )
-    );
-    let accent = pattern_of(rt.alloc(), &[Char('\u{e9}')])?;
-    assert!(rt;
-        answers(
-            &accent,
-            &[("\u{e9}", true), ("e\u{301}", false), ("e", false)]
-        )
-    );
+    let alloc = rt.alloc();
+    assert!(rt; parts_answer(alloc, &[], OF_NOTHING)?);
+    assert!(rt; parts_answer(alloc, &[Char('*')], OF_STAR_ALONE)?);
+    assert!(rt; parts_answer(alloc, &[Char('\u{e9}')], OF_ACCENT)?);
     Ok(())
 }
+
+/// Texts, all of which one star matches.
+const OF_STAR: &[(&str, bool)] = &[("", true), ("a", true), ("abc", true), ("é", true)];
+
+/// Texts, each with whether a star between `a` and `c` matches it.
+const OF_MIDDLE: &[(&str, bool)] = &[
+    ("abc", true),
+    ("ac", true),
+    ("acbc", true),
+    ("acb", false),
+    ("a", false),
+    ("c", false),
+];
 
 #[test]
 fn one_star(rt: HostRuntime) -> Result<(), Fail> {
-    let any = pattern_of(rt.alloc(), &[Star])?;
-    assert!(rt; answers(&any, &[("", true), ("a", true), ("abc", true), ("é", true)]));
-    let middle = pattern_of(rt.alloc(), &[Char('a'), Star, Char('c')])?;
-    let rows = [
-        ("abc", true),
-        ("ac", true),
-        ("acbc", true),
-        ("acb", false),
-        ("a", false),
-        ("c", false),
-    ];
-    assert!(rt; answers(&middle, &rows));
+    let alloc = rt.alloc();
+    assert!(rt; parts_answer(alloc, &[Star], OF_STAR)?);
+    assert!(rt; parts_answer(alloc, &[Char('a'), Star, Char('c')], OF_MIDDLE)?);
     Ok(())
 }
 
+/// Texts, each with whether an `a` between stars matches it.
+const OF_INSIDE: &[(&str, bool)] = &[("a", true), ("bab", true), ("", false), ("b", false)];
+
+/// Texts, each with whether two stars between `a` and `b` match it.
+const OF_TWO_STARS: &[(&str, bool)] = &[("ab", true), ("abb", true), ("aba", false), ("", false)];
+
+/// Texts, each with whether `ab` behind a star matches it.
+const OF_END: &[(&str, bool)] = &[("ab", true), ("aaab", true), ("aba", false)];
+
 #[test]
 fn several_stars(rt: HostRuntime) -> Result<(), Fail> {
-    let inside = pattern_of(rt.alloc(), &[Star, Char('a'), Star])?;
-    assert!(rt;
-        answers(
-            &inside,
-            &[("a", true), ("bab", true), ("", false), ("b", false)]
-        )
-    );
-    let twice = pattern_of(rt.alloc(), &[Char('a'), Star, Star, Char('b')])?;
-    assert!(rt;
-        answers(
-            &twice,
-            &[("ab", true), ("abb", true), ("aba", false), ("", false)]
-        )
-    );
-    let end = pattern_of(rt.alloc(), &[Star, Char('a'), Char('b')])?;
-    assert!(rt; answers(&end, &[("ab", true), ("aaab", true), ("aba", false)]));
+    let alloc = rt.alloc();
+    assert!(rt; parts_answer(alloc, &[Star, Char('a'), Star], OF_INSIDE)?);
+    assert!(rt; parts_answer(alloc, &[Char('a'), Star, Star, Char('b')], OF_TWO_STARS)?);
+    assert!(rt; parts_answer(alloc, &[Star, Char('a'), Char('b')], OF_END)?);
     Ok(())
+}
+
+/// Whether a pattern of two stars matches a long text that has only the first letter.
+fn matches_long_text(alloc: Global) -> Result<bool, AllocError> {
+    let pattern = pattern_of(alloc, &[Star, Char('a'), Star, Char('b')])?;
+    let text = "a".repeat(alloc, 200_000)?;
+    Ok(matches(&pattern, text.as_str()))
 }
 
 #[test]
 fn a_long_text(rt: HostRuntime) -> Result<(), Fail> {
-    let pattern = pattern_of(rt.alloc(), &[Star, Char('a'), Star, Char('b')])?;
-    let text = "a".repeat(rt.alloc(), 200_000)?;
-    assert!(rt; !matches(&pattern, text.as_str()));
+    assert!(rt; !matches_long_text(rt.alloc())?);
     Ok(())
 }
