@@ -53,11 +53,14 @@ fn is_not_json(alloc: Global, bytes: &[u8]) -> bool {
     )
 }
 
+/// Texts that have no tree.
+const NO_TREES: &[&str] = &["{", "", "{} {}", r#"{"entities":1e400}"#, r#"["\ud800"]"#];
+
 #[test]
 fn bytes_without_a_tree(rt: HostRuntime) {
     let alloc = rt.alloc();
     assert!(rt; is_told(alloc, "", "not JSON", ""));
-    for text in ["{", "", "{} {}", r#"{"entities":1e400}"#, r#"["\ud800"]"#] {
+    for &text in NO_TREES {
         assert!(rt; is_not_json(alloc, text.as_bytes()), "{text}");
     }
     assert!(rt; is_not_json(alloc, b"[\"\xff\"]".as_slice()));
@@ -293,16 +296,19 @@ fn is_plain(alloc: Global, context: &str) -> Option<bool> {
     }
 }
 
+/// Contexts, each with whether no record has a field with the name of a mark.
+const PLAIN: &[(&str, bool)] = &[
+    (
+        r#"{"a":[{"b":1}],"e":{"__entity":{"id":"0","type":"User"}}}"#,
+        true,
+    ),
+    (r#"{"a":[{"__entity":1,"b":1}]}"#, false),
+    (r#"{"__extn":1,"b":1}"#, false),
+];
+
 #[test]
 fn keys_that_are_plain(rt: HostRuntime) {
-    for (context, plain) in [
-        (
-            r#"{"a":[{"b":1}],"e":{"__entity":{"id":"0","type":"User"}}}"#,
-            true,
-        ),
-        (r#"{"a":[{"__entity":1,"b":1}]}"#, false),
-        (r#"{"__extn":1,"b":1}"#, false),
-    ] {
+    for &(context, plain) in PLAIN {
         assert!(rt; is_plain(rt.alloc(), context) == Some(plain), "{context}");
     }
 }
