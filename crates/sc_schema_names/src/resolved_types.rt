@@ -28,40 +28,30 @@ pub(crate) fn resolved_type(
         WrittenType::Boolean => Ok(ResolvedType::Boolean),
         WrittenType::Long => Ok(ResolvedType::Long),
         WrittenType::String => Ok(ResolvedType::String),
-        WrittenType::Set(element) => Ok(ResolvedType::Set(resolved_element(
-            alloc, declared, namespace, element,
-        )?)),
+        WrittenType::Set(element) => resolved_set(alloc, declared, namespace, element),
         WrittenType::Record(attributes) => Ok(ResolvedType::Record(resolved_attributes(
             alloc, declared, namespace, attributes,
         )?)),
-        WrittenType::Entity(name) => Ok(ResolvedType::Entity(entity_type_of(
-            alloc,
-            declared,
-            namespace,
-            name.as_str(),
-        )?)),
+        WrittenType::Entity(name) => resolved_entity(alloc, declared, namespace, name),
         WrittenType::Extension(kind) => Ok(extension_type(*kind)),
         WrittenType::EntityOrCommon(name) => any_type_of(alloc, declared, namespace, name),
-        WrittenType::Common(name) => Ok(ResolvedType::Common(common_type_of(
-            alloc, declared, namespace, name,
-        )?)),
+        WrittenType::Common(name) => resolved_common(alloc, declared, namespace, name),
     }
 }
 
-/// The members' type of a set type.
+/// A set type, of its members' type.
 #[cycle(resolved)]
-fn resolved_element(
+fn resolved_set(
     alloc: Global,
     declared: &Declared,
     namespace: &str,
     element: &Boxed<WrittenType>,
-) -> Result<Boxed<ResolvedType>, AllocError>
-    ensures { IfOk result (λ type. type ≡ resolved_type (known declared.now) namespace.now element.now) }
+) -> Result<ResolvedType, AllocError>
+    ensures { IfOk result (λ type. type ≡ ResolvedType.Set (resolved_type (known declared.now) namespace.now
+        element.now)) }
 {
-    Boxed::new(
-        alloc,
-        resolved_type(alloc, declared, namespace, element.get())?,
-    )
+    let element = resolved_type(alloc, declared, namespace, element.get())?;
+    Ok(ResolvedType::Set(Boxed::new(alloc, element)?))
 }
 
 /// The attributes of a record type.
@@ -118,6 +108,34 @@ pub(crate) fn entity_type_of(
         Some(name) => Ok(name),
         None => name_of(alloc, text),
     }
+}
+
+/// The entities of the type that a text names.
+fn resolved_entity(
+    alloc: Global,
+    declared: &Declared,
+    namespace: &str,
+    text: &Text,
+) -> Result<ResolvedType, AllocError>
+    ensures { IfOk result (λ type. type ≡ ResolvedType.Entity (entity_type_of (known declared.now) namespace.now
+        text.now)) }
+{
+    let name = entity_type_of(alloc, declared, namespace, text.as_str())?;
+    Ok(ResolvedType::Entity(name))
+}
+
+/// The type that the name of a common type means.
+fn resolved_common(
+    alloc: Global,
+    declared: &Declared,
+    namespace: &str,
+    text: &Text,
+) -> Result<ResolvedType, AllocError>
+    ensures { IfOk result (λ type. type ≡ ResolvedType.Common (common_type_of (known declared.now) namespace.now
+        text.now)) }
+{
+    let name = common_type_of(alloc, declared, namespace, text)?;
+    Ok(ResolvedType::Common(name))
 }
 
 /// The common type that a text names, or the text itself where there is none.

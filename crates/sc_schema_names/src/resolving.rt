@@ -1,8 +1,11 @@
 //! Looks up the names in a schema file.
-ghost use Rattle.std.specs.Prelude.{IfOk, IfErr};
+ghost use Rattle.std.specs.Prelude.{◌≡◌, IfOk, IfErr};
+ghost use Rattle.sc_schema_names.specs.Names.{known_in};
 ghost use Rattle.sc_schema_names.specs.Resolves.{Resolves, Refuses};
+ghost use Rattle.sc_schema_names.specs.Tables.{known};
 
 use crate::checking::schema_fault;
+use crate::declared::Declared;
 use crate::declaring::declared_of;
 use crate::translating::resolved_by;
 use sc_lists::Fault;
@@ -30,8 +33,21 @@ pub fn resolve(alloc: Global, written: &WrittenSchema) -> Result<ResolvedSchema,
     ensures err { IfErr result (λ fault. Refuses written.now fault) }
 {
     let declared = declared_of(alloc, written)?;
-    match schema_fault(alloc, &declared, written)? {
+    resolve_by(alloc, &declared, written)
+}
+
+/// The same, of what the file declares.
+fn resolve_by(
+    alloc: Global,
+    declared: &Declared,
+    written: &WrittenSchema,
+) -> Result<ResolvedSchema, Fault<SchemaFault>>
+    requires { known declared.now ≡ known_in written.now }
+    ensures ok { IfOk result (λ schema. Resolves written.now schema) }
+    ensures err { IfErr result (λ fault. Refuses written.now fault) }
+{
+    match schema_fault(alloc, declared, written)? {
         Some(fault) => Err(Fault::Told(fault)),
-        None => Ok(resolved_by(alloc, &declared, written)?),
+        None => Ok(resolved_by(alloc, declared, written)?),
     }
 }
