@@ -1,12 +1,12 @@
 //! Sets and records that are written in a policy.
-ghost use Rattle.std.specs.Prelude.{◌≡◌, ℕ, List, map, fold, [], IfOk};
+ghost use Rattle.std.specs.Prelude.{◌≡◌, ℕ, List, map, fold, [], IfOk, OnOk};
 ghost use Rattle.sc_lists.specs.Told.{Gives};
 ghost use Rattle.sc_schema.specs.declared.ty.Presence.TheVariants.{Required};
 ghost use Rattle.sc_schema.specs.declared.ty.Ty.{Ty as AnyTy};
-ghost use Rattle.sc_typed.specs.Outcomes.{made};
+ghost use Rattle.sc_typed.specs.Outcomes.{ty, made, joined};
 ghost use Rattle.sc_typing_rules.specs.Rules.{all_joined, member_type, set_of, with_field, record_type};
 
-use crate::logic::joined_with;
+use crate::logic::{boxed_type, joined_with};
 use crate::outcome::plain;
 use sc_ast::Place;
 use sc_lists::{Boxed, Fault, Seq, Shared, Text};
@@ -39,7 +39,7 @@ fn member_type(alloc: Global, place: Place, members: &[TypedExpr]) -> Result<Ty,
             at: place,
         }));
     };
-    let ty = Boxed::new(alloc, copy_of_ty(alloc, first)?)?;
+    let ty = boxed_type(alloc, first)?;
     all_joined(alloc, place, ty, rest)
 }
 
@@ -53,9 +53,22 @@ fn all_joined(
     ensures { Gives result (all_joined place ty members.now) }
 {
     for member in members {
-        ty = Boxed::new(alloc, joined_with(alloc, place, ty.get(), member)?)?;
+        ty = joined_member(alloc, place, ty, member)?;
     }
     Ok(ty.into_inner())
+}
+
+/// The type that a type and that of a member join to, in a box.
+fn joined_member(
+    alloc: Global,
+    place: Place,
+    first: Boxed<Ty>,
+    member: &TypedExpr,
+) -> Result<Boxed<Ty>, Fault<TypeFault>>
+    ensures { Gives result (joined place first (ty member.now)) }
+{
+    let both = joined_with(alloc, place, first.get(), member)?;
+    Ok(Boxed::new(alloc, both)?)
 }
 
 /// `{a: x, b: y}`.
@@ -83,9 +96,22 @@ fn types_of(alloc: Global, fields: &[(Text, TypedExpr)]) -> Result<BTreeMap<Text
 {
     let mut types = BTreeMap::new(alloc);
     for field in fields {
-        types.insert(field.0.try_clone(alloc)?, copy_of_ty(alloc, &field.1)?)?;
+        put_type(alloc, &mut types, field)?;
     }
     Ok(types)
+}
+
+/// Puts the type of a field, in place of that of an earlier one of its name.
+fn put_type(
+    alloc: Global,
+    types: &mut BTreeMap<Text, Ty>,
+    field: &(Text, TypedExpr),
+) -> Result<(), AllocError>
+    ensures { OnOk result (types.new.entries ≡ with_field types.old.entries field.now) }
+{
+    let name = field.0.try_clone(alloc)?;
+    types.insert(name, copy_of_ty(alloc, &field.1)?)?;
+    Ok(())
 }
 
 fn required(

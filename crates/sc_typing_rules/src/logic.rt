@@ -1,6 +1,7 @@
 //! `if`, `||` and `&&`, of operands with their types.
 ghost use Rattle.std.specs.Prelude.{◌≡◌, ◌++◌, [], IfOk, if◌then◌else◌};
 ghost use Rattle.sc_lists.specs.Told.{Gives};
+ghost use Rattle.sc_typed.specs.Capabilities.{common};
 ghost use Rattle.sc_typed.specs.Outcomes.{ty, made, joined};
 ghost use Rattle.sc_typed.specs.Types.{is_false};
 ghost use Rattle.sc_typing_rules.specs.Rules.{first_branch, second_branch, branches, or_type, or_given, disjunction, and_type, and_given, conjunction};
@@ -87,10 +88,32 @@ pub fn branches(
     ensures { Gives result (branches place c a b) }
 {
     boolean(c.expr.get())?;
-    let given = common(alloc, joined(c.given, a.given)?, b.given.as_slice())?;
     let ty = branches_type(alloc, place, a.expr.get(), b.expr.get())?;
-    let expr = TypedExpr::If(place, ty, c.expr, a.expr, b.expr);
-    Ok(made(alloc, expr, given)?)
+    Ok(open_choice(alloc, place, ty, c, a, b)?)
+}
+
+/// `if c then a else b` of a type, where c may be true or false.
+fn open_choice(
+    alloc: Global,
+    place: Place,
+    ty: Ty,
+    c: Typed,
+    a: Typed,
+    b: Typed,
+) -> Result<Typed, AllocError>
+    ensures { IfOk result (λ x. x ≡ made (TypedExpr.If place ty c.expr a.expr b.expr)
+        (common (c.given ++ a.given) b.given)) }
+{
+    let expr = Boxed::new(alloc, TypedExpr::If(place, ty, c.expr, a.expr, b.expr))?;
+    let given = common(alloc, joined(c.given, a.given)?, b.given.as_slice())?;
+    Ok(Typed { expr, given })
+}
+
+/// A copy of the type of an expression, in a box.
+pub(crate) fn boxed_type(alloc: Global, x: &TypedExpr) -> Result<Boxed<Ty>, AllocError>
+    ensures { IfOk result (λ copy. copy ≡ ty x.now) }
+{
+    Boxed::new(alloc, copy_of_ty(alloc, x)?)
 }
 
 /// The type that those of two expressions join to; where they don't, a fault at a place.
@@ -102,7 +125,7 @@ pub fn branches_type(
 ) -> Result<Ty, Fault<TypeFault>>
     ensures { Gives result (joined place (ty a.now) (ty b.now)) }
 {
-    let first = Boxed::new(alloc, copy_of_ty(alloc, a)?)?;
+    let first = boxed_type(alloc, a)?;
     joined_with(alloc, place, first.get(), b)
 }
 
@@ -115,7 +138,7 @@ pub(crate) fn joined_with(
 ) -> Result<Ty, Fault<TypeFault>>
     ensures { Gives result (joined place first.now (ty b.now)) }
 {
-    let second = Boxed::new(alloc, copy_of_ty(alloc, b)?)?;
+    let second = boxed_type(alloc, b)?;
     joined_type(alloc, place, first, second.get())
 }
 

@@ -9,6 +9,7 @@ ghost use Rattle.sc_typed.specs.Types.{is_required};
 ghost use Rattle.sc_typing_rules.specs.Paths.{no_names, step, ended, held, has_always, named, longer, along};
 ghost use Rattle.sc_typing_rules.specs.Rules.{subject, read_type, access, path_of};
 
+use crate::logic::boxed_type;
 use crate::outcome::{made, plain};
 use crate::path::Path;
 use crate::setting::Setting;
@@ -18,7 +19,7 @@ use sc_schema::{Presence, Schema, Ty};
 use sc_typed::bare::{NOWHERE, bare, copy_of_names};
 use sc_typed::capability::{attribute_of, is_known, is_known_in_either};
 use sc_typed::kinds::is_record;
-use sc_typed::operands::{copy_of_ty, object};
+use sc_typed::operands::object;
 use sc_typed::types::{attribute, is_required};
 use sc_typed::{
     Capability, HasStep, Key, TypeFault, TypeRule, Typed, TypedExpr, place_of, type_of,
@@ -146,19 +147,26 @@ fn path_of(
     ensures { Gives result (along setting.now.schema.now place setting.now.known.now
         (subject a.now x.now) no_names names.now) }
 {
-    let ty = Boxed::new(setting.alloc, copy_of_ty(setting.alloc, x)?)?;
-    let object = Boxed::new(setting.alloc, bare(setting.alloc, a)?)?;
     let mut path = no_names(setting.alloc);
-    along(
-        setting,
-        place,
-        names,
-        object,
-        place_of(x),
-        ty.get(),
-        &mut path,
-    )?;
+    follow(setting, place, names, a, x, &mut path)?;
     Ok(path)
+}
+
+/// Puts to a path what is found along names that are asked of an expression.
+fn follow(
+    setting: &Setting<'_>,
+    place: Place,
+    names: &[Text],
+    a: &Expr,
+    x: &TypedExpr,
+    path: &mut Path,
+) -> Result<(), Fault<TypeFault>>
+    ensures { Gives (result_map_both (λ _. path.new) (λ e. e) result)
+        (along setting.now.schema.now place setting.now.known.now (subject a.now x.now) path.old names.now) }
+{
+    let ty = boxed_type(setting.alloc, x)?;
+    let object = Boxed::new(setting.alloc, bare(setting.alloc, a)?)?;
+    along(setting, place, names, object, place_of(x), ty.get(), path)
 }
 
 /// Puts to a path what is found along names, of which the first is asked of an object of a type.

@@ -14,7 +14,7 @@ ghost use Rattle.sc_typed.specs.Literals.{literal_of};
 ghost use Rattle.sc_typed.specs.Types.{join};
 ghost use Rattle.sc_typing_rules.specs.Operators.{longs, decimals, addresses, address, contained, sets, are_entities, compared, equal_by, may_be_in, within, tags, tag_test, tag_read, binary, given_tag, given_by, opposite, negated, negative, emptiness, reads, read_as, unary};
 
-use crate::logic::{joined_type, joined_with};
+use crate::logic::{boxed_type, joined_type, joined_with};
 use crate::setting::Setting;
 use sc_ast::{BinaryOperator, Expr, Place, UnaryOperator};
 use sc_decimal::read_decimal;
@@ -26,7 +26,7 @@ use sc_typed::capability::{is_known, tag_of};
 use sc_typed::kinds::{entity_name, is_either};
 use sc_typed::literals::{literal_of, same_literal, text_of};
 use sc_typed::operands::{
-    boolean, check, copy_of_ty, decimal, entity, group, ip, is_false, is_true, long, set, string,
+    boolean, check, decimal, entity, group, ip, is_false, is_true, long, set, string,
 };
 use sc_typed::types::{join, truth};
 use sc_typed::{Capability, TypeFault, TypeRule, TypedExpr};
@@ -129,8 +129,8 @@ fn compared(
 ) -> Result<Ty, Fault<TypeFault>>
     ensures { Gives result (compared place (ty x.now) (ty y.now)) }
 {
-    let first = Boxed::new(alloc, copy_of_ty(alloc, x)?)?;
-    let second = Boxed::new(alloc, copy_of_ty(alloc, y)?)?;
+    let first = boxed_type(alloc, x)?;
+    let second = boxed_type(alloc, y)?;
     compared_types(alloc, place, first.get(), second.get())
 }
 
