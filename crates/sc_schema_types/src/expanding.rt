@@ -1,17 +1,18 @@
 //! Schemas, each common type in them written out.
-ghost use Rattle.std.specs.Prelude.{◌≡◌, ◌++◌, map, option_map, IfOk, IfErr, OnOk};
+ghost use Rattle.std.specs.Prelude.{◌≡◌, ◌++◌, ℕ, List, map, option_map, IfOk, IfErr, OnOk};
 ghost use Rattle.std.specs.Option.{option_copied};
 ghost use Rattle.sc_schema_types.specs.Expansions.{expanded};
 ghost use Rattle.sc_schema_types.specs.Orders.{IsOrder};
-ghost use Rattle.sc_schema_types.specs.Tables.{type_in};
+ghost use Rattle.sc_schema_types.specs.References.{body_of};
+ghost use Rattle.sc_schema_types.specs.Tables.{body_in, outline_in, outlines_by, type_in};
 ghost use Rattle.sc_schema_types.specs.Types.{record_type, expanded_action, expanded_entity_type, expanded_schema, IsExpansion, Refuses};
 
 use crate::bodies::bodies_of;
 use crate::copying::copy_names;
 use crate::expansion::{expanded, meaning_of};
 use crate::faults::first_fault;
-use crate::outline::outlines_of;
-use sc_lists::{Fault, Seq, Shared};
+use crate::outline::{Outline, outlines_of};
+use sc_lists::{Boxed, Fault, Seq, Shared};
 use sc_names::{Name, clone_uids};
 use sc_schema::Ty;
 use sc_schema_resolved::{
@@ -42,10 +43,27 @@ pub fn expand(
 {
     let bodies = bodies_of(alloc, schema)?;
     let outlines = outlines_of(alloc, &bodies, order)?;
-    match first_fault(alloc, &outlines, schema)? {
+    expand_by(alloc, &bodies, &outlines, order, schema)
+}
+
+/// The same, of the bodies of common types and the outlines of what they stand for.
+fn expand_by(
+    alloc: Global,
+    bodies: &BTreeMap<Name, &ResolvedType>,
+    outlines: &BTreeMap<Name, Outline>,
+    order: &[Name],
+    schema: &ResolvedSchema,
+) -> Result<ExpandedSchema, Fault<SchemaFault>>
+    requires order { IsOrder schema.now order.now }
+    requires bodies { (name : List ℕ) → body_in bodies.now.entries name ≡ body_of schema.now name }
+    requires outlines { outline_in outlines.now.entries ≡ outlines_by (body_in bodies.now.entries) order.now }
+    ensures ok { IfOk result (λ all. IsExpansion schema.now all) }
+    ensures err { IfErr result (λ fault. Refuses schema.now fault) }
+{
+    match first_fault(alloc, outlines, schema)? {
         Some(fault) => Err(Fault::Told(fault)),
         None => {
-            let table = meaning_of(alloc, &bodies, order)?;
+            let table = meaning_of(alloc, bodies, order)?;
             Ok(expanded_schema(alloc, &table, schema)?)
         }
     }
@@ -85,14 +103,27 @@ fn put_entity_types(
     ensures { OnOk result (all.new ≡ all.old ++ map (expanded_entity_type (type_in table.now.entries)) types.now) }
 {
     for declared in types {
-        all.push(ExpandedEntityType {
-            name: declared.name.try_clone(alloc)?,
-            parents: copy_names(alloc, &declared.parents)?,
-            shape: record_type(alloc, table, declared.shape.as_ref())?,
-            tags: tag_type(alloc, table, declared.tags.as_ref())?,
-        })?;
+        all.push(expanded_entity_type(alloc, table, declared)?)?;
     }
     Ok(())
+}
+
+/// An entity type, each common type being looked up in a table.
+fn expanded_entity_type(
+    alloc: Global,
+    table: &BTreeMap<Name, Ty>,
+    declared: &ResolvedEntityType,
+) -> Result<ExpandedEntityType, AllocError>
+    ensures { IfOk result (λ x. x ≡ expanded_entity_type (type_in table.now.entries) declared.now) }
+{
+    let shape = record_type(alloc, table, declared.shape.as_ref())?;
+    let shape = Boxed::new(alloc, shape)?;
+    Ok(ExpandedEntityType {
+        parents: copy_names(alloc, &declared.parents)?,
+        name: declared.name.try_clone(alloc)?,
+        tags: tag_type(alloc, table, declared.tags.as_ref())?,
+        shape: shape.into_inner(),
+    })
 }
 
 fn put_actions(
@@ -104,15 +135,26 @@ fn put_actions(
     ensures { OnOk result (all.new ≡ all.old ++ map (expanded_action (type_in table.now.entries)) actions.now) }
 {
     for action in actions {
-        all.push(ExpandedAction {
-            uid: action.uid.try_clone(alloc)?,
-            parents: clone_uids(alloc, &action.parents)?,
-            principals: copy_names(alloc, &action.principals)?,
-            resources: copy_names(alloc, &action.resources)?,
-            context: record_type(alloc, table, action.context.as_ref())?,
-        })?;
+        all.push(expanded_action(alloc, table, action)?)?;
     }
     Ok(())
+}
+
+/// An action, each common type being looked up in a table.
+fn expanded_action(
+    alloc: Global,
+    table: &BTreeMap<Name, Ty>,
+    action: &ResolvedAction,
+) -> Result<ExpandedAction, AllocError>
+    ensures { IfOk result (λ x. x ≡ expanded_action (type_in table.now.entries) action.now) }
+{
+    Ok(ExpandedAction {
+        parents: clone_uids(alloc, &action.parents)?,
+        principals: copy_names(alloc, &action.principals)?,
+        resources: copy_names(alloc, &action.resources)?,
+        uid: action.uid.try_clone(alloc)?,
+        context: record_type(alloc, table, action.context.as_ref())?,
+    })
 }
 
 /// The type of attributes, and that of records without attributes where none is written.

@@ -100,7 +100,8 @@ fn put_type(
     let Some(body) = bodies.get(name) else {
         return Ok(());
     };
+    let key = name.try_clone(alloc)?;
     let ty = expanded(alloc, table, body)?;
-    table.insert(name.try_clone(alloc)?, ty)?;
+    table.insert(key, ty)?;
     Ok(())
 }
