@@ -12,7 +12,7 @@ use sc_terms::Terms;
 use std::alloc::{AllocError, Global};
 
 /// Where what goes with a term stands: from one place up to another.
-#[derive(Clone, Copy, Debug)]
+#[derive(Clone, Copy)]
 pub(crate) struct Span {
     /// The term's number in the table.
     pub(crate) term: u64,

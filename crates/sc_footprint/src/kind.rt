@@ -3,7 +3,7 @@ ghost use Rattle.std.specs.Prelude.{◌≡◌};
 ghost use Rattle.sc_footprint.specs.Kinds.{place as place_of, same_kind};
 
 /// What rules go over: closed terms of a sort, or what tells of entities of a sort.
-#[derive(Clone, Copy, Debug)]
+#[derive(Clone, Copy)]
 pub enum Kind {
     /// All terms of a sort.
     Any,
