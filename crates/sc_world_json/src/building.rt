@@ -30,10 +30,10 @@ fn request_of(alloc: Global, value: Option<&Json>) -> Result<Request, AllocError
     ensures proper { IfOk result (λ request. IsProperRequest request) }
 {
     Ok(Request {
+        context: record_of(alloc, value_at(value, "context"))?,
         principal: uid_of(alloc, value_at(value, "principal"))?,
         action: uid_of(alloc, value_at(value, "action"))?,
         resource: uid_of(alloc, value_at(value, "resource"))?,
-        context: record_of(alloc, value_at(value, "context"))?,
     })
 }
 

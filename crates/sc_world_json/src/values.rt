@@ -1,15 +1,16 @@
 //! Values as JSON.
-ghost use Rattle.std.specs.Prelude.{◌≡◌, map, IfOk, string_bytes};
+ghost use Rattle.std.specs.Prelude.{◌≡◌, [], map, IfOk, OnOk, string_bytes, codes};
 ghost use Rattle.std.specs.List.{AllByRecursion};
 ghost use Rattle.sc_values.specs.Proper.{IsProper, IsProperRecord};
+ghost use Rattle.serde_json.specs.Data.{string, no_members, member};
 ghost use Rattle.serde_json.specs.View.{view, items_of, items_view, members_view};
 ghost use Rattle.sc_world_json.specs.Text.{value_data, fields_data, extension_data};
 
-use crate::names::reference_value;
+use crate::names::{only_member, reference_value};
 use sc_decimal::write_decimal;
 use sc_ip::write_ip;
 use sc_values::{Rec, Set, Value};
-use serde_json::{Map, Value as Json, json, put};
+use serde_json::{Map, Value as Json, put};
 use std::alloc::{AllocError, Global};
 
 /// A value.
@@ -66,5 +67,25 @@ pub(crate) fn field_values(alloc: Global, fields: &Rec) -> Result<Map<String, Js
 fn extension_value(alloc: Global, function: &str, text: String) -> Result<Json, AllocError>
     ensures { IfOk result (λ v. view v ≡ extension_data function.now (string_bytes text)) }
 {
-    json!(in alloc; {"__extn": {"arg": text, "fn": function}})
+    let mut call = Map::new(alloc);
+    put_call(alloc, &mut call, function, text)?;
+    let value = only_member(alloc, "__extn", Json::Object(call))?;
+    Ok(value)
+}
+
+/// Puts the text and the name of a call into an object that has no members yet.
+fn put_call(
+    alloc: Global,
+    members: &mut Map<String, Json>,
+    function: &str,
+    text: String,
+) -> Result<(), AllocError>
+    requires { members.old.entries ≡ [] }
+    ensures { OnOk result (members_view members.new.entries ≡ member (codes "arg") (string (string_bytes text))
+        (member (codes "fn") (string function.now) no_members)) }
+{
+    put(members, alloc, "arg", Json::String(text))?;
+    let name = Json::try_from_str(alloc, function)?;
+    put(members, alloc, "fn", name)?;
+    Ok(())
 }
