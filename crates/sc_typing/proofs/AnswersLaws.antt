@@ -1,5 +1,5 @@
 -- What typing answers for an expression is what it answers for its construct.
-use Rattle.std.proofs.Common.{◌≡◌, ℕ, List, [], map, Result, Ok, ap, sym, subst, ◌∙◌}
+use Rattle.std.proofs.Common.{◌≡◌, ℕ, List, [], map, Result, ap, sym, subst, ◌∙◌}
 use Rattle.sc_lists.specs.declared.fault.Fault.{Fault}
 use Rattle.sc_lists.specs.Told.{Gives}
 use Rattle.sc_ast.specs.declared.expr.Expr.{Expr}
@@ -17,7 +17,7 @@ use Rattle.sc_typed.specs.declared.fault.TypeFault.{TypeFault}
 use Rattle.sc_typed.specs.declared.outcome.Typed.{Typed}
 use Rattle.sc_typed.specs.declared.typed_expr.TypedExpr.TheVariants as typed
 use Rattle.sc_typed.specs.Capabilities.{Capabilities}
-use Rattle.sc_typed.specs.Outcomes.{Outcome, made}
+use Rattle.sc_typed.specs.Outcomes.{Outcome, gives}
 use Rattle.sc_typing_rules.specs.Rules.{choice, either, both, operated, having, matching, tested, tested_in, applied, accessed, literal_typed, variable_type, set_literal, record_literal}
 use Rattle.sc_typing.specs.Typing.{typing, part}
 use Rattle.sc_typing.proofs.TypingLaws.{typing_If, typing_Or, typing_And, typing_Binary, typing_Has, typing_Like, typing_Is, typing_IsIn, typing_Unary, typing_Access, typing_Literal, typing_Variable, typing_Set, typing_Record}
@@ -31,10 +31,8 @@ module _ (s : Declarations) (env : Env) where
   by_rule : (r : Answer) (x y : Expr) (known : Capabilities) (o : Outcome) → x ≡ y → typing s env y known ≡ o → Gives r o → Gives r (typing s env x known)
   by_rule r x y known o at same h = subst (λ z. Gives r (typing s env z known)) (sym at) (subst (Gives r) (sym same) h)
 
-  pub gives_If : (r : Answer) (x : Expr) (place : Place) (c a b c_seen a_seen b_seen : Expr) (known : Capabilities) → x ≡ expr.If place c a b → c_seen ≡ c → a_seen ≡ a → b_seen ≡ b
-      → Gives r (choice place (part s env c_seen) (part s env a_seen) (part s env b_seen) known) → Gives r (typing s env x known)
-  gives_If r x place c a b c_seen a_seen b_seen known at p q u h =
-      by_rule r x (expr.If place c_seen a_seen b_seen) known _ (at ∙ sym (λ i. expr.If place (p i) (q i) (u i))) (typing_If s env place c_seen a_seen b_seen known) h
+  pub gives_If : (r : Answer) (x : Expr) (place : Place) (c a b : Expr) (known : Capabilities) → x ≡ expr.If place c a b → Gives r (choice place (part s env c) (part s env a) (part s env b) known) → Gives r (typing s env x known)
+  gives_If r x place c a b known at h = by_rule r x (expr.If place c a b) known _ at (typing_If s env place c a b known) h
 
   pub gives_Or : (r : Answer) (x : Expr) (place : Place) (a b : Expr) (known : Capabilities) → x ≡ expr.Or place a b → Gives r (either place (part s env a) (part s env b) known) → Gives r (typing s env x known)
   gives_Or r x place a b known at h = by_rule r x (expr.Or place a b) known _ at (typing_Or s env place a b known) h
@@ -45,8 +43,9 @@ module _ (s : Declarations) (env : Env) where
   pub gives_Binary : (r : Answer) (x : Expr) (place : Place) (operator : BinaryOperator) (a b : Expr) (known : Capabilities) → x ≡ expr.Binary place operator a b → Gives r (operated s place operator (part s env a) (part s env b) known) → Gives r (typing s env x known)
   gives_Binary r x place operator a b known at h = by_rule r x (expr.Binary place operator a b) known _ at (typing_Binary s env place operator a b known) h
 
-  pub gives_Has : (r : Answer) (x : Expr) (place : Place) (a : Expr) (names : List (List ℕ)) (known : Capabilities) → x ≡ expr.Has place a names → Gives r (having s place names (part s env a) known) → Gives r (typing s env x known)
-  gives_Has r x place a names known at h = by_rule r x (expr.Has place a names) known _ at (typing_Has s env place a names known) h
+  pub gives_Has : (r : Answer) (x : Expr) (place : Place) (a : Expr) (names seen : List (List ℕ)) (known : Capabilities) → x ≡ expr.Has place a names → seen ≡ names
+      → Gives r (having s place seen (part s env a) known) → Gives r (typing s env x known)
+  gives_Has r x place a names seen known at p h = by_rule r x (expr.Has place a seen) known _ (at ∙ sym (ap (expr.Has place a) p)) (typing_Has s env place a seen known) h
 
   pub gives_Like : (r : Answer) (x : Expr) (place : Place) (a : Expr) (pattern : List Part) (known : Capabilities) → x ≡ expr.Like place a pattern → Gives r (matching place pattern (part s env a) known) → Gives r (typing s env x known)
   gives_Like r x place a pattern known at h = by_rule r x (expr.Like place a pattern) known _ at (typing_Like s env place a pattern known) h
@@ -71,8 +70,8 @@ module _ (s : Declarations) (env : Env) where
       → Gives r (record_literal place (map (λ (f : List ℕ × Expr). (f.0, part s env f.1)) seen) known) → Gives r (typing s env x known)
   gives_Record r x place fields seen known at p h = by_rule r x (expr.Record place seen) known _ (at ∙ sym (ap (expr.Record place) p)) (typing_Record s env place seen known) h
 
-  pub gives_Literal : (t : Typed) (x : Expr) (place : Place) (l : Literal) (known : Capabilities) → x ≡ expr.Literal place l → t ≡ made (literal_typed place l) [] → typing s env x known ≡ Ok t
-  gives_Literal t x place l known at h = ap (λ z. typing s env z known) at ∙ typing_Literal s env place l known ∙ ap Ok (sym h)
+  pub gives_Literal : (r : Answer) (x : Expr) (place : Place) (l : Literal) (known : Capabilities) → x ≡ expr.Literal place l → Gives r (gives (literal_typed place l) []) → Gives r (typing s env x known)
+  gives_Literal r x place l known at h = by_rule r x (expr.Literal place l) known _ at (typing_Literal s env place l known) h
 
-  pub gives_Variable : (t : Typed) (x : Expr) (place : Place) (v : Variable) (known : Capabilities) → x ≡ expr.Variable place v → t ≡ made (typed.Variable place (variable_type s env v) v) [] → typing s env x known ≡ Ok t
-  gives_Variable t x place v known at h = ap (λ z. typing s env z known) at ∙ typing_Variable s env place v known ∙ ap Ok (sym h)
+  pub gives_Variable : (r : Answer) (x : Expr) (place : Place) (v : Variable) (known : Capabilities) → x ≡ expr.Variable place v → Gives r (gives (typed.Variable place (variable_type s env v) v) []) → Gives r (typing s env x known)
+  gives_Variable r x place v known at h = by_rule r x (expr.Variable place v) known _ at (typing_Variable s env place v known) h

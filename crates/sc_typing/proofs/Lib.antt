@@ -1,3 +1,4 @@
+mod ActingLaws
 pub mod TypingLaws
 pub mod ToComeLaws
 pub mod ErasureLaws

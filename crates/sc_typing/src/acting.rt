@@ -3,7 +3,7 @@ ghost use Rattle.std.specs.Prelude.{◌≡◌, ℕ, List, map, IfOk};
 ghost use Rattle.sc_ast.specs.declared.expr.Expr.{Expr as AnyExpr};
 ghost use Rattle.sc_typing.specs.Policies.{acting, acting_variable};
 
-use sc_ast::{BinaryOperator, Expr, Literal, Place, TypeName, Variable};
+use sc_ast::{BinaryOperator, Expr, Literal, Place, TypeName, UnaryOperator, Variable};
 use sc_lists::{Boxed, Seq, Text};
 use sc_names::Uid;
 use sc_pattern::Pattern;
@@ -14,7 +14,7 @@ use std::alloc::{AllocError, Global};
 /// the expression does.
 #[cycle(acting)]
 #[tactic(auto, unfolding(crate::specs::Policies::acting))]
-pub(crate) fn acting(alloc: Global, action: &Uid, expr: &Expr) -> Result<Expr, AllocError>
+fn acting(alloc: Global, action: &Uid, expr: &Expr) -> Result<Expr, AllocError>
     ensures { IfOk result (λ copy. copy ≡ acting action.now expr.now) }
 {
     match expr {
@@ -26,22 +26,22 @@ pub(crate) fn acting(alloc: Global, action: &Uid, expr: &Expr) -> Result<Expr, A
         Expr::Like(place, a, pattern) => acting_like(alloc, action, *place, a, pattern),
         Expr::Is(place, a, type_name) => acting_is(alloc, action, *place, a, type_name),
         Expr::IsIn(place, a, t, at, b) => acting_is_in(alloc, action, *place, a, t, *at, b),
-        Expr::Unary(place, operator, a) => {
-            Ok(Expr::Unary(*place, *operator, acting_boxed(alloc, action, a)?))
-        }
+        Expr::Unary(place, operator, a) => acting_unary(alloc, action, *place, *operator, a),
         Expr::Access(place, a, name) => acting_access(alloc, action, *place, a, name),
-        Expr::Literal(place, literal) => Ok(Expr::Literal(*place, literal.try_clone(alloc)?)),
-        Expr::Variable(place, variable) => Ok(acting_variable(alloc, action, *place, *variable)?),
-        Expr::Set(place, members) => Ok(Expr::Set(*place, acting_all(alloc, action, members)?)),
-        Expr::Record(place, fields) => {
-            Ok(Expr::Record(*place, acting_fields(alloc, action, fields)?))
-        }
+        Expr::Literal(place, literal) => copy_of_literal(alloc, *place, literal),
+        Expr::Variable(place, variable) => acting_variable(alloc, action, *place, *variable),
+        Expr::Set(place, members) => acting_set(alloc, action, *place, members),
+        Expr::Record(place, fields) => acting_record(alloc, action, *place, fields),
     }
 }
 
 /// A part of an expression with the action's uid.
 #[cycle(acting)]
-fn acting_boxed(alloc: Global, action: &Uid, expr: &Boxed<Expr>) -> Result<Boxed<Expr>, AllocError>
+pub(crate) fn acting_boxed(
+    alloc: Global,
+    action: &Uid,
+    expr: &Boxed<Expr>,
+) -> Result<Boxed<Expr>, AllocError>
     ensures { IfOk result (λ copy. copy ≡ acting action.now expr.now) }
 {
     Boxed::new(alloc, acting(alloc, action, expr.get())?)
@@ -220,30 +220,60 @@ fn acting_access(
     ))
 }
 
+/// A prefix, or a call with one operand, with the action's uid.
 #[cycle(acting)]
-fn acting_all(alloc: Global, action: &Uid, exprs: &Seq<Expr>) -> Result<Seq<Expr>, AllocError>
-    ensures { IfOk result (λ copies. copies ≡ map (acting action.now) exprs.now) }
-{
-    let mut copies = Seq::new(alloc);
-    for expr in exprs.as_slice() {
-        copies.push(acting(alloc, action, expr)?)?;
-    }
-    Ok(copies)
-}
-
-#[cycle(acting)]
-fn acting_fields(
+fn acting_unary(
     alloc: Global,
     action: &Uid,
+    place: Place,
+    operator: UnaryOperator,
+    a: &Boxed<Expr>,
+) -> Result<Expr, AllocError>
+    ensures { IfOk result (λ copy. copy ≡ Expr.Unary place operator (acting action.now a.now)) }
+{
+    Ok(Expr::Unary(place, operator, acting_boxed(alloc, action, a)?))
+}
+
+/// `[a, b]` with the action's uid.
+#[cycle(acting)]
+fn acting_set(
+    alloc: Global,
+    action: &Uid,
+    place: Place,
+    members: &Seq<Expr>,
+) -> Result<Expr, AllocError>
+    ensures { IfOk result (λ copy. copy ≡ Expr.Set place (map (acting action.now) members.now)) }
+{
+    let mut copies = Seq::new(alloc);
+    for member in members.as_slice() {
+        copies.push(acting(alloc, action, member)?)?;
+    }
+    Ok(Expr::Set(place, copies))
+}
+
+/// `{a: x, "b": y}` with the action's uid.
+#[cycle(acting)]
+fn acting_record(
+    alloc: Global,
+    action: &Uid,
+    place: Place,
     fields: &Seq<(Text, Expr)>,
-) -> Result<Seq<(Text, Expr)>, AllocError>
-    ensures { IfOk result (λ copies. copies ≡ map (λ (f : List ℕ × AnyExpr). (f.0, acting action.now f.1)) fields.now) }
+) -> Result<Expr, AllocError>
+    ensures { IfOk result (λ copy. copy ≡ Expr.Record place (map (λ (f : List ℕ × AnyExpr).
+        (f.0, acting action.now f.1)) fields.now)) }
 {
     let mut copies = Seq::new(alloc);
     for field in fields.as_slice() {
         copies.push((field.0.try_clone(alloc)?, acting(alloc, action, &field.1)?))?;
     }
-    Ok(copies)
+    Ok(Expr::Record(place, copies))
+}
+
+/// A literal, in which nothing is replaced.
+fn copy_of_literal(alloc: Global, place: Place, literal: &Literal) -> Result<Expr, AllocError>
+    ensures { IfOk result (λ copy. copy ≡ Expr.Literal place literal.now) }
+{
+    Ok(Expr::Literal(place, literal.try_clone(alloc)?))
 }
 
 /// A variable, or the action's uid in its place.

@@ -3,14 +3,13 @@ ghost use Rattle.std.specs.Prelude.{◌≡◌, IfOk};
 ghost use Rattle.sc_lists.specs.Told.{Gives};
 ghost use Rattle.sc_schema.specs.Declarations.{environments};
 ghost use Rattle.sc_typing.specs.Checking.{refusing, fault_in, first_in, type_fault};
-ghost use Rattle.sc_typing.specs.Policies.{typed_policy};
 
 use crate::ill_typed::IllTyped;
-use crate::policy::type_policy;
+use crate::policy::boxed_policy;
 use sc_ast::{Policy, PolicySet};
-use sc_lists::{Boxed, Fault};
+use sc_lists::Fault;
 use sc_schema::{Env, Schema, environments};
-use sc_typed::{TypeFault, TypedExpr};
+use sc_typed::TypeFault;
 use std::alloc::{AllocError, Global};
 
 /// Types each policy in each environment of a schema. The error is the first policy that has no type in
@@ -61,19 +60,6 @@ fn check_in(
         Err(Fault::Told(fault)) => Err(Fault::Told(ill_typed(alloc, i, env, fault)?)),
         Err(Fault::NoMemory) => Err(Fault::NoMemory),
     }
-}
-
-/// The condition of a policy with its types, in a box.
-fn boxed_policy(
-    alloc: Global,
-    schema: &Schema,
-    env: &Env,
-    policy: &Policy,
-) -> Result<Boxed<TypedExpr>, Fault<TypeFault>>
-    ensures { Gives result (typed_policy schema.now env.now policy.now) }
-{
-    let typed = type_policy(alloc, schema, env, policy)?;
-    Ok(Boxed::new(alloc, typed)?)
 }
 
 fn ill_typed(alloc: Global, i: usize, env: &Env, fault: TypeFault) -> Result<IllTyped, AllocError>

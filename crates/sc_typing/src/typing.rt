@@ -1,12 +1,13 @@
 //! Typing of expressions. It goes as deep as the expression does.
-ghost use Rattle.std.specs.Prelude.{◌≡◌, ◌++◌, ℕ, List, map};
+ghost use Rattle.std.specs.Prelude.{◌≡◌, ◌++◌, ℕ, List, map, []};
 ghost use Rattle.sc_lists.specs.Told.{Gives};
 ghost use Rattle.sc_ast.specs.declared.expr.Expr.{Expr as AnyExpr};
+ghost use Rattle.sc_typed.specs.Outcomes.{gives};
 ghost use Rattle.sc_typing.specs.Settings.{seen, typed_in, choice_first, choice_second, choice_rest, tested_among};
-ghost use Rattle.sc_typing_rules.specs.Rules.{choice, choice_open, either, both, operated, contained, membership, computed, having, matching, tested, tested_in, applied, accessed, all_typed, set_literal, fields_typed, record_literal};
+ghost use Rattle.sc_typing_rules.specs.Rules.{choice, choice_open, either, both, operated, contained, membership, computed, having, matching, tested, tested_in, applied, accessed, literal_typed, variable_type, all_typed, set_literal, fields_typed, record_literal};
 ghost use Rattle.sc_typing.specs.Typing.{typing};
 
-use sc_ast::{BinaryOperator, Expr, Place, TypeName, UnaryOperator};
+use sc_ast::{BinaryOperator, Expr, Literal, Place, TypeName, UnaryOperator, Variable};
 use sc_lists::{Boxed, Fault, Seq, Text};
 use sc_pattern::Pattern;
 use sc_schema::Ty;
@@ -30,27 +31,24 @@ use sc_typing_rules::operations::{
 /// Operands are typed from left to right, but for those that a rule skips, and then their kinds are
 /// asked for. The first fault stands.
 #[cycle(typing)]
-#[tactic(auto, using(crate::proofs::AnswersLaws::gives_Or, crate::proofs::AnswersLaws::gives_And, crate::proofs::AnswersLaws::gives_Binary, crate::proofs::AnswersLaws::gives_Has, crate::proofs::AnswersLaws::gives_Like, crate::proofs::AnswersLaws::gives_Is, crate::proofs::AnswersLaws::gives_IsIn, crate::proofs::AnswersLaws::gives_Unary, crate::proofs::AnswersLaws::gives_Access))]
 pub(crate) fn type_expr(setting: &Setting<'_>, expr: &Expr) -> Result<Typed, Fault<TypeFault>>
     ensures { Gives result (typed_in setting.now expr.now) }
 {
     match expr {
-        Expr::If(place, c, a, b) => choose(setting, *place, c.get(), a.get(), b.get()),
-        Expr::Or(place, a, b) => or_else(setting, *place, a.get(), b.get()),
-        Expr::And(place, a, b) => and_also(setting, *place, a.get(), b.get()),
-        Expr::Binary(place, operator, a, b) => {
-            type_binary(setting, *place, *operator, a.get(), b.get())
-        }
-        Expr::Has(place, a, names) => type_has(setting, *place, names.as_slice(), a.get()),
-        Expr::Like(place, a, pattern) => type_like(setting, *place, pattern, a.get()),
-        Expr::Is(place, a, type_name) => type_is(setting, *place, type_name, a.get()),
+        Expr::If(place, c, a, b) => choose(setting, *place, c, a, b),
+        Expr::Or(place, a, b) => or_else(setting, *place, a, b),
+        Expr::And(place, a, b) => and_also(setting, *place, a, b),
+        Expr::Binary(place, operator, a, b) => type_binary(setting, *place, *operator, a, b),
+        Expr::Has(place, a, names) => type_has(setting, *place, names.as_slice(), a),
+        Expr::Like(place, a, pattern) => type_like(setting, *place, pattern, a),
+        Expr::Is(place, a, type_name) => type_is(setting, *place, type_name, a),
         Expr::IsIn(place, a, type_name, in_place, b) => {
-            type_is_in(setting, *place, type_name, *in_place, a.get(), b.get())
+            type_is_in(setting, *place, type_name, *in_place, a, b)
         }
-        Expr::Unary(place, operator, a) => type_unary(setting, *place, *operator, a.get()),
-        Expr::Access(place, a, name) => type_access(setting, *place, name, a.get()),
-        Expr::Literal(place, l) => Ok(literal(setting.alloc, *place, l)?),
-        Expr::Variable(place, x) => Ok(variable(setting, *place, *x)?),
+        Expr::Unary(place, operator, a) => type_unary(setting, *place, *operator, a),
+        Expr::Access(place, a, name) => type_access(setting, *place, name, a),
+        Expr::Literal(place, l) => type_literal(setting, *place, l),
+        Expr::Variable(place, x) => type_variable(setting, *place, *x),
         Expr::Set(place, members) => type_set(setting, *place, members.as_slice()),
         Expr::Record(place, fields) => type_record(setting, *place, fields.as_slice()),
     }
@@ -83,14 +81,14 @@ fn type_under(
 fn choose(
     setting: &Setting<'_>,
     place: Place,
-    c: &Expr,
-    a: &Expr,
-    b: &Expr,
+    c: &Boxed<Expr>,
+    a: &Boxed<Expr>,
+    b: &Boxed<Expr>,
 ) -> Result<Typed, Fault<TypeFault>>
     ensures { Gives result (choice place (seen setting.now c.now) (seen setting.now a.now)
         (seen setting.now b.now) setting.now.known.now) }
 {
-    let x = type_expr(setting, c)?;
+    let x = type_expr(setting, c.get())?;
     if is_true(x.expr.get()) {
         return choose_first(setting, place, x, a, b);
     }
@@ -106,13 +104,13 @@ fn choose_first(
     setting: &Setting<'_>,
     place: Place,
     x: Typed,
-    a: &Expr,
-    b: &Expr,
+    a: &Boxed<Expr>,
+    b: &Boxed<Expr>,
 ) -> Result<Typed, Fault<TypeFault>>
     ensures { Gives result (choice_first place x (seen setting.now a.now) b.now setting.now.known.now) }
 {
-    let y = type_under(setting, x.given.as_slice(), a)?;
-    Ok(first_branch(setting.alloc, place, x, y, b)?)
+    let y = type_under(setting, x.given.as_slice(), a.get())?;
+    Ok(first_branch(setting.alloc, place, x, y, b.get())?)
 }
 
 /// `if c then a else b` where c is false.
@@ -121,13 +119,13 @@ fn choose_second(
     setting: &Setting<'_>,
     place: Place,
     x: Typed,
-    a: &Expr,
-    b: &Expr,
+    a: &Boxed<Expr>,
+    b: &Boxed<Expr>,
 ) -> Result<Typed, Fault<TypeFault>>
     ensures { Gives result (choice_second place x a.now (seen setting.now b.now) setting.now.known.now) }
 {
-    let z = type_expr(setting, b)?;
-    Ok(second_branch(setting.alloc, place, x, a, z)?)
+    let z = type_expr(setting, b.get())?;
+    Ok(second_branch(setting.alloc, place, x, a.get(), z)?)
 }
 
 /// `if c then a else b` where c may be true or false.
@@ -136,13 +134,13 @@ fn choose_open(
     setting: &Setting<'_>,
     place: Place,
     x: Typed,
-    a: &Expr,
-    b: &Expr,
+    a: &Boxed<Expr>,
+    b: &Boxed<Expr>,
 ) -> Result<Typed, Fault<TypeFault>>
     ensures { Gives result (choice_open place x (seen setting.now a.now) (seen setting.now b.now)
         setting.now.known.now) }
 {
-    let y = type_under(setting, x.given.as_slice(), a)?;
+    let y = type_under(setting, x.given.as_slice(), a.get())?;
     choose_rest(setting, place, x, y, b)
 }
 
@@ -153,11 +151,11 @@ fn choose_rest(
     place: Place,
     x: Typed,
     y: Typed,
-    b: &Expr,
+    b: &Boxed<Expr>,
 ) -> Result<Typed, Fault<TypeFault>>
     ensures { Gives result (choice_rest place x y (seen setting.now b.now) setting.now.known.now) }
 {
-    let z = type_expr(setting, b)?;
+    let z = type_expr(setting, b.get())?;
     branches(setting.alloc, place, x, y, z)
 }
 
@@ -165,16 +163,16 @@ fn choose_rest(
 fn or_else(
     setting: &Setting<'_>,
     place: Place,
-    a: &Expr,
-    b: &Expr,
+    a: &Boxed<Expr>,
+    b: &Boxed<Expr>,
 ) -> Result<Typed, Fault<TypeFault>>
     ensures { Gives result (either place (seen setting.now a.now) (seen setting.now b.now) setting.now.known.now) }
 {
-    let x = type_expr(setting, a)?;
+    let x = type_expr(setting, a.get())?;
     if is_true(x.expr.get()) {
-        return Ok(or_true(setting.alloc, place, x, b)?);
+        return Ok(or_true(setting.alloc, place, x, b.get())?);
     }
-    let y = type_expr(setting, b)?;
+    let y = type_expr(setting, b.get())?;
     disjunction(setting.alloc, place, x, y)
 }
 
@@ -182,16 +180,16 @@ fn or_else(
 fn and_also(
     setting: &Setting<'_>,
     place: Place,
-    a: &Expr,
-    b: &Expr,
+    a: &Boxed<Expr>,
+    b: &Boxed<Expr>,
 ) -> Result<Typed, Fault<TypeFault>>
     ensures { Gives result (both place (seen setting.now a.now) (seen setting.now b.now) setting.now.known.now) }
 {
-    let x = type_expr(setting, a)?;
+    let x = type_expr(setting, a.get())?;
     if is_false(x.expr.get()) {
-        return Ok(and_false(setting.alloc, place, x, b)?);
+        return Ok(and_false(setting.alloc, place, x, b.get())?);
     }
-    let y = type_under(setting, x.given.as_slice(), b)?;
+    let y = type_under(setting, x.given.as_slice(), b.get())?;
     conjunction(setting.alloc, place, x, y)
 }
 
@@ -200,8 +198,8 @@ fn type_binary(
     setting: &Setting<'_>,
     place: Place,
     operator: BinaryOperator,
-    a: &Expr,
-    b: &Expr,
+    a: &Boxed<Expr>,
+    b: &Boxed<Expr>,
 ) -> Result<Typed, Fault<TypeFault>>
     ensures { Gives result (operated setting.now.schema.now place operator (seen setting.now a.now)
         (seen setting.now b.now) setting.now.known.now) }
@@ -217,12 +215,14 @@ fn type_operands(
     setting: &Setting<'_>,
     place: Place,
     operator: BinaryOperator,
-    a: &Expr,
-    b: &Expr,
+    a: &Boxed<Expr>,
+    b: &Boxed<Expr>,
 ) -> Result<Typed, Fault<TypeFault>>
     ensures { Gives result (computed setting.now.schema.now place operator (seen setting.now a.now)
         (seen setting.now b.now) setting.now.known.now) }
 {
+    let a = a.get();
+    let b = b.get();
     let x = type_expr(setting, a)?;
     let y = type_expr(setting, b)?;
     operate(setting, place, operator, a, b, x.into_expr(), y.into_expr())
@@ -232,14 +232,15 @@ fn type_operands(
 fn type_in(
     setting: &Setting<'_>,
     place: Place,
-    a: &Expr,
-    b: &Expr,
+    a: &Boxed<Expr>,
+    b: &Boxed<Expr>,
 ) -> Result<Typed, Fault<TypeFault>>
     ensures { Gives result (contained setting.now.schema.now place (seen setting.now a.now)
         (seen setting.now b.now) setting.now.known.now) }
 {
+    let a = a.get();
     let x = type_expr(setting, a)?;
-    let right = type_right(setting, a, b, x.expr.get())?;
+    let right = type_right(setting, a, b.get(), x.expr.get())?;
     Ok(contain(setting.alloc, place, x.into_expr(), right)?)
 }
 
@@ -267,11 +268,12 @@ fn type_has(
     setting: &Setting<'_>,
     place: Place,
     names: &[Text],
-    a: &Expr,
+    a: &Boxed<Expr>,
 ) -> Result<Typed, Fault<TypeFault>>
     ensures { Gives result (having setting.now.schema.now place names.now (seen setting.now a.now)
         setting.now.known.now) }
 {
+    let a = a.get();
     let x = type_expr(setting, a)?;
     has(setting, place, names, a, x.into_expr())
 }
@@ -281,11 +283,11 @@ fn type_like(
     setting: &Setting<'_>,
     place: Place,
     pattern: &Pattern,
-    a: &Expr,
+    a: &Boxed<Expr>,
 ) -> Result<Typed, Fault<TypeFault>>
     ensures { Gives result (matching place pattern.now (seen setting.now a.now) setting.now.known.now) }
 {
-    let x = type_expr(setting, a)?;
+    let x = type_expr(setting, a.get())?;
     like(setting.alloc, place, pattern, x.into_expr())
 }
 
@@ -294,11 +296,11 @@ fn type_is(
     setting: &Setting<'_>,
     place: Place,
     type_name: &TypeName,
-    a: &Expr,
+    a: &Boxed<Expr>,
 ) -> Result<Typed, Fault<TypeFault>>
     ensures { Gives result (tested place type_name.now (seen setting.now a.now) setting.now.known.now) }
 {
-    let x = type_expr(setting, a)?;
+    let x = type_expr(setting, a.get())?;
     is(setting.alloc, place, type_name, x.into_expr())
 }
 
@@ -308,17 +310,24 @@ fn type_is_in(
     place: Place,
     type_name: &TypeName,
     in_place: Place,
-    a: &Expr,
-    b: &Expr,
+    a: &Boxed<Expr>,
+    b: &Boxed<Expr>,
 ) -> Result<Typed, Fault<TypeFault>>
     ensures { Gives result (tested_in setting.now.schema.now place type_name.now in_place (seen setting.now a.now)
         (seen setting.now b.now) setting.now.known.now) }
 {
-    let x = type_expr(setting, a)?;
+    let x = type_expr(setting, a.get())?;
     if is_of(x.expr.get(), type_name)? {
         return type_among(setting, place, type_name, in_place, a, x, b);
     }
-    Ok(is_not(setting.alloc, place, type_name, in_place, x.into_expr(), b)?)
+    Ok(is_not(
+        setting.alloc,
+        place,
+        type_name,
+        in_place,
+        x.into_expr(),
+        b.get(),
+    )?)
 }
 
 /// `a is T in b` where a is of the type T.
@@ -328,14 +337,14 @@ fn type_among(
     place: Place,
     type_name: &TypeName,
     in_place: Place,
-    a: &Expr,
+    a: &Boxed<Expr>,
     x: Typed,
-    b: &Expr,
+    b: &Boxed<Expr>,
 ) -> Result<Typed, Fault<TypeFault>>
     ensures { Gives result (tested_among setting.now.schema.now place type_name.now in_place a.now x.expr
         (seen setting.now b.now) setting.now.known.now) }
 {
-    let right = type_right(setting, a, b, x.expr.get())?;
+    let right = type_right(setting, a.get(), b.get(), x.expr.get())?;
     Ok(is_in(
         setting.alloc,
         place,
@@ -351,10 +360,11 @@ fn type_unary(
     setting: &Setting<'_>,
     place: Place,
     operator: UnaryOperator,
-    a: &Expr,
+    a: &Boxed<Expr>,
 ) -> Result<Typed, Fault<TypeFault>>
     ensures { Gives result (applied place operator (seen setting.now a.now) setting.now.known.now) }
 {
+    let a = a.get();
     let x = type_expr(setting, a)?;
     apply(setting.alloc, place, operator, a, x.into_expr())
 }
@@ -364,13 +374,37 @@ fn type_access(
     setting: &Setting<'_>,
     place: Place,
     name: &Text,
-    a: &Expr,
+    a: &Boxed<Expr>,
 ) -> Result<Typed, Fault<TypeFault>>
     ensures { Gives result (accessed setting.now.schema.now place name.now (seen setting.now a.now)
         setting.now.known.now) }
 {
+    let a = a.get();
     let x = type_expr(setting, a)?;
     access(setting, place, name, a, x.into_expr())
+}
+
+/// A literal with its type.
+fn type_literal(
+    setting: &Setting<'_>,
+    place: Place,
+    value: &Literal,
+) -> Result<Typed, Fault<TypeFault>>
+    ensures { Gives result (gives (literal_typed place value.now) []) }
+{
+    Ok(literal(setting.alloc, place, value)?)
+}
+
+/// A variable with its type.
+fn type_variable(
+    setting: &Setting<'_>,
+    place: Place,
+    name: Variable,
+) -> Result<Typed, Fault<TypeFault>>
+    ensures { Gives result (gives (TypedExpr.Variable place (variable_type setting.now.schema.now
+        setting.now.env.now name) name) []) }
+{
+    Ok(variable(setting, place, name)?)
 }
 
 #[cycle(typing)]

@@ -18,11 +18,14 @@ decreases-acting_binary l = 3 * max (size-Expr l.a.now) (size-Expr l.b.now) + 2
 abbrev pub decreases-acting_is_in : goal.decreases-acting_is_in
 decreases-acting_is_in l = 3 * max (size-Expr l.a.now) (size-Expr l.b.now) + 2
 
-abbrev pub decreases-acting_all : goal.decreases-acting_all
-decreases-acting_all l = 3 * goal.size-acting_all l + 1
+abbrev pub decreases-acting_unary : goal.decreases-acting_unary
+decreases-acting_unary l = 3 * size-Expr l.a.now + 2
 
-abbrev pub decreases-acting_fields : goal.decreases-acting_fields
-decreases-acting_fields l = 3 * goal.size-acting_fields l + 1
+abbrev pub decreases-acting_set : goal.decreases-acting_set
+decreases-acting_set l = 3 * goal.size-acting_set l + 1
+
+abbrev pub decreases-acting_record : goal.decreases-acting_record
+decreases-acting_record l = 3 * goal.size-acting_record l + 1
 
 abbrev pub decreases-acting_has : goal.decreases-acting_has
 decreases-acting_has l = 3 * size-Expr l.a.now + 2
@@ -42,8 +45,8 @@ decreases-acting_or l = 3 * max (size-Expr l.a.now) (size-Expr l.b.now) + 2
 abbrev pub decreases-acting_and : goal.decreases-acting_and
 decreases-acting_and l = 3 * max (size-Expr l.a.now) (size-Expr l.b.now) + 2
 
-abbrev pub invariant-acting_all-loop-expr : goal.invariant-acting_all-loop-expr
-invariant-acting_all-loop-expr l = l.copies ≡ map (acting l.action) (take l.expr-index l.exprs)
+abbrev pub invariant-acting_set-loop-member : goal.invariant-acting_set-loop-member
+invariant-acting_set-loop-member l = l.copies ≡ map (acting l.action) (take l.member-index l.members)
 
-abbrev pub invariant-acting_fields-loop-field : goal.invariant-acting_fields-loop-field
-invariant-acting_fields-loop-field l = l.copies ≡ map (λ (f : List ℕ × Expr). (f.0, acting l.action f.1)) (take l.field-index l.fields)
+abbrev pub invariant-acting_record-loop-field : goal.invariant-acting_record-loop-field
+invariant-acting_record-loop-field l = l.copies ≡ map (λ (f : List ℕ × Expr). (f.0, acting l.action f.1)) (take l.field-index l.fields)
