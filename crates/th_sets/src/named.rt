@@ -8,7 +8,7 @@ use sc_nodes::{BinaryOp, Node};
 use std::alloc::{AllocError, Global};
 
 /// What a closed term names, its parts by the numbers of closed terms.
-#[derive(Clone, Copy, Debug)]
+#[derive(Clone, Copy)]
 pub(crate) enum Named {
     /// That a set has a member.
     Member(u64, u64),
