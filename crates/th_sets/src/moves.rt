@@ -25,13 +25,19 @@ pub(crate) struct Memberships<'a, 'b> {
     sets: Vec<u64>,
 }
 
+/// The number at a place.
+fn number_at(numbers: &[u64], place: usize) -> Option<u64>
+    ensures { result ≡ slice_get numbers.now place }
+{
+    numbers.get(place).copied()
+}
+
 /// The closed term whose number stands at a place, by its number in the table.
 fn term_at(problem: &Problem<'_>, numbers: &[u64], place: usize) -> Option<u64>
     ensures value { result ≡ placed_at problem.now numbers.now place }
     ensures within { IfSome result (λ n. n < length problem.now.nodes) }
 {
-    let number = numbers.get(place)?;
-    problem.term(*number)
+    problem.term(number_at(numbers, place)?)
 }
 
 impl<'a, 'b> Paths for Memberships<'a, 'b> {
@@ -179,10 +185,10 @@ fn move_at(all: &Memberships<'_, '_>, start: usize, middle: usize, end: usize) -
     ensures { result ≡ move_named (slice_get all.now.members.items middle) (slice_get all.now.members.items start)
         (slice_get all.now.sets.items end) }
 {
-    let x = all.members.as_slice().get(middle)?;
-    let y = all.members.as_slice().get(start)?;
-    let set = all.sets.as_slice().get(end)?;
-    Some(SetRule::Se1(*x, *y, *set))
+    let x = number_at(all.members.as_slice(), middle)?;
+    let y = number_at(all.members.as_slice(), start)?;
+    let set = number_at(all.sets.as_slice(), end)?;
+    Some(SetRule::Se1(x, y, set))
 }
 
 /// An instance of SE1 that an assignment falsifies; none where there is none.
