@@ -2,12 +2,12 @@
 ghost use Rattle.std.specs.Prelude.{◌≡◌, ◌<◌, length, Some, IfOk};
 ghost use Rattle.sc_schema.specs.declared.ty.Presence.TheVariants.{Optional};
 ghost use Rattle.sc_schema.specs.declared.ty.Ty.{out-Ty};
-ghost use Rattle.sc_terms.specs.Folds.{present_term};
+ghost use Rattle.sc_terms.specs.Folds.{field_term, present_term};
 ghost use Rattle.sc_terms.specs.Tables.{tree, Keeps, StandsFor};
 ghost use Rattle.sc_typed.specs.Outcomes.{ty as type_in};
 ghost use Rattle.sc_codes.specs.Objects.{presence_of, attributes_sort, object_in, field_of, has_code, read_code, access_code, along_code, path_code};
 ghost use Rattle.sc_codes.specs.Numbers.{IsCode, StandsAs, code_at};
-ghost use Rattle.sc_codes.specs.Code.{code};
+ghost use Rattle.sc_codes.specs.Code.{after, code};
 
 use crate::logic::{and, tell};
 use crate::opt::Opt;
@@ -67,9 +67,23 @@ fn field(
     ensures kept { Keeps terms.old terms.new }
 {
     let object = object(setting, terms, ty, a)?;
-    let name = name.try_clone(setting.alloc)?;
-    let n = terms.field(object, name)?;
+    let n = record_field(setting, terms, name, object)?;
     Ok(n)
+}
+
+/// The field of a name of a record.
+fn record_field(
+    setting: &Setting<'_>,
+    terms: &mut Terms,
+    name: &Text,
+    a: u64,
+) -> Result<u64, AllocError>
+    requires { a < length terms.old }
+    ensures ok { IfOk result (λ n. StandsFor terms.new n (field_term name.now (tree terms.old a))) }
+    ensures kept { Keeps terms.old terms.new }
+{
+    let name = name.try_clone(setting.alloc)?;
+    terms.field(a, name)
 }
 
 /// `a has name`, of an object of a type.
@@ -125,11 +139,24 @@ pub fn access(
 {
     match type_of(expr) {
         Some(ty) => read(setting, terms, ty, name, a),
-        None => {
-            let ty = Ty::Bool;
-            read(setting, terms, &ty, name, a)
-        }
+        None => read_record(setting, terms, name, a),
     }
+}
+
+/// `a.name`, of a record that has the attribute.
+fn read_record(
+    setting: &Setting<'_>,
+    terms: &mut Terms,
+    name: &Text,
+    a: Opt,
+) -> Result<Opt, AllocError>
+    requires { IsCode terms.old a }
+    ensures ok { IfOk result (λ o. StandsAs terms.new o (after (code_at terms.old a) (field_term name.now
+        (tree terms.old a.val)))) }
+    ensures kept { Keeps terms.old terms.new }
+{
+    let val = record_field(setting, terms, name, a.val)?;
+    Ok(Opt { ok: a.ok, val })
 }
 
 /// `a.name`, of an object of a type.

@@ -7,7 +7,7 @@ ghost use Rattle.sc_terms.specs.Tables.{Keeps};
 ghost use Rattle.sc_codes.specs.Objects as objects;
 ghost use Rattle.sc_codes.specs.Numbers.{HasVariables};
 
-use sc_lists::{Seq, Shared};
+use sc_lists::Seq;
 use sc_schema::{Env, Schema, Ty, context_of};
 use sc_sorts::{Sort, entity_sort, sort_of};
 use sc_terms::Terms;
@@ -15,7 +15,7 @@ use std::alloc::{AllocError, Global};
 
 /// The variables of an environment's requests, by their numbers in a table. They are made once: the
 /// sort of a context may be large, and stands in its term.
-#[derive(Clone, Copy, Debug, PartialEq, Eq)]
+#[derive(Clone, Copy)]
 pub struct Variables {
     /// Who asks.
     pub principal: u64,
@@ -70,14 +70,12 @@ fn context_sort(alloc: Global, schema: &Schema, env: &Env) -> Result<Sort, Alloc
 }
 
 /// The sort of a type, and of records without fields where there is none.
+#[tactic(auto, using(sc_sorts::proofs::OfTypesLaws::sort_of_Record))]
 pub fn record_sort(alloc: Global, ty: Option<&Ty>) -> Result<Sort, AllocError>
     ensures { IfOk result (λ s. s ≡ sort_of_type (unwrap_or (option_copied ty.entry) (Record []))) }
 {
     match ty {
         Some(ty) => sort_of(alloc, ty),
-        None => {
-            let empty = Ty::Record(Shared::new(alloc, Seq::new(alloc))?);
-            sort_of(alloc, &empty)
-        }
+        None => Ok(Sort::Record(Seq::new(alloc))),
     }
 }
