@@ -61,10 +61,11 @@ fn entity_of(alloc: Global, value: &Json) -> Result<(Uid, EntityData), AllocErro
     ensures value { IfOk result (λ entity. entity ≡ entity_of (view value.now)) }
     ensures proper { IfOk result (λ entity. IsProperEntry entity) }
 {
+    let uid = uid_of(alloc, value.get("uid"))?;
     let entity = EntityData {
-        attrs: record_of(alloc, value.get("attrs"))?,
         ancestors: uids_of(alloc, value.get("parents"))?,
+        attrs: record_of(alloc, value.get("attrs"))?,
         tags: record_of(alloc, value.get("tags"))?,
     };
-    Ok((uid_of(alloc, value.get("uid"))?, entity))
+    Ok((uid, entity))
 }
