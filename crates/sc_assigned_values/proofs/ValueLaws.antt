@@ -1,9 +1,8 @@
 -- The value that a model gives a term of each sort, and what it shows.
-use Rattle.std.proofs.Common.{◌≡◌, ◌+◌, ◌++◌, ℕ, zero, suc, ℤ, Bool, true, false, List, [], ◌∷◌, map, flat_map, take, slice_get, Some, None, refl, sym, ap, ◌∙◌, arith}
+use Rattle.std.proofs.Common.{◌≡◌, ◌+◌, ◌++◌, ℕ, zero, suc, Bool, true, false, List, [], ◌∷◌, map, flat_map, take, slice_get, Some, None, refl, sym, ap, ◌∙◌, arith}
 use Rattle.std.proofs.lemmas.List.{append-nil, append_assoc}
 use Rattle.sc_lists.proofs.MemberLaws.{Has-from_Contains, Contains-from_Has}
 use Rattle.sc_clauses.specs.Assignments.{Assignment}
-use Rattle.sc_ip.specs.declared.ip.Ip.{Ip}
 use Rattle.sc_names.specs.declared.uid.Uid.{Uid}
 use Rattle.sc_values.specs.declared.value.Value.{Value}
 use Rattle.sc_values.specs.declared.value.Value.TheVariants as value
@@ -86,20 +85,20 @@ module _ (p : Posed) (m : Assignment) (names : List (List ℕ)) where
   pub bool_at : (k : Sort) (x : Tree) (b : Bool) → k ≡ sort.Bool → b ≡ lit (truth_in p m) x → value.Bool b ≡ value_at k x
   bool_at k x b e h = at_sort k sort.Bool x (value.Bool b) _ e (of_bool x) (ap value.Bool h)
 
-  pub long_at : (k : Sort) (x : Tree) (n : ℤ) → k ≡ sort.Long → n ≡ of_bits64 (λ i. lit (truth_in p m) (bit_term x i)) → value.Long n ≡ value_at k x
-  long_at k x n e h = at_sort k sort.Long x (value.Long n) _ e (of_long x) (ap value.Long h)
+  pub long_at : (k : Sort) (x : Tree) (v : Value) → k ≡ sort.Long → v ≡ value.Long (of_bits64 (λ i. lit (truth_in p m) (bit_term x i))) → v ≡ value_at k x
+  long_at k x v e h = at_sort k sort.Long x v _ e (of_long x) h
 
-  pub string_at : (k : Sort) (x : Tree) (text : List ℕ) → k ≡ sort.String → text ≡ name_in p names x → value.String text ≡ value_at k x
-  string_at k x text e h = at_sort k sort.String x (value.String text) _ e (of_string x) (ap value.String h)
+  pub string_at : (k : Sort) (x : Tree) (v : Value) → k ≡ sort.String → v ≡ value.String (name_in p names x) → v ≡ value_at k x
+  string_at k x v e h = at_sort k sort.String x v _ e (of_string x) h
 
-  pub decimal_at : (k : Sort) (x : Tree) (n : ℤ) → k ≡ sort.Decimal → n ≡ of_bits64 (λ i. lit (truth_in p m) (bit_term x i)) → value.Decimal n ≡ value_at k x
-  decimal_at k x n e h = at_sort k sort.Decimal x (value.Decimal n) _ e (of_decimal x) (ap value.Decimal h)
+  pub decimal_at : (k : Sort) (x : Tree) (v : Value) → k ≡ sort.Decimal → v ≡ value.Decimal (of_bits64 (λ i. lit (truth_in p m) (bit_term x i))) → v ≡ value_at k x
+  decimal_at k x v e h = at_sort k sort.Decimal x v _ e (of_decimal x) h
 
-  pub ip_at : (k : Sort) (x : Tree) (ip : Ip) → k ≡ sort.Ip → ip ≡ ip_of (λ i. lit (truth_in p m) (bit_term x i)) → value.Ip ip ≡ value_at k x
-  ip_at k x ip e h = at_sort k sort.Ip x (value.Ip ip) _ e (of_ip x) (ap value.Ip h)
+  pub ip_at : (k : Sort) (x : Tree) (v : Value) → k ≡ sort.Ip → v ≡ value.Ip (ip_of (λ i. lit (truth_in p m) (bit_term x i))) → v ≡ value_at k x
+  ip_at k x v e h = at_sort k sort.Ip x v _ e (of_ip x) h
 
-  pub entity_at : (k : Sort) (x : Tree) (name : List ℕ) (us : List Uid) (u : Uid) → k ≡ sort.Entity name us → u ≡ (model p m names).uid x → value.Entity u ≡ value_at k x
-  entity_at k x name us u e h = at_sort k (sort.Entity name us) x (value.Entity u) _ e (of_entity name us x) (ap value.Entity h)
+  pub entity_at : (k : Sort) (x : Tree) (name : List ℕ) (us : List Uid) (v : Value) → k ≡ sort.Entity name us → v ≡ value.Entity ((model p m names).uid x) → v ≡ value_at k x
+  entity_at k x name us v e h = at_sort k (sort.Entity name us) x v _ e (of_entity name us x) h
 
   pub set_at : (k : Sort) (x : Tree) (j : Sort) (vs : List Value) → k ≡ sort.Set j → vs ≡ set_from (map (value_at j) (assigned (model p m names) x)) → value.Set vs ≡ value_at k x
   set_at k x j vs e h = at_sort k (sort.Set j) x (value.Set vs) _ e (of_set j x) (ap value.Set h)

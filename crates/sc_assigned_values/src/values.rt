@@ -1,16 +1,21 @@
 //! The value of a closed term, by its sort.
-ghost use Rattle.std.specs.Prelude.{◌≡◌, ◌++◌, Contains, ℕ, List, flat_map, map, IfOk, OnOk};
+ghost use Rattle.std.specs.Prelude.{◌≡◌, ◌<◌, ◌++◌, Contains, ℕ, List, flat_map, length, map, IfOk, OnOk};
 ghost use Rattle.std.specs.List.{AllByRecursion};
 ghost use Rattle.sc_assigned_values.specs.Parts.{IsOf};
 ghost use Rattle.sc_assigned_values.specs.Values.{shown};
-ghost use Rattle.sc_models.specs.Models.{model};
+ghost use Rattle.sc_bits.specs.Addresses.{ip_of};
+ghost use Rattle.sc_bits.specs.Bits.{of_bits64};
+ghost use Rattle.sc_clauses.specs.Assignments.{Assignment as AnyAssignment};
+ghost use Rattle.sc_models.specs.Models.{model, name_in, truth_in};
+ghost use Rattle.sc_rebuilding.specs.Assignments.{lit};
 ghost use Rattle.sc_rebuilding.specs.Vals.{assigned, val_of};
 ghost use Rattle.sc_sorts.specs.declared.sort.Sort.{Sort as AnySort};
 ghost use Rattle.sc_sorts.specs.declared.sort.Sort.TheVariants as sorts;
-ghost use Rattle.sc_terms.specs.Folds.{field_term};
+ghost use Rattle.sc_terms.specs.Folds.{bit_term, field_term};
 ghost use Rattle.sc_terms.specs.Tables.{tree};
 ghost use Rattle.sc_terms.specs.TreeSorts.{tree_sort};
 ghost use Rattle.sc_terms.specs.Values.{field_of, set_from, value_in};
+ghost use Rattle.sc_values.specs.declared.value.Value.TheVariants as value;
 
 use crate::bits::{address, number};
 use crate::members::assigned_of;
@@ -24,6 +29,77 @@ use sc_lists::{Seq, Text};
 use sc_sorts::Sort;
 use sc_values::{Rec, Set, Value, set_of};
 use std::alloc::{AllocError, Global};
+
+/// The value of a whole number.
+fn long_value(
+    alloc: Global,
+    problem: &Problem<'_>,
+    m: &Assignment,
+    term: u64,
+) -> Result<Value, AllocError>
+    requires { IsOf problem.now sorts.Long term }
+    ensures { IfOk result (λ x. x
+        ≡ value.Long (of_bits64 (λ i. lit (truth_in problem.now m.now) (bit_term (tree problem.now.nodes term) i)))) }
+{
+    Ok(Value::Long(number(alloc, problem, m, term)?))
+}
+
+/// The value of a string: its name.
+fn string_value(
+    alloc: Global,
+    problem: &Problem<'_>,
+    names: &[Text],
+    term: u64,
+) -> Result<Value, AllocError>
+    requires { term < length problem.now.nodes }
+    ensures { IfOk result (λ x. x ≡ value.String (name_in problem.now names.now (tree problem.now.nodes term))) }
+{
+    let text = Text::from_str(alloc, name_at(problem, names, term))?;
+    Ok(Value::String(text))
+}
+
+/// The value of a decimal number.
+fn decimal_value(
+    alloc: Global,
+    problem: &Problem<'_>,
+    m: &Assignment,
+    term: u64,
+) -> Result<Value, AllocError>
+    requires { IsOf problem.now sorts.Decimal term }
+    ensures { IfOk result (λ x. x
+        ≡ value.Decimal (of_bits64 (λ i. lit (truth_in problem.now m.now) (bit_term (tree problem.now.nodes term) i)))) }
+{
+    let number = number(alloc, problem, m, term)?;
+    Ok(Value::Decimal(Decimal::from_ten_thousandths(number)))
+}
+
+/// The value of an address.
+fn ip_value(
+    alloc: Global,
+    problem: &Problem<'_>,
+    m: &Assignment,
+    term: u64,
+) -> Result<Value, AllocError>
+    requires { IsOf problem.now sorts.Ip term }
+    ensures { IfOk result (λ x. x
+        ≡ value.Ip (ip_of (λ i. lit (truth_in problem.now m.now) (bit_term (tree problem.now.nodes term) i)))) }
+{
+    Ok(Value::Ip(address(alloc, problem, m, term)?))
+}
+
+/// The value of an entity: its uid.
+fn entity_value(
+    alloc: Global,
+    problem: &Problem<'_>,
+    names: &[Text],
+    term: u64,
+) -> Result<Value, AllocError>
+    requires { term < length problem.now.nodes }
+    ensures { IfOk result (λ x. (m : AnyAssignment)
+        → x ≡ value.Entity ((model problem.now m names.now).uid (tree problem.now.nodes term))) }
+{
+    Ok(Value::Entity(uid_of(alloc, problem, names, term)?))
+}
 
 /// The value of a term whose sort isn't one of options; of another `false`.
 #[cycle(values)]
@@ -41,17 +117,11 @@ fn plain_value(
 {
     match sort {
         Sort::Bool => Ok(Value::Bool(truth(problem, m, term))),
-        Sort::Long => Ok(Value::Long(number(alloc, problem, m, term)?)),
-        Sort::String => {
-            let text = Text::from_str(alloc, name_at(problem, names, term))?;
-            Ok(Value::String(text))
-        }
-        Sort::Decimal => {
-            let number = number(alloc, problem, m, term)?;
-            Ok(Value::Decimal(Decimal::from_ten_thousandths(number)))
-        }
-        Sort::Ip => Ok(Value::Ip(address(alloc, problem, m, term)?)),
-        Sort::Entity(_, _) => Ok(Value::Entity(uid_of(alloc, problem, names, term)?)),
+        Sort::Long => long_value(alloc, problem, m, term),
+        Sort::String => string_value(alloc, problem, names, term),
+        Sort::Decimal => decimal_value(alloc, problem, m, term),
+        Sort::Ip => ip_value(alloc, problem, m, term),
+        Sort::Entity(_, _) => entity_value(alloc, problem, names, term),
         Sort::Set(member) => {
             let members = set_value(alloc, problem, m, names, member.get(), term)?;
             Ok(Value::Set(members))

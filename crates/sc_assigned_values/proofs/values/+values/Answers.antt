@@ -14,30 +14,31 @@ use Rattle.sc_terms.specs.Tables.{tree, IsTable}
 use Rattle.sc_terms.specs.Trees.{Tree}
 use Rattle.sc_terms.specs.Values.{field_of, value_in}
 use Rattle.sc_assigned_values.proofs.AssignedLaws.{assigned_by, members_are}
-use Rattle.sc_assigned_values.proofs.BitLaws.{read_back}
 use Rattle.sc_assigned_values.proofs.ValueLaws.{bool_at, long_at, string_at, decimal_at, ip_at, entity_at, set_at, record_at, option_at, shown_plain, shown_held, shown_absent, set_told, one_more_field}
 use Rattle.sc_assigned_values.proofs.values.+values.Goals as goal
 
 pub plain_value-returns-in-Bool : goal.plain_value-returns-in-Bool
 plain_value-returns-in-Bool n c = bool_at c.args.problem.now c.args.m.now c.args.names.now c.args.sort.now (tree c.args.problem.now.nodes c.args.term) _ c.in-Bool.is c.truth.ensures
 
-pub plain_value-returns-in_ok-number-in-Long : goal.plain_value-returns-in_ok-number-in-Long
-plain_value-returns-in_ok-number-in-Long n c = long_at c.args.problem.now c.args.m.now c.args.names.now c.args.sort.now (tree c.args.problem.now.nodes c.args.term) _ c.in-Long.is (read_back _ _ c.in_ok-number-in-Long.ensures ∙ c.in_ok-number-in-Long.ensures)
+pub plain_value-returns-in-Long : goal.plain_value-returns-in-Long
+plain_value-returns-in-Long n c =
+    IfOk-weaker c.long_value.result _ _ (λ v h. long_at c.args.problem.now c.args.m.now c.args.names.now c.args.sort.now (tree c.args.problem.now.nodes c.args.term) v c.in-Long.is h) c.long_value.ensures
 
-pub plain_value-returns-in_ok-text-in-String : goal.plain_value-returns-in_ok-text-in-String
-plain_value-returns-in_ok-text-in-String n c =
-    string_at c.args.problem.now c.args.m.now c.args.names.now c.args.sort.now (tree c.args.problem.now.nodes c.args.term) _ c.in-String.is (c.in_ok-text-in-String.ensures ∙ c.name_at.ensures)
+pub plain_value-returns-in-String : goal.plain_value-returns-in-String
+plain_value-returns-in-String n c =
+    IfOk-weaker c.string_value.result _ _ (λ v h. string_at c.args.problem.now c.args.m.now c.args.names.now c.args.sort.now (tree c.args.problem.now.nodes c.args.term) v c.in-String.is h) c.string_value.ensures
 
-pub plain_value-returns-in_ok-number-in-Decimal : goal.plain_value-returns-in_ok-number-in-Decimal
-plain_value-returns-in_ok-number-in-Decimal n c =
-    decimal_at c.args.problem.now c.args.m.now c.args.names.now c.args.sort.now (tree c.args.problem.now.nodes c.args.term) _ c.in-Decimal.is (c.from_ten_thousandths.ensures ∙ read_back _ _ c.in_ok-number-in-Decimal.ensures ∙ c.in_ok-number-in-Decimal.ensures)
+pub plain_value-returns-in-Decimal : goal.plain_value-returns-in-Decimal
+plain_value-returns-in-Decimal n c =
+    IfOk-weaker c.decimal_value.result _ _ (λ v h. decimal_at c.args.problem.now c.args.m.now c.args.names.now c.args.sort.now (tree c.args.problem.now.nodes c.args.term) v c.in-Decimal.is h) c.decimal_value.ensures
 
-pub plain_value-returns-in_ok-address-in-Ip : goal.plain_value-returns-in_ok-address-in-Ip
-plain_value-returns-in_ok-address-in-Ip n c = ip_at c.args.problem.now c.args.m.now c.args.names.now c.args.sort.now (tree c.args.problem.now.nodes c.args.term) _ c.in-Ip.is c.in_ok-address-in-Ip.ensures
+pub plain_value-returns-in-Ip : goal.plain_value-returns-in-Ip
+plain_value-returns-in-Ip n c =
+    IfOk-weaker c.ip_value.result _ _ (λ v h. ip_at c.args.problem.now c.args.m.now c.args.names.now c.args.sort.now (tree c.args.problem.now.nodes c.args.term) v c.in-Ip.is h) c.ip_value.ensures
 
-pub plain_value-returns-in_ok-uid_of-in-Entity : goal.plain_value-returns-in_ok-uid_of-in-Entity
-plain_value-returns-in_ok-uid_of-in-Entity n c =
-    entity_at c.args.problem.now c.args.m.now c.args.names.now c.args.sort.now (tree c.args.problem.now.nodes c.args.term) _ _ _ c.in-Entity.is (c.in_ok-uid_of-in-Entity.ensures c.args.m.now)
+pub plain_value-returns-in-Entity : goal.plain_value-returns-in-Entity
+plain_value-returns-in-Entity n c =
+    IfOk-weaker c.entity_value.result _ _ (λ v h. entity_at c.args.problem.now c.args.m.now c.args.names.now c.args.sort.now (tree c.args.problem.now.nodes c.args.term) _ _ v c.in-Entity.is (h c.args.m.now)) c.entity_value.ensures
 
 pub plain_value-returns-in_ok-members-in-Set : goal.plain_value-returns-in_ok-members-in-Set
 plain_value-returns-in_ok-members-in-Set n c =
