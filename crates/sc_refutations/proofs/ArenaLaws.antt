@@ -7,30 +7,49 @@ use Rattle.std.proofs.lemmas.List.Folds.{list_all-append}
 use Rattle.std.proofs.lemmas.List.{take_more, take_all, take-append-le, drop-append-le, length-drop}
 use Rattle.sc_clauses.specs.declared.lit.Lit.{Lit}
 use Rattle.sc_clauses.specs.Clauses.{Clause}
-use Rattle.sc_refutations.specs.Arenas.{lit_of, has_code, begin_at, pieces, are_ordered}
+use Rattle.sc_refutations.specs.Arenas.{lit_of, has_code, begin_at, pieces, are_ordered, are_within}
 
 -- ---- places
 
-last_within : (start : ℕ) (ends : List ℕ) (count : ℕ) → are_ordered start ends count ≡ true → start ≤ count
+last_ordered : (start : ℕ) (ends : List ℕ) (count : ℕ) → are_ordered start ends count ≡ true → start ≤ count
 unfolding are_ordered
-last_within start [] count e = let same : start ≡ count = eqb-true start count e in omega (arith, same)
-last_within start (x ∷ ends) count e =
+last_ordered start [] count e = let same : start ≡ count = eqb-true start count e in omega (arith, same)
+last_ordered start (x ∷ ends) count e =
     let parts = and_parts (nat_le start x) (are_ordered x ends count) e in
+    let here : start ≤ x = leb-true start x parts.0 in
+    let later = last_ordered x ends count parts.1 in
+    omega (arith, here, later)
+
+last_within : (start : ℕ) (ends : List ℕ) (count : ℕ) → are_within start ends count ≡ true → start ≤ count
+unfolding are_within
+last_within start [] count e = leb-true start count e
+last_within start (x ∷ ends) count e =
+    let parts = and_parts (nat_le start x) (are_within x ends count) e in
     let here : start ≤ x = leb-true start x parts.0 in
     let later = last_within x ends count parts.1 in
     omega (arith, here, later)
 
+-- further numbers may stand behind those of the clauses
+pub ordered_within : (start : ℕ) (ends : List ℕ) (count more : ℕ) → count ≤ more → are_ordered start ends count ≡ true → are_within start ends more ≡ true
+unfolding are_ordered are_within
+ordered_within start [] count more h e =
+    let same : start ≡ count = eqb-true start count e in
+    le-leb start more (omega (arith, same, h))
+ordered_within start (x ∷ ends) count more h e =
+    let parts = and_parts (nat_le start x) (are_ordered x ends count) e in
+    and_from (nat_le start x) (are_within x ends more) parts.0 (ordered_within x ends count more h parts.1)
+
 -- a clause ends where it begins or later, and not past the numbers
-pub end_within : (start : ℕ) (ends : List ℕ) (count place x : ℕ) → are_ordered start ends count ≡ true → slice_get ends place ≡ Some x → (begin_at start ends place ≤ x) × (x ≤ count)
-unfolding are_ordered
+pub end_within : (start : ℕ) (ends : List ℕ) (count place x : ℕ) → are_within start ends count ≡ true → slice_get ends place ≡ Some x → (begin_at start ends place ≤ x) × (x ≤ count)
+unfolding are_within
 end_within start [] count place x e is = absurd cc
 end_within start (y ∷ ends) count zero x e is =
-    let parts = and_parts (nat_le start y) (are_ordered y ends count) e in
+    let parts = and_parts (nat_le start y) (are_within y ends count) e in
     let same : y ≡ x = cc in
     let here : start ≤ y = leb-true start y parts.0 in
     let later = last_within y ends count parts.1 in
     (omega (arith, same, here), omega (arith, same, later))
-end_within start (y ∷ ends) count (suc place) x e is = end_within y ends count place x (and_parts (nat_le start y) (are_ordered y ends count) e).1 is
+end_within start (y ∷ ends) count (suc place) x e is = end_within y ends count place x (and_parts (nat_le start y) (are_within y ends count) e).1 is
 
 begin_is : (start : ℕ) (ends : List ℕ) (place d : ℕ) → place < length ends → begin_at start ends (place + 1) ≡ get_or ends place d
 begin_is start ends place d h = ap (begin_at start ends) (next place) ∙ by start ends place d h where
@@ -93,7 +112,15 @@ pieces_more start codes more [] n e is =
     ap (λ (s : ℕ). map lit_of (take (n - s) (drop s (codes ++ more))) ∷ []) same ∙ ap (λ (xs : List ℕ). map lit_of xs ∷ []) (pieces_last codes more n is)
 pieces_more start codes more (x ∷ ends) n e is =
     let parts = and_parts (nat_le start x) (are_ordered x ends (length codes)) e in
-    (λ i. map lit_of (front_kept start x codes more (leb-true start x parts.0) (last_within x ends (length codes) parts.1) i) ∷ pieces_more x codes more ends n parts.1 is i)
+    (λ i. map lit_of (front_kept start x codes more (leb-true start x parts.0) (last_ordered x ends (length codes) parts.1) i) ∷ pieces_more x codes more ends n parts.1 is i)
+
+-- numbers behind the last end are no clause
+pub pieces_kept : (start : ℕ) (codes more ends : List ℕ) → are_ordered start ends (length codes) ≡ true → pieces start (codes ++ more) ends ≡ pieces start codes ends
+unfolding pieces are_ordered
+pieces_kept start codes more [] e = refl
+pieces_kept start codes more (x ∷ ends) e =
+    let parts = and_parts (nat_le start x) (are_ordered x ends (length codes)) e in
+    (λ i. map lit_of (front_kept start x codes more (leb-true start x parts.0) (last_ordered x ends (length codes) parts.1) i) ∷ pieces_kept x codes more ends parts.1 i)
 
 pub ordered_more : (start count more : ℕ) (ends : List ℕ) (n m : ℕ) → are_ordered start ends count ≡ true → n ≡ count + more → m ≡ n → are_ordered start (ends ++ n ∷ []) m ≡ true
 unfolding are_ordered

@@ -1,5 +1,5 @@
 -- Laws of the literals of a clause that is given by their numbers.
-use Rattle.std.proofs.Common.{◌≡◌, ◌+◌, ◌<◌, ◌≤◌, ◌⊎◌, ℕ, zero, suc, List, [], ◌∷◌, ◌++◌, take, get_or, map, length, true, false, not, ◌&&◌, sym, ap, ◌∙◌, subst, arith}
+use Rattle.std.proofs.Common.{◌≡◌, ◌+◌, ◌<◌, ◌≤◌, ◌⊎◌, ℕ, zero, suc, List, [], ◌∷◌, ◌++◌, take, get_or, map, length, true, false, not, ◌&&◌, append_assoc, sym, ap, ◌∙◌, subst, arith}
 use Rattle.std.specs.List.{list_all}
 use Rattle.std.proofs.lemmas.Bool.{and_parts, and_left}
 use Rattle.std.proofs.lemmas.List.{get_or-map, length-map, map-append, take-map, take_more}
@@ -44,6 +44,12 @@ codes_known known next codes i h is e =
     negated_more known next (map lit_of codes) i (lit_of 0) (lits_long codes i h) (is ∙ ap negated (sym (take-map lit_of i codes)))
     (e ∙ ap (λ (l : Lit). with_lit known (negation l)) (sym (lit_there codes i h)))
     ∙ ap negated (take-map lit_of (i + 1) codes)
+
+-- the numbers that are put after others
+pub codes_put : (before codes next clause : List ℕ) (i : ℕ) → i < length clause → codes ≡ before ++ take i clause → next ≡ codes ++ get_or clause i 0 ∷ [] → next ≡ before ++ take (i + 1) clause
+codes_put before codes next clause i h is e =
+    e ∙ (ap (λ (xs : List ℕ). xs ++ get_or clause i 0 ∷ []) is
+    ∙ (append_assoc before (take i clause) (get_or clause i 0 ∷ []) ∙ ap (λ (xs : List ℕ). before ++ xs) (sym (take_more clause i 0 h))))
 
 -- ---- the numbers of a clause
 

@@ -1,5 +1,5 @@
 -- What is left of the clause that numbers begin with, one number after another.
-use Rattle.std.proofs.Common.{◌≡◌, ◌+◌, ◌<◌, ◌≤◌, ℕ, zero, suc, List, [], ◌∷◌, ◌++◌, map, drop, get_or, length, Bool, true, false, not, cond, ◌&&◌, ◌==◌, Option, Some, None, refl, sym, ap, ◌∙◌, append-nil, arith}
+use Rattle.std.proofs.Common.{◌≡◌, ◌+◌, ◌<◌, ◌≤◌, ℕ, List, [], ◌∷◌, ◌++◌, map, drop, get_or, length, Bool, true, false, not, cond, ◌&&◌, ◌==◌, Option, Some, None, refl, sym, ap, ◌∙◌, append-nil}
 use Rattle.std.specs.List.{list_all}
 use Rattle.std.specs.Option.{option_to_list}
 use Rattle.std.proofs.lemmas.List.{drop_all, drop_more}
@@ -9,7 +9,7 @@ use Rattle.sc_clauses.specs.declared.lit.Lit.{Lit}
 use Rattle.sc_clauses.specs.Clauses.{Clause, lit_eq, negation}
 use Rattle.sc_clauses.proofs.LitLaws.{lit_eq-true, lit_eq-itself}
 use Rattle.sc_refutations.specs.declared.refuting.Residual.{Residual}
-use Rattle.sc_refutations.specs.declared.refuting.Residual.TheVariants.{Conflict, Unit, Open}
+use Rattle.sc_refutations.specs.declared.refuting.Residual.TheVariants.{Unit, Open}
 use Rattle.sc_refutations.specs.Arenas.{code_of, lit_of, lit_found}
 use Rattle.sc_refutations.specs.Refutations.{LitSet, open_lits, residual, is_other}
 use Rattle.sc_refutations.proofs.CodeLaws.{code_again}
@@ -21,9 +21,6 @@ found_by code t e = ap (λ (b : Bool). cond b None (Some (lit_of code))) e
 
 pub found_some : (code : ℕ) → (code ≡ 0 → ⊥) → lit_found code ≡ Some (lit_of code)
 found_some code some = found_by code false (ne_eqb code 0 some)
-
-pub none_found : (found : ℕ) → found ≡ 0 → Conflict ≡ residual (option_to_list (lit_found found))
-none_found found none = ap (λ (o : Option Lit). residual (option_to_list o)) (sym (found_by found true (eq-eqb found 0 none)))
 
 pub one_found : (found : ℕ) (l : Lit) → (found ≡ 0 → ⊥) → l ≡ lit_of found → Unit l ≡ residual (option_to_list (lit_found found))
 one_found found l some is = ap (λ (m : Lit). Unit m) is ∙ ap (λ (o : Option Lit). residual (option_to_list o)) (sym (found_some found some))

@@ -32,3 +32,8 @@ pieces start codes (e ∷ ends) = map lit_of (take (e - start) (drop start codes
 unfoldable pub are_ordered : ℕ → List ℕ → ℕ → Bool
 are_ordered start [] count = start == count
 are_ordered start (e ∷ ends) count = nat_le start e && are_ordered e ends count
+
+-- no clause ends before it begins, or past the numbers
+unfoldable pub are_within : ℕ → List ℕ → ℕ → Bool
+are_within start [] count = nat_le start count
+are_within start (e ∷ ends) count = nat_le start e && are_within e ends count

@@ -1,9 +1,9 @@
 //! Clauses in one array of numbers, one for each literal. A literal takes a quarter of the memory that it takes by
 //! itself, and a clause is found by one look.
-ghost use Rattle.std.specs.Prelude.{◌≡◌, ◌≤◌, ◌+◌, ◌-◌, ◌++◌, ◌∷◌, [], map, take, drop, slice_get, length, option_map, IfOk, OnOk};
+ghost use Rattle.std.specs.Prelude.{◌≡◌, ◌≤◌, ◌+◌, ◌-◌, ◌++◌, ◌∷◌, [], map, take, drop, slice_get, length, option_map, IfOk, OnOk, IsTrue};
 ghost use Rattle.std.specs.Option.{option_copied};
 ghost use Rattle.std.specs.Vec.{vec_len, vec_capacity};
-ghost use Rattle.sc_refutations.specs.Arenas.{lit_of, begin_at};
+ghost use Rattle.sc_refutations.specs.Arenas.{lit_of, begin_at, pieces, are_within};
 
 use crate::growing::make_room;
 use crate::known::Known;
@@ -14,9 +14,9 @@ use std::marker::Model;
 /// A list of clauses. Contracts see the list.
 #[derive(Drop)]
 pub struct Arena {
-    codes: Vec<u32>,
+    pub(crate) codes: Vec<u32>,
     /// Of each clause the place behind its last literal.
-    ends: Vec<u32>,
+    pub(crate) ends: Vec<u32>,
 }
 
 impl Model for Arena {
@@ -52,6 +52,17 @@ fn part(codes: &[u32], start: u32, end: u32) -> &[u32]
     ensures { result.now ≡ take (end - start) (drop start codes.now) }
 {
     &codes[start as usize..end as usize]
+}
+
+/// The numbers of the clause at a place, counted from 0, where clauses end at these places. None exactly past the last.
+#[inline(always)]
+pub(crate) fn codes_at<'a>(codes: &'a [u32], ends: &[u32], place: usize) -> Option<&'a [u32]>
+    requires { IsTrue (are_within 0 ends.now (length codes.now)) }
+    ensures { option_map (map lit_of) (option_copied result) ≡ slice_get (pieces 0 codes.now ends.now) place }
+{
+    let end = *ends.get(place)?;
+    let start = start_at(ends, place);
+    Some(part(codes, start, end))
 }
 
 /// Puts numbers of literals after others, where there is room for all.
@@ -95,17 +106,6 @@ impl Arena {
         ensures { result ≡ length self.now }
     {
         self.ends.len()
-    }
-
-    /// The numbers of the clause at a place, counted from 0. None exactly past the end.
-    #[inline(always)]
-    pub(crate) fn get(&self, place: usize) -> Option<&[u32]>
-        ensures { option_map (map lit_of) (option_copied result) ≡ slice_get self.now place }
-    {
-        let ends = self.ends.as_slice();
-        let end = *ends.get(place)?;
-        let start = start_at(ends, place);
-        Some(part(self.codes.as_slice(), start, end))
     }
 
     /// Puts a clause after the others, by the numbers of its literals. It is refused as too large where the place behind

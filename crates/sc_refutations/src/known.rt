@@ -2,12 +2,12 @@
 ghost use Rattle.std.specs.Prelude.{◌≡◌, ◌<◌, ◌+◌, ◌*◌, ◌&&◌, false, not, IfOk, IsTrue, MatchOption, map, slice_get, length};
 ghost use Rattle.std.specs.List.{list_all};
 ghost use Rattle.sc_clauses.specs.Clauses.{negation};
-ghost use Rattle.sc_refutations.specs.Arenas.{code_of, lit_of, has_code};
+ghost use Rattle.sc_refutations.specs.Arenas.{lit_of, has_code};
 ghost use Rattle.sc_refutations.specs.Known.{says, marked, is_stamped};
 ghost use Rattle.sc_refutations.specs.Refutations.{is_listed, is_clause, with_lit};
 
 use crate::codes::{code_of, negation_of};
-use sc_clauses::{Lit, negation};
+use sc_clauses::Lit;
 use std::alloc::{AllocError, Global};
 
 /// The literals that are known to be true in the check of a step. A mark of an earlier step counts for nothing, so
@@ -66,21 +66,6 @@ impl Known {
         self.step = step;
     }
 
-    /// The place of the mark of a literal.
-    #[inline(always)]
-    fn place_of(&self, lit: Lit) -> usize
-        requires { IsTrue (is_listed self.now.count lit) }
-        ensures code { result ≡ code_of lit }
-        ensures within { result < length self.now.marks.items }
-    {
-        let even = lit.atom as u32 * 2;
-        if lit.negated {
-            (even + 1) as usize
-        } else {
-            even as usize
-        }
-    }
-
     /// Whether the literal of a number is of a listed atom.
     #[inline(always)]
     fn has_mark(&self, code: u32) -> bool
@@ -121,17 +106,16 @@ impl Known {
         self.marks[code as usize] = self.step;
     }
 
-    /// Takes a literal of a listed atom as true.
+    /// Takes the literal of a number, one of a listed atom, as true.
     #[inline(always)]
-    pub(crate) fn insert(&mut self, lit: Lit)
-        requires { IsTrue (is_listed self.old.count lit) }
+    pub(crate) fn insert(&mut self, code: u32)
+        requires { IsTrue (is_listed self.old.count (lit_of code)) }
         ensures known { marked self.new.step self.new.marks.items
-            ≡ with_lit (marked self.old.step self.old.marks.items) lit }
+            ≡ with_lit (marked self.old.step self.old.marks.items) (lit_of code) }
         ensures count { self.new.count ≡ self.old.count }
         ensures number { self.new.step ≡ self.old.step }
     {
-        let place = self.place_of(negation(lit));
-        self.marks[place] = self.step;
+        self.marks[negation_of(code) as usize] = self.step;
     }
 
     /// The numbers of the literals of a clause. None where one of them has none: then it is of no listed atom.

@@ -12,4 +12,4 @@ pub use arena::Arena;
 pub use codes::{code_of, lit_of};
 pub use growing::append;
 pub use known::Known;
-pub use refuting::{Residual, is_shown};
+pub use refuting::{Residual, learn};

@@ -51,4 +51,4 @@ pub returns : goal.returns
 returns c =
     let known = marked c.args.step c.args.marks.now in
     let past : length c.args.codes.now ≤ c.loop-code.code-index = omega arith in
-    c.left_by.ensures ∙ left_past known c.args.codes.now c.loop-code.code-index (lit_found c.loop-code.found) _ past c.loop-code.invariant.left
+    left_past known c.args.codes.now c.loop-code.code-index (lit_found c.loop-code.found) _ past c.loop-code.invariant.left

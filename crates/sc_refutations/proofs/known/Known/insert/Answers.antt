@@ -1,6 +1,7 @@
-use Rattle.std.proofs.Common.{◌∙◌, ap}
+use Rattle.std.proofs.Common.{◌∙◌, ◌<◌, ℕ, length, sym, subst}
 use Rattle.std.proofs.lemmas.List.{length-set}
-use Rattle.sc_refutations.specs.Arenas.{code_of}
+use Rattle.sc_refutations.specs.Arenas.{lit_of}
+use Rattle.sc_refutations.proofs.CodeLaws.{negation_below}
 use Rattle.sc_refutations.proofs.KnownLaws.{stamped_set, marked_set}
 use Rattle.sc_refutations.proofs.known.Known.insert.Goals as goal
 
@@ -13,4 +14,6 @@ invariant_of-self c = record {
 
 pub returns-clause-known : goal.returns-clause-known
 returns-clause-known c =
-    marked_set c.args.self.now.step c.args.self.now.marks.items c.args.lit _ (c.place_of-place.ensures.code ∙ ap code_of c.negation.ensures) c.place_of-place.ensures.within
+    marked_set c.args.self.now.step c.args.self.now.marks.items (lit_of c.args.code) c.negation_of.result c.negation_of.ensures
+    (subst (λ (k : ℕ). k < length c.args.self.now.marks.items) (sym c.negation_of.ensures)
+    (negation_below c.args.self.now.count (length c.args.self.now.marks.items) c.args.code c.args.self.now.room c.requires))

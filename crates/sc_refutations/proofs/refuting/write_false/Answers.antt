@@ -1,10 +1,10 @@
-use Rattle.std.proofs.Common.{◌≡◌, ◌&&◌, ◌<◌, sym, not, arith, get_or, length, false, true}
+use Rattle.std.proofs.Common.{◌≡◌, ◌&&◌, ◌<◌, sym, not, arith, get_or, length, false, true, rules}
 use Rattle.sc_clauses.specs.Clauses.{negation}
 use Rattle.sc_refutations.specs.Arenas.{lit_of}
 use Rattle.sc_refutations.specs.Known.{marked}
 use Rattle.sc_refutations.specs.Refutations.{is_listed, with_lit}
-use Rattle.sc_refutations.proofs.AssumedLaws.{code_there, codes_fail, codes_more, codes_known}
-use Rattle.sc_refutations.proofs.refuting.assume_false.Goals as goal
+use Rattle.sc_refutations.proofs.AssumedLaws.{code_there, codes_fail, codes_more, codes_known, codes_put}
+use Rattle.sc_refutations.proofs.refuting.write_false.Goals as goal
 
 pub is_free-requires : goal.is_free-requires
 is_free-requires c =
@@ -32,4 +32,6 @@ loop-code-preserved c =
       count = omega arith;
       clause = codes_more (c.args.known.now.count) known c.args.clause.now c.loop-code.code-index index c.loop-code.invariant.known c.loop-code.invariant.clause fits;
       known = codes_known known next c.args.clause.now c.loop-code.code-index index c.loop-code.invariant.known more;
+      written = codes_put c.args.codes.now.items c.loop-code.codes.items c.push_reserved.new.self.items c.args.clause.now c.loop-code.code-index index c.loop-code.invariant.written c.push_reserved.ensures.items;
+      room = (search rules);
     }
