@@ -95,11 +95,12 @@ fn write_false(known: &mut Known, codes: &mut Vec<u32>, clause: &[u32]) -> bool
     ensures number { known.new.step ≡ known.old.step }
 {
     for code in clause {
-        if !known.is_free(*code) {
+        let code = *code;
+        if !known.is_free(code) {
             return false;
         }
-        known.set_false(*code);
-        codes.push_reserved(*code);
+        known.set_false(code);
+        codes.push_reserved(code);
     }
     true
 }
