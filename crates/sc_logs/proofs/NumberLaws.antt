@@ -134,12 +134,12 @@ some_number n b bs e low none =
     let same : b ≡ 48 = ap (λ (w : List ℕ). get_or w 0 0) texts in
     absurd (omega (arith, same))
 
--- a first digit and fewer than 18 further ones leave room for one more
-pub from_small : (n b i : ℕ) (bs : List ℕ) → n ≡ digits_value 10 (b ∷ take i bs) → 49 ≤ b → b ≤ 57 → AllDigits 10 (take i bs) → i < length bs → i < 18 → n < 10 ^ 18
-from_small n b i bs e low high digits h few =
+-- the value of a first digit and fewer further ones than a number
+pub from_small : (n b i most : ℕ) (bs : List ℕ) → n ≡ digits_value 10 (b ∷ take i bs) → 49 ≤ b → b ≤ 57 → AllDigits 10 (take i bs) → i < length bs → i < most → n < 10 ^ most
+from_small n b i most bs e low high digits h few =
     let long = length-take-le i bs (omega arith) in
-    let size : suc (length (take i bs)) ≤ 18 = omega (arith, long) in
-    subst (λ (m : ℕ). m < 10 ^ 18) (sym e) (digits_value_short model (b ∷ take i bs) 18 (first_digits b (take i bs) low high digits) size)
+    let size : suc (length (take i bs)) ≤ most = omega (arith, long) in
+    subst (λ (m : ℕ). m < 10 ^ most) (sym e) (digits_value_short model (b ∷ take i bs) most (first_digits b (take i bs) low high digits) size)
 
 pub from_more : (n b i : ℕ) (bs : List ℕ) → n ≡ digits_value 10 (b ∷ take i bs) → i < length bs → IsInRange 48 57 (get_or bs i 0)
     → n * 10 + (get_or bs i 0 - 48) ≡ digits_value 10 (b ∷ take (i + 1) bs)

@@ -47,9 +47,9 @@ newline_stands bytes place h e = byte_stands bytes place 10 h e
 left_long : (bytes : List ℕ) (from i : ℕ) → from + i < length bytes → i < length (drop from bytes)
 left_long bytes from i h = let long = length-drop from bytes in omega (arith, long)
 
-pub place_small : (n b i from : ℕ) (bytes : List ℕ) → n ≡ digits_value 10 (b ∷ take i (drop from bytes)) → 49 ≤ b → b ≤ 57 → AllDigits 10 (take i (drop from bytes))
-    → from + i < length bytes → i < 18 → n < 10 ^ 18
-place_small n b i from bytes e low high digits h few = from_small n b i (drop from bytes) e low high digits (left_long bytes from i h) few
+pub place_small : (n b i most from : ℕ) (bytes : List ℕ) → n ≡ digits_value 10 (b ∷ take i (drop from bytes)) → 49 ≤ b → b ≤ 57 → AllDigits 10 (take i (drop from bytes))
+    → from + i < length bytes → i < most → n < 10 ^ most
+place_small n b i most from bytes e low high digits h few = from_small n b i most (drop from bytes) e low high digits (left_long bytes from i h) few
 
 pub place_more : (n b d i from : ℕ) (bytes : List ℕ) → n ≡ digits_value 10 (b ∷ take i (drop from bytes)) → from + i < length bytes → IsInRange 48 57 (get_or bytes (from + i) 0)
     → d ≡ get_or bytes (from + i) 0 - 48 → n * 10 + d ≡ digits_value 10 (b ∷ take (i + 1) (drop from bytes))

@@ -1,12 +1,12 @@
 -- Laws of a line that is read in one pass.
-use Rattle.std.proofs.Common.{◌≡◌, ◌+◌, ◌<◌, ◌==◌, ℕ, suc, List, [], ◌∷◌, ◌++◌, map, length, Bool, true, false, not, refl, sym, ap, ◌∙◌, append_assoc, append-nil, arith}
+use Rattle.std.proofs.Common.{◌≡◌, ◌+◌, ◌*◌, ◌<◌, ◌==◌, ℕ, suc, List, [], ◌∷◌, ◌++◌, map, length, Bool, true, false, not, refl, sym, ap, ◌∙◌, append_assoc, append-nil, arith}
 use Rattle.std.specs.List.{list_all}
 use Rattle.std.specs.Fmt.{decimal}
 use Rattle.std.proofs.lemmas.Bool.{and_from}
 use Rattle.std.proofs.lemmas.List.{length-append, map-append}
 use Rattle.std.proofs.lemmas.List.Folds.{list_all-append}
 use Rattle.sc_clauses.specs.declared.lit.Lit.{Lit}
-use Rattle.sc_refutations.specs.Arenas.{code_of, lit_of}
+use Rattle.sc_refutations.specs.Arenas.{lit_of}
 use Rattle.sc_refutations.proofs.CodeLaws.{lit_again}
 use Rattle.sc_clauses.specs.declared.step.Learned as learned
 use Rattle.sc_clauses.specs.declared.step.Step.TheVariants.{Learned}
@@ -40,17 +40,40 @@ word_shorter rest word text later next read =
 
 -- ---- literals, by their numbers
 
-codes_more : (codes : List ℕ) (l : Lit) (code : ℕ) → code ≡ code_of l → map lit_of (codes ++ code ∷ []) ≡ map lit_of codes ++ l ∷ []
-codes_more codes l code is = map-append lit_of codes (code ∷ []) ∙ ap (λ (m : Lit). map lit_of codes ++ m ∷ []) (ap lit_of is ∙ lit_again l)
+codes_more : (codes : List ℕ) (code : ℕ) → map lit_of (codes ++ code ∷ []) ≡ map lit_of codes ++ lit_of code ∷ []
+codes_more codes code = map-append lit_of codes (code ∷ [])
 
-pub codes_fit : (codes : List ℕ) (l : Lit) (code : ℕ) → list_all is_lit (map lit_of codes) ≡ true → is_lit l ≡ true → code ≡ code_of l → list_all is_lit (map lit_of (codes ++ code ∷ [])) ≡ true
-codes_fit codes l code fit e is = ap (list_all is_lit) (codes_more codes l code is) ∙ more_fit is_lit (map lit_of codes) l fit e
+pub codes_fit : (codes : List ℕ) (code : ℕ) → list_all is_lit (map lit_of codes) ≡ true → is_lit (lit_of code) ≡ true → list_all is_lit (map lit_of (codes ++ code ∷ [])) ≡ true
+codes_fit codes code fit e = ap (list_all is_lit) (codes_more codes code) ∙ more_fit is_lit (map lit_of codes) (lit_of code) fit e
 
-pub codes_text : (bytes rest word later codes : List ℕ) (l : Lit) (code : ℕ) → bytes ≡ spaced (map lit_text (map lit_of codes)) ++ rest → rest ≡ 32 ∷ word → word ≡ lit_text l ++ later → code ≡ code_of l
+pub codes_text : (bytes rest word later codes : List ℕ) (code : ℕ) → bytes ≡ spaced (map lit_text (map lit_of codes)) ++ rest → rest ≡ 32 ∷ word → word ≡ lit_text (lit_of code) ++ later
     → bytes ≡ spaced (map lit_text (map lit_of (codes ++ code ∷ []))) ++ later
-codes_text bytes rest word later codes l code is next read number =
-    more_text lit_text bytes rest word later (map lit_of codes) l is next read
-    ∙ ap (λ (c : List Lit). spaced (map lit_text c) ++ later) (sym (codes_more codes l code number))
+codes_text bytes rest word later codes code is next read =
+    more_text lit_text bytes rest word later (map lit_of codes) (lit_of code) is next read
+    ∙ ap (λ (c : List Lit). spaced (map lit_text c) ++ later) (sym (codes_more codes code))
+
+even_lit : (code n : ℕ) → code ≡ n * 2 → lit_of code ≡ record { atom = n; negated = false }
+even_lit code n e =
+    let l : Lit = record { atom = n; negated = false } in
+    ap lit_of e ∙ lit_again l
+
+odd_lit : (code n : ℕ) → code ≡ n * 2 + 1 → lit_of code ≡ record { atom = n; negated = true }
+odd_lit code n e =
+    let l : Lit = record { atom = n; negated = true } in
+    ap lit_of e ∙ lit_again l
+
+pub atom_fits : (code n : ℕ) → code ≡ n * 2 → is_hint n ≡ true → is_lit (lit_of code) ≡ true
+atom_fits code n e fit = ap is_lit (even_lit code n e) ∙ fit
+
+pub negation_fits : (code n : ℕ) → code ≡ n * 2 + 1 → is_hint n ≡ true → is_lit (lit_of code) ≡ true
+negation_fits code n e fit = ap is_lit (odd_lit code n e) ∙ fit
+
+pub atom_text : (bytes later : List ℕ) (code n : ℕ) → code ≡ n * 2 → bytes ≡ decimal n ++ later → bytes ≡ lit_text (lit_of code) ++ later
+atom_text bytes later code n e read = read ∙ ap (λ (l : Lit). lit_text l ++ later) (sym (even_lit code n e))
+
+pub negation_text : (bytes digits later : List ℕ) (code n : ℕ) → code ≡ n * 2 + 1 → bytes ≡ 45 ∷ digits → digits ≡ decimal n ++ later → bytes ≡ lit_text (lit_of code) ++ later
+negation_text bytes digits later code n e sign read =
+    sign ∙ ap (λ (t : List ℕ). 45 ∷ t) read ∙ ap (λ (l : Lit). lit_text l ++ later) (sym (odd_lit code n e))
 
 -- ---- hints
 

@@ -1,7 +1,7 @@
 //! Reads the line of a learned clause in one pass, where it stands at a place of bytes that end with a newline. Each
 //! other byte then has one behind it, so that a place is never past the end. A line that isn't read here may still be
 //! one of a log: it is then cut into words.
-ghost use Rattle.std.specs.Prelude.{◌≡◌, ◌<◌, ◌≤◌, ◌+◌, ◌-◌, ◌∷◌, ◌++◌, map, drop, get_or, length, decimal, IfSome, IfOk, IsTrue};
+ghost use Rattle.std.specs.Prelude.{◌≡◌, ◌<◌, ◌≤◌, ◌+◌, ◌-◌, ◌^◌, ◌∷◌, ◌++◌, map, drop, get_or, length, decimal, IfSome, IfOk, IsTrue};
 ghost use Rattle.std.specs.Int.{IsInRange};
 ghost use Rattle.std.specs.List.{list_all};
 ghost use Rattle.sc_logs.specs.LineSteps.{ends_line};
@@ -10,8 +10,8 @@ ghost use Rattle.sc_logs.specs.Texts.{lit_text, spaced, step_line};
 ghost use Rattle.sc_logs.specs.Writable.{is_lit, is_hint, is_learned};
 
 use crate::lines::Room;
-use sc_clauses::{Lit, Step};
-use sc_refutations::{append, code_of};
+use sc_clauses::Step;
+use sc_refutations::append;
 use std::alloc::AllocError;
 
 /// The place behind a byte other than a newline, where it stands at a place.
@@ -63,17 +63,18 @@ fn first_digit_at(bytes: &[u8], place: usize) -> Option<u8>
     Some(first)
 }
 
-/// The number of a first digit other than `0` and the digits from a place on, and the place behind these.
+/// The number of at most so many digits, a first one other than `0` and those from a place on, and the place behind these.
 #[inline(always)]
-fn number_from(bytes: &[u8], first: u8, from: usize) -> Option<(u64, usize)>
+fn number_from(bytes: &[u8], first: u8, from: usize, most: usize) -> Option<(u64, usize)>
     requires ended { IsTrue (ends_line bytes.now) }
     requires within { from < length bytes.now }
     requires digit { (49 ≤ first) × (first ≤ 57) }
-    ensures { IfSome result (λ p. (p.1 < length bytes.now) × IsTrue (is_hint p.0)
+    requires few { most ≤ 18 }
+    ensures { IfSome result (λ p. (p.1 < length bytes.now) × IsTrue (is_hint p.0) × (p.0 < 10 ^ most)
         × (first ∷ drop from bytes.now ≡ decimal p.0 ++ drop p.1 bytes.now)) }
 {
     let mut value = (first - b'0') as u64;
-    for i in 0..18 {
+    for i in 0..most {
         let Some(digit) = digit_at(bytes, from + i) else {
             return Some((value, from + i));
         };
@@ -82,46 +83,37 @@ fn number_from(bytes: &[u8], first: u8, from: usize) -> Option<(u64, usize)>
     None
 }
 
-/// The number other than 0 at a place, up to the first byte that is no digit, and the place of that byte.
+/// The number other than 0 at a place, up to the first byte that is no digit, where it has at most so many digits, and the
+/// place of that byte.
 #[inline(always)]
-fn number_at(bytes: &[u8], place: usize) -> Option<(u64, usize)>
+fn number_at(bytes: &[u8], place: usize, most: usize) -> Option<(u64, usize)>
     requires ended { IsTrue (ends_line bytes.now) }
     requires within { place < length bytes.now }
-    ensures { IfSome result (λ p. (p.1 < length bytes.now) × IsTrue (is_hint p.0)
+    requires few { most ≤ 18 }
+    ensures { IfSome result (λ p. (p.1 < length bytes.now) × IsTrue (is_hint p.0) × (p.0 < 10 ^ most)
         × (drop place bytes.now ≡ decimal p.0 ++ drop p.1 bytes.now)) }
 {
     let first = first_digit_at(bytes, place)?;
-    number_from(bytes, first, place + 1)
+    number_from(bytes, first, place + 1, most)
 }
 
-/// The literal at a place, and the place behind it.
+/// The number of the literal at a place, whose atom has at most 9 digits, and the place behind it.
 #[inline(always)]
-fn lit_at(bytes: &[u8], place: usize) -> Option<(Lit, usize)>
+#[tactic(auto, using(crate::proofs::WholeLineLaws::atom_fits, crate::proofs::WholeLineLaws::atom_text, crate::proofs::WholeLineLaws::negation_fits, crate::proofs::WholeLineLaws::negation_text))]
+fn code_at(bytes: &[u8], place: usize) -> Option<(u32, usize)>
     requires ended { IsTrue (ends_line bytes.now) }
     requires within { place < length bytes.now }
-    ensures { IfSome result (λ p. (p.1 < length bytes.now) × IsTrue (is_lit p.0)
-        × (drop place bytes.now ≡ lit_text p.0 ++ drop p.1 bytes.now)) }
+    ensures { IfSome result (λ p. (p.1 < length bytes.now) × IsTrue (is_lit (lit_of p.0))
+        × (drop place bytes.now ≡ lit_text (lit_of p.0) ++ drop p.1 bytes.now)) }
 {
     match after_byte(bytes, place, b'-') {
         Some(digits) => {
-            let (atom, end) = number_at(bytes, digits)?;
-            Some((
-                Lit {
-                    atom,
-                    negated: true,
-                },
-                end,
-            ))
+            let (atom, end) = number_at(bytes, digits, 9)?;
+            Some((atom as u32 * 2 + 1, end))
         }
         None => {
-            let (atom, end) = number_at(bytes, place)?;
-            Some((
-                Lit {
-                    atom,
-                    negated: false,
-                },
-                end,
-            ))
+            let (atom, end) = number_at(bytes, place, 9)?;
+            Some((atom as u32 * 2, end))
         }
     }
 }
@@ -144,10 +136,7 @@ fn read_lits(bytes: &[u8], from: usize, codes: &mut Vec<u32>) -> Result<Option<u
         if let Some(later) = after_byte(bytes, word, b'0') {
             return Ok(Some(later));
         }
-        let Some((lit, later)) = lit_at(bytes, word) else {
-            return Ok(None);
-        };
-        let Some(code) = code_of(lit) else {
+        let Some((code, later)) = code_at(bytes, word) else {
             return Ok(None);
         };
         append(codes, code)?;
@@ -172,7 +161,7 @@ fn read_hints(bytes: &[u8], from: usize, hints: &mut Vec<u64>) -> Result<Option<
         if let Some(later) = after_byte(bytes, word, b'0') {
             return Ok(Some(later));
         }
-        let Some((hint, later)) = number_at(bytes, word) else {
+        let Some((hint, later)) = number_at(bytes, word, 18) else {
             return Ok(None);
         };
         append(hints, hint)?;
