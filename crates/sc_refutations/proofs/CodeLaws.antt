@@ -42,10 +42,6 @@ code_by code false e =
 pub code_again : (code : ℕ) → code_of (lit_of code) ≡ code
 code_again code = code_by code (code % 2 == 1) refl
 
--- the number of a literal of an atom
-pub code_some : (code : ℕ) → has_code (lit_of code) ≡ true → (code == 0) ≡ false
-code_some code e = ne_eqb code 0 (λ (q : code ≡ 0). let more : 0 < code / 2 = ltb-true 0 (code / 2) e in absurd (omega (arith, more, q)))
-
 -- ---- the number of a negation
 
 negation_at : (code : ℕ) (t : Bool) → (code % 2 == 1) ≡ t → code_of (negation (lit_of code)) ≡ cond (not t) (code / 2 * 2 + 1) (code / 2 * 2)

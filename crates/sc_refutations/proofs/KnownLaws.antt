@@ -1,16 +1,15 @@
 -- The literals that marks make true.
-use Rattle.std.proofs.Common.{◌≡◌, ◌≢◌, ◌+◌, ◌-◌, ◌*◌, ◌<◌, ◌≤◌, ◌==◌, ℕ, zero, suc, List, [], ◌∷◌, ◌++◌, map, drop, set, get_or, length, Bool, true, false, cond, ◌||◌, nat_lt, nat_le, Some, None, slice_get, refl, sym, ap, ◌∙◌, arith}
+use Rattle.std.proofs.Common.{◌≡◌, ◌≢◌, ◌+◌, ◌-◌, ◌*◌, ◌<◌, ◌≤◌, ◌==◌, ℕ, zero, suc, List, [], ◌∷◌, ◌++◌, set, get_or, length, Bool, true, false, cond, ◌||◌, nat_lt, nat_le, Some, None, slice_get, refl, sym, ap, ◌∙◌, arith}
 use Rattle.std.specs.List.{list_all}
 use Rattle.std.proofs.Math.Path.{fun_ext}
-use Rattle.std.proofs.lemmas.Bool.{leb-true, le-leb, ltb-true, lt-ltb, ne_eqb, eq-eqb, and_parts, and_from, true≢false}
+use Rattle.std.proofs.lemmas.Bool.{leb-true, le-leb, lt-ltb, ne_eqb, eq-eqb, and_parts, and_from, true≢false}
 use Rattle.sc_clauses.specs.declared.lit.Lit.{Lit}
 use Rattle.sc_clauses.specs.Clauses.{Clause, lit_eq, negation}
 use Rattle.sc_clauses.proofs.LitLaws.{lit_eq-true, lit_eq-itself, negation_twice}
-use Rattle.sc_refutations.specs.Arenas.{code_of, lit_of, has_code}
+use Rattle.sc_refutations.specs.Arenas.{code_of, has_code}
 use Rattle.sc_refutations.specs.Refutations.{with_lit, is_listed, are_listed, clause_at}
 use Rattle.sc_refutations.specs.Known.{says, marked, is_stamped, have_marks}
-use Rattle.sc_refutations.proofs.CodeLaws.{code_same, code_again, code_some}
-use Rattle.sc_refutations.proofs.LeftLaws.{lits_go}
+use Rattle.sc_refutations.proofs.CodeLaws.{code_same}
 use Rattle.sc_refutations.proofs.RefutationLaws.{listed_at}
 
 slice_get-set_same : {X : Type 0} (xs : List X) (i : ℕ) (x : X) → i < length xs → slice_get (set xs i x) i ≡ Some x
@@ -124,29 +123,7 @@ marked_by count n number clauses c false a e is = all_marked count n c e (listed
 pub clause_marked : (count n number : ℕ) (clauses : List Clause) (c : Clause) → are_listed count clauses ≡ true → n ≡ count * 2 + 2 → Some c ≡ clause_at clauses number → have_marks n c ≡ true
 clause_marked count n number clauses c a e is = marked_by count n number clauses c (number == 0) a e is
 
--- the literal at a place in a clause, and those behind it
-pub marked_here : (n : ℕ) (codes : List ℕ) (i : ℕ) → i < length codes → have_marks n (map lit_of (drop i codes)) ≡ true
-    → (get_or codes i 0 < n) × (have_marks n (map lit_of (drop (i + 1) codes)) ≡ true)
-marked_here n codes i h e =
-    let parts = and_parts (nat_lt (code_of (lit_of (get_or codes i 0))) n) (have_marks n (map lit_of (drop (i + 1) codes))) (ap (have_marks n) (sym (lits_go codes i h)) ∙ e) in
-    let below : code_of (lit_of (get_or codes i 0)) < n = ltb-true (code_of (lit_of (get_or codes i 0))) n parts.0 in
-    let same = code_again (get_or codes i 0) in
-    (omega (arith, below, same), parts.1)
-
-pub coded_here : (codes : List ℕ) (i : ℕ) → i < length codes → list_all has_code (map lit_of (drop i codes)) ≡ true
-    → (get_or codes i 0 ≡ 0 → ⊥) × (list_all has_code (map lit_of (drop (i + 1) codes)) ≡ true)
-coded_here codes i h e =
-    let parts = and_parts (has_code (lit_of (get_or codes i 0))) (list_all has_code (map lit_of (drop (i + 1) codes))) (ap (list_all has_code) (sym (lits_go codes i h)) ∙ e) in
-    (not_zero (get_or codes i 0) (code_some (get_or codes i 0) parts.0), parts.1)
-  where
-    not_zero : (code : ℕ) → (code == 0) ≡ false → code ≡ 0 → ⊥
-    not_zero code e q = true≢false (sym (eq-eqb code 0 q) ∙ e)
-
 -- what the mark at a literal's place says
 pub marked_at : (step : ℕ) (marks : List ℕ) (l m : Lit) (place d : ℕ) → m ≡ negation l → place ≡ code_of m → place < length marks → (get_or marks place d == step) ≡ marked step marks l
 marked_at step marks l m place d is at h =
     ap (says step) (sym (slice_get-there marks place d h)) ∙ ap (λ (i : ℕ). says step (slice_get marks i)) (at ∙ ap code_of is)
-
--- the mark of a literal's number says that it is false
-pub marked_code : (step code : ℕ) (marks : List ℕ) → marked step marks (negation (lit_of code)) ≡ says step (slice_get marks code)
-marked_code step code marks = ap (λ (l : Lit). says step (slice_get marks (code_of l))) (negation_twice (lit_of code)) ∙ ap (λ (i : ℕ). says step (slice_get marks i)) (code_again code)

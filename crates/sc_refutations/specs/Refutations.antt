@@ -37,11 +37,6 @@ residual_by (Some code) = residual (option_to_list (lit_found code))
 abbrev pub clause_at : List Clause → ℕ → Option Clause
 clause_at clauses n = if n == 0 then None else slice_get clauses (n - 1)
 
--- the literal that was found, where there is one, is another
-abbrev pub is_other : Option Lit → Lit → Bool
-is_other None l = false
-is_other (Some o) l = not (lit_eq o l)
-
 abbrev pub residual_at : LitSet → Option Clause → Residual
 residual_at known None = Open
 residual_at known (Some c) = residual (open_lits known c)

@@ -3,9 +3,9 @@ ghost use Rattle.std.specs.Prelude.{◌≡◌, ◌&&◌, ◌<◌, ◌≤◌, ◌
 ghost use Rattle.std.specs.List.{list_all};
 ghost use Rattle.std.specs.Option.{option_copied};
 ghost use Rattle.std.specs.Vec.{vec_len, vec_capacity};
-ghost use Rattle.sc_refutations.specs.Arenas.{lit_of, has_code, lit_found, pieces, are_ordered, are_within};
+ghost use Rattle.sc_refutations.specs.Arenas.{lit_of, has_code, pieces, are_ordered, are_within};
 ghost use Rattle.sc_refutations.specs.Known.{marked, have_marks};
-ghost use Rattle.sc_refutations.specs.Refutations.{residual, residual_by, is_other, open_lits, residual_at, clause_at, is_clause, are_listed, negated, refutes};
+ghost use Rattle.sc_refutations.specs.Refutations.{residual, residual_by, open_lits, residual_at, clause_at, is_clause, are_listed, negated, refutes};
 
 use crate::arena::{Arena, codes_at};
 use crate::growing::make_room;
@@ -24,15 +24,6 @@ pub enum Residual {
     Open,
 }
 
-/// Whether another literal was found before that of this number.
-#[inline(always)]
-#[tactic(auto, using(crate::proofs::LeftLaws::other_code))]
-fn is_other(found: u32, code: u32) -> bool
-    ensures { result ≡ is_other (lit_found found) (lit_of code) }
-{
-    found != 0 && found != code
-}
-
 /// What is left of the clause of numbers, by the marks of a step: the number of the one literal, 0 where none is left, and
 /// None where several are.
 #[inline(always)]
@@ -44,10 +35,11 @@ fn left_of(marks: &[u64], step: u64, codes: &[u32]) -> Option<u32>
     let mut found = 0u32;
     for code in codes {
         if !is_false(marks, step, *code) {
-            if is_other(found, *code) {
+            if found == 0 {
+                found = *code;
+            } else if found != *code {
                 return None;
             }
-            found = *code;
         }
     }
     Some(found)
