@@ -1,10 +1,11 @@
 -- What the hints of a learned clause show.
 use Rattle.std.specs.Prelude.{◌&&◌, ◌||◌, ◌==◌, ◌-◌, ℕ, List, [], ◌∷◌, filter, Bool, true, false, not, nat_lt, nat_le, Option, Some, None, slice_get, if◌then◌else◌}
 use Rattle.std.specs.List.{list_all}
-use Rattle.std.specs.Option.{option_to_list}
 use Rattle.sc_clauses.specs.declared.lit.Lit.{Lit}
 use Rattle.sc_clauses.specs.Clauses.{Clause, lit_eq, negation, is_in}
-use Rattle.sc_refutations.specs.Arenas.{lit_found}
+use Rattle.sc_refutations.specs.Arenas.{lit_of}
+use Rattle.sc_refutations.specs.declared.refuting.Left.{Left}
+use Rattle.sc_refutations.specs.declared.refuting.Left.TheVariants.{Nothing, One, Several}
 use Rattle.sc_refutations.specs.declared.refuting.Residual.{Residual}
 use Rattle.sc_refutations.specs.declared.refuting.Residual.TheVariants.{Conflict, Unit, Open}
 
@@ -28,10 +29,11 @@ abbrev pub residual : List Lit → Residual
 residual [] = Conflict
 residual (l ∷ ls) = if list_all (lit_eq l) ls then Unit l else Open
 
--- what is left by the number of the literal, which is 0 where none is left; several literals have none
-abbrev pub residual_by : Option ℕ → Residual
-residual_by None = Open
-residual_by (Some code) = residual (option_to_list (lit_found code))
+-- what is left, where a literal is told by its number
+abbrev pub residual_by : Left → Residual
+residual_by Nothing = Conflict
+residual_by (One code) = Unit (lit_of code)
+residual_by Several = Open
 
 -- the clause of a number, counted from 1
 abbrev pub clause_at : List Clause → ℕ → Option Clause

@@ -1,9 +1,9 @@
 //! Learned clauses that their hints show.
 ghost use Rattle.std.specs.Prelude.{◌≡◌, ◌&&◌, ◌<◌, ◌≤◌, ◌+◌, ◌++◌, ◌∷◌, [], false, map, take, length, option_map, IfOk, IsTrue, if◌then◌else◌};
 ghost use Rattle.std.specs.List.{list_all};
-ghost use Rattle.std.specs.Option.{option_copied};
+ghost use Rattle.std.specs.Option.{option_copied, option_to_list};
 ghost use Rattle.std.specs.Vec.{vec_len, vec_capacity};
-ghost use Rattle.sc_refutations.specs.Arenas.{lit_of, has_code, pieces, are_ordered, are_within};
+ghost use Rattle.sc_refutations.specs.Arenas.{lit_of, has_code, lit_found, pieces, are_ordered, are_within};
 ghost use Rattle.sc_refutations.specs.Known.{marked, have_marks};
 ghost use Rattle.sc_refutations.specs.Refutations.{residual, residual_by, open_lits, residual_at, clause_at, is_clause, are_listed, negated, refutes};
 
@@ -24,10 +24,32 @@ pub enum Residual {
     Open,
 }
 
-/// What is left of the clause of numbers, by the marks of a step: the number of the one literal, 0 where none is left, and
-/// None where several are.
+/// The same of a clause of numbers: the one literal by its number.
+#[derive(Clone, Copy)]
+enum Left {
+    /// Nothing.
+    Nothing,
+    /// The number of one literal.
+    One(u32),
+    /// Several literals.
+    Several,
+}
+
+/// What is left where the literal of this number is, or none where that is 0.
 #[inline(always)]
-fn left_of(marks: &[u64], step: u64, codes: &[u32]) -> Option<u32>
+#[tactic(auto, using(crate::proofs::LeftLaws::none_found, crate::proofs::LeftLaws::one_found))]
+fn left_by(found: u32) -> Left
+    ensures { residual_by result ≡ residual (option_to_list (lit_found found)) }
+{
+    if found == 0 {
+        return Left::Nothing;
+    }
+    Left::One(found)
+}
+
+/// What is left of the clause of numbers, by the marks of a step.
+#[inline(always)]
+fn left_of(marks: &[u64], step: u64, codes: &[u32]) -> Left
     requires marks { IsTrue (have_marks (length marks.now) (map lit_of codes.now)) }
     requires codes { IsTrue (list_all has_code (map lit_of codes.now)) }
     ensures { residual_by result ≡ residual (open_lits (marked step marks.now) (map lit_of codes.now)) }
@@ -38,11 +60,11 @@ fn left_of(marks: &[u64], step: u64, codes: &[u32]) -> Option<u32>
             if found == 0 {
                 found = *code;
             } else if found != *code {
-                return None;
+                return Left::Several;
             }
         }
     }
-    Some(found)
+    left_by(found)
 }
 
 /// The numbers of the clause of a number, counted from 1.
@@ -57,9 +79,9 @@ fn clause_at<'a>(codes: &'a [u32], ends: &[u32], number: u64) -> Option<&'a [u32
     codes_at(codes, ends, (number - 1) as usize)
 }
 
-/// What is left of the clause of a number, as `left_of` tells it.
+/// What is left of the clause of a number. Of one that isn't there, several literals.
 #[inline(always)]
-fn left_at(known: &Known, codes: &[u32], ends: &[u32], number: u64) -> Option<u32>
+fn left_at(known: &Known, codes: &[u32], ends: &[u32], number: u64) -> Left
     requires listed { IsTrue (are_listed known.now.count (pieces 0 codes.now ends.now)) }
     requires within { IsTrue (are_within 0 ends.now (length codes.now)) }
     ensures { residual_by result ≡ residual_at (marked known.now.step known.now.marks.items)
@@ -67,7 +89,7 @@ fn left_at(known: &Known, codes: &[u32], ends: &[u32], number: u64) -> Option<u3
 {
     match clause_at(codes, ends, number) {
         Some(clause) => left_of(known.marks.as_slice(), known.step, clause),
-        None => None,
+        None => Left::Several,
     }
 }
 
@@ -107,13 +129,11 @@ fn follow(known: &mut Known, codes: &[u32], ends: &[u32], hints: &[u64]) -> bool
     ensures number { known.new.step ≡ known.old.step }
 {
     for (i, hint) in hints.iter().enumerate() {
-        let Some(left) = left_at(known, codes, ends, *hint) else {
-            return false;
-        };
-        if left == 0 {
-            return i + 1 == hints.len();
+        match left_at(known, codes, ends, *hint) {
+            Left::Nothing => return i + 1 == hints.len(),
+            Left::One(code) => known.insert(code),
+            Left::Several => return false,
         }
-        known.insert(left);
     }
     false
 }
