@@ -1,18 +1,18 @@
 //! The checker of steps, one after another.
-ghost use Rattle.std.specs.Prelude.{◌≡◌, ◌&&◌, ◌+◌, ◌<◌, None, OnOk, IfOk, IsTrue, map, length};
+ghost use Rattle.std.specs.Prelude.{◌≡◌, ◌+◌, ◌<◌, None, OnOk, IfOk, IsTrue, map, length};
 ghost use Rattle.std.specs.List.{list_all};
 ghost use Rattle.std.specs.Option.{is_some};
 ghost use Rattle.sc_lists.specs.Told.{Gives};
 ghost use Rattle.sc_checker.specs.Progress.{IsChecked, start, failed, counted, grown, taken, after_step, verdict_of};
 ghost use Rattle.sc_refutations.specs.Arenas.{lit_of, has_code};
-ghost use Rattle.sc_refutations.specs.Refutations.{are_listed, is_clause, refutes, negated};
+ghost use Rattle.sc_refutations.specs.Refutations.{are_listed};
 ghost use Rattle.sc_checker.specs.Verdicts.{Rules as AnyRules, AreRules, of_instance, of_learned};
 
 use crate::checking::{Reason, Verdict};
 use sc_clauses::{Clause, Instance, Lit, Step};
 use sc_footprint::{Problem, Theory, problem_laws};
 use sc_lists::Fault;
-use sc_refutations::{Arena, Known, is_shown};
+use sc_refutations::{Arena, Known, learn};
 use std::alloc::{AllocError, Global};
 use std::marker::Model;
 use th_defs::{defining, defining_laws};
@@ -111,28 +111,6 @@ impl StepChecker {
         self.steps = self.next_number();
     }
 
-    /// Counts one step more, and tells whether its clause, given by the numbers of its literals, is shown by its hints.
-    fn shows(&mut self, clause: &[u32], hints: &[u64]) -> bool
-        requires room { self.old.steps < length self.old.clauses }
-        requires listed { IsTrue (are_listed self.old.listed self.old.clauses) }
-        requires codes { IsTrue (list_all has_code (map lit_of clause.now)) }
-        ensures counted { self.new ≡ counted self.old }
-        ensures shown { result ≡ is_clause self.old.listed (map lit_of clause.now)
-            && refutes self.old.clauses (negated (map lit_of clause.now)) hints.now }
-    {
-        self.steps = self.next_number();
-        is_shown(&mut self.known, self.steps, &self.clauses, clause, hints)
-    }
-
-    /// Adds the clause of the last step, by the numbers of its literals.
-    fn add(&mut self, clause: &[u32]) -> Result<(), AllocError>
-        ensures { OnOk result (self.new ≡ grown (map lit_of clause.now) self.old) }
-    {
-        self.clauses.push(clause)?;
-        self.is_empty = clause.is_empty();
-        Ok(())
-    }
-
     /// Adds the clause of the last step.
     fn add_lits(&mut self, alloc: Global, clause: &[Lit]) -> Result<(), AllocError>
         ensures { OnOk result (self.new ≡ grown clause.now self.old) }
@@ -180,8 +158,16 @@ impl StepChecker {
         ensures { OnOk result (self.new ≡ taken (of_learned self.old.listed self.old.clauses
             (record { clause = map lit_of clause.now; hints = hints.now })) self.old) }
     {
-        if self.shows(clause, hints) {
-            return self.add(clause);
+        self.steps = self.next_number();
+        if learn(
+            &mut self.known,
+            self.steps,
+            &mut self.clauses,
+            clause,
+            hints,
+        )? {
+            self.is_empty = clause.is_empty();
+            return Ok(());
         }
         self.fail(self.steps, Reason::NotRefuted);
         Ok(())
