@@ -13,7 +13,7 @@ use crate::written_entity_type::WrittenEntityType;
 use crate::written_namespace::WrittenNamespace;
 use crate::written_schema::WrittenSchema;
 use crate::written_type::WrittenType;
-use sc_lists::{Seq, Text};
+use sc_lists::{Boxed, Seq, Text};
 use serde_json::Value;
 use std::alloc::{AllocError, Global};
 
@@ -43,11 +43,13 @@ impl FromMember for WrittenEntityType {
     ghost said = { entity_type_of };
 
     fn from_member(alloc: Global, name: &str, value: &Value) -> Result<Self, AllocError> {
+        let shape = type_of_any(alloc, value_at(value, "shape"))?;
+        let shape = Boxed::new(alloc, shape)?;
         Ok(WrittenEntityType {
-            name: Text::from_str(alloc, name)?,
             parents: texts_of(alloc, value_at(value, "memberOfTypes"))?,
-            shape: type_of_any(alloc, value_at(value, "shape"))?,
+            name: Text::from_str(alloc, name)?,
             tags: type_of_any(alloc, value_at(value, "tags"))?,
+            shape: shape.into_inner(),
         })
     }
 }
@@ -57,10 +59,10 @@ impl FromMember for WrittenAction {
 
     fn from_member(alloc: Global, name: &str, value: &Value) -> Result<Self, AllocError> {
         Ok(WrittenAction {
-            id: Text::from_str(alloc, name)?,
             parents: parents_of(alloc, value_at(value, "memberOf"))?,
             principals: texts_of(alloc, applies_to(value, "principalTypes"))?,
             resources: texts_of(alloc, applies_to(value, "resourceTypes"))?,
+            id: Text::from_str(alloc, name)?,
             context: type_of_any(alloc, applies_to(value, "context"))?,
         })
     }
