@@ -13,7 +13,7 @@ use crate::written_entity_type::WrittenEntityType;
 use crate::written_namespace::WrittenNamespace;
 use crate::written_schema::WrittenSchema;
 use crate::written_type::WrittenType;
-use sc_lists::{Boxed, Seq, Text};
+use sc_lists::{Seq, Text};
 use serde_json::Value;
 use std::alloc::{AllocError, Global};
 
@@ -43,13 +43,11 @@ impl FromMember for WrittenEntityType {
     ghost said = { entity_type_of };
 
     fn from_member(alloc: Global, name: &str, value: &Value) -> Result<Self, AllocError> {
-        let shape = type_of_any(alloc, value_at(value, "shape"))?;
-        let shape = Boxed::new(alloc, shape)?;
         Ok(WrittenEntityType {
             parents: texts_of(alloc, value_at(value, "memberOfTypes"))?,
             name: Text::from_str(alloc, name)?,
+            shape: type_of_any(alloc, value_at(value, "shape"))?,
             tags: type_of_any(alloc, value_at(value, "tags"))?,
-            shape: shape.into_inner(),
         })
     }
 }

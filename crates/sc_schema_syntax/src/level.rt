@@ -13,7 +13,7 @@ use sc_names::{is_ident, is_path};
 use serde_json::{Map, Value};
 
 /// An object of a schema file, by what its members are.
-#[derive(Clone, Copy, PartialEq, Eq)]
+#[derive(Clone, Copy)]
 pub(crate) enum Level {
     /// Namespaces, by their names.
     Schema,
@@ -128,7 +128,7 @@ fn is_empty(members: &Map<String, Value>) -> bool
 pub(crate) fn is_whole(level: Level, members: &Map<String, Value>) -> bool
     ensures { result ≡ is_whole level (members_view members.now.entries) }
 {
-    if level == Level::NoAttributes {
+    if matches!(level, Level::NoAttributes) {
         return is_empty(members);
     }
     match required(level) {

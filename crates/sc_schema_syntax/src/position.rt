@@ -1,7 +1,7 @@
 //! Where a type stands.
 
 /// Where a type stands, which tells whether it may have the member `required`.
-#[derive(Clone, Copy, PartialEq, Eq)]
+#[derive(Clone, Copy)]
 pub(crate) enum Position {
     /// As the type of an attribute.
     Attribute,

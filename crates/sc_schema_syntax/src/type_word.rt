@@ -5,7 +5,7 @@ ghost use Rattle.sc_schema_syntax.specs.TypeWords.{type_word};
 use sc_lists::equals;
 
 /// What a word at the member `type` of a type means.
-#[derive(Clone, Copy, PartialEq, Eq)]
+#[derive(Clone, Copy)]
 pub(crate) enum TypeWord {
     /// `Boolean`.
     Boolean,
