@@ -8,7 +8,7 @@ use crate::declared::Declared;
 use crate::full::{action_uid, full_name, name_of};
 use crate::lookup::action_named;
 use crate::resolved_types::{entity_type_of, resolved_type};
-use sc_lists::{Boxed, Seq, Text};
+use sc_lists::{Seq, Text};
 use sc_names::{Name, Uid};
 use sc_schema_resolved::{
     ResolvedAction, ResolvedCommonType, ResolvedEntityType, ResolvedNamespace, ResolvedSchema,
@@ -127,14 +127,12 @@ impl FromWritten<WrittenEntityType> for ResolvedEntityType {
         namespace: &str,
         written: &WrittenEntityType,
     ) -> Result<Self, AllocError> {
-        let shape = any_type(alloc, declared, namespace, &written.shape)?;
-        let shape = Boxed::new(alloc, shape)?;
         Ok(ResolvedEntityType {
             parents: each(alloc, declared, namespace, &written.parents)?,
             key: written.name.try_clone(alloc)?,
             name: full_name(alloc, namespace, written.name.as_str())?,
+            shape: any_type(alloc, declared, namespace, &written.shape)?,
             tags: any_type(alloc, declared, namespace, &written.tags)?,
-            shape: shape.into_inner(),
         })
     }
 }
