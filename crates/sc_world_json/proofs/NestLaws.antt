@@ -21,7 +21,7 @@ use Rattle.sc_world.proofs.DeclaredLaws.{Gets, gets_itself}
 use Rattle.sc_world_json.specs.Text.{value_data, fields_data}
 use Rattle.sc_world_json.proofs.ProperLaws.{proper_members, proper_fields, ascending_fields}
 use Rattle.sc_world_json.proofs.TextLaws.{Field}
-use Rattle.sc_world_json.proofs.TypedLaws.{layer_data, data_at, AllPass, is_declared}
+use Rattle.sc_world_json.proofs.TypedLaws.{layer_data, data_at, fails, AllPass, is_declared}
 use Rattle.sc_world.proofs.ConformsLaws.{truth_is_bool}
 
 -- proper values that pass the test nest at most so deep
@@ -40,30 +40,30 @@ from_layers test n layers x p h =
 
 bool-nests : LayersNest is_bool 2
 bool-nests (v.Bool c) p h = omega arith
-bool-nests _ p h = absurd cc
+bool-nests _ p h = absurd (fails h)
 
 truth-nests : (c : Bool) → LayersNest (is_truth c) 2
 truth-nests c a p h = bool-nests a p (truth_is_bool c a h)
 
 long-nests : LayersNest is_long 2
 long-nests (v.Long n) p h = omega arith
-long-nests _ p h = absurd cc
+long-nests _ p h = absurd (fails h)
 
 string-nests : LayersNest is_string 2
 string-nests (v.String text) p h = omega arith
-string-nests _ p h = absurd cc
+string-nests _ p h = absurd (fails h)
 
 decimal-nests : LayersNest is_decimal 2
 decimal-nests (v.Decimal n) p h = omega arith
-decimal-nests _ p h = absurd cc
+decimal-nests _ p h = absurd (fails h)
 
 ip-nests : LayersNest is_ip 2
 ip-nests (v.Ip ip) p h = omega arith
-ip-nests _ p h = absurd cc
+ip-nests _ p h = absurd (fails h)
 
 entity-nests : (name : List ℕ) → LayersNest (is_entity_of name) 2
 entity-nests name (v.Entity u) p h = omega arith
-entity-nests name _ p h = absurd cc
+entity-nests name _ p h = absurd (fails h)
 
 -- ---- sets
 
@@ -75,7 +75,7 @@ members-nest test n nests (x ∷ xs) p h =
 
 set-nests : (test : Test) (n : ℕ) → Nests test n → LayersNest (is_set_of test) (n + 1)
 set-nests test n nests (v.Set xs) p h = omega (arith, members-nest test n nests xs (proper_members xs (subst IsProper (rolls-Set xs) p)) h)
-set-nests test n nests _ p h = absurd cc
+set-nests test n nests _ p h = absurd (fails h)
 
 -- ---- records
 
@@ -124,7 +124,7 @@ record-nests ks (v.Record fs) p h =
     fields-nest ks fs parts.0 fs (gets_itself fs (ascending_fields fs proper)) parts.1 (proper_fields fs proper)
     in
     omega (arith, inside)
-record-nests ks _ p h = absurd cc
+record-nests ks _ p h = absurd (fails h)
 
 -- ---- all types
 

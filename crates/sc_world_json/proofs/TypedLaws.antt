@@ -72,7 +72,7 @@ from_layers test layers x y p q h k e =
 -- ---- kinds that hold no values
 
 -- no layer of another kind passes
-fails : IsTrue false → ⊥
+pub fails : IsTrue false → ⊥
 fails is = true≢false (sym is)
 
 bool-same : LayersDetermined is_bool
