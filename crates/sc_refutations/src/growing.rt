@@ -22,7 +22,10 @@ pub(crate) fn make_room<T: Copy>(list: &mut Vec<T>, count: usize) -> Result<(), 
 pub fn append<T: Copy>(list: &mut Vec<T>, element: T) -> Result<(), AllocError>
     ensures { OnOk result (list.new.items ≡ list.old.items ++ element ∷ []) }
 {
-    make_room(list, 1)?;
-    list.push_reserved(element);
+    if list.len() < list.capacity() {
+        list.push_reserved(element);
+        return Ok(());
+    }
+    list.push(element)?;
     Ok(())
 }
