@@ -32,7 +32,7 @@ fn after_byte(bytes: &[u8], place: usize, byte: u8) -> Option<usize>
 /// The value of the digit at a place.
 #[inline(always)]
 #[tactic(auto, using(crate::proofs::PlaceLaws::digit_next))]
-fn digit_at(bytes: &[u8], place: usize) -> Option<u8>
+fn digit_at(bytes: &[u8], place: usize) -> Option<u64>
     requires ended { IsTrue (ends_line bytes.now) }
     requires within { place < length bytes.now }
     ensures { IfSome result (λ digit. (place + 1 < length bytes.now) × IsInRange 48 57 (get_or bytes.now place 0)
@@ -42,7 +42,7 @@ fn digit_at(bytes: &[u8], place: usize) -> Option<u8>
     if !byte.is_ascii_digit() {
         return None;
     }
-    Some(byte - b'0')
+    Some(byte as u64 - b'0' as u64)
 }
 
 /// The digit other than `0` at a place.
@@ -73,12 +73,12 @@ fn number_from(bytes: &[u8], first: u8, from: usize, most: usize) -> Option<(u64
     ensures { IfSome result (λ p. (p.1 < length bytes.now) × IsTrue (is_hint p.0) × (p.0 < 10 ^ most)
         × (first ∷ drop from bytes.now ≡ decimal p.0 ++ drop p.1 bytes.now)) }
 {
-    let mut value = (first - b'0') as u64;
+    let mut value = first as u64 - b'0' as u64;
     for i in 0..most {
         let Some(digit) = digit_at(bytes, from + i) else {
             return Some((value, from + i));
         };
-        value = value * 10 + digit as u64;
+        value = value * 10 + digit;
     }
     None
 }
