@@ -59,6 +59,31 @@ fn resource_of(
     }
 }
 
+/// The request, by the closed terms.
+fn listed_request(
+    alloc: Global,
+    problem: &Problem<'_>,
+    m: &Assignment,
+    names: &[Text],
+    closed: &[u64],
+) -> Result<Request, AllocError>
+    requires listed { AreListed problem.now closed.now }
+    requires all { closed.now ≡ problem.now.closed }
+    ensures { IfOk result (λ r. r
+        ≡ request_said problem.now.schema problem.now.env (model problem.now m.now names.now)) }
+{
+    let principal = principal_of(alloc, problem, names, closed)?;
+    let resource = resource_of(alloc, problem, names, closed)?;
+    let action = problem.env().action.try_clone(alloc)?;
+    let context = context_of(alloc, problem, m, names, closed)?;
+    Ok(Request {
+        principal,
+        action,
+        resource,
+        context,
+    })
+}
+
 /// The request that an assignment stands for, with these names of closed terms, by their numbers
 /// from 1 on. Want of memory is its one fault.
 pub fn request_of(
@@ -71,15 +96,5 @@ pub fn request_of(
         ≡ request_said problem.now.schema problem.now.env (model problem.now m.now names.now)) }
 {
     let closed = closed_of(alloc, problem)?;
-    let numbers = closed.as_slice();
-    let principal = principal_of(alloc, problem, names, numbers)?;
-    let resource = resource_of(alloc, problem, names, numbers)?;
-    let action = problem.env().action.try_clone(alloc)?;
-    let context = context_of(alloc, problem, m, names, numbers)?;
-    Ok(Request {
-        principal,
-        action,
-        resource,
-        context,
-    })
+    listed_request(alloc, problem, m, names, closed.as_slice())
 }
