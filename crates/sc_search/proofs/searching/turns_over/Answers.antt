@@ -1,4 +1,4 @@
-use Rattle.std.proofs.Common.{◌≡◌, ◌+◌, ◌-◌, ◌<◌, ◌≤◌, ◌^◌, ℕ, List, length, subst, sym, ap, arith, IfOk}
+use Rattle.std.proofs.Common.{◌≡◌, ◌+◌, ◌-◌, ℕ, List, length, subst, sym, ap, arith, IfOk}
 use Rattle.sc_clauses.specs.Clauses.{Clause}
 use Rattle.sc_search.proofs.SearchLaws.{listed-in-cells, searching-begins}
 use Rattle.sc_search.proofs.searching.turns_over.Goals as goal
