@@ -1,6 +1,6 @@
 #!/bin/sh
 # How fast the program reads policy files, and whether its time grows with the file's length alone: each kind of file in three
-# lengths, each twice the one before. It is no part of the gate. Build the program first: cd crates/cedar_symcc && rt run.
+# lengths, each twice the one before. It is no part of the gate. Build the program first, by rt ci at the top of the repository.
 # usage: scripts/bench_parser.sh [PROGRAM]
 set -eu
 cd "$(dirname "$0")/.."

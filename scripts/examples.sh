@@ -3,7 +3,7 @@
 # In these pages a block that begins with ```LANGUAGE NAME is the file NAME; one that begins with ```console is a transcript, in which
 # `cedar_symcc` is the program; a table behind <!-- examples: FRONT --> has a row an example: how the line ends that begins with FRONT,
 # what it means, and the file that gives it.
-# usage: scripts/examples.sh [PROGRAM]      build the program first: cd crates/cedar_symcc && rt run
+# usage: scripts/examples.sh [PROGRAM]      build the program first, by rt ci at the top of the repository
 set -u
 cd "$(dirname "$0")/.." || exit 2
 top=$(pwd)

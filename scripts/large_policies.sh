@@ -7,7 +7,7 @@ set -u
 cd "$(dirname "$0")/.." || exit 2
 program=${1:-crates/cedar_symcc/out/cedar_symcc}
 part=${2:-1}
-[ -x "$program" ] || { echo "no program at $program: build it by cd crates/cedar_symcc && rt run"; exit 2; }
+[ -x "$program" ] || { echo "no program at $program: rt ci at the top of the repository builds it"; exit 2; }
 folder=$(mktemp -d)
 trap 'rm -rf "$folder"' EXIT
 

@@ -8,7 +8,7 @@ cd "$(dirname "$0")/.." || exit 2
 program=${1:-crates/cedar_symcc/out/cedar_symcc}
 folder=${2:-examples}
 budget=${3:-10000}
-[ -x "$program" ] || { echo "no program at $program: build it by cd crates/cedar_symcc && rt run"; exit 2; }
+[ -x "$program" ] || { echo "no program at $program: rt ci at the top of the repository builds it"; exit 2; }
 
 python3 - "$program" "$folder" "$budget" <<'PY'
 import pathlib, subprocess, sys, time
