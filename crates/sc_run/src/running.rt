@@ -60,14 +60,15 @@ fn ends<F: Files, O: Sink>(alloc: Global, words: &[String], files: &mut F, out: 
     ensures write_told { O.faults out.old < O.faults out.new → result.code ≡ 21 }
 {
     constant_laws();
-    match inputs_of(alloc, words, files) {
-        Ok(Inputs::Asked(analysis)) => report(alloc, &analysis, out),
-        Ok(Inputs::Logged(logging)) => report_log(alloc, &logging, out),
+    let read = inputs_of(alloc, words, files);
+    match &read {
+        Ok(Inputs::Asked(analysis)) => report(alloc, analysis, out),
+        Ok(Inputs::Logged(logging)) => report_log(alloc, logging, out),
         Ok(Inputs::Checked(claim)) => {
-            Status::without_logs(alloc, check(alloc, &claim, files, out))
+            Status::without_logs(alloc, check(alloc, claim, files, out))
         }
-        Ok(Inputs::Replayed(scene)) => Status::without_logs(alloc, replay(alloc, &scene, out)),
-        Err(Fault::Told(refusal)) => Status::without_logs(alloc, refuse(alloc, &refusal, out)),
+        Ok(Inputs::Replayed(scene)) => Status::without_logs(alloc, replay(alloc, scene, out)),
+        Err(Fault::Told(refusal)) => Status::without_logs(alloc, refuse(alloc, refusal, out)),
         Err(Fault::NoMemory) => Status::without_logs(alloc, 30),
     }
 }
