@@ -21,7 +21,6 @@ use Rattle.sc_terms.specs.Order.{tree_eq}
 use Rattle.sc_terms.specs.Folds.{literal_term, literal_of, other_equal, not_term, equal_term, like_by, like_term}
 use Rattle.sc_terms.proofs.OrderLaws.{tree_eq-exact}
 use Rattle.sc_term_laws.specs.Judging.{IsTerm}
-use Rattle.sc_term_laws.specs.Judging as judged
 use Rattle.sc_term_laws.proofs.JudgingLaws.{sort_is}
 use Rattle.sc_footprint.specs.Atoms.{is_atom}
 use Rattle.sc_footprint.specs.Problems.{Posed, IsPosed, closed_terms, goal_term, atoms}

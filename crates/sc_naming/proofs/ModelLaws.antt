@@ -12,7 +12,6 @@ use Rattle.sc_sorts.specs.declared.sort.Sort.TheVariants as sort
 use Rattle.sc_sorts.specs.declared.sort.Sort.TheVariants.{rolls-Entity}
 use Rattle.sc_sorts.specs.declared.sort.Sort.TheOpen as s
 use Rattle.sc_sorts.proofs.OutLaws.{out_String, out_Entity}
-use Rattle.sc_nodes.specs.declared.node.Leaf.TheVariants as leafs
 use Rattle.sc_nodes.specs.declared.node.Literal.TheVariants as literals
 use Rattle.sc_terms.specs.Folds.{literal_term}
 use Rattle.sc_terms.specs.Trees.{Tree}

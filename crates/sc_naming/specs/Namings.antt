@@ -1,5 +1,5 @@
 -- The name of a term: a string's text, an entity's id, and the empty text of any other.
-use Rattle.std.specs.Prelude.{◌≡◌, List, [], refl}
+use Rattle.std.specs.Prelude.{◌≡◌, [], refl}
 use Rattle.sc_sorts.specs.declared.sort.Sort.{Sort, Sort-F, out-Sort}
 use Rattle.sc_sorts.specs.declared.sort.Sort.TheOpen as s
 use Rattle.sc_terms.specs.Trees.{Tree}

@@ -1,5 +1,5 @@
 -- A query has a goal in each environment, and what the solver answers of its problem is a verdict.
-use Rattle.std.proofs.Common.{◌≡◌, ◌↔◌, ◌≤◌, ◌⊎◌, ◌++◌, ℕ, List, [], not, Option, Some, None, IfSome, IsSome, Contains, length, unwrap_or, refl, sym, ap, ◌∙◌, subst, ⊎_elim}
+use Rattle.std.proofs.Common.{◌≡◌, ◌↔◌, ◌≤◌, ◌⊎◌, ◌++◌, ℕ, List, [], not, Option, Some, None, IfSome, IsSome, Contains, unwrap_or, refl, sym, ap, ◌∙◌, subst, ⊎_elim}
 use Rattle.std.specs.Bool.{⊤}
 use Rattle.std.specs.List.{AllByRecursion}
 use Rattle.std.specs.Option.{option_or}

@@ -1,5 +1,5 @@
 -- What a run writes of the log of an environment.
-use Rattle.std.proofs.Common.{◌≡◌, ◌≢◌, ◌∙◌, ℕ, List, [], ◌∷◌, ◌++◌, map, Option, Some, Result, Ok, Err, false, true, length, get_or, ◌<◌, take, refl, sym, ap, subst}
+use Rattle.std.proofs.Common.{◌≡◌, ◌≢◌, ◌∙◌, ℕ, List, [], ◌∷◌, ◌++◌, Option, Some, Result, Ok, Err, length, get_or, ◌<◌, take, refl, sym, ap, subst}
 use Rattle.std.proofs.lemmas.List.{get_or-map, length-map}
 use Rattle.sc_outside.specs.Writes.{appended}
 use Rattle.sc_outside.specs.declared.faults.SinkFault.{SinkFault}
@@ -8,17 +8,16 @@ use Rattle.sc_schema.specs.declared.declarations.Env.{Env}
 use Rattle.sc_checker.specs.Texts.{step_line}
 use Rattle.sc_clauses.specs.declared.step.Step.{Step}
 use Rattle.sc_goal.specs.Queries.{Asked as Query}
-use Rattle.sc_inputs.specs.declared.inputs.Analysis.{Analysis}
 use Rattle.sc_inputs.specs.declared.inputs.Asking.{Asking}
 use Rattle.sc_reports.proofs.AnalysisLaws.{asked-same}
 use Rattle.sc_reports.proofs.ClaimLaws.{one-of}
 use Rattle.sc_reports.proofs.LineLaws.{lines-cut, lines-stop}
 use Rattle.sc_reports.proofs.ReportLaws.{PutsAnswer, counted-within, counts-more, logs-nil}
-use Rattle.sc_reports.specs.Analyses.{IsAnswer, IsFound, IsQueryOf, asked_in, asked_of, asked_within}
+use Rattle.sc_reports.specs.Analyses.{IsAnswer, IsFound, IsQueryOf, asked_of, asked_within}
 use Rattle.sc_reports.specs.Lines.{PutsLines, text_of}
-use Rattle.sc_reports.specs.Logs.{IsOther, Logged, Shows, log_first, log_front, log_lines, log_status, log_whole, other_front, other_whole, step_lines, unlogged}
+use Rattle.sc_reports.specs.Logs.{Logged, Shows, log_first, log_front, log_lines, log_status, log_whole, other_front, other_whole, step_lines, unlogged}
 use Rattle.sc_reports.specs.Progress.{Counts, IsFresh, Puts, status_after}
-use Rattle.sc_reports.specs.Reports.{Asked, Line, Verdict, has_counterexample, holds, line_text, log_of, status_by, status_of}
+use Rattle.sc_reports.specs.Reports.{Asked, Line, has_counterexample, holds, line_text, log_of, status_by}
 use Rattle.sc_reports.specs.View.{verdict_view}
 use Rattle.sc_reports.specs.declared.analysing.EnvAnswer.{EnvAnswer}
 use Rattle.sc_reports.specs.declared.analysing.EnvAnswer.TheVariants.{Holds, Violated, Spent, OverLimit}

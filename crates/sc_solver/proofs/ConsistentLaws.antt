@@ -1,5 +1,5 @@
 -- An assignment that a search finds gives closed terms truths that are consistent.
-use Rattle.std.proofs.Common.{◌≡◌, false, ap, ◌∙◌}
+use Rattle.std.proofs.Common.{ap, ◌∙◌}
 use Rattle.sc_clauses.specs.Assignments.{Assignment, falsifies}
 use Rattle.sc_footprint.specs.Problems.{Posed, IsPosed, goal_term}
 use Rattle.sc_consistency.specs.Laws.{HasSmallPlaces, FalsifiesNoInstance, InstancesSuffice}

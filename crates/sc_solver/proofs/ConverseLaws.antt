@@ -1,5 +1,5 @@
 -- The truths of a well-formed world in which the goal is true are a consistent assignment.
-use Rattle.std.proofs.Common.{◌≡◌, Contains, ap, is_some}
+use Rattle.std.proofs.Common.{Contains, ap, is_some}
 use Rattle.sc_clauses.specs.Clauses.{Clause}
 use Rattle.sc_world.specs.declared.world.World.{World}
 use Rattle.sc_footprint.specs.Problems.{Posed, IsPosed}

@@ -1,5 +1,5 @@
 -- Assignments of the listed atoms, and the worlds that they stand for.
-use Rattle.std.specs.Prelude.{◌≡◌, ◌≤◌, ℕ, false, List, Some, IfSome, length}
+use Rattle.std.specs.Prelude.{◌≡◌, ◌≤◌, ℕ, false, Some, IfSome, length}
 use Rattle.sc_world.specs.declared.world.World.{World}
 use Rattle.sc_clauses.specs.Assignments.{Assignment, value_of}
 use Rattle.sc_footprint.specs.Goals.{has_pick}

@@ -6,7 +6,6 @@ use Rattle.std.proofs.lemmas.Slice.Eq.{bytes_eq-Decides}
 use Rattle.sc_ast.specs.declared.expr.Expr.{Expr, Expr-F, out-Expr, map-Expr, fold_out-Expr}
 use Rattle.sc_ast.specs.declared.expr.Expr.TheOpen as e
 use Rattle.sc_ast.specs.declared.literal.Literal.{Literal}
-use Rattle.sc_ast.specs.declared.literal.Literal.TheVariants as literal
 use Rattle.sc_names.specs.declared.uid.Uid.{Uid}
 use Rattle.sc_schema.specs.declared.ty.Ty.{Ty, Ty-F, out-Ty, map-Ty, fold_out-Ty}
 use Rattle.sc_schema.specs.declared.ty.Ty.TheVariants as types

@@ -44,7 +44,7 @@ use Rattle.sc_typed.specs.Types.{is_true, is_false, is_either, is_boolean, is_lo
 use Rattle.sc_typed.specs.Capabilities.{Capabilities, tag_of, is_known}
 use Rattle.sc_typed.specs.Outcomes.{ty}
 use Rattle.sc_typed.specs.Literals.{literal_of, text_of, text_in as text_of_literal, same_literal}
-use Rattle.sc_typing_rules.specs.Operators.{are_entities, compared, equal_by, given_by, given_tag, negated, reads, read_as}
+use Rattle.sc_typing_rules.specs.Operators.{are_entities, compared, equal_by, given_by, given_tag, negated, reads}
 use Rattle.sc_typing_rules.specs.Operators as ops
 use Rattle.sc_typed.proofs.OutcomeLaws.{through, in_either, checked, found}
 use Rattle.sc_sound_values.specs.Sound.{IsOf, OrOverflows, AllHold}

@@ -1,5 +1,5 @@
 -- What records and entities have, by their types.
-use Rattle.std.proofs.Common.{◌≡◌, ◌||◌, ℕ, List, [], ◌∷◌, Bool, true, false, cond, IsTrue, IsSome, IsSomeAnd, Option, Some, None, is_some, unwrap_or, Result, Ok, Ordering, Less, Equal, Greater, is_eq, refl, sym, ap, subst, ◌∙◌}
+use Rattle.std.proofs.Common.{◌≡◌, ◌||◌, ℕ, List, [], ◌∷◌, Bool, true, false, cond, IsTrue, IsSome, IsSomeAnd, Option, Some, None, is_some, unwrap_or, Result, Ok, is_eq, refl, sym, ap, subst, ◌∙◌}
 use Rattle.std.specs.List.{AllByRecursion, list_all, list_any}
 use Rattle.std.specs.Option.{option_and_then}
 use Rattle.std.specs.Str.{bytes_eq}
@@ -17,7 +17,7 @@ use Rattle.sc_schema.specs.declared.declarations.Env.{Env}
 use Rattle.sc_schema.specs.Declarations.{Declarations, attrs_of}
 use Rattle.sc_values.specs.declared.value.Value.{Value, Value-F, out-Value, roll-Value, roll-out-Value}
 use Rattle.sc_values.specs.declared.value.Value.TheVariants as value
-use Rattle.sc_values.specs.declared.value.Value.TheVariants.{rolls-Entity, rolls-Record}
+use Rattle.sc_values.specs.declared.value.Value.TheVariants.{rolls-Record}
 use Rattle.sc_values.specs.declared.value.Value.TheOpen as v
 use Rattle.sc_values.specs.Records.{Fields, field}
 use Rattle.sc_values.proofs.EveryLaws as every

@@ -1,5 +1,5 @@
 -- Values by their types.
-use Rattle.std.proofs.Common.{◌≡◌, ◌&&◌, ℕ, ℤ, List, [], ◌∷◌, Bool, true, false, if◌then◌else◌, IsTrue, Some, Result, Ok, Err, refl, sym, ap, subst, ◌∙◌}
+use Rattle.std.proofs.Common.{◌≡◌, ℕ, ℤ, List, [], ◌∷◌, Bool, true, false, if◌then◌else◌, IsTrue, Some, Result, Ok, Err, refl, sym, ap, subst, ◌∙◌}
 use Rattle.std.specs.List.{AllByRecursion, list_all}
 use Rattle.std.proofs.lemmas.Slice.Eq.{bytes_eq-Decides}
 use Rattle.std.proofs.lemmas.Bool.{and_parts}
@@ -7,11 +7,11 @@ use Rattle.sc_ip.specs.declared.ip.Ip.{Ip}
 use Rattle.sc_names.specs.declared.uid.Uid.{Uid}
 use Rattle.sc_schema.specs.declared.ty.Ty.{Ty, Ty-F, out-Ty, roll-Ty, map-Ty, fold_out-Ty, fold-roll-Ty}
 use Rattle.sc_schema.specs.declared.ty.Ty.TheVariants as types
-use Rattle.sc_schema.specs.declared.ty.Ty.TheVariants.{rolls-True, rolls-False, rolls-Bool, rolls-Long, rolls-String, rolls-Decimal, rolls-Ip, rolls-Entity, rolls-Set}
+use Rattle.sc_schema.specs.declared.ty.Ty.TheVariants.{rolls-True, rolls-False, rolls-Bool, rolls-Long, rolls-String, rolls-Decimal, rolls-Ip, rolls-Entity}
 use Rattle.sc_schema.specs.declared.ty.Ty.TheOpen as t
 use Rattle.sc_values.specs.declared.value.Value.{Value, Value-F, out-Value, roll-Value, roll-out-Value}
 use Rattle.sc_values.specs.declared.value.Value.TheVariants as value
-use Rattle.sc_values.specs.declared.value.Value.TheVariants.{rolls-Bool as value_rolls-Bool, rolls-String as value_rolls-String, rolls-Entity as value_rolls-Entity, rolls-Set as value_rolls-Set, rolls-Record as value_rolls-Record}
+use Rattle.sc_values.specs.declared.value.Value.TheVariants.{rolls-Bool as value_rolls-Bool, rolls-String as value_rolls-String, rolls-Entity as value_rolls-Entity, rolls-Set as value_rolls-Set}
 use Rattle.sc_values.specs.declared.value.Value.TheOpen as v
 use Rattle.sc_values.proofs.EveryLaws as every
 use Rattle.sc_values.proofs.OutLaws.{out_Bool, out_Long, out_String, out_Entity, out_Set, out_Decimal, out_Ip}

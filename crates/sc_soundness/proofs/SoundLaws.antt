@@ -39,7 +39,7 @@ use Rattle.sc_typed.specs.declared.typed_expr.TypedExpr.{TypedExpr}
 use Rattle.sc_typed.specs.declared.typed_expr.TypedExpr.TheVariants as typed
 use Rattle.sc_typed.specs.Types.{is_boolean}
 use Rattle.sc_typed.specs.Capabilities.{Capabilities}
-use Rattle.sc_typed.specs.Outcomes.{made, gives, ty}
+use Rattle.sc_typed.specs.Outcomes.{gives, ty}
 use Rattle.sc_typed.specs.Outcomes as outcome
 use Rattle.sc_typing.specs.Policies.{acting, asked, typed_policy}
 use Rattle.sc_typing_rules.specs.Rules.{Operand, choice, either, both, operated, having, matching, tested, tested_in, applied, accessed, literal_type, literal_typed, variable_type, all_typed, member_type, set_literal, fields_typed, record_type, record_literal}

@@ -1,5 +1,5 @@
 -- Each term equals one of the classes that are found among it.
-use Rattle.std.proofs.Common.{◌≡◌, ◌⊎◌, ◌++◌, inl, inr, Bool, true, false, cond, List, [], ◌∷◌, Option, Some, None, refl, sym, ap, ◌∙◌, subst}
+use Rattle.std.proofs.Common.{◌≡◌, ◌⊎◌, ◌++◌, inl, inr, Bool, true, false, cond, List, [], ◌∷◌, Option, None, refl, sym, ap, ◌∙◌, subst}
 use Rattle.std.specs.List.{list_any}
 use Rattle.sc_lists.proofs.MemberLaws.{Has-left, Has-last, Has-push}
 use Rattle.sc_lists.specs.Members.{Has}
@@ -9,7 +9,6 @@ use Rattle.sc_sorts.proofs.OutLaws.{out_Bool, out_String}
 use Rattle.sc_nodes.specs.declared.node.Leaf.TheVariants.{Literal}
 use Rattle.sc_nodes.specs.declared.node.Literal.TheVariants as literals
 use Rattle.sc_terms.specs.Folds.{constant, literal_of, literals_same, equal_term, equal_by, other_equal}
-use Rattle.sc_terms.specs.Order.{tree_eq}
 use Rattle.sc_terms.specs.Trees.{Tree, leaf}
 use Rattle.sc_terms.specs.TreeSorts.{tree_sort}
 use Rattle.sc_terms.proofs.OrderLaws.{tree_eq-itself}

@@ -1,5 +1,5 @@
 -- Names that are given to a problem's strings one after the other are those that a model may have.
-use Rattle.std.proofs.Common.{◌≡◌, ◌↔◌, ◌≤◌, inl, inr, ℕ, true, List, [], ◌∷◌, map, length, refl, sym, ap, ◌∙◌, subst, arith}
+use Rattle.std.proofs.Common.{◌≡◌, ◌↔◌, ◌≤◌, inl, inr, ℕ, List, [], map, length, sym, ap, ◌∙◌, subst}
 use Rattle.std.proofs.lemmas.List.{length-map}
 use Rattle.sc_lists.proofs.MemberLaws.{Has-from_Contains, Contains-from_Has}
 use Rattle.sc_lists.specs.Members.{Has}

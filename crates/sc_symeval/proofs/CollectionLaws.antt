@@ -10,7 +10,7 @@ use Rattle.sc_sorts.specs.declared.sort.Sort.{Sort}
 use Rattle.sc_typed.specs.declared.typed_expr.TypedExpr.{TypedExpr}
 use Rattle.sc_nodes.specs.declared.node.ManyOp.TheVariants as manys
 use Rattle.sc_nodes.specs.declared.node.Node.{Node}
-use Rattle.sc_terms.specs.Trees.{Trees, Labelled, many, part, parts_of}
+use Rattle.sc_terms.specs.Trees.{Labelled, many, parts_of}
 use Rattle.sc_terms.specs.Tables.{Places, tree, node_parts, at_numbers, AreBelow, Keeps, StandsFor}
 use Rattle.sc_terms.specs.Folds.{set_term}
 use Rattle.sc_terms.proofs.TableLaws.{stands_later}

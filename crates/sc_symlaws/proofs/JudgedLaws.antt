@@ -1,5 +1,5 @@
 -- What an expression is compiled to are terms.
-use Rattle.std.proofs.Common.{◌≡◌, ◌⊎◌, inl, inr, ℕ, ℤ, pos, List, [], ◌∷◌, map, Bool, true, false, cond, if◌then◌else◌, is_some, All, Option, Some, None, option_map, unwrap_or, Ok, Contains, IsTrue, FitsSigned, arith, refl, ap, sym, subst, ◌∙◌}
+use Rattle.std.proofs.Common.{◌≡◌, ◌⊎◌, inl, inr, ℕ, ℤ, pos, List, [], ◌∷◌, map, Bool, true, false, cond, if◌then◌else◌, is_some, All, Option, Some, option_map, unwrap_or, Ok, Contains, IsTrue, FitsSigned, arith, refl, ap, sym, subst, ◌∙◌}
 use Rattle.std.specs.Int.{w64}
 use Rattle.std.specs.List.{AllByRecursion}
 use Rattle.std.specs.List.Sorted.{IsStrictlySortedBy}

@@ -25,7 +25,6 @@ use Rattle.sc_ast.specs.declared.literal.Literal.TheVariants as written
 use Rattle.sc_ast.specs.declared.operator.BinaryOperator.{BinaryOperator}
 use Rattle.sc_ast.specs.declared.operator.BinaryOperator.TheVariants as operator
 use Rattle.sc_ast.specs.declared.operator.UnaryOperator.{UnaryOperator}
-use Rattle.sc_ast.specs.declared.operator.UnaryOperator.TheVariants as operators
 use Rattle.sc_ast.specs.declared.place.Place.{Place}
 use Rattle.sc_ast.specs.Literals.{literal_uids, uids_step, expr_uids}
 use Rattle.sc_decimal.specs.DecimalValue.{decimal_of}
@@ -47,7 +46,7 @@ use Rattle.sc_schema.specs.declared.ty.Presence.TheVariants.{Required, Optional}
 use Rattle.sc_schema.specs.declared.ty.Ty.{Ty, Ty-F, out-Ty, out-roll-Ty}
 use Rattle.sc_schema.specs.declared.ty.Ty.TheOpen as t
 use Rattle.sc_schema.specs.declared.ty.Ty.TheVariants as types
-use Rattle.sc_schema.specs.declared.ty.Ty.TheVariants.{rolls-True, rolls-False, rolls-Bool, rolls-Long, rolls-String, rolls-Decimal, rolls-Ip, rolls-Entity, rolls-Set as type_rolls-Set, rolls-Record as type_rolls-Record}
+use Rattle.sc_schema.specs.declared.ty.Ty.TheVariants.{rolls-True, rolls-False, rolls-Long, rolls-String, rolls-Decimal, rolls-Ip, rolls-Entity, rolls-Set as type_rolls-Set, rolls-Record as type_rolls-Record}
 use Rattle.sc_schema.specs.Declarations.{Declarations, attrs_of, tags_of, ancestor_types, context_of}
 use Rattle.sc_schema.specs.Lawful.{IsLawful}
 use Rattle.sc_schema.proofs.LawfulLaws.{no_fields_lawful}

@@ -1,15 +1,14 @@
 -- Values of a type, by the kind of the type, and operators on values of their kinds.
-use Rattle.std.proofs.Common.{◌≡◌, ℤ, List, true, Ok, IsTrue, refl, ap, sym, ◌∙◌}
+use Rattle.std.proofs.Common.{◌≡◌, ℤ, List, true, Ok, IsTrue, ap, sym, ◌∙◌}
 use Rattle.sc_ip.specs.declared.ip.Ip.{Ip}
 use Rattle.sc_schema.specs.declared.ty.Ty.{Ty, Ty-F, out-Ty}
 use Rattle.sc_schema.specs.declared.ty.Ty.TheOpen as t
-use Rattle.sc_values.specs.declared.value.Value.{Value, Value-F, out-Value, roll-Value, roll-out-Value}
+use Rattle.sc_values.specs.declared.value.Value.{Value, out-Value, roll-Value, roll-out-Value}
 use Rattle.sc_values.specs.declared.value.Value.TheOpen as v
 use Rattle.sc_values.specs.declared.value.Value.TheVariants as value
 use Rattle.sc_values.specs.declared.value.Value.TheVariants.{rolls-Long, rolls-Decimal, rolls-Ip}
 use Rattle.sc_values.proofs.OutLaws.{out_Long, out_Decimal, out_Ip, out_Set}
 use Rattle.sc_world.specs.declared.world.World.{World}
-use Rattle.sc_world.specs.Conforms as conform
 use Rattle.sc_eval.specs.Outcomes.{Outcome, ◌>>=◌, as_long, as_decimal, as_address, as_set, long_in, decimal_in, address_in, set_in}
 use Rattle.sc_eval.specs.Operators.{longs, decimals, addresses, sets}
 use Rattle.sc_typed.specs.Types.{is_long, is_long_in, is_decimal, is_decimal_in, is_ip, is_ip_in}

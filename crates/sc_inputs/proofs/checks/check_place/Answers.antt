@@ -1,4 +1,4 @@
-use Rattle.std.proofs.Common.{◌≡◌, ◌≤◌, ◌∙◌, List, length, sym, subst, arith}
+use Rattle.std.proofs.Common.{◌≤◌, ◌∙◌, List, length, sym, subst, arith}
 use Rattle.sc_schema.specs.declared.declarations.Env.{Env}
 use Rattle.sc_inputs.specs.Refusals.{RefusesPlace, misplaced, no_environment}
 use Rattle.sc_inputs.specs.Serving.{aim_view}

@@ -2,7 +2,7 @@ use Rattle.std.proofs.Common.{option_map, Bor, List, ℕ, subst, sym}
 use Rattle.sc_ast.specs.declared.policy.Policy.{Policy}
 use Rattle.sc_outside.specs.Counts.{Rose}
 use Rattle.sc_inputs.specs.Readings.{RefusesSets, RefusesAsking, by_files, by_place, by_question}
-use Rattle.sc_inputs.specs.Refusals.{AreServed, HasAgainst, RefusesPlace, RefusesQuestion}
+use Rattle.sc_inputs.specs.Refusals.{HasAgainst, RefusesPlace, RefusesQuestion}
 use Rattle.sc_inputs.specs.Serving.{aim_view}
 use Rattle.sc_inputs.proofs.ReadingLaws.{fails_so}
 use Rattle.sc_inputs.proofs.reading.checked_sets.Goals as goal

@@ -1,5 +1,5 @@
-use Rattle.std.proofs.Common.{◌≡◌, ◌∙◌, ℕ, List, [], subst, sym}
-use Rattle.sc_outside.proofs.CountLaws.{rose_before, stands, told_later}
+use Rattle.std.proofs.Common.{◌∙◌, ℕ, List, [], subst, sym}
+use Rattle.sc_outside.proofs.CountLaws.{stands}
 use Rattle.sc_outside.proofs.PieceLaws.{stays_started}
 use Rattle.sc_outside.specs.Counts.{Rose}
 use Rattle.sc_inputs.proofs.ReadingLaws.{fails_so}

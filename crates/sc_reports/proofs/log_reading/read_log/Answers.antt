@@ -1,4 +1,4 @@
-use Rattle.std.proofs.Common.{rules, ◌≡◌, ℕ, List}
+use Rattle.std.proofs.Common.{rules}
 use Rattle.sc_outside.proofs.CountLaws.{rose_before}
 use Rattle.sc_outside.specs.Counts.{Rose}
 use Rattle.sc_inputs.proofs.ReadingLaws.{result_fails}

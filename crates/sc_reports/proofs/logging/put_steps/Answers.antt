@@ -1,4 +1,4 @@
-use Rattle.std.proofs.Common.{◌≡◌, ◌∙◌, ℕ, List, [], ◌∷◌, ◌++◌, subst, sym, ap, arith}
+use Rattle.std.proofs.Common.{◌∙◌, ℕ, [], ◌∷◌, ◌++◌, subst, sym, ap, arith}
 use Rattle.sc_checker.specs.Texts.{step_line}
 use Rattle.sc_outside.proofs.CountLaws.{stands}
 use Rattle.sc_outside.specs.Counts.{Rose}

@@ -1,5 +1,4 @@
-use Rattle.std.proofs.Common.{inl, inr, refl, subst}
-use Rattle.sc_inputs.specs.Readings.{FailsWith, IsUnread}
+use Rattle.std.proofs.Common.{inl, inr, refl}
 use Rattle.sc_inputs.specs.View.{refusal_view}
 use Rattle.sc_reports.specs.Claims.{unchecked}
 use Rattle.sc_run.proofs.StatusLaws.{unread-must}
