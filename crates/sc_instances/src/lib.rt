@@ -18,7 +18,7 @@ pub use given::{Closed, both, closed_of};
 pub use known::known_literal;
 pub use laws::rule_laws;
 pub use literals::{
-    FALSE, NOWHERE, TRUE, common, equal, literal_if, member, negated_if, present, subset,
+    FALSE, NOWHERE, TRUE, common, equal, find, literal_if, member, negated_if, present, subset,
 };
 pub use parts::{
     above, asked_at, attributes, closed_at, entity, field_count, is_one_sort, is_sort_named,

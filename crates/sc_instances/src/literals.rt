@@ -58,8 +58,8 @@ pub fn literal_if(problem: &Problem<'_>, term: Option<u64>) -> Lit
     }
 }
 
-/// The number of the term of a node.
-pub(crate) fn find(problem: &Problem<'_>, node: Node) -> Option<u64>
+/// The number of the term of a node, or none where no term has it.
+pub fn find(problem: &Problem<'_>, node: Node) -> Option<u64>
     requires { PartsAreBelow (length problem.now.nodes) node }
     ensures { IsFound problem.now.nodes (node_tree problem.now.nodes node) result }
 {

@@ -5,14 +5,13 @@ ghost use Rattle.sc_rebuilding.specs.Assignments.{lit as truth_of};
 ghost use Rattle.sc_rebuilding.specs.Names.{are_equal};
 ghost use Rattle.sc_string_names.specs.Truths.{atom_truth as atom_truth_in, literal_truth as literal_truth_in};
 ghost use Rattle.sc_terms.specs.Folds.{like_term};
-ghost use Rattle.sc_terms.specs.Finding.{IsFound};
-ghost use Rattle.sc_terms.specs.Tables.{tree, node_tree, PartsAreBelow};
+ghost use Rattle.sc_terms.specs.Tables.{tree};
 ghost use Rattle.sc_terms.specs.Trees.{one};
 ghost use Rattle.sc_nodes.specs.declared.node.UnaryOp.TheVariants.{Like as like_op};
 
 use sc_clauses::{Assignment, Atom, Lit};
 use sc_footprint::Problem;
-use sc_instances::{equal, literal_if};
+use sc_instances::{equal, find, literal_if};
 use sc_nodes::{Node, UnaryOp, literal_like};
 use sc_pattern::Pattern;
 use std::alloc::{AllocError, Global};
@@ -49,16 +48,6 @@ pub fn is_equal(problem: &Problem<'_>, m: &Assignment, a: u64, b: u64) -> bool
 {
     problem.laws();
     literal_truth(m, equal(problem, a, b))
-}
-
-/// The number of the term of a node.
-fn find(problem: &Problem<'_>, node: Node) -> Option<u64>
-    requires { PartsAreBelow (length problem.now.nodes) node }
-    ensures { IsFound problem.now.nodes (node_tree problem.now.nodes node) result }
-{
-    let found = problem.terms().find(&node);
-    drop(node);
-    found
 }
 
 /// Whether what is no literal matches a pattern.

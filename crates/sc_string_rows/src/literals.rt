@@ -5,13 +5,12 @@ ghost use Rattle.sc_footprint.specs.Problems.{literal_in};
 ghost use Rattle.sc_nodes.specs.declared.node.UnaryOp.TheVariants.{Like};
 ghost use Rattle.sc_rules.specs.Terms.{is_string};
 ghost use Rattle.sc_terms.specs.Folds.{like_term};
-ghost use Rattle.sc_terms.specs.Finding.{IsFound};
-ghost use Rattle.sc_terms.specs.Tables.{tree, node_tree, PartsAreBelow};
+ghost use Rattle.sc_terms.specs.Tables.{tree};
 ghost use Rattle.sc_terms.specs.Trees.{one};
 
 use sc_clauses::Lit;
 use sc_footprint::Problem;
-use sc_instances::{FALSE, TRUE, literal_if};
+use sc_instances::{FALSE, TRUE, find, literal_if};
 use sc_nodes::{Node, UnaryOp, literal_like};
 use sc_pattern::Pattern;
 use sc_sorts::Sort;
@@ -29,16 +28,6 @@ fn of_truth(truth: bool) -> Lit
     ensures { result ≡ (if truth then positive 1 else negated (positive 1)) }
 {
     if truth { TRUE } else { FALSE }
-}
-
-/// The number of the term of a node.
-fn find(problem: &Problem<'_>, node: Node) -> Option<u64>
-    requires { PartsAreBelow (length problem.now.nodes) node }
-    ensures { IsFound problem.now.nodes (node_tree problem.now.nodes node) result }
-{
-    let found = problem.terms().find(&node);
-    drop(node);
-    found
 }
 
 /// The literal of a match that doesn't fold.

@@ -1,8 +1,7 @@
 //! What each rule says of terms of the table, literal by literal.
 ghost use Rattle.std.specs.Prelude.{◌≡◌, ◌<◌, ◌&&◌, length, None, IfSome};
 ghost use Rattle.sc_clauses.specs.Clauses.{positive, negation as negated};
-ghost use Rattle.sc_terms.specs.Finding.{IsFound};
-ghost use Rattle.sc_terms.specs.Tables.{tree, node_tree, AreBelow, PartsAreBelow};
+ghost use Rattle.sc_terms.specs.Tables.{tree, AreBelow};
 ghost use Rattle.sc_terms.specs.TreeSorts.{tree_sort};
 ghost use Rattle.sc_rules.specs.Sets.{se2, se3};
 ghost use Rattle.sc_rules.specs.Terms.{is_set};
@@ -11,7 +10,7 @@ ghost use Rattle.th_sets.specs.Rows.{IsPlaced, placed as placed_rule, two_at, th
 
 use sc_clauses::{Lit, negation};
 use sc_footprint::Problem;
-use sc_instances::{NOWHERE, SetRule, common, equal, is_sort_set, member, members, subset};
+use sc_instances::{NOWHERE, SetRule, common, equal, find, is_sort_set, member, members, subset};
 use sc_lists::Text;
 use sc_nodes::{BinaryOp, ManyOp, Node};
 use sc_sorts::Sort;
@@ -299,16 +298,6 @@ fn side_count(side: u64) -> Option<u128>
     } else {
         None
     }
-}
-
-/// The number of the term of a node.
-fn find(problem: &Problem<'_>, node: Node) -> Option<u64>
-    requires { PartsAreBelow (length problem.now.nodes) node }
-    ensures { IsFound problem.now.nodes (node_tree problem.now.nodes node) result }
-{
-    let found = problem.terms().find(&node);
-    drop(node);
-    found
 }
 
 /// The literal of a pick being a member of a set; one of no atom where the pick isn't in the table.
