@@ -1,5 +1,5 @@
 -- `decimal_of` decides which text stands for which number.
-use Rattle.std.proofs.Common.{◌≡◌, ◌≢◌, ℕ, ◌+◌, ◌-◌, ◌*◌, ◌^◌, ◌<◌, List, [], ◌∷◌, ◌++◌, length, Option, Some, None, refl, arith, ℤ, pos, negsuc, neg_ℤ, ap, sym, ◌∙◌, subst, FitsSigned, w64, Bool, true, false, ◌&&◌, cond, eqb, ltb, leb, ◌↔◌, Result, Ok, Err, IfOk, OnErr}
+use Rattle.std.proofs.Common.{◌≡◌, ℕ, ◌+◌, ◌-◌, ◌*◌, ◌^◌, ◌<◌, List, [], ◌∷◌, ◌++◌, length, Option, Some, None, refl, arith, ℤ, pos, negsuc, neg_ℤ, ap, sym, ◌∙◌, subst, FitsSigned, w64, Bool, true, false, ◌&&◌, cond, eqb, ltb, leb, ◌↔◌, Result, Ok, Err, IfOk, OnErr}
 use Rattle.std.specs.Option.{option_and_then, option_map}
 use Rattle.std.specs.Result.{result_ok}
 use Rattle.std.specs.Char.{digit_value}

@@ -1,5 +1,5 @@
 -- The tests pass exactly the ranges that lie within the other.
-use Rattle.std.proofs.Common.{◌≡◌, ◌==◌, ◌&&◌, ◌||◌, ◌↔◌, ◌⊎◌, inl, inr, ℕ, ◌-◌, ◌/◌, ◌^◌, ◌≤◌, ◌<◌, Bool, true, false, IsTrue, refl, sym, nat_le, leb-true, leb-false, eqb-true, eq-eqb}
+use Rattle.std.proofs.Common.{◌≡◌, ◌==◌, ◌&&◌, ◌||◌, ◌↔◌, ◌⊎◌, inl, inr, ℕ, ◌-◌, ◌/◌, ◌^◌, Bool, true, false, IsTrue, refl, nat_le, leb-true, leb-false, eqb-true, eq-eqb}
 use Rattle.std.proofs.lemmas.Bool.{and_parts}
 use Rattle.sc_laws.proofs.BoolLaws.{same_truth}
 use Rattle.sc_ip.specs.declared.ip.Ip.{Ip}

@@ -1,5 +1,5 @@
 -- `ip_of` decides which text stands for which address.
-use Rattle.std.proofs.Common.{◌≡◌, ◌≢◌, ℕ, ◌+◌, ◌-◌, ◌<◌, ◌≤◌, List, [], ◌∷◌, ◌++◌, length, replicate, length-append, Option, Some, None, refl, arith, lit≤, ap, sym, ◌∙◌, subst, Bool, true, false, ◌&&◌, cond, eqb, ◌↔◌, Result, Ok, Err, IfOk, OnErr}
+use Rattle.std.proofs.Common.{◌≡◌, ◌≢◌, ℕ, ◌+◌, ◌-◌, ◌<◌, List, [], ◌∷◌, ◌++◌, length, replicate, length-append, Option, Some, None, refl, arith, ap, sym, ◌∙◌, subst, Bool, true, false, ◌&&◌, cond, eqb, ◌↔◌, Result, Ok, Err, IfOk, OnErr}
 use Rattle.std.specs.Option.{option_and_then, option_map}
 use Rattle.std.specs.Result.{result_ok}
 use Rattle.std.specs.List.{All, slice_split, join_with_byte}

@@ -6,7 +6,7 @@ use Rattle.std.specs.Str.{encode_utf8_all}
 use Rattle.std.proofs.lemmas.Bool.{cases_lt, and_parts}
 use Rattle.std.proofs.lemmas.Bool.Decides.{nat_tests, eqb_tells}
 use Rattle.std.proofs.lemmas.Grind.{flat_map-append}
-use Rattle.std.proofs.lemmas.Str.{encode_ascii, encodes-append, inside_one, digit_value-digit_char}
+use Rattle.std.proofs.lemmas.Str.{encode_ascii, encodes-append, digit_value-digit_char}
 use Rattle.std.proofs.lemmas.List.{append_cancel_right}
 use Rattle.sc_lists.proofs.TextLaws.{high_byte}
 use Rattle.sc_names.specs.declared.uid.Uid.{Uid}

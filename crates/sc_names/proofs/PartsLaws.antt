@@ -1,5 +1,5 @@
 -- A text is a path where its parts are identifiers.
-use Rattle.std.proofs.Common.{◌≡◌, ◌↔◌, ℕ, ◌==◌, ◌&&◌, List, [], ◌∷◌, ◌++◌, ◌||◌, Bool, true, false, cond, IsTrue, refl, sym, ap, subst, ◌∙◌, eqb-true}
+use Rattle.std.proofs.Common.{◌≡◌, ◌↔◌, ℕ, ◌==◌, List, [], ◌∷◌, ◌++◌, ◌||◌, Bool, true, false, cond, IsTrue, refl, sym, ap, subst, ◌∙◌, eqb-true}
 use Rattle.std.specs.Prelude.{codes, not}
 use Rattle.std.specs.Int.{is_in_range}
 use Rattle.sc_names.specs.Paths.{IsBadAt}

@@ -1,9 +1,8 @@
 -- What a step of reading a path shows of the text.
-use Rattle.std.proofs.Common.{◌≡◌, ℕ, ◌+◌, ◌-◌, ◌<◌, ◌≤◌, ◌==◌, ◌&&◌, List, [], ◌∷◌, ◌++◌, length, take, drop, Bool, true, false, cond, refl, sym, ◌∙◌, subst, length-drop, drop-drop, eqb-true, if◌then◌else◌, arith, add-one}
-use Rattle.std.specs.List.{list_all, take_while}
+use Rattle.std.proofs.Common.{◌≡◌, ℕ, ◌+◌, ◌-◌, ◌<◌, ◌≤◌, ◌==◌, ◌&&◌, List, [], ◌∷◌, ◌++◌, length, take, drop, Bool, true, false, refl, sym, ◌∙◌, subst, length-drop, drop-drop, eqb-true, if◌then◌else◌, arith, add-one}
+use Rattle.std.specs.List.{take_while}
 use Rattle.std.proofs.lemmas.List.{take_rest, take-append-drop, length-take-le}
-use Rattle.std.proofs.lemmas.List.Sums.{take_while-cons, prefix_len-le-length}
-use Rattle.std.proofs.lemmas.List.Folds.{length-prefix_len}
+use Rattle.std.proofs.lemmas.List.Sums.{take_while-cons}
 use Rattle.std.proofs.Math.Seq.{take-add, take-length}
 use Rattle.sc_lists.proofs.TextLaws.{take_while_passes, take_while_front, take_while_stops, take_while_within}
 use Rattle.sc_names.specs.Names.{begins_word, goes_on_word, is_word, is_ident}

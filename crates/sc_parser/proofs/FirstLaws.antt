@@ -13,7 +13,7 @@ use Rattle.sc_lexemes.specs.declared.lexeme.Shape.TheVariants.{Word, Number, Str
 use Rattle.sc_lexemes.specs.declared.operator.Close.{Close}
 use Rattle.sc_lexemes.specs.declared.operator.Close.TheVariants as close
 use Rattle.sc_lexemes.specs.declared.operator.Level.{Level}
-use Rattle.sc_parser.specs.Grammar.{Ident, Str, Entity, Key, Expression, Inner, Chain, Operand, Relation, Unary, Prefixes, Member, Primary}
+use Rattle.sc_parser.specs.Grammar.{Entity, Key, Inner, Chain, Operand, Relation, Unary, Prefixes, Member, Primary}
 use Rattle.sc_parser.specs.Grammar as g
 use Rattle.sc_lexemes.specs.Lexemes.{Is, Lacks, IsPrefix, IsStart, closing, starts}
 use Rattle.sc_parser.specs.Limits.{Limits}

@@ -17,7 +17,7 @@ use Rattle.sc_lexemes.specs.declared.stop.Stop.TheVariants as stop
 use Rattle.sc_lexemes.specs.Depth.{fits}
 use Rattle.sc_lexemes.specs.Lexemes.{closing}
 use Rattle.sc_lexemes.specs.Tables.{joined, called, applied, has_key, is_long, least_long}
-use Rattle.sc_parser.proofs.Sorts.{Sort, Of}
+use Rattle.sc_parser.proofs.Sorts.{Sort}
 use Rattle.sc_parser.proofs.Sorts as sort
 use Rattle.sc_parser.proofs.Nonterminals.{Nonterminal}
 use Rattle.sc_parser.proofs.Nonterminals as n

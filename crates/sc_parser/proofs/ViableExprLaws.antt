@@ -16,7 +16,7 @@ use Rattle.sc_lexemes.specs.declared.stop.Stop.{Stop}
 use Rattle.sc_lexemes.specs.declared.stop.Stop.TheVariants as stop
 use Rattle.sc_lexemes.specs.Depth.{fits, next, past, inside, back}
 use Rattle.sc_parser.specs.Faults.{Shares}
-use Rattle.sc_parser.specs.Grammar.{Ident, ident, Expression, Inner, Enclosed, Chain, MoreOperands, Operand, Relation, Prefixes, Member, Accesses, Primary, Items, Fields, Unary, chain_or, if_then_else, inner, enclosed, chain, operands_end, operands_more, operand_or, operand_and, operand_add, operand_multiply, sum, comparison, has, like, is_type, is_in, no_prefix, prefixes_end, least, prefix, member, no_access, index, access, method, no_method, truth, number, uid, no_function, parenthesis, set, fields, last_item, last_field}
+use Rattle.sc_parser.specs.Grammar.{Ident, ident, Expression, Inner, Enclosed, Chain, MoreOperands, Operand, Relation, Prefixes, Member, Accesses, Items, Fields, Unary, chain_or, if_then_else, inner, enclosed, chain, operands_end, operands_more, operand_or, operand_and, operand_add, operand_multiply, sum, comparison, has, like, is_type, is_in, no_prefix, prefixes_end, least, prefix, member, no_access, index, access, method, no_method, number, uid, no_function, parenthesis, set, fields, last_item, last_field}
 use Rattle.sc_parser.specs.Grammar as plain
 use Rattle.sc_parser.specs.Limits.{Limits, all_limits}
 use Rattle.sc_lexemes.specs.Lexemes.{IsIdent}

@@ -12,7 +12,7 @@ use Rattle.sc_parser.specs.Faults.{Begins, is_limit}
 use Rattle.sc_parser.specs.GrammarFiles.{Policies, File, policy, policies_end, policies_more}
 use Rattle.sc_parser.specs.Limits.{Limits, all_limits, no_limits, rank, before}
 use Rattle.sc_lexemes.specs.Outcomes.{read, halt}
-use Rattle.sc_parser.specs.ReadsFiles.{ReadsPolicy, ReadsPolicies}
+use Rattle.sc_parser.specs.ReadsFiles.{ReadsPolicies}
 use Rattle.sc_parser.specs.ReadsFiles as r
 use Rattle.sc_parser.proofs.PlainReadsFileLaws.{from_policies}
 use Rattle.sc_parser.proofs.PlainMovedFileLaws.{move_policies}

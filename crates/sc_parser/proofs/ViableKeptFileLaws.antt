@@ -15,7 +15,7 @@ use Rattle.sc_lexemes.specs.Outcomes.{read}
 use Rattle.sc_parser.specs.Faults.{Shares}
 use Rattle.sc_parser.proofs.PlainTokensLaws.{moved}
 use Rattle.sc_parser.proofs.ViableTokensLaws.{stay}
-use Rattle.sc_parser.specs.ReadsFiles.{SkipsAnnotation, HaltsAnnotation, ReadsHead, ReadsSlot, ReadsConstraint, ReadsEntities, ReadsActionConstraint, ReadsScope, ReadsPrincipal, ReadsAction, ReadsResource, ReadsScopes, ReadsClauses, ReadsPolicy, ReadsPolicies}
+use Rattle.sc_parser.specs.ReadsFiles.{SkipsAnnotation, ReadsHead, ReadsActionConstraint, ReadsScope, ReadsScopes, ReadsClauses, ReadsPolicy}
 use Rattle.sc_parser.specs.ReadsFiles as r
 use Rattle.sc_parser.proofs.PlainReadsFileLaws.{from_head, from_action_constraint, from_scope, from_scopes, from_clauses, from_policy}
 use Rattle.sc_parser.proofs.PlainMovedFileLaws.{move_head, move_action_asked, move_part, move_whole_scope, move_clauses, move_policy}

@@ -19,7 +19,7 @@ use Rattle.sc_lexemes.specs.declared.stop.Stop.{Stop}
 use Rattle.sc_lexemes.specs.declared.stop.Stop.TheVariants as stop
 use Rattle.sc_lexemes.specs.Depth.{next}
 use Rattle.sc_parser.specs.Faults.{Shares}
-use Rattle.sc_parser.specs.GrammarFiles.{Head, Slot, Asked, Entities, AskedOfAction, ScopePart, ActionPart, WholeScope, effect, bare_annotation, annotation, no_slot, slot, any, equal, within, of_type, of_type_within, last_entity, any_action, equal_action, within_action, within_actions, part, action_part, scope_end, scope_comma_end}
+use Rattle.sc_parser.specs.GrammarFiles.{Head, Slot, Asked, Entities, AskedOfAction, ScopePart, WholeScope, effect, bare_annotation, annotation, no_slot, slot, any, equal, within, of_type, of_type_within, last_entity, any_action, equal_action, within_action, within_actions, part, action_part, scope_end, scope_comma_end}
 use Rattle.sc_parser.specs.GrammarFiles as plain
 use Rattle.sc_parser.specs.Limits.{Limits, all_limits}
 use Rattle.sc_lexemes.specs.Outcomes.{read, halt}

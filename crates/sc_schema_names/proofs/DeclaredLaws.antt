@@ -1,12 +1,12 @@
 -- What the sets of declared names tell.
-use Rattle.std.proofs.Common.{◌≡◌, ℕ, List, Bool, ap}
+use Rattle.std.proofs.Common.{◌≡◌, ℕ, List}
 use Rattle.std.proofs.Math.Path.{fun_ext}
 use Rattle.sc_lists.specs.Ordered.{is_in}
 use Rattle.sc_names.specs.declared.uid.Uid.{Uid}
 use Rattle.sc_names.specs.Uids.{text_cmp, uid_cmp}
 use Rattle.sc_schema_syntax.specs.declared.written_schema.WrittenSchema.{WrittenSchema}
 use Rattle.sc_schema_names.specs.declared.declared.Declared.{Declared}
-use Rattle.sc_schema_names.specs.Names.{Known, entity_types, common_types, actions, known_in}
+use Rattle.sc_schema_names.specs.Names.{entity_types, common_types, actions, known_in}
 use Rattle.sc_schema_names.specs.Tables.{known}
 
 pub known_is : (d : Declared) (w : WrittenSchema)

@@ -1,5 +1,5 @@
 -- The first fault of a namespace: of its actions, then of its common types, then of its entity types.
-use Rattle.std.proofs.Common.{◌≡◌, ◌∙◌, ℕ, List, Option, Some, None, Result, IfOk, codes, ap, sym, subst}
+use Rattle.std.proofs.Common.{◌≡◌, ◌∙◌, ℕ, List, Option, Some, None, Result, IfOk, codes, ap, subst}
 use Rattle.std.specs.Option.{option_or}
 use Rattle.sc_schema_syntax.specs.declared.fault.SchemaFault.{SchemaFault}
 use Rattle.sc_schema_syntax.specs.declared.written_action.WrittenAction.{WrittenAction}

@@ -1,7 +1,6 @@
 -- Common types none of which reaches itself have an order.
-use Rattle.std.proofs.Common.{◌≡◌, ◌<◌, ◌⊎◌, ◌↔◌, ℕ, List, [], ◌∷◌, length, take, min, get_or, Bool, true, Option, Some, None, Contains, All, IsSome, option_map, unwrap_or, refl, sym, ap, ◌∙◌, inl, inr, subst, arith, length-take}
-use Rattle.std.specs.List.{AllByRecursion, list_any, slice_get}
-use Rattle.std.specs.Option.{is_some}
+use Rattle.std.proofs.Common.{◌≡◌, ◌<◌, ◌⊎◌, ◌↔◌, ℕ, List, [], ◌∷◌, length, take, min, get_or, Bool, true, Option, Some, None, Contains, IsSome, option_map, unwrap_or, refl, sym, ◌∙◌, inl, inr, subst, arith, length-take}
+use Rattle.std.specs.List.{list_any}
 use Rattle.std.specs.Str.{bytes_eq}
 use Rattle.std.proofs.lemmas.Bool.{or_left, or_right}
 use Rattle.std.proofs.lemmas.Cmp.{nat_list_cmp_total}
@@ -20,9 +19,9 @@ use Rattle.sc_schema_resolved.specs.declared.resolved_type.ResolvedType.{Resolve
 use Rattle.sc_schema_resolved.specs.declared.schema.ResolvedSchema.{ResolvedSchema}
 use Rattle.sc_schema_resolved.specs.Resolved.{common_types, common_names, IsResolved}
 use Rattle.sc_schema_types.specs.References.{Names, Graph, LeadsTo, names_in, references, body_of}
-use Rattle.sc_schema_types.specs.Orders.{LeadsBack, IsOrder, IsLeastCycle, IsTypeCycle}
+use Rattle.sc_schema_types.specs.Orders.{IsOrder, IsLeastCycle, IsTypeCycle}
 use Rattle.sc_schema_types.proofs.CyclesLaws.{has_body}
-use Rattle.sc_schema_types.proofs.DeclaredLaws.{HasBody, has_body as find_body, body_resolved, names_declared}
+use Rattle.sc_schema_types.proofs.DeclaredLaws.{has_body as find_body, body_resolved, names_declared}
 use Rattle.sc_schema_types.proofs.TextsLaws.{bytes_same}
 
 -- ---- whether a body names a common type, as a test

@@ -1,11 +1,11 @@
 -- Each name that a search for an order met stands in the order or on the path, and once.
-use Rattle.std.proofs.Common.{◌≡◌, ◌⊎◌, ℕ, List, [], ◌∷◌, ◌++◌, Bool, true, false, cond, Option, Some, None, Contains, refl, sym, ap, ◌∙◌, inl, inr, subst}
+use Rattle.std.proofs.Common.{◌≡◌, ◌⊎◌, ℕ, List, [], ◌∷◌, ◌++◌, Bool, false, cond, Option, Some, None, Contains, refl, sym, ap, ◌∙◌, inl, inr, subst}
 use Rattle.std.specs.BTreeMap.{is_at}
-use Rattle.std.specs.List.{AllByRecursion, IsDistinct}
+use Rattle.std.specs.List.{IsDistinct}
 use Rattle.std.specs.Str.{bytes_eq}
 use Rattle.std.proofs.lemmas.List.Elements.{Contains-append_left, Contains-push, Contains-push_cases}
 use Rattle.sc_lists.proofs.ListLaws.{contains_nothing, contains_split, contains_rest, contains_first}
-use Rattle.sc_lists.proofs.TextLaws.{bytes_eq_false, bytes_eq_true}
+use Rattle.sc_lists.proofs.TextLaws.{bytes_eq_false}
 use Rattle.sc_names.specs.Uids.{text_cmp}
 use Rattle.sc_schema_types.specs.declared.search.Mark.{Mark}
 use Rattle.sc_schema_types.specs.declared.search.Mark.TheVariants.{Open, Placed}

@@ -7,7 +7,6 @@ use Rattle.sc_schema.specs.declared.declarations.Env.{Env}
 use Rattle.sc_schema.specs.Declarations.{Declarations}
 use Rattle.sc_sorts.specs.declared.sort.Sort.{Sort}
 use Rattle.sc_sorts.specs.declared.sort.Sort.TheVariants as sort
-use Rattle.sc_sorts.specs.declared.sort.Sort.TheOpen as s
 use Rattle.sc_sorts.specs.Defaults.{is_option_level}
 use Rattle.sc_sorts.proofs.OutLaws.{out_Long, out_Option}
 use Rattle.sc_nodes.specs.declared.node.Literal.TheVariants as literal

@@ -7,7 +7,6 @@ use Rattle.sc_names.specs.declared.uid.Uid.{Uid}
 use Rattle.sc_schema.specs.declared.declarations.Env.{Env}
 use Rattle.sc_schema.specs.Declarations.{Declarations}
 use Rattle.sc_sorts.specs.declared.sort.Sort.{Sort}
-use Rattle.sc_sorts.specs.declared.sort.Sort.TheVariants as sort
 use Rattle.sc_sorts.specs.Inside.{SortFields}
 use Rattle.sc_nodes.specs.declared.node.ManyOp.{ManyOp}
 use Rattle.sc_nodes.specs.declared.node.ManyOp.TheVariants as manys

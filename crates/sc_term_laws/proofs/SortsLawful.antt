@@ -22,8 +22,6 @@ use Rattle.sc_schema.proofs.IndexLaws.{in_order_members}
 use Rattle.sc_schema.proofs.LawfulLaws.{no_fields_lawful}
 use Rattle.sc_schema.proofs.LookupLaws.{type_declared, action_declared}
 use Rattle.sc_sorts.specs.declared.sort.Sort.{Sort}
-use Rattle.sc_sorts.specs.declared.sort.Sort.TheVariants as sort
-use Rattle.sc_sorts.specs.declared.sort.Sort.TheOpen as s
 use Rattle.sc_sorts.specs.Inside.{SortField, SortFields}
 use Rattle.sc_sorts.specs.OfTypes.{with_presence, sort_of, sort_step}
 use Rattle.sc_sorts.proofs.EveryLaws.{in_Bool, in_Long, in_String, in_Decimal, in_Ip, in_Entity, in_Set, in_Record, in_Option}

@@ -1,5 +1,5 @@
 -- What is known in either of two lists of capabilities.
-use Rattle.std.proofs.Common.{◌≡◌, ◌||◌, [], ◌∷◌, ◌++◌, Bool, true, false, refl, ap, ◌∙◌}
+use Rattle.std.proofs.Common.{◌≡◌, ◌||◌, [], ◌∷◌, ◌++◌, refl, ap, ◌∙◌}
 use Rattle.std.specs.List.{list_any}
 use Rattle.sc_laws.proofs.BoolLaws.{or_assoc}
 use Rattle.sc_typed.specs.declared.capability.Capability.{Capability}

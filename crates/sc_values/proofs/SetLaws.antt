@@ -1,9 +1,8 @@
 -- What a set has, and that it is one list.
-use Rattle.std.proofs.Common.{◌≡◌, ◌↔◌, List, [], Bool, true, IsTrue, refl, sym, ap, subst, ◌∙◌}
+use Rattle.std.proofs.Common.{◌≡◌, ◌↔◌, List, [], Bool, IsTrue, sym, ap, subst, ◌∙◌}
 use Rattle.std.specs.List.Retain.{IsFiltered, DiffersFromLast}
 use Rattle.std.specs.List.Sorted.{IsSorted, IsPermutation}
 use Rattle.std.specs.declared.cmp.Ordering.{Ordering}
-use Rattle.std.specs.declared.cmp.Ordering.TheVariants.{Less, Equal, Greater}
 use Rattle.std.specs.Ordering.{is_eq, eq_by_cmp}
 use Rattle.sc_lists.proofs.OrderingLaws.{is_eq_true}
 use Rattle.sc_values.specs.declared.value.Value.{Value}

@@ -7,7 +7,7 @@ use Rattle.sc_names.specs.Uids.{text_cmp}
 use Rattle.sc_values.specs.declared.value.Value.{Value, Value-F, roll-Value, map-Value, every_here-Value, every_held-Value, out-roll-Value}
 use Rattle.sc_values.specs.declared.value.Value.TheOpen as v
 use Rattle.sc_values.specs.declared.value.Value.TheVariants as value
-use Rattle.sc_values.specs.declared.value.Value.TheVariants.{rolls-Set, rolls-Record, rolls-Decimal, rolls-Ip}
+use Rattle.sc_values.specs.declared.value.Value.TheVariants.{rolls-Set, rolls-Record}
 use Rattle.sc_values.specs.Proper.{IsProperLevel, IsProper}
 
 abbrev Proper : Type 0
