@@ -1,5 +1,6 @@
-//! Instances of EQ1 by an equation that is known to be true.
+//! Instances by an equation that is known to be true, or by memberships that are.
 
+use crate::climbing::put_climbs;
 use crate::known::{Known, equation, is_constant, tell_equation};
 use sc_clauses::{Instance, Lit};
 use sc_footprint::Problem;
@@ -34,8 +35,28 @@ fn rule_of(problem: &Problem<'_>, known: &Known, atom: u64) -> Option<EqualRule>
     }
 }
 
-/// Instances that may give a literal where these are all that are known: by the equations that they say are true, but
-/// for the first `seen` of them.
+/// Puts the instances of EQ1 by the equations that new literals say are true.
+fn put_equal(
+    alloc: Global,
+    problem: &Problem<'_>,
+    lits: &[Lit],
+    new: &[Lit],
+    found: &mut Vec<Instance>,
+) -> Result<(), AllocError> {
+    if !tell_equation(problem, new) {
+        return Ok(());
+    }
+    let known = Known::new(alloc, problem, lits, new)?;
+    for place in 0..problem.atom_count() {
+        if let Some(rule) = rule_of(problem, &known, place.saturating_add(1)) {
+            found.push(write_equal(alloc, rule)?)?;
+        }
+    }
+    Ok(())
+}
+
+/// Instances that may give a literal where these are all that are known: by the equations and the memberships that they tell,
+/// if one is told after the first `seen` of them.
 pub fn suggested(
     alloc: Global,
     problem: &Problem<'_>,
@@ -47,14 +68,7 @@ pub fn suggested(
         Some(new) => new,
         None => &[],
     };
-    if !tell_equation(problem, new) {
-        return Ok(found);
-    }
-    let known = Known::new(alloc, problem, lits, new)?;
-    for place in 0..problem.atom_count() {
-        if let Some(rule) = rule_of(problem, &known, place.saturating_add(1)) {
-            found.push(write_equal(alloc, rule)?)?;
-        }
-    }
+    put_equal(alloc, problem, lits, new, &mut found)?;
+    put_climbs(alloc, problem, lits, new, &mut found)?;
     Ok(found)
 }
