@@ -1,24 +1,34 @@
-//! Marks by number. Each is a byte, since bytes are let go without a look at each, as truth values aren't.
+//! Marks by number. Each is the stamp with which it was set, so that all are taken off by going on to the next stamp.
 ghost use Rattle.std.specs.Prelude.{◌≡◌, ◌<◌, length, replicate, slice_index_or, slice_set, Bool, false, true, IfOk};
 
 use std::alloc::{AllocError, Global};
 use std::marker::Model;
 
-const MARKED: u8 = 1;
+/// The stamp of what was never marked.
+const NEVER: u32 = 0;
+
+/// The stamp that is taken first.
+const FIRST: u32 = 1;
 
 /// Which of the numbers below a count are marked. Contracts see a list of truth values.
 #[derive(Drop)]
 pub struct Marks {
-    bytes: Vec<u8>,
+    /// For each number the stamp with which it was marked last.
+    stamps: Vec<u32>,
+    /// The stamp of those that are marked now.
+    stamp: u32,
 }
 
 impl Model for Marks {
-    ghost use Rattle.std.specs.Prelude.{List, Bool, map};
-    ghost use Rattle.sc_marks.specs.Bytes.{is_marked};
+    ghost use Rattle.std.specs.Prelude.{◌≤◌, List, Bool, map};
+    ghost use Rattle.std.specs.List.{AllByRecursion};
+    ghost use Rattle.sc_marks.specs.Stamps.{is_marked};
 
     ghost Value = { List Bool };
 
-    ghost view = { λ m. map is_marked m.bytes.items };
+    ghost view = { λ m. map (is_marked m.stamp) m.stamps.items };
+
+    ghost invariant = { λ m. AllByRecursion (λ s. s ≤ m.stamp) m.stamps.items };
 }
 
 impl Marks {
@@ -27,7 +37,8 @@ impl Marks {
         ensures { IfOk result (λ m. m ≡ replicate count false) }
     {
         Ok(Marks {
-            bytes: Vec::from_elem(alloc, 0, count)?,
+            stamps: Vec::from_elem(alloc, NEVER, count)?,
+            stamp: FIRST,
         })
     }
 
@@ -36,7 +47,7 @@ impl Marks {
         requires { number < length self.now }
         ensures { (d : Bool) → result ≡ slice_index_or self.now number d }
     {
-        self.bytes[number] == MARKED
+        self.stamps[number] == self.stamp
     }
 
     /// Marks a number.
@@ -44,6 +55,19 @@ impl Marks {
         requires { number < length self.old }
         ensures { self.new ≡ slice_set self.old number true }
     {
-        self.bytes[number] = MARKED;
+        self.stamps[number] = self.stamp;
+    }
+
+    /// Takes off all marks.
+    pub fn clear(&mut self)
+        ensures { self.new ≡ replicate (length self.old) false }
+    {
+        match self.stamp.checked_add(1) {
+            Some(next) => self.stamp = next,
+            None => {
+                self.stamps.fill(NEVER);
+                self.stamp = FIRST;
+            }
+        }
     }
 }

@@ -249,13 +249,15 @@ listed-in-cells atoms given listed c has l lit = let h = listed c has l lit in l
 
 -- the search before its first turn
 pub searching-begins : (has_instance : instance.Instance → Type 0) (clause_of : instance.Instance → Clause) (atoms : ℕ) (given : List Clause) (budget : ℕ) (s : Solver) → ((c : Clause) → Contains given c → AreListed atoms c)
-    → IsWellWatched (atoms + 1) given s.trail s.watches → HoldsTrail (atoms + 1) given s.trail → AreSeenBut given s.trail s.watches s.pending → s.clauses ≡ given → s.steps.items ≡ [] → IsSearching atoms has_instance clause_of given budget s
-searching-begins has_instance clause_of atoms given budget s listed watched holds seen clauses steps = record {
+    → IsWellWatched (atoms + 1) given s.trail s.watches → HoldsTrail (atoms + 1) given s.trail → AreSeenBut given s.trail s.watches s.pending → s.clauses ≡ given → s.steps.items ≡ [] → length s.analysis.met ≡ atoms + 1
+    → IsSearching atoms has_instance clause_of given budget s
+searching-begins has_instance clause_of atoms given budget s listed watched holds seen clauses steps marks = record {
   ready = record {
     in_cells = subst (λ (cs : List Clause). AreInCells (atoms + 1) cs) (sym clauses) (listed-in-cells atoms given listed);
     watched = subst (λ (cs : List Clause). IsWellWatched (atoms + 1) cs s.trail s.watches) (sym clauses) watched;
     trail = subst (λ (cs : List Clause). HoldsTrail (atoms + 1) cs s.trail) (sym clauses) holds;
     seen = subst (λ (cs : List Clause). AreSeenBut cs s.trail s.watches s.pending) (sym clauses) seen;
+    marks = marks;
   };
   clauses_are = clauses ∙ sym (append-nil given) ∙ ap (λ (ss : List Step). after clause_of given ss) (sym steps);
   are_units = subst (λ (ss : List Step). AreUnits atoms has_instance clause_of given ss) (sym steps) (no_step given);

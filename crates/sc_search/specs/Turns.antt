@@ -15,12 +15,13 @@ use Rattle.sc_trails.specs.Trails.{true_before, AreQuiet, HoldsTrail, AreInCells
 use Rattle.sc_trails.specs.Readings.{IsFalsified}
 use Rattle.sc_trails.specs.Visits.{AreAlive, AreSeenBut, IsWellWatched}
 
--- the solver's clauses, what they watch and the trail fit; it has n cells, the first of no atom
+-- the solver's clauses, what they watch and the trail fit; it has n cells, the first of no atom, and as many marks
 pub record IsReady (n : ℕ) (s : Solver) : Type 0 where
   pub in_cells : AreInCells n s.clauses
   pub watched : IsWellWatched n s.clauses s.trail s.watches
   pub trail : HoldsTrail n s.clauses s.trail
   pub seen : AreSeenBut s.clauses s.trail s.watches s.pending
+  pub marks : length s.analysis.met ≡ n
 
 -- the clauses and steps are as they were
 pub record IsKept (clauses : List Clause) (steps : List Step) (s : Solver) : Type 0 where

@@ -10,7 +10,7 @@ ghost use Rattle.sc_trails.specs.Rooms.{cell_value};
 use sc_clauses::{Assignment, Clauses, Instance, Learned, Lit, Step, negation};
 use sc_decisions::{Order, Restarts, Suggestions};
 use sc_lists::Seq;
-use sc_trails::{Cell, Pending, Resolvent, Trail, value_of};
+use sc_trails::{Analysis, Cell, Pending, Resolvent, Trail, value_of};
 use sc_watches::Watches;
 use std::alloc::{AllocError, Global};
 use std::mem;
@@ -39,6 +39,7 @@ pub(crate) struct Solver {
     pub order: Order,
     pub restarts: Restarts,
     pub suggestions: Suggestions,
+    pub analysis: Analysis,
 }
 
 /// The values that cells tell.
@@ -73,11 +74,13 @@ impl Solver {
         ensures seen { IfOk result (λ s. AreSeenBut clauses s.trail s.watches s.pending) }
         ensures clauses { IfOk result (λ s. s.clauses ≡ clauses) }
         ensures steps { IfOk result (λ s. s.steps.items ≡ []) }
+        ensures marks { IfOk result (λ s. length s.analysis.met ≡ atoms + 1) }
     {
         let cells = atoms as usize + 1;
         let watches = Watches::new(alloc, cells, clauses.len())?;
         let trail = Trail::new(alloc, cells)?;
         let order = Order::new(alloc, cells, &clauses)?;
+        let analysis = Analysis::new(alloc, cells)?;
         Ok(Solver {
             clauses,
             steps: Vec::new(alloc),
@@ -87,6 +90,7 @@ impl Solver {
             order,
             restarts: Restarts::new(),
             suggestions: Suggestions::new(alloc),
+            analysis,
         })
     }
 
@@ -186,13 +190,10 @@ impl Solver {
             self.old.clauses self.old.steps.items self.new) }
     {
         let first = self.trail.level_start();
-        let Resolvent {
-            lower,
-            uip,
-            hints,
-            met,
-        } = self.trail.analyse(alloc, &self.clauses, conflict, first)?;
-        self.order.raise(&met);
+        let Resolvent { lower, uip, hints } = self
+            .trail
+            .analyse(alloc, &self.clauses, &mut self.analysis, conflict, first)?;
+        self.order.raise(&self.analysis.atoms);
         let mut lits = lower;
         // It is what the clause gives where the search goes on, so a look at the clause meets it first.
         lits.insert(0, negation(uip))?;
@@ -214,7 +215,9 @@ impl Solver {
         requires few_clauses { length self.old.clauses < 10 ^ 18 }
         ensures { IfOk result (λ _. HasRefuted self.old.clauses self.old.steps.items self.new) }
     {
-        let hints = self.trail.refute(alloc, &self.clauses, conflict)?;
+        let hints = self
+            .trail
+            .refute(alloc, &self.clauses, &mut self.analysis, conflict)?;
         self.steps.push(Step::Learned(Learned {
             clause: Seq::new(alloc),
             hints: Seq::from_vec(hints),

@@ -15,8 +15,9 @@ use crate::trail::Trail;
 use sc_clauses::{Clauses, Lit, negation};
 use sc_marks::Marks;
 use std::alloc::{AllocError, Global};
+use std::mem;
 
-/// What an analysis has met so far.
+/// What an analysis has met so far. It is kept from conflict to conflict, since it has as many marks as there are cells.
 #[derive(Drop)]
 pub struct Analysis {
     /// Which atoms, by their numbers.
@@ -35,7 +36,8 @@ pub struct Analysis {
 }
 
 impl Analysis {
-    fn new(alloc: Global, cells: usize) -> Result<Analysis, AllocError>
+    /// An analysis over so many cells that has met nothing.
+    pub fn new(alloc: Global, cells: usize) -> Result<Analysis, AllocError>
         ensures met { IfOk result (λ w. w.met ≡ replicate cells false) }
         ensures lower { IfOk result (λ w. w.lower.items ≡ []) }
         ensures hints { IfOk result (λ w. w.hints.items ≡ []) }
@@ -49,6 +51,20 @@ impl Analysis {
             hints: Vec::new(alloc),
         })
     }
+
+    /// Goes back to where nothing is met.
+    fn clear(&mut self)
+        ensures met { self.new.met ≡ replicate (length self.old.met) false }
+        ensures lower { self.new.lower.items ≡ [] }
+        ensures hints { self.new.hints.items ≡ [] }
+    {
+        self.met.clear();
+        self.atoms.clear();
+        self.lower.clear();
+        self.open = 0;
+        self.left = 0;
+        self.hints.clear();
+    }
 }
 
 /// What a conflict shows: a literal of `lower` is true, or `uip` is false.
@@ -60,8 +76,6 @@ pub struct Resolvent {
     pub uip: Lit,
     /// The numbers of the clauses that show it, in the order in which they are followed.
     pub hints: Vec<u64>,
-    /// The atoms that were met.
-    pub met: Vec<usize>,
 }
 
 /// The number of the clause at a place.
@@ -266,22 +280,23 @@ impl Trail {
     /// Meets the literals of the falsified clause at a place.
     fn begin(
         &self,
-        alloc: Global,
         clauses: &Clauses,
+        analysis: &mut Analysis,
         conflict: usize,
         first: usize,
-    ) -> Result<Analysis, AllocError>
+    ) -> Result<(), AllocError>
+        requires sized { length analysis.old.met ≡ length self.now.cells.items }
         requires in_cells { AreInCells (length self.now.cells.items) clauses.now }
         requires falsified { IsFalsified clauses.now self.now.cells.items (length self.now.lits.items) conflict }
-        ensures collected { IfOk result (λ w. IsCollected (length self.now.cells.items)
-            self.now.cells.items first w.met w.lower.items) }
-        ensures refutes { IfOk result (λ w. RefutesMet clauses.now self.now.cells.items (length self.now.lits.items)
-            (length self.now.lits.items) w.met w.hints.items) }
+        ensures collected { IfOk result (λ _. IsCollected (length self.now.cells.items)
+            self.now.cells.items first analysis.new.met analysis.new.lower.items) }
+        ensures refutes { IfOk result (λ _. RefutesMet clauses.now self.now.cells.items (length self.now.lits.items)
+            (length self.now.lits.items) analysis.new.met analysis.new.hints.items) }
     {
-        let mut analysis = Analysis::new(alloc, self.cells.len())?;
-        self.meet_all(&mut analysis, first, clause_at(clauses, conflict))?;
+        analysis.clear();
+        self.meet_all(analysis, first, clause_at(clauses, conflict))?;
         analysis.hints.push(number_of(clauses, conflict))?;
-        Ok(analysis)
+        Ok(())
     }
 
     /// What the falsified clause at a place shows, where there is a decision; `first` is where its level begins.
@@ -289,30 +304,26 @@ impl Trail {
         &self,
         alloc: Global,
         clauses: &Clauses,
+        analysis: &mut Analysis,
         conflict: usize,
         first: usize,
     ) -> Result<Resolvent, AllocError>
+        requires sized { length analysis.old.met ≡ length self.now.cells.items }
         requires in_cells { AreInCells (length self.now.cells.items) clauses.now }
         requires trail { HoldsTrail (length self.now.cells.items) clauses.now self.now }
         requires falsified { IsFalsified clauses.now self.now.cells.items (length self.now.lits.items) conflict }
         requires highest { IsHighest self.now.levels.items first }
-        ensures { IfOk result (λ r. IsResolvent clauses.now self.now.cells.items
+        ensures resolvent { IfOk result (λ r. IsResolvent clauses.now self.now.cells.items
             (length self.now.lits.items) first r.lower.items r.uip r.hints.items) }
+        ensures sized { IfOk result (λ _. length analysis.new.met ≡ length self.now.cells.items) }
     {
-        let mut analysis = self.begin(alloc, clauses, conflict, first)?;
-        let place = self.walk(clauses, &mut analysis, first)?;
-        let Analysis {
-            atoms: met,
-            lower,
-            mut hints,
-            ..
-        } = analysis;
-        hints.reverse();
+        self.begin(clauses, analysis, conflict, first)?;
+        let place = self.walk(clauses, analysis, first)?;
+        analysis.hints.reverse();
         Ok(Resolvent {
-            lower,
+            lower: mem::replace(&mut analysis.lower, Vec::new(alloc)),
             uip: self.lits[place],
-            hints,
-            met,
+            hints: mem::replace(&mut analysis.hints, Vec::new(alloc)),
         })
     }
 
@@ -321,22 +332,23 @@ impl Trail {
         &self,
         alloc: Global,
         clauses: &Clauses,
+        analysis: &mut Analysis,
         conflict: usize,
     ) -> Result<Vec<u64>, AllocError>
+        requires sized { length analysis.old.met ≡ length self.now.cells.items }
         requires in_cells { AreInCells (length self.now.cells.items) clauses.now }
         requires trail { HoldsTrail (length self.now.cells.items) clauses.now self.now }
         requires falsified { IsFalsified clauses.now self.now.cells.items (length self.now.lits.items) conflict }
         requires undecided { self.now.levels.items ≡ [] }
         ensures { IfOk result (λ hints. Refutes clauses.now [] hints.items) }
     {
-        let mut analysis = self.begin(alloc, clauses, conflict, 0)?;
+        self.begin(clauses, analysis, conflict, 0)?;
         let mut i = self.lits.len();
         'back: while i > 0 {
             i -= 1;
-            self.resolve(clauses, &mut analysis, 0, i)?;
+            self.resolve(clauses, analysis, 0, i)?;
         }
-        let mut hints = analysis.hints;
-        hints.reverse();
-        Ok(hints)
+        analysis.hints.reverse();
+        Ok(mem::replace(&mut analysis.hints, Vec::new(alloc)))
     }
 }

@@ -11,7 +11,7 @@ mod propagation;
 mod room;
 mod trail;
 
-pub use analysis::Resolvent;
+pub use analysis::{Analysis, Resolvent};
 pub use cell::{Cell, value_of};
 pub use propagation::Pending;
 pub use room::Room;

@@ -18,7 +18,7 @@ find-requires-clause-begun g c =
     let e : c.args.atoms ≡ length s.trail.cells.items - 1 = omega arith in
     subst (λ (m : ℕ). IsSearching m A K s.clauses c.args.budget s) e
     (subst (λ (cs : List Clause). IsSearching c.args.atoms A K cs c.args.budget s) (sym made.clauses)
-    (searching-begins A K c.args.atoms c.args.clauses c.args.budget s c.requires.listed made.watched made.trail made.seen made.clauses made.steps))
+    (searching-begins A K c.args.atoms c.args.clauses c.args.budget s c.requires.listed made.watched made.trail made.seen made.clauses made.steps made.marks))
 
 pub find-requires-clause-some : goal.find-requires-clause-some
 find-requires-clause-some g c = let size = c.in_ok-solver.ensures.count in omega arith

@@ -47,4 +47,5 @@ returns-clause-ready c =
           (attached-trail n cs C t u w v c.args.most r ready.trail ready.watched after room c.requires.most c.requires.alive back.levels back.start back.end back.kept c.in_ok-add.ensures);
       seen = subst (λ (ds : List Clause). AreAliveBut ds u v c.len-place.result) (sym c.in_ok-push.ensures.ok)
           (attached-seen n cs C t u w v c.args.most r ready.trail ready.watched after room c.requires.most c.requires.alive back.levels back.start back.end back.kept c.in_ok-add.ensures c.len-place.result count);
+      marks = ready.marks;
     }

@@ -53,13 +53,13 @@ pub returns-in-None : goal.returns-in-None
 returns-in-None g c =
     let ready = c.in_ok-conflict.ensures.ready in
     let kept = c.in_ok-conflict.ensures.kept in
-    (record { in_cells = ready.in_cells; watched = ready.watched; trail = ready.trail; seen = ready.seen }, record { clauses_kept = kept.clauses_kept; steps_kept = kept.steps_kept })
+    (record { in_cells = ready.in_cells; watched = ready.watched; trail = ready.trail; seen = ready.seen; marks = ready.marks }, record { clauses_kept = kept.clauses_kept; steps_kept = kept.steps_kept })
 
 pub log-requires-clause-ready : goal.log-requires-clause-ready
 log-requires-clause-ready g c =
     let s = c.come_to_rest.new.self in
     let ready = subst (λ (m : ℕ). IsReady m s) (sym c.in_ok-conflict.ensures.ready.trail.sized) c.in_ok-conflict.ensures.ready in
-    record { in_cells = ready.in_cells; watched = ready.watched; trail = ready.trail; seen = ready.seen }
+    record { in_cells = ready.in_cells; watched = ready.watched; trail = ready.trail; seen = ready.seen; marks = ready.marks }
 
 pub log-requires-clause-in_cells : goal.log-requires-clause-in_cells
 log-requires-clause-in_cells g c =

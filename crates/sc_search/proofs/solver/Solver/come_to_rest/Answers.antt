@@ -13,6 +13,7 @@ returns-in-Some-clause-ready c =
       watched = moves.watched;
       trail = moves.goes_on.trail;
       seen = tt;
+      marks = c.requires.marks;
     }
 
 pub returns-in-Some-clause-calm : goal.returns-in-Some-clause-calm
@@ -32,6 +33,7 @@ returns-clause-ready c =
       watched = moves.watched;
       trail = moves.goes_on.trail;
       seen = alive-seen cs u v c.len-place.result end alive;
+      marks = c.requires.marks;
     }
 
 pub returns-clause-calm : goal.returns-clause-calm

@@ -10,7 +10,7 @@ use Rattle.sc_trails.specs.Propagation.{IsNew}
 use Rattle.sc_trails.specs.Trails.{AllInCells}
 
 pub attach-requires-clause-ready : goal.attach-requires-clause-ready
-attach-requires-clause-ready c = let ready = c.requires.ready in record { in_cells = ready.in_cells; watched = ready.watched; trail = ready.trail; seen = ready.seen }
+attach-requires-clause-ready c = let ready = c.requires.ready in record { in_cells = ready.in_cells; watched = ready.watched; trail = ready.trail; seen = ready.seen; marks = c.in_ok-lower.ensures.sized }
 
 pub attach-requires-clause-in_cells : goal.attach-requires-clause-in_cells
 attach-requires-clause-in_cells c =
@@ -22,9 +22,9 @@ attach-requires-clause-in_cells c =
     let first = c.level_start-first.result in
     let f = c.in_ok-lower.field-0 in
     let C = negation f.uip ∷ f.lower.items in
-    let learned : IsResolvent cs cells (length trail) first f.lower.items f.uip f.hints.items = c.in_ok-lower.ensures in
+    let learned : IsResolvent cs cells (length trail) first f.lower.items f.uip f.hints.items = c.in_ok-lower.ensures.resolvent in
     let within = learned-in-cells n cs cells trail t.levels.items c.requires.ready.trail first c.level_start-first.ensures.highest f.lower.items f.uip f.hints.items learned in
-    let lits : c.insert.new.self.items ≡ C = c.in_ok-insert.ensures.items ∙ ap (λ (w : Lit). w ∷ f.lower.items) c.negation.ensures in
+    let lits : c.insert.new.self.items ≡ C = ◌∙◌ {A = List Lit} c.in_ok-insert.ensures.items (ap (λ (w : Lit). w ∷ f.lower.items) c.negation.ensures) in
     let is : c.deref-2.result.now ≡ C = c.deref-2.ensures.value ∙ lits in
     subst (λ (ls : List Lit). AllInCells n ls) (sym is) within
 
@@ -50,13 +50,13 @@ returns c =
     let f = c.in_ok-lower.field-0 in
     let C = negation f.uip ∷ f.lower.items in
     let highest = c.level_start-first.ensures.highest in
-    let learned : IsResolvent cs cells (length trail) first f.lower.items f.uip f.hints.items = c.in_ok-lower.ensures in
-    let lits : c.insert.new.self.items ≡ C = c.in_ok-insert.ensures.items ∙ ap (λ (w : Lit). w ∷ f.lower.items) c.negation.ensures in
+    let learned : IsResolvent cs cells (length trail) first f.lower.items f.uip f.hints.items = c.in_ok-lower.ensures.resolvent in
+    let lits : c.insert.new.self.items ≡ C = ◌∙◌ {A = List Lit} c.in_ok-insert.ensures.items (ap (λ (w : Lit). w ∷ f.lower.items) c.negation.ensures) in
     let is : c.deref-2.result.now ≡ C = c.deref-2.ensures.value ∙ lits in
     let logged : c.from_vec.result ≡ C = c.from_vec.ensures ∙ lits in
     let made = c.in_ok-attach.ensures in
     record {
-      ready = record { in_cells = made.ready.in_cells; watched = made.ready.watched; trail = made.ready.trail; seen = made.ready.seen };
+      ready = record { in_cells = made.ready.in_cells; watched = made.ready.watched; trail = made.ready.trail; seen = made.ready.seen; marks = made.ready.marks };
       step = record { clause = c.from_vec.result; hints = c.from_vec-2.result };
       clauses_more = made.clauses ∙ ap (λ (d : Clause). cs ++ d ∷ []) (is ∙ sym logged);
       steps_more = c.in_ok-push.ensures.items ∙ ap (λ (v : Vec Step Global). v.items ++ Learned (record { clause = c.from_vec.result; hints = c.from_vec-2.result }) ∷ []) made.steps;

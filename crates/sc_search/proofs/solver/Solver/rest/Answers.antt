@@ -41,6 +41,7 @@ returns-in-Some-clause-ready c =
       watched = moves.watched;
       trail = moves.goes_on.trail;
       seen = tt;
+      marks = ready.marks;
     }
 
 pub returns-in-Some-clause-rest : goal.returns-in-Some-clause-rest
@@ -64,6 +65,7 @@ returns-in_default-choose-clause-ready c =
       watched = moves.watched;
       trail = moves.goes_on.trail;
       seen = alive-seen was.clauses u v c.len-place.result end alive;
+      marks = ready.marks;
     }
 
 pub returns-in_default-choose-clause-rest : goal.returns-in_default-choose-clause-rest
@@ -127,6 +129,7 @@ moves-preserved c =
         watched = decided-watched n cs u v w l sound free in_range alive moves.watched decided made.cells made.lits made.levels;
         trail = decided;
         seen = decided-seen n cs u v w l sound free in_range alive moves.watched decided made.cells made.lits made.levels c.len-place.result end;
+        marks = ready.marks;
       };
       kept = record { clauses_kept = c.moves.invariant.kept.clauses_kept; steps_kept = c.moves.invariant.kept.steps_kept };
     }

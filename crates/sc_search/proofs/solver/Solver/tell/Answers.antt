@@ -1,4 +1,4 @@
-use Rattle.std.proofs.Common.{◌≡◌, ◌+◌, ◌-◌, ◌<◌, ℕ, [], ◌∷◌, ◌++◌, length, refl, subst, sym, ap, ◌∙◌, true≢false, eqb, true, false, arith, Vec, Global}
+use Rattle.std.proofs.Common.{◌≡◌, ◌+◌, ◌-◌, ◌<◌, ℕ, List, [], ◌∷◌, ◌++◌, length, refl, subst, sym, ap, ◌∙◌, true≢false, eqb, true, false, arith, Vec, Global}
 use Rattle.std.proofs.lemmas.Bool.Decides.{Decides-eqb}
 use Rattle.sc_clauses.specs.Clauses.{Clause}
 use Rattle.sc_clauses.specs.declared.step.Step.{Step}
@@ -32,7 +32,7 @@ returns-then-is_spent g c =
     let some : 0 < n = c.requires.some in
     let e : n ≡ n - 1 + 1 = omega arith in
     let ready = subst (λ (m : ℕ). IsReady m s) e c.requires.ready in
-    (refl, c.is_spent.ensures.0 c.if-is_spent.true, told-due A K (n - 1) s ready c.requires.total c.args.instance c.requires.accepted c.requires.falsified)
+    (refl {A = List Step}, c.is_spent.ensures.0 c.if-is_spent.true, told-due A K (n - 1) s ready c.requires.total c.args.instance c.requires.accepted c.requires.falsified)
 
 pub returns-then-is_empty : goal.returns-then-is_empty
 returns-then-is_empty g c =
@@ -75,7 +75,7 @@ returns g c =
         is_unit = told-unit A K (n - 1) s ready c.requires.total c.args.instance c.requires.accepted c.requires.falsified not_nil;
         clauses_more = c.in_ok-attach.ensures.clauses ∙ ap (λ (d : Clause). s.clauses ++ d ∷ []) (c.as_slice.ensures ∙ c.in_ok-clause.ensures);
         steps_more = c.in_ok-push.ensures.items ∙ ap (λ (v : Vec Step Global). v.items ++ Instance c.args.instance ∷ []) c.in_ok-attach.ensures.steps;
-        ready = let made = subst (λ (m : ℕ). IsReady m c.attach.new.self) e c.in_ok-attach.ensures.ready in record { in_cells = made.in_cells; watched = made.watched; trail = made.trail; seen = made.seen };
+        ready = let made = subst (λ (m : ℕ). IsReady m c.attach.new.self) e c.in_ok-attach.ensures.ready in record { in_cells = made.in_cells; watched = made.watched; trail = made.trail; seen = made.seen; marks = made.marks };
       },
       λ e. true≢false (sym (c.is_spent.ensures.1 e) ∙ c.if-is_spent.false),
     )

@@ -1,14 +1,15 @@
-use Rattle.std.proofs.Common.{◌≡◌, ℕ, List, ◌∷◌, length, get_or, subst, sym, ◌∙◌, map}
+use Rattle.std.proofs.Common.{◌≡◌, ℕ, List, ◌∷◌, length, get_or, subst, sym, ◌∙◌, map, Vec, Global}
 use Rattle.std.proofs.lemmas.List.{get_or_default}
 use Rattle.sc_clauses.specs.Clauses.{negation}
 use Rattle.sc_clauses.specs.declared.lit.Lit.{Lit}
 use Rattle.sc_trails.proofs.AnalysisLaws.{refutes-final, learned-new, uip-true, uip-here}
 use Rattle.sc_trails.proofs.trail.Trail.analyse.Goals as goal
+use Rattle.sc_trails.specs.Analyses.{IsResolvent}
 use Rattle.sc_trails.specs.Steps.{At, Refutes}
 use Rattle.sc_trails.specs.Trails.{AreQuiet, true_before}
 
-pub returns : goal.returns
-returns c =
+pub returns-clause-resolvent : goal.returns-clause-resolvent
+returns-clause-resolvent c =
     let cs = c.args.clauses.now in
     let cells = c.args.self.now.cells.items in
     let trail = c.args.self.now.lits.items in
@@ -26,11 +27,13 @@ returns c =
     let k : ℕ = highest.0 in
     let is : get_or c.args.self.now.levels.items k 0 ≡ first = get_or_default c.args.self.now.levels.items k 0 first highest.1 ∙ highest.2 in
     let quiet : AreQuiet (true_before cells first) cs = subst (λ (q : ℕ). AreQuiet (true_before cells q) cs) is (sound.quiet k highest.1) in
-    record {
+    let found : IsResolvent cs cells (length trail) first lower uip c.reverse.new.self.items = record {
       refutes = subst (λ (hs : List ℕ). Refutes cs (map negation (negation uip ∷ lower)) hs) (sym c.reverse.ensures.items)
           (refutes-final cs cells trail sound.agree first i met lower hints uip n at walked.from walked.collected walked.none walked.refutes);
       is_new = learned-new cs cells trail sound.agree first i met lower hints uip n at walked.from walked.collected walked.none walked.refutes quiet;
       are_lower = walked.collected.are_lower;
       uip_true = uip-true cs cells trail sound.agree first i met lower hints uip n at walked.from walked.collected walked.none walked.refutes;
       uip_here = uip-here cs cells trail sound.agree first i met lower hints uip n at walked.from walked.collected walked.none walked.refutes;
-    }
+    } in
+    subst (λ (v : Vec Lit Global). IsResolvent cs cells (length trail) first v.items uip c.replace-2.result.items) (sym c.replace.ensures.value)
+    (subst (λ (v : Vec ℕ Global). IsResolvent cs cells (length trail) first lower uip v.items) (sym c.replace-2.ensures.value) found)

@@ -1,4 +1,4 @@
-use Rattle.std.proofs.Common.{◌≡◌, ◌+◌, inr, ℕ, List, ◌∷◌, [], ◌++◌, length, rules, replicate, false, subst, sym, ap, ◌∙◌, Vec, Global}
+use Rattle.std.proofs.Common.{◌≡◌, ◌+◌, inr, ℕ, List, ◌∷◌, [], ◌++◌, length, replicate, false, subst, sym, ap, ◌∙◌, Vec, Global}
 use Rattle.sc_clauses.specs.declared.lit.Lit.{Lit}
 use Rattle.sc_trails.proofs.AnalysisLaws.{collected-fresh, refutes-first}
 use Rattle.sc_trails.proofs.WatchingLaws.{same-clause}
@@ -26,8 +26,7 @@ meet_all-requires-clause-may_be_met c =
 
 pub meet_all-requires-clause-collected : goal.meet_all-requires-clause-collected
 meet_all-requires-clause-collected c =
-    let n : c.len.result ≡ length c.args.self.now.cells.items = search rules in
-    collected-fresh _ c.args.self.now.cells.items c.args.first _ _ (c.in_ok-analysis.ensures.met ∙ ap (λ (k : ℕ). replicate k false) n) c.in_ok-analysis.ensures.lower
+    collected-fresh _ c.args.self.now.cells.items c.args.first _ _ (c.clear.ensures.met ∙ ap (λ (k : ℕ). replicate k false) c.requires.sized) c.clear.ensures.lower
 
 pub returns-clause-refutes : goal.returns-clause-refutes
 returns-clause-refutes c =
@@ -40,5 +39,5 @@ returns-clause-refutes c =
     subst (λ (hs : List ℕ). RefutesMet c.args.clauses.now cells p p met hs)
     (sym (c.in_ok-push.ensures.items ∙ ap (λ (h : ℕ). c.meet_all.new.analysis.hints.items ++ h ∷ []) c.number_of.ensures
     ∙ ap (λ (hs : Vec ℕ Global). hs.items ++ (c.args.conflict + 1) ∷ []) c.in_ok-meet_all.ensures.hints
-    ∙ ap (λ (hs : List ℕ). hs ++ (c.args.conflict + 1) ∷ []) c.in_ok-analysis.ensures.hints))
+    ∙ ap (λ (hs : List ℕ). hs ++ (c.args.conflict + 1) ∷ []) c.clear.ensures.hints))
     (refutes-first c.args.clauses.now cells p c.args.conflict met f.0 f.1 f.2 all)
