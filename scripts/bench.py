@@ -176,7 +176,11 @@ def products(size):
 
 
 FAMILIES = [(refactoring, (60, 120, 240, 480)), (pigeons, (5, 6, 7, 8)), (random_clauses, (60, 80, 100, 120, 140)), (environments, (1, 10, 100, 1000)), (entities, (40, 80, 160, 320)),
-            (groups, (10, 20, 40, 60)), (sets, (10, 20, 40, 80)), (strings, (40, 80, 160, 320)), (patterns, (4, 8, 16)), (conditions, (20, 40, 80, 160)), (products, (1, 2, 5, 10))]
+            (groups, (10, 20, 40, 80)), (sets, (10, 20, 40, 80)), (strings, (40, 80, 160, 320)), (patterns, (4, 8, 16, 32)), (conditions, (20, 40, 80, 160)), (products, (1, 2, 5, 10))]
+
+
+GROWTH = [(refactoring, (60, 120, 240, 480, 960)), (entities, (40, 80, 160, 320)), (groups, (10, 20, 40, 80)), (sets, (10, 20, 40, 80)), (strings, (40, 80, 160, 320)),
+          (patterns, (4, 8, 16, 32)), (conditions, (20, 40, 80, 160)), (products, (1, 2, 5)), (pigeons, (5, 6, 7, 8, 9))]
 
 
 def timed(words):
@@ -216,11 +220,17 @@ def shown(seconds):
     return f"over {MOST_SECONDS}" if seconds is None else f"{seconds:.3f}"
 
 
-def measure(family, size):
-    question = family(size)
+def files(question):
+    """The words of a question, once its files are written."""
     words = ["--schema", write("s.json", question.schema), "--policies", write("p.cedar", question.policies), "--query", question.query]
     if question.against is not None:
         words += ["--against", write("a.cedar", question.against)]
+    return words
+
+
+def measure(family, size):
+    question = family(size)
+    words = files(question)
     seconds, text = timed([PROGRAM, "analyse", *words, "--budget", "100000"])
     answers = verdicts(text)
     units = ""
@@ -260,6 +270,36 @@ def measure_set(name):
         print(f"| {name} question {number} | {len(wanted)} | {told(answers)}{wrong} | | {shown(seconds)} | {shown(other) if taken else ''} |", flush=True)
 
 
+def instructions(words):
+    """Millions of instructions that a run takes, or none after MOST_SECONDS."""
+    try:
+        run = subprocess.run(["valgrind", "--tool=cachegrind", "--cache-sim=no", f"--cachegrind-out-file={FOLDER}/counts", *words], capture_output=True, text=True, timeout=10 * MOST_SECONDS)
+    except subprocess.TimeoutExpired:
+        return None
+    found = re.search(r"I +refs: +([0-9,]+)", run.stderr)
+    return int(found.group(1).replace(",", "")) / 1e6 if found else None
+
+
+def measure_growth(family, sizes, starts):
+    """A row a size: millions of instructions beyond the start, and how many times those of the size before, of both."""
+    before = (None, None)
+    for size in sizes:
+        question = family(size)
+        runs = [[PROGRAM, "analyse", *files(question), "--budget", "100000"], [SOLVER, "--lang=smt2", "--strings-exp", write("q.smt2", question.smt)]]
+        counts = [None if count is None else count - start for count, start in zip(map(instructions, runs), starts)]
+        times = ["" if count is None or not last else f"{count / last:.2f}" for count, last in zip(counts, before)]
+        millions = ["" if count is None else f"{count:.1f}" for count in counts]
+        print(f"| {family.__name__} | {size} | {millions[0]} | {millions[1]} | {times[0]} | {times[1]} |", flush=True)
+        before = counts
+
+
+def growth():
+    starts = [instructions([PROGRAM, "--help"]), instructions([SOLVER, "--lang=smt2", write("q.smt2", "(check-sat)\n")])]
+    print("| Family | Size | Millions of instructions | Those of cvc5 | Times the size before | Those of cvc5 |\n|---|---|---|---|---|---|", flush=True)
+    for family, sizes in GROWTH:
+        measure_growth(family, sizes, starts)
+
+
 def main():
     print("| Family | Size | Answers | Units | Seconds | Seconds of cvc5 |\n|---|---|---|---|---|---|", flush=True)
     for family, sizes in FAMILIES:
@@ -271,4 +311,7 @@ def main():
                 measure_set(name)
 
 
-main()
+if SETS == "growth":
+    growth()
+else:
+    main()
