@@ -11,7 +11,7 @@ use Rattle.sc_pattern.specs.Language.{IsMatch}
 use Rattle.sc_languages.specs.Strings.{IsText, AreDistinct, Obeys, AreStrings}
 use Rattle.sc_violated.specs.Crowds.{IsWithin}
 use Rattle.sc_rules.specs.Strings.{Pattern, Signs, HasSign, HasSigns, AreFew}
-use Rattle.sc_string_rows.specs.Texts.{asked_patterns, asked_signs}
+use Rattle.sc_string_rows.specs.Texts.{asked_patterns, asked_signs, true_sign}
 
 -- ---- more signs, fewer texts
 
@@ -212,3 +212,29 @@ letters_fit v (suc n) = ((letters_text n, tt), letters_fit v n)
 pub never_few : (v : Signs) (n : ℕ) → AreFew [] v n → ⊥
 unfolding AreFew
 never_few v n h = let less = h (all_letters n) (letters_distinct n) (letters_fit v n) in absurd (omega (arith, less, all_letters_length n))
+
+-- ---- a part of the signs tells it
+
+true_at : (a : Option Bool) (s : Bool) → true_sign a ≡ Some s → a ≡ Some s
+true_at None s e = e
+true_at (Some true) s e = e
+true_at (Some false) s e = absurd cc
+
+true_within : (v : Signs) → IsWithin (map true_sign v) v
+true_within [] p s e = e
+true_within (a ∷ v) zero s e = true_at a s e
+true_within (a ∷ v) (suc p) s e = true_within v p s e
+
+-- and so do those that are true with one of the others
+true_with : (v : Signs) (p : ℕ) → IsWithin (set (map true_sign v) p (get_or v p None)) v
+true_with [] p q s e = e
+true_with (a ∷ v) zero zero s e = e
+true_with (a ∷ v) zero (suc q) s e = true_within v q s e
+true_with (a ∷ v) (suc p) zero s e = true_at a s e
+true_with (a ∷ v) (suc p) (suc q) s e = true_with v p q s e
+
+pub few_true : (qs : List Pattern) (v w : Signs) (n : ℕ) → w ≡ map true_sign v → AreFew qs w n → AreFew qs v n
+few_true qs v w n is h = few_asked qs w v n (subst (λ l. IsWithin l v) (sym is) (true_within v)) h
+
+pub few_with : (qs : List Pattern) (v w : Signs) (p n : ℕ) → w ≡ set (map true_sign v) p (get_or v p None) → AreFew qs w n → AreFew qs v n
+few_with qs v w p n is h = few_asked qs w v n (subst (λ l. IsWithin l v) (sym is) (true_with v p)) h

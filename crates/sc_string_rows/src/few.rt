@@ -1,11 +1,12 @@
 //! How many texts have signs.
-ghost use Rattle.std.specs.Prelude.{◌≡◌, ◌↔◌, IfOk, IsTrue};
+ghost use Rattle.std.specs.Prelude.{◌≡◌, ◌↔◌, ◌<◌, length, map, IfOk, IsTrue};
 ghost use Rattle.sc_rules.specs.Strings.{AreFew};
 ghost use Rattle.sc_string_rows.specs.Texts as texts;
 
+use crate::numbers::copied_signs;
 use crate::plenty::are_plenty;
 use sc_languages::strings_of;
-use sc_pattern::Pattern;
+use sc_pattern::{Pattern, matches};
 use std::alloc::{AllocError, Global};
 
 /// The patterns that have a sign.
@@ -47,8 +48,8 @@ fn asked_signs(alloc: Global, signs: &[Option<bool>]) -> Result<Vec<bool>, Alloc
     Ok(asked)
 }
 
-/// Whether fewer than so many texts have the signs that are asked. Want of memory is its one fault.
-pub fn are_few(
+/// Whether fewer than so many texts have all signs that are asked, told by a search for such texts.
+fn are_few_found(
     alloc: Global,
     patterns: &[Pattern],
     signs: &[Option<bool>],
@@ -63,4 +64,157 @@ pub fn are_few(
     }
     let texts = strings_of(alloc, asked.as_slice(), wanted.as_slice(), count)?;
     Ok((texts.len() as u64) < count)
+}
+
+/// Whether a sign is that of a pattern which isn't matched.
+fn is_false(sign: Option<bool>) -> bool {
+    match sign {
+        Some(matched) => !matched,
+        None => false,
+    }
+}
+
+/// Whether two of the patterns or more aren't matched.
+fn are_two_false(signs: &[Option<bool>]) -> bool {
+    let mut one = false;
+    for sign in signs {
+        if is_false(*sign) {
+            if one {
+                return true;
+            }
+            one = true;
+        }
+    }
+    false
+}
+
+/// A sign, asked only if it is true.
+fn true_sign(sign: Option<bool>) -> Option<bool>
+    ensures { result ≡ texts.true_sign sign }
+{
+    match sign {
+        Some(true) => Some(true),
+        _ => None,
+    }
+}
+
+/// The signs that are true; the others aren't asked.
+fn true_signs(alloc: Global, signs: &[Option<bool>]) -> Result<Vec<Option<bool>>, AllocError>
+    ensures { IfOk result (λ v. v.items ≡ map texts.true_sign signs.now) }
+{
+    let mut asked = Vec::new(alloc);
+    for sign in signs {
+        asked.push(true_sign(*sign))?;
+    }
+    Ok(asked)
+}
+
+/// A text that has the signs that are asked.
+fn sample(
+    alloc: Global,
+    patterns: &[Pattern],
+    signs: &[Option<bool>],
+) -> Result<Option<String>, AllocError> {
+    let asked = asked_patterns(alloc, patterns, signs)?;
+    let wanted = asked_signs(alloc, signs)?;
+    let mut texts = strings_of(alloc, asked.as_slice(), wanted.as_slice(), 1)?;
+    Ok(texts.pop())
+}
+
+/// Whether a text matches the pattern at a place, though it shouldn't.
+fn has_other_sign(patterns: &[Pattern], signs: &[Option<bool>], place: usize, text: &str) -> bool
+    requires { place < length signs.now }
+{
+    match patterns.get(place) {
+        Some(pattern) => is_false(signs[place]) && matches(pattern, text),
+        None => false,
+    }
+}
+
+/// Whether fewer than so many texts have those signs that are asked already, and that at a place.
+fn are_few_with(
+    alloc: Global,
+    patterns: &[Pattern],
+    signs: &[Option<bool>],
+    asked: &[Option<bool>],
+    place: usize,
+    count: u64,
+) -> Result<bool, AllocError>
+    requires asked { asked.now ≡ map texts.true_sign signs.now }
+    requires place { place < length signs.now }
+    ensures { IfOk result (λ b. IsTrue b → AreFew patterns.now signs.now count) }
+{
+    let mut more = copied_signs(alloc, asked)?.into_vec();
+    more[place] = signs[place];
+    are_few_found(alloc, patterns, more.as_slice(), count)
+}
+
+/// Whether fewer than so many texts have the true signs, which are asked already, and a false one.
+/// Of these only those matter that a text hasn't which has all that are true.
+fn are_few_with_one(
+    alloc: Global,
+    patterns: &[Pattern],
+    signs: &[Option<bool>],
+    asked: &[Option<bool>],
+    text: &str,
+    count: u64,
+) -> Result<bool, AllocError>
+    requires { asked.now ≡ map texts.true_sign signs.now }
+    ensures { IfOk result (λ b. IsTrue b → AreFew patterns.now signs.now count) }
+{
+    for place in 0..signs.len() {
+        if has_other_sign(patterns, signs, place, text) {
+            if are_few_with(alloc, patterns, signs, asked, place, count)? {
+                return Ok(true);
+            }
+        }
+    }
+    Ok(false)
+}
+
+/// Whether a part of the signs tells that fewer than so many texts have them: those that are true,
+/// or these and one that is false. Where no two are false that is no less than all.
+#[tactic(auto, using(crate::proofs::FewLaws::few_true))]
+fn are_few_by_part(
+    alloc: Global,
+    patterns: &[Pattern],
+    signs: &[Option<bool>],
+    count: u64,
+) -> Result<bool, AllocError>
+    ensures { IfOk result (λ b. IsTrue b → AreFew patterns.now signs.now count) }
+{
+    if !are_two_false(signs) {
+        return Ok(false);
+    }
+    let asked = true_signs(alloc, signs)?;
+    if are_few_found(alloc, patterns, asked.as_slice(), count)? {
+        return Ok(true);
+    }
+    let Some(text) = sample(alloc, patterns, asked.as_slice())? else {
+        return Ok(false);
+    };
+    are_few_with_one(
+        alloc,
+        patterns,
+        signs,
+        asked.as_slice(),
+        text.as_str(),
+        count,
+    )
+}
+
+/// Whether fewer than so many texts have the signs that are asked. Want of memory is its one fault.
+/// Mostly a few of the signs tell it, so these are looked at first.
+pub fn are_few(
+    alloc: Global,
+    patterns: &[Pattern],
+    signs: &[Option<bool>],
+    count: u64,
+) -> Result<bool, AllocError>
+    ensures { IfOk result (λ b. IsTrue b ↔ AreFew patterns.now signs.now count) }
+{
+    if are_few_by_part(alloc, patterns, signs, count)? {
+        return Ok(true);
+    }
+    are_few_found(alloc, patterns, signs, count)
 }

@@ -1,5 +1,5 @@
 -- Signs that needn't be asked are left out one after the other.
-use Rattle.std.proofs.Common.{◌≡◌, ℕ, ◌<◌, ◌≤◌, ◌+◌, Bool, List, length, get_or, set, Some, None, ⊎_elim, refl, sym, ◌∙◌, ap, subst, arith, length-set, get_or-set_same, get_or-set_other}
+use Rattle.std.proofs.Common.{◌≡◌, ℕ, ◌<◌, ◌≤◌, ◌+◌, Bool, List, length, get_or, set, Option, Some, None, ⊎_elim, refl, sym, ◌∙◌, ap, subst, arith, length-set, get_or-set_same, get_or-set_other}
 use Rattle.std.proofs.lemmas.Bool.{cases_lt, cases_eq}
 use Rattle.std.proofs.lemmas.List.{get_or_past}
 use Rattle.std.proofs.lemmas.List.Elements.{All-weaker}
@@ -26,6 +26,9 @@ both_without w v p inside q s e =
     ⊎_elim (λ (same : q ≡ p). let none = left_out w p in let has = subst (λ m. get_or (set w p None) m None ≡ Some s) same e in absurd cc)
     (λ (other : q ≡ p → ⊥). get_or-set_other v p q None None other ∙ inside q s (sym (get_or-set_other w p q None None other) ∙ e))
     (cases_eq q p)
+
+none_some : (s : Bool) → None ≡ Some s → ⊥
+none_some s e = absurd cc
 
 module _ (few : Few) (count : ℕ) where
   pub enough_first : (v : Signs) → few v count → IsEnough few count v v
@@ -67,14 +70,17 @@ module _ (few : Few) (count : ℕ) where
   pub needed_taken : ((w v : Signs) (k : ℕ) → IsWithin w v → few w k → few v k) → (v w : Signs) (n : ℕ) → w ≡ v → AreNeeded few count v n → AreNeeded few count (set w n None) (n + 1)
   needed_taken asked v w n same h =
       subst (λ l. AreNeeded few count (set l n None) (n + 1)) (sym same)
-      (needed_more (set v n None) n (λ s e. let none = left_out v n in absurd (some_none s (sym none ∙ e)))
+      (needed_more (set v n None) n (λ s e. let none = left_out v n in absurd (none_some s (sym none ∙ e)))
       (needed_less asked v (set v n None) n (without_within v n) h))
-    where
-      some_none : (s : Bool) → None ≡ Some s → ⊥
-      some_none s e = absurd cc
 
   pub needed_kept : (v w : Signs) (n : ℕ) → w ≡ v → ¬ (few (set w n None) count) → AreNeeded few count v n → AreNeeded few count v (n + 1)
   needed_kept v w n same other h = needed_more v n (λ s e enough. other (subst (λ l. few (set l n None) count) (sym same) enough)) h
+
+  -- a sign that isn't asked isn't needed
+  pub needed_none : (v : Signs) (n : ℕ) (o : Option Bool) → o ≡ get_or v n o → o ≡ None → AreNeeded few count v n → AreNeeded few count v (n + 1)
+  needed_none v n o at none h =
+      let isnt : get_or v n None ≡ None = subst (λ (x : Option Bool). get_or v n x ≡ x) none (sym at) in
+      needed_more v n (λ s e. absurd (none_some s (sym isnt ∙ e))) h
 
 -- a crowd of which less is asked
 pub crowd_less : (truth sign : Truth) (few : Few) (n patterns : ℕ) (items : List ℕ) (v w : Signs) → IsEnough few (length items) v w

@@ -95,6 +95,17 @@ NoneAfter truth sign few n patterns at = NoneOn truth sign few n (λ w. length w
 
 -- ---- signs that needn't be asked
 
+-- a sign, asked only if it is true
+abbrev pub true_sign : Option Bool → Option Bool
+true_sign None = None
+true_sign (Some true) = Some true
+true_sign (Some false) = None
+
+-- some of the signs
+pub record IsPart (old new : Signs) : Type 0 where
+  pub sized : length new ≡ length old
+  pub within : IsWithin new old
+
 -- signs of which some are no longer asked; there are still fewer texts than so many
 pub record IsEnough (few : Few) (count : ℕ) (old new : Signs) : Type 0 where
   pub sized : length new ≡ length old

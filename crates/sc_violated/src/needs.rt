@@ -1,12 +1,12 @@
 //! Signs that needn't be asked.
-ghost use Rattle.std.specs.Prelude.{◌≡◌, ◌+◌, ◌<◌, length, IfOk, None, Option};
-ghost use Rattle.sc_violated.specs.Crowds.{IsEnough, AreNeeded, AreAllNeeded};
+ghost use Rattle.std.specs.Prelude.{◌≡◌, ◌+◌, ◌<◌, length, map, true, IfOk, IfSome, None};
+ghost use Rattle.sc_violated.specs.Crowds.{true_sign, IsPart, IsEnough, AreNeeded, AreAllNeeded};
 
 use crate::texts::Texts;
 use std::alloc::{AllocError, Global};
 
 /// Asks one sign less, if there are still fewer texts than so many.
-fn ask_less<S: Texts>(
+fn ask_without<S: Texts>(
     alloc: Global,
     texts: &S,
     signs: &mut Vec<Option<bool>>,
@@ -29,6 +29,27 @@ fn ask_less<S: Texts>(
     Ok(())
 }
 
+/// Asks one sign less, if it is asked and there are still fewer texts than so many.
+fn ask_less<S: Texts>(
+    alloc: Global,
+    texts: &S,
+    signs: &mut Vec<Option<bool>>,
+    count: usize,
+    pattern: usize,
+) -> Result<(), AllocError>
+    requires sized { length signs.old.items ≡ S.patterns texts.now }
+    requires bound { pattern < length signs.old.items }
+    requires enough { S.few texts.now signs.old.items count }
+    requires needed { AreNeeded (S.few texts.now) count signs.old.items pattern }
+    ensures enough { IfOk result (λ _. IsEnough (S.few texts.now) count signs.old.items signs.new.items) }
+    ensures needed { IfOk result (λ _. AreNeeded (S.few texts.now) count signs.new.items (pattern + 1)) }
+{
+    match signs[pattern] {
+        None => Ok(()),
+        Some(_) => ask_without(alloc, texts, signs, count, pattern),
+    }
+}
+
 /// A copy of signs.
 pub(crate) fn copy_signs(
     alloc: Global,
@@ -43,9 +64,104 @@ pub(crate) fn copy_signs(
     Ok(copy)
 }
 
-/// Asks none of some signs that needn't be asked: there are still fewer texts than so many, and there wouldn't be without
-/// any one of those that are left.
-pub fn ask_least<S: Texts>(
+/// A sign, asked only if it is true.
+fn true_sign(sign: Option<bool>) -> Option<bool>
+    ensures { result ≡ true_sign sign }
+{
+    match sign {
+        Some(true) => Some(true),
+        _ => None,
+    }
+}
+
+/// The signs that are true; the others aren't asked.
+fn true_signs(alloc: Global, signs: &[Option<bool>]) -> Result<Vec<Option<bool>>, AllocError>
+    ensures { IfOk result (λ v. v.items ≡ map true_sign signs.now) }
+{
+    let mut asked = Vec::new(alloc);
+    for sign in signs {
+        asked.push(true_sign(*sign))?;
+    }
+    Ok(asked)
+}
+
+/// Whether a sign is that of a pattern which isn't matched.
+fn is_false(sign: Option<bool>) -> bool {
+    match sign {
+        Some(matched) => !matched,
+        None => false,
+    }
+}
+
+/// Asks one sign more, if there are then fewer texts than so many, and tells whether there are.
+fn ask_more<S: Texts>(
+    alloc: Global,
+    texts: &S,
+    signs: &[Option<bool>],
+    asked: &mut Vec<Option<bool>>,
+    count: usize,
+    pattern: usize,
+) -> Result<bool, AllocError>
+    requires sized { length signs.now ≡ S.patterns texts.now }
+    requires bound { pattern < length signs.now }
+    requires part { IsPart signs.now asked.old.items }
+    ensures part { IfOk result (λ _. IsPart signs.now asked.new.items) }
+    ensures few { IfOk result (λ b. b ≡ true → S.few texts.now asked.new.items count) }
+{
+    asked[pattern] = signs[pattern];
+    if texts.few(alloc, asked.as_slice(), count)? {
+        return Ok(true);
+    }
+    asked[pattern] = None;
+    Ok(false)
+}
+
+/// Those of some signs that are true, and one that is false or none, if fewer than so many texts have these already.
+fn few_signs<S: Texts>(
+    alloc: Global,
+    texts: &S,
+    signs: &[Option<bool>],
+    count: usize,
+) -> Result<Option<Vec<Option<bool>>>, AllocError>
+    requires { length signs.now ≡ S.patterns texts.now }
+    ensures { IfOk result (λ o. IfSome o (λ v. IsEnough (S.few texts.now) count signs.now v.items)) }
+{
+    let mut asked = true_signs(alloc, signs)?;
+    if texts.few(alloc, asked.as_slice(), count)? {
+        return Ok(Some(asked));
+    }
+    for pattern in 0..signs.len() {
+        if is_false(signs[pattern]) {
+            if ask_more(alloc, texts, signs, &mut asked, count, pattern)? {
+                return Ok(Some(asked));
+            }
+        }
+    }
+    Ok(None)
+}
+
+/// Asks but a few of some signs, if fewer than so many texts have these already.
+fn ask_few<S: Texts>(
+    alloc: Global,
+    texts: &S,
+    signs: &mut Vec<Option<bool>>,
+    count: usize,
+) -> Result<(), AllocError>
+    requires sized { length signs.old.items ≡ S.patterns texts.now }
+    requires enough { S.few texts.now signs.old.items count }
+    ensures { IfOk result (λ _. IsEnough (S.few texts.now) count signs.old.items signs.new.items) }
+{
+    match few_signs(alloc, texts, signs.as_slice(), count)? {
+        Some(asked) => {
+            *signs = asked;
+            Ok(())
+        }
+        None => Ok(()),
+    }
+}
+
+/// Asks none of some signs that needn't be asked, one after the other.
+fn ask_needed<S: Texts>(
     alloc: Global,
     texts: &S,
     signs: &mut Vec<Option<bool>>,
@@ -60,4 +176,21 @@ pub fn ask_least<S: Texts>(
         ask_less(alloc, texts, signs, count, pattern)?;
     }
     Ok(())
+}
+
+/// Asks none of some signs that needn't be asked: there are still fewer texts than so many, and there wouldn't be without
+/// any one of those that are left. Mostly few signs are needed, so it is tried first whether these are enough.
+pub fn ask_least<S: Texts>(
+    alloc: Global,
+    texts: &S,
+    signs: &mut Vec<Option<bool>>,
+    count: usize,
+) -> Result<(), AllocError>
+    requires sized { length signs.old.items ≡ S.patterns texts.now }
+    requires enough { S.few texts.now signs.old.items count }
+    ensures enough { IfOk result (λ _. IsEnough (S.few texts.now) count signs.old.items signs.new.items) }
+    ensures needed { IfOk result (λ _. AreAllNeeded (S.few texts.now) count signs.new.items) }
+{
+    ask_few(alloc, texts, signs, count)?;
+    ask_needed(alloc, texts, signs, count)
 }

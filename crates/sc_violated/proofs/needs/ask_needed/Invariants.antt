@@ -1,5 +1,5 @@
 use Rattle.sc_violated.specs.Crowds.{IsEnough, AreNeeded}
-use Rattle.sc_violated.proofs.needs.ask_least.Given as goal
+use Rattle.sc_violated.proofs.needs.ask_needed.Given as goal
 
 abbrev pub invariant-loop-pattern : goal.invariant-loop-pattern
 invariant-loop-pattern g l = record {

@@ -1,6 +1,6 @@
 use Rattle.std.proofs.Common.{rules, ◌≤◌, length}
 use Rattle.sc_violated.proofs.NeedLaws.{enough_first, needed_first, needed_all}
-use Rattle.sc_violated.proofs.needs.ask_least.Goals as goal
+use Rattle.sc_violated.proofs.needs.ask_needed.Goals as goal
 
 pub loop-pattern-init : goal.loop-pattern-init
 loop-pattern-init g c = record {

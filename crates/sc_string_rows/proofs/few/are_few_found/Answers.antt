@@ -1,7 +1,7 @@
 use Rattle.std.proofs.Common.{◌∙◌, rules}
 use Rattle.sc_string_rows.proofs.FewLaws.{few_told}
 use Rattle.sc_string_rows.proofs.PlentyLaws.{many_not_few}
-use Rattle.sc_string_rows.proofs.few.are_few.Goals as goal
+use Rattle.sc_string_rows.proofs.few.are_few_found.Goals as goal
 
 pub returns-then-branch : goal.returns-then-branch
 returns-then-branch c =
