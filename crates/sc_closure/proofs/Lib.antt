@@ -6,6 +6,7 @@ pub use Rattle.sc_closure_rules.proofs.MemberLaws
 pub use Rattle.sc_closure_rules.proofs.SortLaws
 pub mod PuttingLaws
 pub mod IndexLaws
+mod EquationLaws
 mod GroupLaws
 mod TakingLaws
 mod HeldLaws

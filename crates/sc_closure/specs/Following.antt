@@ -1,5 +1,5 @@
 -- Numbers of a table on their way to the closed terms. No public promise speaks of it.
-use Rattle.std.specs.Prelude.{◌≡◌, ◌<◌, ◌⊎◌, ℕ, Bool, true, false, List, [], ◌∷◌, ◌++◌, map, flat_map, filter, take, length, nat_eq, Option, Some, None, unwrap_or, ⊤}
+use Rattle.std.specs.Prelude.{◌≡◌, ◌<◌, ◌⊎◌, ℕ, Bool, true, false, not, ◌&&◌, List, [], ◌∷◌, ◌++◌, map, flat_map, filter, take, length, nat_eq, Option, Some, None, unwrap_or, ⊤}
 use Rattle.std.specs.List.{AllByRecursion}
 use Rattle.indexmap.specs.IndexSet.{insert_key}
 use Rattle.sc_lists.specs.Members.{Has}
@@ -15,6 +15,9 @@ use Rattle.sc_nodes.specs.declared.node.ManyOp.TheVariants as manys
 use Rattle.sc_nodes.specs.declared.node.UnaryOp.{UnaryOp}
 use Rattle.sc_nodes.specs.declared.node.UnaryOp.TheVariants as unary
 use Rattle.sc_nodes.specs.declared.node.BinaryOp.TheVariants as binary
+use Rattle.sc_nodes.specs.declared.node.Literal.{Literal}
+use Rattle.sc_nodes.specs.declared.node.Literal.TheVariants as literal
+use Rattle.sc_nodes.specs.Literals.{same_entity}
 use Rattle.sc_terms.specs.Trees.{Tree, one, two}
 use Rattle.sc_terms.specs.Tables.{tree, Keeps}
 use Rattle.sc_terms.specs.TreeSorts.{tree_sort}
@@ -175,6 +178,21 @@ met_term meeting.Sets t x = two binary.Member x t
 met_term meeting.Candidates t x = two binary.Member t x
 met_term meeting.Texts t x = like_term t (pattern_in x)
 met_term meeting.Patterns t x = like_term x (pattern_in t)
+
+-- whether a literal is a truth value
+abbrev pub truth_value : Literal → Bool
+truth_value (literal.Bool b) = true
+truth_value _ = false
+
+-- whether two literals that aren't one are of two values, and neither is a truth value
+abbrev pub two_values : Literal → Literal → Bool
+two_values l m = not (truth_value l) && (not (truth_value m) && not (same_entity l m))
+
+-- whether two terms, given whether they are one, are literals of two values
+abbrev pub apart : Bool → Option Literal → Option Literal → Bool
+apart true o p = false
+apart false (Some l) (Some m) = two_values l m
+apart false _ _ = false
 
 -- where something goes with terms of a sort and one whose key is of another
 abbrev pub is_met : Meeting → Sort → Sort → Bool

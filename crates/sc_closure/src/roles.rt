@@ -1,22 +1,24 @@
 //! The roles of closed terms, in groups of one sort, and the terms that go with two of them. A role
 //! meets just the groups of its own sort, so that each pair of terms is looked at only where a term
 //! goes with it.
-ghost use Rattle.std.specs.Prelude.{◌≡◌, ◌<◌, ◌++◌, [], ◌∷◌, true, Some, List, length, map, get_or, slice_set, IfOk, IfSome, OnOk, IsTrue};
+ghost use Rattle.std.specs.Prelude.{◌≡◌, ◌<◌, ◌++◌, [], ◌∷◌, true, false, Some, List, length, map, get_or, slice_set, IfOk, IfSome, OnOk, IsTrue};
 ghost use Rattle.std.specs.List.{AllByRecursion};
 ghost use Rattle.std.specs.Option.{option_copied};
 ghost use Rattle.sc_lists.specs.Members.{Has};
 ghost use Rattle.sc_sorts.specs.declared.sort.Sort.{out-Sort};
 ghost use Rattle.sc_nodes.specs.declared.node.Node.{Node as AnyNode};
-ghost use Rattle.sc_terms.specs.Folds.{like_term};
+ghost use Rattle.sc_terms.specs.Folds.{truth_term, literal_of, equal_term, like_term};
+ghost use Rattle.sc_terms.specs.Order.{tree_eq};
 ghost use Rattle.sc_terms.specs.TreeSorts.{tree_sort};
 ghost use Rattle.sc_terms.specs.Tables.{tree, Keeps, StandsFor};
 ghost use Rattle.sc_closure_rules.specs.Making.{Puts, stood};
 ghost use Rattle.sc_closure_rules.specs.Closure.{Role, one_sort, is_over as over};
-ghost use Rattle.sc_closure.specs.Following.{AreRoles, Held, IsGroupWithin, Joins, no_group, with_member, group_with, is_met as meets, met_term, met_terms, met_in, met_among, met_patterns, is_text as text, operator_in, asked, pattern_in};
+ghost use Rattle.sc_closure.specs.declared.roles.Meeting.TheVariants.{Equation as equation};
+ghost use Rattle.sc_closure.specs.Following.{AreRoles, Held, IsGroupWithin, Joins, no_group, with_member, group_with, is_met as meets, met_term, met_terms, met_in, met_among, met_patterns, is_text as text, truth_value, two_values, apart, operator_in, asked, pattern_in};
 
 use indexmap::IndexSet;
 use sc_lists::Seq;
-use sc_nodes::{Node, UnaryOp};
+use sc_nodes::{Literal, Node, UnaryOp, same_entity};
 use sc_pattern::{Pattern, pattern_of};
 use sc_sorts::Sort;
 use sc_terms::Terms;
@@ -231,8 +233,8 @@ fn met(
     }
 }
 
-/// Puts what goes with a term and each of these.
-fn put_met(
+/// Puts what goes with a term and each of these, one after the other.
+fn put_each(
     alloc: Global,
     terms: &mut Terms,
     meeting: Meeting,
@@ -251,6 +253,94 @@ fn put_met(
         numbers.push(m)?;
     }
     Ok(())
+}
+
+/// Whether a literal is a truth value.
+fn is_truth(literal: &Literal) -> bool
+    ensures { result ≡ truth_value literal.now }
+{
+    matches!(literal, Literal::Bool(_))
+}
+
+/// Whether two literals that aren't one are of two values, and neither is a truth value.
+fn have_two_values(l: &Literal, m: &Literal) -> bool
+    ensures { result ≡ two_values l.now m.now }
+{
+    !is_truth(l) && !is_truth(m) && !same_entity(l, m)
+}
+
+/// Whether two terms are literals of two values, as two names are.
+fn are_apart(terms: &Terms, a: u64, b: u64) -> bool
+    requires a_in { a < length terms.now }
+    requires b_in { b < length terms.now }
+    ensures { result ≡ apart (tree_eq (tree terms.now a) (tree terms.now b)) (literal_of (tree terms.now a))
+        (literal_of (tree terms.now b)) }
+{
+    if terms.is_same(a, b) {
+        return false;
+    }
+    match (terms.literal_at(a), terms.literal_at(b)) {
+        (Some(l), Some(m)) => have_two_values(l, m),
+        _ => false,
+    }
+}
+
+/// The number of an equation, given that of `false`, which an equation of two values is.
+#[tactic(auto, using(crate::proofs::EquationLaws::stands_apart))]
+fn equated(terms: &mut Terms, a: u64, b: u64, never: u64) -> Result<u64, AllocError>
+    requires a_in { a < length terms.old }
+    requires b_in { b < length terms.old }
+    requires never { StandsFor terms.old never (truth_term false) }
+    ensures ok { IfOk result (λ n. StandsFor terms.new n (equal_term (tree terms.old a) (tree terms.old b))) }
+    ensures kept { Keeps terms.old terms.new }
+{
+    if are_apart(terms, a, b) {
+        Ok(never)
+    } else {
+        terms.equal(a, b)
+    }
+}
+
+/// Puts the equations of each of these and a term.
+fn put_equations(
+    terms: &mut Terms,
+    members: &[u64],
+    term: u64,
+    numbers: &mut Vec<u64>,
+) -> Result<(), AllocError>
+    requires members_in { AllByRecursion (λ n. n < length terms.old) members.now }
+    requires term_in { term < length terms.old }
+    ensures ok { OnOk result (Puts terms.old terms.new numbers.old.items numbers.new.items (met_terms equation
+        (stood terms.old members.now) (tree terms.old term))) }
+    ensures kept { Keeps terms.old terms.new }
+{
+    let never = terms.truth(false)?;
+    for member in members {
+        let m = equated(terms, *member, term, never)?;
+        numbers.push(m)?;
+    }
+    Ok(())
+}
+
+/// Puts what goes with a term and each of these.
+fn put_met(
+    alloc: Global,
+    terms: &mut Terms,
+    meeting: Meeting,
+    members: &[u64],
+    term: u64,
+    numbers: &mut Vec<u64>,
+) -> Result<(), AllocError>
+    requires members_in { AllByRecursion (λ n. n < length terms.old) members.now }
+    requires term_in { term < length terms.old }
+    ensures ok { OnOk result (Puts terms.old terms.new numbers.old.items numbers.new.items (met_terms meeting (stood
+        terms.old members.now) (tree terms.old term))) }
+    ensures kept { Keeps terms.old terms.new }
+{
+    match meeting {
+        Meeting::Equation => put_equations(terms, members, term, numbers),
+        _ => put_each(alloc, terms, meeting, members, term, numbers),
+    }
 }
 
 /// Puts what goes with a term and each of a group.

@@ -6,7 +6,7 @@ use Rattle.sc_closure_rules.proofs.MemberLaws.{read_at, within_at}
 use Rattle.sc_closure_rules.proofs.LoopLaws.{each_next, each_end}
 use Rattle.sc_closure.specs.Following.{met_term}
 use Rattle.sc_closure.proofs.GroupLaws.{met_stood}
-use Rattle.sc_closure.proofs.roles.put_met.Goals as goal
+use Rattle.sc_closure.proofs.roles.put_each.Goals as goal
 
 pub loop-member-init : goal.loop-member-init
 loop-member-init c = puts_nothing _ _

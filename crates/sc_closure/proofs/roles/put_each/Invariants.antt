@@ -2,7 +2,7 @@ use Rattle.std.proofs.Common.{ℕ, map, take}
 use Rattle.sc_terms.specs.Tables.{tree}
 use Rattle.sc_closure_rules.specs.Making.{Puts}
 use Rattle.sc_closure.specs.Following.{met_term}
-use Rattle.sc_closure.proofs.roles.put_met.Given as goal
+use Rattle.sc_closure.proofs.roles.put_each.Given as goal
 
 abbrev pub invariant-loop-member : goal.invariant-loop-member
 invariant-loop-member l =

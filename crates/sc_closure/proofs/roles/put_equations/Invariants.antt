@@ -1,0 +1,11 @@
+use Rattle.std.proofs.Common.{ℕ, false, map, take}
+use Rattle.sc_terms.specs.Folds.{truth_term}
+use Rattle.sc_terms.specs.Tables.{tree, StandsFor}
+use Rattle.sc_closure_rules.specs.Making.{Puts}
+use Rattle.sc_closure.specs.declared.roles.Meeting.TheVariants.{Equation}
+use Rattle.sc_closure.specs.Following.{met_term}
+use Rattle.sc_closure.proofs.roles.put_equations.Given as goal
+
+abbrev pub invariant-loop-member : goal.invariant-loop-member
+invariant-loop-member l =
+    Puts l.fn.terms l.terms l.initial.numbers.items l.numbers.items (map (λ (n : ℕ). met_term Equation (tree l.fn.terms n) (tree l.fn.terms l.term)) (take l.member-index l.members)) × StandsFor l.terms l.never (truth_term false)
