@@ -20,6 +20,15 @@ Has-any (n ∷ ns) m h = by (nat_eq m n) refl (λ k. Has-any ns m k) h
     by true e f k = inl (sym (nat_eq_true m n e))
     by false e f k = inr (f k)
 
+any_Has : (ns : List ℕ) (m : ℕ) → Has ns m → list_any (nat_eq m) ns ≡ true
+any_Has [] m h = absurd h
+any_Has (n ∷ ns) m (inl e) = let same : nat_eq m n ≡ true = grind (arith, nat_tests) in rw same refl
+any_Has (n ∷ ns) m (inr h) = by (nat_eq m n) (any_Has ns m h)
+  where
+    by : (b : Bool) → list_any (nat_eq m) ns ≡ true → (b || list_any (nat_eq m) ns) ≡ true
+    by true e = refl
+    by false e = e
+
 module _ (ns : List ℕ) (m : ℕ) where
   one_old : (n : ℕ) → Has ns n → Has (put_one ns m) n
   unfolding put_one
@@ -167,3 +176,15 @@ one_fewer ns m = by (list_any (nat_eq m) ns)
 pub put_fewer : (ns ms : List ℕ) → length (put_new ns ms) ≤ length ns + length ms
 put_fewer ns [] = omega arith
 put_fewer ns (m ∷ ms) = omega (arith, put_fewer (put_one ns m) ms, one_fewer ns m)
+
+-- ---- a number that comes several times at once
+
+one_again : (ns : List ℕ) (m : ℕ) → Has ns m → put_one ns m ≡ ns
+unfolding put_one
+one_again ns m h = rw (any_Has ns m h) refl
+
+pub behind_next : (ks rest later : List ℕ) (first n : ℕ) → rest ≡ first ∷ later → first ≡ n → put_new (put_one ks n) later ≡ put_new (put_one ks n) rest
+behind_next ks rest later first n e f = rw (e, f) (ap (λ (js : List ℕ). put_new js later) (sym (one_again (put_one ks n) n (one_there ks n))))
+
+pub behind_all : (ks ns rest later left : List ℕ) (n : ℕ) → rest ≡ n ∷ later → ns ≡ put_one ks n → ((js : List ℕ) → put_new (put_one js n) left ≡ put_new (put_one js n) later) → put_new ns left ≡ put_new ks rest
+behind_all ks ns rest later left n e f g = rw (e, f) (g ks)

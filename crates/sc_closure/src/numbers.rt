@@ -1,5 +1,5 @@
 //! Sets of numbers, each once, in the order in which they were put.
-ghost use Rattle.std.specs.Prelude.{◌≡◌, ◌<◌, ◌+◌, ◌^◌, slice_get, IfSome, OnOk};
+ghost use Rattle.std.specs.Prelude.{◌≡◌, ◌<◌, ◌≤◌, ◌+◌, ◌^◌, List, ℕ, length, slice_get, IfSome, OnOk};
 ghost use Rattle.sc_closure.specs.Following.{put_one, put_new};
 ghost use Rattle.sc_closure.specs.Places.{place_among};
 
@@ -15,12 +15,30 @@ pub fn put(numbers: &mut IndexSet<u64>, n: u64) -> Result<(), AllocError>
     Ok(())
 }
 
-/// Puts numbers after the others, each if it isn't there.
+/// What is left of numbers behind those at the beginning that are this one.
+fn behind(numbers: &[u64], n: u64) -> &[u64]
+    ensures same { (ks : List ℕ) → put_new (put_one ks n) result.now ≡ put_new (put_one ks n) numbers.now }
+    ensures shorter { length result.now ≤ length numbers.now }
+{
+    let mut rest = numbers;
+    while let Some((first, later)) = rest.split_first() {
+        if *first != n {
+            return rest;
+        }
+        rest = later;
+    }
+    rest
+}
+
+/// Puts numbers after the others, each if it isn't there. A number that comes several times at once,
+/// as that of `false` does, is put just once.
 pub(crate) fn put_all(numbers: &mut IndexSet<u64>, more: &[u64]) -> Result<(), AllocError>
     ensures { OnOk result (numbers.new.keys ≡ put_new numbers.old.keys more.now) }
 {
-    for n in more {
-        put(numbers, *n)?;
+    let mut rest = more;
+    while let Some((first, later)) = rest.split_first() {
+        put(numbers, *first)?;
+        rest = behind(later, *first);
     }
     Ok(())
 }
