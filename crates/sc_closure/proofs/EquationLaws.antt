@@ -1,12 +1,12 @@
 -- Equations of literals of two values.
-use Rattle.std.proofs.Common.{◌≡◌, ℕ, Bool, true, false, not, ◌&&◌, List, Option, Some, None, refl, sym, ap, ◌∙◌, subst, arith}
+use Rattle.std.proofs.Common.{◌≡◌, ℕ, Bool, true, false, not, ◌&&◌, List, Option, Some, None, refl, sym, ap, ◌∙◌, subst}
 use Rattle.sc_nodes.specs.declared.node.Node.{Node}
 use Rattle.sc_nodes.specs.declared.node.Leaf.TheVariants.{Literal}
 use Rattle.sc_nodes.specs.declared.node.Literal.{Literal as AnyLiteral}
 use Rattle.sc_nodes.specs.declared.node.Literal.TheVariants as literal
 use Rattle.sc_nodes.specs.Literals.{same_entity}
 use Rattle.sc_terms.specs.Trees.{Tree, leaf}
-use Rattle.sc_terms.specs.Tables.{Keeps, StandsFor}
+use Rattle.sc_terms.specs.Tables.{StandsFor}
 use Rattle.sc_terms.specs.Order.{tree_eq}
 use Rattle.sc_terms.specs.Folds.{truth_term, constant, literal_of, literals_same, equal_term}
 use Rattle.sc_closure.specs.Following.{truth_value, apart}
@@ -40,7 +40,3 @@ apart_falls a b false (Some l) (Some m) e f g h = by (truth_value l) (truth_valu
 -- so the number of `false` stands for it
 pub stands_apart : (xs : List Node) (n : ℕ) (a b : Tree) → apart (tree_eq a b) (literal_of a) (literal_of b) ≡ true → StandsFor xs n (truth_term false) → StandsFor xs n (equal_term a b)
 stands_apart xs n a b h s = subst (StandsFor xs n) (sym (apart_falls a b (tree_eq a b) (literal_of a) (literal_of b) refl refl refl h)) s
-
--- and in what the table becomes
-pub stands_still : (xs ys : List Node) (n : ℕ) (t : Tree) → Keeps xs ys → StandsFor xs n t → StandsFor ys n t
-stands_still xs ys n t e s = record { within = omega (arith, s.within, e.longer); is = e.same n s.within ∙ s.is }

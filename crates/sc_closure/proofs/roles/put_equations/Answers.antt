@@ -6,7 +6,7 @@ use Rattle.sc_closure_rules.proofs.MemberLaws.{read_at, within_at}
 use Rattle.sc_closure_rules.proofs.LoopLaws.{each_next, each_end}
 use Rattle.sc_closure.specs.declared.roles.Meeting.TheVariants.{Equation}
 use Rattle.sc_closure.specs.Following.{met_term}
-use Rattle.sc_closure.proofs.EquationLaws.{stands_still}
+use Rattle.sc_terms.proofs.TableLaws.{stands_later}
 use Rattle.sc_closure.proofs.GroupLaws.{met_stood}
 use Rattle.sc_closure.proofs.roles.put_equations.Goals as goal
 
@@ -32,7 +32,7 @@ loop-member-preserved c =
           (stands_same (λ (t : Tree). met_term Equation t (tree c.args.terms.now c.args.term)) other_stays
           (stands_same (λ (t : Tree). met_term Equation (tree c.loop-member.terms n) t) term_stays c.in_ok-m.ensures.ok))
           c.in_ok-push.ensures.items,
-      stands_still _ _ _ _ c.in_ok-m.ensures.kept c.loop-member.invariant.1,
+      stands_later _ _ _ _ c.in_ok-m.ensures.kept c.loop-member.invariant.1,
     )
 
 pub returns-clause-ok : goal.returns-clause-ok
