@@ -108,6 +108,14 @@ impl Arena {
         self.ends.len()
     }
 
+    /// The numbers of the clause at a place, counted from 0. None exactly past the last.
+    #[inline(always)]
+    pub fn clause(&self, place: usize) -> Option<&[u32]>
+        ensures { option_map (map lit_of) (option_copied result) ≡ slice_get self.now place }
+    {
+        codes_at(self.codes.as_slice(), self.ends.as_slice(), place)
+    }
+
     /// Puts a clause after the others, by the numbers of its literals. It is refused as too large where the place behind
     /// its last literal has more than 32 bits.
     #[inline(always)]

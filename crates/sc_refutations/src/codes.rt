@@ -1,9 +1,10 @@
 //! The number of a literal, which takes a quarter of the memory that the literal takes by itself.
-ghost use Rattle.std.specs.Prelude.{◌≡◌, ◌≤◌, ◌⊎◌, IsTrue, MatchOption};
+ghost use Rattle.std.specs.Prelude.{◌≡◌, ◌≤◌, ◌⊎◌, map, IfOk, IsTrue, MatchOption};
 ghost use Rattle.sc_clauses.specs.Clauses.{negation};
 ghost use Rattle.sc_refutations.specs.Arenas.{code_of, lit_of, has_code};
 
 use sc_clauses::Lit;
+use std::alloc::{AllocError, Global};
 
 /// The number of a literal, where its atom has one of 31 bits other than 0.
 #[inline(always)]
@@ -23,6 +24,20 @@ pub fn code_of(lit: Lit) -> Option<u32>
     } else {
         Some(even)
     }
+}
+
+/// The numbers of the literals of a clause. It is refused as too large where a literal has no number.
+pub fn codes_of(alloc: Global, clause: &[Lit]) -> Result<Vec<u32>, AllocError>
+    ensures { IfOk result (λ codes. map lit_of codes.items ≡ clause.now) }
+{
+    let mut codes = Vec::new(alloc);
+    for lit in clause {
+        let Some(code) = code_of(*lit) else {
+            return Err(AllocError);
+        };
+        codes.push(code)?;
+    }
+    Ok(codes)
 }
 
 /// The literal of a number.

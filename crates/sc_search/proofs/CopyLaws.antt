@@ -1,9 +1,7 @@
--- Clauses that are copied one after the other.
-use Rattle.std.proofs.Common.{◌≡◌, ◌+◌, ◌<◌, ℕ, zero, suc, List, [], ◌∷◌, ◌++◌, take, length, slice_get, Some, None, refl, ap, subst, arith}
-use Rattle.std.specs.List.{Contains}
+-- Clauses that are taken over one after the other.
+use Rattle.std.proofs.Common.{◌≡◌, ◌+◌, ◌<◌, ℕ, zero, suc, List, [], ◌∷◌, ◌++◌, take, length, slice_get, Some, None, refl, ap, arith}
 use Rattle.sc_laws.proofs.OptionLaws.{same_some}
 use Rattle.sc_clauses.specs.Clauses.{Clause}
-use Rattle.sc_trails.specs.Steps.{AreListed}
 
 pub copied_more : (cs : List Clause) (i : ℕ) (c : Clause) → slice_get cs i ≡ Some c → take (i + 1) cs ≡ take i cs ++ c ∷ []
 copied_more [] i c e = absurd cc
@@ -20,6 +18,3 @@ pub place_inside : (cs : List Clause) (i : ℕ) (c : Clause) → slice_get cs i 
 place_inside [] i c e = absurd cc
 place_inside (d ∷ cs) zero c e = omega arith
 place_inside (d ∷ cs) (suc i) c e = let h = place_inside cs i c e in omega (arith, h)
-
-pub listed_copies : (atoms : ℕ) (cs copies : List Clause) → copies ≡ cs → ((c : Clause) → Contains cs c → AreListed atoms c) → (c : Clause) → Contains copies c → AreListed atoms c
-listed_copies atoms cs copies same h c k = h c (subst (λ (l : List Clause). Contains l c) same k)

@@ -6,8 +6,9 @@ ghost use Rattle.sc_trails.specs.Trails.{Agree};
 use crate::source::Source;
 use sc_clauses::{Clause, Instance};
 use sc_decisions::{Order, Suggestions};
+use sc_refutations::codes_of;
 use sc_trails::Trail;
-use std::alloc::AllocError;
+use std::alloc::{AllocError, Global};
 
 /// An instance that gives a literal, and its clause.
 #[derive(Drop)]
@@ -18,6 +19,7 @@ pub(crate) struct Given {
 
 /// An instance with its clause, if that gives a literal.
 fn if_given<S: Source>(
+    alloc: Global,
     trail: &Trail,
     source: &S,
     order: &Order,
@@ -30,7 +32,8 @@ fn if_given<S: Source>(
     let Some(clause) = source.told(&instance)? else {
         return Ok(None);
     };
-    if !trail.gives(order, clause.as_slice()) {
+    let codes = codes_of(alloc, clause.as_slice())?;
+    if !trail.gives(order, &codes) {
         return Ok(None);
     }
     Ok(Some(Given { instance, clause }))
@@ -38,6 +41,7 @@ fn if_given<S: Source>(
 
 /// The next suggestion that gives a literal, if there is one.
 pub(crate) fn next_given<S: Source>(
+    alloc: Global,
     trail: &Trail,
     source: &S,
     order: &Order,
@@ -54,7 +58,7 @@ pub(crate) fn next_given<S: Source>(
         let Some(instance) = suggestions.take() else {
             return Ok(None);
         };
-        if let Some(found) = if_given(trail, source, order, instance)? {
+        if let Some(found) = if_given(alloc, trail, source, order, instance)? {
             return Ok(Some(found));
         }
     }

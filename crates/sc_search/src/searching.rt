@@ -49,43 +49,6 @@ pub fn search<S: Source>(
     ensures spent { IfOk result (λ f. IfSpent (IsSpent atoms (S.has_instance source.now)
         (S.clause_of source.now) clauses.now budget) f) }
 {
-    let clauses = copies(alloc, clauses)?;
-    turns_over(alloc, source, atoms, clauses, budget)
-}
-
-/// A copy of these clauses.
-fn copies(alloc: Global, clauses: &Clauses) -> Result<Clauses, AllocError>
-    ensures { IfOk result (λ copies. copies ≡ clauses.now) }
-{
-    // There are fewer than 2^64 clauses, which `len` tells.
-    let _count = clauses.len();
-    let mut copies = Clauses::new(alloc);
-    let mut place = 0;
-    while let Some(clause) = clauses.get(place) {
-        copies.push(clause)?;
-        place += 1;
-    }
-    Ok(copies)
-}
-
-/// The same over clauses that the search keeps.
-fn turns_over<S: Source>(
-    alloc: Global,
-    source: &S,
-    atoms: u64,
-    clauses: Clauses,
-    budget: u64,
-) -> Result<Found, AllocError>
-    requires listed { (c : Clause) → Contains clauses c → AreListed atoms c }
-    requires few_atoms { atoms < 10 ^ 18 }
-    requires few_clauses { length clauses + budget < 10 ^ 18 }
-    ensures refuted { IfOk result (λ f. IfRefuted (IsRefutation atoms (S.has_instance source.now)
-        (S.clause_of source.now) clauses budget) f) }
-    ensures consistent { IfOk result (λ f. IfConsistent (IsConsistent atoms (S.has_instance source.now)
-        (S.clause_of source.now) clauses) f) }
-    ensures spent { IfOk result (λ f. IfSpent (IsSpent atoms (S.has_instance source.now)
-        (S.clause_of source.now) clauses budget) f) }
-{
     let mut solver = Solver::new(alloc, atoms, clauses)?;
     solver.find(alloc, source, budget)
 }
@@ -164,11 +127,17 @@ impl Solver {
         if let Some(conflict) = self.come_to_rest()? {
             return Ok(Some(self.settle(alloc, conflict, budget)?));
         }
-        let given = next_given(&self.trail, source, &self.order, &mut self.suggestions)?;
+        let given = next_given(
+            alloc,
+            &self.trail,
+            source,
+            &self.order,
+            &mut self.suggestions,
+        )?;
         match given {
             None => Ok(None),
             Some(Given { instance, clause }) => {
-                self.log(instance, clause.as_slice())?;
+                self.log(alloc, instance, clause.as_slice())?;
                 Ok(Some(Turn::Added))
             }
         }
@@ -194,13 +163,14 @@ impl Solver {
         let m = self.assignment(alloc)?;
         match source.violated(&m)? {
             None => Ok(Turn::Consistent(m)),
-            Some(instance) => self.tell(source, instance, budget),
+            Some(instance) => self.tell(alloc, source, instance, budget),
         }
     }
 
     /// Logs an instance whose clause the assignment falsifies, if the budget isn't spent.
     fn tell<S: Source>(
         &mut self,
+        alloc: Global,
         source: &S,
         instance: Instance,
         budget: u64,
@@ -220,7 +190,7 @@ impl Solver {
         let clause = source.clause(&instance)?;
         let is_empty = clause.is_empty();
         let most = self.trail.levels.len();
-        self.attach(clause.as_slice(), most)?;
+        self.attach(alloc, clause.as_slice(), most)?;
         self.steps.push(Step::Instance(instance))?;
         if is_empty {
             return Ok(Turn::Refuted);

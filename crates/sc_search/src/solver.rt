@@ -10,6 +10,7 @@ ghost use Rattle.sc_trails.specs.Rooms.{cell_value};
 use sc_clauses::{Assignment, Clauses, Instance, Learned, Lit, Step, negation};
 use sc_decisions::{Order, Restarts, Suggestions};
 use sc_lists::Seq;
+use sc_refutations::{Arena, codes_of};
 use sc_trails::{Analysis, Cell, Pending, Resolvent, Trail, value_of};
 use sc_watches::Watches;
 use std::alloc::{AllocError, Global};
@@ -31,7 +32,7 @@ pub(crate) enum Turn {
 /// The clauses given and those of the steps, the steps, and the assignment.
 #[derive(Drop)]
 pub(crate) struct Solver {
-    pub clauses: Clauses,
+    pub clauses: Arena,
     pub steps: Vec<Step>,
     pub watches: Watches,
     pub trail: Trail,
@@ -63,23 +64,40 @@ fn later_values(alloc: Global, cells: &[Cell]) -> Result<Seq<Option<bool>>, Allo
     }
 }
 
+/// The same clauses, each by the numbers of its literals.
+fn arena_of(alloc: Global, given: &Clauses) -> Result<Arena, AllocError>
+    ensures { IfOk result (λ clauses. clauses ≡ given.now) }
+{
+    // There are fewer than 2^64 clauses, which `len` tells.
+    let _count = given.len();
+    let mut clauses = Arena::new(alloc);
+    let mut place = 0;
+    while let Some(clause) = given.get(place) {
+        let codes = codes_of(alloc, clause)?;
+        clauses.push(&codes)?;
+        place += 1;
+    }
+    Ok(clauses)
+}
+
 impl Solver {
     /// The search over these clauses, before its first turn.
-    pub fn new(alloc: Global, atoms: u64, clauses: Clauses) -> Result<Solver, AllocError>
+    pub fn new(alloc: Global, atoms: u64, given: &Clauses) -> Result<Solver, AllocError>
         requires few_atoms { atoms < 10 ^ 18 }
-        requires in_cells { AreInCells (atoms + 1) clauses }
+        requires in_cells { AreInCells (atoms + 1) given.now }
         ensures count { IfOk result (λ s. length s.trail.cells.items ≡ atoms + 1) }
-        ensures watched { IfOk result (λ s. IsWellWatched (atoms + 1) clauses s.trail s.watches) }
-        ensures trail { IfOk result (λ s. HoldsTrail (atoms + 1) clauses s.trail) }
-        ensures seen { IfOk result (λ s. AreSeenBut clauses s.trail s.watches s.pending) }
-        ensures clauses { IfOk result (λ s. s.clauses ≡ clauses) }
+        ensures watched { IfOk result (λ s. IsWellWatched (atoms + 1) given.now s.trail s.watches) }
+        ensures trail { IfOk result (λ s. HoldsTrail (atoms + 1) given.now s.trail) }
+        ensures seen { IfOk result (λ s. AreSeenBut given.now s.trail s.watches s.pending) }
+        ensures clauses { IfOk result (λ s. s.clauses ≡ given.now) }
         ensures steps { IfOk result (λ s. s.steps.items ≡ []) }
         ensures marks { IfOk result (λ s. length s.analysis.met ≡ atoms + 1) }
     {
         let cells = atoms as usize + 1;
+        let clauses = arena_of(alloc, given)?;
         let watches = Watches::new(alloc, cells, clauses.len())?;
         let trail = Trail::new(alloc, cells)?;
-        let order = Order::new(alloc, cells, &clauses)?;
+        let order = Order::new(alloc, cells, given)?;
         let analysis = Analysis::new(alloc, cells)?;
         Ok(Solver {
             clauses,
@@ -157,7 +175,12 @@ impl Solver {
     }
 
     /// Logs an instance, of which this is the clause.
-    pub fn log(&mut self, instance: Instance, clause: &[Lit]) -> Result<(), AllocError>
+    pub fn log(
+        &mut self,
+        alloc: Global,
+        instance: Instance,
+        clause: &[Lit],
+    ) -> Result<(), AllocError>
         requires ready { IsReady (length self.old.trail.cells.items) self.old }
         requires in_cells { AllInCells (length self.old.trail.cells.items) clause.now }
         requires alive { AreAlive self.old.clauses self.old.trail self.old.watches }
@@ -166,7 +189,7 @@ impl Solver {
         ensures steps { IfOk result (λ _. self.new.steps.items ≡ self.old.steps.items ++ step.Instance instance ∷ []) }
     {
         let most = self.trail.levels.len();
-        self.attach(clause, most)?;
+        self.attach(alloc, clause, most)?;
         self.steps.push(Step::Instance(instance))?;
         Ok(())
     }
@@ -198,7 +221,7 @@ impl Solver {
         // It is what the clause gives where the search goes on, so a look at the clause meets it first.
         lits.insert(0, negation(uip))?;
         let most = self.restarts.most_levels(self.trail.levels.len() - 1);
-        self.attach(&lits, most)?;
+        self.attach(alloc, &lits, most)?;
         self.steps.push(Step::Learned(Learned {
             clause: Seq::from_vec(lits),
             hints: Seq::from_vec(hints),
@@ -252,7 +275,7 @@ impl Solver {
     }
 
     /// Adds a clause, and leaves as many levels as it has room for, up to so many.
-    pub fn attach(&mut self, clause: &[Lit], most: usize) -> Result<(), AllocError>
+    pub fn attach(&mut self, alloc: Global, clause: &[Lit], most: usize) -> Result<(), AllocError>
         requires ready { IsReady (length self.old.trail.cells.items) self.old }
         requires in_cells { AllInCells (length self.old.trail.cells.items) clause.now }
         requires most { most ≤ length self.old.trail.levels.items }
@@ -262,13 +285,14 @@ impl Solver {
         ensures clauses { IfOk result (λ _. self.new.clauses ≡ self.old.clauses ++ clause.now ∷ []) }
         ensures steps { IfOk result (λ _. self.new.steps ≡ self.old.steps) }
     {
-        let room = self.trail.room(clause, most);
+        let codes = codes_of(alloc, clause)?;
+        let room = self.trail.room(&codes, most);
         self.trail
             .go_back(&self.clauses, &mut self.order, room.level);
         self.watches.add(room.watch)?;
         let place = self.clauses.len();
         self.pending = Pending::One(place);
-        self.clauses.push(clause)?;
+        self.clauses.push(&codes)?;
         Ok(())
     }
 }

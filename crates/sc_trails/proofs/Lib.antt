@@ -1,4 +1,5 @@
 mod PlaceLaws
+mod NumberLaws
 pub mod LitLaws
 pub mod NewnessLaws
 pub mod CellLaws

@@ -1,9 +1,10 @@
 //! Conflict analysis: the clause that a conflict shows, by resolving back along the trail until one literal of the level
 //! alone is met there, a unique implication point.
-ghost use Rattle.std.specs.Prelude.{false, replicate, ◌≡◌, ◌⊎◌, ◌+◌, ◌-◌, ◌<◌, ◌≤◌, ◌++◌, [], ◌∷◌, length, slice_set, slice_index_or, IfOk, IsTrue, List, ℕ, true};
+ghost use Rattle.std.specs.Prelude.{false, replicate, ◌≡◌, ◌⊎◌, ◌+◌, ◌-◌, ◌<◌, ◌≤◌, ◌++◌, [], ◌∷◌, length, map, slice_set, slice_index_or, IfOk, IsTrue, List, ℕ, true};
 ghost use Rattle.std.specs.List.{Contains};
 ghost use Rattle.sc_clauses.specs.Clauses.{negation};
 ghost use Rattle.sc_clauses.specs.declared.lit.Lit.{Lit};
+ghost use Rattle.sc_refutations.specs.Arenas.{lit_of};
 ghost use Rattle.sc_trails.specs.Analyses.{HaveSame, IsMet, RefutesMet, IsCollected, MeetsMore, MayBeMet, AreMet, NoneMet, IsHighest, IsResolvent};
 ghost use Rattle.sc_trails.specs.Readings.{IsFalsified};
 ghost use Rattle.sc_trails.specs.Steps.{Refutes};
@@ -12,8 +13,9 @@ ghost use Rattle.sc_trails.specs.Trails.{Agree, HoldsTrail, AllInCells, AreInCel
 use crate::cell::Cell;
 use crate::clause::clause_at;
 use crate::trail::Trail;
-use sc_clauses::{Clauses, Lit, negation};
+use sc_clauses::{Lit, negation};
 use sc_marks::Marks;
+use sc_refutations::{Arena, lit_of};
 use std::alloc::{AllocError, Global};
 use std::mem;
 
@@ -79,7 +81,7 @@ pub struct Resolvent {
 }
 
 /// The number of the clause at a place.
-fn number_of(clauses: &Clauses, place: usize) -> u64
+fn number_of(clauses: &Arena, place: usize) -> u64
     requires { place < length clauses.now }
     ensures { result ≡ place + 1 }
 {
@@ -144,31 +146,32 @@ impl Trail {
         Ok(())
     }
 
+    /// Meets the literals of a clause, which are false, by their numbers.
     fn meet_all(
         &self,
         analysis: &mut Analysis,
         first: usize,
-        clause: &[Lit],
+        clause: &[u32],
     ) -> Result<(), AllocError>
-        requires in_cells { AllInCells (length self.now.cells.items) clause.now }
+        requires in_cells { AllInCells (length self.now.cells.items) (map lit_of clause.now) }
         requires may_be_met { MayBeMet self.now.cells.items (length self.now.lits.items)
-            analysis.old.met clause.now }
+            analysis.old.met (map lit_of clause.now) }
         requires collected { IsCollected (length self.now.cells.items)
             self.now.cells.items first analysis.old.met analysis.old.lower.items }
         ensures collected { IfOk result (λ _. IsCollected (length self.now.cells.items)
             self.now.cells.items first analysis.new.met analysis.new.lower.items) }
         ensures more { IfOk result (λ _. MeetsMore analysis.old.met analysis.new.met) }
-        ensures met { IfOk result (λ _. AreMet analysis.new.met clause.now) }
+        ensures met { IfOk result (λ _. AreMet analysis.new.met (map lit_of clause.now)) }
         ensures hints { IfOk result (λ _. analysis.new.hints ≡ analysis.old.hints) }
     {
-        for lit in clause {
-            self.meet(analysis, first, *lit)?;
+        for code in clause {
+            self.meet(analysis, first, lit_of(*code))?;
         }
         Ok(())
     }
 
     /// The place of the clause that gave the literal at a place of the trail.
-    fn reason(&self, clauses: &Clauses, i: usize) -> usize
+    fn reason(&self, clauses: &Arena, i: usize) -> usize
         requires trail { HoldsTrail (length self.now.cells.items) clauses.now self.now }
         requires within { i < length self.now.lits.items }
         requires undecided { ¬ Contains self.now.levels.items i }
@@ -185,7 +188,7 @@ impl Trail {
     /// Resolves with the reason of the literal at a place of the trail, if it was met.
     fn resolve(
         &self,
-        clauses: &Clauses,
+        clauses: &Arena,
         analysis: &mut Analysis,
         first: usize,
         i: usize,
@@ -247,7 +250,7 @@ impl Trail {
     /// Resolves back until one literal of the level alone is met there: its place.
     fn walk(
         &self,
-        clauses: &Clauses,
+        clauses: &Arena,
         analysis: &mut Analysis,
         first: usize,
     ) -> Result<usize, AllocError>
@@ -280,7 +283,7 @@ impl Trail {
     /// Meets the literals of the falsified clause at a place.
     fn begin(
         &self,
-        clauses: &Clauses,
+        clauses: &Arena,
         analysis: &mut Analysis,
         conflict: usize,
         first: usize,
@@ -303,7 +306,7 @@ impl Trail {
     pub fn analyse(
         &self,
         alloc: Global,
-        clauses: &Clauses,
+        clauses: &Arena,
         analysis: &mut Analysis,
         conflict: usize,
         first: usize,
@@ -331,7 +334,7 @@ impl Trail {
     pub fn refute(
         &self,
         alloc: Global,
-        clauses: &Clauses,
+        clauses: &Arena,
         analysis: &mut Analysis,
         conflict: usize,
     ) -> Result<Vec<u64>, AllocError>

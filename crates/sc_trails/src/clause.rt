@@ -1,15 +1,16 @@
 //! The clause at a place.
-ghost use Rattle.std.specs.Prelude.{◌<◌, length};
+ghost use Rattle.std.specs.Prelude.{◌<◌, length, map};
+ghost use Rattle.sc_refutations.specs.Arenas.{lit_of};
 ghost use Rattle.sc_trails.specs.Steps.{At};
 
-use sc_clauses::{Clauses, Lit};
+use sc_refutations::Arena;
 
-/// The clause at a place, counted from 0.
-pub fn clause_at(clauses: &Clauses, place: usize) -> &[Lit]
+/// The numbers of the clause at a place, counted from 0.
+pub fn clause_at(clauses: &Arena, place: usize) -> &[u32]
     requires { place < length clauses.now }
-    ensures { At clauses.now place result.now }
+    ensures { At clauses.now place (map lit_of result.now) }
 {
-    match clauses.get(place) {
+    match clauses.clause(place) {
         Some(clause) => clause,
         None => &[],
     }

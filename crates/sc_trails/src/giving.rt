@@ -1,5 +1,6 @@
 //! Clauses that give a literal.
-ghost use Rattle.std.specs.Prelude.{◌≡◌, length, IsTrue};
+ghost use Rattle.std.specs.Prelude.{◌≡◌, length, map, IsTrue};
+ghost use Rattle.sc_refutations.specs.Arenas.{lit_of};
 ghost use Rattle.sc_trails.specs.Giving.{Gives, in_cells};
 ghost use Rattle.sc_trails.specs.Trails.{Agree, AllInCells};
 
@@ -7,6 +8,7 @@ use crate::propagation::Status;
 use crate::trail::Trail;
 use sc_clauses::Lit;
 use sc_decisions::Order;
+use sc_refutations::lit_of;
 
 fn is_in_cells(count: usize, lit: Lit) -> bool
     ensures { result ≡ in_cells count lit }
@@ -15,17 +17,22 @@ fn is_in_cells(count: usize, lit: Lit) -> bool
 }
 
 impl Trail {
-    fn are_in_cells(&self, clause: &[Lit]) -> bool
-        ensures { IsTrue result → AllInCells (length self.now.cells.items) clause.now }
+    fn are_in_cells(&self, clause: &[u32]) -> bool
+        ensures { IsTrue result → AllInCells (length self.now.cells.items) (map lit_of clause.now) }
     {
         let count = self.cells.len();
-        clause.iter().all(|lit| is_in_cells(count, *lit))
+        for code in clause {
+            if !is_in_cells(count, lit_of(*code)) {
+                return false;
+            }
+        }
+        true
     }
 
-    /// Whether a clause gives a literal that is of use.
-    pub fn gives(&self, order: &Order, clause: &[Lit]) -> bool
+    /// Whether a clause, by the numbers of its literals, gives a literal that is of use.
+    pub fn gives(&self, order: &Order, clause: &[u32]) -> bool
         requires { Agree self.now.cells.items self.now.lits.items }
-        ensures { IsTrue result → Gives self.now clause.now }
+        ensures { IsTrue result → Gives self.now (map lit_of clause.now) }
     {
         if !self.are_in_cells(clause) {
             return false;

@@ -1,8 +1,9 @@
 //! Unit propagation, by the clauses that watch what became false.
-ghost use Rattle.std.specs.Prelude.{◌≡◌, ◌+◌, ◌<◌, length, Some, IfOk, IfSome, IsTrue, true};
+ghost use Rattle.std.specs.Prelude.{◌≡◌, ◌+◌, ◌<◌, length, map, Some, IfOk, IfSome, IsTrue, true};
 ghost use Rattle.std.specs.List.{Contains};
 ghost use Rattle.sc_clauses.specs.Clauses.{Clause};
 ghost use Rattle.sc_clauses.specs.declared.lit.Lit.{Lit};
+ghost use Rattle.sc_refutations.specs.Arenas.{lit_of};
 ghost use Rattle.sc_trails.specs.Readings.{HasStatus, IsOpen};
 ghost use Rattle.sc_trails.specs.Steps.{At};
 ghost use Rattle.sc_trails.specs.Trails.{Agree, AreLevels, HoldsTrail, AllInCells, AreInCells, true_before};
@@ -12,7 +13,8 @@ ghost use Rattle.sc_watches.specs.Watches.{IsWatched, watch_of};
 use crate::cell::Truth;
 use crate::clause::clause_at;
 use crate::trail::{Trail, is_same};
-use sc_clauses::{Clauses, Lit, negation};
+use sc_clauses::{Lit, negation};
+use sc_refutations::{Arena, lit_of};
 use sc_watches::{Watch, Watches};
 use std::alloc::AllocError;
 
@@ -41,23 +43,25 @@ pub enum Pending {
 }
 
 impl Trail {
-    pub fn status(&self, clause: &[Lit]) -> Status
+    /// What a clause says, by the numbers of its literals.
+    pub fn status(&self, clause: &[u32]) -> Status
         requires agree { Agree self.now.cells.items self.now.lits.items }
-        requires in_cells { AllInCells (length self.now.cells.items) clause.now }
-        ensures { HasStatus self.now.cells.items (length self.now.lits.items) clause.now result }
+        requires in_cells { AllInCells (length self.now.cells.items) (map lit_of clause.now) }
+        ensures { HasStatus self.now.cells.items (length self.now.lits.items) (map lit_of clause.now) result }
     {
         let mut open: Option<Lit> = None;
-        for lit in clause {
-            match self.truth(*lit) {
-                Truth::True => return Status::Satisfied(*lit),
+        for code in clause {
+            let lit = lit_of(*code);
+            match self.truth(lit) {
+                Truth::True => return Status::Satisfied(lit),
                 Truth::False => {}
                 Truth::Open => match open {
-                    None => open = Some(*lit),
+                    None => open = Some(lit),
                     Some(other) => {
-                        if !is_same(other, *lit) {
+                        if !is_same(other, lit) {
                             return Status::Open(Watch {
                                 first: other,
-                                second: *lit,
+                                second: lit,
                             });
                         }
                     }
@@ -163,7 +167,7 @@ impl Trail {
     /// or became false in the last level: so it isn't read again as long as that literal is true.
     fn watch_true(
         &self,
-        clauses: &Clauses,
+        clauses: &Arena,
         watches: &mut Watches,
         place: usize,
         lit: Lit,
@@ -193,9 +197,10 @@ impl Trail {
 
     /// Reads the clause at a place. It then watches two literals that are open, or what it gives is made true. Whether
     /// it's falsified.
+    #[inline(never)]
     fn read(
         &mut self,
-        clauses: &Clauses,
+        clauses: &Arena,
         watches: &mut Watches,
         place: usize,
     ) -> Result<bool, AllocError>
@@ -228,7 +233,7 @@ impl Trail {
     /// Reads the clause at a place unless a literal that it watches is true. Whether it's falsified.
     fn visit(
         &mut self,
-        clauses: &Clauses,
+        clauses: &Arena,
         watches: &mut Watches,
         place: usize,
     ) -> Result<bool, AllocError>
@@ -250,7 +255,7 @@ impl Trail {
     /// Visits each clause, until one is falsified (its place).
     fn visit_each(
         &mut self,
-        clauses: &Clauses,
+        clauses: &Arena,
         watches: &mut Watches,
     ) -> Result<Option<usize>, AllocError>
         requires in_cells { AreInCells (length self.old.cells.items) clauses.now }
@@ -272,7 +277,7 @@ impl Trail {
     /// place). Those that no longer watch it are taken out of its list.
     fn visit_watching(
         &mut self,
-        clauses: &Clauses,
+        clauses: &Arena,
         watches: &mut Watches,
         first: usize,
     ) -> Result<Option<usize>, AllocError>
@@ -299,7 +304,7 @@ impl Trail {
     /// Visits the clauses that watch a literal which is false from a place of the trail or a later one on.
     fn follow(
         &mut self,
-        clauses: &Clauses,
+        clauses: &Arena,
         watches: &mut Watches,
         first: usize,
     ) -> Result<Option<usize>, AllocError>
@@ -324,7 +329,7 @@ impl Trail {
     /// Visits the clause at a place, and then those that watch what became false.
     fn visit_one(
         &mut self,
-        clauses: &Clauses,
+        clauses: &Arena,
         watches: &mut Watches,
         one: usize,
     ) -> Result<Option<usize>, AllocError>
@@ -346,7 +351,7 @@ impl Trail {
     /// Visits all clauses, and then those that watch what became false.
     fn visit_all(
         &mut self,
-        clauses: &Clauses,
+        clauses: &Arena,
         watches: &mut Watches,
     ) -> Result<Option<usize>, AllocError>
         requires in_cells { AreInCells (length self.old.cells.items) clauses.now }
@@ -366,7 +371,7 @@ impl Trail {
     /// Makes true what the clauses give, until one of them is falsified (its place) or none gives anything.
     pub fn propagate(
         &mut self,
-        clauses: &Clauses,
+        clauses: &Arena,
         watches: &mut Watches,
         pending: Pending,
     ) -> Result<Option<usize>, AllocError>

@@ -1,13 +1,15 @@
 //! How far to go back for a new clause.
-ghost use Rattle.std.specs.Prelude.{◌≡◌, ◌-◌, ◌<◌, ◌≤◌, ℕ, length, slice_index_or, take, IfSome};
+ghost use Rattle.std.specs.Prelude.{◌≡◌, ◌-◌, ◌<◌, ◌≤◌, ℕ, length, map, slice_index_or, take, IfSome};
 ghost use Rattle.std.specs.List.{All};
+ghost use Rattle.sc_refutations.specs.Arenas.{lit_of};
 ghost use Rattle.sc_trails.specs.Analyses.{IsHighest};
 ghost use Rattle.sc_trails.specs.Trails.{AreLevels, HoldsTrail, true_before};
 ghost use Rattle.sc_trails.specs.Rooms.{IsOpenPair, IsRoom};
 
 use crate::trail::{Trail, is_same};
-use sc_clauses::{Clauses, Lit, negation};
+use sc_clauses::{Lit, negation};
 use sc_decisions::Order;
+use sc_refutations::{Arena, lit_of};
 use sc_watches::Watch;
 
 /// How many levels a clause leaves, and what it may watch there.
@@ -30,20 +32,22 @@ impl Trail {
     }
 
     /// Two literals of a clause that weren't false before a place.
-    fn open_pair(&self, clause: &[Lit], place: usize) -> Option<Watch>
-        requires in_cells { All (λ m. m.atom < length self.now.cells.items) clause.now }
-        ensures { IfSome result (IsOpenPair self.now.cells.items place clause.now) }
+    #[tactic(auto, using(crate::proofs::NumberLaws::has_lit))]
+    fn open_pair(&self, clause: &[u32], place: usize) -> Option<Watch>
+        requires in_cells { All (λ m. m.atom < length self.now.cells.items) (map lit_of clause.now) }
+        ensures { IfSome result (IsOpenPair self.now.cells.items place (map lit_of clause.now)) }
     {
         let mut open: Option<Lit> = None;
-        for lit in clause {
-            if !self.is_true_before(negation(*lit), place) {
+        for code in clause {
+            let lit = lit_of(*code);
+            if !self.is_true_before(negation(lit), place) {
                 match open {
-                    None => open = Some(*lit),
+                    None => open = Some(lit),
                     Some(other) => {
-                        if !is_same(other, *lit) {
+                        if !is_same(other, lit) {
                             return Some(Watch {
                                 first: other,
-                                second: *lit,
+                                second: lit,
                             });
                         }
                     }
@@ -54,11 +58,11 @@ impl Trail {
     }
 
     /// The highest level, up to one, below which each level begins with two literals of a clause that aren't false.
-    pub fn room(&self, clause: &[Lit], most: usize) -> Room
-        requires in_cells { All (λ m. m.atom < length self.now.cells.items) clause.now }
+    pub fn room(&self, clause: &[u32], most: usize) -> Room
+        requires in_cells { All (λ m. m.atom < length self.now.cells.items) (map lit_of clause.now) }
         requires levels { AreLevels self.now.cells.items self.now.levels.items (length self.now.lits.items) }
         requires most { most ≤ length self.now.levels.items }
-        ensures { IsRoom self.now.cells.items self.now.levels.items clause.now most result }
+        ensures { IsRoom self.now.cells.items self.now.levels.items (map lit_of clause.now) most result }
     {
         let mut level = most;
         'down: while level > 0 {
@@ -75,7 +79,7 @@ impl Trail {
     }
 
     /// Takes back the levels from one on, if there are so many.
-    pub fn go_back(&mut self, clauses: &Clauses, order: &mut Order, level: usize)
+    pub fn go_back(&mut self, clauses: &Arena, order: &mut Order, level: usize)
         requires trail { HoldsTrail (length self.old.cells.items) clauses.now self.old }
         requires within { level ≤ length self.old.levels.items }
         ensures trail { HoldsTrail (length self.old.cells.items) clauses.now self.new }

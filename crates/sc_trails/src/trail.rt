@@ -5,8 +5,9 @@ ghost use Rattle.sc_trails.specs.Readings.{HasTruth};
 ghost use Rattle.sc_trails.specs.Trails.{Agree, HoldsTrail, true_before};
 
 use crate::cell::{Cell, Truth, is_set_before, truth_of};
-use sc_clauses::{Clauses, Lit};
+use sc_clauses::Lit;
 use sc_decisions::Order;
+use sc_refutations::Arena;
 use std::alloc::{AllocError, Global};
 
 /// The assignment, in the order in which it was made.
@@ -109,7 +110,7 @@ impl Trail {
     }
 
     /// Takes back a level and those after it, and their atoms into the order.
-    pub fn backtrack(&mut self, clauses: &Clauses, order: &mut Order, level: usize)
+    pub fn backtrack(&mut self, clauses: &Arena, order: &mut Order, level: usize)
         requires within { level < length self.old.levels.items }
         requires trail { HoldsTrail (length self.old.cells.items) clauses.now self.old }
         ensures trail { HoldsTrail (length self.old.cells.items) clauses.now self.new }

@@ -1,5 +1,6 @@
-use Rattle.std.proofs.Common.{◌≡◌, ◌+◌, inr, ℕ, List, ◌∷◌, [], ◌++◌, length, replicate, false, subst, sym, ap, ◌∙◌, Vec, Global}
+use Rattle.std.proofs.Common.{◌≡◌, ◌+◌, inr, ℕ, List, ◌∷◌, [], ◌++◌, length, map, replicate, false, subst, sym, ap, ◌∙◌, Vec, Global}
 use Rattle.sc_clauses.specs.declared.lit.Lit.{Lit}
+use Rattle.sc_refutations.specs.Arenas.{lit_of}
 use Rattle.sc_trails.proofs.AnalysisLaws.{collected-fresh, refutes-first}
 use Rattle.sc_trails.proofs.WatchingLaws.{same-clause}
 use Rattle.sc_trails.proofs.trail.Trail.begin.Goals as goal
@@ -14,13 +15,13 @@ number_of-requires c = c.requires.falsified.1.0
 
 pub meet_all-requires-clause-in_cells : goal.meet_all-requires-clause-in_cells
 meet_all-requires-clause-in_cells c =
-    c.requires.in_cells c.clause_at.result.now (c.args.conflict, c.clause_at.ensures.0, c.clause_at.ensures.1)
+    c.requires.in_cells (map lit_of c.clause_at.result.now) (c.args.conflict, c.clause_at.ensures.0, c.clause_at.ensures.1)
 
 pub meet_all-requires-clause-may_be_met : goal.meet_all-requires-clause-may_be_met
 meet_all-requires-clause-may_be_met c =
     let f = c.requires.falsified in
-    let same : f.0 ≡ c.clause_at.result.now = same-clause c.args.clauses.now c.args.conflict _ _ f.1 c.clause_at.ensures in
-    let none : AreFalse c.args.self.now.cells.items (length c.args.self.now.lits.items) c.clause_at.result.now =
+    let same : f.0 ≡ map lit_of c.clause_at.result.now = same-clause c.args.clauses.now c.args.conflict _ _ f.1 c.clause_at.ensures in
+    let none : AreFalse c.args.self.now.cells.items (length c.args.self.now.lits.items) (map lit_of c.clause_at.result.now) =
     subst (λ (d : List Lit). AreFalse c.args.self.now.cells.items (length c.args.self.now.lits.items) d) same f.2 in
     λ m has. inr (none m has)
 
@@ -34,7 +35,7 @@ returns-clause-refutes c =
     let cells = c.args.self.now.cells.items in
     let p = length c.args.self.now.lits.items in
     let met = c.meet_all.new.analysis.met in
-    let same : f.0 ≡ c.clause_at.result.now = same-clause c.args.clauses.now c.args.conflict _ _ f.1 c.clause_at.ensures in
+    let same : f.0 ≡ map lit_of c.clause_at.result.now = same-clause c.args.clauses.now c.args.conflict _ _ f.1 c.clause_at.ensures in
     let all : AreMet met f.0 = subst (λ (d : List Lit). AreMet met d) (sym same) c.in_ok-meet_all.ensures.met in
     subst (λ (hs : List ℕ). RefutesMet c.args.clauses.now cells p p met hs)
     (sym (c.in_ok-push.ensures.items ∙ ap (λ (h : ℕ). c.meet_all.new.analysis.hints.items ++ h ∷ []) c.number_of.ensures

@@ -1,6 +1,7 @@
-use Rattle.std.proofs.Common.{inl, ◌<◌, length, subst, arith}
+use Rattle.std.proofs.Common.{inl, ◌<◌, length, map, subst, arith}
 use Rattle.std.specs.List.{Contains}
 use Rattle.sc_clauses.specs.Clauses.{Clause}
+use Rattle.sc_refutations.specs.Arenas.{lit_of}
 use Rattle.sc_trails.proofs.ReadingLaws.{reason-of}
 use Rattle.sc_trails.proofs.VisitLaws.{goes-implied, implied-alive, keeps-others, moves-nowhere, moves-trail, open-may, rewatched-moves, rewatched-others, rewatched-visited}
 use Rattle.sc_trails.proofs.WatchingLaws.{same-clause}
@@ -13,14 +14,14 @@ use Rattle.sc_watches.specs.Watches.{watch_of}
 
 pub status-requires-clause-in_cells : goal.status-requires-clause-in_cells
 status-requires-clause-in_cells c =
-    c.requires.in_cells c.clause_at.result.now (c.args.place, c.clause_at.ensures.0, c.clause_at.ensures.1)
+    c.requires.in_cells (map lit_of c.clause_at.result.now) (c.args.place, c.clause_at.ensures.0, c.clause_at.ensures.1)
 
 pub watch_true-requires-clause-satisfied : goal.watch_true-requires-clause-satisfied
-watch_true-requires-clause-satisfied c = (c.clause_at.result.now, c.clause_at.ensures, c.in-Satisfied.ensures.0, c.in-Satisfied.ensures.1)
+watch_true-requires-clause-satisfied c = (map lit_of c.clause_at.result.now, c.clause_at.ensures, c.in-Satisfied.ensures.0, c.in-Satisfied.ensures.1)
 
 pub returns-in_ok-watch_true-in-Satisfied-clause-visited : goal.returns-in_ok-watch_true-in-Satisfied-clause-visited
 returns-in_ok-watch_true-in-Satisfied-clause-visited c =
-    let C = c.clause_at.result.now in
+    let C = map lit_of c.clause_at.result.now in
     let l = c.in-Satisfied.lit in
     let has = c.in-Satisfied.ensures in
     λ d at. inl (l, subst (λ (x : Clause). Contains x l) (same-clause c.args.clauses.now c.args.place C d c.clause_at.ensures at) has.0, has.1)
@@ -31,7 +32,7 @@ watch-requires-clause-within c = let e = c.requires.watched.watching.paired in l
 pub watch-requires-clause-first : goal.watch-requires-clause-first
 watch-requires-clause-first c =
     let t = c.args.self.now in
-    let C = c.clause_at.result.now in
+    let C = map lit_of c.clause_at.result.now in
     let both : AreTwoOpen t.cells.items C c.in-Open.watch = c.in-Open.ensures in
     let within : InCells (length t.cells.items) c.in-Open.watch.first = c.requires.in_cells C (c.args.place, c.clause_at.ensures.0, c.clause_at.ensures.1) c.in-Open.watch.first both.0 in
     λ sign. let e = c.requires.watched.watching.sized sign in let lt : c.in-Open.watch.first.atom < length t.cells.items = within.1 in omega arith
@@ -39,7 +40,7 @@ watch-requires-clause-first c =
 pub watch-requires-clause-second : goal.watch-requires-clause-second
 watch-requires-clause-second c =
     let t = c.args.self.now in
-    let C = c.clause_at.result.now in
+    let C = map lit_of c.clause_at.result.now in
     let both : AreTwoOpen t.cells.items C c.in-Open.watch = c.in-Open.ensures in
     let within : InCells (length t.cells.items) c.in-Open.watch.second = c.requires.in_cells C (c.args.place, c.clause_at.ensures.0, c.clause_at.ensures.1) c.in-Open.watch.second both.1 in
     λ sign. let e = c.requires.watched.watching.sized sign in let lt : c.in-Open.watch.second.atom < length t.cells.items = within.1 in omega arith
@@ -47,7 +48,7 @@ watch-requires-clause-second c =
 pub returns-in_ok-watch-in-Open-clause-moves : goal.returns-in_ok-watch-in-Open-clause-moves
 returns-in_ok-watch-in-Open-clause-moves c =
     let t = c.args.self.now in
-    let C = c.clause_at.result.now in
+    let C = map lit_of c.clause_at.result.now in
     let both : AreTwoOpen t.cells.items C c.in-Open.watch = c.in-Open.ensures in
     rewatched-moves _ c.args.clauses.now t c.args.watches.now c.watch.new.self c.args.place C c.in-Open.watch c.requires.trail c.requires.watched c.clause_at.ensures
     (open-may t (watch_of c.args.watches.now c.args.place) C c.in-Open.watch both) c.in_ok-watch-in-Open.ensures
@@ -55,7 +56,7 @@ returns-in_ok-watch-in-Open-clause-moves c =
 pub returns-in_ok-watch-in-Open-clause-visited : goal.returns-in_ok-watch-in-Open-clause-visited
 returns-in_ok-watch-in-Open-clause-visited c =
     let t = c.args.self.now in
-    let C = c.clause_at.result.now in
+    let C = map lit_of c.clause_at.result.now in
     let both : AreTwoOpen t.cells.items C c.in-Open.watch = c.in-Open.ensures in
     rewatched-visited _ c.args.clauses.now t c.args.watches.now c.watch.new.self c.args.place C c.in-Open.watch c.requires.trail c.requires.watched c.clause_at.ensures
     (open-may t (watch_of c.args.watches.now c.args.place) C c.in-Open.watch both) c.in_ok-watch-in-Open.ensures
@@ -63,7 +64,7 @@ returns-in_ok-watch-in-Open-clause-visited c =
 pub returns-in_ok-watch-in-Open-clause-others : goal.returns-in_ok-watch-in-Open-clause-others
 returns-in_ok-watch-in-Open-clause-others c =
     let t = c.args.self.now in
-    let C = c.clause_at.result.now in
+    let C = map lit_of c.clause_at.result.now in
     let both : AreTwoOpen t.cells.items C c.in-Open.watch = c.in-Open.ensures in
     rewatched-others _ c.args.clauses.now t c.args.watches.now c.watch.new.self c.args.place C c.in-Open.watch c.requires.trail c.requires.watched c.clause_at.ensures
     (open-may t (watch_of c.args.watches.now c.args.place) C c.in-Open.watch both) c.in_ok-watch-in-Open.ensures
@@ -71,7 +72,7 @@ returns-in_ok-watch-in-Open-clause-others c =
 pub imply-requires : goal.imply-requires
 imply-requires c =
     let t = c.args.self.now in
-    let C = c.clause_at.result.now in
+    let C = map lit_of c.clause_at.result.now in
     let l = c.in-Unit.lit in
     let u : IsUnitAt t.cells.items (length t.lits.items) C l = c.in-Unit.ensures in
     (c.requires.in_cells C (c.args.place, c.clause_at.ensures.0, c.clause_at.ensures.1) l u.0).1
@@ -81,7 +82,7 @@ returns-in_ok-imply-in-Unit-clause-moves c =
     let t = c.args.self.now in
     let n = length t.cells.items in
     let cs = c.args.clauses.now in
-    let C = c.clause_at.result.now in
+    let C = map lit_of c.clause_at.result.now in
     let l = c.in-Unit.lit in
     let u : IsUnitAt t.cells.items (length t.lits.items) C l = c.in-Unit.ensures in
     let within : InCells n l = c.requires.in_cells C (c.args.place, c.clause_at.ensures.0, c.clause_at.ensures.1) l u.0 in
@@ -96,7 +97,7 @@ returns-in_ok-imply-in-Unit-clause-visited c =
     let n = length t.cells.items in
     let new = c.imply.new.self in
     let cs = c.args.clauses.now in
-    let C = c.clause_at.result.now in
+    let C = map lit_of c.clause_at.result.now in
     let l = c.in-Unit.lit in
     let u : IsUnitAt t.cells.items (length t.lits.items) C l = c.in-Unit.ensures in
     let within : InCells n l = c.requires.in_cells C (c.args.place, c.clause_at.ensures.0, c.clause_at.ensures.1) l u.0 in

@@ -1,5 +1,6 @@
-use Rattle.std.proofs.Common.{◌≡◌, ◌<◌, ◌+◌, ℕ, List, ◌∷◌, [], ◌++◌, length, subst, sym, ap, ◌∙◌, Vec, Global, arith}
+use Rattle.std.proofs.Common.{◌≡◌, ◌<◌, ◌+◌, ℕ, List, ◌∷◌, [], ◌++◌, length, map, subst, sym, ap, ◌∙◌, Vec, Global, arith}
 use Rattle.sc_clauses.specs.declared.lit.Lit.{Lit}
+use Rattle.sc_refutations.specs.Arenas.{lit_of}
 use Rattle.sc_trails.proofs.AnalysisLaws.{reason-may-be-met, refutes-resolve, refutes-skip, read-met, trail-in-cells}
 use Rattle.sc_trails.proofs.WatchingLaws.{same-clause}
 use Rattle.sc_trails.proofs.trail.Trail.resolve.Goals as goal
@@ -27,7 +28,7 @@ number_of-requires c = (c.reason-reason.ensures c.index-lit.result.now).at.0
 
 pub meet_all-requires-clause-in_cells : goal.meet_all-requires-clause-in_cells
 meet_all-requires-clause-in_cells c =
-    c.requires.in_cells c.clause_at.result.now (c.reason-reason.result, c.clause_at.ensures.0, c.clause_at.ensures.1)
+    c.requires.in_cells (map lit_of c.clause_at.result.now) (c.reason-reason.result, c.clause_at.ensures.0, c.clause_at.ensures.1)
 
 pub meet_all-requires-clause-may_be_met : goal.meet_all-requires-clause-may_be_met
 meet_all-requires-clause-may_be_met c =
@@ -40,7 +41,7 @@ meet_all-requires-clause-may_be_met c =
     let k : length met ≡ length cells = c.requires.collected.sized in
     let is_met : IsMet met l = read-met met l _ (omega arith) (c.is_set.ensures _) ∙ c.if-not-is_set.false in
     let why : IsReason c.args.clauses.now cells l c.args.i c.reason-reason.result = subst (λ (w : Lit). IsReason c.args.clauses.now cells w c.args.i c.reason-reason.result) at.1 (c.reason-reason.ensures l) in
-    let clause : why.clause ≡ c.clause_at.result.now = same-clause c.args.clauses.now c.reason-reason.result _ _ why.at c.clause_at.ensures in
+    let clause : why.clause ≡ map lit_of c.clause_at.result.now = same-clause c.args.clauses.now c.reason-reason.result _ _ why.at c.clause_at.ensures in
     subst (λ (d : List Lit). MayBeMet cells (length trail) met d) clause
     (reason-may-be-met _ c.args.clauses.now cells trail _ c.requires.trail c.args.i l at c.reason-reason.result met is_met why)
 
@@ -52,7 +53,7 @@ returns-clause-refutes c =
     let met = c.args.analysis.now.met in
     let at : At trail c.args.i l = (c.requires.within, sym c.index-lit.ensures) in
     let why : IsReason c.args.clauses.now cells l c.args.i c.reason-reason.result = subst (λ (w : Lit). IsReason c.args.clauses.now cells w c.args.i c.reason-reason.result) at.1 (c.reason-reason.ensures l) in
-    let clause : why.clause ≡ c.clause_at.result.now = same-clause c.args.clauses.now c.reason-reason.result _ _ why.at c.clause_at.ensures in
+    let clause : why.clause ≡ map lit_of c.clause_at.result.now = same-clause c.args.clauses.now c.reason-reason.result _ _ why.at c.clause_at.ensures in
     let done = c.in_ok-meet_all.ensures in
     let after = c.meet_all.new.analysis.met in
     let all : AreMet after why.clause = subst (λ (d : List Lit). AreMet after d) (sym clause) done.met in
