@@ -85,9 +85,9 @@ def pigeons(size):
     return clauses([name(it, hole) for it in range(size + 1) for hole in range(size)], rows, True)
 
 
-def random_clauses(size):
+def random_clauses(size, seed=1000):
     """Random clauses of three literals at the threshold."""
-    draw = random.Random(1000 + size)
+    draw = random.Random(seed + size)
     names = [f"a{it}" for it in range(size)]
     rows = [[(draw.random() < 0.5, it) for it in draw.sample(names, 3)] for _ in range(int(4.26 * size))]
     return clauses(names, rows, None)
@@ -293,11 +293,25 @@ def measure_growth(family, sizes, starts):
         before = counts
 
 
+def mean_seconds(size, draws=12):
+    """The mean seconds beyond the start of both, over some questions of random clauses."""
+    starts = [timed([PROGRAM, "--help"])[0], timed([SOLVER, "--lang=smt2", write("q.smt2", "(check-sat)\n")])[0]]
+    total = [0, 0]
+    for draw in range(draws):
+        question = random_clauses(size, 5000 + 1000 * draw)
+        runs = [[PROGRAM, "analyse", *files(question), "--budget", "100000"], [SOLVER, "--lang=smt2", write("q.smt2", question.smt)]]
+        total = [sum_ + timed(run)[0] - start for sum_, run, start in zip(total, runs, starts)]
+    print(f"| {size} | {total[0] / draws:.4f} | {total[1] / draws:.4f} |", flush=True)
+
+
 def growth():
     starts = [instructions([PROGRAM, "--help"]), instructions([SOLVER, "--lang=smt2", write("q.smt2", "(check-sat)\n")])]
     print("| Family | Size | Millions of instructions | Those of cvc5 | Times the size before | Those of cvc5 |\n|---|---|---|---|---|---|", flush=True)
     for family, sizes in GROWTH:
         measure_growth(family, sizes, starts)
+    print("\n| Attributes of random clauses | Seconds, the mean of twelve | Those of cvc5 |\n|---|---|---|", flush=True)
+    for size in (60, 80, 100, 120, 140):
+        mean_seconds(size)
 
 
 def main():
