@@ -139,9 +139,9 @@ def sets(size):
 
 
 def strings(size):
-    """A name that is one of many, none of which is another name."""
-    old = permits([" || ".join(f'context.name == "n{it}"' for it in range(size))])
-    new = permits(['context.name != context.other && context.other == "x"', f'context.other != "x"'])
+    """A name that is one of many, a hundred in a policy at most, none of which is another name."""
+    old = permits(" || ".join(f'context.name == "n{it}"' for it in range(first, min(first + 100, size))) for first in range(0, size, 100))
+    new = permits(['context.name != context.other && context.other == "x"', 'context.other != "x"'])
     left = smt_or(f'(= name "n{it}")' for it in range(size))
     return Question(schema({"name": TEXT, "other": TEXT}), old, "implies", True, script(constants(["name", "other"], "String"), f'(assert (and {left} (not (or (and (not (= name other)) (= other "x")) (not (= other "x"))))))\n'), new)
 
@@ -176,10 +176,10 @@ def products(size):
 
 
 FAMILIES = [(refactoring, (60, 120, 240, 480)), (pigeons, (5, 6, 7, 8)), (random_clauses, (60, 80, 100, 120, 140)), (environments, (1, 10, 100, 1000)), (entities, (40, 80, 160, 320)),
-            (groups, (10, 20, 40, 80)), (sets, (10, 20, 40, 80)), (strings, (40, 80, 160, 320)), (patterns, (4, 8, 16, 32)), (conditions, (20, 40, 80, 160)), (products, (1, 2, 5, 10))]
+            (groups, (10, 20, 40, 80)), (sets, (10, 20, 40, 80)), (strings, (80, 320, 1280, 5120)), (patterns, (4, 8, 16, 32)), (conditions, (20, 40, 80, 160)), (products, (1, 2, 5, 10))]
 
 
-GROWTH = [(refactoring, (60, 120, 240, 480, 960, 1920)), (entities, (40, 80, 160, 320)), (groups, (10, 20, 40, 80)), (sets, (10, 20, 40, 80)), (strings, (40, 80, 160, 320)),
+GROWTH = [(refactoring, (60, 120, 240, 480, 960, 1920)), (entities, (40, 80, 160, 320)), (groups, (10, 20, 40, 80)), (sets, (10, 20, 40, 80)), (strings, (80, 160, 320, 640, 1280, 2560)),
           (patterns, (4, 8, 16, 32)), (conditions, (20, 40, 80, 160)), (products, (1, 2, 5)), (pigeons, (5, 6, 7, 8, 9))]
 
 
