@@ -1,5 +1,6 @@
 pub use Rattle.sc_closure.proofs.SortLaws
 mod OrderingLaws
+mod ChainLaws
 pub mod NumberingLaws
 pub mod IndexLaws
 mod CompanionLaws
