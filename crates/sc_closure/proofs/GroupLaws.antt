@@ -5,12 +5,13 @@ use Rattle.std.proofs.lemmas.List.{map-append}
 use Rattle.std.specs.Prelude.{slice_set}
 use Rattle.std.specs.List.{AllByRecursion}
 use Rattle.sc_lists.proofs.ListLaws.{all_append}
-use Rattle.sc_lists.proofs.MemberLaws.{Has-left, Has-right, Has-append, Has-last, Has-push, Has-map, map-Has}
+use Rattle.sc_lists.proofs.MemberLaws.{Has-left, Has-right, Has-append, Has-last, Has-push, Has-map, map-Has, AllByRecursion-Has}
 use Rattle.sc_lists.specs.Members.{Has}
 use Rattle.sc_sorts.specs.declared.sort.Sort.{Sort}
 use Rattle.sc_nodes.specs.declared.node.Node.{Node}
 use Rattle.sc_terms.specs.Trees.{Tree}
 use Rattle.sc_terms.specs.TreeSorts.{tree_sort}
+use Rattle.sc_terms.specs.Folds.{literal_of}
 use Rattle.sc_terms.specs.Tables.{tree, Keeps}
 use Rattle.sc_closure_rules.proofs.TestLaws.{same_sorts}
 use Rattle.sc_closure_rules.specs.Making.{Puts, stood}
@@ -20,7 +21,7 @@ use Rattle.sc_closure_rules.specs.Closure.{one_sort}
 use Rattle.sc_closure_rules.proofs.LoopLaws.{all_next, all_end}
 use Rattle.sc_closure.specs.declared.roles.Group.{Group}
 use Rattle.sc_closure.specs.declared.roles.Meeting.{Meeting}
-use Rattle.sc_closure.specs.Following.{grouped, no_group, group_with, with_member, IsGroup, AreGroups, IsGroupWithin, Joins, met_term, is_met, met_terms, pattern_in, if_any, met_in, met_among}
+use Rattle.sc_closure.specs.Following.{grouped, no_group, group_with, with_member, with_other, value_in, IsDivided, IsGroup, AreGroups, IsGroupWithin, Joins, met_term, is_met, met_terms, pattern_in, if_any, met_in, met_among}
 
 -- ---- a term joins a group at a place
 
@@ -28,9 +29,28 @@ use Rattle.sc_closure.specs.Following.{grouped, no_group, group_with, with_membe
 all_push : (P : ℕ → Type 0) (ns : List ℕ) (n : ℕ) → AllByRecursion P ns → P n → AllByRecursion P (ns ++ n ∷ [])
 all_push P ns n h k = all_append P ns (n ∷ []) h (k, tt)
 
-module _ (term : ℕ) where
+other_old : (value : Bool) (ns : List ℕ) (n m : ℕ) → Has ns m → Has (with_other value ns n) m
+other_old true ns n m h = h
+other_old false ns n m h = Has-left ns (n ∷ []) m h
+
+other_there : (value : Bool) (ns : List ℕ) (n : ℕ) → Has (with_other value ns n) n ⊎ (value ≡ true)
+other_there true ns n = inr refl
+other_there false ns n = inl (Has-last ns n)
+
+other_only : (value : Bool) (ns : List ℕ) (n m : ℕ) → Has (with_other value ns n) m → Has (ns ++ n ∷ []) m
+other_only true ns n m h = Has-left ns (n ∷ []) m h
+other_only false ns n m h = h
+
+divided_push : (xs : List Node) (value : Bool) (g : Group) (n : ℕ) → value ≡ value_in (literal_of (tree xs n)) → IsDivided xs g → IsDivided xs (with_member value g n)
+divided_push xs value g n e h = record {
+  others_in = λ m k. ⊎_elim (λ i. Has-left g.members (n ∷ []) m (h.others_in m i)) (λ i. subst (Has (g.members ++ n ∷ [])) i (Has-last g.members n)) (Has-push g.others n m (other_only value g.others n m k));
+  divided = λ m k. ⊎_elim (λ i. ⊎_elim (λ j. inl (other_old value g.others n m j)) inr (h.divided m i))
+      (λ i. ⊎_elim (λ j. inl (subst (Has (with_other value g.others n)) i j)) (λ j. inr (subst (λ (l : ℕ). value_in (literal_of (tree xs l)) ≡ true) i (sym e ∙ j))) (other_there value g.others n)) (Has-push g.members n m k);
+}
+
+module _ (value : Bool) (term : ℕ) where
   abbrev set_at : List Group → ℕ → List Group
-  set_at gs p = slice_set gs p (with_member (get_or gs p no_group) term)
+  set_at gs p = slice_set gs p (with_member value (get_or gs p no_group) term)
 
   set_there : (gs : List Group) (p : ℕ) → p < length gs → Has (grouped (set_at gs p)) term
   set_there [] p h = absurd (omega arith)
@@ -54,12 +74,13 @@ module _ (term : ℕ) where
       ⊎_elim (λ i. inl (Has-left g.members (grouped gs) n i)) (λ i. ⊎_elim (λ j. inl (Has-right g.members (grouped gs) n j)) inr (set_only gs p n (omega arith) i))
       (Has-append g.members (grouped (set_at gs p)) n k)
 
-  module _ (xs : List Node) (key : ℕ) (key_of : Tree → Tree) (owned : key_of (tree xs term) ≡ tree xs key) (term_in : term < length xs) where
-    set_group : (g : Group) → tree_sort (tree xs g.key) ≡ tree_sort (tree xs key) → IsGroup xs key_of g → IsGroup xs key_of (with_member g term)
+  module _ (xs : List Node) (key : ℕ) (key_of : Tree → Tree) (owned : key_of (tree xs term) ≡ tree xs key) (term_in : term < length xs) (told : value ≡ value_in (literal_of (tree xs term))) where
+    set_group : (g : Group) → tree_sort (tree xs g.key) ≡ tree_sort (tree xs key) → IsGroup xs key_of g → IsGroup xs key_of (with_member value g term)
     set_group g e h = record {
       key_in = h.key_in;
       members_in = within_push (length xs) term g.members h.members_in term_in;
       alike = all_push (λ n. tree_sort (key_of (tree xs n)) ≡ tree_sort (tree xs g.key)) g.members term h.alike (ap tree_sort owned ∙ sym e);
+      divided = divided_push xs value g term told h.divided;
     }
 
     set_are : (gs : List Group) (p : ℕ) → p < length gs → tree_sort (tree xs (get_or gs p no_group).key) ≡ tree_sort (tree xs key) → AreGroups xs key_of gs → AreGroups xs key_of (set_at gs p)
@@ -67,33 +88,33 @@ module _ (term : ℕ) where
     set_are (g ∷ gs) zero h e k = (set_group g e k.0, k.1)
     set_are (g ∷ gs) (suc p) h e k = (k.0, set_are gs p (omega arith) e k.1)
 
-    new_are : (gs : List Group) → key < length xs → AreGroups xs key_of gs → AreGroups xs key_of (gs ++ group_with key term ∷ [])
-    new_are gs h k = all_append (IsGroup xs key_of) gs (group_with key term ∷ []) k (record { key_in = h; members_in = (term_in, tt); alike = (ap tree_sort owned, tt) }, tt)
+    new_are : (gs : List Group) → key < length xs → AreGroups xs key_of gs → AreGroups xs key_of (gs ++ group_with value key term ∷ [])
+    new_are gs h k = all_append (IsGroup xs key_of) gs (group_with value key term ∷ []) k (record { key_in = h; members_in = (term_in, tt); alike = (ap tree_sort owned, tt); divided = divided_push xs value (record { key = key; members = []; others = [] }) term told (record { others_in = λ n i. absurd i; divided = λ n i. absurd i }) }, tt)
 
-  new_grouped : (key : ℕ) (gs : List Group) → grouped (gs ++ group_with key term ∷ []) ≡ grouped gs ++ term ∷ []
-  new_grouped key gs = flat_map-append (λ (g : Group). g.members) gs (group_with key term ∷ [])
+  new_grouped : (key : ℕ) (gs : List Group) → grouped (gs ++ group_with value key term ∷ []) ≡ grouped gs ++ term ∷ []
+  new_grouped key gs = flat_map-append (λ (g : Group). g.members) gs (group_with value key term ∷ [])
 
-module _ (xs : List Node) (gs hs : List Group) (key term : ℕ) (term_in : term < length xs) where
-  pub joins_at : (p : ℕ) → p < length gs → one_sort (tree xs (get_or gs p no_group).key) (tree xs key) ≡ true → hs ≡ slice_set gs p (with_member (get_or gs p no_group) term) → Joins xs gs hs key term
+module _ (xs : List Node) (gs hs : List Group) (key term : ℕ) (term_in : term < length xs) (value : Bool) (told : value ≡ value_in (literal_of (tree xs term))) where
+  pub joins_at : (p : ℕ) → p < length gs → one_sort (tree xs (get_or gs p no_group).key) (tree xs key) ≡ true → hs ≡ slice_set gs p (with_member value (get_or gs p no_group) term) → Joins xs gs hs key term
   joins_at p h e is =
       let same = same_sorts (tree_sort (tree xs (get_or gs p no_group).key)) (tree_sort (tree xs key)) e in
       subst (λ (l : List Group). Joins xs gs l key term) (sym is)
       (record {
-        there = set_there term gs p h;
-        old_there = λ n k. set_old term gs p n h k;
-        only = λ n k. set_only term gs p n h k;
-        are = λ key_of owned k. set_are term xs key key_of owned term_in gs p h same k;
+        there = set_there value term gs p h;
+        old_there = λ n k. set_old value term gs p n h k;
+        only = λ n k. set_only value term gs p n h k;
+        are = λ key_of owned k. set_are value term xs key key_of owned term_in told gs p h same k;
       })
 
-  pub joins_new : key < length xs → hs ≡ gs ++ group_with key term ∷ [] → Joins xs gs hs key term
+  pub joins_new : key < length xs → hs ≡ gs ++ group_with value key term ∷ [] → Joins xs gs hs key term
   joins_new key_in is =
-      let all = new_grouped term key gs in
+      let all = new_grouped value term key gs in
       subst (λ (l : List Group). Joins xs gs l key term) (sym is)
       (record {
         there = subst (λ (l : List ℕ). Has l term) (sym all) (Has-last (grouped gs) term);
         old_there = λ n k. subst (λ (l : List ℕ). Has l n) (sym all) (Has-left (grouped gs) (term ∷ []) n k);
         only = λ n k. Has-push (grouped gs) term n (subst (λ (l : List ℕ). Has l n) all k);
-        are = λ key_of owned k. new_are term xs key key_of owned term_in gs key_in k;
+        are = λ key_of owned k. new_are value term xs key key_of owned term_in told gs key_in k;
       })
 
 -- ---- groups stay while the table grows
@@ -101,6 +122,10 @@ module _ (xs : List Node) (gs hs : List Group) (key term : ℕ) (term_in : term 
 pub groups_within : (xs : List Node) (key_of : Tree → Tree) (gs : List Group) → AreGroups xs key_of gs → AllByRecursion (IsGroupWithin (length xs)) gs
 groups_within xs key_of [] h = tt
 groups_within xs key_of (g ∷ gs) h = ((h.0.key_in, h.0.members_in), groups_within xs key_of gs h.1)
+
+pub groups_divided : (xs : List Node) (key_of : Tree → Tree) (gs : List Group) → AreGroups xs key_of gs → AllByRecursion (IsDivided xs) gs
+groups_divided xs key_of [] h = tt
+groups_divided xs key_of (g ∷ gs) h = (h.0.divided, groups_divided xs key_of gs h.1)
 
 pub members_within : (l : ℕ) (gs : List Group) → AllByRecursion (IsGroupWithin l) gs → AllByRecursion (λ n. n < l) (grouped gs)
 members_within l [] h = tt
@@ -110,6 +135,11 @@ pub group_at : (l : ℕ) (gs : List Group) → AllByRecursion (IsGroupWithin l) 
 group_at l [] h i g k e = absurd (omega arith)
 group_at l (f ∷ fs) h zero g k e = subst (IsGroupWithin l) (sym e) h.0
 group_at l (f ∷ fs) h (suc i) g k e = group_at l fs h.1 i g (omega arith) e
+
+pub divided_at : (xs : List Node) (gs : List Group) → AllByRecursion (IsDivided xs) gs → (i : ℕ) (g : Group) → i < length gs → g ≡ get_or gs i g → IsDivided xs g
+divided_at xs [] h i g k e = absurd (omega arith)
+divided_at xs (f ∷ fs) h zero g k e = subst (IsDivided xs) (sym e) h.0
+divided_at xs (f ∷ fs) h (suc i) g k e = divided_at xs fs h.1 i g (omega arith) e
 
 pub group_later : (l m : ℕ) (g : Group) → l ≤ m → IsGroupWithin l g → IsGroupWithin m g
 group_later l m g e h = (omega (arith, e, h.0), within_later l m e g.members h.1)
@@ -124,6 +154,12 @@ module _ (xs ys : List Node) (e : Keeps xs ys) where
   alike_later key_of k [] h a = tt
   alike_later key_of k (n ∷ ns) h a = (ap (λ (t : Tree). tree_sort (key_of t)) (e.same n h.0) ∙ a.0, alike_later key_of k ns h.1 a.1)
 
+  pub divided_later : (g : Group) → AllByRecursion (λ n. n < length xs) g.members → IsDivided xs g → IsDivided ys g
+  divided_later g w h = record {
+    others_in = h.others_in;
+    divided = λ n k. ⊎_elim inl (λ i. inr (ap (λ (t : Tree). value_in (literal_of t)) (e.same n (AllByRecursion-Has (λ n. n < length xs) g.members n w k)) ∙ i)) (h.divided n k);
+  }
+
   pub groups_later : (key_of : Tree → Tree) (gs : List Group) → AreGroups xs key_of gs → AreGroups ys key_of gs
   groups_later key_of [] h = tt
   groups_later key_of (g ∷ gs) h =
@@ -133,12 +169,13 @@ module _ (xs ys : List Node) (e : Keeps xs ys) where
           members_in = within_later (length xs) (length ys) e.longer g.members h.0.members_in;
           alike = alike_later key_of (tree_sort (tree ys g.key)) g.members h.0.members_in
               (subst (λ (t : Tree). AllByRecursion (λ n. tree_sort (key_of (tree xs n)) ≡ tree_sort t) g.members) (sym key_stays) h.0.alike);
+          divided = divided_later g h.0.members_in h.0.divided;
         },
         groups_later key_of gs h.1,
       )
 
   -- what goes with a term and a group's stays
-  in_stays : (m : Meeting) (g : Group) (k : Sort) (x : Tree) → IsGroupWithin (length xs) g → met_in m (tree ys g.key) (stood ys g.members) k x ≡ met_in m (tree xs g.key) (stood xs g.members) k x
+  pub in_stays : (m : Meeting) (g : Group) (k : Sort) (x : Tree) → IsGroupWithin (length xs) g → met_in m (tree ys g.key) (stood ys g.members) k x ≡ met_in m (tree xs g.key) (stood xs g.members) k x
   in_stays m g k x h =
       ap (λ (t : Tree). met_in m t (stood ys g.members) k x) (e.same g.key h.0) ∙ ap (λ (ts : List Tree). met_in m (tree xs g.key) ts k x) (stood_later xs ys e g.members h.1)
 

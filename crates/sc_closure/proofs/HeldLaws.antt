@@ -1,7 +1,7 @@
 -- Roles that are held by numbers of a table, as they are and as more are taken in.
-use Rattle.std.proofs.Common.{◌≡◌, ◌⊎◌, inl, inr, ⊎_elim, ℕ, Bool, true, false, List, map, length, refl, sym, ap, ◌∙◌, subst}
+use Rattle.std.proofs.Common.{◌≡◌, ◌⊎◌, inl, inr, ⊎_elim, ℕ, Bool, true, false, List, ◌++◌, map, length, refl, sym, ap, ◌∙◌, subst}
 use Rattle.std.specs.Cmp.{IsTotalOrder}
-use Rattle.sc_lists.proofs.MemberLaws.{Has-map, map-Has}
+use Rattle.sc_lists.proofs.MemberLaws.{Has-left, Has-right, Has-append, Has-map, map-Has}
 use Rattle.sc_lists.specs.Members.{Has}
 use Rattle.sc_pattern.specs.declared.part.Part.{Part}
 use Rattle.sc_sorts.specs.declared.sort.Sort.{Sort, Sort-F}
@@ -24,7 +24,7 @@ use Rattle.sc_closure_rules.proofs.MetLaws.{equated_is}
 use Rattle.sc_closure.specs.declared.roles.Group.{Group}
 use Rattle.sc_closure.specs.declared.roles.Roles.{Roles}
 use Rattle.sc_closure.specs.declared.roles.Meeting.TheVariants as meeting
-use Rattle.sc_closure.specs.Following.{owner, pattern_in, grouped, Held, AreGroups, AreRoles, Joins, is_text, met_among, TakesIn, Takes}
+use Rattle.sc_closure.specs.Following.{owner, pattern_in, grouped, Held, AreGroups, AreRoles, Joins, is_text, met_among, Equates, TakesIn, Takes}
 use Rattle.sc_terms.proofs.EqualLaws.{equal_turned}
 use Rattle.sc_closure.proofs.GroupLaws.{groups_within, members_within, groups_later, among_has, has_among}
 
@@ -89,6 +89,16 @@ taken_put xs ys r s ps ls ms zs are t p = record {
   };
 }
 
+-- lists of the same terms tell the same
+pub takes_same : (held new : Role → Type 0) (ps : List Role) (ys zs : List Tree) → ((z : Tree) → Has zs z → Has ys z) → ((z : Tree) → Has ys z → Has zs z) → TakesIn held new ps ys → TakesIn held new ps zs
+takes_same held new ps ys zs back forth t = record {
+  old = t.old;
+  taken = t.taken;
+  only = t.only;
+  sound = λ z h. t.sound z (back z h);
+  whole = λ p q z h k m. ⊎_elim inl (λ i. inr (forth z i)) (t.whole p q z h k m);
+}
+
 -- ---- a term joins the others of its role
 
 module _ (xs : List Node) (old new : List Group) (key term : ℕ) (j : Joins xs old new key term) where
@@ -146,3 +156,17 @@ module _ (total : IsTotalOrder tree_cmp) (xs : List Node) (key_of : Tree → Tre
   equation_of z h =
       let q = among_has xs key_of meeting.Equation (tree_sort (key_of x)) x gs z are h in
       (q.other, q.among, subst (Has (equated_by (one_sort (key_of q.other) (key_of x)) q.other x)) q.is (is_equated (one_sort (key_of q.other) (key_of x)) q.other x q.meets))
+
+  -- a term of these is equated with itself
+  own_equation : Has (stood xs (grouped gs)) x → Has equations (equal_term x x)
+  own_equation h = equation_back x (equal_term x x) h (is_equated (one_sort (key_of x) (key_of x)) x x ((sort_eq_decides (tree_sort (key_of x)) (tree_sort (key_of x))).1 refl))
+
+  module _ (ys : List Node) (ls ms : List ℕ) (p : Equates xs ys ls ms equations x) where
+    pub told_back : Has (stood xs (grouped gs)) x → (us : List Tree) (z : Tree) → Has (p.told ++ us) z → Has (equations ++ us) z
+    told_back own us z h = ⊎_elim (λ i. Has-left equations us z (⊎_elim (λ j. j) (λ e. subst (Has equations) e (own_equation own)) (p.only z i))) (λ i. Has-right equations us z i) (Has-append p.told us z h)
+
+    pub told_forth : (us : List Tree) (z : Tree) → Has (equations ++ us) z → Has (p.told ++ us) z
+    told_forth us z h = ⊎_elim (λ i. Has-left p.told us z (p.whole z i)) (λ i. Has-right p.told us z i) (Has-append equations us z h)
+
+    pub told_back_alone : Has (stood xs (grouped gs)) x → (z : Tree) → Has p.told z → Has equations z
+    told_back_alone own z h = ⊎_elim (λ j. j) (λ e. subst (Has equations) e (own_equation own)) (p.only z h)

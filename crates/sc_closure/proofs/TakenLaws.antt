@@ -20,9 +20,9 @@ use Rattle.sc_closure_rules.specs.Closure.{Role, named, candidate, attributes, t
 use Rattle.sc_closure_rules.proofs.MetLaws.{member_is}
 use Rattle.sc_closure.specs.declared.roles.Roles.{Roles}
 use Rattle.sc_closure.specs.declared.roles.Meeting.TheVariants as meeting
-use Rattle.sc_closure.specs.Following.{put_one, owner, pattern_in, grouped, Held, AreRoles, Joins, is_text, if_any, met_terms, met_among, met_patterns, TakesIn, Takes}
+use Rattle.sc_closure.specs.Following.{put_one, owner, pattern_in, grouped, Held, AreRoles, Joins, is_text, if_any, met_terms, met_among, met_patterns, Equates, TakesIn, Takes}
 use Rattle.sc_closure.proofs.GroupLaws.{groups_within, among_stays, among_has, has_among, met_patterns_has, has_met_patterns}
-use Rattle.sc_closure.proofs.HeldLaws.{taken_put, joined_old, joined_there, joined_only, is_member, match_is, is_match, equation_back, equation_forth, equation_of}
+use Rattle.sc_closure.proofs.HeldLaws.{taken_put, takes_same, told_back, told_forth, told_back_alone, joined_old, joined_there, joined_only, is_member, match_is, is_match, equation_back, equation_forth, equation_of}
 use Rattle.sc_closure.proofs.PuttingLaws.{one_only}
 use Rattle.sc_closure.proofs.TakingLaws.{takes_one}
 
@@ -119,12 +119,15 @@ module _ (total : IsTotalOrder tree_cmp) (xs : List Node) (r s : Roles) (are : A
   named_taken : TakesIn (Held xs r) (Held xs (but_named r s)) (named x ∷ []) (all ++ matches)
   named_taken = takes_one (Held xs r) (Held xs (but_named r s)) (named x) (all ++ matches) old_named (joined_there xs r.named.items s.named.items n n j) only_named sound_named forth_named back_named
 
-  pub named_takes : (ys zs : List Node) (ls ms ns : List ℕ) → n < length xs → Puts xs ys ls ms all → Puts ys zs ms ns (met_patterns ys r.patterns (tree ys n)) → Takes xs zs r (but_named r s) (named x ∷ []) ls ns
+  pub named_takes : (ys zs : List Node) (ls ms ns : List ℕ) → n < length xs → Equates xs ys ls ms all x → Puts ys zs ms ns (met_patterns ys r.patterns (tree ys n)) → Takes xs zs r (but_named r s) (named x ∷ []) ls ns
   named_takes ys zs ls ms ns within p q =
       let same : met_patterns ys r.patterns (tree ys n) ≡ matches =
-      ap (met_patterns ys r.patterns) (p.kept.same n within) ∙ ap (λ (ts : List Tree). if_any (is_text (out-Sort (tree_sort x))) (met_terms meeting.Patterns ts x)) (stood_later xs ys p.kept r.patterns are.of_patterns) in
-      taken_put xs zs r (but_named r s) (named x ∷ []) ls ns (all ++ matches) named_roles named_taken
-      (puts_then xs ys zs ls ms ns all matches p (puts_same ys zs ms ns (met_patterns ys r.patterns (tree ys n)) matches same q))
+      ap (met_patterns ys r.patterns) (p.puts.kept.same n within) ∙ ap (λ (ts : List Tree). if_any (is_text (out-Sort (tree_sort x))) (met_terms meeting.Patterns ts x)) (stood_later xs ys p.puts.kept r.patterns are.of_patterns) in
+      taken_put xs zs r (but_named r s) (named x ∷ []) ls ns (p.told ++ matches) named_roles
+      (takes_same (Held xs r) (Held xs (but_named r s)) (named x ∷ []) (all ++ matches) (p.told ++ matches)
+      (told_back total xs (λ t. t) s.named.items (j.are (λ t. t) refl are.of_named) x ys ls ms p (joined_there xs r.named.items s.named.items n n j) matches)
+      (told_forth total xs (λ t. t) s.named.items (j.are (λ t. t) refl are.of_named) x ys ls ms p matches) named_taken)
+      (puts_then xs ys zs ls ms ns p.told matches p.puts (puts_same ys zs ms ns (met_patterns ys r.patterns (tree ys n)) matches same q))
 
 -- ---- a candidate
 
@@ -199,14 +202,17 @@ module _ (total : IsTotalOrder tree_cmp) (xs : List Node) (r s : Roles) (are : A
   candidate_taken : TakesIn (Held xs r) (Held xs (but_candidates r s)) (candidate c ∷ []) (alike ++ memberships)
   candidate_taken = takes_one (Held xs r) (Held xs (but_candidates r s)) (candidate c) (alike ++ memberships) old_candidate (joined_there xs r.candidates.items s.candidates.items n n j) only_candidate sound_candidate forth_candidate back_candidate
 
-  pub candidate_takes : (ys zs : List Node) (ls ms ns : List ℕ) → s.seen.keys ≡ put_one r.seen.keys n → n < length xs → Puts xs ys ls ms alike → Puts ys zs ms ns (met_among meeting.Sets ys r.sets.items (tree_sort (tree ys n)) (tree ys n))
+  pub candidate_takes : (ys zs : List Node) (ls ms ns : List ℕ) → s.seen.keys ≡ put_one r.seen.keys n → n < length xs → Equates xs ys ls ms alike c → Puts ys zs ms ns (met_among meeting.Sets ys r.sets.items (tree_sort (tree ys n)) (tree ys n))
       → Takes xs zs r (but_candidates r s) (candidate c ∷ []) ls ns
   candidate_takes ys zs ls ms ns seen within p q =
       let same : met_among meeting.Sets ys r.sets.items (tree_sort (tree ys n)) (tree ys n) ≡ memberships =
-      ap (λ (t : Tree). met_among meeting.Sets ys r.sets.items (tree_sort t) t) (p.kept.same n within)
-      ∙ among_stays xs ys p.kept meeting.Sets r.sets.items (tree_sort c) c (groups_within xs (λ t. t) r.sets.items are.of_sets) in
-      taken_put xs zs r (but_candidates r s) (candidate c ∷ []) ls ns (alike ++ memberships) (candidate_roles seen) candidate_taken
-      (puts_then xs ys zs ls ms ns alike memberships p (puts_same ys zs ms ns (met_among meeting.Sets ys r.sets.items (tree_sort (tree ys n)) (tree ys n)) memberships same q))
+      ap (λ (t : Tree). met_among meeting.Sets ys r.sets.items (tree_sort t) t) (p.puts.kept.same n within)
+      ∙ among_stays xs ys p.puts.kept meeting.Sets r.sets.items (tree_sort c) c (groups_within xs (λ t. t) r.sets.items are.of_sets) in
+      taken_put xs zs r (but_candidates r s) (candidate c ∷ []) ls ns (p.told ++ memberships) (candidate_roles seen)
+      (takes_same (Held xs r) (Held xs (but_candidates r s)) (candidate c ∷ []) (alike ++ memberships) (p.told ++ memberships)
+      (told_back total xs (λ t. t) s.candidates.items (j.are (λ t. t) refl are.of_candidates) c ys ls ms p (joined_there xs r.candidates.items s.candidates.items n n j) memberships)
+      (told_forth total xs (λ t. t) s.candidates.items (j.are (λ t. t) refl are.of_candidates) c ys ls ms p memberships) candidate_taken)
+      (puts_then xs ys zs ls ms ns p.told memberships p.puts (puts_same ys zs ms ns (met_among meeting.Sets ys r.sets.items (tree_sort (tree ys n)) (tree ys n)) memberships same q))
 
 -- ---- a set
 
@@ -326,12 +332,16 @@ module _ (total : IsTotalOrder tree_cmp) (xs : List Node) (r s : Roles) (are : A
   attributes_taken : TakesIn (Held xs r) (Held xs (but_attributes r s)) (attributes (owner attributes_term) attributes_term ∷ []) attributes_equations
   attributes_taken = takes_one (Held xs r) (Held xs (but_attributes r s)) (attributes (owner attributes_term) attributes_term) attributes_equations old_attributes (joined_there xs r.attributes.items s.attributes.items entity n j, refl) only_attributes sound_attributes forth_attributes back_attributes
 
-  pub attributes_takes : (ys : List Node) (ls ms : List ℕ) → Puts xs ys ls ms (met_among meeting.Equation xs s.attributes.items (tree_sort (tree xs entity)) attributes_term)
+  pub attributes_takes : (ys : List Node) (ls ms : List ℕ) → Equates xs ys ls ms (met_among meeting.Equation xs s.attributes.items (tree_sort (tree xs entity)) attributes_term) attributes_term
       → Takes xs ys r (but_attributes r s) (attributes (tree xs entity) attributes_term ∷ []) ls ms
   attributes_takes ys ls ms p =
+      let q = subst (λ (o : Tree). Equates xs ys ls ms (met_among meeting.Equation xs s.attributes.items (tree_sort o) attributes_term) attributes_term) (sym owned) p in
       subst (λ (o : Tree). Takes xs ys r (but_attributes r s) (attributes o attributes_term ∷ []) ls ms) owned
-      (taken_put xs ys r (but_attributes r s) (attributes (owner attributes_term) attributes_term ∷ []) ls ms attributes_equations attributes_roles attributes_taken
-      (subst (λ (o : Tree). Puts xs ys ls ms (met_among meeting.Equation xs s.attributes.items (tree_sort o) attributes_term)) (sym owned) p))
+      (taken_put xs ys r (but_attributes r s) (attributes (owner attributes_term) attributes_term ∷ []) ls ms q.told attributes_roles
+      (takes_same (Held xs r) (Held xs (but_attributes r s)) (attributes (owner attributes_term) attributes_term ∷ []) attributes_equations q.told
+      (told_back_alone total xs owner s.attributes.items (j.are owner owned are.of_attributes) attributes_term ys ls ms q (joined_there xs r.attributes.items s.attributes.items entity n j))
+      q.whole attributes_taken)
+      q.puts)
 
 -- ---- a tag
 
@@ -394,12 +404,16 @@ module _ (total : IsTotalOrder tree_cmp) (xs : List Node) (r s : Roles) (are : A
   tag_taken : TakesIn (Held xs r) (Held xs (but_tags r s)) (tag (owner tag_term) tag_term ∷ []) tag_equations
   tag_taken = takes_one (Held xs r) (Held xs (but_tags r s)) (tag (owner tag_term) tag_term) tag_equations old_tag (joined_there xs r.tags.items s.tags.items entity n j, refl) only_tag sound_tag forth_tag back_tag
 
-  pub tag_takes : (ys : List Node) (ls ms : List ℕ) → Puts xs ys ls ms (met_among meeting.Equation xs s.tags.items (tree_sort (tree xs entity)) tag_term)
+  pub tag_takes : (ys : List Node) (ls ms : List ℕ) → Equates xs ys ls ms (met_among meeting.Equation xs s.tags.items (tree_sort (tree xs entity)) tag_term) tag_term
       → Takes xs ys r (but_tags r s) (tag (tree xs entity) tag_term ∷ []) ls ms
   tag_takes ys ls ms p =
+      let q = subst (λ (o : Tree). Equates xs ys ls ms (met_among meeting.Equation xs s.tags.items (tree_sort o) tag_term) tag_term) (sym owned) p in
       subst (λ (o : Tree). Takes xs ys r (but_tags r s) (tag o tag_term ∷ []) ls ms) owned
-      (taken_put xs ys r (but_tags r s) (tag (owner tag_term) tag_term ∷ []) ls ms tag_equations tag_roles tag_taken
-      (subst (λ (o : Tree). Puts xs ys ls ms (met_among meeting.Equation xs s.tags.items (tree_sort o) tag_term)) (sym owned) p))
+      (taken_put xs ys r (but_tags r s) (tag (owner tag_term) tag_term ∷ []) ls ms q.told tag_roles
+      (takes_same (Held xs r) (Held xs (but_tags r s)) (tag (owner tag_term) tag_term ∷ []) tag_equations q.told
+      (told_back_alone total xs owner s.tags.items (j.are owner owned are.of_tags) tag_term ys ls ms q (joined_there xs r.tags.items s.tags.items entity n j))
+      q.whole tag_taken)
+      q.puts)
 
 -- ---- a pattern
 

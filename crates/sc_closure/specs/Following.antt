@@ -21,8 +21,9 @@ use Rattle.sc_nodes.specs.Literals.{same_entity}
 use Rattle.sc_terms.specs.Trees.{Tree, one, two}
 use Rattle.sc_terms.specs.Tables.{tree, Keeps}
 use Rattle.sc_terms.specs.TreeSorts.{tree_sort}
-use Rattle.sc_terms.specs.Folds.{truth_term, equal_term, like_term}
-use Rattle.sc_closure_rules.specs.Making.{stood}
+use Rattle.sc_terms.specs.Order.{tree_eq}
+use Rattle.sc_terms.specs.Folds.{truth_term, literal_of, equal_term, like_term}
+use Rattle.sc_closure_rules.specs.Making.{Puts, stood}
 use Rattle.sc_closure.specs.declared.roles.Group.{Group}
 use Rattle.sc_closure.specs.declared.roles.Meeting.{Meeting}
 use Rattle.sc_closure.specs.declared.roles.Meeting.TheVariants as meeting
@@ -73,13 +74,18 @@ grouped gs = flat_map (λ (g : Group). g.members) gs
 
 -- what stands where there is no group
 abbrev pub no_group : Group
-no_group = record { key = 0; members = [] }
+no_group = record { key = 0; members = []; others = [] }
 
-abbrev pub group_with : ℕ → ℕ → Group
-group_with key n = record { key = key; members = n ∷ [] }
+-- a term that is no value is put behind these
+abbrev pub with_other : Bool → List ℕ → ℕ → List ℕ
+with_other true ns n = ns
+with_other false ns n = ns ++ n ∷ []
 
-abbrev pub with_member : Group → ℕ → Group
-with_member g n = record { key = g.key; members = g.members ++ n ∷ [] }
+abbrev pub with_member : Bool → Group → ℕ → Group
+with_member value g n = record { key = g.key; members = g.members ++ n ∷ []; others = with_other value g.others n }
+
+abbrev pub group_with : Bool → ℕ → ℕ → Group
+group_with value key n = with_member value (record { key = key; members = []; others = [] }) n
 
 -- a role is one of those that are held by numbers of a table
 abbrev pub Held : List Node → Roles → Role → Type 0
@@ -90,11 +96,27 @@ Held xs r (tag e x) = Has (stood xs (grouped r.tags.items)) x × (owner x ≡ e)
 Held xs r (set x) = Has (stood xs (grouped r.sets.items)) x
 Held xs r (pattern p) = Has (map pattern_in (stood xs r.patterns)) p
 
+-- whether a literal is a truth value
+abbrev pub truth_value : Literal → Bool
+truth_value (literal.Bool b) = true
+truth_value _ = false
+
+-- whether a term, given the literal that it is, is one and no truth value
+abbrev pub value_in : Option Literal → Bool
+value_in (Some l) = not (truth_value l)
+value_in None = false
+
+-- the members of a group that aren't among its others are values
+pub record IsDivided (xs : List Node) (g : Group) : Type 0 where
+  pub others_in : (n : ℕ) → Has g.others n → Has g.members n
+  pub divided : (n : ℕ) → Has g.members n → Has g.others n ⊎ (value_in (literal_of (tree xs n)) ≡ true)
+
 -- the keys of a group's members are of the sort of the group's key
 pub record IsGroup (xs : List Node) (key : Tree → Tree) (g : Group) : Type 0 where
   pub key_in : g.key < length xs
   pub members_in : AllByRecursion (λ n. n < length xs) g.members
   pub alike : AllByRecursion (λ n. tree_sort (key (tree xs n)) ≡ tree_sort (tree xs g.key)) g.members
+  pub divided : IsDivided xs g
 
 abbrev pub AreGroups : List Node → (Tree → Tree) → List Group → Type 0
 AreGroups xs key = AllByRecursion (IsGroup xs key)
@@ -179,11 +201,6 @@ met_term meeting.Candidates t x = two binary.Member t x
 met_term meeting.Texts t x = like_term t (pattern_in x)
 met_term meeting.Patterns t x = like_term x (pattern_in t)
 
--- whether a literal is a truth value
-abbrev pub truth_value : Literal → Bool
-truth_value (literal.Bool b) = true
-truth_value _ = false
-
 -- whether two literals that aren't one are of two values, and neither is a truth value
 abbrev pub two_values : Literal → Literal → Bool
 two_values l m = not (truth_value l) && (not (truth_value m) && not (same_entity l m))
@@ -193,6 +210,15 @@ abbrev pub apart : Bool → Option Literal → Option Literal → Bool
 apart true o p = false
 apart false (Some l) (Some m) = two_values l m
 apart false _ _ = false
+
+-- whether the term of a number and another are two values
+abbrev pub apart_from : List Node → Tree → ℕ → Bool
+apart_from xs x n = apart (tree_eq (tree xs n) x) (literal_of (tree xs n)) (literal_of x)
+
+-- the equations of a value and others, given whether one of them is another value
+abbrev pub told_of : Bool → Tree → List Tree
+told_of true x = equal_term x x ∷ truth_term false ∷ []
+told_of false x = equal_term x x ∷ []
 
 -- where something goes with terms of a sort and one whose key is of another
 abbrev pub is_met : Meeting → Sort → Sort → Bool
@@ -218,6 +244,13 @@ met_among m xs gs k x = flat_map (λ (g : Group). met_in m (tree xs g.key) (stoo
 -- of a text and those that ask patterns
 abbrev pub met_patterns : List Node → List ℕ → Tree → List Tree
 met_patterns xs ns x = if_any (is_text (out-Sort (tree_sort x))) (met_terms meeting.Patterns (stood xs ns) x)
+
+-- numbers are put that stand for these equations of a term, and perhaps for its equation with itself
+pub record Equates (old new : List Node) (before after : List ℕ) (ys : List Tree) (x : Tree) : Type 0 where
+  pub told : List Tree
+  pub puts : Puts old new before after told
+  pub only : (z : Tree) → Has told z → Has ys z ⊎ (equal_term x x ≡ z)
+  pub whole : (z : Tree) → Has ys z → Has told z
 
 -- Roles are taken in: those held before and these are held, and of two of which one is new what goes with both is told.
 pub record TakesIn (held new : Role → Type 0) (ps : List Role) (zs : List Tree) : Type 0 where

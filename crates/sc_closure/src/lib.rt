@@ -3,6 +3,7 @@
 #![tactic(auto)]
 
 mod closing;
+mod equations;
 mod kind;
 mod limit;
 mod listing;

@@ -1,24 +1,23 @@
 //! The roles of closed terms, in groups of one sort, and the terms that go with two of them. A role
 //! meets just the groups of its own sort, so that each pair of terms is looked at only where a term
 //! goes with it.
-ghost use Rattle.std.specs.Prelude.{◌≡◌, ◌<◌, ◌++◌, [], ◌∷◌, true, false, Some, List, length, map, get_or, slice_set, IfOk, IfSome, OnOk, IsTrue};
+ghost use Rattle.std.specs.Prelude.{◌≡◌, ◌<◌, ◌++◌, [], ◌∷◌, true, Some, List, length, map, get_or, slice_set, IfOk, IfSome, OnOk, IsTrue};
 ghost use Rattle.std.specs.List.{AllByRecursion};
 ghost use Rattle.std.specs.Option.{option_copied};
 ghost use Rattle.sc_lists.specs.Members.{Has};
 ghost use Rattle.sc_sorts.specs.declared.sort.Sort.{out-Sort};
 ghost use Rattle.sc_nodes.specs.declared.node.Node.{Node as AnyNode};
-ghost use Rattle.sc_terms.specs.Folds.{truth_term, literal_of, equal_term, like_term};
-ghost use Rattle.sc_terms.specs.Order.{tree_eq};
+ghost use Rattle.sc_terms.specs.Folds.{like_term};
 ghost use Rattle.sc_terms.specs.TreeSorts.{tree_sort};
 ghost use Rattle.sc_terms.specs.Tables.{tree, Keeps, StandsFor};
 ghost use Rattle.sc_closure_rules.specs.Making.{Puts, stood};
 ghost use Rattle.sc_closure_rules.specs.Closure.{Role, one_sort, is_over as over};
-ghost use Rattle.sc_closure.specs.declared.roles.Meeting.TheVariants.{Equation as equation};
-ghost use Rattle.sc_closure.specs.Following.{AreRoles, Held, IsGroupWithin, Joins, no_group, with_member, group_with, is_met as meets, met_term, met_terms, met_in, met_among, met_patterns, is_text as text, truth_value, two_values, apart, operator_in, asked, pattern_in};
+ghost use Rattle.sc_closure.specs.Following.{AreRoles, Held, IsGroupWithin, Joins, no_group, with_member, group_with, is_met as meets, met_term, met_terms, met_in, met_among, met_patterns, is_text as text, operator_in, asked, pattern_in};
 
+use crate::equations::is_value;
 use indexmap::IndexSet;
 use sc_lists::Seq;
-use sc_nodes::{Literal, Node, UnaryOp, same_entity};
+use sc_nodes::{Node, UnaryOp};
 use sc_pattern::{Pattern, pattern_of};
 use sc_sorts::Sort;
 use sc_terms::Terms;
@@ -32,6 +31,21 @@ pub(crate) struct Group {
     pub(crate) key: u64,
     /// The terms.
     pub(crate) members: Seq<u64>,
+    /// Those of them that aren't values that are written out.
+    pub(crate) others: Seq<u64>,
+}
+
+impl Group {
+    /// Puts a term behind the others.
+    fn put(&mut self, term: u64, is_value: bool) -> Result<(), AllocError>
+        ensures { OnOk result (self.new ≡ with_member is_value self.old term) }
+    {
+        self.members.push(term)?;
+        if !is_value {
+            self.others.push(term)?;
+        }
+        Ok(())
+    }
 }
 
 /// The roles of the closed terms that have been followed.
@@ -107,7 +121,7 @@ fn is_text(sort: &Sort) -> bool
 }
 
 /// Whether something goes with the terms of a group and one of this key.
-fn is_met(terms: &Terms, meeting: Meeting, group: u64, key: u64) -> bool
+pub(crate) fn is_met(terms: &Terms, meeting: Meeting, group: u64, key: u64) -> bool
     requires group_in { group < length terms.now }
     requires key_in { key < length terms.now }
     ensures { result ≡ meets meeting (tree_sort (tree terms.now group)) (tree_sort (tree terms.now key)) }
@@ -138,12 +152,17 @@ fn group_of(terms: &Terms, groups: &[Group], key: u64) -> Option<usize>
 }
 
 /// Puts a term into the group at a place.
-fn put_into(groups: &mut Vec<Group>, place: usize, term: u64) -> Result<(), AllocError>
+fn put_into(
+    groups: &mut Vec<Group>,
+    place: usize,
+    term: u64,
+    is_value: bool,
+) -> Result<(), AllocError>
     requires { place < length groups.old.items }
-    ensures { OnOk result (groups.new.items ≡ slice_set groups.old.items place (with_member (get_or groups.old.items
-        place no_group) term)) }
+    ensures { OnOk result (groups.new.items ≡ slice_set groups.old.items place (with_member is_value (get_or
+        groups.old.items place no_group) term)) }
 {
-    groups[place].members.push(term)?;
+    groups[place].put(term, is_value)?;
     Ok(())
 }
 
@@ -160,19 +179,30 @@ pub(crate) fn join(
     requires term_in { term < length terms.now }
     ensures { OnOk result (Joins terms.now groups.old.items groups.new.items key term) }
 {
+    let value = is_value(terms, term);
     match group_of(terms, groups, key) {
-        Some(place) => put_into(groups, place, term),
-        None => add_group(alloc, groups, key, term),
+        Some(place) => put_into(groups, place, term, value),
+        None => add_group(alloc, groups, key, term, value),
     }
 }
 
 /// Puts a group of one term behind the others.
-fn add_group(alloc: Global, groups: &mut Vec<Group>, key: u64, term: u64) -> Result<(), AllocError>
-    ensures { OnOk result (groups.new.items ≡ groups.old.items ++ group_with key term ∷ []) }
+fn add_group(
+    alloc: Global,
+    groups: &mut Vec<Group>,
+    key: u64,
+    term: u64,
+    is_value: bool,
+) -> Result<(), AllocError>
+    ensures { OnOk result (groups.new.items ≡ groups.old.items ++ group_with is_value key term ∷ []) }
 {
-    let mut members = Seq::new(alloc);
-    members.push(term)?;
-    groups.push(Group { key, members })?;
+    let mut group = Group {
+        key,
+        members: Seq::new(alloc),
+        others: Seq::new(alloc),
+    };
+    group.put(term, is_value)?;
+    groups.push(group)?;
     Ok(())
 }
 
@@ -255,94 +285,6 @@ fn put_each(
     Ok(())
 }
 
-/// Whether a literal is a truth value.
-fn is_truth(literal: &Literal) -> bool
-    ensures { result ≡ truth_value literal.now }
-{
-    matches!(literal, Literal::Bool(_))
-}
-
-/// Whether two literals that aren't one are of two values, and neither is a truth value.
-fn have_two_values(l: &Literal, m: &Literal) -> bool
-    ensures { result ≡ two_values l.now m.now }
-{
-    !is_truth(l) && !is_truth(m) && !same_entity(l, m)
-}
-
-/// Whether two terms are literals of two values, as two names are.
-fn are_apart(terms: &Terms, a: u64, b: u64) -> bool
-    requires a_in { a < length terms.now }
-    requires b_in { b < length terms.now }
-    ensures { result ≡ apart (tree_eq (tree terms.now a) (tree terms.now b)) (literal_of (tree terms.now a))
-        (literal_of (tree terms.now b)) }
-{
-    if terms.is_same(a, b) {
-        return false;
-    }
-    match (terms.literal_at(a), terms.literal_at(b)) {
-        (Some(l), Some(m)) => have_two_values(l, m),
-        _ => false,
-    }
-}
-
-/// The number of an equation, given that of `false`, which an equation of two values is.
-#[tactic(auto, using(crate::proofs::EquationLaws::stands_apart))]
-fn equated(terms: &mut Terms, a: u64, b: u64, never: u64) -> Result<u64, AllocError>
-    requires a_in { a < length terms.old }
-    requires b_in { b < length terms.old }
-    requires never { StandsFor terms.old never (truth_term false) }
-    ensures ok { IfOk result (λ n. StandsFor terms.new n (equal_term (tree terms.old a) (tree terms.old b))) }
-    ensures kept { Keeps terms.old terms.new }
-{
-    if are_apart(terms, a, b) {
-        Ok(never)
-    } else {
-        terms.equal(a, b)
-    }
-}
-
-/// Puts the equations of each of these and a term.
-fn put_equations(
-    terms: &mut Terms,
-    members: &[u64],
-    term: u64,
-    numbers: &mut Vec<u64>,
-) -> Result<(), AllocError>
-    requires members_in { AllByRecursion (λ n. n < length terms.old) members.now }
-    requires term_in { term < length terms.old }
-    ensures ok { OnOk result (Puts terms.old terms.new numbers.old.items numbers.new.items (met_terms equation
-        (stood terms.old members.now) (tree terms.old term))) }
-    ensures kept { Keeps terms.old terms.new }
-{
-    let never = terms.truth(false)?;
-    for member in members {
-        let m = equated(terms, *member, term, never)?;
-        numbers.push(m)?;
-    }
-    Ok(())
-}
-
-/// Puts what goes with a term and each of these.
-fn put_met(
-    alloc: Global,
-    terms: &mut Terms,
-    meeting: Meeting,
-    members: &[u64],
-    term: u64,
-    numbers: &mut Vec<u64>,
-) -> Result<(), AllocError>
-    requires members_in { AllByRecursion (λ n. n < length terms.old) members.now }
-    requires term_in { term < length terms.old }
-    ensures ok { OnOk result (Puts terms.old terms.new numbers.old.items numbers.new.items (met_terms meeting (stood
-        terms.old members.now) (tree terms.old term))) }
-    ensures kept { Keeps terms.old terms.new }
-{
-    match meeting {
-        Meeting::Equation => put_equations(terms, members, term, numbers),
-        _ => put_each(alloc, terms, meeting, members, term, numbers),
-    }
-}
-
 /// Puts what goes with a term and each of a group.
 fn put_group(
     alloc: Global,
@@ -362,7 +304,7 @@ fn put_group(
     ensures kept { Keeps terms.old terms.new }
 {
     if is_met(terms, meeting, group.key, key) {
-        put_met(
+        put_each(
             alloc,
             terms,
             meeting,
@@ -413,7 +355,7 @@ pub(crate) fn meet_patterns(
     ensures kept { Keeps terms.old terms.new }
 {
     if is_text(terms.sort(term)) {
-        put_met(alloc, terms, Meeting::Patterns, patterns, term, numbers)
+        put_each(alloc, terms, Meeting::Patterns, patterns, term, numbers)
     } else {
         Ok(())
     }

@@ -7,6 +7,7 @@ ghost use Rattle.sc_terms.specs.Tables.{tree, Keeps};
 ghost use Rattle.sc_closure_rules.specs.Closure.{roles as roles_of, roles_in, roles_by, named, candidate, attributes, tag, set, pattern};
 ghost use Rattle.sc_closure.specs.Following.{AreRoles, IsPartOf, Takes, owner, part_in, pattern_in, place_in as place_of_sort};
 
+use crate::equations::equate_groups;
 use crate::numbers::{place_in, put};
 use crate::roles::{Meeting, Roles, is_pattern_known, join, meet_groups, meet_patterns};
 use sc_closure_rules::order_laws;
@@ -33,7 +34,7 @@ fn take_named(
 {
     order_laws();
     join(alloc, terms, &mut roles.named, n, n)?;
-    meet_groups(alloc, terms, Meeting::Equation, &roles.named, n, n, numbers)?;
+    equate_groups(terms, &roles.named, n, n, numbers)?;
     meet_patterns(alloc, terms, roles.patterns.as_slice(), n, numbers)?;
     Ok(())
 }
@@ -56,15 +57,7 @@ fn take_new_candidate(
     order_laws();
     put(&mut roles.seen, n)?;
     join(alloc, terms, &mut roles.candidates, n, n)?;
-    meet_groups(
-        alloc,
-        terms,
-        Meeting::Equation,
-        &roles.candidates,
-        n,
-        n,
-        numbers,
-    )?;
+    equate_groups(terms, &roles.candidates, n, n, numbers)?;
     meet_groups(alloc, terms, Meeting::Sets, &roles.sets, n, n, numbers)?;
     Ok(())
 }
@@ -155,15 +148,7 @@ fn take_attributes(
 {
     order_laws();
     join(alloc, terms, &mut roles.attributes, entity, n)?;
-    meet_groups(
-        alloc,
-        terms,
-        Meeting::Equation,
-        &roles.attributes,
-        entity,
-        n,
-        numbers,
-    )?;
+    equate_groups(terms, &roles.attributes, entity, n, numbers)?;
     Ok(())
 }
 
@@ -186,15 +171,7 @@ fn take_tag(
 {
     order_laws();
     join(alloc, terms, &mut roles.tags, entity, n)?;
-    meet_groups(
-        alloc,
-        terms,
-        Meeting::Equation,
-        &roles.tags,
-        entity,
-        n,
-        numbers,
-    )?;
+    equate_groups(terms, &roles.tags, entity, n, numbers)?;
     Ok(())
 }
 

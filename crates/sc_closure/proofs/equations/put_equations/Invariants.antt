@@ -4,7 +4,7 @@ use Rattle.sc_terms.specs.Tables.{tree, StandsFor}
 use Rattle.sc_closure_rules.specs.Making.{Puts}
 use Rattle.sc_closure.specs.declared.roles.Meeting.TheVariants.{Equation}
 use Rattle.sc_closure.specs.Following.{met_term}
-use Rattle.sc_closure.proofs.roles.put_equations.Given as goal
+use Rattle.sc_closure.proofs.equations.put_equations.Given as goal
 
 abbrev pub invariant-loop-member : goal.invariant-loop-member
 invariant-loop-member l =

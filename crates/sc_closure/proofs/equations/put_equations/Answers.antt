@@ -8,7 +8,7 @@ use Rattle.sc_closure.specs.declared.roles.Meeting.TheVariants.{Equation}
 use Rattle.sc_closure.specs.Following.{met_term}
 use Rattle.sc_terms.proofs.TableLaws.{stands_later}
 use Rattle.sc_closure.proofs.GroupLaws.{met_stood}
-use Rattle.sc_closure.proofs.roles.put_equations.Goals as goal
+use Rattle.sc_closure.proofs.equations.put_equations.Goals as goal
 
 pub loop-member-init : goal.loop-member-init
 loop-member-init c = (puts_later _ _ _ _ _ _ c.in_ok-never.ensures.kept (puts_nothing _ _), c.in_ok-never.ensures.ok)

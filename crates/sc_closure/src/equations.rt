@@ -1,0 +1,218 @@
+//! Equations of a new term with those of its sort. Two values are equal or they aren't, so that of
+//! many values there are two equations alone.
+ghost use Rattle.std.specs.Prelude.{◌≡◌, ◌<◌, true, false, length, IfOk, OnOk};
+ghost use Rattle.std.specs.List.{AllByRecursion, list_any};
+ghost use Rattle.sc_terms.specs.Folds.{truth_term, literal_of, equal_term};
+ghost use Rattle.sc_terms.specs.Order.{tree_eq};
+ghost use Rattle.sc_terms.specs.TreeSorts.{tree_sort};
+ghost use Rattle.sc_terms.specs.Tables.{tree, Keeps, StandsFor};
+ghost use Rattle.sc_closure_rules.specs.Making.{Puts, stood};
+ghost use Rattle.sc_closure.specs.declared.roles.Meeting.TheVariants.{Equation as equation};
+ghost use Rattle.sc_closure.specs.Following.{IsGroupWithin, IsDivided, Equates, met_terms, met_in, met_among, truth_value, value_in, two_values, apart, apart_from, told_of};
+
+use crate::roles::{Group, Meeting, is_met};
+use sc_nodes::{Literal, same_entity};
+use sc_terms::Terms;
+use std::alloc::AllocError;
+
+/// Whether a literal is a truth value.
+fn is_truth(literal: &Literal) -> bool
+    ensures { result ≡ truth_value literal.now }
+{
+    matches!(literal, Literal::Bool(_))
+}
+
+/// Whether a term is a value that is written out and no truth value.
+pub(crate) fn is_value(terms: &Terms, n: u64) -> bool
+    requires { n < length terms.now }
+    ensures { result ≡ value_in (literal_of (tree terms.now n)) }
+{
+    match terms.literal_at(n) {
+        Some(literal) => !is_truth(literal),
+        None => false,
+    }
+}
+
+/// Whether two literals that aren't one are of two values, and neither is a truth value.
+fn have_two_values(l: &Literal, m: &Literal) -> bool
+    ensures { result ≡ two_values l.now m.now }
+{
+    !is_truth(l) && !is_truth(m) && !same_entity(l, m)
+}
+
+/// Whether two terms are literals of two values, as two names are.
+fn are_apart(terms: &Terms, a: u64, b: u64) -> bool
+    requires a_in { a < length terms.now }
+    requires b_in { b < length terms.now }
+    ensures { result ≡ apart (tree_eq (tree terms.now a) (tree terms.now b)) (literal_of (tree terms.now a))
+        (literal_of (tree terms.now b)) }
+{
+    if terms.is_same(a, b) {
+        return false;
+    }
+    match (terms.literal_at(a), terms.literal_at(b)) {
+        (Some(l), Some(m)) => have_two_values(l, m),
+        _ => false,
+    }
+}
+
+/// The number of an equation, given that of `false`, which an equation of two values is.
+#[tactic(auto, using(crate::proofs::EquationLaws::stands_apart))]
+fn equated(terms: &mut Terms, a: u64, b: u64, never: u64) -> Result<u64, AllocError>
+    requires a_in { a < length terms.old }
+    requires b_in { b < length terms.old }
+    requires never { StandsFor terms.old never (truth_term false) }
+    ensures ok { IfOk result (λ n. StandsFor terms.new n (equal_term (tree terms.old a) (tree terms.old b))) }
+    ensures kept { Keeps terms.old terms.new }
+{
+    if are_apart(terms, a, b) {
+        Ok(never)
+    } else {
+        terms.equal(a, b)
+    }
+}
+
+/// Puts the equations of each of these and a term.
+fn put_equations(
+    terms: &mut Terms,
+    members: &[u64],
+    term: u64,
+    numbers: &mut Vec<u64>,
+) -> Result<(), AllocError>
+    requires members_in { AllByRecursion (λ n. n < length terms.old) members.now }
+    requires term_in { term < length terms.old }
+    ensures ok { OnOk result (Puts terms.old terms.new numbers.old.items numbers.new.items (met_terms equation
+        (stood terms.old members.now) (tree terms.old term))) }
+    ensures kept { Keeps terms.old terms.new }
+{
+    let never = terms.truth(false)?;
+    for member in members {
+        let m = equated(terms, *member, term, never)?;
+        numbers.push(m)?;
+    }
+    Ok(())
+}
+
+/// Whether one of these and a term are two values.
+fn is_any_apart(terms: &Terms, members: &[u64], term: u64) -> bool
+    requires members_in { AllByRecursion (λ n. n < length terms.now) members.now }
+    requires term_in { term < length terms.now }
+    ensures { result ≡ list_any (apart_from terms.now (tree terms.now term)) members.now }
+{
+    for member in members {
+        if are_apart(terms, *member, term) {
+            return true;
+        }
+    }
+    false
+}
+
+/// Puts the equation of a value with itself and, if one of these is another value, that of two.
+fn put_own(
+    terms: &mut Terms,
+    members: &[u64],
+    term: u64,
+    numbers: &mut Vec<u64>,
+) -> Result<(), AllocError>
+    requires members_in { AllByRecursion (λ n. n < length terms.old) members.now }
+    requires term_in { term < length terms.old }
+    ensures ok { OnOk result (Puts terms.old terms.new numbers.old.items numbers.new.items (told_of (list_any
+        (apart_from terms.old (tree terms.old term)) members.now) (tree terms.old term))) }
+    ensures kept { Keeps terms.old terms.new }
+{
+    let is_apart = is_any_apart(terms, members, term);
+    let own = terms.equal(term, term)?;
+    numbers.push(own)?;
+    if is_apart {
+        let never = terms.truth(false)?;
+        numbers.push(never)?;
+    }
+    Ok(())
+}
+
+/// Puts the equations of a value and those of a group.
+fn equate_value(
+    terms: &mut Terms,
+    group: &Group,
+    term: u64,
+    numbers: &mut Vec<u64>,
+) -> Result<(), AllocError>
+    requires members_in { AllByRecursion (λ n. n < length terms.old) group.now.members }
+    requires divided { IsDivided terms.old group.now }
+    requires term_in { term < length terms.old }
+    requires value { value_in (literal_of (tree terms.old term)) ≡ true }
+    ensures ok { OnOk result (Equates terms.old terms.new numbers.old.items numbers.new.items (met_terms equation
+        (stood terms.old group.now.members) (tree terms.old term)) (tree terms.old term)) }
+    ensures kept { Keeps terms.old terms.new }
+{
+    put_own(terms, group.members.as_slice(), term, numbers)?;
+    put_equations(terms, group.others.as_slice(), term, numbers)?;
+    Ok(())
+}
+
+/// Puts the equations of a term and those of a group.
+fn equate_members(
+    terms: &mut Terms,
+    group: &Group,
+    term: u64,
+    numbers: &mut Vec<u64>,
+) -> Result<(), AllocError>
+    requires members_in { AllByRecursion (λ n. n < length terms.old) group.now.members }
+    requires divided { IsDivided terms.old group.now }
+    requires term_in { term < length terms.old }
+    ensures ok { OnOk result (Equates terms.old terms.new numbers.old.items numbers.new.items (met_terms equation
+        (stood terms.old group.now.members) (tree terms.old term)) (tree terms.old term)) }
+    ensures kept { Keeps terms.old terms.new }
+{
+    if is_value(terms, term) {
+        equate_value(terms, group, term, numbers)
+    } else {
+        put_equations(terms, group.members.as_slice(), term, numbers)
+    }
+}
+
+/// Puts the equations of a term and those of a group, if its key is of the group's sort.
+fn equate_group(
+    terms: &mut Terms,
+    group: &Group,
+    key: u64,
+    term: u64,
+    numbers: &mut Vec<u64>,
+) -> Result<(), AllocError>
+    requires group_in { IsGroupWithin (length terms.old) group.now }
+    requires divided { IsDivided terms.old group.now }
+    requires key_in { key < length terms.old }
+    requires term_in { term < length terms.old }
+    ensures ok { OnOk result (Equates terms.old terms.new numbers.old.items numbers.new.items (met_in equation
+        (tree terms.old group.now.key) (stood terms.old group.now.members) (tree_sort (tree terms.old key))
+        (tree terms.old term)) (tree terms.old term)) }
+    ensures kept { Keeps terms.old terms.new }
+{
+    if is_met(terms, Meeting::Equation, group.key, key) {
+        equate_members(terms, group, term, numbers)
+    } else {
+        Ok(())
+    }
+}
+
+/// Puts the equations of a term and those of its key's sort.
+pub(crate) fn equate_groups(
+    terms: &mut Terms,
+    groups: &[Group],
+    key: u64,
+    term: u64,
+    numbers: &mut Vec<u64>,
+) -> Result<(), AllocError>
+    requires groups_in { AllByRecursion (IsGroupWithin (length terms.old)) groups.now }
+    requires divided { AllByRecursion (IsDivided terms.old) groups.now }
+    requires key_in { key < length terms.old }
+    requires term_in { term < length terms.old }
+    ensures ok { OnOk result (Equates terms.old terms.new numbers.old.items numbers.new.items (met_among equation
+        terms.old groups.now (tree_sort (tree terms.old key)) (tree terms.old term)) (tree terms.old term)) }
+    ensures kept { Keeps terms.old terms.new }
+{
+    for group in groups {
+        equate_group(terms, group, key, term, numbers)?;
+    }
+    Ok(())
+}
