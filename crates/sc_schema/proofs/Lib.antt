@@ -9,3 +9,4 @@ pub mod SizesLaws
 pub mod CountedLaws
 pub mod AscentLaws
 pub mod LookupLaws
+pub mod FieldLaws

@@ -27,4 +27,5 @@ pub record IsIndexOf (s : Declarations) (i : Index) : Type 0 where
   pub names : i.type_names ≡ entity_types s
   pub uids : i.action_uids ≡ action_uids s
   pub above : IsAbove s.actions i.above_actions.entries
-  pub none : i.no_attributes ≡ Record []
+  pub none : i.no_attributes ≡ []
+  pub bare : i.shape_of_actions ≡ Record []

@@ -1,3 +1,4 @@
+pub mod formers
 pub mod Declarations
 pub mod Indices
 pub mod Lawful

@@ -12,8 +12,8 @@ ghost use Rattle.sc_schema.specs.Indices.{IsAbove, IsIndexOf};
 ghost use Rattle.sc_schema.specs.Lawful.{AreAscending, IsLawful};
 
 use crate::declarations::{Action, EntityType, Env};
-use crate::ty::Ty;
-use sc_lists::{Seq, Shared};
+use crate::ty::{Attributes, Ty};
+use sc_lists::Seq;
 use sc_names::{Name, Uid};
 use std::alloc::{AllocError, Global};
 use std::collections::BTreeMap;
@@ -29,8 +29,10 @@ pub(crate) struct Index {
     pub action_uids: Seq<Uid>,
     /// For each type of actions the types of the actions that these are in, ascending.
     pub above_actions: BTreeMap<Name, Seq<Name>>,
+    /// No attributes, as actions have.
+    pub no_attributes: Attributes,
     /// The type of an action's attributes, of which there are none.
-    pub no_attributes: Ty,
+    pub shape_of_actions: Ty,
 }
 
 /// What is kept beside these declarations.
@@ -42,12 +44,14 @@ pub(crate) fn index_of(
     requires { IsLawful (record { types = types.now; actions = actions.now }) }
     ensures { IfOk result (λ i. IsIndexOf (record { types = types.now; actions = actions.now }) i) }
 {
+    let no_attributes = Attributes::new(alloc, Seq::new(alloc))?;
     Ok(Index {
         environment_list: environments_of(alloc, actions)?,
         type_names: names_of(alloc, types)?,
         action_uids: uids_of(alloc, actions)?,
         above_actions: types_above(alloc, actions)?,
-        no_attributes: Ty::Record(Shared::new(alloc, Seq::new(alloc))?),
+        shape_of_actions: Ty::Record(no_attributes.try_clone()?),
+        no_attributes,
     })
 }
 

@@ -1,5 +1,5 @@
 //! Schemas, and what they declare.
-ghost use Rattle.std.specs.Prelude.{◌≡◌, IfOk, IfSome, option_map};
+ghost use Rattle.std.specs.Prelude.{◌≡◌, [], IfOk, IfSome, option_map};
 ghost use Rattle.std.specs.List.Sorted.{IsStrictlySortedBy};
 ghost use Rattle.std.specs.Option.{option_copied};
 ghost use Rattle.sc_names.specs.Uids.{uid_cmp};
@@ -10,7 +10,7 @@ ghost use Rattle.sc_schema.specs.Lawful.{IsLawful, IsLawfulType, IsLawfulAction,
 use crate::declarations::{Action, EntityType, Env};
 use crate::index::{Index, index_of};
 use crate::place::{place_of_name, place_of_uid};
-use crate::ty::Ty;
+use crate::ty::{Attributes, Ty};
 use sc_lists::Seq;
 use sc_names::{Name, Uid};
 use std::alloc::{AllocError, Global};
@@ -137,12 +137,19 @@ pub fn attrs_of<'s>(s: &'s Schema, t: &Name) -> Option<&'s Ty>
     ensures { option_copied result ≡ attrs_of s.now t.now }
 {
     if is_action_type(s, t) {
-        return Some(&s.index.no_attributes);
+        return Some(&s.index.shape_of_actions);
     }
     match type_among(s, t) {
         Some(declared) => Some(&declared.shape),
         None => None,
     }
+}
+
+/// No attributes, as actions have.
+pub fn no_attributes(s: &Schema) -> &Attributes
+    ensures { result.now ≡ [] }
+{
+    &s.index.no_attributes
 }
 
 /// The type of the values of an entity's tags, by the entity's type. None exactly where the type

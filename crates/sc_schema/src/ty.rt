@@ -1,7 +1,8 @@
 //! Types of values.
 ghost use Rattle.std.specs.Prelude.{◌≡◌, IfOk};
 
-use sc_lists::{Seq, Shared, Text};
+use crate::fields::Fields;
+use sc_lists::Shared;
 use sc_names::Name;
 use std::alloc::{AllocError, Global};
 
@@ -16,7 +17,7 @@ pub enum Presence {
 
 /// The fields of a record type: their names, ascending by bytes, each once, with their types. Copies
 /// of a type share them.
-pub type Attributes = Shared<Seq<(Text, Presence, Ty)>>;
+pub type Attributes = Fields<Presence, Ty>;
 
 /// A type of values.
 #[derive(Drop)]

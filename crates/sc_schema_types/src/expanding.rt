@@ -12,9 +12,9 @@ use crate::copying::copy_names;
 use crate::expansion::{expanded, meaning_of};
 use crate::faults::first_fault;
 use crate::outline::{Outline, outlines_of};
-use sc_lists::{Boxed, Fault, Seq, Shared};
+use sc_lists::{Boxed, Fault, Seq};
 use sc_names::{Name, clone_uids};
-use sc_schema::Ty;
+use sc_schema::{Attributes, Ty};
 use sc_schema_resolved::{
     ExpandedAction, ExpandedEntityType, ExpandedSchema, ResolvedAction, ResolvedEntityType,
     ResolvedSchema, ResolvedType,
@@ -167,7 +167,7 @@ fn record_type(
 {
     match resolved {
         Some(resolved) => expanded(alloc, table, resolved),
-        None => Ok(Ty::Record(Shared::new(alloc, Seq::new(alloc))?)),
+        None => Ok(Ty::Record(Attributes::new(alloc, Seq::new(alloc))?)),
     }
 }
 

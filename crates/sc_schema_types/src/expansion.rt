@@ -8,7 +8,7 @@ ghost use Rattle.sc_schema_types.specs.Tables.{body_in, type_in, with_body, mean
 
 use sc_lists::{Seq, Shared, Text};
 use sc_names::Name;
-use sc_schema::{Presence, Ty};
+use sc_schema::{Attributes, Presence, Ty};
 use sc_schema_resolved::ResolvedType;
 use std::alloc::{AllocError, Global};
 use std::collections::BTreeMap;
@@ -35,7 +35,7 @@ pub(crate) fn expanded(
         }
         ResolvedType::Record(attributes) => {
             let fields = expanded_all(alloc, table, attributes.as_slice())?;
-            Ok(Ty::Record(Shared::new(alloc, fields)?))
+            Ok(Ty::Record(Attributes::new(alloc, fields)?))
         }
         ResolvedType::Common(name) => type_in(alloc, table, name),
     }

@@ -3,9 +3,8 @@ ghost use Rattle.std.specs.Prelude.{◌≡◌, option_map};
 ghost use Rattle.std.specs.Option.{option_copied};
 ghost use Rattle.sc_typed.specs.Types.{is_true, is_false, is_either, is_boolean, is_long, is_string, is_decimal, is_ip, is_record, entity_name, member, group, record_fields};
 
-use sc_lists::Text;
 use sc_names::Name;
-use sc_schema::{Presence, Ty};
+use sc_schema::{Attributes, Ty};
 
 /// Whether it is that of `true` alone.
 pub fn is_true(ty: &Ty) -> bool
@@ -102,11 +101,11 @@ pub fn group(ty: &Ty) -> Option<&Name>
 }
 
 /// The fields, where it is one of records.
-pub fn record_fields(ty: &Ty) -> Option<&[(Text, Presence, Ty)]>
+pub fn record_fields(ty: &Ty) -> Option<&Attributes>
     ensures { option_map (λ fields. fields.now) result ≡ record_fields ty.now }
 {
     match ty {
-        Ty::Record(fields) => Some(fields.as_slice()),
+        Ty::Record(fields) => Some(fields),
         _ => None,
     }
 }

@@ -9,9 +9,8 @@ use crate::kinds;
 use crate::typed_expr::{TypedExpr, place_of, type_of};
 use crate::types::attributes;
 use sc_ast::Place;
-use sc_lists::Text;
 use sc_names::Name;
-use sc_schema::{Presence, Schema, Ty};
+use sc_schema::{Attributes, Schema, Ty};
 use std::alloc::{AllocError, Global};
 
 /// A copy of the type. What is skipped counts as Boolean; no rule asks for its type.
@@ -148,11 +147,7 @@ pub fn set(x: &TypedExpr) -> Result<&Ty, TypeFault>
 }
 
 /// The attributes that records or entities of a type may have.
-pub fn object<'s>(
-    schema: &'s Schema,
-    at: Place,
-    ty: &'s Ty,
-) -> Result<&'s [(Text, Presence, Ty)], TypeFault>
+pub fn object<'s>(schema: &'s Schema, at: Place, ty: &'s Ty) -> Result<&'s Attributes, TypeFault>
     ensures { result_map_both (λ fields. fields.now) (λ e. e) result ≡ as_object schema.now at ty.now }
 {
     attributes(schema, ty).ok_or(TypeFault {

@@ -11,7 +11,7 @@ use crate::kinds::{
 };
 use sc_lists::{Seq, Shared, Text};
 use sc_names::Name;
-use sc_schema::{Presence, Schema, Ty, attrs_of};
+use sc_schema::{Attributes, Presence, Schema, Ty, attrs_of, no_attributes};
 use std::alloc::{AllocError, Global};
 
 /// The type of a truth value.
@@ -105,10 +105,10 @@ fn join_record(
     let Some(others) = record_fields(b) else {
         return Ok(None);
     };
-    let Some(joined) = join_fields(alloc, fields, others)? else {
+    let Some(joined) = join_fields(alloc, fields, others.as_slice())? else {
         return Ok(None);
     };
-    Ok(Some(Ty::Record(Shared::new(alloc, joined)?)))
+    Ok(Some(Ty::Record(Attributes::new(alloc, joined)?)))
 }
 
 /// The fields of two record types, joined one by one.
@@ -157,37 +157,34 @@ fn same_presence(a: Presence, b: Presence) -> bool
 }
 
 /// The attributes that records or entities of a type may have; none where it is of neither.
-pub fn attributes<'s>(schema: &'s Schema, ty: &'s Ty) -> Option<&'s [(Text, Presence, Ty)]>
+pub fn attributes<'s>(schema: &'s Schema, ty: &'s Ty) -> Option<&'s Attributes>
     ensures { option_map (λ fields. fields.now) result ≡ attributes schema.now ty.now }
 {
     match ty {
-        Ty::Record(fields) => Some(fields.as_slice()),
+        Ty::Record(fields) => Some(fields),
         Ty::Entity(name) => Some(declared(schema, name)),
         _ => None,
     }
 }
 
 /// The attributes that entities of a type may have.
-fn declared<'s>(schema: &'s Schema, name: &Name) -> &'s [(Text, Presence, Ty)]
+fn declared<'s>(schema: &'s Schema, name: &Name) -> &'s Attributes
     ensures { result.now ≡ unwrap_or (option_and_then record_fields (attrs_of schema.now name.now)) [] }
 {
     let Some(shape) = attrs_of(schema, name) else {
-        return &[];
+        return no_attributes(schema);
     };
     match record_fields(shape) {
         Some(fields) => fields,
-        None => &[],
+        None => no_attributes(schema),
     }
 }
 
 /// The attribute of a name, if there is one.
-pub fn attribute<'f>(
-    fields: &'f [(Text, Presence, Ty)],
-    name: &Text,
-) -> Option<&'f (Text, Presence, Ty)>
+pub fn attribute<'f>(fields: &'f Attributes, name: &Text) -> Option<&'f (Text, Presence, Ty)>
     ensures { option_copied result ≡ attribute name.now fields.now }
 {
-    fields.iter().find(|field| name.is_same(&field.0))
+    fields.find(name)
 }
 
 /// Whether each object has an attribute.

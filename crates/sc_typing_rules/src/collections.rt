@@ -10,7 +10,7 @@ use crate::logic::{boxed_type, joined_with};
 use crate::outcome::plain;
 use sc_ast::Place;
 use sc_lists::{Boxed, Fault, Seq, Shared, Text};
-use sc_schema::{Presence, Ty};
+use sc_schema::{Attributes, Presence, Ty};
 use sc_typed::operands::copy_of_ty;
 use sc_typed::{TypeFault, TypeRule, Typed, TypedExpr};
 use std::alloc::{AllocError, Global};
@@ -88,7 +88,7 @@ fn record_type(alloc: Global, fields: &[(Text, TypedExpr)]) -> Result<Ty, AllocE
     ensures { IfOk result (λ t. t ≡ record_type fields.now) }
 {
     let types = types_of(alloc, fields)?;
-    Ok(Ty::Record(Shared::new(alloc, required(alloc, types)?)?))
+    Ok(Ty::Record(Attributes::new(alloc, required(alloc, types)?)?))
 }
 
 fn types_of(alloc: Global, fields: &[(Text, TypedExpr)]) -> Result<BTreeMap<Text, Ty>, AllocError>

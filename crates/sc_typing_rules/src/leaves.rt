@@ -9,7 +9,7 @@ use crate::setting::Setting;
 use sc_ast::{Expr, Literal, Place, Variable, try_clone};
 use sc_lists::{Boxed, Seq, Shared};
 use sc_names::Uid;
-use sc_schema::{Schema, Ty, context_of};
+use sc_schema::{Schema, Ty, context_of, no_attributes};
 use sc_typed::operands::copy_of_ty;
 use sc_typed::types::truth;
 use sc_typed::{Typed, TypedExpr};
@@ -62,7 +62,7 @@ fn context_type(alloc: Global, schema: &Schema, action: &Uid) -> Result<Ty, Allo
 {
     match context_of(schema, action) {
         Some(ty) => ty.try_clone(alloc),
-        None => Ok(Ty::Record(Shared::new(alloc, Seq::new(alloc))?)),
+        None => Ok(Ty::Record(no_attributes(schema).try_clone()?)),
     }
 }
 

@@ -15,7 +15,7 @@ use crate::path::Path;
 use crate::setting::Setting;
 use sc_ast::{Expr, Place, try_clone};
 use sc_lists::{Boxed, Fault, Seq, Text};
-use sc_schema::{Presence, Schema, Ty};
+use sc_schema::{Attributes, Presence, Schema, Ty};
 use sc_typed::bare::{NOWHERE, bare, copy_of_names};
 use sc_typed::capability::{attribute_of, is_known, is_known_in_either};
 use sc_typed::kinds::is_record;
@@ -27,10 +27,7 @@ use sc_typed::{
 use std::alloc::{AllocError, Global};
 
 /// The attributes that an object may have.
-fn object_of<'s>(
-    schema: &'s Schema,
-    x: &'s TypedExpr,
-) -> Result<&'s [(Text, Presence, Ty)], TypeFault>
+fn object_of<'s>(schema: &'s Schema, x: &'s TypedExpr) -> Result<&'s Attributes, TypeFault>
     ensures { result_map_both (λ fields. fields.now) (λ e. e) result ≡ as_object schema.now (place_of x.now)
         (ty x.now) }
 {

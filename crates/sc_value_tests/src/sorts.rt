@@ -2,9 +2,9 @@
 use crate::samples::{is_text, name, uid};
 use sc_decimal::write_decimal;
 use sc_ip::write_ip;
-use sc_lists::{Boxed, Seq, Shared, Text};
+use sc_lists::{Boxed, Seq, Text};
 use sc_names::{Name, Uid, put_escaped, put_uid};
-use sc_schema::{Presence, Ty};
+use sc_schema::{Attributes, Presence, Ty};
 use sc_sorts::{Sort, default_of, sort_of, try_clone};
 use sc_values::{Rec, Value};
 use std::alloc::{AllocError, Global};
@@ -40,7 +40,7 @@ fn record_type(alloc: Global) -> Result<Ty, AllocError> {
     fields.push((nick, Presence::Optional, Ty::String))?;
     let on = Text::from_str(alloc, "on")?;
     fields.push((on, Presence::Required, Ty::Bool))?;
-    Ok(Ty::Record(Shared::new(alloc, fields)?))
+    Ok(Ty::Record(Attributes::new(alloc, fields)?))
 }
 
 /// The sort of that type.
