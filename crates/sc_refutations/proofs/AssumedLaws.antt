@@ -53,11 +53,17 @@ codes_put before codes next clause i h is e =
 
 -- ---- the numbers of a clause
 
+-- behind those of other literals
+pub codes_after : (before : Clause) (codes next : List ℕ) (c : Clause) (i : ℕ) (d : Lit) (code : ℕ) → i < length c → next ≡ codes ++ code ∷ [] → map lit_of codes ≡ before ++ take i c
+    → code ≡ code_of (get_or c i d) → map lit_of next ≡ before ++ take (i + 1) c
+codes_after before codes next c i d code h is written e =
+    ap (map lit_of) is ∙ (map-append lit_of codes (code ∷ [])
+    ∙ ((λ j. written j ++ (ap lit_of e ∙ lit_again (get_or c i d)) j ∷ [])
+    ∙ (append_assoc before (take i c) (get_or c i d ∷ []) ∙ ap (λ (xs : Clause). before ++ xs) (sym (take_more c i d h)))))
+
 pub codes_written : (codes next : List ℕ) (c : Clause) (i : ℕ) (d : Lit) (code : ℕ) → i < length c → next ≡ codes ++ code ∷ [] → map lit_of codes ≡ take i c → code ≡ code_of (get_or c i d)
     → map lit_of next ≡ take (i + 1) c
-codes_written codes next c i d code h is before e =
-    ap (map lit_of) is ∙ (map-append lit_of codes (code ∷ [])
-    ∙ ((λ j. before j ++ (ap lit_of e ∙ lit_again (get_or c i d)) j ∷ []) ∙ sym (take_more c i d h)))
+codes_written codes next c i d code h is written e = codes_after [] codes next c i d code h is written e
 
 pub unlisted_fails : (count : ℕ) (c : Clause) (i : ℕ) (d : Lit) → i < length c → count < 2147483648 → ((get_or c i d).atom ≡ 0) ⊎ (2147483648 ≤ (get_or c i d).atom) → is_clause count c ≡ false
 unlisted_fails count c i d h few none =

@@ -1,8 +1,9 @@
 //! The number of a literal, which takes a quarter of the memory that the literal takes by itself.
-ghost use Rattle.std.specs.Prelude.{◌≡◌, ◌≤◌, ◌⊎◌, map, IfOk, IsTrue, MatchOption};
+ghost use Rattle.std.specs.Prelude.{◌≡◌, ◌≤◌, ◌++◌, ◌⊎◌, map, IfOk, IsTrue, MatchOption, OnOk};
 ghost use Rattle.sc_clauses.specs.Clauses.{negation};
 ghost use Rattle.sc_refutations.specs.Arenas.{code_of, lit_of, has_code};
 
+use crate::growing::make_room;
 use sc_clauses::Lit;
 use std::alloc::{AllocError, Global};
 
@@ -26,17 +27,26 @@ pub fn code_of(lit: Lit) -> Option<u32>
     }
 }
 
+/// Puts the numbers of a clause's literals after others. It is refused as too large where a literal has no number.
+pub fn put_codes(codes: &mut Vec<u32>, clause: &[Lit]) -> Result<(), AllocError>
+    ensures { OnOk result (map lit_of codes.new.items ≡ map lit_of codes.old.items ++ clause.now) }
+{
+    make_room(codes, clause.len())?;
+    for lit in clause {
+        let Some(code) = code_of(*lit) else {
+            return Err(AllocError);
+        };
+        codes.push_reserved(code);
+    }
+    Ok(())
+}
+
 /// The numbers of the literals of a clause. It is refused as too large where a literal has no number.
 pub fn codes_of(alloc: Global, clause: &[Lit]) -> Result<Vec<u32>, AllocError>
     ensures { IfOk result (λ codes. map lit_of codes.items ≡ clause.now) }
 {
     let mut codes = Vec::new(alloc);
-    for lit in clause {
-        let Some(code) = code_of(*lit) else {
-            return Err(AllocError);
-        };
-        codes.push(code)?;
-    }
+    put_codes(&mut codes, clause)?;
     Ok(codes)
 }
 

@@ -9,7 +9,7 @@ mod known;
 mod refuting;
 
 pub use arena::Arena;
-pub use codes::{code_of, codes_of, lit_of};
+pub use codes::{code_of, codes_of, lit_of, put_codes};
 pub use growing::append;
 pub use known::Known;
 pub use refuting::{Residual, learn};

@@ -27,7 +27,8 @@ pub enum Found {
 }
 
 /// Looks for an assignment of the atoms from 1 to `atoms` that falsifies none of these clauses and none of the source's,
-/// or for a refutation of them, and logs `budget` steps at most. Want of memory is its one fault.
+/// or for a refutation of them, and logs `budget` steps at most. Want of memory is its one fault: it has no room for a
+/// clause of an atom from 2^31 on, nor for clauses of 2^32 literals or more in all.
 pub fn search<S: Source>(
     alloc: Global,
     source: &S,

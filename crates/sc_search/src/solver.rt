@@ -10,7 +10,7 @@ ghost use Rattle.sc_trails.specs.Rooms.{cell_value};
 use sc_clauses::{Assignment, Clauses, Instance, Learned, Lit, Step, negation};
 use sc_decisions::{Order, Restarts, Suggestions};
 use sc_lists::Seq;
-use sc_refutations::{Arena, codes_of};
+use sc_refutations::{Arena, codes_of, put_codes};
 use sc_trails::{Analysis, Cell, Pending, Resolvent, Trail, value_of};
 use sc_watches::Watches;
 use std::alloc::{AllocError, Global};
@@ -71,9 +71,11 @@ fn arena_of(alloc: Global, given: &Clauses) -> Result<Arena, AllocError>
     // There are fewer than 2^64 clauses, which `len` tells.
     let _count = given.len();
     let mut clauses = Arena::new(alloc);
+    let mut codes = Vec::new(alloc);
     let mut place = 0;
     while let Some(clause) = given.get(place) {
-        let codes = codes_of(alloc, clause)?;
+        codes.clear();
+        put_codes(&mut codes, clause)?;
         clauses.push(&codes)?;
         place += 1;
     }

@@ -13,6 +13,7 @@ mod truths;
 pub use chains::intransitive_among;
 pub use classes::labels;
 pub use crowds::Crowd;
+pub use needs::{is_false, true_signs};
 pub use paths::{Paths, gap};
 pub use settled::crowd_of;
 pub use texts::Texts;

@@ -1,8 +1,9 @@
 //! Signs that needn't be asked.
-ghost use Rattle.std.specs.Prelude.{◌≡◌, ◌+◌, ◌<◌, length, map, true, IfOk, IfSome, None};
+ghost use Rattle.std.specs.Prelude.{◌≡◌, ◌↔◌, ◌+◌, ◌<◌, length, map, true, false, IfOk, IfSome, IsTrue, None, Some};
 ghost use Rattle.sc_violated.specs.Crowds.{true_sign, IsPart, IsEnough, AreNeeded, AreAllNeeded};
 
 use crate::texts::Texts;
+use crate::truths::is;
 use std::alloc::{AllocError, Global};
 
 /// Asks one sign less, if there are still fewer texts than so many.
@@ -75,7 +76,7 @@ fn true_sign(sign: Option<bool>) -> Option<bool>
 }
 
 /// The signs that are true; the others aren't asked.
-fn true_signs(alloc: Global, signs: &[Option<bool>]) -> Result<Vec<Option<bool>>, AllocError>
+pub fn true_signs(alloc: Global, signs: &[Option<bool>]) -> Result<Vec<Option<bool>>, AllocError>
     ensures { IfOk result (λ v. v.items ≡ map true_sign signs.now) }
 {
     let mut asked = Vec::new(alloc);
@@ -86,11 +87,10 @@ fn true_signs(alloc: Global, signs: &[Option<bool>]) -> Result<Vec<Option<bool>>
 }
 
 /// Whether a sign is that of a pattern which isn't matched.
-fn is_false(sign: Option<bool>) -> bool {
-    match sign {
-        Some(matched) => !matched,
-        None => false,
-    }
+pub fn is_false(sign: Option<bool>) -> bool
+    ensures { IsTrue result ↔ sign ≡ Some false }
+{
+    is(sign, false)
 }
 
 /// Asks one sign more, if there are then fewer texts than so many, and tells whether there are.

@@ -1,4 +1,4 @@
-use Rattle.std.proofs.Common.{◌≡◌, ◌++◌, [], ◌∷◌, ◌∙◌, List, map, sym, ap, arith}
+use Rattle.std.proofs.Common.{◌≡◌, ◌++◌, [], ◌∷◌, ◌∙◌, ℕ, List, map, sym, ap, arith}
 use Rattle.sc_clauses.specs.Clauses.{Clause}
 use Rattle.sc_refutations.specs.Arenas.{lit_of}
 use Rattle.sc_search.proofs.CopyLaws.{copied_more, copied_all, place_inside}
@@ -15,7 +15,7 @@ loop-clause-smaller c = let below = place_inside c.args.given.now c.loop-clause.
 pub loop-clause-preserved : goal.loop-clause-preserved
 loop-clause-preserved c =
     let below = place_inside c.args.given.now c.loop-clause.place c.in-Some.clause.now (sym c.in-Some.ensures) in
-    let same : map lit_of c.deref.result.now ≡ c.in-Some.clause.now = ap (map lit_of) c.deref.ensures.value ∙ c.in_ok-codes.ensures in
+    let same : map lit_of c.deref.result.now ≡ c.in-Some.clause.now = ap (map lit_of) c.deref.ensures.value ∙ (c.in_ok-put_codes.ensures ∙ ap (λ (l : List ℕ). map lit_of l ++ c.in-Some.clause.now) c.clear.ensures.items) in
     record {
       within = omega (arith, below);
       copied = c.in_ok-push.ensures ∙ ap (λ (d : Clause). c.loop-clause.clauses ++ d ∷ []) same ∙ ap (λ (l : List Clause). l ++ c.in-Some.clause.now ∷ []) c.loop-clause.invariant.copied ∙ sym (copied_more c.args.given.now c.loop-clause.place c.in-Some.clause.now (sym c.in-Some.ensures));
