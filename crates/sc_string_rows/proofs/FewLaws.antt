@@ -9,9 +9,9 @@ use Rattle.sc_lists.proofs.ListLaws.{all_append, all_weaker}
 use Rattle.sc_lists.proofs.MemberLaws.{Has-append, AllByRecursion-Has, Has-AllByRecursion}
 use Rattle.sc_pattern.specs.Language.{IsMatch}
 use Rattle.sc_languages.specs.Strings.{IsText, AreDistinct, Obeys, AreStrings}
-use Rattle.sc_violated.specs.Crowds.{IsWithin}
+use Rattle.sc_violated.specs.Crowds.{IsWithin, true_sign}
 use Rattle.sc_rules.specs.Strings.{Pattern, Signs, HasSign, HasSigns, AreFew}
-use Rattle.sc_string_rows.specs.Texts.{asked_patterns, asked_signs, true_sign}
+use Rattle.sc_string_rows.specs.Texts.{asked_patterns, asked_signs}
 
 -- ---- more signs, fewer texts
 

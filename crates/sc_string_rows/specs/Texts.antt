@@ -1,5 +1,5 @@
 -- The patterns that are asked, and their signs. No public promise speaks of them.
-use Rattle.std.specs.Prelude.{Bool, true, false, List, [], ◌∷◌, Option, Some, None}
+use Rattle.std.specs.Prelude.{Bool, List, [], ◌∷◌, Some, None}
 use Rattle.sc_rules.specs.Strings.{Pattern, Signs}
 
 -- the patterns that have a sign
@@ -14,9 +14,3 @@ abbrev pub asked_signs : Signs → List Bool
 asked_signs [] = []
 asked_signs (Some sign ∷ v) = sign ∷ asked_signs v
 asked_signs (None ∷ v) = asked_signs v
-
--- a sign, asked only if it is true
-abbrev pub true_sign : Option Bool → Option Bool
-true_sign None = None
-true_sign (Some true) = Some true
-true_sign (Some false) = None

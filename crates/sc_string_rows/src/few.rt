@@ -2,11 +2,13 @@
 ghost use Rattle.std.specs.Prelude.{◌≡◌, ◌↔◌, ◌<◌, length, map, IfOk, IsTrue};
 ghost use Rattle.sc_rules.specs.Strings.{AreFew};
 ghost use Rattle.sc_string_rows.specs.Texts as texts;
+ghost use Rattle.sc_violated.specs.Crowds.{true_sign};
 
 use crate::numbers::copied_signs;
 use crate::plenty::are_plenty;
 use sc_languages::strings_of;
 use sc_pattern::{Pattern, matches};
+use sc_violated::{is_false, true_signs};
 use std::alloc::{AllocError, Global};
 
 /// The patterns that have a sign.
@@ -66,14 +68,6 @@ fn are_few_found(
     Ok((texts.len() as u64) < count)
 }
 
-/// Whether a sign is that of a pattern which isn't matched.
-fn is_false(sign: Option<bool>) -> bool {
-    match sign {
-        Some(matched) => !matched,
-        None => false,
-    }
-}
-
 /// Whether two of the patterns or more aren't matched.
 fn are_two_false(signs: &[Option<bool>]) -> bool {
     let mut one = false;
@@ -86,27 +80,6 @@ fn are_two_false(signs: &[Option<bool>]) -> bool {
         }
     }
     false
-}
-
-/// A sign, asked only if it is true.
-fn true_sign(sign: Option<bool>) -> Option<bool>
-    ensures { result ≡ texts.true_sign sign }
-{
-    match sign {
-        Some(true) => Some(true),
-        _ => None,
-    }
-}
-
-/// The signs that are true; the others aren't asked.
-fn true_signs(alloc: Global, signs: &[Option<bool>]) -> Result<Vec<Option<bool>>, AllocError>
-    ensures { IfOk result (λ v. v.items ≡ map texts.true_sign signs.now) }
-{
-    let mut asked = Vec::new(alloc);
-    for sign in signs {
-        asked.push(true_sign(*sign))?;
-    }
-    Ok(asked)
 }
 
 /// A text that has the signs that are asked.
@@ -140,7 +113,7 @@ fn are_few_with(
     place: usize,
     count: u64,
 ) -> Result<bool, AllocError>
-    requires asked { asked.now ≡ map texts.true_sign signs.now }
+    requires asked { asked.now ≡ map true_sign signs.now }
     requires place { place < length signs.now }
     ensures { IfOk result (λ b. IsTrue b → AreFew patterns.now signs.now count) }
 {
@@ -159,7 +132,7 @@ fn are_few_with_one(
     text: &str,
     count: u64,
 ) -> Result<bool, AllocError>
-    requires { asked.now ≡ map texts.true_sign signs.now }
+    requires { asked.now ≡ map true_sign signs.now }
     ensures { IfOk result (λ b. IsTrue b → AreFew patterns.now signs.now count) }
 {
     for place in 0..signs.len() {

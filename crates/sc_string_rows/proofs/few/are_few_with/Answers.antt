@@ -1,6 +1,6 @@
 use Rattle.std.proofs.Common.{rules, ◌≡◌, map, set, get_or, None}
 use Rattle.std.proofs.lemmas.Result.{IfOk-weaker}
-use Rattle.sc_string_rows.specs.Texts.{true_sign}
+use Rattle.sc_violated.specs.Crowds.{true_sign}
 use Rattle.sc_string_rows.proofs.FewLaws.{few_with}
 use Rattle.sc_string_rows.proofs.few.are_few_with.Goals as goal
 
