@@ -48,7 +48,7 @@ fn parts_of(
     closed_laws();
     schema.laws();
     let mut closed = closed_terms(alloc, terms, goal, schema, env, literals)?;
-    sort_by_term(terms, &mut closed)?;
+    sort_by_term(alloc, terms, &mut closed)?;
     let companions = companions_of(alloc, schema, terms, &closed)?;
     let atoms = atoms_among(alloc, terms, &closed)?;
     let shelves = shelves_of(alloc, terms, &closed)?;

@@ -3,6 +3,7 @@
 //! such problems is.
 #![tactic(auto)]
 
+mod chains;
 mod closing;
 mod companions;
 mod kind;
