@@ -179,7 +179,7 @@ FAMILIES = [(refactoring, (60, 120, 240, 480)), (pigeons, (5, 6, 7, 8)), (random
             (groups, (10, 20, 40, 80)), (sets, (10, 20, 40, 80)), (strings, (80, 320, 1280, 5120)), (patterns, (4, 8, 16, 32)), (conditions, (20, 40, 80, 160)), (products, (1, 2, 5, 10))]
 
 
-GROWTH = [(refactoring, (60, 120, 240, 480, 960, 1920)), (entities, (40, 80, 160, 320)), (groups, (10, 20, 40, 80)), (sets, (10, 20, 40, 80)), (strings, (80, 160, 320, 640, 1280, 2560)),
+GROWTH = [(refactoring, (60, 120, 240, 480, 960, 1920)), (entities, (40, 80, 160, 320)), (groups, (10, 20, 40, 80)), (sets, (10, 20, 40, 80)), (strings, (320, 640, 1280, 2560, 5120)),
           (patterns, (4, 8, 16, 32)), (conditions, (20, 40, 80, 160)), (products, (1, 2, 5)), (pigeons, (5, 6, 7, 8, 9))]
 
 
