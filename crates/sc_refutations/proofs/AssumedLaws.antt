@@ -16,7 +16,7 @@ use Rattle.sc_refutations.proofs.RefutationLaws.{clause_fails, clause_more, nega
 lit_there : (codes : List ℕ) (i : ℕ) → i < length codes → get_or (map lit_of codes) i (lit_of 0) ≡ lit_of (get_or codes i 0)
 lit_there codes i h = get_or-map lit_of codes i 0 (lit_of 0) h
 
-lits_long : (codes : List ℕ) (i : ℕ) → i < length codes → i < length (map lit_of codes)
+pub lits_long : (codes : List ℕ) (i : ℕ) → i < length codes → i < length (map lit_of codes)
 lits_long codes i h = subst (λ (n : ℕ). i < n) (sym (length-map codes lit_of)) h
 
 -- each number is that of a literal of an atom

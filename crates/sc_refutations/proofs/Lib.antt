@@ -3,4 +3,4 @@ mod ArenaLaws
 mod LeftLaws
 mod KnownLaws
 mod RefutationLaws
-mod AssumedLaws
+pub mod AssumedLaws

@@ -6,11 +6,9 @@ use Rattle.std.proofs.lemmas.List.{get_or-map, length-map, map_more}
 use Rattle.std.proofs.lemmas.List.Elements.{Contains-push_cases}
 use Rattle.sc_clauses.specs.declared.lit.Lit.{Lit}
 use Rattle.sc_refutations.specs.Arenas.{lit_of}
+use Rattle.sc_refutations.proofs.AssumedLaws.{lits_long}
 use Rattle.sc_trails.specs.Giving.{in_cells}
 use Rattle.sc_trails.specs.Trails.{AllInCells, InCells}
-
-pub lits_long : (codes : List ℕ) (i : ℕ) → i < length codes → i < length (map lit_of codes)
-lits_long codes i h = subst (λ (n : ℕ). i < n) (sym (length-map codes lit_of)) h
 
 pub lit_here : (codes : List ℕ) (i : ℕ) (l : Lit) → i < length codes → l ≡ lit_of (get_or codes i 0) → l ≡ get_or (map lit_of codes) i l
 lit_here codes i l h e = e ∙ sym (get_or-map lit_of codes i 0 l h)

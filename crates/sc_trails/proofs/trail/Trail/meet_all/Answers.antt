@@ -1,8 +1,9 @@
 use Rattle.std.proofs.Common.{inl, inr, ⊎_elim, List, get_or, map, subst, ◌∙◌}
 use Rattle.sc_clauses.specs.declared.lit.Lit.{Lit}
 use Rattle.sc_refutations.specs.Arenas.{lit_of}
+use Rattle.sc_refutations.proofs.AssumedLaws.{lits_long}
 use Rattle.sc_trails.proofs.AnalysisLaws.{met-more}
-use Rattle.sc_trails.proofs.NumberLaws.{has_lit, lit_here, lits_long, lits_taken}
+use Rattle.sc_trails.proofs.NumberLaws.{has_lit, lit_here, lits_taken}
 use Rattle.sc_trails.proofs.trail.Trail.meet_all.Goals as goal
 use Rattle.sc_trails.specs.Analyses.{AreMet, IsMet}
 

@@ -1,7 +1,8 @@
 use Rattle.std.proofs.Common.{◌<◌, ◌+◌, List, length, subst, sym, ◌∙◌, true≢false, map, take, Option}
 use Rattle.sc_clauses.specs.declared.lit.Lit.{Lit}
 use Rattle.sc_refutations.specs.Arenas.{lit_of}
-use Rattle.sc_trails.proofs.NumberLaws.{has_lit, lit_here, lits_long, lits_taken}
+use Rattle.sc_refutations.proofs.AssumedLaws.{lits_long}
+use Rattle.sc_trails.proofs.NumberLaws.{has_lit, lit_here, lits_taken}
 use Rattle.sc_trails.proofs.ReadingLaws.{sofar-two, sofar-first, sofar-again, sofar-false}
 use Rattle.sc_trails.proofs.trail.Trail.status.Goals as goal
 use Rattle.sc_trails.proofs.trail.Trail.status.Goals.{in-False, in-Open+in-None, in-Open+in-Some+else-not-is_same}
