@@ -1,6 +1,6 @@
 -- What an assignment knows of each two strings and entities, and the instances of EQ1 that it falsifies.
 use Rattle.std.proofs.Common.{◌≡◌, ◌≢◌, ◌<◌, ◌≤◌, ◌-◌, ◌&&◌, ◌==◌, ℕ, zero, suc, Bool, true, false, cond, List, [], ◌∷◌, length, slice_get, get_or, Option, Some, None, option_map, option_and_then, refl, sym, ap, ◌∙◌, subst, arith}
-use Rattle.std.proofs.lemmas.Bool.{and_parts, true≢false}
+use Rattle.std.proofs.lemmas.Bool.{and_parts, false_from_ne_true, true≢false}
 use Rattle.std.specs.List.{AllByRecursion}
 use Rattle.sc_laws.proofs.NumberLaws.{nat_eq_true}
 use Rattle.sc_laws.proofs.OptionLaws.{same_some, option_and_then_some, option_map_some}
@@ -39,10 +39,6 @@ all_at P (m ∷ ms) (suc i) n h e = all_at P ms i n h.1 e
 nothing_free : (p : Posed) (m : Assignment) → is_falsified p m None ≡ false
 unfolding is_falsified
 nothing_free p m = refl
-
-not_true : (b : Bool) → (b ≡ true → ⊥) → b ≡ false
-not_true true h = absurd (h refl)
-not_true false h = refl
 
 module _ (p : Posed) (m : Assignment) where
   abbrev lit : Tree → Tree → Lit
@@ -177,7 +173,7 @@ module _ (p : Posed) (m : Assignment) where
       chain_free a b c = by (term_of p a) (term_of p b) (term_of p c) refl refl refl
         where
           by : (o q r : Option Tree) → term_of p a ≡ o → term_of p b ≡ q → term_of p c ≡ r → is_falsified p m (on_three o q r eq1) ≡ false
-          by (Some t) (Some u) (Some v) e f g = not_true (is_falsified p m (eq1 t u v)) (no_chain a b c t u v e f g)
+          by (Some t) (Some u) (Some v) e f g = false_from_ne_true (is_falsified p m (eq1 t u v)) (no_chain a b c t u v e f g)
           by (Some t) (Some u) None e f g = nothing_free p m
           by (Some t) None r e f g = nothing_free p m
           by None q r e f g = nothing_free p m
