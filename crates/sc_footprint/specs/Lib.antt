@@ -13,6 +13,7 @@ pub mod Indices
 pub mod Shelving
 pub mod Definitions
 pub mod Sorting
+pub mod Chains
 pub mod Truths
 pub mod Written
 pub mod Theories

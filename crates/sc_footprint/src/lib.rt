@@ -6,6 +6,7 @@
 mod chains;
 mod closing;
 mod companions;
+mod estimates;
 mod kind;
 mod law;
 mod listing;
