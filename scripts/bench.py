@@ -11,6 +11,9 @@ import sys
 PROGRAM, FOLDER, SETS = os.path.abspath(sys.argv[1]), sys.argv[2], sys.argv[3]
 SOLVER = shutil.which("cvc5")
 MOST_SECONDS = 60
+SOLVER_WORDS = [SOLVER, "--lang=smt2", "--strings-exp"]
+# Copies are counted by words: one instruction may copy a whole array, and valgrind counts it once for each byte of it.
+COUNTED = os.environ | {"GLIBC_TUNABLES": "glibc.cpu.x86_rep_movsb_threshold=1000000000:glibc.cpu.x86_rep_stosb_threshold=1000000000"}
 
 
 def schema(context, user=None, doc=None, actions=("view",), tags=None):
@@ -179,8 +182,8 @@ FAMILIES = [(refactoring, (60, 120, 240, 480)), (pigeons, (5, 6, 7, 8)), (random
             (groups, (10, 20, 40, 80)), (sets, (10, 20, 40, 80)), (strings, (80, 320, 1280, 5120)), (patterns, (4, 8, 16, 32)), (conditions, (20, 40, 80, 160)), (products, (1, 2, 5, 10))]
 
 
-GROWTH = [(refactoring, (60, 120, 240, 480, 960, 1920)), (entities, (40, 80, 160, 320)), (groups, (10, 20, 40, 80)), (sets, (10, 20, 40, 80)), (strings, (320, 640, 1280, 2560, 5120)),
-          (patterns, (4, 8, 16, 32)), (conditions, (20, 40, 80, 160)), (products, (1, 2, 5)), (pigeons, (5, 6, 7, 8, 9))]
+GROWTH = [(refactoring, (60, 120, 240, 480, 960, 1920)), (entities, (40, 80, 160, 320)), (groups, (10, 20, 40, 80)), (sets, (10, 20, 40, 80)), (strings, (80, 160, 320, 640, 1280, 2560, 5120)),
+          (patterns, (4, 8, 16, 32)), (conditions, (20, 40, 80, 160)), (random_clauses, (60, 80, 100, 120, 140)), (products, (1, 2, 5)), (pigeons, (5, 6, 7, 8, 9))]
 
 
 def timed(words):
@@ -237,7 +240,7 @@ def measure(family, size):
     if answers and set(answers) == {"holds"}:
         log = subprocess.run([PROGRAM, "log", *words, "--budget", "100000", "--env", "0"], capture_output=True, text=True).stdout
         units = str(max(log.count("\n") - 1, 0))
-    other, said = timed([SOLVER, "--lang=smt2", "--strings-exp", write("q.smt2", question.smt)]) if SOLVER else (None, "")
+    other, said = timed([*SOLVER_WORDS, write("q.smt2", question.smt)]) if SOLVER else (None, "")
     wanted = {"unsat": "holds", "sat": "counterexample"}.get(said.strip())
     wrong = " WRONG" if question.holds is True and set(answers) - {"holds"} or wanted and set(answers) - {wanted, "unknown"} else ""
     if SOLVER and other is not None:
@@ -264,7 +267,7 @@ def measure_set(name):
         seconds, text = timed([PROGRAM, "analyse", "--schema", f"{folder}/schema.json", *words, "--budget", "10000"])
         answers = verdicts(text)
         scripts = sorted(it for it in os.listdir(f"{folder}/scripts") if it.startswith(f"q{number:02d}-")) if os.path.isdir(f"{folder}/scripts") else []
-        taken = [timed([SOLVER, "--lang=smt2", "--strings-exp", f"{folder}/scripts/{it}"])[0] for it in scripts] if SOLVER else []
+        taken = [timed([*SOLVER_WORDS, f"{folder}/scripts/{it}"])[0] for it in scripts] if SOLVER else []
         other = None if not taken or None in taken else sum(taken)
         wrong = "" if answers == wanted else " WRONG"
         print(f"| {name} question {number} | {len(wanted)} | {told(answers)}{wrong} | | {shown(seconds)} | {shown(other) if taken else ''} |", flush=True)
@@ -273,45 +276,37 @@ def measure_set(name):
 def instructions(words):
     """Millions of instructions that a run takes, or none after MOST_SECONDS."""
     try:
-        run = subprocess.run(["valgrind", "--tool=cachegrind", "--cache-sim=no", f"--cachegrind-out-file={FOLDER}/counts", *words], capture_output=True, text=True, timeout=10 * MOST_SECONDS)
+        run = subprocess.run(["valgrind", "--tool=cachegrind", "--cache-sim=no", f"--cachegrind-out-file={FOLDER}/counts", *words], capture_output=True, text=True, timeout=10 * MOST_SECONDS, env=COUNTED)
     except subprocess.TimeoutExpired:
         return None
     found = re.search(r"I +refs: +([0-9,]+)", run.stderr)
     return int(found.group(1).replace(",", "")) / 1e6 if found else None
 
 
-def measure_growth(family, sizes, starts):
-    """A row a size: millions of instructions beyond the start, and how many times those of the size before, of both."""
-    before = (None, None)
-    for size in sizes:
-        question = family(size)
-        runs = [[PROGRAM, "analyse", *files(question), "--budget", "100000"], [SOLVER, "--lang=smt2", "--strings-exp", write("q.smt2", question.smt)]]
-        counts = [None if count is None else count - start for count, start in zip(map(instructions, runs), starts)]
-        times = ["" if count is None or not last else f"{count / last:.2f}" for count, last in zip(counts, before)]
-        millions = ["" if count is None else f"{count:.1f}" for count in counts]
-        print(f"| {family.__name__} | {size} | {millions[0]} | {millions[1]} | {times[0]} | {times[1]} |", flush=True)
-        before = counts
+def beyond(question, starts):
+    """Millions of instructions of both beyond the start, or none."""
+    runs = [[PROGRAM, "analyse", *files(question), "--budget", "100000"], [*SOLVER_WORDS, write("q.smt2", question.smt)]]
+    return [None if count is None else count - start for count, start in zip(map(instructions, runs), starts)]
 
 
-def mean_seconds(size, draws=12):
-    """The mean seconds beyond the start of both, over some questions of random clauses."""
-    starts = [timed([PROGRAM, "--help"])[0], timed([SOLVER, "--lang=smt2", write("q.smt2", "(check-sat)\n")])[0]]
-    total = [0, 0]
-    for draw in range(draws):
-        question = random_clauses(size, 5000 + 1000 * draw)
-        runs = [[PROGRAM, "analyse", *files(question), "--budget", "100000"], [SOLVER, "--lang=smt2", write("q.smt2", question.smt)]]
-        total = [sum_ + timed(run)[0] - start for sum_, run, start in zip(total, runs, starts)]
-    print(f"| {size} | {total[0] / draws:.4f} | {total[1] / draws:.4f} |", flush=True)
+def beyond_on_average(size, starts, draws=12):
+    """The same over some questions of random clauses, since one takes far more than another of its size."""
+    counts = [beyond(random_clauses(size, 5000 + 1000 * draw), starts) for draw in range(draws)]
+    return [None if None in those else sum(those) / draws for those in zip(*counts)]
 
 
 def growth():
-    starts = [instructions([PROGRAM, "--help"]), instructions([SOLVER, "--lang=smt2", write("q.smt2", "(check-sat)\n")])]
+    """A row a size: millions of instructions beyond the start, which is that of a run on nothing, and how many times those of the size before, of both."""
+    starts = [instructions([PROGRAM, "--help"]), instructions([*SOLVER_WORDS, write("q.smt2", script())])]
     print("| Family | Size | Millions of instructions | Those of cvc5 | Times the size before | Those of cvc5 |\n|---|---|---|---|---|---|", flush=True)
     for family, sizes in GROWTH:
-        measure_growth(family, sizes, starts)
-    print("\n| Attributes of random clauses | Seconds, the mean of twelve | Those of cvc5 |\n|---|---|---|", flush=True)
-    for size in (60, 80, 100, 120, 140):
-        mean_seconds(size)
+        before = (None, None)
+        for size in sizes:
+            counts = beyond_on_average(size, starts) if family is random_clauses else beyond(family(size), starts)
+            times = ["" if count is None or not last else f"{count / last:.2f}" for count, last in zip(counts, before)]
+            millions = ["" if count is None else f"{count:.2f}" for count in counts]
+            print(f"| {family.__name__} | {size} | {millions[0]} | {millions[1]} | {times[0]} | {times[1]} |", flush=True)
+            before = counts
 
 
 def main():
