@@ -14,8 +14,7 @@ use Rattle.sc_rules.specs.Signed.{Said}
 use Rattle.sc_instances.specs.Clauses.{is_instance, said_clause}
 use Rattle.sc_rules.specs.Equal.{eq1, eq2, eq3, eq4, eq5, eq6, eq7, eq8}
 use Rattle.sc_rules.specs.Sets.{se1, se2, se3, se4, se5, se6, se7, se8}
-use Rattle.sc_rules.specs.Entities.{en2, en3, en4, en5, en6, en7, en8}
-use Rattle.sc_instances.specs.Attributes.{attributes_of, en1_of}
+use Rattle.sc_rules.specs.Entities.{en1, en2, en3, en4, en5, en6, en7, en8}
 use Rattle.sc_instances.specs.Names.{equal_rule, set_rule, entity_rule}
 
 -- a rule on one closed term, on two, three and four
@@ -62,9 +61,9 @@ set_said p (Se8 s t i) = on_two (term_of p s) (term_of p t) (λ u v. se8 u v i)
 -- ---- entities
 
 abbrev pub entity_said : Posed → EntityRule → Said
-entity_said p (En1 e f) = on_two (term_of p e) (term_of p f) (λ t u. en1_of t u (attributes_of p t) (attributes_of p u))
+entity_said p (En1 x y i) = on_two (term_of p x) (term_of p y) (λ t u. en1 t u i (term_of p i))
 entity_said p (En2 x s z) = on_three (term_of p x) (term_of p s) (term_of p z) en2
-entity_said p (En3 a b) = on_two (term_of p a) (term_of p b) en3
+entity_said p (En3 x y i) = on_two (term_of p x) (term_of p y) (λ t u. en3 t u i (term_of p i))
 entity_said p (En4 e) = on_one (term_of p e) en4
 entity_said p (En5 e f x u) = on_four (term_of p e) (term_of p f) (term_of p x) (term_of p u) en5
 entity_said p (En6 a) = on_one (term_of p a) en6

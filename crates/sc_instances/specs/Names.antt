@@ -90,15 +90,19 @@ entity_one rule a =
 
 abbrev pub entity_two : List ℕ → ℕ → ℕ → Option EntityRule
 entity_two rule a b =
-    if is_named rule (codes "EN1") then Some (En1 a b)
-    else if is_named rule (codes "EN3") then Some (En3 a b)
-    else if is_named rule (codes "EN7") then Some (En7 a b)
+    if is_named rule (codes "EN7") then Some (En7 a b) else None
+
+abbrev pub entity_three : List ℕ → ℕ → ℕ → ℕ → Option EntityRule
+entity_three rule a b c =
+    if is_named rule (codes "EN1") then Some (En1 a b c)
+    else if is_named rule (codes "EN2") then Some (En2 a b c)
+    else if is_named rule (codes "EN3") then Some (En3 a b c)
     else None
 
 abbrev pub entity_named : List ℕ → Numbers → Option EntityRule
 entity_named rule (One a) = entity_one rule a
 entity_named rule (Two a b) = entity_two rule a b
-entity_named rule (Three a b c) = if is_named rule (codes "EN2") then Some (En2 a b c) else None
+entity_named rule (Three a b c) = entity_three rule a b c
 entity_named rule (Four a b c d) = if is_named rule (codes "EN5") then Some (En5 a b c d) else None
 entity_named rule _ = None
 

@@ -46,12 +46,12 @@ pub enum SetRule {
 /// An instance of a rule on what is stored of entities.
 #[derive(Clone, Copy)]
 pub enum EntityRule {
-    /// e, f: equal entities have equal attributes.
-    En1(u64, u64),
+    /// x, y, i: like places of the attributes of equal entities are alike, by the bit i or the candidate i.
+    En1(u64, u64, u64),
     /// x, S, Z: equal entities have the same ancestors and keys.
     En2(u64, u64, u64),
-    /// a, b: equal entities have equal tags under equal keys.
-    En3(u64, u64),
+    /// x, y, i: like places of the tags of equal entities under equal keys are alike, by the bit i or the candidate i.
+    En3(u64, u64, u64),
     /// e: no entity is its own ancestor.
     En4(u64),
     /// e, f, x, U: the ancestors of an ancestor are ancestors.

@@ -1,5 +1,5 @@
 -- Assignments that falsify nothing that is said of the closed terms of a goal.
-use Rattle.std.specs.Prelude.{◌≡◌, ℕ, true, List, length, map, Some, IfSome}
+use Rattle.std.specs.Prelude.{◌≡◌, ℕ, true, List, length, map, Option, Some, IfSome}
 use Rattle.std.specs.List.{AllByRecursion}
 use Rattle.sc_schema.specs.declared.declarations.Env.{Env}
 use Rattle.sc_schema.specs.Declarations.{Declarations}
@@ -36,9 +36,9 @@ pub data IsRuleAt (d : Declarations) (Is : Tree → Type 0) : Said → Type 0 wh
   of_se6 : (s t : Tree) (i : ℕ) → Is s → Is t → IsRuleAt d Is (se6 s t i)
   of_se7 : (s t x : Tree) → Is s → Is t → Is x → IsRuleAt d Is (se7 s t x)
   of_se8 : (s t : Tree) (i : ℕ) → Is s → Is t → IsRuleAt d Is (se8 s t i)
-  of_en1 : (e f a b : Tree) → Is e → Is f → Is a → Is b → IsRuleAt d Is (en1 e f a b)
+  of_en1 : (x y : Tree) (i : ℕ) (z : Option Tree) → Is x → Is y → IfSome z Is → IsRuleAt d Is (en1 x y i z)
   of_en2 : (x s t : Tree) → Is x → Is s → Is t → IsRuleAt d Is (en2 x s t)
-  of_en3 : (a b : Tree) → Is a → Is b → IsRuleAt d Is (en3 a b)
+  of_en3 : (x y : Tree) (i : ℕ) (z : Option Tree) → Is x → Is y → IfSome z Is → IsRuleAt d Is (en3 x y i z)
   of_en4 : (e : Tree) → Is e → IsRuleAt d Is (en4 e)
   of_en5 : (e f x s : Tree) → Is e → Is f → Is x → Is s → IsRuleAt d Is (en5 e f x s)
   of_en6 : (a : Tree) → Is a → IsRuleAt d Is (en6 a)

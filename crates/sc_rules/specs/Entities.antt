@@ -19,18 +19,16 @@ use Rattle.sc_terms.specs.TreeSorts.{tree_sort}
 use Rattle.sc_terms.specs.Order.{tree_eq}
 use Rattle.sc_terms.specs.Folds.{equal_term, default_term}
 use Rattle.sc_rules.specs.Signed.{Signed, Said, so, unless, given}
-use Rattle.sc_rules.specs.Terms.{one_sort, member, above, keys, entity, choices_in}
+use Rattle.sc_rules.specs.Places.{roots, half, under}
+use Rattle.sc_rules.specs.Terms.{member, above, keys, entity, choices_in}
 
--- the term is the attributes of an entity
-abbrev pub are_attributes_of : Tree → Tree → Bool
-are_attributes_of e (one (unary.Attributes k) f) = tree_eq e f
-are_attributes_of e _ = false
+-- EN1: like places of the attributes of equal entities are alike
+abbrev pub en1_of : Tree → Tree → Said → Said
+en1_of (one (unary.Attributes k) e) (one (unary.Attributes l) f) said = under (sorts.eq k l) (unless (equal_term e f) ∷ []) said
+en1_of _ _ said = None
 
--- EN1: equal entities e and f have equal attributes, which are a and b
-abbrev pub en1 : Tree → Tree → Tree → Tree → Said
-en1 e f a b =
-    given (are_attributes_of e a && (are_attributes_of f b && one_sort a b))
-    (unless (equal_term e f) ∷ so (equal_term a b) ∷ [])
+abbrev pub en1 : Tree → Tree → ℕ → Option Tree → Said
+en1 x y i z = en1_of (roots x y).0 (roots x y).1 (half x y i z)
 
 -- two operators give the same of an entity: its ancestors of one type, or its keys
 abbrev pub same_sets : UnaryOp → UnaryOp → Bool
@@ -44,13 +42,14 @@ en2 x (one o e) (one q f) =
     given (same_sets o q) (unless (equal_term e f) ∷ unless (member x (one o e)) ∷ so (member x (one q f)) ∷ [])
 en2 x _ _ = None
 
--- EN3: equal entities have equal tags under equal keys
-abbrev pub en3 : Tree → Tree → Said
-en3 (two (binary.Tag s) e k) (two (binary.Tag t) f l) =
-    given (sorts.eq s t)
-    (unless (equal_term e f) ∷ unless (equal_term k l)
-    ∷ so (equal_term (two (binary.Tag s) e k) (two (binary.Tag t) f l)) ∷ [])
-en3 _ _ = None
+-- EN3: like places of the tags of equal entities under equal keys are alike
+abbrev pub en3_of : Tree → Tree → Said → Said
+en3_of (two (binary.Tag s) e k) (two (binary.Tag t) f l) said =
+    under (sorts.eq s t) (unless (equal_term e f) ∷ unless (equal_term k l) ∷ []) said
+en3_of _ _ said = None
+
+abbrev pub en3 : Tree → Tree → ℕ → Option Tree → Said
+en3 x y i z = en3_of (roots x y).0 (roots x y).1 (half x y i z)
 
 -- EN4: no entity is its own ancestor
 abbrev pub en4 : Tree → Said

@@ -1,5 +1,6 @@
 pub mod Signed
 pub mod Terms
+pub mod Places
 pub mod Equal
 pub mod Sets
 pub mod Entities
