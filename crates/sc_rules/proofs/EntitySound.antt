@@ -1,10 +1,9 @@
 -- The rules of what is stored of entities are true in every well-formed world.
-use Rattle.std.proofs.Common.{◌≡◌, ◌||◌, ◌&&◌, ◌==◌, ℕ, Bool, true, false, not, cond, inl, inr, List, [], ◌∷◌, map, filter, length, unwrap_or, IfSome, Option, Some, None, refl, sym, ap, ◌∙◌, subst, Contains}
+use Rattle.std.proofs.Common.{◌≡◌, ◌||◌, ◌==◌, ℕ, Bool, true, false, not, cond, inl, inr, List, [], ◌∷◌, map, filter, length, unwrap_or, IfSome, Option, Some, None, refl, sym, ap, ◌∙◌, subst, Contains}
 use Rattle.std.specs.List.{AllByRecursion}
 use Rattle.std.specs.Ordering.{is_eq}
 use Rattle.std.specs.Str.{bytes_eq}
 use Rattle.sc_lists.specs.Members.{Has}
-use Rattle.std.proofs.lemmas.Bool.{and_parts}
 use Rattle.sc_laws.proofs.BoolLaws.{never}
 use Rattle.sc_lists.proofs.ListLaws.{all_element}
 use Rattle.sc_lists.proofs.MemberLaws.{Has-map, map-Has, Has-from_Contains, Contains-from_Has}
@@ -45,13 +44,14 @@ use Rattle.sc_terms.proofs.OrderLaws.{tree_eq-exact}
 use Rattle.sc_terms.proofs.FoldValues.{one_is, two_is}
 use Rattle.sc_terms.proofs.DefaultValues.{default_is}
 use Rattle.sc_rules.proofs.MemberLaws.{filter_passes, filter_within, filter_kept}
-use Rattle.sc_rules.specs.Signed.{so, unless, some_holds, Holds, is_true}
-use Rattle.sc_rules.specs.Terms.{one_sort, member, above, keys, entity}
-use Rattle.sc_rules.specs.Entities.{are_attributes_of, en1, same_sets, en2, en3, en4, en5, en6, is_uid_in, is_literal_of, en7_of, en7_by, en7, en8_of}
+use Rattle.sc_rules.specs.Signed.{Signed, Said, so, unless, some_holds, Holds, is_true}
+use Rattle.sc_rules.specs.Places.{roots, half}
+use Rattle.sc_rules.specs.Terms.{member, above, keys, entity}
+use Rattle.sc_rules.specs.Entities.{en1_of, en1, same_sets, en2, en3_of, en3, en4, en5, en6, is_uid_in, is_literal_of, en7_of, en7_by, en7, en8_of}
 use Rattle.sc_rules.proofs.ClauseLaws.{unless_else, so_else, so_holds, unless_holds, one_of, given_holds}
 use Rattle.sc_rules.proofs.EquationLaws.{is_equal, equal_so}
 use Rattle.sc_rules.proofs.MemberTruths.{is_member, member_so, member_moves}
-use Rattle.sc_rules.proofs.EqualSound.{one_sort_is}
+use Rattle.sc_rules.proofs.PlaceSound.{AreOne, places_one, half_holds, under_holds}
 
 -- ---- ancestors
 
@@ -105,35 +105,29 @@ module _ (w : World) where
   val_attributes : (k : Sort) (e : Tree) → val (one (unary.Attributes k) e) w ≡ it (attributes_value k (entity_in (val e w) w))
   val_attributes k e = one_is (unary.Attributes k) e w
 
-  -- what stands for an entity's attributes has their value
-  attributes_are : (e a : Tree) → are_attributes_of e a ≡ true → val a w ≡ it (attributes_value (tree_sort a) (entity_in (val e w) w))
+  attributes_one : (k l : Sort) (e f : Tree) → k ≡ l → val e w ≡ val f w → AreOne w (one (unary.Attributes k) e) (one (unary.Attributes l) f)
   unfolding tree_sort
-  attributes_are e (one (unary.Attributes k) f) h = val_attributes k f ∙ ap (λ (z : Tree). it (attributes_value k (entity_in (val z w) w))) (sym (tree_eq-exact e f h))
-  attributes_are e (one unary.Not f) h = absurd cc
-  attributes_are e (one (unary.Bit i) f) h = absurd cc
-  attributes_are e (one (unary.CarryIn i) f) h = absurd cc
-  attributes_are e (one (unary.ProductRow i j) f) h = absurd cc
-  attributes_are e (one (unary.ProductCarry i j) f) h = absurd cc
-  attributes_are e (one (unary.Ancestors k) f) h = absurd cc
-  attributes_are e (one unary.Keys f) h = absurd cc
-  attributes_are e (one (unary.Field name) f) h = absurd cc
-  attributes_are e (one unary.Present f) h = absurd cc
-  attributes_are e (one unary.Held f) h = absurd cc
-  attributes_are e (one (unary.Like q) f) h = absurd cc
-  attributes_are e (leaf l) h = absurd cc
-  attributes_are e (two o a b) h = absurd cc
-  attributes_are e (choice c a b) h = absurd cc
-  attributes_are e (many o ts) h = absurd cc
+  attributes_one k l e f h d = record {
+    value = val_attributes k e ∙ (λ i. it (attributes_value (h i) (entity_in (d i) w))) ∙ sym (val_attributes l f);
+    sorted = h;
+  }
 
-  pub en1_holds : (e f a b : Tree) → Holds w (en1 e f a b)
-  en1_holds e f a b = given_holds w (are_attributes_of e a && (are_attributes_of f b && one_sort a b)) _ (λ t.
-      let first = and_parts (are_attributes_of e a) (are_attributes_of f b && one_sort a b) t in
-      let rest = and_parts (are_attributes_of f b) (one_sort a b) first.1 in
-      unless_else w (equal_term e f) _ (λ d. so_holds w (equal_term a b) []
-      (equal_so w a b (attributes_are e a first.0
-      ∙ ap (λ (s : Sort). it (attributes_value s (entity_in (val e w) w))) (one_sort_is a b rest.1)
-      ∙ ap (λ (x : Val). it (attributes_value (tree_sort b) (entity_in x w))) (is_equal w e f d)
-      ∙ sym (attributes_are f b rest.0)))))
+  -- what is said of two terms holds where both have one value
+  abbrev AlikeHolds : Tree → Tree → Said → Type 0
+  AlikeHolds x y said = AreOne w x y → Holds w said
+
+  alike_some : (said : Said) (parts : List Signed) → Holds w said → said ≡ Some parts → some_holds w parts ≡ true
+  alike_some said parts h e = subst (Holds w) e h
+
+  en1_by : (x y r q : Tree) (said : Said) → (AreOne w r q → Holds w said) → Holds w (en1_of r q said)
+  en1_by x y (one (unary.Attributes k) e) (one (unary.Attributes l) f) said h =
+      under_holds w (sorts.eq k l) (unless (equal_term e f) ∷ []) said (λ t parts p. unless_else w (equal_term e f) parts (λ d.
+      alike_some said parts (h (attributes_one k l e f ((sort_eq_decides k l).0 t) (is_equal w e f d))) p))
+  en1_by x y (one (unary.Attributes k) e) _ said h = tt
+  en1_by x y _ q said h = tt
+
+  pub en1_holds : (x y : Tree) (i : ℕ) (z : Option Tree) → Holds w (en1 x y i z)
+  en1_holds x y i z = en1_by x y (roots x y).0 (roots x y).1 (half x y i z) (λ h. half_holds w x y i z (places_one w x y h).value)
 
   -- ---- EN2, EN3
 
@@ -168,20 +162,23 @@ module _ (w : World) where
   val_tag : (s : Sort) (e k : Tree) → val (two (binary.Tag s) e k) w ≡ it (tag_value s (text_in (val k w)) (entity_in (val e w) w))
   val_tag s e k = two_is (binary.Tag s) e k w
 
-  en3_at : (s t : Sort) (e k f l : Tree) → Holds w (en3 (two (binary.Tag s) e k) (two (binary.Tag t) f l))
-  en3_at s t e k f l = given_holds w (sorts.eq s t) _ (λ q. unless_else w (equal_term e f) _ (λ d. unless_else w (equal_term k l) _ (λ c.
-      so_holds w (equal_term (two (binary.Tag s) e k) (two (binary.Tag t) f l)) []
-      (equal_so w (two (binary.Tag s) e k) (two (binary.Tag t) f l)
-      (val_tag s e k
-      ∙ ap (λ (r : Sort). it (tag_value r (text_in (val k w)) (entity_in (val e w) w))) ((sort_eq_decides s t).0 q)
-      ∙ ap (λ (x : Val). it (tag_value t (text_in x) (entity_in (val e w) w))) (is_equal w k l c)
-      ∙ ap (λ (x : Val). it (tag_value t (text_in (val l w)) (entity_in x w))) (is_equal w e f d)
-      ∙ sym (val_tag t f l))))))
+  tags_one : (s t : Sort) (e k f l : Tree) → s ≡ t → val e w ≡ val f w → val k w ≡ val l w → AreOne w (two (binary.Tag s) e k) (two (binary.Tag t) f l)
+  unfolding tree_sort
+  tags_one s t e k f l h d c = record {
+    value = val_tag s e k ∙ (λ i. it (tag_value (h i) (text_in (c i)) (entity_in (d i) w))) ∙ sym (val_tag t f l);
+    sorted = h;
+  }
 
-  pub en3_holds : (a b : Tree) → Holds w (en3 a b)
-  en3_holds (two (binary.Tag s) e k) (two (binary.Tag t) f l) = en3_at s t e k f l
-  en3_holds (two (binary.Tag s) e k) _ = tt
-  en3_holds _ b = tt
+  en3_by : (x y r q : Tree) (said : Said) → (AreOne w r q → Holds w said) → Holds w (en3_of r q said)
+  en3_by x y (two (binary.Tag s) e k) (two (binary.Tag t) f l) said h =
+      under_holds w (sorts.eq s t) (unless (equal_term e f) ∷ unless (equal_term k l) ∷ []) said (λ q parts p.
+      unless_else w (equal_term e f) (unless (equal_term k l) ∷ parts) (λ d. unless_else w (equal_term k l) parts (λ c.
+      alike_some said parts (h (tags_one s t e k f l ((sort_eq_decides s t).0 q) (is_equal w e f d) (is_equal w k l c))) p)))
+  en3_by x y (two (binary.Tag s) e k) _ said h = tt
+  en3_by x y _ q said h = tt
+
+  pub en3_holds : (x y : Tree) (i : ℕ) (z : Option Tree) → Holds w (en3 x y i z)
+  en3_holds x y i z = en3_by x y (roots x y).0 (roots x y).1 (half x y i z) (λ h. half_holds w x y i z (places_one w x y h).value)
 
   -- ---- EN4, EN5
 

@@ -1,6 +1,6 @@
 //! Each rule is true in every world: at any terms, or, where it rests on sorts or on what is
 //! stored, at the terms of a lawful schema in each of its well-formed worlds.
-ghost use Rattle.std.specs.Prelude.{ℕ, List, length};
+ghost use Rattle.std.specs.Prelude.{ℕ, List, length, Option};
 ghost use Rattle.std.specs.List.{All};
 ghost use Rattle.sc_world.specs.declared.world.World.{World as AnyWorld};
 ghost use Rattle.sc_terms.specs.Trees.{Tree};
@@ -39,13 +39,13 @@ pub fn set_laws()
     ensures sets { InWorlds (λ d IsTerm w. (s t : Tree) (i : ℕ) → IsTerm s → IsTerm t → Holds w (se8 s t i)) }
 {}
 
-/// The rules of entities: equal ones have equal attributes, ancestors, keys and tags; ancestors are
+/// The rules of entities: equal ones have alike attributes, ancestors, keys and tags; ancestors are
 /// transitive and acyclic; a tag without a key is the default; actions have their declared
 /// ancestors, and an entity of a type of actions is a declared one.
 pub fn entity_laws()
-    ensures attributes { (w : AnyWorld) (e f a b : Tree) → Holds w (en1 e f a b) }
+    ensures attributes { (w : AnyWorld) (x y : Tree) (i : ℕ) (z : Option Tree) → Holds w (en1 x y i z) }
     ensures sets { (w : AnyWorld) (x s z : Tree) → Holds w (en2 x s z) }
-    ensures tags { (w : AnyWorld) (a b : Tree) → Holds w (en3 a b) }
+    ensures tags { (w : AnyWorld) (x y : Tree) (i : ℕ) (z : Option Tree) → Holds w (en3 x y i z) }
     ensures acyclic { InWorlds (λ d IsTerm w. (e : Tree) → Holds w (en4 e)) }
     ensures transitive { InWorlds (λ d IsTerm w. (e f x u : Tree) → Holds w (en5 e f x u)) }
     ensures absent { InWorlds (λ d IsTerm w. (a : Tree) → IsTerm a → Holds w (en6 a)) }
