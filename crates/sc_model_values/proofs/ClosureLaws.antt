@@ -18,7 +18,7 @@ use Rattle.sc_terms.specs.Trees.{Tree, one, two}
 use Rattle.sc_terms.specs.TreeSorts.{tree_sort}
 use Rattle.sc_terms.specs.Folds.{equal_term, field_term, held_term, default_term}
 use Rattle.sc_definitions.specs.Definitions.{inputs_of}
-use Rattle.sc_closure_rules.specs.Closure.{Closed, next, pair, Role, named, candidate, attributes, tag, set, inside, inside_by, choices, beside, parts, follow, follow_pair, half, meet, roles, roles_by, roles_in, one_sort, equated_by, is_over, members_by, ancestors_by, ancestors_of, declared_ancestors, declared_members, uid_term}
+use Rattle.sc_closure_rules.specs.Closure.{Closed, next, pair, Role, named, candidate, set, inside, inside_by, choices, beside, parts, follow, follow_pair, half, meet, roles, roles_by, roles_in, one_sort, equated_by, is_over, members_by, ancestors_by, ancestors_of, declared_ancestors, declared_members, uid_term}
 use Rattle.sc_closure_rules.proofs.RoleLaws.{has_half}
 
 module _ (d : Declarations) (env : Env) (goal : Tree) where
@@ -130,24 +130,6 @@ module _ (d : Declarations) (env : Env) (goal : Tree) where
   entities_equation name us x y e f c h =
       met x y (equal_term x y) (named x) (named y) c h (role_at x (sort.Entity name us) (s.Entity name us) (named x) e (out_Entity name us) (inl refl))
       (role_at y (sort.Entity name us) (s.Entity name us) (named y) f (out_Entity name us) (inl refl)) (equated x y x y (e ∙ sym f))
-
-  pub attributes_equation : (k l : Sort) (e f : Tree) → tree_sort e ≡ tree_sort f → Closed d env goal (one (unary.Attributes k) e) → Closed d env goal (one (unary.Attributes l) f)
-      → Closed d env goal (equal_term (one (unary.Attributes k) e) (one (unary.Attributes l) f))
-  attributes_equation k l e f h c i =
-      let x : Tree = one (unary.Attributes k) e in
-      let y : Tree = one (unary.Attributes l) f in
-      met (one (unary.Attributes k) e) (one (unary.Attributes l) f) (equal_term (one (unary.Attributes k) e) (one (unary.Attributes l) f))
-      (attributes e (one (unary.Attributes k) e)) (attributes f (one (unary.Attributes l) f)) c i
-      (role_in x (attributes e x) (inl refl)) (role_in y (attributes f y) (inl refl)) (equated e f x y h)
-
-  pub tags_equation : (k l : Sort) (e f a b : Tree) → tree_sort e ≡ tree_sort f → Closed d env goal (two (binary.Tag k) e a) → Closed d env goal (two (binary.Tag l) f b)
-      → Closed d env goal (equal_term (two (binary.Tag k) e a) (two (binary.Tag l) f b))
-  tags_equation k l e f a b h c i =
-      let x : Tree = two (binary.Tag k) e a in
-      let y : Tree = two (binary.Tag l) f b in
-      met (two (binary.Tag k) e a) (two (binary.Tag l) f b) (equal_term (two (binary.Tag k) e a) (two (binary.Tag l) f b))
-      (tag e (two (binary.Tag k) e a)) (tag f (two (binary.Tag l) f b)) c i
-      (role_in x (tag e x) (inl refl)) (role_in y (tag f y) (inl refl)) (equated e f x y h)
 
   -- a closed term brings x in as a candidate for membership of sets
   pub record IsCandidate (x : Tree) : Type 0 where

@@ -35,7 +35,8 @@ use Rattle.sc_term_laws.proofs.JudgingLaws.{sort_is}
 use Rattle.sc_term_laws.proofs.SortsLawful.{lawful_type}
 use Rattle.sc_rules.specs.Signed.{Signed, Said, so, unless, given}
 use Rattle.sc_rules.specs.Sets.{se1}
-use Rattle.sc_rules.specs.Entities.{are_attributes_of, same_sets, en1, en2, en3, en4, en5, en6}
+use Rattle.sc_rules.specs.Entities.{same_sets, en1_of, en1, en2, en3_of, en3, en4, en5, en6}
+use Rattle.sc_rules.specs.Places.{roots, half, under}
 use Rattle.sc_rules.specs.Terms.{one_sort}
 use Rattle.sc_closure_rules.specs.Closure.{Closed}
 use Rattle.sc_closure_rules.specs.Goals.{IsGoal}
@@ -44,9 +45,10 @@ use Rattle.sc_rebuilding.specs.Consistent.{IsRuleAt, of_se1, of_en1, of_en2, of_
 use Rattle.sc_rebuilding.specs.Laws.{EquationsAgree}
 use Rattle.sc_rebuilding.specs.Vals.{Model, assigned, val_of}
 use Rattle.sc_rebuilding.specs.Models.{IsModel}
-use Rattle.sc_rebuilding.proofs.HoldLaws.{second, third, last}
-use Rattle.sc_model_values.proofs.ClosureLaws.{of_part, tag_keys, tag_key, tag_default, above_closed, strings_equation, entities_equation, attributes_equation, tags_equation, member_closed, above_candidate, member_candidate}
+use Rattle.sc_rebuilding.proofs.HoldLaws.{second, third, last, others}
+use Rattle.sc_model_values.proofs.ClosureLaws.{of_part, tag_keys, tag_key, tag_default, above_closed, strings_equation, entities_equation, member_closed, above_candidate, member_candidate}
 use Rattle.sc_model_values.proofs.DefaultLaws.{AreAddresses, is_default}
+use Rattle.sc_model_values.proofs.LinkLaws.{AreLinked, linked_val}
 use Rattle.sc_model_values.proofs.FittingLaws.{AreMade, is_assigned, assigned_is, assigned_sorted, lawful_at}
 
 module _ (d : Declarations) (env : Env) (literals : List Uid) where
@@ -117,6 +119,14 @@ keys_sort e = refl
 pub tag_sort : (k : Sort) (e x : Tree) → tree_sort (two (binary.Tag k) e x) ≡ k
 unfolding tree_sort
 tag_sort k e x = refl
+
+own_roots : (k l : Sort) (e f : Tree) → roots (one (unary.Attributes k) e) (one (unary.Attributes l) f) ≡ (one (unary.Attributes k) e, one (unary.Attributes l) f)
+unfolding roots
+own_roots k l e f = refl
+
+tag_roots : (k l : Sort) (e f x y : Tree) → roots (two (binary.Tag k) e x) (two (binary.Tag l) f y) ≡ (two (binary.Tag k) e x, two (binary.Tag l) f y)
+unfolding roots
+tag_roots k l e f x y = refl
 
 passed : (test : Bool) (parts : List Signed) → test ≡ true → given test parts ≡ Some parts
 passed test parts e = ap (λ t. given t parts) e
@@ -234,7 +244,7 @@ module _ (d : Declarations) (env : Env) (literals : List Uid) (goal : Tree) (mad
       let i : Closed d env goal x = of_part d env goal (two (binary.Tag k) e x) x c (inr (inl refl)) in
       moved y x (one unary.Keys e) there.0 i (tag_keys d env goal k e x c) (one_text y x there.1 p.key there.0 i t) (member_true (one unary.Keys e) y a) (tag_key d env goal k e x c)
 
-  module _ (lawful : IsLawful d) (is : IsGoal d env literals goal) (agree : EquationsAgree) where
+  module _ (addresses : AreAddresses) (lawful : IsLawful d) (is : IsGoal d env literals goal) (agree : EquationsAgree) where
     -- ---- attributes
 
     pub one_attributes : (k l : Sort) (e f : Tree) → Closed d env goal (one (unary.Attributes k) e) → Closed d env goal (one (unary.Attributes l) f) → m.uid e ≡ m.uid f
@@ -248,17 +258,23 @@ module _ (d : Declarations) (env : Env) (literals : List Uid) (goal : Tree) (mad
         let types : p.type ≡ r.type = same_some (sym p.declared ∙ ap (attrs_of d) n ∙ r.declared) in
         let kinds : k ≡ l = p.own ∙ ap sort_of types ∙ sym r.own in
         let q = one_entity p.name e f p.sorted (r.sorted ∙ ap (entity_sort d) (sym n)) (of_part d env goal (one (unary.Attributes k) e) e c (inl refl)) (of_part d env goal (one (unary.Attributes l) f) f i (inl refl)) u in
-        let whole = attributes_equation d env goal k l e f (one_kind p.name r.name e f p.sorted r.sorted u) c i in
-        let sorts_same : tree_sort (one (unary.Attributes k) e) ≡ tree_sort (one (unary.Attributes l) f) = attributes_sort k e ∙ kinds ∙ sym (attributes_sort l f) in
-        let test : (are_attributes_of e a && (are_attributes_of f b && one_sort a b)) ≡ true =
-        both_true (tree_eq-itself e) (both_true (tree_eq-itself f) ((sort_eq_decides (tree_sort (one (unary.Attributes k) e)) (tree_sort (one (unary.Attributes l) f))).1 sorts_same)) in
-        let parts : List Signed = unless (equal_term e f) ∷ so (equal_term (one (unary.Attributes k) e) (one (unary.Attributes l) f)) ∷ [] in
-        let equal = second m.truths false true (equal_term e f) (equal_term (one (unary.Attributes k) e) (one (unary.Attributes l) f))
-        (ruled (en1 e f a b) parts (of_en1 e f a b (of_part d env goal (one (unary.Attributes k) e) e c (inl refl)) (of_part d env goal (one (unary.Attributes l) f) f i (inl refl)) c i)
-        (passed (are_attributes_of e a && (are_attributes_of f b && one_sort a b)) parts test) (q.0, (whole, tt))) q.1 in
-        ap (λ (j : Sort). val_of m j (one (unary.Attributes k) e)) (sym (attributes_sort k e))
-        ∙ (agree d env literals goal m (one (unary.Attributes k) e) (one (unary.Attributes l) f) lawful is model c i sorts_same whole).0 equal
-        ∙ ap (λ (j : Sort). val_of m j (one (unary.Attributes l) f)) (attributes_sort l f)
+        let back = one_entity p.name f e (r.sorted ∙ ap (entity_sort d) (sym n)) p.sorted (of_part d env goal (one (unary.Attributes l) f) f i (inl refl)) (of_part d env goal (one (unary.Attributes k) e) e c (inl refl)) (sym u) in
+        let same : sorts.eq k l ≡ true = (sort_eq_decides k l).1 kinds in
+        let turned : sorts.eq l k ≡ true = (sort_eq_decides l k).1 (sym kinds) in
+        let linked : AreLinked d env literals goal made m model addresses lawful is a b = record {
+          built_first = refl;
+          built_second = refl;
+          forth = λ x y at g h j z parts t w all.
+              let said : en1 x y j z ≡ Some (unless (equal_term e f) ∷ parts) =
+              (λ v. en1_of (at v).0 (at v).1 (half x y j z)) ∙ ap (λ (b : Bool). under b (unless (equal_term e f) ∷ []) (half x y j z)) same ∙ ap (under true (unless (equal_term e f) ∷ [])) w in
+              others m.truths false (equal_term e f) parts (ruled (en1 x y j z) (unless (equal_term e f) ∷ parts) (of_en1 x y j z g h t) said (q.0, all)) q.1;
+          back = λ x y at g h j z parts t w all.
+              let said : en1 y x j z ≡ Some (unless (equal_term f e) ∷ parts) =
+              (λ v. en1_of (at v).0 (at v).1 (half y x j z)) ∙ ap (λ (b : Bool). under b (unless (equal_term f e) ∷ []) (half y x j z)) turned ∙ ap (under true (unless (equal_term f e) ∷ [])) w in
+              others m.truths false (equal_term f e) parts (ruled (en1 y x j z) (unless (equal_term f e) ∷ parts) (of_en1 y x j z h g t) said (back.0, all)) back.1;
+        } in
+        linked_val d env literals goal made m model addresses lawful is a b linked k c i (attributes_sort k e) (attributes_sort l f ∙ sym kinds) (own_roots k l e f) (own_roots l k f e)
+        ∙ ap (λ (j : Sort). val_of m j (one (unary.Attributes l) f)) kinds
 
     -- ---- tags
 
@@ -274,18 +290,32 @@ module _ (d : Declarations) (env : Env) (literals : List Uid) (goal : Tree) (mad
         let kinds : k ≡ l = p.own ∙ ap sort_of types ∙ sym r.own in
         let q = one_entity p.name e f p.sorted (r.sorted ∙ ap (entity_sort d) (sym n)) (of_part d env goal (two (binary.Tag k) e x) e c (inl refl)) (of_part d env goal (two (binary.Tag l) f y) f i (inl refl)) u in
         let v = one_text x y p.key r.key (of_part d env goal (two (binary.Tag k) e x) x c (inr (inl refl))) (of_part d env goal (two (binary.Tag l) f y) y i (inr (inl refl))) t in
-        let whole = tags_equation d env goal k l e f x y (one_kind p.name r.name e f p.sorted r.sorted u) c i in
-        let sorts_same : tree_sort (two (binary.Tag k) e x) ≡ tree_sort (two (binary.Tag l) f y) = tag_sort k e x ∙ kinds ∙ sym (tag_sort l f y) in
-        let parts : List Signed = unless (equal_term e f) ∷ unless (equal_term x y) ∷ so (equal_term (two (binary.Tag k) e x) (two (binary.Tag l) f y)) ∷ [] in
-        let equal = third m.truths false false true (equal_term e f) (equal_term x y) (equal_term (two (binary.Tag k) e x) (two (binary.Tag l) f y))
-        (ruled (en3 a b) parts (of_en3 a b c i) (passed (sorts.eq k l) parts ((sort_eq_decides k l).1 kinds)) (q.0, (v.0, (whole, tt)))) q.1 v.1 in
-        ap (λ (j : Sort). val_of m j (two (binary.Tag k) e x)) (sym (tag_sort k e x))
-        ∙ (agree d env literals goal m (two (binary.Tag k) e x) (two (binary.Tag l) f y) lawful is model c i sorts_same whole).0 equal
-        ∙ ap (λ (j : Sort). val_of m j (two (binary.Tag l) f y)) (tag_sort l f y)
+        let back = one_entity p.name f e (r.sorted ∙ ap (entity_sort d) (sym n)) p.sorted (of_part d env goal (two (binary.Tag l) f y) f i (inl refl)) (of_part d env goal (two (binary.Tag k) e x) e c (inl refl)) (sym u) in
+        let keyed = one_text y x r.key p.key (of_part d env goal (two (binary.Tag l) f y) y i (inr (inl refl))) (of_part d env goal (two (binary.Tag k) e x) x c (inr (inl refl))) (sym t) in
+        let same : sorts.eq k l ≡ true = (sort_eq_decides k l).1 kinds in
+        let turned : sorts.eq l k ≡ true = (sort_eq_decides l k).1 (sym kinds) in
+        let linked : AreLinked d env literals goal made m model addresses lawful is a b = record {
+          built_first = refl;
+          built_second = refl;
+          forth = λ z o at g h j w parts t said all.
+              let whole : en3 z o j w ≡ Some (unless (equal_term e f) ∷ unless (equal_term x y) ∷ parts) =
+              (λ v. en3_of (at v).0 (at v).1 (half z o j w)) ∙ ap (λ (b : Bool). under b (unless (equal_term e f) ∷ unless (equal_term x y) ∷ []) (half z o j w)) same
+              ∙ ap (under true (unless (equal_term e f) ∷ unless (equal_term x y) ∷ [])) said in
+              others m.truths false (equal_term x y) parts (others m.truths false (equal_term e f) (unless (equal_term x y) ∷ parts)
+              (ruled (en3 z o j w) (unless (equal_term e f) ∷ unless (equal_term x y) ∷ parts) (of_en3 z o j w g h t) whole (q.0, (v.0, all))) q.1) v.1;
+          back = λ z o at g h j w parts t said all.
+              let whole : en3 o z j w ≡ Some (unless (equal_term f e) ∷ unless (equal_term y x) ∷ parts) =
+              (λ v. en3_of (at v).0 (at v).1 (half o z j w)) ∙ ap (λ (b : Bool). under b (unless (equal_term f e) ∷ unless (equal_term y x) ∷ []) (half o z j w)) turned
+              ∙ ap (under true (unless (equal_term f e) ∷ unless (equal_term y x) ∷ [])) said in
+              others m.truths false (equal_term y x) parts (others m.truths false (equal_term f e) (unless (equal_term y x) ∷ parts)
+              (ruled (en3 o z j w) (unless (equal_term f e) ∷ unless (equal_term y x) ∷ parts) (of_en3 o z j w h g t) whole (back.0, (keyed.0, all))) back.1) keyed.1;
+        } in
+        linked_val d env literals goal made m model addresses lawful is a b linked k c i (tag_sort k e x) (tag_sort l f y ∙ sym kinds) (tag_roots k l e f x y) (tag_roots l k f e y x)
+        ∙ ap (λ (j : Sort). val_of m j (two (binary.Tag l) f y)) kinds
 
-    pub absent_tag : (addresses : AreAddresses) (k : Sort) (e x : Tree) → Closed d env goal (two (binary.Tag k) e x) → lit m.truths (two binary.Member x (one unary.Keys e)) ≡ false
+    pub absent_tag : (k : Sort) (e x : Tree) → Closed d env goal (two (binary.Tag k) e x) → lit m.truths (two binary.Member x (one unary.Keys e)) ≡ false
         → val_of m k (two (binary.Tag k) e x) ≡ default_val k
-    absent_tag addresses k e x c t =
+    absent_tag k e x c t =
         let a : Tree = two (binary.Tag k) e x in
         let whole = tag_default d env goal k e x c in
         let parts : List Signed = so (two binary.Member x (one unary.Keys e)) ∷ so (equal_term (two (binary.Tag k) e x) (default_term k)) ∷ [] in

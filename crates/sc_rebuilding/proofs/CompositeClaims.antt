@@ -72,7 +72,7 @@ place_of [] x h = absurd h
 place_of (y ∷ xs) x (inl is) = (0, ap Some is)
 place_of (y ∷ xs) x (inr later) = let p = place_of xs x later in (suc p.0, p.1)
 
-same_joined : {X Y : Type 0} (g h : X → List Y) (xs : List X) → ((x : X) → Has xs x → g x ≡ h x) → flat_map g xs ≡ flat_map h xs
+pub same_joined : {X Y : Type 0} (g h : X → List Y) (xs : List X) → ((x : X) → Has xs x → g x ≡ h x) → flat_map g xs ≡ flat_map h xs
 same_joined g h [] e = refl
 same_joined g h (x ∷ xs) e =
     let first = e x (inl refl) in

@@ -1,11 +1,11 @@
-mod SortSteps
+pub mod SortSteps
 mod SortLaws
 mod ValLaws
 mod EquationTerms
 pub mod HoldLaws
-mod ClosedLaws
+pub mod ClosedLaws
 mod ClaimLaws
-mod CompositeClaims
+pub mod CompositeClaims
 mod RowLaws
 pub mod ManyRows
 mod SumRows

@@ -111,9 +111,9 @@ module _ (d : Declarations) (env : Env) (literals : List Uid) (goal : Tree) (ter
   rule_holds _ (rule.of_se6 x y i c e) = se6_holds w x y i
   rule_holds _ (rule.of_se7 x y z c e f) = se7_holds w x y z
   rule_holds _ (rule.of_se8 x y i c e) = se8_true d env literals w lawful well x y i (terms.made x c) (terms.made y e)
-  rule_holds _ (rule.of_en1 e f a b p q r t) = en1_holds w e f a b
+  rule_holds _ (rule.of_en1 x y i z p q r) = en1_holds w x y i z
   rule_holds _ (rule.of_en2 x y z c e f) = en2_holds w x y z
-  rule_holds _ (rule.of_en3 a b c e) = en3_holds w a b
+  rule_holds _ (rule.of_en3 x y i z p q r) = en3_holds w x y i z
   rule_holds _ (rule.of_en4 e c) = en4_true d env literals w lawful well e
   rule_holds _ (rule.of_en5 e f x y p q r t) = en5_true d env literals w lawful well e f x y
   rule_holds _ (rule.of_en6 a c) = en6_true d env literals w lawful well a (terms.made a c)

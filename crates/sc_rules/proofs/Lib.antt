@@ -7,6 +7,7 @@ pub mod MemberTruths
 pub mod SortValues
 pub mod EqualSound
 pub mod SetSound
+pub mod PlaceLaws
 pub mod PlaceSound
 pub mod EntitySound
 pub mod StringSound

@@ -1,15 +1,14 @@
 -- Like places of what has one value have one value, and so are alike.
-use Rattle.std.proofs.Common.{◌≡◌, ◌++◌, ℕ, zero, suc, nat_lt, Bool, true, false, cond, List, [], ◌∷◌, Option, Some, None, is_some, refl, sym, ap, ◌∙◌, subst}
+use Rattle.std.proofs.Common.{◌≡◌, ◌++◌, ℕ, zero, suc, nat_lt, Bool, true, false, List, [], ◌∷◌, Option, Some, None, is_some, refl, sym, ap, ◌∙◌, subst}
 use Rattle.sc_lists.specs.Members.{Has}
 use Rattle.sc_lists.proofs.TextLaws.{bytes_eq_true}
 use Rattle.sc_world.specs.declared.world.World.{World}
 use Rattle.sc_sorts.specs.declared.sort.Sort.{Sort, Sort-F, out-Sort}
 use Rattle.sc_sorts.specs.declared.sort.Sort.TheOpen as s
 use Rattle.sc_sorts.specs.Inside.{held_sort, field_sort}
-use Rattle.sc_nodes.specs.Sorts.{unary_sort}
 use Rattle.sc_nodes.specs.declared.node.UnaryOp.{UnaryOp}
 use Rattle.sc_nodes.specs.declared.node.UnaryOp.TheVariants as unary
-use Rattle.sc_terms.specs.Trees.{Tree, leaf, one, two, choice, many}
+use Rattle.sc_terms.specs.Trees.{Tree, one}
 use Rattle.sc_terms.specs.TreeSorts.{tree_sort}
 use Rattle.sc_terms.specs.Folds.{equal_term, present_term, bit_term}
 use Rattle.sc_terms.specs.Values.{Val, yes, truth, val, level, bit_seen, members_in, option_in, held_value, field_value}
@@ -19,6 +18,7 @@ use Rattle.sc_rules.specs.Terms.{member}
 use Rattle.sc_rules.specs.Places.{same_step, roots, half_by, half, under}
 use Rattle.sc_rules.proofs.ClauseLaws.{unless_else, so_holds, given_holds}
 use Rattle.sc_rules.proofs.EquationLaws.{equal_so}
+use Rattle.sc_rules.proofs.PlaceLaws.{places_kept, field_sorted, held_sorted}
 use Rattle.sc_rules.proofs.MemberTruths.{member_moves, present_truth}
 
 -- two terms have one value in a world, and one sort
@@ -26,17 +26,13 @@ pub record AreOne (w : World) (x y : Tree) : Type 0 where
   pub value : val x w ≡ val y w
   pub sorted : tree_sort x ≡ tree_sort y
 
-one_sorted : (o : UnaryOp) (a b : Tree) → tree_sort a ≡ tree_sort b → tree_sort (one o a) ≡ tree_sort (one o b)
-unfolding tree_sort
-one_sorted o a b e = ap (unary_sort o) e
-
 module _ (w : World) where
   field_one : (m n : List ℕ) (a b : Tree) → m ≡ n → AreOne w a b → AreOne w (one (unary.Field m) a) (one (unary.Field n) b)
   field_one m n a b e h = record {
     value = one_is (unary.Field m) a w
         ∙ (λ i. field_value (e i) (field_sort (e i) (h.sorted i)) (h.value i))
         ∙ sym (one_is (unary.Field n) b w);
-    sorted = ap (λ (l : List ℕ). tree_sort (one (unary.Field l) a)) e ∙ one_sorted (unary.Field n) a b h.sorted;
+    sorted = field_sorted m n a b e h.sorted;
   }
 
   held_one : (a b : Tree) → AreOne w a b → AreOne w (one unary.Held a) (one unary.Held b)
@@ -44,7 +40,7 @@ module _ (w : World) where
     value = one_is unary.Held a w
         ∙ (λ i. held_value (held_sort (h.sorted i)) (option_in (h.value i)))
         ∙ sym (one_is unary.Held b w);
-    sorted = one_sorted unary.Held a b h.sorted;
+    sorted = held_sorted a b h.sorted;
   }
 
   step_one : (o q : UnaryOp) (a b : Tree) → same_step o q ≡ true → AreOne w a b → AreOne w (one o a) (one q b)
@@ -54,26 +50,8 @@ module _ (w : World) where
   step_one unary.Held _ a b e h = absurd cc
   step_one _ _ a b e h = absurd cc
 
-  -- the same where they are got by the same steps from two that have
-  abbrev Roots : Tree × Tree → Type 0
-  Roots r = AreOne w r.0 r.1
-
-  step_by : (t : Bool) (o q : UnaryOp) (a b : Tree) → same_step o q ≡ t → (Roots (roots a b) → AreOne w a b)
-      → Roots (cond t (roots a b) (one o a, one q b)) → AreOne w (one o a) (one q b)
-  step_by true o q a b e next h = step_one o q a b e (next h)
-  step_by false o q a b e next h = h
-
-  pub places_one : (x y : Tree) → Roots (roots x y) → AreOne w x y
-  unfolding roots
-  places_one (one o a) (one q b) h = step_by (same_step o q) o q a b refl (places_one a b) h
-  places_one (one o a) (leaf l) h = h
-  places_one (one o a) (two q b c) h = h
-  places_one (one o a) (choice b c e) h = h
-  places_one (one o a) (many q ts) h = h
-  places_one (leaf l) y h = h
-  places_one (two o a b) y h = h
-  places_one (choice a b c) y h = h
-  places_one (many o ts) y h = h
+  pub places_one : (x y : Tree) → AreOne w (roots x y).0 (roots x y).1 → AreOne w x y
+  places_one x y h = places_kept (AreOne w) step_one x y h
 
   -- ---- what has one value is alike
 
