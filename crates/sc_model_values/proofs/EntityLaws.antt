@@ -1,7 +1,6 @@
 -- What a model tells of equal entities: they have the same attributes, ancestors, keys and tags. Ancestors of ancestors are ancestors,
 -- none is its own, and a tag without a key is the default.
-use Rattle.std.proofs.Common.{◌≡◌, ◌&&◌, inl, inr, cond, ℕ, Bool, true, false, List, [], ◌∷◌, Option, Some, option_map, unwrap_or, Contains, refl, sym, ap, ◌∙◌, subst}
-use Rattle.std.specs.Cmp.Derive.{both_true}
+use Rattle.std.proofs.Common.{◌≡◌, inl, inr, cond, ℕ, Bool, true, false, List, [], ◌∷◌, Option, Some, option_map, unwrap_or, Contains, refl, sym, ap, ◌∙◌, subst}
 use Rattle.std.specs.List.{AllByRecursion}
 use Rattle.sc_lists.specs.Members.{Has}
 use Rattle.sc_lists.proofs.ListLaws.{all_element}
@@ -37,7 +36,6 @@ use Rattle.sc_rules.specs.Signed.{Signed, Said, so, unless, given}
 use Rattle.sc_rules.specs.Sets.{se1}
 use Rattle.sc_rules.specs.Entities.{same_sets, en1_of, en1, en2, en3_of, en3, en4, en5, en6}
 use Rattle.sc_rules.specs.Places.{roots, half, under}
-use Rattle.sc_rules.specs.Terms.{one_sort}
 use Rattle.sc_closure_rules.specs.Closure.{Closed}
 use Rattle.sc_closure_rules.specs.Goals.{IsGoal}
 use Rattle.sc_rebuilding.specs.Assignments.{lit, some_hold}

@@ -117,7 +117,7 @@ module _ (d : Declarations) (env : Env) (literals : List Uid) (goal : Tree) (mad
     pub lawful_at : (k : Sort) (x : Tree) → tree_sort x ≡ k → Closed d env goal x → IsSortOf d k
     lawful_at k x e c = subst (IsSortOf d) e (sort_lawful d env literals lawful is.environment is.declared (tree_sort x) x (made x c))
 
-    term_at : (k : Sort) (x : Tree) → tree_sort x ≡ k → Closed d env goal x → IsTermOf d env literals k x
+    pub term_at : (k : Sort) (x : Tree) → tree_sort x ≡ k → Closed d env goal x → IsTermOf d env literals k x
     term_at k x e c = subst (λ (j : Sort). IsTermOf d env literals j x) e (made x c)
 
     module _ (addressed : (f : ℕ → Bool) → AreBlockBits f → IsIp (ip_of f)) (es : Entities) (named : AreNamesIn d env goal m es) where

@@ -1,13 +1,12 @@
 -- What a model gives the like places of two terms is one, where each half of what says so is true: so are the attributes of equal
 -- entities, and their tags under equal keys.
-use Rattle.std.proofs.Common.{◌≡◌, ◌<◌, inl, inr, ℕ, Bool, true, false, nat_lt, List, [], ◌∷◌, map, flat_map, Option, Some, None, IfSome, refl, sym, ap, ◌∙◌, subst}
+use Rattle.std.proofs.Common.{◌≡◌, ◌<◌, ℕ, Bool, true, false, nat_lt, List, [], ◌∷◌, map, Option, Some, None, IfSome, refl, sym, ap, ◌∙◌, subst}
 use Rattle.std.specs.Int.{w64}
 use Rattle.std.specs.List.{AllByRecursion}
-use Rattle.std.proofs.lemmas.Nat.{nat_lt_true}
+use Rattle.sc_laws.proofs.NumberLaws.{nat_lt_true}
 use Rattle.sc_lists.specs.Members.{Has}
 use Rattle.sc_lists.proofs.MemberLaws.{Has-map, map-Has}
 use Rattle.sc_bits.specs.Addresses.{ip_of}
-use Rattle.sc_bits.specs.Bits.{of_bits64}
 use Rattle.sc_bits.specs.Blocks.{AreBlockBits}
 use Rattle.sc_bits.proofs.IntegerLaws.{of_bits-same}
 use Rattle.sc_names.specs.declared.uid.Uid.{Uid}
@@ -25,10 +24,10 @@ use Rattle.sc_sorts.proofs.EveryLaws.{in_Record}
 use Rattle.sc_sorts.proofs.OutLaws.{out_Bool, out_Long, out_String, out_Decimal, out_Ip, out_Entity, out_Set, out_Option}
 use Rattle.sc_nodes.specs.declared.node.UnaryOp.TheVariants as unary
 use Rattle.sc_nodes.specs.declared.node.BinaryOp.TheVariants as binary
-use Rattle.sc_terms.specs.Trees.{Tree, one, two}
+use Rattle.sc_terms.specs.Trees.{Tree, two}
 use Rattle.sc_terms.specs.TreeSorts.{tree_sort}
 use Rattle.sc_terms.specs.Folds.{equal_term, field_term, present_term, held_term, bit_term}
-use Rattle.sc_terms.specs.Values.{Val, it, yes, value_in, field_of, set_from}
+use Rattle.sc_terms.specs.Values.{Val, it, yes, value_in, field_of}
 use Rattle.sc_term_laws.specs.LawfulSorts.{IsSortLevel}
 use Rattle.sc_term_laws.proofs.DefaultMade.{held_made}
 use Rattle.sc_term_laws.proofs.JudgingLaws.{sort_is}
