@@ -12,7 +12,6 @@ use Rattle.sc_nodes.specs.declared.node.Literal.TheVariants as literal
 use Rattle.sc_nodes.specs.Literals.{same_entity}
 use Rattle.sc_terms.specs.Trees.{Tree, leaf}
 use Rattle.sc_terms.specs.Tables.{tree, Keeps, StandsFor}
-use Rattle.sc_terms.specs.TreeSorts.{tree_sort}
 use Rattle.sc_terms.specs.Order.{tree_eq}
 use Rattle.sc_terms.specs.Folds.{truth_term, constant, literal_of, literals_same, equal_term}
 use Rattle.sc_terms.proofs.OrderLaws.{tree_eq-itself}
@@ -193,28 +192,25 @@ value_equates xs s1 s2 ls ms ns g term w d within v p q =
 
 -- ---- the equations of groups, one after the other
 
-module _ (gs : List Group) (s0 s1 : List Node) (ls ms : List ℕ) (i key term : ℕ) where
+module _ (gs : List Group) (s0 s1 : List Node) (ls ms : List ℕ) (i term : ℕ) where
   abbrev told_at : Group → List Tree
-  told_at g = met_in Equation (tree s0 g.key) (stood s0 g.members) (tree_sort (tree s0 key)) (tree s0 term)
+  told_at g = met_in Equation (tree s0 g.first) (stood s0 g.members) (tree s0 term)
 
-  pub equates_next : (s2 : List Node) (ns : List ℕ) (g : Group) → AllByRecursion (IsGroupWithin (length s0)) gs → key < length s0 → term < length s0
-      → Equates s0 s1 ls ms (met_among Equation s0 (take i gs) (tree_sort (tree s0 key)) (tree s0 term)) (tree s0 term) → i < length gs → g ≡ get_or gs i g
-      → Equates s1 s2 ms ns (met_in Equation (tree s1 g.key) (stood s1 g.members) (tree_sort (tree s1 key)) (tree s1 term)) (tree s1 term)
-      → Equates s0 s2 ls ns (met_among Equation s0 (take (i + 1) gs) (tree_sort (tree s0 key)) (tree s0 term)) (tree s0 term)
-  equates_next s2 ns g within key_in term_in so_far h at p =
+  pub equates_next : (s2 : List Node) (ns : List ℕ) (g : Group) → AllByRecursion (IsGroupWithin (length s0)) gs → term < length s0
+      → Equates s0 s1 ls ms (met_among Equation s0 (take i gs) (tree s0 term)) (tree s0 term) → i < length gs → g ≡ get_or gs i g
+      → Equates s1 s2 ms ns (met_in Equation (tree s1 g.first) (stood s1 g.members) (tree s1 term)) (tree s1 term)
+      → Equates s0 s2 ls ns (met_among Equation s0 (take (i + 1) gs) (tree s0 term)) (tree s0 term)
+  equates_next s2 ns g within term_in so_far h at p =
       let kept = so_far.puts.kept in
       let here = group_at (length s0) gs within i g h at in
-      let same : met_in Equation (tree s1 g.key) (stood s1 g.members) (tree_sort (tree s1 key)) (tree s1 term) ≡ told_at g =
-      ap (λ (t : Tree). met_in Equation (tree s1 g.key) (stood s1 g.members) (tree_sort t) (tree s1 term)) (kept.same key key_in)
-      ∙ ap (λ (t : Tree). met_in Equation (tree s1 g.key) (stood s1 g.members) (tree_sort (tree s0 key)) t) (kept.same term term_in)
-      ∙ in_stays s0 s1 kept Equation g (tree_sort (tree s0 key)) (tree s0 term) here in
+      let same : met_in Equation (tree s1 g.first) (stood s1 g.members) (tree s1 term) ≡ told_at g =
+      ap (met_in Equation (tree s1 g.first) (stood s1 g.members)) (kept.same term term_in) ∙ in_stays s0 s1 kept Equation g (tree s0 term) here in
       let last : take (i + 1) gs ≡ take i gs ++ g ∷ [] = take_more gs i g h ∙ ap (λ (t : Group). take i gs ++ t ∷ []) (sym at) in
       let more : flat_map told_at (take i gs) ++ told_at g ≡ flat_map told_at (take (i + 1) gs) =
       sym (ap (flat_map told_at) last ∙ flat_map-append told_at (take i gs) (g ∷ []) ∙ ap (λ (ts : List Tree). flat_map told_at (take i gs) ++ ts) (append-nil (told_at g))) in
       equates_same s0 s2 ls ns (flat_map told_at (take i gs) ++ told_at g) (flat_map told_at (take (i + 1) gs)) (tree s0 term) (tree s0 term) more refl
       (equates_then s0 s1 s2 ls ms ns (flat_map told_at (take i gs)) (told_at g) (tree s0 term) so_far
-      (equates_same s1 s2 ms ns (met_in Equation (tree s1 g.key) (stood s1 g.members) (tree_sort (tree s1 key)) (tree s1 term)) (told_at g) (tree s1 term) (tree s0 term) same (kept.same term term_in) p))
+      (equates_same s1 s2 ms ns (met_in Equation (tree s1 g.first) (stood s1 g.members) (tree s1 term)) (told_at g) (tree s1 term) (tree s0 term) same (kept.same term term_in) p))
 
-  pub equates_end : Equates s0 s1 ls ms (met_among Equation s0 (take i gs) (tree_sort (tree s0 key)) (tree s0 term)) (tree s0 term) → length gs ≤ i
-      → Equates s0 s1 ls ms (met_among Equation s0 gs (tree_sort (tree s0 key)) (tree s0 term)) (tree s0 term)
+  pub equates_end : Equates s0 s1 ls ms (met_among Equation s0 (take i gs) (tree s0 term)) (tree s0 term) → length gs ≤ i → Equates s0 s1 ls ms (met_among Equation s0 gs (tree s0 term)) (tree s0 term)
   equates_end p h = equates_same s0 s1 ls ms (flat_map told_at (take i gs)) (flat_map told_at gs) (tree s0 term) (tree s0 term) (ap (flat_map told_at) (take_all i gs h)) refl p

@@ -74,58 +74,58 @@ module _ (value : Bool) (term : ℕ) where
       ⊎_elim (λ i. inl (Has-left g.members (grouped gs) n i)) (λ i. ⊎_elim (λ j. inl (Has-right g.members (grouped gs) n j)) inr (set_only gs p n (omega arith) i))
       (Has-append g.members (grouped (set_at gs p)) n k)
 
-  module _ (xs : List Node) (key : ℕ) (key_of : Tree → Tree) (owned : key_of (tree xs term) ≡ tree xs key) (term_in : term < length xs) (told : value ≡ value_in (literal_of (tree xs term))) where
-    set_group : (g : Group) → tree_sort (tree xs g.key) ≡ tree_sort (tree xs key) → IsGroup xs key_of g → IsGroup xs key_of (with_member value g term)
+  module _ (xs : List Node) (term_in : term < length xs) (told : value ≡ value_in (literal_of (tree xs term))) where
+    set_group : (g : Group) → tree_sort (tree xs g.first) ≡ tree_sort (tree xs term) → IsGroup xs g → IsGroup xs (with_member value g term)
     set_group g e h = record {
-      key_in = h.key_in;
+      first_in = h.first_in;
       members_in = within_push (length xs) term g.members h.members_in term_in;
-      alike = all_push (λ n. tree_sort (key_of (tree xs n)) ≡ tree_sort (tree xs g.key)) g.members term h.alike (ap tree_sort owned ∙ sym e);
+      alike = all_push (λ n. tree_sort (tree xs n) ≡ tree_sort (tree xs g.first)) g.members term h.alike (sym e);
       divided = divided_push xs value g term told h.divided;
     }
 
-    set_are : (gs : List Group) (p : ℕ) → p < length gs → tree_sort (tree xs (get_or gs p no_group).key) ≡ tree_sort (tree xs key) → AreGroups xs key_of gs → AreGroups xs key_of (set_at gs p)
+    set_are : (gs : List Group) (p : ℕ) → p < length gs → tree_sort (tree xs (get_or gs p no_group).first) ≡ tree_sort (tree xs term) → AreGroups xs gs → AreGroups xs (set_at gs p)
     set_are [] p h e k = absurd (omega arith)
     set_are (g ∷ gs) zero h e k = (set_group g e k.0, k.1)
     set_are (g ∷ gs) (suc p) h e k = (k.0, set_are gs p (omega arith) e k.1)
 
-    new_are : (gs : List Group) → key < length xs → AreGroups xs key_of gs → AreGroups xs key_of (gs ++ group_with value key term ∷ [])
-    new_are gs h k = all_append (IsGroup xs key_of) gs (group_with value key term ∷ []) k (record { key_in = h; members_in = (term_in, tt); alike = (ap tree_sort owned, tt); divided = divided_push xs value (record { key = key; members = []; others = [] }) term told (record { others_in = λ n i. absurd i; divided = λ n i. absurd i }) }, tt)
+    new_are : (gs : List Group) → AreGroups xs gs → AreGroups xs (gs ++ group_with value term ∷ [])
+    new_are gs k = all_append (IsGroup xs) gs (group_with value term ∷ []) k (record { first_in = term_in; members_in = (term_in, tt); alike = (refl, tt); divided = divided_push xs value (record { first = term; members = []; others = [] }) term told (record { others_in = λ n i. absurd i; divided = λ n i. absurd i }) }, tt)
 
-  new_grouped : (key : ℕ) (gs : List Group) → grouped (gs ++ group_with value key term ∷ []) ≡ grouped gs ++ term ∷ []
-  new_grouped key gs = flat_map-append (λ (g : Group). g.members) gs (group_with value key term ∷ [])
+  new_grouped : (gs : List Group) → grouped (gs ++ group_with value term ∷ []) ≡ grouped gs ++ term ∷ []
+  new_grouped gs = flat_map-append (λ (g : Group). g.members) gs (group_with value term ∷ [])
 
-module _ (xs : List Node) (gs hs : List Group) (key term : ℕ) (term_in : term < length xs) (value : Bool) (told : value ≡ value_in (literal_of (tree xs term))) where
-  pub joins_at : (p : ℕ) → p < length gs → one_sort (tree xs (get_or gs p no_group).key) (tree xs key) ≡ true → hs ≡ slice_set gs p (with_member value (get_or gs p no_group) term) → Joins xs gs hs key term
+module _ (xs : List Node) (gs hs : List Group) (term : ℕ) (term_in : term < length xs) (value : Bool) (told : value ≡ value_in (literal_of (tree xs term))) where
+  pub joins_at : (p : ℕ) → p < length gs → one_sort (tree xs (get_or gs p no_group).first) (tree xs term) ≡ true → hs ≡ slice_set gs p (with_member value (get_or gs p no_group) term) → Joins xs gs hs term
   joins_at p h e is =
-      let same = same_sorts (tree_sort (tree xs (get_or gs p no_group).key)) (tree_sort (tree xs key)) e in
-      subst (λ (l : List Group). Joins xs gs l key term) (sym is)
+      let same = same_sorts (tree_sort (tree xs (get_or gs p no_group).first)) (tree_sort (tree xs term)) e in
+      subst (λ (l : List Group). Joins xs gs l term) (sym is)
       (record {
         there = set_there value term gs p h;
         old_there = λ n k. set_old value term gs p n h k;
         only = λ n k. set_only value term gs p n h k;
-        are = λ key_of owned k. set_are value term xs key key_of owned term_in told gs p h same k;
+        are = set_are value term xs term_in told gs p h same;
       })
 
-  pub joins_new : key < length xs → hs ≡ gs ++ group_with value key term ∷ [] → Joins xs gs hs key term
-  joins_new key_in is =
-      let all = new_grouped value term key gs in
-      subst (λ (l : List Group). Joins xs gs l key term) (sym is)
+  pub joins_new : hs ≡ gs ++ group_with value term ∷ [] → Joins xs gs hs term
+  joins_new is =
+      let all = new_grouped value term gs in
+      subst (λ (l : List Group). Joins xs gs l term) (sym is)
       (record {
         there = subst (λ (l : List ℕ). Has l term) (sym all) (Has-last (grouped gs) term);
         old_there = λ n k. subst (λ (l : List ℕ). Has l n) (sym all) (Has-left (grouped gs) (term ∷ []) n k);
         only = λ n k. Has-push (grouped gs) term n (subst (λ (l : List ℕ). Has l n) all k);
-        are = λ key_of owned k. new_are value term xs key key_of owned term_in told gs key_in k;
+        are = new_are value term xs term_in told gs;
       })
 
 -- ---- groups stay while the table grows
 
-pub groups_within : (xs : List Node) (key_of : Tree → Tree) (gs : List Group) → AreGroups xs key_of gs → AllByRecursion (IsGroupWithin (length xs)) gs
-groups_within xs key_of [] h = tt
-groups_within xs key_of (g ∷ gs) h = ((h.0.key_in, h.0.members_in), groups_within xs key_of gs h.1)
+pub groups_within : (xs : List Node) (gs : List Group) → AreGroups xs gs → AllByRecursion (IsGroupWithin (length xs)) gs
+groups_within xs [] h = tt
+groups_within xs (g ∷ gs) h = ((h.0.first_in, h.0.members_in), groups_within xs gs h.1)
 
-pub groups_divided : (xs : List Node) (key_of : Tree → Tree) (gs : List Group) → AreGroups xs key_of gs → AllByRecursion (IsDivided xs) gs
-groups_divided xs key_of [] h = tt
-groups_divided xs key_of (g ∷ gs) h = (h.0.divided, groups_divided xs key_of gs h.1)
+pub groups_divided : (xs : List Node) (gs : List Group) → AreGroups xs gs → AllByRecursion (IsDivided xs) gs
+groups_divided xs [] h = tt
+groups_divided xs (g ∷ gs) h = (h.0.divided, groups_divided xs gs h.1)
 
 pub members_within : (l : ℕ) (gs : List Group) → AllByRecursion (IsGroupWithin l) gs → AllByRecursion (λ n. n < l) (grouped gs)
 members_within l [] h = tt
@@ -149,10 +149,9 @@ within_more l m [] e h = tt
 within_more l m (g ∷ gs) e h = ((omega (arith, e, h.0.0), within_later l m e g.members h.0.1), within_more l m gs e h.1)
 
 module _ (xs ys : List Node) (e : Keeps xs ys) where
-  alike_later : (key_of : Tree → Tree) (k : Sort) (ns : List ℕ) → AllByRecursion (λ n. n < length xs) ns → AllByRecursion (λ n. tree_sort (key_of (tree xs n)) ≡ k) ns
-      → AllByRecursion (λ n. tree_sort (key_of (tree ys n)) ≡ k) ns
-  alike_later key_of k [] h a = tt
-  alike_later key_of k (n ∷ ns) h a = (ap (λ (t : Tree). tree_sort (key_of t)) (e.same n h.0) ∙ a.0, alike_later key_of k ns h.1 a.1)
+  alike_later : (k : Sort) (ns : List ℕ) → AllByRecursion (λ n. n < length xs) ns → AllByRecursion (λ n. tree_sort (tree xs n) ≡ k) ns → AllByRecursion (λ n. tree_sort (tree ys n) ≡ k) ns
+  alike_later k [] h a = tt
+  alike_later k (n ∷ ns) h a = (ap tree_sort (e.same n h.0) ∙ a.0, alike_later k ns h.1 a.1)
 
   pub divided_later : (g : Group) → AllByRecursion (λ n. n < length xs) g.members → IsDivided xs g → IsDivided ys g
   divided_later g w h = record {
@@ -160,34 +159,33 @@ module _ (xs ys : List Node) (e : Keeps xs ys) where
     divided = λ n k. ⊎_elim inl (λ i. inr (ap (λ (t : Tree). value_in (literal_of t)) (e.same n (AllByRecursion-Has (λ n. n < length xs) g.members n w k)) ∙ i)) (h.divided n k);
   }
 
-  pub groups_later : (key_of : Tree → Tree) (gs : List Group) → AreGroups xs key_of gs → AreGroups ys key_of gs
-  groups_later key_of [] h = tt
-  groups_later key_of (g ∷ gs) h =
-      let key_stays : tree ys g.key ≡ tree xs g.key = e.same g.key h.0.key_in in (
+  pub groups_later : (gs : List Group) → AreGroups xs gs → AreGroups ys gs
+  groups_later [] h = tt
+  groups_later (g ∷ gs) h =
+      let first_stays : tree ys g.first ≡ tree xs g.first = e.same g.first h.0.first_in in (
         record {
-          key_in = omega (arith, h.0.key_in, e.longer);
+          first_in = omega (arith, h.0.first_in, e.longer);
           members_in = within_later (length xs) (length ys) e.longer g.members h.0.members_in;
-          alike = alike_later key_of (tree_sort (tree ys g.key)) g.members h.0.members_in
-              (subst (λ (t : Tree). AllByRecursion (λ n. tree_sort (key_of (tree xs n)) ≡ tree_sort t) g.members) (sym key_stays) h.0.alike);
+          alike = alike_later (tree_sort (tree ys g.first)) g.members h.0.members_in
+              (subst (λ (t : Tree). AllByRecursion (λ n. tree_sort (tree xs n) ≡ tree_sort t) g.members) (sym first_stays) h.0.alike);
           divided = divided_later g h.0.members_in h.0.divided;
         },
-        groups_later key_of gs h.1,
+        groups_later gs h.1,
       )
 
   -- what goes with a term and a group's stays
-  pub in_stays : (m : Meeting) (g : Group) (k : Sort) (x : Tree) → IsGroupWithin (length xs) g → met_in m (tree ys g.key) (stood ys g.members) k x ≡ met_in m (tree xs g.key) (stood xs g.members) k x
-  in_stays m g k x h =
-      ap (λ (t : Tree). met_in m t (stood ys g.members) k x) (e.same g.key h.0) ∙ ap (λ (ts : List Tree). met_in m (tree xs g.key) ts k x) (stood_later xs ys e g.members h.1)
+  pub in_stays : (m : Meeting) (g : Group) (x : Tree) → IsGroupWithin (length xs) g → met_in m (tree ys g.first) (stood ys g.members) x ≡ met_in m (tree xs g.first) (stood xs g.members) x
+  in_stays m g x h =
+      ap (λ (t : Tree). met_in m t (stood ys g.members) x) (e.same g.first h.0) ∙ ap (λ (ts : List Tree). met_in m (tree xs g.first) ts x) (stood_later xs ys e g.members h.1)
 
-  pub among_stays : (m : Meeting) (gs : List Group) (k : Sort) (x : Tree) → AllByRecursion (IsGroupWithin (length xs)) gs → met_among m ys gs k x ≡ met_among m xs gs k x
-  among_stays m [] k x h = refl
-  among_stays m (g ∷ gs) k x h =
-      ap (λ (ts : List Tree). ts ++ met_among m ys gs k x) (in_stays m g k x h.0) ∙ ap (λ (ts : List Tree). met_in m (tree xs g.key) (stood xs g.members) k x ++ ts) (among_stays m gs k x h.1)
+  pub among_stays : (m : Meeting) (gs : List Group) (x : Tree) → AllByRecursion (IsGroupWithin (length xs)) gs → met_among m ys gs x ≡ met_among m xs gs x
+  among_stays m [] x h = refl
+  among_stays m (g ∷ gs) x h =
+      ap (λ (ts : List Tree). ts ++ met_among m ys gs x) (in_stays m g x h.0) ∙ ap (λ (ts : List Tree). met_in m (tree xs g.first) (stood xs g.members) x ++ ts) (among_stays m gs x h.1)
 
 -- so far, and all of them
-pub groups_end : (m : Meeting) (gs : List Group) (s0 s1 : List Node) (ls ms : List ℕ) (i : ℕ) (k : Sort) (x : Tree) → Puts s0 s1 ls ms (met_among m s0 (take i gs) k x) → length gs ≤ i
-    → Puts s0 s1 ls ms (met_among m s0 gs k x)
-groups_end m gs s0 s1 ls ms i k x p h = all_end (λ (f : Group). met_in m (tree s0 f.key) (stood s0 f.members) k x) gs s0 s1 ls ms i p h
+pub groups_end : (m : Meeting) (gs : List Group) (s0 s1 : List Node) (ls ms : List ℕ) (i : ℕ) (x : Tree) → Puts s0 s1 ls ms (met_among m s0 (take i gs) x) → length gs ≤ i → Puts s0 s1 ls ms (met_among m s0 gs x)
+groups_end m gs s0 s1 ls ms i x p h = all_end (λ (f : Group). met_in m (tree s0 f.first) (stood s0 f.members) x) gs s0 s1 ls ms i p h
 
 -- what goes with each of these, by their numbers
 pub met_stood : (m : Meeting) (xs : List Node) (ns : List ℕ) (x : Tree) → map (λ (n : ℕ). met_term m (tree xs n) x) ns ≡ met_terms m (stood xs ns) x
@@ -201,18 +199,15 @@ pattern_there xs (m ∷ ms) zero n h e = inl e
 pattern_there xs (m ∷ ms) (suc i) n h e = inr (pattern_there xs ms i n (omega arith) e)
 
 -- one group more
-pub groups_next : (m : Meeting) (gs : List Group) (s0 s1 s2 : List Node) (ls ms ns : List ℕ) (i key term : ℕ) (g : Group) → AllByRecursion (IsGroupWithin (length s0)) gs → key < length s0 → term < length s0
-    → Puts s0 s1 ls ms (met_among m s0 (take i gs) (tree_sort (tree s0 key)) (tree s0 term)) → i < length gs → g ≡ get_or gs i g
-    → Puts s1 s2 ms ns (met_in m (tree s1 g.key) (stood s1 g.members) (tree_sort (tree s1 key)) (tree s1 term))
-    → Puts s0 s2 ls ns (met_among m s0 (take (i + 1) gs) (tree_sort (tree s0 key)) (tree s0 term))
-groups_next m gs s0 s1 s2 ls ms ns i key term g within key_in term_in so_far h at p =
+pub groups_next : (m : Meeting) (gs : List Group) (s0 s1 s2 : List Node) (ls ms ns : List ℕ) (i term : ℕ) (g : Group) → AllByRecursion (IsGroupWithin (length s0)) gs → term < length s0
+    → Puts s0 s1 ls ms (met_among m s0 (take i gs) (tree s0 term)) → i < length gs → g ≡ get_or gs i g → Puts s1 s2 ms ns (met_in m (tree s1 g.first) (stood s1 g.members) (tree s1 term))
+    → Puts s0 s2 ls ns (met_among m s0 (take (i + 1) gs) (tree s0 term))
+groups_next m gs s0 s1 s2 ls ms ns i term g within term_in so_far h at p =
     let here = group_at (length s0) gs within i g h at in
-    let same : met_in m (tree s1 g.key) (stood s1 g.members) (tree_sort (tree s1 key)) (tree s1 term) ≡ met_in m (tree s0 g.key) (stood s0 g.members) (tree_sort (tree s0 key)) (tree s0 term) =
-    ap (λ (t : Tree). met_in m (tree s1 g.key) (stood s1 g.members) (tree_sort t) (tree s1 term)) (so_far.kept.same key key_in)
-    ∙ ap (λ (t : Tree). met_in m (tree s1 g.key) (stood s1 g.members) (tree_sort (tree s0 key)) t) (so_far.kept.same term term_in)
-    ∙ in_stays s0 s1 so_far.kept m g (tree_sort (tree s0 key)) (tree s0 term) here in
-    all_next (λ (f : Group). met_in m (tree s0 f.key) (stood s0 f.members) (tree_sort (tree s0 key)) (tree s0 term)) gs s0 s1 ls ms i so_far s2 ns g h at
-    (puts_same s1 s2 ms ns (met_in m (tree s1 g.key) (stood s1 g.members) (tree_sort (tree s1 key)) (tree s1 term)) (met_in m (tree s0 g.key) (stood s0 g.members) (tree_sort (tree s0 key)) (tree s0 term)) same p)
+    let same : met_in m (tree s1 g.first) (stood s1 g.members) (tree s1 term) ≡ met_in m (tree s0 g.first) (stood s0 g.members) (tree s0 term) =
+    ap (met_in m (tree s1 g.first) (stood s1 g.members)) (so_far.kept.same term term_in) ∙ in_stays s0 s1 so_far.kept m g (tree s0 term) here in
+    all_next (λ (f : Group). met_in m (tree s0 f.first) (stood s0 f.members) (tree s0 term)) gs s0 s1 ls ms i so_far s2 ns g h at
+    (puts_same s1 s2 ms ns (met_in m (tree s1 g.first) (stood s1 g.members) (tree s1 term)) (met_in m (tree s0 g.first) (stood s0 g.members) (tree s0 term)) same p)
 
 -- ---- what goes with a term and those of groups, by each of them
 
@@ -225,10 +220,10 @@ is_any true ts z e h = h
 is_any false ts z e h = absurd cc
 
 -- one of these, where something goes with it
-pub record IsMet (m : Meeting) (ts : List Tree) (key_of : Tree → Tree) (k : Sort) (x z : Tree) : Type 0 where
+pub record IsMet (m : Meeting) (ts : List Tree) (x z : Tree) : Type 0 where
   pub other : Tree
   pub among : Has ts other
-  pub meets : is_met m (tree_sort (key_of other)) k ≡ true
+  pub meets : is_met m (tree_sort other) (tree_sort x) ≡ true
   pub is : met_term m other x ≡ z
 
 pub met_patterns_has : (b : Bool) (m : Meeting) (ts : List Tree) (x z : Tree) → Has (if_any b (met_terms m ts x)) z → (b ≡ true) × (t : Tree) × Has ts t × (met_term m t x ≡ z)
@@ -237,25 +232,26 @@ met_patterns_has b m ts x z h = let k = any_is b (met_terms m ts x) z h in let q
 pub has_met_patterns : (b : Bool) (m : Meeting) (ts : List Tree) (x t : Tree) → b ≡ true → Has ts t → Has (if_any b (met_terms m ts x)) (met_term m t x)
 has_met_patterns b m ts x t e h = is_any b (met_terms m ts x) (met_term m t x) e (Has-map (λ (u : Tree). met_term m u x) ts t h)
 
-module _ (xs : List Node) (key_of : Tree → Tree) (m : Meeting) (k : Sort) (x : Tree) where
-  alike_has : (key : Sort) (ns : List ℕ) (n : ℕ) → AllByRecursion (λ n. tree_sort (key_of (tree xs n)) ≡ key) ns → Has ns n → tree_sort (key_of (tree xs n)) ≡ key
-  alike_has key [] n a h = absurd h
-  alike_has key (l ∷ ls) n a (inl e) = subst (λ n. tree_sort (key_of (tree xs n)) ≡ key) e a.0
-  alike_has key (l ∷ ls) n a (inr h) = alike_has key ls n a.1 h
+module _ (xs : List Node) (m : Meeting) (x : Tree) where
+  abbrev k : Sort
+  k = tree_sort x
 
-  in_has : (g : Group) (z : Tree) → IsGroup xs key_of g → Has (met_in m (tree xs g.key) (stood xs g.members) k x) z → IsMet m (stood xs g.members) key_of k x z
+  alike_has : (g : Group) (n : ℕ) → IsGroup xs g → Has g.members n → tree_sort (tree xs n) ≡ tree_sort (tree xs g.first)
+  alike_has g n is h = AllByRecursion-Has (λ m. tree_sort (tree xs m) ≡ tree_sort (tree xs g.first)) g.members n is.alike h
+
+  in_has : (g : Group) (z : Tree) → IsGroup xs g → Has (met_in m (tree xs g.first) (stood xs g.members) x) z → IsMet m (stood xs g.members) x z
   in_has g z is h =
-      let q = met_patterns_has (is_met m (tree_sort (tree xs g.key)) k) m (stood xs g.members) x z h in
+      let q = met_patterns_has (is_met m (tree_sort (tree xs g.first)) k) m (stood xs g.members) x z h in
       let n = map-Has (tree xs) g.members q.1 q.2 in
-      let alike : tree_sort (key_of q.1) ≡ tree_sort (tree xs g.key) = ap (λ (t : Tree). tree_sort (key_of t)) (sym n.2) ∙ alike_has (tree_sort (tree xs g.key)) g.members n.0 is.alike n.1 in
+      let alike : tree_sort q.1 ≡ tree_sort (tree xs g.first) = ap tree_sort (sym n.2) ∙ alike_has g n.0 is n.1 in
       record { other = q.1; among = q.2; meets = ap (λ (l : Sort). is_met m l k) alike ∙ q.0; is = q.3 }
 
-  has_in : (g : Group) (n : ℕ) → IsGroup xs key_of g → Has g.members n → is_met m (tree_sort (key_of (tree xs n))) k ≡ true → Has (met_in m (tree xs g.key) (stood xs g.members) k x) (met_term m (tree xs n) x)
+  has_in : (g : Group) (n : ℕ) → IsGroup xs g → Has g.members n → is_met m (tree_sort (tree xs n)) k ≡ true → Has (met_in m (tree xs g.first) (stood xs g.members) x) (met_term m (tree xs n) x)
   has_in g n is h e =
-      has_met_patterns (is_met m (tree_sort (tree xs g.key)) k) m (stood xs g.members) x (tree xs n)
-      (ap (λ (l : Sort). is_met m l k) (sym (alike_has (tree_sort (tree xs g.key)) g.members n is.alike h)) ∙ e) (Has-map (tree xs) g.members n h)
+      has_met_patterns (is_met m (tree_sort (tree xs g.first)) k) m (stood xs g.members) x (tree xs n)
+      (ap (λ (l : Sort). is_met m l k) (sym (alike_has g n is h)) ∙ e) (Has-map (tree xs) g.members n h)
 
-  first_of : (g : Group) (gs : List Group) (z : Tree) → IsMet m (stood xs g.members) key_of k x z → IsMet m (stood xs (grouped (g ∷ gs))) key_of k x z
+  first_of : (g : Group) (gs : List Group) (z : Tree) → IsMet m (stood xs g.members) x z → IsMet m (stood xs (grouped (g ∷ gs))) x z
   first_of g gs z q = record {
     other = q.other;
     among = subst (λ (ts : List Tree). Has ts q.other) (sym (map-append (tree xs) g.members (grouped gs))) (Has-left (stood xs g.members) (stood xs (grouped gs)) q.other q.among);
@@ -263,7 +259,7 @@ module _ (xs : List Node) (key_of : Tree → Tree) (m : Meeting) (k : Sort) (x :
     is = q.is;
   }
 
-  later_of : (g : Group) (gs : List Group) (z : Tree) → IsMet m (stood xs (grouped gs)) key_of k x z → IsMet m (stood xs (grouped (g ∷ gs))) key_of k x z
+  later_of : (g : Group) (gs : List Group) (z : Tree) → IsMet m (stood xs (grouped gs)) x z → IsMet m (stood xs (grouped (g ∷ gs))) x z
   later_of g gs z q = record {
     other = q.other;
     among = subst (λ (ts : List Tree). Has ts q.other) (sym (map-append (tree xs) g.members (grouped gs))) (Has-right (stood xs g.members) (stood xs (grouped gs)) q.other q.among);
@@ -271,18 +267,18 @@ module _ (xs : List Node) (key_of : Tree → Tree) (m : Meeting) (k : Sort) (x :
     is = q.is;
   }
 
-  pub among_has : (gs : List Group) (z : Tree) → AreGroups xs key_of gs → Has (met_among m xs gs k x) z → IsMet m (stood xs (grouped gs)) key_of k x z
+  pub among_has : (gs : List Group) (z : Tree) → AreGroups xs gs → Has (met_among m xs gs x) z → IsMet m (stood xs (grouped gs)) x z
   among_has [] z are h = absurd h
   among_has (g ∷ gs) z are h =
-      ⊎_elim (λ i. first_of g gs z (in_has g z are.0 i)) (λ i. later_of g gs z (among_has gs z are.1 i)) (Has-append (met_in m (tree xs g.key) (stood xs g.members) k x) (met_among m xs gs k x) z h)
+      ⊎_elim (λ i. first_of g gs z (in_has g z are.0 i)) (λ i. later_of g gs z (among_has gs z are.1 i)) (Has-append (met_in m (tree xs g.first) (stood xs g.members) x) (met_among m xs gs x) z h)
 
-  number_among : (gs : List Group) (n : ℕ) → AreGroups xs key_of gs → Has (grouped gs) n → is_met m (tree_sort (key_of (tree xs n))) k ≡ true → Has (met_among m xs gs k x) (met_term m (tree xs n) x)
+  number_among : (gs : List Group) (n : ℕ) → AreGroups xs gs → Has (grouped gs) n → is_met m (tree_sort (tree xs n)) k ≡ true → Has (met_among m xs gs x) (met_term m (tree xs n) x)
   number_among [] n are h e = absurd h
   number_among (g ∷ gs) n are h e =
-      ⊎_elim (λ i. Has-left (met_in m (tree xs g.key) (stood xs g.members) k x) (met_among m xs gs k x) (met_term m (tree xs n) x) (has_in g n are.0 i e))
-      (λ i. Has-right (met_in m (tree xs g.key) (stood xs g.members) k x) (met_among m xs gs k x) (met_term m (tree xs n) x) (number_among gs n are.1 i e)) (Has-append g.members (grouped gs) n h)
+      ⊎_elim (λ i. Has-left (met_in m (tree xs g.first) (stood xs g.members) x) (met_among m xs gs x) (met_term m (tree xs n) x) (has_in g n are.0 i e))
+      (λ i. Has-right (met_in m (tree xs g.first) (stood xs g.members) x) (met_among m xs gs x) (met_term m (tree xs n) x) (number_among gs n are.1 i e)) (Has-append g.members (grouped gs) n h)
 
-  pub has_among : (gs : List Group) (t : Tree) → AreGroups xs key_of gs → Has (stood xs (grouped gs)) t → is_met m (tree_sort (key_of t)) k ≡ true → Has (met_among m xs gs k x) (met_term m t x)
+  pub has_among : (gs : List Group) (t : Tree) → AreGroups xs gs → Has (stood xs (grouped gs)) t → is_met m (tree_sort t) k ≡ true → Has (met_among m xs gs x) (met_term m t x)
   has_among gs t are h e =
       let q = map-Has (tree xs) (grouped gs) t h in
-      subst (λ (u : Tree). Has (met_among m xs gs k x) (met_term m u x)) q.2 (number_among gs q.0 are q.1 (subst (λ (u : Tree). is_met m (tree_sort (key_of u)) k ≡ true) (sym q.2) e))
+      subst (λ (u : Tree). Has (met_among m xs gs x) (met_term m u x)) q.2 (number_among gs q.0 are q.1 (subst (λ (u : Tree). is_met m (tree_sort u) k ≡ true) (sym q.2) e))

@@ -19,53 +19,47 @@ use Rattle.sc_closure_rules.proofs.TestLaws.{same_sorts}
 use Rattle.sc_closure_rules.specs.Making.{Puts, stood}
 use Rattle.sc_closure_rules.proofs.MakingLaws.{stood_later}
 use Rattle.sc_closure_rules.proofs.MemberLaws.{within_later}
-use Rattle.sc_closure_rules.specs.Closure.{Role, named, candidate, attributes, tag, set, pattern, equated_by, one_sort, members_by, matches_by}
+use Rattle.sc_closure_rules.specs.Closure.{Role, named, candidate, set, pattern, equated_by, one_sort, members_by, matches_by}
 use Rattle.sc_closure_rules.proofs.MetLaws.{equated_is}
 use Rattle.sc_closure.specs.declared.roles.Group.{Group}
 use Rattle.sc_closure.specs.declared.roles.Roles.{Roles}
 use Rattle.sc_closure.specs.declared.roles.Meeting.TheVariants as meeting
-use Rattle.sc_closure.specs.Following.{owner, pattern_in, grouped, Held, AreGroups, AreRoles, Joins, is_text, met_among, Equates, TakesIn, Takes}
+use Rattle.sc_closure.specs.Following.{pattern_in, grouped, Held, AreGroups, AreRoles, Joins, is_text, met_among, Equates, TakesIn, Takes}
 use Rattle.sc_terms.proofs.EqualLaws.{equal_turned}
 use Rattle.sc_closure.proofs.GroupLaws.{groups_within, members_within, groups_later, among_has, has_among}
 
 -- ---- roles stay while the table grows
 
 module _ (xs ys : List Node) (e : Keeps xs ys) (r : Roles) (are : AreRoles xs r) where
-  group_stays : (key_of : Tree → Tree) (gs : List Group) → AreGroups xs key_of gs → stood ys (grouped gs) ≡ stood xs (grouped gs)
-  group_stays key_of gs h = stood_later xs ys e (grouped gs) (members_within (length xs) gs (groups_within xs key_of gs h))
+  group_stays : (gs : List Group) → AreGroups xs gs → stood ys (grouped gs) ≡ stood xs (grouped gs)
+  group_stays gs h = stood_later xs ys e (grouped gs) (members_within (length xs) gs (groups_within xs gs h))
 
-  moved : (key_of : Tree → Tree) (gs : List Group) (t : Tree) → AreGroups xs key_of gs → Has (stood xs (grouped gs)) t → Has (stood ys (grouped gs)) t
-  moved key_of gs t h k = subst (λ (ts : List Tree). Has ts t) (sym (group_stays key_of gs h)) k
+  moved : (gs : List Group) (t : Tree) → AreGroups xs gs → Has (stood xs (grouped gs)) t → Has (stood ys (grouped gs)) t
+  moved gs t h k = subst (λ (ts : List Tree). Has ts t) (sym (group_stays gs h)) k
 
-  moved_back : (key_of : Tree → Tree) (gs : List Group) (t : Tree) → AreGroups xs key_of gs → Has (stood ys (grouped gs)) t → Has (stood xs (grouped gs)) t
-  moved_back key_of gs t h k = subst (λ (ts : List Tree). Has ts t) (group_stays key_of gs h) k
+  moved_back : (gs : List Group) (t : Tree) → AreGroups xs gs → Has (stood ys (grouped gs)) t → Has (stood xs (grouped gs)) t
+  moved_back gs t h k = subst (λ (ts : List Tree). Has ts t) (group_stays gs h) k
 
   patterns_stay : stood ys r.patterns ≡ stood xs r.patterns
   patterns_stay = stood_later xs ys e r.patterns are.of_patterns
 
   pub held_later : (p : Role) → Held xs r p → Held ys r p
-  held_later (named x) h = moved (λ t. t) r.named.items x are.of_named h
-  held_later (candidate x) h = moved (λ t. t) r.candidates.items x are.of_candidates h
-  held_later (attributes o x) h = (moved owner r.attributes.items x are.of_attributes h.0, h.1)
-  held_later (tag o x) h = (moved owner r.tags.items x are.of_tags h.0, h.1)
-  held_later (set x) h = moved (λ t. t) r.sets.items x are.of_sets h
+  held_later (named x) h = moved r.named.items x are.of_named h
+  held_later (candidate x) h = moved r.candidates.items x are.of_candidates h
+  held_later (set x) h = moved r.sets.items x are.of_sets h
   held_later (pattern ps) h = subst (λ (ts : List Tree). Has (map pattern_in ts) ps) (sym patterns_stay) h
 
   pub held_before : (p : Role) → Held ys r p → Held xs r p
-  held_before (named x) h = moved_back (λ t. t) r.named.items x are.of_named h
-  held_before (candidate x) h = moved_back (λ t. t) r.candidates.items x are.of_candidates h
-  held_before (attributes o x) h = (moved_back owner r.attributes.items x are.of_attributes h.0, h.1)
-  held_before (tag o x) h = (moved_back owner r.tags.items x are.of_tags h.0, h.1)
-  held_before (set x) h = moved_back (λ t. t) r.sets.items x are.of_sets h
+  held_before (named x) h = moved_back r.named.items x are.of_named h
+  held_before (candidate x) h = moved_back r.candidates.items x are.of_candidates h
+  held_before (set x) h = moved_back r.sets.items x are.of_sets h
   held_before (pattern ps) h = subst (λ (ts : List Tree). Has (map pattern_in ts) ps) patterns_stay h
 
   pub roles_later : AreRoles ys r
   roles_later = record {
-    of_named = groups_later xs ys e (λ t. t) r.named.items are.of_named;
-    of_candidates = groups_later xs ys e (λ t. t) r.candidates.items are.of_candidates;
-    of_attributes = groups_later xs ys e owner r.attributes.items are.of_attributes;
-    of_tags = groups_later xs ys e owner r.tags.items are.of_tags;
-    of_sets = groups_later xs ys e (λ t. t) r.sets.items are.of_sets;
+    of_named = groups_later xs ys e r.named.items are.of_named;
+    of_candidates = groups_later xs ys e r.candidates.items are.of_candidates;
+    of_sets = groups_later xs ys e r.sets.items are.of_sets;
     of_patterns = within_later (length xs) (length ys) e.longer r.patterns are.of_patterns;
     once = are.once;
   }
@@ -101,7 +95,7 @@ takes_same held new ps ys zs back forth t = record {
 
 -- ---- a term joins the others of its role
 
-module _ (xs : List Node) (old new : List Group) (key term : ℕ) (j : Joins xs old new key term) where
+module _ (xs : List Node) (old new : List Group) (term : ℕ) (j : Joins xs old new term) where
   pub joined_old : (t : Tree) → Has (stood xs (grouped old)) t → Has (stood xs (grouped new)) t
   joined_old t h = let q = map-Has (tree xs) (grouped old) t h in subst (Has (stood xs (grouped new))) q.2 (Has-map (tree xs) (grouped new) q.0 (j.old_there q.0 q.1))
 
@@ -137,29 +131,29 @@ sorts_turned a b e = (sort_eq_decides b a).1 (sym (same_sorts a b e))
 
 -- ---- equations with those of a role
 
-module _ (total : IsTotalOrder tree_cmp) (xs : List Node) (key_of : Tree → Tree) (gs : List Group) (are : AreGroups xs key_of gs) (x : Tree) where
+module _ (total : IsTotalOrder tree_cmp) (xs : List Node) (gs : List Group) (are : AreGroups xs gs) (x : Tree) where
   abbrev equations : List Tree
-  equations = met_among meeting.Equation xs gs (tree_sort (key_of x)) x
+  equations = met_among meeting.Equation xs gs x
 
-  pub equation_back : (y z : Tree) → Has (stood xs (grouped gs)) y → Has (equated_by (one_sort (key_of y) (key_of x)) y x) z → Has equations z
+  pub equation_back : (y z : Tree) → Has (stood xs (grouped gs)) y → Has (equated_by (one_sort y x) y x) z → Has equations z
   equation_back y z h m =
-      let q = equated_is (one_sort (key_of y) (key_of x)) y x z m in
-      subst (Has equations) q.1 (has_among xs key_of meeting.Equation (tree_sort (key_of x)) x gs y are h q.0)
+      let q = equated_is (one_sort y x) y x z m in
+      subst (Has equations) q.1 (has_among xs meeting.Equation x gs y are h q.0)
 
-  pub equation_forth : (y z : Tree) → Has (stood xs (grouped gs)) y → Has (equated_by (one_sort (key_of x) (key_of y)) x y) z → Has equations z
+  pub equation_forth : (y z : Tree) → Has (stood xs (grouped gs)) y → Has (equated_by (one_sort x y) x y) z → Has equations z
   equation_forth y z h m =
-      let q = equated_is (one_sort (key_of x) (key_of y)) x y z m in
-      let turned = sorts_turned (tree_sort (key_of x)) (tree_sort (key_of y)) q.0 in
-      subst (Has equations) (equal_turned total y x ∙ q.1) (has_among xs key_of meeting.Equation (tree_sort (key_of x)) x gs y are h turned)
+      let q = equated_is (one_sort x y) x y z m in
+      let turned = sorts_turned (tree_sort x) (tree_sort y) q.0 in
+      subst (Has equations) (equal_turned total y x ∙ q.1) (has_among xs meeting.Equation x gs y are h turned)
 
-  pub equation_of : (z : Tree) → Has equations z → (y : Tree) × Has (stood xs (grouped gs)) y × Has (equated_by (one_sort (key_of y) (key_of x)) y x) z
+  pub equation_of : (z : Tree) → Has equations z → (y : Tree) × Has (stood xs (grouped gs)) y × Has (equated_by (one_sort y x) y x) z
   equation_of z h =
-      let q = among_has xs key_of meeting.Equation (tree_sort (key_of x)) x gs z are h in
-      (q.other, q.among, subst (Has (equated_by (one_sort (key_of q.other) (key_of x)) q.other x)) q.is (is_equated (one_sort (key_of q.other) (key_of x)) q.other x q.meets))
+      let q = among_has xs meeting.Equation x gs z are h in
+      (q.other, q.among, subst (Has (equated_by (one_sort q.other x) q.other x)) q.is (is_equated (one_sort q.other x) q.other x q.meets))
 
   -- a term of these is equated with itself
   own_equation : Has (stood xs (grouped gs)) x → Has equations (equal_term x x)
-  own_equation h = equation_back x (equal_term x x) h (is_equated (one_sort (key_of x) (key_of x)) x x ((sort_eq_decides (tree_sort (key_of x)) (tree_sort (key_of x))).1 refl))
+  own_equation h = equation_back x (equal_term x x) h (is_equated (one_sort x x) x x ((sort_eq_decides (tree_sort x) (tree_sort x)).1 refl))
 
   module _ (ys : List Node) (ls ms : List ℕ) (p : Equates xs ys ls ms equations x) where
     pub told_back : Has (stood xs (grouped gs)) x → (us : List Tree) (z : Tree) → Has (p.told ++ us) z → Has (equations ++ us) z
@@ -167,6 +161,3 @@ module _ (total : IsTotalOrder tree_cmp) (xs : List Node) (key_of : Tree → Tre
 
     pub told_forth : (us : List Tree) (z : Tree) → Has (equations ++ us) z → Has (p.told ++ us) z
     told_forth us z h = ⊎_elim (λ i. Has-left p.told us z (p.whole z i)) (λ i. Has-right p.told us z i) (Has-append equations us z h)
-
-    pub told_back_alone : Has (stood xs (grouped gs)) x → (z : Tree) → Has p.told z → Has equations z
-    told_back_alone own z h = ⊎_elim (λ j. j) (λ e. subst (Has equations) e (own_equation own)) (p.only z h)

@@ -1,5 +1,5 @@
 -- Each role that is taken in, with what goes with it.
-use Rattle.std.proofs.Common.{◌≡◌, ◌⊎◌, inl, inr, ⊎_elim, ℕ, ◌<◌, List, [], ◌∷◌, ◌++◌, map, length, refl, sym, ap, ◌∙◌, subst}
+use Rattle.std.proofs.Common.{◌≡◌, ◌⊎◌, inl, inr, ⊎_elim, ℕ, ◌<◌, List, [], ◌∷◌, ◌++◌, map, length, sym, ap, ◌∙◌, subst}
 use Rattle.std.proofs.lemmas.List.{map-append}
 use Rattle.std.specs.Cmp.{IsTotalOrder}
 use Rattle.std.specs.List.{AllByRecursion}
@@ -16,92 +16,76 @@ use Rattle.sc_terms.specs.Folds.{like_term}
 use Rattle.sc_closure_rules.specs.Making.{Puts, stood}
 use Rattle.sc_closure_rules.proofs.MakingLaws.{stood_later, puts_then, puts_same}
 use Rattle.sc_closure_rules.proofs.MemberLaws.{within_push}
-use Rattle.sc_closure_rules.specs.Closure.{Role, named, candidate, attributes, tag, set, pattern, meet, equated_by, one_sort, members_by, is_set_over, matches_by}
+use Rattle.sc_closure_rules.specs.Closure.{Role, named, candidate, set, pattern, meet, members_by, is_set_over, matches_by}
 use Rattle.sc_closure_rules.proofs.MetLaws.{member_is}
 use Rattle.sc_closure.specs.declared.roles.Roles.{Roles}
 use Rattle.sc_closure.specs.declared.roles.Meeting.TheVariants as meeting
-use Rattle.sc_closure.specs.Following.{put_one, owner, pattern_in, grouped, Held, AreRoles, Joins, is_text, if_any, met_terms, met_among, met_patterns, Equates, TakesIn, Takes}
+use Rattle.sc_closure.specs.Following.{put_one, pattern_in, grouped, Held, AreRoles, Joins, is_text, if_any, met_terms, met_among, met_patterns, Equates, TakesIn, Takes}
 use Rattle.sc_closure.proofs.GroupLaws.{groups_within, among_stays, among_has, has_among, met_patterns_has, has_met_patterns}
-use Rattle.sc_closure.proofs.HeldLaws.{taken_put, takes_same, told_back, told_forth, told_back_alone, joined_old, joined_there, joined_only, is_member, match_is, is_match, equation_back, equation_forth, equation_of}
+use Rattle.sc_closure.proofs.HeldLaws.{taken_put, takes_same, told_back, told_forth, joined_old, joined_there, joined_only, is_member, match_is, is_match, equation_back, equation_forth, equation_of}
 use Rattle.sc_closure.proofs.PuttingLaws.{one_only}
 use Rattle.sc_closure.proofs.TakingLaws.{takes_one}
 
 -- roles of which one kind is of others
 
 abbrev but_named : Roles → Roles → Roles
-but_named r s = record { named = s.named; candidates = r.candidates; attributes = r.attributes; tags = r.tags; sets = r.sets; patterns = r.patterns; seen = r.seen }
+but_named r s = record { named = s.named; candidates = r.candidates; sets = r.sets; patterns = r.patterns; seen = r.seen }
 
 abbrev but_candidates : Roles → Roles → Roles
-but_candidates r s = record { named = r.named; candidates = s.candidates; attributes = r.attributes; tags = r.tags; sets = r.sets; patterns = r.patterns; seen = s.seen }
-
-abbrev but_attributes : Roles → Roles → Roles
-but_attributes r s = record { named = r.named; candidates = r.candidates; attributes = s.attributes; tags = r.tags; sets = r.sets; patterns = r.patterns; seen = r.seen }
-
-abbrev but_tags : Roles → Roles → Roles
-but_tags r s = record { named = r.named; candidates = r.candidates; attributes = r.attributes; tags = s.tags; sets = r.sets; patterns = r.patterns; seen = r.seen }
+but_candidates r s = record { named = r.named; candidates = s.candidates; sets = r.sets; patterns = r.patterns; seen = s.seen }
 
 abbrev but_sets : Roles → Roles → Roles
-but_sets r s = record { named = r.named; candidates = r.candidates; attributes = r.attributes; tags = r.tags; sets = s.sets; patterns = r.patterns; seen = r.seen }
+but_sets r s = record { named = r.named; candidates = r.candidates; sets = s.sets; patterns = r.patterns; seen = r.seen }
 
 abbrev but_patterns : Roles → Roles → Roles
-but_patterns r s = record { named = r.named; candidates = r.candidates; attributes = r.attributes; tags = r.tags; sets = r.sets; patterns = s.patterns; seen = r.seen }
+but_patterns r s = record { named = r.named; candidates = r.candidates; sets = r.sets; patterns = s.patterns; seen = r.seen }
 
 -- ---- a text or an entity
 
-module _ (total : IsTotalOrder tree_cmp) (xs : List Node) (r s : Roles) (are : AreRoles xs r) (n : ℕ) (j : Joins xs r.named.items s.named.items n n) where
+module _ (total : IsTotalOrder tree_cmp) (xs : List Node) (r s : Roles) (are : AreRoles xs r) (n : ℕ) (j : Joins xs r.named.items s.named.items n) where
   abbrev x : Tree
   x = tree xs n
 
   abbrev all : List Tree
-  all = met_among meeting.Equation xs s.named.items (tree_sort x) x
+  all = met_among meeting.Equation xs s.named.items x
 
   abbrev matches : List Tree
   matches = met_patterns xs r.patterns x
 
   named_roles : AreRoles xs (but_named r s)
   named_roles = record {
-    of_named = j.are (λ t. t) refl are.of_named;
+    of_named = j.are are.of_named;
     of_candidates = are.of_candidates;
-    of_attributes = are.of_attributes;
-    of_tags = are.of_tags;
     of_sets = are.of_sets;
     of_patterns = are.of_patterns;
     once = are.once;
   }
 
   old_named : (q : Role) → Held xs r q → Held xs (but_named r s) q
-  old_named (named y) h = joined_old xs r.named.items s.named.items n n j y h
+  old_named (named y) h = joined_old xs r.named.items s.named.items n j y h
   old_named (candidate y) h = h
-  old_named (attributes e y) h = h
-  old_named (tag e y) h = h
   old_named (set y) h = h
   old_named (pattern ps) h = h
 
   only_named : (q : Role) → Held xs (but_named r s) q → Held xs r q ⊎ (named x ≡ q)
-  only_named (named y) h = ⊎_elim inl (λ e. inr (ap named e)) (joined_only xs r.named.items s.named.items n n j y h)
+  only_named (named y) h = ⊎_elim inl (λ e. inr (ap named e)) (joined_only xs r.named.items s.named.items n j y h)
   only_named (candidate y) h = inl h
-  only_named (attributes e y) h = inl h
-  only_named (tag e y) h = inl h
   only_named (set y) h = inl h
   only_named (pattern ps) h = inl h
 
   forth_named : (q : Role) (z : Tree) → Held xs (but_named r s) q → Has (meet (named x) q) z → Has (all ++ matches) z
-  forth_named (named y) z h m = Has-left all matches z (equation_forth total xs (λ t. t) s.named.items (j.are (λ t. t) refl are.of_named) x y z h m)
+  forth_named (named y) z h m = Has-left all matches z (equation_forth total xs s.named.items (j.are are.of_named) x y z h m)
   forth_named (pattern ps) z h m =
       let q = match_is (out-Sort (tree_sort x)) x z ps m in
       let t = map-Has pattern_in (stood xs r.patterns) ps h in
       let told = has_met_patterns (is_text (out-Sort (tree_sort x))) meeting.Patterns (stood xs r.patterns) x t.0 q.0 t.1 in
       Has-right all matches z (subst (Has matches) (ap (like_term x) t.2 ∙ q.1) told)
   forth_named (candidate y) z h m = absurd m
-  forth_named (attributes e y) z h m = absurd m
-  forth_named (tag e y) z h m = absurd m
   forth_named (set y) z h m = absurd m
 
   back_named : (q : Role) (z : Tree) → Held xs (but_named r s) q → Has (meet q (named x)) z → Has (all ++ matches) z
-  back_named (named y) z h m = Has-left all matches z (equation_back total xs (λ t. t) s.named.items (j.are (λ t. t) refl are.of_named) x y z h m)
+  back_named (named y) z h m = Has-left all matches z (equation_back total xs s.named.items (j.are are.of_named) x y z h m)
   back_named (candidate y) z h m = absurd m
-  back_named (attributes e y) z h m = absurd m
-  back_named (tag e y) z h m = absurd m
   back_named (set y) z h m = absurd m
   back_named (pattern ps) z h m = absurd m
 
@@ -109,7 +93,7 @@ module _ (total : IsTotalOrder tree_cmp) (xs : List Node) (r s : Roles) (are : A
   sound_named z h = ⊎_elim equated matched (Has-append all matches z h)
     where
       equated : Has all z → (q : Role) × Held xs (but_named r s) q × (Has (meet (named x) q) z ⊎ Has (meet q (named x)) z)
-      equated i = let q = equation_of total xs (λ t. t) s.named.items (j.are (λ t. t) refl are.of_named) x z i in (named q.0, q.1, inr q.2)
+      equated i = let q = equation_of total xs s.named.items (j.are are.of_named) x z i in (named q.0, q.1, inr q.2)
 
       matched : Has matches z → (q : Role) × Held xs (but_named r s) q × (Has (meet (named x) q) z ⊎ Has (meet q (named x)) z)
       matched i =
@@ -117,7 +101,7 @@ module _ (total : IsTotalOrder tree_cmp) (xs : List Node) (r s : Roles) (are : A
           (pattern (pattern_in q.1), Has-map pattern_in (stood xs r.patterns) q.1 q.2, inl (subst (Has (matches_by (out-Sort (tree_sort x)) x (pattern_in q.1))) q.3 (is_match (out-Sort (tree_sort x)) x (pattern_in q.1) q.0)))
 
   named_taken : TakesIn (Held xs r) (Held xs (but_named r s)) (named x ∷ []) (all ++ matches)
-  named_taken = takes_one (Held xs r) (Held xs (but_named r s)) (named x) (all ++ matches) old_named (joined_there xs r.named.items s.named.items n n j) only_named sound_named forth_named back_named
+  named_taken = takes_one (Held xs r) (Held xs (but_named r s)) (named x) (all ++ matches) old_named (joined_there xs r.named.items s.named.items n j) only_named sound_named forth_named back_named
 
   pub named_takes : (ys zs : List Node) (ls ms ns : List ℕ) → n < length xs → Equates xs ys ls ms all x → Puts ys zs ms ns (met_patterns ys r.patterns (tree ys n)) → Takes xs zs r (but_named r s) (named x ∷ []) ls ns
   named_takes ys zs ls ms ns within p q =
@@ -125,66 +109,56 @@ module _ (total : IsTotalOrder tree_cmp) (xs : List Node) (r s : Roles) (are : A
       ap (met_patterns ys r.patterns) (p.puts.kept.same n within) ∙ ap (λ (ts : List Tree). if_any (is_text (out-Sort (tree_sort x))) (met_terms meeting.Patterns ts x)) (stood_later xs ys p.puts.kept r.patterns are.of_patterns) in
       taken_put xs zs r (but_named r s) (named x ∷ []) ls ns (p.told ++ matches) named_roles
       (takes_same (Held xs r) (Held xs (but_named r s)) (named x ∷ []) (all ++ matches) (p.told ++ matches)
-      (told_back total xs (λ t. t) s.named.items (j.are (λ t. t) refl are.of_named) x ys ls ms p (joined_there xs r.named.items s.named.items n n j) matches)
-      (told_forth total xs (λ t. t) s.named.items (j.are (λ t. t) refl are.of_named) x ys ls ms p matches) named_taken)
+      (told_back total xs s.named.items (j.are are.of_named) x ys ls ms p (joined_there xs r.named.items s.named.items n j) matches)
+      (told_forth total xs s.named.items (j.are are.of_named) x ys ls ms p matches) named_taken)
       (puts_then xs ys zs ls ms ns p.told matches p.puts (puts_same ys zs ms ns (met_patterns ys r.patterns (tree ys n)) matches same q))
 
 -- ---- a candidate
 
-module _ (total : IsTotalOrder tree_cmp) (xs : List Node) (r s : Roles) (are : AreRoles xs r) (n : ℕ) (j : Joins xs r.candidates.items s.candidates.items n n) where
+module _ (total : IsTotalOrder tree_cmp) (xs : List Node) (r s : Roles) (are : AreRoles xs r) (n : ℕ) (j : Joins xs r.candidates.items s.candidates.items n) where
   abbrev c : Tree
   c = tree xs n
 
   abbrev alike : List Tree
-  alike = met_among meeting.Equation xs s.candidates.items (tree_sort c) c
+  alike = met_among meeting.Equation xs s.candidates.items c
 
   abbrev memberships : List Tree
-  memberships = met_among meeting.Sets xs r.sets.items (tree_sort c) c
+  memberships = met_among meeting.Sets xs r.sets.items c
 
   candidate_roles : s.seen.keys ≡ put_one r.seen.keys n → AreRoles xs (but_candidates r s)
   candidate_roles seen = record {
     of_named = are.of_named;
-    of_candidates = j.are (λ t. t) refl are.of_candidates;
-    of_attributes = are.of_attributes;
-    of_tags = are.of_tags;
+    of_candidates = j.are are.of_candidates;
     of_sets = are.of_sets;
     of_patterns = are.of_patterns;
     once = λ m h. ⊎_elim (λ i. j.old_there m (are.once m i)) (λ e. subst (Has (grouped s.candidates.items)) e j.there) (one_only r.seen.keys n m (subst (λ (ks : List ℕ). Has ks m) seen h));
   }
 
   old_candidate : (q : Role) → Held xs r q → Held xs (but_candidates r s) q
-  old_candidate (candidate y) h = joined_old xs r.candidates.items s.candidates.items n n j y h
+  old_candidate (candidate y) h = joined_old xs r.candidates.items s.candidates.items n j y h
   old_candidate (named y) h = h
-  old_candidate (attributes e y) h = h
-  old_candidate (tag e y) h = h
   old_candidate (set y) h = h
   old_candidate (pattern ps) h = h
 
   only_candidate : (q : Role) → Held xs (but_candidates r s) q → Held xs r q ⊎ (candidate c ≡ q)
-  only_candidate (candidate y) h = ⊎_elim inl (λ e. inr (ap candidate e)) (joined_only xs r.candidates.items s.candidates.items n n j y h)
+  only_candidate (candidate y) h = ⊎_elim inl (λ e. inr (ap candidate e)) (joined_only xs r.candidates.items s.candidates.items n j y h)
   only_candidate (named y) h = inl h
-  only_candidate (attributes e y) h = inl h
-  only_candidate (tag e y) h = inl h
   only_candidate (set y) h = inl h
   only_candidate (pattern ps) h = inl h
 
   forth_candidate : (q : Role) (z : Tree) → Held xs (but_candidates r s) q → Has (meet (candidate c) q) z → Has (alike ++ memberships) z
   forth_candidate (candidate y) z h m =
-      Has-left alike memberships z (equation_forth total xs (λ t. t) s.candidates.items (j.are (λ t. t) refl are.of_candidates) c y z h m)
+      Has-left alike memberships z (equation_forth total xs s.candidates.items (j.are are.of_candidates) c y z h m)
   forth_candidate (set y) z h m =
       let q = member_is (is_set_over y c) c y z m in
-      Has-right alike memberships z (subst (Has memberships) q.1 (has_among xs (λ t. t) meeting.Sets (tree_sort c) c r.sets.items y are.of_sets h q.0))
+      Has-right alike memberships z (subst (Has memberships) q.1 (has_among xs meeting.Sets c r.sets.items y are.of_sets h q.0))
   forth_candidate (named y) z h m = absurd m
-  forth_candidate (attributes e y) z h m = absurd m
-  forth_candidate (tag e y) z h m = absurd m
   forth_candidate (pattern ps) z h m = absurd m
 
   back_candidate : (q : Role) (z : Tree) → Held xs (but_candidates r s) q → Has (meet q (candidate c)) z → Has (alike ++ memberships) z
   back_candidate (candidate y) z h m =
-      Has-left alike memberships z (equation_back total xs (λ t. t) s.candidates.items (j.are (λ t. t) refl are.of_candidates) c y z h m)
+      Has-left alike memberships z (equation_back total xs s.candidates.items (j.are are.of_candidates) c y z h m)
   back_candidate (named y) z h m = absurd m
-  back_candidate (attributes e y) z h m = absurd m
-  back_candidate (tag e y) z h m = absurd m
   back_candidate (set y) z h m = absurd m
   back_candidate (pattern ps) z h m = absurd m
 
@@ -192,228 +166,75 @@ module _ (total : IsTotalOrder tree_cmp) (xs : List Node) (r s : Roles) (are : A
   sound_candidate z h = ⊎_elim equated within (Has-append alike memberships z h)
     where
       equated : Has alike z → (q : Role) × Held xs (but_candidates r s) q × (Has (meet (candidate c) q) z ⊎ Has (meet q (candidate c)) z)
-      equated i = let q = equation_of total xs (λ t. t) s.candidates.items (j.are (λ t. t) refl are.of_candidates) c z i in (candidate q.0, q.1, inr q.2)
+      equated i = let q = equation_of total xs s.candidates.items (j.are are.of_candidates) c z i in (candidate q.0, q.1, inr q.2)
 
       within : Has memberships z → (q : Role) × Held xs (but_candidates r s) q × (Has (meet (candidate c) q) z ⊎ Has (meet q (candidate c)) z)
       within i =
-          let q = among_has xs (λ t. t) meeting.Sets (tree_sort c) c r.sets.items z are.of_sets i in
+          let q = among_has xs meeting.Sets c r.sets.items z are.of_sets i in
           (set q.other, q.among, inl (subst (Has (members_by (is_set_over q.other c) c q.other)) q.is (is_member (is_set_over q.other c) c q.other q.meets)))
 
   candidate_taken : TakesIn (Held xs r) (Held xs (but_candidates r s)) (candidate c ∷ []) (alike ++ memberships)
-  candidate_taken = takes_one (Held xs r) (Held xs (but_candidates r s)) (candidate c) (alike ++ memberships) old_candidate (joined_there xs r.candidates.items s.candidates.items n n j) only_candidate sound_candidate forth_candidate back_candidate
+  candidate_taken = takes_one (Held xs r) (Held xs (but_candidates r s)) (candidate c) (alike ++ memberships) old_candidate (joined_there xs r.candidates.items s.candidates.items n j) only_candidate sound_candidate forth_candidate back_candidate
 
-  pub candidate_takes : (ys zs : List Node) (ls ms ns : List ℕ) → s.seen.keys ≡ put_one r.seen.keys n → n < length xs → Equates xs ys ls ms alike c → Puts ys zs ms ns (met_among meeting.Sets ys r.sets.items (tree_sort (tree ys n)) (tree ys n))
+  pub candidate_takes : (ys zs : List Node) (ls ms ns : List ℕ) → s.seen.keys ≡ put_one r.seen.keys n → n < length xs → Equates xs ys ls ms alike c → Puts ys zs ms ns (met_among meeting.Sets ys r.sets.items (tree ys n))
       → Takes xs zs r (but_candidates r s) (candidate c ∷ []) ls ns
   candidate_takes ys zs ls ms ns seen within p q =
-      let same : met_among meeting.Sets ys r.sets.items (tree_sort (tree ys n)) (tree ys n) ≡ memberships =
-      ap (λ (t : Tree). met_among meeting.Sets ys r.sets.items (tree_sort t) t) (p.puts.kept.same n within)
-      ∙ among_stays xs ys p.puts.kept meeting.Sets r.sets.items (tree_sort c) c (groups_within xs (λ t. t) r.sets.items are.of_sets) in
+      let same : met_among meeting.Sets ys r.sets.items (tree ys n) ≡ memberships =
+      ap (met_among meeting.Sets ys r.sets.items) (p.puts.kept.same n within) ∙ among_stays xs ys p.puts.kept meeting.Sets r.sets.items c (groups_within xs r.sets.items are.of_sets) in
       taken_put xs zs r (but_candidates r s) (candidate c ∷ []) ls ns (p.told ++ memberships) (candidate_roles seen)
       (takes_same (Held xs r) (Held xs (but_candidates r s)) (candidate c ∷ []) (alike ++ memberships) (p.told ++ memberships)
-      (told_back total xs (λ t. t) s.candidates.items (j.are (λ t. t) refl are.of_candidates) c ys ls ms p (joined_there xs r.candidates.items s.candidates.items n n j) memberships)
-      (told_forth total xs (λ t. t) s.candidates.items (j.are (λ t. t) refl are.of_candidates) c ys ls ms p memberships) candidate_taken)
-      (puts_then xs ys zs ls ms ns p.told memberships p.puts (puts_same ys zs ms ns (met_among meeting.Sets ys r.sets.items (tree_sort (tree ys n)) (tree ys n)) memberships same q))
+      (told_back total xs s.candidates.items (j.are are.of_candidates) c ys ls ms p (joined_there xs r.candidates.items s.candidates.items n j) memberships)
+      (told_forth total xs s.candidates.items (j.are are.of_candidates) c ys ls ms p memberships) candidate_taken)
+      (puts_then xs ys zs ls ms ns p.told memberships p.puts (puts_same ys zs ms ns (met_among meeting.Sets ys r.sets.items (tree ys n)) memberships same q))
 
 -- ---- a set
 
-module _ (xs : List Node) (r s : Roles) (are : AreRoles xs r) (n : ℕ) (j : Joins xs r.sets.items s.sets.items n n) where
+module _ (xs : List Node) (r s : Roles) (are : AreRoles xs r) (n : ℕ) (j : Joins xs r.sets.items s.sets.items n) where
   abbrev own : Tree
   own = tree xs n
 
   abbrev members : List Tree
-  members = met_among meeting.Candidates xs r.candidates.items (tree_sort own) own
+  members = met_among meeting.Candidates xs r.candidates.items own
 
   set_roles : AreRoles xs (but_sets r s)
   set_roles = record {
     of_named = are.of_named;
     of_candidates = are.of_candidates;
-    of_attributes = are.of_attributes;
-    of_tags = are.of_tags;
-    of_sets = j.are (λ t. t) refl are.of_sets;
+    of_sets = j.are are.of_sets;
     of_patterns = are.of_patterns;
     once = are.once;
   }
 
   old_set : (q : Role) → Held xs r q → Held xs (but_sets r s) q
-  old_set (set y) h = joined_old xs r.sets.items s.sets.items n n j y h
+  old_set (set y) h = joined_old xs r.sets.items s.sets.items n j y h
   old_set (named y) h = h
   old_set (candidate y) h = h
-  old_set (attributes e y) h = h
-  old_set (tag e y) h = h
   old_set (pattern ps) h = h
 
   only_set : (q : Role) → Held xs (but_sets r s) q → Held xs r q ⊎ (set own ≡ q)
-  only_set (set y) h = ⊎_elim inl (λ e. inr (ap set e)) (joined_only xs r.sets.items s.sets.items n n j y h)
+  only_set (set y) h = ⊎_elim inl (λ e. inr (ap set e)) (joined_only xs r.sets.items s.sets.items n j y h)
   only_set (named y) h = inl h
   only_set (candidate y) h = inl h
-  only_set (attributes e y) h = inl h
-  only_set (tag e y) h = inl h
   only_set (pattern ps) h = inl h
 
   back_set : (q : Role) (z : Tree) → Held xs (but_sets r s) q → Has (meet q (set own)) z → Has members z
   back_set (candidate y) z h m =
       let q = member_is (is_set_over own y) y own z m in
-      subst (Has members) q.1 (has_among xs (λ t. t) meeting.Candidates (tree_sort own) own r.candidates.items y are.of_candidates h q.0)
+      subst (Has members) q.1 (has_among xs meeting.Candidates own r.candidates.items y are.of_candidates h q.0)
   back_set (named y) z h m = absurd m
-  back_set (attributes e y) z h m = absurd m
-  back_set (tag e y) z h m = absurd m
   back_set (set y) z h m = absurd m
   back_set (pattern ps) z h m = absurd m
 
   sound_set : (z : Tree) → Has members z → (q : Role) × Held xs (but_sets r s) q × (Has (meet (set own) q) z ⊎ Has (meet q (set own)) z)
   sound_set z h =
-      let q = among_has xs (λ t. t) meeting.Candidates (tree_sort own) own r.candidates.items z are.of_candidates h in
+      let q = among_has xs meeting.Candidates own r.candidates.items z are.of_candidates h in
       (candidate q.other, q.among, inr (subst (Has (members_by (is_set_over own q.other) q.other own)) q.is (is_member (is_set_over own q.other) q.other own q.meets)))
 
   set_taken : TakesIn (Held xs r) (Held xs (but_sets r s)) (set own ∷ []) members
-  set_taken = takes_one (Held xs r) (Held xs (but_sets r s)) (set own) members old_set (joined_there xs r.sets.items s.sets.items n n j) only_set sound_set (λ q z h m. absurd m) back_set
+  set_taken = takes_one (Held xs r) (Held xs (but_sets r s)) (set own) members old_set (joined_there xs r.sets.items s.sets.items n j) only_set sound_set (λ q z h m. absurd m) back_set
 
   pub set_takes : (ys : List Node) (ls ms : List ℕ) → Puts xs ys ls ms members → Takes xs ys r (but_sets r s) (set own ∷ []) ls ms
   set_takes ys ls ms p = taken_put xs ys r (but_sets r s) (set own ∷ []) ls ms members set_roles set_taken p
-
--- ---- attributes
-
-module _ (total : IsTotalOrder tree_cmp) (xs : List Node) (r s : Roles) (are : AreRoles xs r) (entity n : ℕ) (owned : owner (tree xs n) ≡ tree xs entity) (j : Joins xs r.attributes.items s.attributes.items entity n) where
-  abbrev attributes_term : Tree
-  attributes_term = tree xs n
-
-  abbrev attributes_equations : List Tree
-  attributes_equations = met_among meeting.Equation xs s.attributes.items (tree_sort (owner attributes_term)) attributes_term
-
-  attributes_roles : AreRoles xs (but_attributes r s)
-  attributes_roles = record {
-    of_named = are.of_named;
-    of_candidates = are.of_candidates;
-    of_attributes = j.are owner owned are.of_attributes;
-    of_tags = are.of_tags;
-    of_sets = are.of_sets;
-    of_patterns = are.of_patterns;
-    once = are.once;
-  }
-
-  old_attributes : (q : Role) → Held xs r q → Held xs (but_attributes r s) q
-  old_attributes (attributes e y) h = (joined_old xs r.attributes.items s.attributes.items entity n j y h.0, h.1)
-  old_attributes (named y) h = h
-  old_attributes (candidate y) h = h
-  old_attributes (tag e y) h = h
-  old_attributes (set y) h = h
-  old_attributes (pattern ps) h = h
-
-  only_attributes : (q : Role) → Held xs (but_attributes r s) q → Held xs r q ⊎ (attributes (owner attributes_term) attributes_term ≡ q)
-  only_attributes (attributes e y) h =
-      ⊎_elim (λ i. inl (i, h.1)) (λ same. inr (ap (λ (t : Tree). attributes (owner t) t) same ∙ ap (λ (o : Tree). attributes o y) h.1)) (joined_only xs r.attributes.items s.attributes.items entity n j y h.0)
-  only_attributes (named y) h = inl h
-  only_attributes (candidate y) h = inl h
-  only_attributes (tag e y) h = inl h
-  only_attributes (set y) h = inl h
-  only_attributes (pattern ps) h = inl h
-
-  forth_attributes : (q : Role) (z : Tree) → Held xs (but_attributes r s) q → Has (meet (attributes (owner attributes_term) attributes_term) q) z → Has attributes_equations z
-  forth_attributes (attributes e y) z h m =
-      equation_forth total xs owner s.attributes.items (j.are owner owned are.of_attributes) attributes_term y z h.0 (subst (λ (o : Tree). Has (equated_by (one_sort (owner attributes_term) o) attributes_term y) z) (sym h.1) m)
-  forth_attributes (named y) z h m = absurd m
-  forth_attributes (candidate y) z h m = absurd m
-  forth_attributes (tag e y) z h m = absurd m
-  forth_attributes (set y) z h m = absurd m
-  forth_attributes (pattern ps) z h m = absurd m
-
-  back_attributes : (q : Role) (z : Tree) → Held xs (but_attributes r s) q → Has (meet q (attributes (owner attributes_term) attributes_term)) z → Has attributes_equations z
-  back_attributes (attributes e y) z h m =
-      equation_back total xs owner s.attributes.items (j.are owner owned are.of_attributes) attributes_term y z h.0 (subst (λ (o : Tree). Has (equated_by (one_sort o (owner attributes_term)) y attributes_term) z) (sym h.1) m)
-  back_attributes (named y) z h m = absurd m
-  back_attributes (candidate y) z h m = absurd m
-  back_attributes (tag e y) z h m = absurd m
-  back_attributes (set y) z h m = absurd m
-  back_attributes (pattern ps) z h m = absurd m
-
-  sound_attributes : (z : Tree) → Has attributes_equations z → (q : Role) × Held xs (but_attributes r s) q × (Has (meet (attributes (owner attributes_term) attributes_term) q) z ⊎ Has (meet q (attributes (owner attributes_term) attributes_term)) z)
-  sound_attributes z h = let q = equation_of total xs owner s.attributes.items (j.are owner owned are.of_attributes) attributes_term z h in (attributes (owner q.0) q.0, (q.1, refl), inr q.2)
-
-  attributes_taken : TakesIn (Held xs r) (Held xs (but_attributes r s)) (attributes (owner attributes_term) attributes_term ∷ []) attributes_equations
-  attributes_taken = takes_one (Held xs r) (Held xs (but_attributes r s)) (attributes (owner attributes_term) attributes_term) attributes_equations old_attributes (joined_there xs r.attributes.items s.attributes.items entity n j, refl) only_attributes sound_attributes forth_attributes back_attributes
-
-  pub attributes_takes : (ys : List Node) (ls ms : List ℕ) → Equates xs ys ls ms (met_among meeting.Equation xs s.attributes.items (tree_sort (tree xs entity)) attributes_term) attributes_term
-      → Takes xs ys r (but_attributes r s) (attributes (tree xs entity) attributes_term ∷ []) ls ms
-  attributes_takes ys ls ms p =
-      let q = subst (λ (o : Tree). Equates xs ys ls ms (met_among meeting.Equation xs s.attributes.items (tree_sort o) attributes_term) attributes_term) (sym owned) p in
-      subst (λ (o : Tree). Takes xs ys r (but_attributes r s) (attributes o attributes_term ∷ []) ls ms) owned
-      (taken_put xs ys r (but_attributes r s) (attributes (owner attributes_term) attributes_term ∷ []) ls ms q.told attributes_roles
-      (takes_same (Held xs r) (Held xs (but_attributes r s)) (attributes (owner attributes_term) attributes_term ∷ []) attributes_equations q.told
-      (told_back_alone total xs owner s.attributes.items (j.are owner owned are.of_attributes) attributes_term ys ls ms q (joined_there xs r.attributes.items s.attributes.items entity n j))
-      q.whole attributes_taken)
-      q.puts)
-
--- ---- a tag
-
-module _ (total : IsTotalOrder tree_cmp) (xs : List Node) (r s : Roles) (are : AreRoles xs r) (entity n : ℕ) (owned : owner (tree xs n) ≡ tree xs entity) (j : Joins xs r.tags.items s.tags.items entity n) where
-  abbrev tag_term : Tree
-  tag_term = tree xs n
-
-  abbrev tag_equations : List Tree
-  tag_equations = met_among meeting.Equation xs s.tags.items (tree_sort (owner tag_term)) tag_term
-
-  tag_roles : AreRoles xs (but_tags r s)
-  tag_roles = record {
-    of_named = are.of_named;
-    of_candidates = are.of_candidates;
-    of_attributes = are.of_attributes;
-    of_tags = j.are owner owned are.of_tags;
-    of_sets = are.of_sets;
-    of_patterns = are.of_patterns;
-    once = are.once;
-  }
-
-  old_tag : (q : Role) → Held xs r q → Held xs (but_tags r s) q
-  old_tag (tag e y) h = (joined_old xs r.tags.items s.tags.items entity n j y h.0, h.1)
-  old_tag (named y) h = h
-  old_tag (candidate y) h = h
-  old_tag (attributes e y) h = h
-  old_tag (set y) h = h
-  old_tag (pattern ps) h = h
-
-  only_tag : (q : Role) → Held xs (but_tags r s) q → Held xs r q ⊎ (tag (owner tag_term) tag_term ≡ q)
-  only_tag (tag e y) h =
-      ⊎_elim (λ i. inl (i, h.1)) (λ same. inr (ap (λ (t : Tree). tag (owner t) t) same ∙ ap (λ (o : Tree). tag o y) h.1)) (joined_only xs r.tags.items s.tags.items entity n j y h.0)
-  only_tag (named y) h = inl h
-  only_tag (candidate y) h = inl h
-  only_tag (attributes e y) h = inl h
-  only_tag (set y) h = inl h
-  only_tag (pattern ps) h = inl h
-
-  forth_tag : (q : Role) (z : Tree) → Held xs (but_tags r s) q → Has (meet (tag (owner tag_term) tag_term) q) z → Has tag_equations z
-  forth_tag (tag e y) z h m =
-      equation_forth total xs owner s.tags.items (j.are owner owned are.of_tags) tag_term y z h.0 (subst (λ (o : Tree). Has (equated_by (one_sort (owner tag_term) o) tag_term y) z) (sym h.1) m)
-  forth_tag (named y) z h m = absurd m
-  forth_tag (candidate y) z h m = absurd m
-  forth_tag (attributes e y) z h m = absurd m
-  forth_tag (set y) z h m = absurd m
-  forth_tag (pattern ps) z h m = absurd m
-
-  back_tag : (q : Role) (z : Tree) → Held xs (but_tags r s) q → Has (meet q (tag (owner tag_term) tag_term)) z → Has tag_equations z
-  back_tag (tag e y) z h m =
-      equation_back total xs owner s.tags.items (j.are owner owned are.of_tags) tag_term y z h.0 (subst (λ (o : Tree). Has (equated_by (one_sort o (owner tag_term)) y tag_term) z) (sym h.1) m)
-  back_tag (named y) z h m = absurd m
-  back_tag (candidate y) z h m = absurd m
-  back_tag (attributes e y) z h m = absurd m
-  back_tag (set y) z h m = absurd m
-  back_tag (pattern ps) z h m = absurd m
-
-  sound_tag : (z : Tree) → Has tag_equations z → (q : Role) × Held xs (but_tags r s) q × (Has (meet (tag (owner tag_term) tag_term) q) z ⊎ Has (meet q (tag (owner tag_term) tag_term)) z)
-  sound_tag z h = let q = equation_of total xs owner s.tags.items (j.are owner owned are.of_tags) tag_term z h in (tag (owner q.0) q.0, (q.1, refl), inr q.2)
-
-  tag_taken : TakesIn (Held xs r) (Held xs (but_tags r s)) (tag (owner tag_term) tag_term ∷ []) tag_equations
-  tag_taken = takes_one (Held xs r) (Held xs (but_tags r s)) (tag (owner tag_term) tag_term) tag_equations old_tag (joined_there xs r.tags.items s.tags.items entity n j, refl) only_tag sound_tag forth_tag back_tag
-
-  pub tag_takes : (ys : List Node) (ls ms : List ℕ) → Equates xs ys ls ms (met_among meeting.Equation xs s.tags.items (tree_sort (tree xs entity)) tag_term) tag_term
-      → Takes xs ys r (but_tags r s) (tag (tree xs entity) tag_term ∷ []) ls ms
-  tag_takes ys ls ms p =
-      let q = subst (λ (o : Tree). Equates xs ys ls ms (met_among meeting.Equation xs s.tags.items (tree_sort o) tag_term) tag_term) (sym owned) p in
-      subst (λ (o : Tree). Takes xs ys r (but_tags r s) (tag o tag_term ∷ []) ls ms) owned
-      (taken_put xs ys r (but_tags r s) (tag (owner tag_term) tag_term ∷ []) ls ms q.told tag_roles
-      (takes_same (Held xs r) (Held xs (but_tags r s)) (tag (owner tag_term) tag_term ∷ []) tag_equations q.told
-      (told_back_alone total xs owner s.tags.items (j.are owner owned are.of_tags) tag_term ys ls ms q (joined_there xs r.tags.items s.tags.items entity n j))
-      q.whole tag_taken)
-      q.puts)
 
 -- ---- a pattern
 
@@ -422,7 +243,7 @@ module _ (xs : List Node) (r s : Roles) (are : AreRoles xs r) (n : ℕ) (within 
   asking = tree xs n
 
   abbrev texts : List Tree
-  texts = met_among meeting.Texts xs r.named.items (tree_sort asking) asking
+  texts = met_among meeting.Texts xs r.named.items asking
 
   all_patterns : map pattern_in (stood xs s.patterns) ≡ map pattern_in (stood xs r.patterns) ++ pattern_in asking ∷ []
   all_patterns =
@@ -433,8 +254,6 @@ module _ (xs : List Node) (r s : Roles) (are : AreRoles xs r) (n : ℕ) (within 
   pattern_roles = record {
     of_named = are.of_named;
     of_candidates = are.of_candidates;
-    of_attributes = are.of_attributes;
-    of_tags = are.of_tags;
     of_sets = are.of_sets;
     of_patterns = subst (AllByRecursion (λ m. m < length xs)) (sym pushed) (within_push (length xs) n r.patterns are.of_patterns within);
     once = are.once;
@@ -444,31 +263,25 @@ module _ (xs : List Node) (r s : Roles) (are : AreRoles xs r) (n : ℕ) (within 
   old_pattern (pattern ps) h = subst (λ (l : List (List Part)). Has l ps) (sym all_patterns) (Has-left (map pattern_in (stood xs r.patterns)) (pattern_in asking ∷ []) ps h)
   old_pattern (named y) h = h
   old_pattern (candidate y) h = h
-  old_pattern (attributes e y) h = h
-  old_pattern (tag e y) h = h
   old_pattern (set y) h = h
 
   only_pattern : (q : Role) → Held xs (but_patterns r s) q → Held xs r q ⊎ (pattern (pattern_in asking) ≡ q)
   only_pattern (pattern ps) h = ⊎_elim inl (λ e. inr (ap pattern e)) (Has-push (map pattern_in (stood xs r.patterns)) (pattern_in asking) ps (subst (λ (l : List (List Part)). Has l ps) all_patterns h))
   only_pattern (named y) h = inl h
   only_pattern (candidate y) h = inl h
-  only_pattern (attributes e y) h = inl h
-  only_pattern (tag e y) h = inl h
   only_pattern (set y) h = inl h
 
   back_pattern : (q : Role) (z : Tree) → Held xs (but_patterns r s) q → Has (meet q (pattern (pattern_in asking))) z → Has texts z
   back_pattern (named y) z h m =
       let q = match_is (out-Sort (tree_sort y)) y z (pattern_in asking) m in
-      subst (Has texts) q.1 (has_among xs (λ t. t) meeting.Texts (tree_sort asking) asking r.named.items y are.of_named h q.0)
+      subst (Has texts) q.1 (has_among xs meeting.Texts asking r.named.items y are.of_named h q.0)
   back_pattern (candidate y) z h m = absurd m
-  back_pattern (attributes e y) z h m = absurd m
-  back_pattern (tag e y) z h m = absurd m
   back_pattern (set y) z h m = absurd m
   back_pattern (pattern ps) z h m = absurd m
 
   sound_pattern : (z : Tree) → Has texts z → (q : Role) × Held xs (but_patterns r s) q × (Has (meet (pattern (pattern_in asking)) q) z ⊎ Has (meet q (pattern (pattern_in asking))) z)
   sound_pattern z h =
-      let q = among_has xs (λ t. t) meeting.Texts (tree_sort asking) asking r.named.items z are.of_named h in
+      let q = among_has xs meeting.Texts asking r.named.items z are.of_named h in
       (named q.other, q.among, inr (subst (Has (matches_by (out-Sort (tree_sort q.other)) q.other (pattern_in asking))) q.is (is_match (out-Sort (tree_sort q.other)) q.other (pattern_in asking) q.meets)))
 
   there_pattern : Held xs (but_patterns r s) (pattern (pattern_in asking))

@@ -21,11 +21,11 @@ use Rattle.sc_terms.specs.Tables.{Places, tree, node_parts, node_tree, AreBelow,
 use Rattle.sc_closure_rules.specs.Making.{Puts, stood}
 use Rattle.sc_closure_rules.proofs.MakingLaws.{stood_later}
 use Rattle.sc_closure_rules.proofs.MemberLaws.{within_later, within_append, read_at, within_at}
-use Rattle.sc_closure_rules.specs.Closure.{trees_in, Role, candidate, attributes, tag, pattern, roles, roles_by, roles_in, follow}
+use Rattle.sc_closure_rules.specs.Closure.{trees_in, Role, candidate, pattern, roles, roles_by, roles_in, follow}
 use Rattle.sc_closure.specs.declared.roles.Roles.{Roles}
 use Rattle.sc_closure.specs.declared.taking.Part.{Part}
 use Rattle.sc_closure.specs.declared.taking.Place.{Place}
-use Rattle.sc_closure.specs.Following.{owner, pattern_in, Held, AreRoles, IsPartOf, IsPartWithin, Takes, TakesIn, Follows, part_in, place_in as place_of, roles_at, roles_by_part}
+use Rattle.sc_closure.specs.Following.{pattern_in, Held, AreRoles, IsPartOf, IsPartWithin, Takes, TakesIn, Follows, part_in, place_in as place_of, roles_at, roles_by_part}
 use Rattle.sc_closure.specs.Places.{place_among, one_more}
 use Rattle.sc_closure.proofs.HeldLaws.{held_later, held_before}
 use Rattle.sc_closure.proofs.TakingLaws.{takes_none, takes_known, takes_then}
@@ -106,9 +106,7 @@ module _ (xs : List Node) (n : ℕ) (n_in : n < length xs) where
   part_is_at (node.Two binary.Member a b) e h = record { within = h.0; are = ap roles_in e }
   part_is_at (node.Two binary.DifferencePick a b) e h = record { within = n_in; are = ap roles_in e ∙ ap (λ (t : Tree). candidate t ∷ []) (sym e) }
   part_is_at (node.Two binary.CommonPick a b) e h = record { within = n_in; are = ap roles_in e ∙ ap (λ (t : Tree). candidate t ∷ []) (sym e) }
-  part_is_at (node.Two (binary.Tag own) a b) e h = record { within = (h.0, ap owner e); are = ap roles_in e ∙ ap (λ (t : Tree). tag (tree xs a) t ∷ []) (sym e) }
   part_is_at (node.One (unary.Ancestors own) a) e h = record { within = h; are = ap roles_in e }
-  part_is_at (node.One (unary.Attributes own) a) e h = record { within = (h, ap owner e); are = ap roles_in e ∙ ap (λ (t : Tree). attributes (tree xs a) t ∷ []) (sym e) }
   part_is_at (node.One (unary.Like p) a) e h = record { within = tt; are = ap roles_in e ∙ ap (λ (t : Tree). pattern (pattern_in t) ∷ []) (sym e) }
   part_is_at (node.Many (manys.Set member) ps) e h = record { within = members_below (length xs) ps h; are = ap roles_in e ∙ members_are xs ps }
   part_is_at _ e h = record { within = tt; are = ap roles_in e }
@@ -119,8 +117,8 @@ module _ (xs : List Node) (n : ℕ) (n_in : n < length xs) where
 pub takes_part : (a b : List Node) (r s : Roles) (n : ℕ) (p q : Part) (ls ms : List ℕ) → IsPartOf a n p → p ≡ q → Takes a b r s (roles_by_part a n q) ls ms → Takes a b r s (roles_in (tree a n)) ls ms
 takes_part a b r s n p q ls ms is e x = takes_same a b r s (roles_by_part a n q) (roles_in (tree a n)) ls ms (sym (is.are ∙ ap (roles_by_part a n) e)) x
 
-pub part_within : (a : List Node) (n : ℕ) (p q : Part) → IsPartOf a n p → p ≡ q → IsPartWithin a n q
-part_within a n p q is e = subst (IsPartWithin a n) e is.within
+pub part_within : (a : List Node) (n : ℕ) (p q : Part) → IsPartOf a n p → p ≡ q → IsPartWithin (length a) q
+part_within a n p q is e = subst (IsPartWithin (length a)) e is.within
 
 -- ---- what a term is by its sort
 

@@ -32,7 +32,7 @@ use Rattle.sc_closure.specs.declared.taking.Part.{Part as PartOf}
 use Rattle.sc_closure.specs.declared.taking.Part.TheVariants as part
 use Rattle.sc_closure.specs.declared.taking.Place.{Place}
 use Rattle.sc_closure.specs.declared.taking.Place.TheVariants as place
-use Rattle.sc_closure_rules.specs.Closure.{principal_term, resource_term, follow, Role, named, candidate, attributes, tag, set, pattern, roles_in, roles, meet, is_over, Closed}
+use Rattle.sc_closure_rules.specs.Closure.{principal_term, resource_term, follow, Role, named, candidate, set, pattern, roles_in, roles, meet, is_over, Closed}
 use Rattle.sc_closure.specs.Atoms.{is_atom}
 
 -- a number after the others, if it isn't there
@@ -48,12 +48,6 @@ abbrev pub seeds : Declarations → Env → Tree → List Tree
 seeds d env goal = truth_term true ∷ goal ∷ principal_term d env ∷ resource_term d env ∷ []
 
 -- ---- roles by numbers
-
--- the entity that attributes or a tag are of
-abbrev pub owner : Tree → Tree
-owner (one o e) = e
-owner (two o e k) = e
-owner x = x
 
 -- the pattern that a term asks
 abbrev pub asked : Tree → Option (List Part)
@@ -74,7 +68,7 @@ grouped gs = flat_map (λ (g : Group). g.members) gs
 
 -- what stands where there is no group
 abbrev pub no_group : Group
-no_group = record { key = 0; members = []; others = [] }
+no_group = record { first = 0; members = []; others = [] }
 
 -- a term that is no value is put behind these
 abbrev pub with_other : Bool → List ℕ → ℕ → List ℕ
@@ -82,17 +76,15 @@ with_other true ns n = ns
 with_other false ns n = ns ++ n ∷ []
 
 abbrev pub with_member : Bool → Group → ℕ → Group
-with_member value g n = record { key = g.key; members = g.members ++ n ∷ []; others = with_other value g.others n }
+with_member value g n = record { first = g.first; members = g.members ++ n ∷ []; others = with_other value g.others n }
 
-abbrev pub group_with : Bool → ℕ → ℕ → Group
-group_with value key n = with_member value (record { key = key; members = []; others = [] }) n
+abbrev pub group_with : Bool → ℕ → Group
+group_with value n = with_member value (record { first = n; members = []; others = [] }) n
 
 -- a role is one of those that are held by numbers of a table
 abbrev pub Held : List Node → Roles → Role → Type 0
 Held xs r (named x) = Has (stood xs (grouped r.named.items)) x
 Held xs r (candidate x) = Has (stood xs (grouped r.candidates.items)) x
-Held xs r (attributes e x) = Has (stood xs (grouped r.attributes.items)) x × (owner x ≡ e)
-Held xs r (tag e x) = Has (stood xs (grouped r.tags.items)) x × (owner x ≡ e)
 Held xs r (set x) = Has (stood xs (grouped r.sets.items)) x
 Held xs r (pattern p) = Has (map pattern_in (stood xs r.patterns)) p
 
@@ -111,22 +103,20 @@ pub record IsDivided (xs : List Node) (g : Group) : Type 0 where
   pub others_in : (n : ℕ) → Has g.others n → Has g.members n
   pub divided : (n : ℕ) → Has g.members n → Has g.others n ⊎ (value_in (literal_of (tree xs n)) ≡ true)
 
--- the keys of a group's members are of the sort of the group's key
-pub record IsGroup (xs : List Node) (key : Tree → Tree) (g : Group) : Type 0 where
-  pub key_in : g.key < length xs
+-- the members of a group are of the sort of the first
+pub record IsGroup (xs : List Node) (g : Group) : Type 0 where
+  pub first_in : g.first < length xs
   pub members_in : AllByRecursion (λ n. n < length xs) g.members
-  pub alike : AllByRecursion (λ n. tree_sort (key (tree xs n)) ≡ tree_sort (tree xs g.key)) g.members
+  pub alike : AllByRecursion (λ n. tree_sort (tree xs n) ≡ tree_sort (tree xs g.first)) g.members
   pub divided : IsDivided xs g
 
-abbrev pub AreGroups : List Node → (Tree → Tree) → List Group → Type 0
-AreGroups xs key = AllByRecursion (IsGroup xs key)
+abbrev pub AreGroups : List Node → List Group → Type 0
+AreGroups xs = AllByRecursion (IsGroup xs)
 
 pub record AreRoles (xs : List Node) (r : Roles) : Type 0 where
-  pub of_named : AreGroups xs (λ x. x) r.named.items
-  pub of_candidates : AreGroups xs (λ x. x) r.candidates.items
-  pub of_attributes : AreGroups xs owner r.attributes.items
-  pub of_tags : AreGroups xs owner r.tags.items
-  pub of_sets : AreGroups xs (λ x. x) r.sets.items
+  pub of_named : AreGroups xs r.named.items
+  pub of_candidates : AreGroups xs r.candidates.items
+  pub of_sets : AreGroups xs r.sets.items
   pub of_patterns : AllByRecursion (λ n. n < length xs) r.patterns
   -- what has been seen as a candidate is in a group
   pub once : (n : ℕ) → Has r.seen.keys n → Has (grouped r.candidates.items) n
@@ -136,20 +126,16 @@ abbrev pub roles_by_part : List Node → ℕ → PartOf → List Role
 roles_by_part xs n part.Nothing = []
 roles_by_part xs n (part.Candidate a) = candidate (tree xs a) ∷ []
 roles_by_part xs n (part.Candidates members) = map (λ m. candidate (tree xs m)) members
-roles_by_part xs n (part.Attributes e) = attributes (tree xs e) (tree xs n) ∷ []
-roles_by_part xs n (part.Tag e) = tag (tree xs e) (tree xs n) ∷ []
 roles_by_part xs n part.Pattern = pattern (pattern_in (tree xs n)) ∷ []
 
-abbrev pub IsPartWithin : List Node → ℕ → PartOf → Type 0
-IsPartWithin xs n part.Nothing = ⊤
-IsPartWithin xs n (part.Candidate a) = a < length xs
-IsPartWithin xs n (part.Candidates members) = AllByRecursion (λ m. m < length xs) members
-IsPartWithin xs n (part.Attributes e) = (e < length xs) × (owner (tree xs n) ≡ tree xs e)
-IsPartWithin xs n (part.Tag e) = (e < length xs) × (owner (tree xs n) ≡ tree xs e)
-IsPartWithin xs n part.Pattern = ⊤
+abbrev pub IsPartWithin : ℕ → PartOf → Type 0
+IsPartWithin l part.Nothing = ⊤
+IsPartWithin l (part.Candidate a) = a < l
+IsPartWithin l (part.Candidates members) = AllByRecursion (λ m. m < l) members
+IsPartWithin l part.Pattern = ⊤
 
 pub record IsPartOf (xs : List Node) (n : ℕ) (p : PartOf) : Type 0 where
-  pub within : IsPartWithin xs n p
+  pub within : IsPartWithin (length xs) p
   pub are : roles_in (tree xs n) ≡ roles_by_part xs n p
 
 -- the part of the node of a number
@@ -157,9 +143,7 @@ abbrev pub part_in : ℕ → Node → PartOf
 part_in n (node.Two binary.Member a b) = part.Candidate a
 part_in n (node.Two binary.DifferencePick a b) = part.Candidate n
 part_in n (node.Two binary.CommonPick a b) = part.Candidate n
-part_in n (node.Two (binary.Tag own) e k) = part.Tag e
 part_in n (node.One (unary.Ancestors own) e) = part.Candidate e
-part_in n (node.One (unary.Attributes own) e) = part.Attributes e
 part_in n (node.One (unary.Like p) t) = part.Pattern
 part_in n (node.Many (manys.Set member) ps) = part.Candidates (map (λ (p : List ℕ × ℕ). p.1) ps)
 part_in n _ = part.Nothing
@@ -177,15 +161,14 @@ place_in (s.Set member) = place.Set
 place_in _ = place.Neither
 
 -- a term is put into one of these groups
-pub record Joins (xs : List Node) (old new : List Group) (key term : ℕ) : Type 0 where
+pub record Joins (xs : List Node) (old new : List Group) (term : ℕ) : Type 0 where
   pub there : Has (grouped new) term
   pub old_there : (n : ℕ) → Has (grouped old) n → Has (grouped new) n
   pub only : (n : ℕ) → Has (grouped new) n → Has (grouped old) n ⊎ (term ≡ n)
-  pub are : (key_of : Tree → Tree) → key_of (tree xs term) ≡ tree xs key → AreGroups xs key_of old
-      → AreGroups xs key_of new
+  pub are : AreGroups xs old → AreGroups xs new
 
 abbrev pub IsGroupWithin : ℕ → Group → Type 0
-IsGroupWithin l g = (g.key < l) × AllByRecursion (λ n. n < l) g.members
+IsGroupWithin l g = (g.first < l) × AllByRecursion (λ n. n < l) g.members
 
 -- ---- what goes with a new role, group by group
 
@@ -220,7 +203,7 @@ abbrev pub told_of : Bool → Tree → List Tree
 told_of true x = equal_term x x ∷ truth_term false ∷ []
 told_of false x = equal_term x x ∷ []
 
--- where something goes with terms of a sort and one whose key is of another
+-- where something goes with terms of a sort and one of another
 abbrev pub is_met : Meeting → Sort → Sort → Bool
 is_met meeting.Equation a b = sorts.eq a b
 is_met meeting.Sets a b = is_over (out-Sort a) b
@@ -235,11 +218,11 @@ abbrev pub if_any : Bool → List Tree → List Tree
 if_any true ts = ts
 if_any false ts = []
 
-abbrev pub met_in : Meeting → Tree → List Tree → Sort → Tree → List Tree
-met_in m key ts k x = if_any (is_met m (tree_sort key) k) (met_terms m ts x)
+abbrev pub met_in : Meeting → Tree → List Tree → Tree → List Tree
+met_in m first ts x = if_any (is_met m (tree_sort first) (tree_sort x)) (met_terms m ts x)
 
-abbrev pub met_among : Meeting → List Node → List Group → Sort → Tree → List Tree
-met_among m xs gs k x = flat_map (λ (g : Group). met_in m (tree xs g.key) (stood xs g.members) k x) gs
+abbrev pub met_among : Meeting → List Node → List Group → Tree → List Tree
+met_among m xs gs x = flat_map (λ (g : Group). met_in m (tree xs g.first) (stood xs g.members) x) gs
 
 -- of a text and those that ask patterns
 abbrev pub met_patterns : List Node → List ℕ → Tree → List Tree

@@ -4,7 +4,6 @@ ghost use Rattle.std.specs.Prelude.{◌≡◌, ◌<◌, true, false, length, IfO
 ghost use Rattle.std.specs.List.{AllByRecursion, list_any};
 ghost use Rattle.sc_terms.specs.Folds.{truth_term, literal_of, equal_term};
 ghost use Rattle.sc_terms.specs.Order.{tree_eq};
-ghost use Rattle.sc_terms.specs.TreeSorts.{tree_sort};
 ghost use Rattle.sc_terms.specs.Tables.{tree, Keeps, StandsFor};
 ghost use Rattle.sc_closure_rules.specs.Making.{Puts, stood};
 ghost use Rattle.sc_closure.specs.declared.roles.Meeting.TheVariants.{Equation as equation};
@@ -171,48 +170,44 @@ fn equate_members(
     }
 }
 
-/// Puts the equations of a term and those of a group, if its key is of the group's sort.
+/// Puts the equations of a term and those of a group, if it is of the group's sort.
 fn equate_group(
     terms: &mut Terms,
     group: &Group,
-    key: u64,
     term: u64,
     numbers: &mut Vec<u64>,
 ) -> Result<(), AllocError>
     requires group_in { IsGroupWithin (length terms.old) group.now }
     requires divided { IsDivided terms.old group.now }
-    requires key_in { key < length terms.old }
     requires term_in { term < length terms.old }
     ensures ok { OnOk result (Equates terms.old terms.new numbers.old.items numbers.new.items (met_in equation
-        (tree terms.old group.now.key) (stood terms.old group.now.members) (tree_sort (tree terms.old key))
-        (tree terms.old term)) (tree terms.old term)) }
+        (tree terms.old group.now.first) (stood terms.old group.now.members) (tree terms.old term))
+        (tree terms.old term)) }
     ensures kept { Keeps terms.old terms.new }
 {
-    if is_met(terms, Meeting::Equation, group.key, key) {
+    if is_met(terms, Meeting::Equation, group.first, term) {
         equate_members(terms, group, term, numbers)
     } else {
         Ok(())
     }
 }
 
-/// Puts the equations of a term and those of its key's sort.
+/// Puts the equations of a term and those of its sort.
 pub(crate) fn equate_groups(
     terms: &mut Terms,
     groups: &[Group],
-    key: u64,
     term: u64,
     numbers: &mut Vec<u64>,
 ) -> Result<(), AllocError>
     requires groups_in { AllByRecursion (IsGroupWithin (length terms.old)) groups.now }
     requires divided { AllByRecursion (IsDivided terms.old) groups.now }
-    requires key_in { key < length terms.old }
     requires term_in { term < length terms.old }
     ensures ok { OnOk result (Equates terms.old terms.new numbers.old.items numbers.new.items (met_among equation
-        terms.old groups.now (tree_sort (tree terms.old key)) (tree terms.old term)) (tree terms.old term)) }
+        terms.old groups.now (tree terms.old term)) (tree terms.old term)) }
     ensures kept { Keeps terms.old terms.new }
 {
     for group in groups {
-        equate_group(terms, group, key, term, numbers)?;
+        equate_group(terms, group, term, numbers)?;
     }
     Ok(())
 }

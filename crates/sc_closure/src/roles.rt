@@ -23,12 +23,11 @@ use sc_sorts::Sort;
 use sc_terms::Terms;
 use std::alloc::{AllocError, Global};
 
-/// Terms whose keys are of one sort. The key of a text, an entity, a candidate or a set is the term
-/// itself, that of attributes or of a tag the entity that they are of.
+/// Terms of one sort.
 #[derive(Drop)]
 pub(crate) struct Group {
-    /// The key of one of them.
-    pub(crate) key: u64,
+    /// The first of them, which tells their sort.
+    pub(crate) first: u64,
     /// The terms.
     pub(crate) members: Seq<u64>,
     /// Those of them that aren't values that are written out.
@@ -53,8 +52,6 @@ impl Group {
 pub(crate) struct Roles {
     pub(crate) named: Vec<Group>,
     pub(crate) candidates: Vec<Group>,
-    pub(crate) attributes: Vec<Group>,
-    pub(crate) tags: Vec<Group>,
     pub(crate) sets: Vec<Group>,
     /// One term for each pattern that is asked.
     pub(crate) patterns: Seq<u64>,
@@ -71,8 +68,6 @@ impl Roles {
         Roles {
             named: Vec::new(alloc),
             candidates: Vec::new(alloc),
-            attributes: Vec::new(alloc),
-            tags: Vec::new(alloc),
             sets: Vec::new(alloc),
             patterns: Seq::new(alloc),
             seen: IndexSet::new(alloc),
@@ -120,31 +115,31 @@ fn is_text(sort: &Sort) -> bool
     matches!(sort, Sort::String)
 }
 
-/// Whether something goes with the terms of a group and one of this key.
-pub(crate) fn is_met(terms: &Terms, meeting: Meeting, group: u64, key: u64) -> bool
-    requires group_in { group < length terms.now }
-    requires key_in { key < length terms.now }
-    ensures { result ≡ meets meeting (tree_sort (tree terms.now group)) (tree_sort (tree terms.now key)) }
+/// Whether something goes with a term and those of a group, whose first this is.
+pub(crate) fn is_met(terms: &Terms, meeting: Meeting, first: u64, term: u64) -> bool
+    requires first_in { first < length terms.now }
+    requires term_in { term < length terms.now }
+    ensures { result ≡ meets meeting (tree_sort (tree terms.now first)) (tree_sort (tree terms.now term)) }
 {
     match meeting {
-        Meeting::Equation => is_one_sort(terms, group, key),
-        Meeting::Sets => is_over(terms.sort(group), terms.sort(key)),
-        Meeting::Candidates => is_over(terms.sort(key), terms.sort(group)),
-        Meeting::Texts => is_text(terms.sort(group)),
-        Meeting::Patterns => is_text(terms.sort(key)),
+        Meeting::Equation => is_one_sort(terms, first, term),
+        Meeting::Sets => is_over(terms.sort(first), terms.sort(term)),
+        Meeting::Candidates => is_over(terms.sort(term), terms.sort(first)),
+        Meeting::Texts => is_text(terms.sort(first)),
+        Meeting::Patterns => is_text(terms.sort(term)),
     }
 }
 
-/// The place of a group of a key's sort, if there is one.
-fn group_of(terms: &Terms, groups: &[Group], key: u64) -> Option<usize>
+/// The place of the group of a term's sort, if there is one.
+fn group_of(terms: &Terms, groups: &[Group], term: u64) -> Option<usize>
     requires groups_in { AllByRecursion (IsGroupWithin (length terms.now)) groups.now }
-    requires key_in { key < length terms.now }
+    requires term_in { term < length terms.now }
     ensures within { IfSome result (λ p. p < length groups.now) }
-    ensures alike { IfSome result (λ p. one_sort (tree terms.now (get_or groups.now p no_group).key) (tree terms.now
-        key) ≡ true) }
+    ensures alike { IfSome result (λ p. one_sort (tree terms.now (get_or groups.now p no_group).first) (tree terms.now
+        term) ≡ true) }
 {
     for place in 0..groups.len() {
-        if is_one_sort(terms, groups[place].key, key) {
+        if is_one_sort(terms, groups[place].first, term) {
             return Some(place);
         }
     }
@@ -166,23 +161,21 @@ fn put_into(
     Ok(())
 }
 
-/// Puts a term into the group of its key's sort, which is made where there is none.
+/// Puts a term into the group of its sort, which is made where there is none.
 pub(crate) fn join(
     alloc: Global,
     terms: &Terms,
     groups: &mut Vec<Group>,
-    key: u64,
     term: u64,
 ) -> Result<(), AllocError>
     requires groups_in { AllByRecursion (IsGroupWithin (length terms.now)) groups.old.items }
-    requires key_in { key < length terms.now }
     requires term_in { term < length terms.now }
-    ensures { OnOk result (Joins terms.now groups.old.items groups.new.items key term) }
+    ensures { OnOk result (Joins terms.now groups.old.items groups.new.items term) }
 {
     let value = is_value(terms, term);
-    match group_of(terms, groups, key) {
+    match group_of(terms, groups, term) {
         Some(place) => put_into(groups, place, term, value),
-        None => add_group(alloc, groups, key, term, value),
+        None => add_group(alloc, groups, term, value),
     }
 }
 
@@ -190,14 +183,13 @@ pub(crate) fn join(
 fn add_group(
     alloc: Global,
     groups: &mut Vec<Group>,
-    key: u64,
     term: u64,
     is_value: bool,
 ) -> Result<(), AllocError>
-    ensures { OnOk result (groups.new.items ≡ groups.old.items ++ group_with is_value key term ∷ []) }
+    ensures { OnOk result (groups.new.items ≡ groups.old.items ++ group_with is_value term ∷ []) }
 {
     let mut group = Group {
-        key,
+        first: term,
         members: Seq::new(alloc),
         others: Seq::new(alloc),
     };
@@ -291,19 +283,16 @@ fn put_group(
     terms: &mut Terms,
     meeting: Meeting,
     group: &Group,
-    key: u64,
     term: u64,
     numbers: &mut Vec<u64>,
 ) -> Result<(), AllocError>
     requires group_in { IsGroupWithin (length terms.old) group.now }
-    requires key_in { key < length terms.old }
     requires term_in { term < length terms.old }
     ensures ok { OnOk result (Puts terms.old terms.new numbers.old.items numbers.new.items (met_in meeting
-        (tree terms.old group.now.key) (stood terms.old group.now.members) (tree_sort (tree terms.old key))
-        (tree terms.old term))) }
+        (tree terms.old group.now.first) (stood terms.old group.now.members) (tree terms.old term))) }
     ensures kept { Keeps terms.old terms.new }
 {
-    if is_met(terms, meeting, group.key, key) {
+    if is_met(terms, meeting, group.first, term) {
         put_each(
             alloc,
             terms,
@@ -323,19 +312,17 @@ pub(crate) fn meet_groups(
     terms: &mut Terms,
     meeting: Meeting,
     groups: &[Group],
-    key: u64,
     term: u64,
     numbers: &mut Vec<u64>,
 ) -> Result<(), AllocError>
     requires groups_in { AllByRecursion (IsGroupWithin (length terms.old)) groups.now }
-    requires key_in { key < length terms.old }
     requires term_in { term < length terms.old }
     ensures ok { OnOk result (Puts terms.old terms.new numbers.old.items numbers.new.items (met_among meeting terms.old
-        groups.now (tree_sort (tree terms.old key)) (tree terms.old term))) }
+        groups.now (tree terms.old term))) }
     ensures kept { Keeps terms.old terms.new }
 {
     for group in groups {
-        put_group(alloc, terms, meeting, group, key, term, numbers)?;
+        put_group(alloc, terms, meeting, group, term, numbers)?;
     }
     Ok(())
 }

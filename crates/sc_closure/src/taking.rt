@@ -4,8 +4,8 @@ ghost use Rattle.std.specs.List.{AllByRecursion};
 ghost use Rattle.sc_sorts.specs.declared.sort.Sort.{out-Sort};
 ghost use Rattle.sc_terms.specs.TreeSorts.{tree_sort};
 ghost use Rattle.sc_terms.specs.Tables.{tree, Keeps};
-ghost use Rattle.sc_closure_rules.specs.Closure.{roles as roles_of, roles_in, roles_by, named, candidate, attributes, tag, set, pattern};
-ghost use Rattle.sc_closure.specs.Following.{AreRoles, IsPartOf, Takes, owner, part_in, pattern_in, place_in as place_of_sort};
+ghost use Rattle.sc_closure_rules.specs.Closure.{roles as roles_of, roles_in, roles_by, named, candidate, set, pattern};
+ghost use Rattle.sc_closure.specs.Following.{AreRoles, IsPartOf, Takes, part_in, pattern_in, place_in as place_of_sort};
 
 use crate::equations::equate_groups;
 use crate::numbers::{place_in, put};
@@ -33,8 +33,8 @@ fn take_named(
     ensures kept { Keeps terms.old terms.new }
 {
     order_laws();
-    join(alloc, terms, &mut roles.named, n, n)?;
-    equate_groups(terms, &roles.named, n, n, numbers)?;
+    join(alloc, terms, &mut roles.named, n)?;
+    equate_groups(terms, &roles.named, n, numbers)?;
     meet_patterns(alloc, terms, roles.patterns.as_slice(), n, numbers)?;
     Ok(())
 }
@@ -56,9 +56,9 @@ fn take_new_candidate(
 {
     order_laws();
     put(&mut roles.seen, n)?;
-    join(alloc, terms, &mut roles.candidates, n, n)?;
-    equate_groups(terms, &roles.candidates, n, n, numbers)?;
-    meet_groups(alloc, terms, Meeting::Sets, &roles.sets, n, n, numbers)?;
+    join(alloc, terms, &mut roles.candidates, n)?;
+    equate_groups(terms, &roles.candidates, n, numbers)?;
+    meet_groups(alloc, terms, Meeting::Sets, &roles.sets, n, numbers)?;
     Ok(())
 }
 
@@ -116,62 +116,15 @@ fn take_set(
         numbers.old.items numbers.new.items) }
     ensures kept { Keeps terms.old terms.new }
 {
-    join(alloc, terms, &mut roles.sets, n, n)?;
+    join(alloc, terms, &mut roles.sets, n)?;
     meet_groups(
         alloc,
         terms,
         Meeting::Candidates,
         &roles.candidates,
         n,
-        n,
         numbers,
     )?;
-    Ok(())
-}
-
-/// The attributes of an entity: whether they are those of another of its type.
-fn take_attributes(
-    alloc: Global,
-    terms: &mut Terms,
-    roles: &mut Roles,
-    entity: u64,
-    n: u64,
-    numbers: &mut Vec<u64>,
-) -> Result<(), AllocError>
-    requires entity_in { entity < length terms.old }
-    requires within { n < length terms.old }
-    requires owned { owner (tree terms.old n) ≡ tree terms.old entity }
-    requires are { AreRoles terms.old roles.old }
-    ensures ok { OnOk result (Takes terms.old terms.new roles.old roles.new (attributes (tree terms.old entity)
-        (tree terms.old n) ∷ []) numbers.old.items numbers.new.items) }
-    ensures kept { Keeps terms.old terms.new }
-{
-    order_laws();
-    join(alloc, terms, &mut roles.attributes, entity, n)?;
-    equate_groups(terms, &roles.attributes, entity, n, numbers)?;
-    Ok(())
-}
-
-/// A tag of an entity: whether it is another of an entity of its type.
-fn take_tag(
-    alloc: Global,
-    terms: &mut Terms,
-    roles: &mut Roles,
-    entity: u64,
-    n: u64,
-    numbers: &mut Vec<u64>,
-) -> Result<(), AllocError>
-    requires entity_in { entity < length terms.old }
-    requires within { n < length terms.old }
-    requires owned { owner (tree terms.old n) ≡ tree terms.old entity }
-    requires are { AreRoles terms.old roles.old }
-    ensures ok { OnOk result (Takes terms.old terms.new roles.old roles.new (tag (tree terms.old entity)
-        (tree terms.old n) ∷ []) numbers.old.items numbers.new.items) }
-    ensures kept { Keeps terms.old terms.new }
-{
-    order_laws();
-    join(alloc, terms, &mut roles.tags, entity, n)?;
-    equate_groups(terms, &roles.tags, entity, n, numbers)?;
     Ok(())
 }
 
@@ -190,15 +143,7 @@ fn take_new_pattern(
     ensures kept { Keeps terms.old terms.new }
 {
     roles.patterns.push(asking)?;
-    meet_groups(
-        alloc,
-        terms,
-        Meeting::Texts,
-        &roles.named,
-        asking,
-        asking,
-        numbers,
-    )?;
+    meet_groups(alloc, terms, Meeting::Texts, &roles.named, asking, numbers)?;
     Ok(())
 }
 
@@ -231,10 +176,6 @@ enum Part {
     Candidate(u64),
     /// Candidates.
     Candidates(Seq<u64>),
-    /// The attributes of this entity.
-    Attributes(u64),
-    /// A tag of this entity.
-    Tag(u64),
     /// The pattern that the term asks.
     Pattern,
 }
@@ -258,9 +199,7 @@ fn part_at(alloc: Global, n: u64, node: &Node) -> Result<Part, AllocError>
         Node::Two(BinaryOp::Member, a, _) => Ok(Part::Candidate(*a)),
         Node::Two(BinaryOp::DifferencePick, _, _) => Ok(Part::Candidate(n)),
         Node::Two(BinaryOp::CommonPick, _, _) => Ok(Part::Candidate(n)),
-        Node::Two(BinaryOp::Tag(_), entity, _) => Ok(Part::Tag(*entity)),
         Node::One(UnaryOp::Ancestors(_), entity) => Ok(Part::Candidate(*entity)),
-        Node::One(UnaryOp::Attributes(_), entity) => Ok(Part::Attributes(*entity)),
         Node::One(UnaryOp::Like(_), _) => Ok(Part::Pattern),
         Node::Many(ManyOp::Set(_), parts) => Ok(Part::Candidates(members_of(alloc, parts)?)),
         _ => Ok(Part::Nothing),
@@ -296,8 +235,6 @@ fn take_part(
         Part::Candidates(members) => {
             take_candidates(alloc, terms, roles, members.as_slice(), numbers)
         }
-        Part::Attributes(entity) => take_attributes(alloc, terms, roles, entity, n, numbers),
-        Part::Tag(entity) => take_tag(alloc, terms, roles, entity, n, numbers),
         Part::Pattern => take_pattern(alloc, terms, roles, n, numbers),
     }
 }

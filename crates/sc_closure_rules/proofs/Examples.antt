@@ -28,6 +28,13 @@ module _ (d : Declarations) (a b c : Tree) (k : Sort) where
   member : roles_in (two binary.Member a b) ≡ candidate a ∷ []
   member = refl
 
+  -- of attributes and of tags no equation is closed, since equal entities are told by their places
+  attributes : roles_in (one (unary.Attributes k) a) ≡ []
+  attributes = refl
+
+  tag : roles_in (two (binary.Tag k) a b) ≡ []
+  tag = refl
+
   two_sets : meet (set a) (set b) ≡ []
   two_sets = refl
 

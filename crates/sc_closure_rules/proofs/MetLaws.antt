@@ -1,21 +1,15 @@
 -- What goes with two roles of terms is a term.
-use Rattle.std.proofs.Common.{◌≡◌, inl, inr, ⊎_elim, List, ℕ, Bool, true, false, Option, Some, refl, sym, ap, ◌∙◌, subst}
+use Rattle.std.proofs.Common.{◌≡◌, inl, inr, ⊎_elim, List, Bool, true, false, refl, ap, ◌∙◌, subst}
 use Rattle.std.specs.Bool.{⊤}
 use Rattle.sc_lists.proofs.MemberLaws.{map-Has, Has-append}
-use Rattle.sc_laws.proofs.OptionLaws.{same_some}
 use Rattle.sc_lists.specs.Members.{Has}
 use Rattle.sc_names.specs.declared.uid.Uid.{Uid}
 use Rattle.sc_schema.specs.declared.declarations.Env.{Env}
-use Rattle.sc_schema.specs.declared.ty.Ty.{Ty}
-use Rattle.sc_schema.specs.Declarations.{Declarations, attrs_of, tags_of}
-use Rattle.sc_sorts.specs.Entities.{choices_of, entity_sort}
-use Rattle.sc_sorts.specs.Inside.{name_in}
-use Rattle.sc_sorts.specs.OfTypes.{sort_of}
+use Rattle.sc_schema.specs.Declarations.{Declarations}
 use Rattle.sc_sorts.specs.declared.sort.Sort.{Sort, Sort-F, out-Sort}
 use Rattle.sc_sorts.specs.declared.sort.Sort.TheVariants as sort
 use Rattle.sc_sorts.specs.declared.sort.Sort.TheVariants.{rolls-String, rolls-Set}
 use Rattle.sc_sorts.specs.declared.sort.Sort.TheOpen as s
-use Rattle.sc_sorts.proofs.OutLaws.{out_Entity}
 use Rattle.sc_pattern.specs.declared.part.Part.{Part}
 use Rattle.sc_nodes.specs.declared.node.BinaryOp.TheVariants as binary
 use Rattle.sc_nodes.specs.declared.node.ManyOp.TheVariants as manys
@@ -23,22 +17,13 @@ use Rattle.sc_nodes.specs.declared.node.UnaryOp.TheVariants as unary
 use Rattle.sc_terms.specs.Trees.{Tree, one, two, many}
 use Rattle.sc_terms.specs.TreeSorts.{tree_sort}
 use Rattle.sc_terms.specs.Folds.{equal_term, like_term}
-use Rattle.sc_term_laws.specs.Judging.{IsTermOf, IsTerm}
+use Rattle.sc_term_laws.specs.Judging.{IsTerm}
 use Rattle.sc_term_laws.specs.Judging as judged
-use Rattle.sc_term_laws.proofs.JudgingLaws.{sort_is}
 use Rattle.sc_term_laws.proofs.MadeLaws.{like_made}
 use Rattle.sc_term_laws.proofs.TestLaws.{at_level, same_sorts}
-use Rattle.sc_closure_rules.specs.Closure.{trees_in, Role, named, candidate, attributes, tag, set, pattern, roles_by, roles_in, roles, equated_by, one_sort, members_by, is_over, is_set_over, matches_by, meet}
+use Rattle.sc_closure_rules.specs.Closure.{trees_in, Role, named, candidate, set, pattern, roles_by, roles_in, roles, equated_by, one_sort, members_by, is_over, is_set_over, matches_by, meet}
 use Rattle.sc_closure_rules.proofs.PartLaws.{own, parts_made}
-use Rattle.sc_closure_rules.proofs.MadeLaws.{at, equated, equation_made}
-
--- a term that is stored with an entity, of the sort that its type tells
-pub record IsStoredWith (d : Declarations) (env : Env) (written : List Uid) (stored : Declarations → List ℕ → Option Ty) (e x : Tree) : Type 0 where
-  pub name : List ℕ
-  pub type : Ty
-  pub owner : tree_sort e ≡ entity_sort d name
-  pub told : stored d name ≡ Some type
-  pub term : IsTermOf d env written (sort_of type) x
+use Rattle.sc_closure_rules.proofs.MadeLaws.{at, equation_made}
 
 pub equated_is : (b : Bool) (x y t : Tree) → Has (equated_by b x y) t → (b ≡ true) × (equal_term x y ≡ t)
 equated_is true x y t (inl e) = (refl, e)
@@ -55,51 +40,16 @@ over_is (s.Set member) k h = ap s.Set (same_sorts member k h)
 over_is _ k h = absurd cc
 
 module _ (d : Declarations) (env : Env) (written : List Uid) where
-  abbrev Of : Sort → Tree → Type 0
-  Of = IsTermOf d env written
-
   abbrev Is : Tree → Type 0
   Is = IsTerm d env written
-
-  abbrev Stored : (Declarations → List ℕ → Option Ty) → Tree → Tree → Type 0
-  Stored = IsStoredWith d env written
 
   abbrev IsRole : Role → Type 0
   IsRole (named x) = Is x
   IsRole (candidate x) = Is x
-  IsRole (attributes e x) = Stored attrs_of e x
-  IsRole (tag e x) = Stored tags_of e x
   IsRole (set x) = Is x
   IsRole (pattern p) = ⊤
 
   -- ---- roles of terms
-
-  stored_attributes : (k own_sort : Sort) (e : Tree) → Of k (one (unary.Attributes own_sort) e) → Stored attrs_of e (one (unary.Attributes own_sort) e)
-  stored_attributes _ _ _ (judged.of_attributes name u a f h) =
-      record { name = name; type = u; owner = sort_is d env written (entity_sort d name) a h; told = f; term = judged.of_attributes name u a f h }
-
-  no_sum : (k : Sort) → judged.IsSum (binary.Tag k) → ⊥
-  no_sum k h = elim h [ ]
-
-  no_arithmetic : (k : Sort) → judged.IsArithmetic (binary.Tag k) → ⊥
-  no_arithmetic k (judged.of_sum _ h) = no_sum k h
-
-  no_overflow : (k : Sort) → judged.IsOverflow (binary.Tag k) → ⊥
-  no_overflow k h = elim h [ ]
-
-  no_test : (k : Sort) → judged.IsTestOfSets (binary.Tag k) → ⊥
-  no_test k h = elim h [ ]
-
-  no_pick : (k : Sort) → judged.IsPick (binary.Tag k) → ⊥
-  no_pick k h = elim h [ ]
-
-  stored_tag : (k own_sort : Sort) (e key : Tree) → Of k (two (binary.Tag own_sort) e key) → Stored tags_of e (two (binary.Tag own_sort) e key)
-  stored_tag _ _ _ _ (judged.of_tag name u a key f h i) =
-      record { name = name; type = u; owner = sort_is d env written (entity_sort d name) a h; told = f; term = judged.of_tag name u a key f h i }
-  stored_tag _ own_sort _ _ (judged.of_arithmetic _ a b f h i) = absurd (no_arithmetic own_sort f)
-  stored_tag _ own_sort _ _ (judged.of_overflow _ a b f h i) = absurd (no_overflow own_sort f)
-  stored_tag _ own_sort _ _ (judged.of_sets _ k a b f h i) = absurd (no_test own_sort f)
-  stored_tag _ own_sort _ _ (judged.of_pick _ k a b f h i) = absurd (no_pick own_sort f)
 
   role_by : (l : Sort-F Sort) (x : Tree) (p : Role) → Is x → Has (roles_by l x) p → IsRole p
   role_by s.String x p h (inl e) = subst IsRole e h
@@ -122,10 +72,6 @@ module _ (d : Declarations) (env : Env) (written : List Uid) where
       subst IsRole q.2 (parts_made d env written (many (manys.Set member) ts) q.0 h q.1)
   role_in (one (unary.Ancestors k) e) p h (inl m) = subst IsRole m (parts_made d env written (one (unary.Ancestors k) e) e h (inl refl))
   role_in (one (unary.Ancestors k) e) p h (inr m) = absurd m
-  role_in (one (unary.Attributes k) e) p h (inl m) = subst IsRole m (stored_attributes (tree_sort (one (unary.Attributes k) e)) k e h)
-  role_in (one (unary.Attributes k) e) p h (inr m) = absurd m
-  role_in (two (binary.Tag k) e key) p h (inl m) = subst IsRole m (stored_tag (tree_sort (two (binary.Tag k) e key)) k e key h)
-  role_in (two (binary.Tag k) e key) p h (inr m) = absurd m
   role_in (one (unary.Like ps) x) p h (inl m) = subst IsRole m tt
   role_in (one (unary.Like ps) x) p h (inr m) = absurd m
   role_in _ p h m = absurd m
@@ -151,23 +97,11 @@ module _ (d : Declarations) (env : Env) (written : List Uid) where
   with_pattern s.String x t ps e h (inr m) = absurd m
   with_pattern _ x t ps e h m = absurd m
 
-  -- what is stored with two entities of one type is of one sort
-  with_stored : (stored : Declarations → List ℕ → Option Ty) (e f x y t : Tree) → Stored stored e x → Stored stored f y → Has (equated_by (one_sort e f) x y) t → Is t
-  with_stored stored e f x y t a b m =
-      let q = equated_is (one_sort e f) x y t m in
-      let owners : entity_sort d a.name ≡ entity_sort d b.name = sym a.owner ∙ same_sorts (tree_sort e) (tree_sort f) q.0 ∙ b.owner in
-      let names : a.name ≡ b.name =
-      sym (ap name_in (out_Entity a.name (choices_of d a.name))) ∙ ap (λ (k : Sort). name_in (out-Sort k)) owners ∙ ap name_in (out_Entity b.name (choices_of d b.name)) in
-      let types : a.type ≡ b.type = same_some (sym a.told ∙ ap (stored d) names ∙ b.told) in
-      subst Is q.1 (equated d env written (sort_of b.type) x y (subst (λ (u : Ty). Of (sort_of u) x) types a.term) b.term)
-
   met_made : (p q : Role) (t : Tree) → IsRole p → IsRole q → Has (meet p q) t → Is t
   met_made (named x) (named y) t h i m = with_one x y t h i m
   met_made (named x) (pattern ps) t h i m = with_pattern (out-Sort (tree_sort x)) x t ps refl h m
   met_made (candidate x) (candidate y) t h i m = with_one x y t h i m
   met_made (candidate x) (set y) t h i m = with_set x y t h i m
-  met_made (attributes e x) (attributes f y) t h i m = with_stored attrs_of e f x y t h i m
-  met_made (tag e x) (tag f y) t h i m = with_stored tags_of e f x y t h i m
   met_made _ _ t h i m = absurd m
 
   pub roles_made : (x y : Tree) (p q : Role) (t : Tree) → Is x → Is y → Has (roles x) p → Has (roles y) q → Has (meet p q) t → Is t

@@ -119,12 +119,10 @@ follow d x = inputs_of x ++ (inside x ++ (choices x ++ (beside d x ++ parts x)))
 
 -- ---- the terms that go with two
 
--- What a closed term is to those rules. Attributes and tags stand beside the entity that they are of.
+-- what a closed term is to those rules
 pub data Role : Type 0 where
   named : Tree → Role
   candidate : Tree → Role
-  attributes : Tree → Tree → Role
-  tag : Tree → Tree → Role
   set : Tree → Role
   pattern : List Part → Role
 
@@ -143,15 +141,13 @@ roles_in (two binary.DifferencePick a b) = candidate (two binary.DifferencePick 
 roles_in (two binary.CommonPick a b) = candidate (two binary.CommonPick a b) ∷ []
 roles_in (many (manys.Set member) ts) = map candidate (trees_in ts)
 roles_in (one (unary.Ancestors own) e) = candidate e ∷ []
-roles_in (one (unary.Attributes own) e) = attributes e (one (unary.Attributes own) e) ∷ []
-roles_in (two (binary.Tag own) e k) = tag e (two (binary.Tag own) e k) ∷ []
 roles_in (one (unary.Like p) t) = pattern p ∷ []
 roles_in _ = []
 
 abbrev pub roles : Tree → List Role
 roles x = roles_by (out-Sort (tree_sort x)) x ++ roles_in x
 
--- the equation of two terms, where two others are of one sort
+-- the equation of two terms, where they are of one sort
 abbrev pub equated_by : Bool → Tree → Tree → List Tree
 equated_by true x y = equal_term x y ∷ []
 equated_by false x y = []
@@ -186,20 +182,10 @@ with_candidate x (candidate y) = equated_by (one_sort x y) x y
 with_candidate x (set y) = members_by (is_set_over y x) x y
 with_candidate x _ = []
 
-abbrev pub with_attributes : Tree → Tree → Role → List Tree
-with_attributes e x (attributes f y) = equated_by (one_sort e f) x y
-with_attributes e x _ = []
-
-abbrev pub with_tag : Tree → Tree → Role → List Tree
-with_tag e x (tag f y) = equated_by (one_sort e f) x y
-with_tag e x _ = []
-
 -- what goes with a role and another
 abbrev pub meet : Role → Role → List Tree
 meet (named x) r = with_named x r
 meet (candidate x) r = with_candidate x r
-meet (attributes e x) r = with_attributes e x r
-meet (tag e x) r = with_tag e x r
 meet _ r = []
 
 -- one half of what goes with two terms; the other exchanges them

@@ -202,7 +202,7 @@ const COUNTS: &[(Question, &str, &str, (u64, u64, usize))] = &[
         Question::AlwaysDenies,
         "principal.boss == principal && principal.boss.boss != principal",
         "true",
-        (219, 205, 327),
+        (152, 138, 6),
     ),
     (
         Question::Implies,

@@ -21,8 +21,8 @@ equate_group-requires-clause-divided c =
 
 pub loop-group-preserved : goal.loop-group-preserved
 loop-group-preserved c =
-    equates_next c.args.groups.now _ _ _ _ c.loop-group.group-index c.args.key c.args.term _ _ c.group-item.result c.requires.groups_in c.requires.key_in c.requires.term_in c.loop-group.invariant c.loop-group-test.true c.group-item.is
+    equates_next c.args.groups.now _ _ _ _ c.loop-group.group-index c.args.term _ _ c.group-item.result c.requires.groups_in c.requires.term_in c.loop-group.invariant c.loop-group-test.true c.group-item.is
     c.in_ok-equate_group.ensures.ok
 
 pub returns-clause-ok : goal.returns-clause-ok
-returns-clause-ok c = equates_end c.args.groups.now _ _ _ _ c.loop-group.group-index c.args.key c.args.term c.loop-group.invariant (omega (arith, c.loop-group-test.false))
+returns-clause-ok c = equates_end c.args.groups.now _ _ _ _ c.loop-group.group-index c.args.term c.loop-group.invariant (omega (arith, c.loop-group-test.false))

@@ -1,5 +1,4 @@
 use Rattle.std.proofs.Common.{take}
-use Rattle.sc_terms.specs.TreeSorts.{tree_sort}
 use Rattle.sc_terms.specs.Tables.{tree}
 use Rattle.sc_closure.specs.declared.roles.Meeting.TheVariants.{Equation}
 use Rattle.sc_closure.specs.Following.{met_among, Equates}
@@ -7,4 +6,4 @@ use Rattle.sc_closure.proofs.equations.equate_groups.Given as goal
 
 abbrev pub invariant-loop-group : goal.invariant-loop-group
 invariant-loop-group l =
-    Equates l.fn.terms l.terms l.initial.numbers.items l.numbers.items (met_among Equation l.fn.terms (take l.group-index l.groups) (tree_sort (tree l.fn.terms l.key)) (tree l.fn.terms l.term)) (tree l.fn.terms l.term)
+    Equates l.fn.terms l.terms l.initial.numbers.items l.numbers.items (met_among Equation l.fn.terms (take l.group-index l.groups) (tree l.fn.terms l.term)) (tree l.fn.terms l.term)

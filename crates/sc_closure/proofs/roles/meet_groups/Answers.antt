@@ -13,8 +13,8 @@ put_group-requires-clause-group_in c =
 
 pub loop-group-preserved : goal.loop-group-preserved
 loop-group-preserved c =
-    groups_next c.args.meeting c.args.groups.now _ _ _ _ _ _ c.loop-group.group-index c.args.key c.args.term c.group-item.result c.requires.groups_in c.requires.key_in c.requires.term_in c.loop-group.invariant c.loop-group-test.true c.group-item.is
+    groups_next c.args.meeting c.args.groups.now _ _ _ _ _ _ c.loop-group.group-index c.args.term c.group-item.result c.requires.groups_in c.requires.term_in c.loop-group.invariant c.loop-group-test.true c.group-item.is
     c.in_ok-put_group.ensures.ok
 
 pub returns-clause-ok : goal.returns-clause-ok
-returns-clause-ok c = groups_end c.args.meeting c.args.groups.now _ _ _ _ c.loop-group.group-index _ _ c.loop-group.invariant (omega (arith, c.loop-group-test.false))
+returns-clause-ok c = groups_end c.args.meeting c.args.groups.now _ _ _ _ c.loop-group.group-index _ c.loop-group.invariant (omega (arith, c.loop-group-test.false))

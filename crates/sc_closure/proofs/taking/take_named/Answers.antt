@@ -1,21 +1,20 @@
-use Rattle.std.proofs.Common.{refl}
 use Rattle.sc_closure_rules.proofs.MemberLaws.{within_later}
 use Rattle.sc_closure.proofs.GroupLaws.{groups_within, groups_divided}
 use Rattle.sc_closure.proofs.TakenLaws.{named_takes}
 use Rattle.sc_closure.proofs.taking.take_named.Goals as goal
 
 pub join-requires-clause-groups_in : goal.join-requires-clause-groups_in
-join-requires-clause-groups_in c = groups_within _ (λ t. t) _ c.requires.are.of_named
+join-requires-clause-groups_in c = groups_within _ _ c.requires.are.of_named
 
 pub equate_groups-requires-clause-groups_in : goal.equate_groups-requires-clause-groups_in
-equate_groups-requires-clause-groups_in c = rw c.deref.ensures.value (groups_within _ (λ t. t) _ (c.in_ok-join.ensures.are (λ t. t) refl c.requires.are.of_named))
+equate_groups-requires-clause-groups_in c = rw c.deref.ensures.value (groups_within _ _ (c.in_ok-join.ensures.are c.requires.are.of_named))
 
 pub equate_groups-requires-clause-divided : goal.equate_groups-requires-clause-divided
-equate_groups-requires-clause-divided c = rw c.deref.ensures.value (groups_divided _ (λ t. t) _ (c.in_ok-join.ensures.are (λ t. t) refl c.requires.are.of_named))
+equate_groups-requires-clause-divided c = rw c.deref.ensures.value (groups_divided _ _ (c.in_ok-join.ensures.are c.requires.are.of_named))
 
 pub meet_patterns-requires-clause-patterns_in : goal.meet_patterns-requires-clause-patterns_in
 meet_patterns-requires-clause-patterns_in c = rw c.as_slice.ensures (within_later _ _ c.in_ok-equate_groups.ensures.kept.longer _ c.requires.are.of_patterns)
 
 pub returns-clause-ok : goal.returns-clause-ok
 returns-clause-ok c =
-    named_takes c.order_laws.ensures.total c.args.terms.now c.args.roles.now (record { named = _; candidates = c.args.roles.now.candidates; attributes = c.args.roles.now.attributes; tags = c.args.roles.now.tags; sets = c.args.roles.now.sets; patterns = c.args.roles.now.patterns; seen = c.args.roles.now.seen }) c.requires.are c.args.n c.in_ok-join.ensures _ _ _ _ _ c.requires.within (rw c.deref.ensures.value at c.in_ok-equate_groups.ensures.ok) (rw c.as_slice.ensures at c.in_ok-meet_patterns.ensures.ok)
+    named_takes c.order_laws.ensures.total c.args.terms.now c.args.roles.now (record { named = _; candidates = c.args.roles.now.candidates; sets = c.args.roles.now.sets; patterns = c.args.roles.now.patterns; seen = c.args.roles.now.seen }) c.requires.are c.args.n c.in_ok-join.ensures _ _ _ _ _ c.requires.within (rw c.deref.ensures.value at c.in_ok-equate_groups.ensures.ok) (rw c.as_slice.ensures at c.in_ok-meet_patterns.ensures.ok)

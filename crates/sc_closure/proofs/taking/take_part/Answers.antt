@@ -8,18 +8,6 @@ take_candidate-requires-clause-within c = part_within _ _ _ _ c.in_ok-part.ensur
 pub take_candidates-requires-clause-within : goal.take_candidates-requires-clause-within
 take_candidates-requires-clause-within c = rw c.as_slice.ensures (part_within _ _ _ _ c.in_ok-part.ensures c.in-Candidates.is)
 
-pub take_attributes-requires-clause-entity_in : goal.take_attributes-requires-clause-entity_in
-take_attributes-requires-clause-entity_in c = (part_within _ _ _ _ c.in_ok-part.ensures c.in-Attributes.is).0
-
-pub take_attributes-requires-clause-owned : goal.take_attributes-requires-clause-owned
-take_attributes-requires-clause-owned c = (part_within _ _ _ _ c.in_ok-part.ensures c.in-Attributes.is).1
-
-pub take_tag-requires-clause-entity_in : goal.take_tag-requires-clause-entity_in
-take_tag-requires-clause-entity_in c = (part_within _ _ _ _ c.in_ok-part.ensures c.in-Tag.is).0
-
-pub take_tag-requires-clause-owned : goal.take_tag-requires-clause-owned
-take_tag-requires-clause-owned c = (part_within _ _ _ _ c.in_ok-part.ensures c.in-Tag.is).1
-
 pub returns-in-Nothing-clause-ok : goal.returns-in-Nothing-clause-ok
 returns-in-Nothing-clause-ok c = takes_part _ _ _ _ _ _ _ _ _ c.in_ok-part.ensures c.in-Nothing.is (takes_nothing _ _ _ c.requires.are)
 
@@ -28,12 +16,6 @@ returns-in-Candidate-clause-ok c = on_ok_weaker c.take_candidate.result (takes_p
 
 pub returns-in-Candidates-clause-ok : goal.returns-in-Candidates-clause-ok
 returns-in-Candidates-clause-ok c = on_ok_weaker c.take_candidates.result (takes_part _ _ _ _ _ _ _ _ _ c.in_ok-part.ensures c.in-Candidates.is) (rw c.as_slice.ensures at c.take_candidates.ensures.ok)
-
-pub returns-in-Attributes-clause-ok : goal.returns-in-Attributes-clause-ok
-returns-in-Attributes-clause-ok c = on_ok_weaker c.take_attributes.result (takes_part _ _ _ _ _ _ _ _ _ c.in_ok-part.ensures c.in-Attributes.is) c.take_attributes.ensures.ok
-
-pub returns-in-Tag-clause-ok : goal.returns-in-Tag-clause-ok
-returns-in-Tag-clause-ok c = on_ok_weaker c.take_tag.result (takes_part _ _ _ _ _ _ _ _ _ c.in_ok-part.ensures c.in-Tag.is) c.take_tag.ensures.ok
 
 pub returns-in-Pattern-clause-ok : goal.returns-in-Pattern-clause-ok
 returns-in-Pattern-clause-ok c = on_ok_weaker c.take_pattern.result (takes_part _ _ _ _ _ _ _ _ _ c.in_ok-part.ensures c.in-Pattern.is) c.take_pattern.ensures.ok
