@@ -242,12 +242,12 @@ module _ (d : Declarations) (env : Env) (literals : List Uid) (goal : Tree) (mad
       let i : Closed d env goal x = of_part d env goal (two (binary.Tag k) e x) x c (inr (inl refl)) in
       moved y x (one unary.Keys e) there.0 i (tag_keys d env goal k e x c) (one_text y x there.1 p.key there.0 i t) (member_true (one unary.Keys e) y a) (tag_key d env goal k e x c)
 
-  module _ (addresses : AreAddresses) (lawful : IsLawful d) (is : IsGoal d env literals goal) (agree : EquationsAgree) where
+  module _ (lawful : IsLawful d) (is : IsGoal d env literals goal) (agree : EquationsAgree) where
     -- ---- attributes
 
-    pub one_attributes : (k l : Sort) (e f : Tree) → Closed d env goal (one (unary.Attributes k) e) → Closed d env goal (one (unary.Attributes l) f) → m.uid e ≡ m.uid f
+    pub one_attributes : (addresses : AreAddresses) (k l : Sort) (e f : Tree) → Closed d env goal (one (unary.Attributes k) e) → Closed d env goal (one (unary.Attributes l) f) → m.uid e ≡ m.uid f
         → val_of m k (one (unary.Attributes k) e) ≡ val_of m l (one (unary.Attributes l) f)
-    one_attributes k l e f c i u =
+    one_attributes addresses k l e f c i u =
         let p = of_attributes d env literals (tree_sort (one (unary.Attributes k) e)) k e (made (one (unary.Attributes k) e) c) in
         let r = of_attributes d env literals (tree_sort (one (unary.Attributes l) f)) l f (made (one (unary.Attributes l) f) i) in
         let a : Tree = one (unary.Attributes k) e in
@@ -276,9 +276,9 @@ module _ (d : Declarations) (env : Env) (literals : List Uid) (goal : Tree) (mad
 
     -- ---- tags
 
-    pub one_tag : (k l : Sort) (e f x y : Tree) → Closed d env goal (two (binary.Tag k) e x) → Closed d env goal (two (binary.Tag l) f y) → m.uid e ≡ m.uid f → m.text x ≡ m.text y
+    pub one_tag : (addresses : AreAddresses) (k l : Sort) (e f x y : Tree) → Closed d env goal (two (binary.Tag k) e x) → Closed d env goal (two (binary.Tag l) f y) → m.uid e ≡ m.uid f → m.text x ≡ m.text y
         → val_of m k (two (binary.Tag k) e x) ≡ val_of m l (two (binary.Tag l) f y)
-    one_tag k l e f x y c i u t =
+    one_tag addresses k l e f x y c i u t =
         let p = of_tag d env literals (tree_sort (two (binary.Tag k) e x)) k e x (made (two (binary.Tag k) e x) c) in
         let r = of_tag d env literals (tree_sort (two (binary.Tag l) f y)) l f y (made (two (binary.Tag l) f y) i) in
         let a : Tree = two (binary.Tag k) e x in
@@ -311,9 +311,9 @@ module _ (d : Declarations) (env : Env) (literals : List Uid) (goal : Tree) (mad
         linked_val d env literals goal made m model addresses lawful is a b linked k c i (tag_sort k e x) (tag_sort l f y ∙ sym kinds) (tag_roots k l e f x y) (tag_roots l k f e y x)
         ∙ ap (λ (j : Sort). val_of m j (two (binary.Tag l) f y)) kinds
 
-    pub absent_tag : (k : Sort) (e x : Tree) → Closed d env goal (two (binary.Tag k) e x) → lit m.truths (two binary.Member x (one unary.Keys e)) ≡ false
+    pub absent_tag : (addresses : AreAddresses) (k : Sort) (e x : Tree) → Closed d env goal (two (binary.Tag k) e x) → lit m.truths (two binary.Member x (one unary.Keys e)) ≡ false
         → val_of m k (two (binary.Tag k) e x) ≡ default_val k
-    absent_tag k e x c t =
+    absent_tag addresses k e x c t =
         let a : Tree = two (binary.Tag k) e x in
         let whole = tag_default d env goal k e x c in
         let parts : List Signed = so (two binary.Member x (one unary.Keys e)) ∷ so (equal_term (two (binary.Tag k) e x) (default_term k)) ∷ [] in

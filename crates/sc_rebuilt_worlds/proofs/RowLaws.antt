@@ -238,7 +238,7 @@ module _ (d : Declarations) (env : Env) (literals : List Uid) (goal : Tree) (mad
       (λ y q h g.
       let l = attributes_told m (m.uid e) y q g in
       let c2 : Closed d env goal (one (unary.Attributes l.own) l.entity) = subst (Closed d env goal) l.is ((model.listed y).0 h) in
-      l.said ∙ ap (λ (z : Tree). record_in (val_of m l.own z)) l.is ∙ ap record_in (one_attributes d env literals goal made m model addresses lawful is agree l.own k l.entity e c2 c l.named))
+      l.said ∙ ap (λ (z : Tree). record_in (val_of m l.own z)) l.is ∙ ap record_in (one_attributes d env literals goal made m model lawful is agree addresses l.own k l.entity e c2 c l.named))
 
   right_attributes : (k : Sort) (e : Tree) → Closed d env goal (one (unary.Attributes k) e) → IsRight m w e → IsRight m w (one (unary.Attributes k) e)
   right_attributes k e c q =
@@ -380,7 +380,7 @@ module _ (d : Declarations) (env : Env) (literals : List Uid) (goal : Tree) (mad
       (λ y q h g.
       let l = tag_told m (m.uid e) (m.text x) y q g in
       let c2 : Closed d env goal (two (binary.Tag l.own) l.entity l.under) = subst (Closed d env goal) l.is ((model.listed y).0 h) in
-      l.said ∙ ap (λ (z : Tree). value_in (val_of m l.own z)) l.is ∙ ap value_in (one_tag d env literals goal made m model addresses lawful is agree l.own k l.entity e l.under x c2 c l.named l.keyed))
+      l.said ∙ ap (λ (z : Tree). value_in (val_of m l.own z)) l.is ∙ ap value_in (one_tag d env literals goal made m model lawful is agree addresses l.own k l.entity e l.under x c2 c l.named l.keyed))
 
   right_tag : (k : Sort) (e x : Tree) → Closed d env goal (two (binary.Tag k) e x) → IsRight m w e → IsRight m w x → IsRight m w (two (binary.Tag k) e x)
   right_tag k e x c q t =
@@ -405,7 +405,7 @@ module _ (d : Declarations) (env : Env) (literals : List Uid) (goal : Tree) (mad
             let y = listed_key e (m.text x) keys_closed h in
             true_both (lit m.truths (two binary.Member x (one unary.Keys e))) (text_key d env literals goal made m model k e x y.0 c y.1 y.2) f) in
             ap (λ (o : Option Value). it (unwrap_or o (default_of k))) none
-            ∙ sym (absent_tag d env literals goal made m model addresses lawful is agree k e x c f ∙ ap (λ (b : Bool). default_by b (default_of k)) n)
+            ∙ sym (absent_tag d env literals goal made m model lawful is agree addresses k e x c f ∙ ap (λ (b : Bool). default_by b (default_of k)) n)
 
   -- ---- all
 
