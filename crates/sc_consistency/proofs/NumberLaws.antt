@@ -32,6 +32,10 @@ IsSmall n = is_number n ≡ true
 pub not_less : (n k : ℕ) → nat_lt n k ≡ false → k ≤ n
 not_less n k h = ⊎_elim (λ less. never _ (sym (nat_lt_true n k less) ∙ h)) (λ more. more) (cases_lt n k)
 
+-- what is no less than a number is no less than a lesser one
+pub none_less : (i n k : ℕ) → nat_lt n k ≡ true → nat_lt i k ≡ false → nat_lt i n ≡ false
+none_less i n k few big = grind (arith, nat_tests)
+
 pub zero_small : IsSmall 0
 zero_small = refl
 

@@ -1,5 +1,5 @@
 -- Where no instance is falsified, no rule of equations, sets and entities is.
-use Rattle.std.proofs.Common.{◌≡◌, ℕ, zero, suc, Bool, true, false, List, [], ◌∷◌, codes, map, length, Option, Some, None, Contains, refl, sym, ap, ◌∙◌}
+use Rattle.std.proofs.Common.{◌≡◌, ◌^◌, ℕ, zero, suc, nat_lt, Bool, true, false, List, [], ◌∷◌, codes, map, length, Option, Some, None, Contains, refl, sym, ap, ◌∙◌, subst}
 use Rattle.std.proofs.lemmas.Option.{slice_get_past}
 use Rattle.std.specs.List.{AllByRecursion}
 use Rattle.sc_laws.proofs.BoolLaws.{never}
@@ -8,15 +8,22 @@ use Rattle.sc_clauses.specs.declared.step.Instance.{Instance}
 use Rattle.sc_clauses.specs.declared.step.Word.TheVariants.{Number}
 use Rattle.sc_sorts.specs.Inside.{SortField, SortFields}
 use Rattle.sc_nodes.specs.declared.node.ManyOp.TheVariants as manys
-use Rattle.sc_terms.specs.Trees.{Tree, choice, many}
+use Rattle.sc_nodes.specs.declared.node.UnaryOp.TheVariants as unary
+use Rattle.sc_nodes.specs.declared.node.BinaryOp.TheVariants as binary
+use Rattle.sc_sorts.specs.declared.sort.Sort.{Sort, Sort-F, out-Sort}
+use Rattle.sc_sorts.specs.declared.sort.Sort.TheOpen as s
+use Rattle.sc_sorts.specs.contracts.sort.SortPartialEq.TheImpl.{ghosts as sorts}
+use Rattle.sc_terms.specs.Trees.{Tree, one, two, choice, many}
+use Rattle.sc_terms.specs.TreeSorts.{tree_sort}
+use Rattle.sc_terms.specs.Folds.{equal_term}
 use Rattle.sc_footprint.specs.Problems.{Posed, IsPosed, closed_terms, term_of}
 use Rattle.sc_footprint.specs.Written.{is_number}
-use Rattle.sc_rules.specs.Signed.{Said}
+use Rattle.sc_rules.specs.Signed.{Signed, Said, unless, given}
 use Rattle.sc_rules.specs.Terms.{fields_of, members}
 use Rattle.sc_rules.specs.Equal.{eq1, eq2, eq3_of, field_at, eq3, eq4, eq5, eq6, eq7, eq8}
 use Rattle.sc_rules.specs.Sets.{se1, se2, se3_of, se3, se4, se5, se6, se7, se8}
-use Rattle.sc_rules.specs.Entities.{en2, en3, en4, en5, en6, en7, en8}
-use Rattle.sc_instances.specs.Attributes.{attributes_of, en1_of}
+use Rattle.sc_rules.specs.Places.{roots, half_by, under}
+use Rattle.sc_rules.specs.Entities.{en1_of, en1, en2, en3_of, en3, en4, en5, en6, en7, en8}
 use Rattle.sc_instances.specs.Instances.{on_one, on_two, on_three, on_four, equal_said, set_said, entity_said, equal_of, set_of, entity_of}
 use Rattle.sc_instances.specs.Known.{is_falsified}
 use Rattle.sc_instances.specs.Names.{numbers_of, equal_named, equal_rule, set_named, set_rule, entity_named, entity_rule}
@@ -28,7 +35,7 @@ use Rattle.sc_instances.specs.declared.rule.EntityRule.{EntityRule}
 use Rattle.sc_instances.specs.declared.rule.EntityRule.TheVariants.{En1, En2, En3, En4, En5, En6, En7, En8}
 use Rattle.sc_instances.proofs.RulesHold.{term_closed}
 use Rattle.sc_consistency.specs.Laws.{HasSmallPlaces}
-use Rattle.sc_consistency.proofs.NumberLaws.{IsSmall, zero_small, one_small, two_small, words_small, number_small, fields_within, members_within, past_places}
+use Rattle.sc_consistency.proofs.NumberLaws.{IsSmall, zero_small, one_small, two_small, none_less, words_small, number_small, fields_within, members_within, past_places}
 use Rattle.sc_consistency.proofs.InstanceLaws.{IsRight, written, rule_free, numbers_back}
 
 module _ (p : Posed) (posed : IsPosed p) (places : HasSmallPlaces p) (m : Assignment) where
@@ -157,6 +164,57 @@ module _ (p : Posed) (posed : IsPosed p) (places : HasSmallPlaces p) (m : Assign
   se8_past s t (suc (suc zero)) big = never _ (sym two_small ∙ big)
   se8_past s t (suc (suc (suc i))) big = said_none
 
+  -- ---- like places
+
+  -- no bit has such a place
+  no_bit : (n i : ℕ) (parts : List Signed) → nat_lt n (10 ^ 18) ≡ true → is_number i ≡ false → given (nat_lt i n) parts ≡ None
+  no_bit n i parts few big = ap (λ (t : Bool). given t parts) (none_less i n (10 ^ 18) few big)
+
+  no_candidate : (i : ℕ) → is_number i ≡ false → term_of p i ≡ None
+  no_candidate i big = by (term_of p i) refl
+    where
+      by : (o : Option Tree) → term_of p i ≡ o → o ≡ None
+      by None e = refl
+      by (Some t) e = never _ (sym (small i t e) ∙ big)
+
+  half_past : (k : Sort-F Sort) (x y : Tree) (i : ℕ) → is_number i ≡ false → half_by k x y i (term_of p i) ≡ None
+  half_past s.Bool x y zero big = never _ (sym zero_small ∙ big)
+  half_past s.Bool x y (suc i) big = refl
+  half_past s.String x y zero big = never _ (sym zero_small ∙ big)
+  half_past s.String x y (suc i) big = refl
+  half_past (s.Entity name us) x y zero big = never _ (sym zero_small ∙ big)
+  half_past (s.Entity name us) x y (suc i) big = refl
+  half_past (s.Option k) x y zero big = never _ (sym zero_small ∙ big)
+  half_past (s.Option k) x y (suc i) big = refl
+  half_past s.Long x y i big = no_bit 64 i _ refl big
+  half_past s.Decimal x y i big = no_bit 64 i _ refl big
+  half_past s.Ip x y i big = no_bit 257 i _ refl big
+  half_past (s.Set k) x y i big = ap (half_by (s.Set k) x y i) (no_candidate i big)
+  half_past (s.Record fs) x y i big = refl
+
+  under_none : (test : Bool) (guard : List Signed) → Free (under test guard None)
+  under_none true guard = said_none
+  under_none false guard = said_none
+
+  first_none : (r q : Tree) → Free (en1_of r q None)
+  first_none (one (unary.Attributes k) e) (one (unary.Attributes l) f) = under_none (sorts.eq k l) (unless (equal_term e f) ∷ [])
+  first_none (one (unary.Attributes k) e) _ = said_none
+  first_none _ q = said_none
+
+  third_none : (r q : Tree) → Free (en3_of r q None)
+  third_none (two (binary.Tag j) e k) (two (binary.Tag o) f l) =
+      under_none (sorts.eq j o) (unless (equal_term e f) ∷ unless (equal_term k l) ∷ [])
+  third_none (two (binary.Tag j) e k) _ = said_none
+  third_none _ q = said_none
+
+  en1_past : (x y : Tree) (i : ℕ) → is_number i ≡ false → Free (en1 x y i (term_of p i))
+  en1_past x y i big =
+      subst (λ (said : Said). Free (en1_of (roots x y).0 (roots x y).1 said)) (sym (half_past (out-Sort (tree_sort x)) x y i big)) (first_none (roots x y).0 (roots x y).1)
+
+  en3_past : (x y : Tree) (i : ℕ) → is_number i ≡ false → Free (en3 x y i (term_of p i))
+  en3_past x y i big =
+      subst (λ (said : Said). Free (en3_of (roots x y).0 (roots x y).1 said)) (sym (half_past (out-Sort (tree_sort x)) x y i big)) (third_none (roots x y).0 (roots x y).1)
+
   -- ---- rules
 
   module _ (right : (i : Instance) → IsRight p m (equal_of p i)) where
@@ -217,10 +275,15 @@ module _ (p : Posed) (posed : IsPosed p) (places : HasSmallPlaces p) (m : Assign
         rule_free p m entity_rule (entity_said p) right (written word (map Number ns)) rule (ap (entity_named word) (numbers_back (map Number ns) (words_small ns small)) ∙ e)
 
     pub entities_free : (rule : EntityRule) → Free (entity_said p rule)
-    entities_free (En1 e f) =
-        two_free e f (λ t u. en1_of t u (attributes_of p t) (attributes_of p u)) (λ a b. of_entities (codes "EN1") (e ∷ f ∷ []) (En1 e f) (a, (b, tt)) refl)
+    entities_free (En1 x y i) =
+        placed i (entity_said p (En1 x y i))
+        (λ j. two_free x y (λ t u. en1 t u i (term_of p i)) (λ a b. of_entities (codes "EN1") (x ∷ y ∷ i ∷ []) (En1 x y i) (a, (b, (j, tt))) refl))
+        (λ big. two_said x y (λ t u. en1 t u i (term_of p i)) (λ t u there here. en1_past t u i big))
     entities_free (En2 x s z) = three_free x s z en2 (λ a b c. of_entities (codes "EN2") (x ∷ s ∷ z ∷ []) (En2 x s z) (a, (b, (c, tt))) refl)
-    entities_free (En3 a b) = two_free a b en3 (λ x y. of_entities (codes "EN3") (a ∷ b ∷ []) (En3 a b) (x, (y, tt)) refl)
+    entities_free (En3 x y i) =
+        placed i (entity_said p (En3 x y i))
+        (λ j. two_free x y (λ t u. en3 t u i (term_of p i)) (λ a b. of_entities (codes "EN3") (x ∷ y ∷ i ∷ []) (En3 x y i) (a, (b, (j, tt))) refl))
+        (λ big. two_said x y (λ t u. en3 t u i (term_of p i)) (λ t u there here. en3_past t u i big))
     entities_free (En4 e) = one_free e en4 (λ a. of_entities (codes "EN4") (e ∷ []) (En4 e) (a, tt) refl)
     entities_free (En5 e f x u) =
         four_free e f x u en5 (λ a b c d. of_entities (codes "EN5") (e ∷ f ∷ x ∷ u ∷ []) (En5 e f x u) (a, (b, (c, (d, tt)))) refl)

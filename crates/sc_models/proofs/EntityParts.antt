@@ -1,5 +1,5 @@
 -- The rules of what is stored of entities speak of truth values, where they speak of terms.
-use Rattle.std.proofs.Common.{◌≡◌, ◌&&◌, ◌==◌, Bool, true, false, not, List, [], ◌∷◌, map, length, Contains, if◌then◌else◌, Option, Some, None, refl, sym, ap, ◌∙◌, subst}
+use Rattle.std.proofs.Common.{◌≡◌, ◌&&◌, ◌==◌, ℕ, Bool, true, false, not, List, [], ◌∷◌, map, length, Contains, if◌then◌else◌, Option, Some, None, refl, sym, ap, ◌∙◌, subst}
 use Rattle.std.specs.List.{AllByRecursion}
 use Rattle.sc_laws.proofs.BoolLaws.{and_first, and_second, never}
 use Rattle.sc_lists.specs.Members.{Has}
@@ -33,9 +33,12 @@ use Rattle.sc_footprint.specs.Atoms.{is_bool, is_bool_in}
 use Rattle.sc_footprint.proofs.SortLaws.{sort_lawful}
 use Rattle.sc_rules.specs.Signed.{Said, so, unless}
 use Rattle.sc_rules.specs.Terms.{one_sort, member, above, keys, entity, choices_level, choices_in}
-use Rattle.sc_rules.specs.Entities.{are_attributes_of, en1, same_sets, en2, en3, en4, en5, en6, is_literal_of, en7_by, en7, en8}
+use Rattle.sc_rules.specs.Places.{roots, half, under}
+use Rattle.sc_rules.specs.Entities.{en1_of, en1, same_sets, en2, en3_of, en3, en4, en5, en6, is_literal_of, en7_by, en7, en8}
 use Rattle.sc_models.proofs.PartSorts.{plain, plain_at, entity_plain, plain_equal, member_bool, same_equal, AreTruths, IsOfTruths, given_truths, mapped_truths}
 use Rattle.sc_models.proofs.SetParts.{of_member}
+use Rattle.sc_models.proofs.PlaceParts.{half_truths, under_truths}
+use Rattle.sc_rules.proofs.PlaceLaws.{places_sorted}
 
 string_at : (k : Sort-F Sort) → string_level k ≡ true → is_bool_in k ≡ false
 string_at s.String h = refl
@@ -66,18 +69,21 @@ module _ (d : Declarations) (env : Env) (written : List Uid) where
   keys_plain : (e : Tree) → Is (keys e) → constant e ≡ None
   keys_plain e h = entity_plain d e (and_first _ _ (unary_kept d env written (tree_sort (keys e)) unary.Keys e h).1)
 
-  owner_plain : (e a : Tree) → Is a → are_attributes_of e a ≡ true → constant e ≡ None
-  owner_plain e (one (unary.Attributes k) f) h t =
-      subst (λ (z : Tree). constant z ≡ None) (sym (tree_eq-exact e f t)) (attributes_plain k f h)
-  owner_plain e _ h t = absurd cc
+  attributes_sort : (k : Sort) (e : Tree) → tree_sort (one (unary.Attributes k) e) ≡ k
+  unfolding tree_sort
+  attributes_sort k e = refl
 
-  pub en1_truths : (e f a b : Tree) → Is a → Is b → Truths (en1 e f a b)
-  en1_truths e f a b g h = given_truths Is (are_attributes_of e a && (are_attributes_of f b && one_sort a b)) _ (λ t.
-      let rest = and_second (are_attributes_of e a) _ t in
-      let same = same_sorts (tree_sort a) (tree_sort b) (and_second (are_attributes_of f b) _ rest) in (
-        plain_equal e f (owner_plain e a g (and_first _ _ t)) (owner_plain f b h (and_first _ _ rest)),
-        (same_equal d env written (tree_sort a) a b g (of_sort d env written (tree_sort b) (tree_sort a) b (sym same) h), tt),
-      ))
+  module _ (x y : Tree) (i : ℕ) (z : Option Tree) where
+    en1_by : (r q : Tree) → r ≡ (roots x y).0 → q ≡ (roots x y).1 → Is r → Is q → Truths (en1_of r q (half x y i z))
+    en1_by (one (unary.Attributes k) e) (one (unary.Attributes l) f) u v g h =
+        under_truths Is (sorts.eq k l) (unless (equal_term e f) ∷ []) (half x y i z)
+        (λ t. (plain_equal e f (attributes_plain k e g) (attributes_plain l f h), tt))
+        (λ t. half_truths x y (places_sorted x y (ap tree_sort (sym u) ∙ attributes_sort k e ∙ same_sorts k l t ∙ sym (attributes_sort l f) ∙ ap tree_sort v)) i z)
+    en1_by (one (unary.Attributes k) e) _ u v g h = tt
+    en1_by _ q u v g h = tt
+
+    pub en1_truths : Is (roots x y).0 → Is (roots x y).1 → Truths (en1 x y i z)
+    en1_truths g h = en1_by (roots x y).0 (roots x y).1 refl refl g h
 
   owners_plain : (o q : UnaryOp) (e f : Tree) → same_sets o q ≡ true → Is (one o e) → Is (one q f) → (constant e ≡ None) × (constant f ≡ None)
   owners_plain (unary.Ancestors k) (unary.Ancestors l) e f t g h = (ancestors_plain k e g, ancestors_plain l f h)
@@ -97,17 +103,23 @@ module _ (d : Declarations) (env : Env) (written : List Uid) where
       let test = (binary_kept d env written (tree_sort (two (binary.Tag k) e l)) (binary.Tag k) e l h).2 in
       (entity_plain d e (and_first _ _ test), string_plain l (and_first _ _ (and_second (is_entity_sort d (tree_sort e)) _ test)))
 
-  pub en3_truths : (a b : Tree) → Is a → Is b → Truths (en3 a b)
-  en3_truths (two (binary.Tag j) e k) (two (binary.Tag i) f l) g h = given_truths Is (sorts.eq j i) _ (λ t.
-      let first = tag_plain j e k g in
-      let second = tag_plain i f l h in (
-        plain_equal e f first.0 second.0,
-        (
-          plain_equal k l first.1 second.1,
-          (plain_equal (two (binary.Tag j) e k) (two (binary.Tag i) f l) refl refl, tt),
-        ),
-      ))
-  en3_truths _ _ g h = tt
+  tag_sort : (k : Sort) (e l : Tree) → tree_sort (two (binary.Tag k) e l) ≡ k
+  unfolding tree_sort
+  tag_sort k e l = refl
+
+  module _ (x y : Tree) (i : ℕ) (z : Option Tree) where
+    en3_by : (r q : Tree) → r ≡ (roots x y).0 → q ≡ (roots x y).1 → Is r → Is q → Truths (en3_of r q (half x y i z))
+    en3_by (two (binary.Tag j) e k) (two (binary.Tag o) f l) u v g h =
+        let first = tag_plain j e k g in
+        let second = tag_plain o f l h in
+        under_truths Is (sorts.eq j o) (unless (equal_term e f) ∷ unless (equal_term k l) ∷ []) (half x y i z)
+        (λ t. (plain_equal e f first.0 second.0, (plain_equal k l first.1 second.1, tt)))
+        (λ t. half_truths x y (places_sorted x y (ap tree_sort (sym u) ∙ tag_sort j e k ∙ same_sorts j o t ∙ sym (tag_sort o f l) ∙ ap tree_sort v)) i z)
+    en3_by (two (binary.Tag j) e k) _ u v g h = tt
+    en3_by _ q u v g h = tt
+
+    pub en3_truths : Is (roots x y).0 → Is (roots x y).1 → Truths (en3 x y i z)
+    en3_truths g h = en3_by (roots x y).0 (roots x y).1 refl refl g h
 
   pub en4_truths : (e : Tree) → Truths (en4 e)
   en4_truths e = λ all. (member_bool e (above (tree_sort e) e), tt)

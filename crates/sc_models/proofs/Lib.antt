@@ -5,6 +5,7 @@ mod DefinitionTruths
 mod PartSorts
 mod EqualParts
 mod SetParts
+mod PlaceParts
 mod EntityParts
 mod RuleTruths
 pub mod WrittenStrings

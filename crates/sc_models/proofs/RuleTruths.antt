@@ -1,5 +1,5 @@
 -- Where no instance is falsified, each rule holds at closed terms, where it speaks of closed terms alone.
-use Rattle.std.proofs.Common.{◌≡◌, ◌&&◌, ℕ, Bool, true, false, inl, inr, List, [], ◌∷◌, length, Option, Some, None, refl, sym, ap, ◌∙◌, subst}
+use Rattle.std.proofs.Common.{◌≡◌, ◌&&◌, ℕ, Bool, true, false, inl, inr, List, [], ◌∷◌, length, Option, Some, None, IfSome, refl, sym, ap, ◌∙◌, subst}
 use Rattle.std.specs.Bool.{⊤}
 use Rattle.std.specs.List.{AllByRecursion}
 use Rattle.sc_laws.proofs.BoolLaws.{and_second, never}
@@ -11,10 +11,15 @@ use Rattle.sc_clauses.specs.declared.lit.Lit.{Lit}
 use Rattle.sc_clauses.specs.Assignments.{Assignment}
 use Rattle.sc_schema.specs.declared.ty.Ty.{Ty}
 use Rattle.sc_schema.specs.Declarations.{attrs_of}
-use Rattle.sc_sorts.specs.declared.sort.Sort.{Sort}
+use Rattle.sc_sorts.specs.declared.sort.Sort.{Sort, Sort-F, out-Sort}
+use Rattle.sc_sorts.specs.declared.sort.Sort.TheOpen as s
+use Rattle.sc_sorts.specs.contracts.sort.SortPartialEq.TheImpl.{ghosts as sorts}
 use Rattle.sc_sorts.specs.OfTypes.{sort_of}
+use Rattle.sc_nodes.specs.declared.node.UnaryOp.{UnaryOp}
 use Rattle.sc_nodes.specs.declared.node.UnaryOp.TheVariants as unary
-use Rattle.sc_terms.specs.Trees.{Tree, one}
+use Rattle.sc_nodes.specs.declared.node.BinaryOp.TheVariants as binary
+use Rattle.sc_terms.specs.Folds.{equal_term}
+use Rattle.sc_terms.specs.Trees.{Tree, one, two}
 use Rattle.sc_terms.specs.TreeSorts.{tree_sort}
 use Rattle.sc_terms.specs.Tables.{tree}
 use Rattle.sc_terms.proofs.OrderLaws.{tree_cmp_level, tree_eq-exact}
@@ -27,17 +32,17 @@ use Rattle.sc_footprint.specs.Problems.{Posed, IsPosed, closed_terms, goal_term,
 use Rattle.sc_footprint.specs.Theories.{IsListed, TermsHold}
 use Rattle.sc_footprint.proofs.NumberingLaws.{numbered_map, numbered_back}
 use Rattle.sc_footprint.proofs.ProblemLaws.{literal_listed}
-use Rattle.sc_rules.specs.Signed.{Signed, Said, given}
+use Rattle.sc_rules.specs.Signed.{Signed, Said, unless}
 use Rattle.sc_rules.specs.Terms.{one_sort}
 use Rattle.sc_rules.specs.Equal.{eq1, eq2, eq3, eq4, eq5, eq6, eq7, eq8}
 use Rattle.sc_rules.specs.Sets.{se1, se2, se3, se4, se5, se6, se7, se8}
-use Rattle.sc_rules.specs.Entities.{are_attributes_of, en1, en2, en3, en4, en5, en6, en7, en8}
+use Rattle.sc_rules.specs.Places.{roots, half_by, half, under}
+use Rattle.sc_rules.specs.Entities.{en1_of, en1, en2, en3_of, en3, en4, en5, en6, en7, en8}
 use Rattle.sc_rules.specs.Strings.{Pattern, Signs, AreFew, st1, st3}
-use Rattle.sc_rules.proofs.MemberLaws.{has_any, any_first}
+use Rattle.sc_rules.proofs.PlaceLaws.{first_root, second_root}
 use Rattle.sc_instances.specs.declared.rule.EqualRule.TheVariants.{Eq1, Eq2, Eq3, Eq4, Eq5, Eq6, Eq7, Eq8}
 use Rattle.sc_instances.specs.declared.rule.SetRule.TheVariants.{Se1, Se2, Se3, Se4, Se5, Se6, Se7, Se8}
 use Rattle.sc_instances.specs.declared.rule.EntityRule.TheVariants.{En1, En2, En3, En4, En5, En6, En7, En8}
-use Rattle.sc_instances.specs.Attributes.{attributes_of, en1_of}
 use Rattle.sc_instances.specs.Clauses.{literal_for, clause_for}
 use Rattle.sc_instances.specs.Instances.{on_one, on_two, on_three, on_four}
 use Rattle.sc_instances.specs.Known.{is_falsified}
@@ -49,6 +54,8 @@ use Rattle.sc_models.specs.Laws.{IsClosed, AreClosed, FalsifiesNothing}
 use Rattle.sc_models.proofs.ClauseTruths.{atom_truth, unbroken_true}
 use Rattle.sc_models.proofs.LiteralTruths.{clause_told}
 use Rattle.sc_models.proofs.PartSorts.{AreTruths, IsOfTruths}
+use Rattle.sc_models.proofs.PlaceParts.{is_set_in, half_place}
+use Rattle.sc_rebuilding.proofs.ClosedLaws.{of_part}
 use Rattle.sc_models.proofs.EqualParts.{eq1_truths, eq2_truths, eq3_truths, eq4_truths, eq5_truths, eq6_truths, eq7_truths, eq8_truths}
 use Rattle.sc_models.proofs.SetParts.{se1_truths, se2_truths, se3_truths, se4_truths, se5_truths, se6_truths, se7_truths, se8_truths}
 use Rattle.sc_models.proofs.EntityParts.{en1_truths, en2_truths, en3_truths, en4_truths, en5_truths, en6_truths, en7_truths, en8_truths}
@@ -129,55 +136,59 @@ module _ (laws : TermsHold) (p : Posed) (posed : IsPosed p) (m : Assignment) (no
       sym (clause_told p posed m first parts) ∙ unbroken_true m (length (atoms p)) nothing.total first
       (clause_for p parts) (listed parts all are) e
 
-  -- ---- the attributes of an entity are one term
+  -- ---- like places of attributes and tags
 
-  own_is : (k : Sort) (e : Tree) → Is (one (unary.Attributes k) e) → (t : Ty) × (attrs_of p.schema (name_of (tree_sort e)) ≡ Some t) × (k ≡ sort_of t)
-  own_is k e h =
-      type_is (attrs_of p.schema (name_of (tree_sort e))) k
-      (and_second (is_entity_sort p.schema (tree_sort e)) _ (unary_kept p.schema p.env p.literals (tree_sort (one (unary.Attributes k) e)) (unary.Attributes k) e h).1)
-
-  unique_at : (e f g : Tree) (k l : Sort) → e ≡ f → e ≡ g → Is (one (unary.Attributes k) f) → Is (one (unary.Attributes l) g) → one (unary.Attributes k) f ≡ one (unary.Attributes l) g
-  unique_at e f g k l i j h q =
-      let first_own = own_is k e (subst (λ (z : Tree). Is (one (unary.Attributes k) z)) (sym i) h) in
-      let second_own = own_is l e (subst (λ (z : Tree). Is (one (unary.Attributes l) z)) (sym j) q) in
-      let types : first_own.0 ≡ second_own.0 = same_some (sym first_own.1 ∙ second_own.1) in
-      let sorts : k ≡ l = first_own.2 ∙ ap sort_of types ∙ sym second_own.2 in
-      ap (λ (z : Tree). one (unary.Attributes k) z) (sym i ∙ j) ∙ ap (λ (z : Sort). one (unary.Attributes z) g) sorts
-
-  unique : (e a b : Tree) → Is a → Is b → are_attributes_of e a ≡ true → are_attributes_of e b ≡ true → a ≡ b
-  unique e (one (unary.Attributes k) f) (one (unary.Attributes l) g) h q t u = unique_at e f g k l (tree_eq-exact e f t) (tree_eq-exact e g u) h q
-  unique e (one (unary.Attributes k) f) _ h q t u = absurd cc
-  unique e _ b h q t u = absurd cc
-
-  attributes_are : (e a : Tree) → IsClosed p a → are_attributes_of e a ≡ true → attributes_of p e ≡ Some a
-  attributes_are e a c t =
-      let found = any_first (are_attributes_of e) (closed_terms p) (has_any (are_attributes_of e) (closed_terms p) a (there a c) t) in
-      let closed : IsClosed p found.found = (posed.are_closed.just found.found).0 (Contains-from_Has (closed_terms p) found.found found.there) in
-      found.is ∙ ap Some (unique e found.found a (term found.found closed) (term a c) found.passes t)
-
-  none_said : (test : Bool) (parts : List Signed) → test ≡ false → is_falsified p m (given test parts) ≡ false
+  unsaid : is_falsified p m None ≡ false
   unfolding is_falsified
-  none_said true parts e = never _ e
-  none_said false parts e = refl
+  unsaid = refl
 
-  en1_unbroken : (e f a b : Tree) → IsClosed p e → IsClosed p f → IsClosed p a → IsClosed p b → is_falsified p m (en1 e f a b) ≡ false
-  en1_unbroken e f a b ce cf ca cb = by (are_attributes_of e a) (are_attributes_of f b) refl refl
-    where
-      known : is_falsified p m (en1_of e f (attributes_of p e) (attributes_of p f)) ≡ false
-      known =
-          on_ab p m (λ x y. en1_of x y (attributes_of p x) (attributes_of p y)) (term_of p (number e)) (term_of p (number f)) e f (numbered e ce) (numbered f cf)
-          (nothing.entities (En1 (number e) (number f)))
+  unsaid_under : (test : Bool) (guard : List Signed) → is_falsified p m (under test guard None) ≡ false
+  unsaid_under true guard = unsaid
+  unsaid_under false guard = unsaid
 
-      by : (t u : Bool) → are_attributes_of e a ≡ t → are_attributes_of f b ≡ u → is_falsified p m (en1 e f a b) ≡ false
-      by true true t u =
-          subst (λ (z : Option Tree). is_falsified p m (en1_of e f (Some a) z) ≡ false) (attributes_are f b cb u)
-          (subst (λ (z : Option Tree). is_falsified p m (en1_of e f z (attributes_of p f)) ≡ false)
-          (attributes_are e a ca t) known)
-      by true false t u =
-          none_said (are_attributes_of e a && (are_attributes_of f b && one_sort a b)) _
-          (ap (λ (z : Bool). z && (are_attributes_of f b && one_sort a b)) t ∙ ap (λ (z : Bool). z && one_sort a b) u)
-      by false u t v =
-          none_said (are_attributes_of e a && (are_attributes_of f b && one_sort a b)) _ (ap (λ (z : Bool). z && (are_attributes_of f b && one_sort a b)) t)
+  unsaid_first : (r q : Tree) → is_falsified p m (en1_of r q None) ≡ false
+  unsaid_first (one (unary.Attributes k) e) (one (unary.Attributes l) f) = unsaid_under (sorts.eq k l) (unless (equal_term e f) ∷ [])
+  unsaid_first (one (unary.Attributes k) e) _ = unsaid
+  unsaid_first _ q = unsaid
+
+  unsaid_third : (r q : Tree) → is_falsified p m (en3_of r q None) ≡ false
+  unsaid_third (two (binary.Tag j) e k) (two (binary.Tag o) f l) =
+      unsaid_under (sorts.eq j o) (unless (equal_term e f) ∷ unless (equal_term k l) ∷ [])
+  unsaid_third (two (binary.Tag j) e k) _ = unsaid
+  unsaid_third _ q = unsaid
+
+  -- a rule on two places, of which none is falsified whose number is that of the candidate
+  module _ (rule : Tree → Tree → Said → Said) (none : (r q : Tree) → is_falsified p m (rule r q None) ≡ false) (x y : Tree) (cx : IsClosed p x) (cy : IsClosed p y)
+      (known : (i : ℕ) → is_falsified p m (on_two (term_of p (number x)) (term_of p (number y)) (λ t u. rule (roots t u).0 (roots t u).1 (half t u i (term_of p i)))) ≡ false) where
+    at : Said → Type 0
+    at said = is_falsified p m (rule (roots x y).0 (roots x y).1 said) ≡ false
+
+    known_at : (i : ℕ) → at (half x y i (term_of p i))
+    known_at i =
+        on_ab p m (λ t u. rule (roots t u).0 (roots t u).1 (half t u i (term_of p i))) (term_of p (number x)) (term_of p (number y)) x y
+        (numbered x cx) (numbered y cy) (known i)
+
+    half_at : (k : Sort-F Sort) → out-Sort (tree_sort x) ≡ k → (b : Bool) → is_set_in k ≡ b → (i : ℕ) (z : Option Tree) → IfSome z (IsClosed p) → at (half x y i z)
+    half_at k e false n i z c =
+        subst at (ap (λ (l : Sort-F Sort). half_by l x y i (term_of p i)) e ∙ half_place k x y i (term_of p i) z n ∙ ap (λ (l : Sort-F Sort). half_by l x y i z) (sym e)) (known_at i)
+    half_at (s.Set j) e true n i (Some z) c =
+        subst at (ap (λ (l : Sort-F Sort). half_by l x y (number z) (term_of p (number z))) e ∙ ap (half_by (s.Set j) x y i) (numbered z c) ∙ ap (λ (l : Sort-F Sort). half_by l x y i (Some z)) (sym e))
+        (known_at (number z))
+    half_at (s.Set j) e true n i None c = subst at (ap (λ (l : Sort-F Sort). half_by l x y i None) (sym e)) (none (roots x y).0 (roots x y).1)
+    half_at k e true n i z c = never _ n
+
+    places_unbroken : (i : ℕ) (z : Option Tree) → IfSome z (IsClosed p) → at (half x y i z)
+    places_unbroken i z c = half_at (out-Sort (tree_sort x)) refl (is_set_in (out-Sort (tree_sort x))) refl i z c
+
+  -- what two places are of is closed with them
+  of_operator : (o : UnaryOp) (a : Tree) → IsClosed p (one o a) → IsClosed p a
+  of_operator o a c = of_part p.schema p.env (goal_term p) (one o a) a c (inl refl)
+
+  first_term : (x y : Tree) → IsClosed p x → Is (roots x y).0
+  first_term x y c = term (roots x y).0 (first_root (IsClosed p) of_operator x y c)
+
+  second_term : (x y : Tree) → IsClosed p y → Is (roots x y).1
+  second_term x y c = term (roots x y).1 (second_root (IsClosed p) of_operator x y c)
 
   -- ---- strings
 
@@ -260,12 +271,14 @@ module _ (laws : TermsHold) (p : Posed) (posed : IsPosed p) (m : Assignment) (no
       of_three se7 y z x i j k (nothing.sets (Se7 (number y) (number z) (number x))) (se7_truths p.schema p.env p.literals y z x)
   rule_holds _ (rule.of_se8 y z n i j) =
       of_two (λ a b. se8 a b n) y z i j (nothing.sets (Se8 (number y) (number z) n)) (se8_truths p.schema p.env p.literals y z n (term y i) (term z j))
-  rule_holds _ (rule.of_en1 e f a b i j k l) =
-      said_holds (en1 e f a b) (en1_unbroken e f a b i j k l) (en1_truths p.schema p.env p.literals e f a b (term a k) (term b l))
+  rule_holds _ (rule.of_en1 x y n z i j k) =
+      said_holds (en1 x y n z) (places_unbroken en1_of unsaid_first x y i j (λ w. nothing.entities (En1 (number x) (number y) w)) n z k)
+      (en1_truths p.schema p.env p.literals x y n z (first_term x y i) (second_term x y j))
   rule_holds _ (rule.of_en2 x y z i j k) =
       of_three en2 x y z i j k (nothing.entities (En2 (number x) (number y) (number z))) (en2_truths p.schema p.env p.literals x y z (term y j) (term z k))
-  rule_holds _ (rule.of_en3 a b i j) =
-      of_two en3 a b i j (nothing.entities (En3 (number a) (number b))) (en3_truths p.schema p.env p.literals a b (term a i) (term b j))
+  rule_holds _ (rule.of_en3 x y n z i j k) =
+      said_holds (en3 x y n z) (places_unbroken en3_of unsaid_third x y i j (λ w. nothing.entities (En3 (number x) (number y) w)) n z k)
+      (en3_truths p.schema p.env p.literals x y n z (first_term x y i) (second_term x y j))
   rule_holds _ (rule.of_en4 e i) =
       of_one en4 e i (nothing.entities (En4 (number e))) (en4_truths p.schema p.env p.literals e)
   rule_holds _ (rule.of_en5 e f x u i j k l) =
