@@ -1,5 +1,5 @@
 -- What says that like places are alike speaks of truth values.
-use Rattle.std.proofs.Common.{◌≡◌, ◌++◌, ℕ, zero, suc, Bool, true, false, nat_lt, List, [], ◌∷◌, Option, Some, None, refl, sym, ap, ◌∙◌, subst}
+use Rattle.std.proofs.Common.{◌≡◌, ◌++◌, ℕ, zero, suc, Bool, true, false, cond, nat_lt, List, [], ◌∷◌, Option, Some, None, refl, sym, ap, ◌∙◌, subst}
 use Rattle.std.specs.List.{AllByRecursion}
 use Rattle.sc_laws.proofs.OptionLaws.{same_some}
 use Rattle.sc_laws.proofs.BoolLaws.{never}
@@ -9,14 +9,15 @@ use Rattle.sc_sorts.specs.declared.sort.Sort.TheOpen as s
 use Rattle.sc_sorts.proofs.OutLaws.{out_Bool}
 use Rattle.sc_nodes.specs.declared.node.Literal.{Literal as AnyLiteral}
 use Rattle.sc_nodes.specs.Literals.{literal_bit}
-use Rattle.sc_terms.specs.Trees.{Tree}
+use Rattle.sc_nodes.specs.declared.node.UnaryOp.{UnaryOp}
+use Rattle.sc_terms.specs.Trees.{Tree, leaf, one, two, choice, many}
 use Rattle.sc_terms.specs.TreeSorts.{tree_sort}
 use Rattle.sc_terms.specs.Folds.{absent, present_by, present_term, literal_of, bit_by, bit_term, equal_term}
 use Rattle.sc_footprint.specs.Atoms.{is_bool, is_bool_in}
 use Rattle.sc_footprint.proofs.TruthLaws.{truth_sort}
 use Rattle.sc_rules.specs.Signed.{Signed, Said, so, unless, given}
 use Rattle.sc_rules.specs.Terms.{member}
-use Rattle.sc_rules.specs.Places.{half_by, half, under}
+use Rattle.sc_rules.specs.Places.{same_step, roots, half_by, half, under}
 use Rattle.sc_models.proofs.PartSorts.{plain_at, plain_equal, member_bool, AreTruths, IsOfTruths}
 
 bit_bool : (x : Tree) (i : ℕ) → is_bool (bit_term x i) ≡ true
@@ -102,4 +103,39 @@ half_place s.Long x y i z w n = refl
 half_place s.Decimal x y i z w n = refl
 half_place s.Ip x y i z w n = refl
 half_place (s.Record fs) x y i z w n = refl
-half_place (s.Set k) x y i z w n = never _ (sym n)
+half_place (s.Set k) x y i z w n = never _ n
+
+-- ---- what is kept by what an operator is on holds of roots
+
+module _ (P : Tree → Type 0) (down : (o : UnaryOp) (a : Tree) → P (one o a) → P a) where
+  first_by : (t : Bool) (o q : UnaryOp) (a b : Tree) → P (one o a) → (P a → P (roots a b).0) → P (cond t (roots a b) (one o a, one q b)).0
+  first_by true o q a b h next = next (down o a h)
+  first_by false o q a b h next = h
+
+  pub first_root : (x y : Tree) → P x → P (roots x y).0
+  unfolding roots
+  first_root (one o a) (one q b) h = first_by (same_step o q) o q a b h (first_root a b)
+  first_root (one o a) (leaf l) h = h
+  first_root (one o a) (two q b c) h = h
+  first_root (one o a) (choice b c e) h = h
+  first_root (one o a) (many q ts) h = h
+  first_root (leaf l) y h = h
+  first_root (two o a b) y h = h
+  first_root (choice a b c) y h = h
+  first_root (many o ts) y h = h
+
+  second_by : (t : Bool) (o q : UnaryOp) (a b : Tree) → P (one q b) → (P b → P (roots a b).1) → P (cond t (roots a b) (one o a, one q b)).1
+  second_by true o q a b h next = next (down q b h)
+  second_by false o q a b h next = h
+
+  pub second_root : (x y : Tree) → P y → P (roots x y).1
+  unfolding roots
+  second_root (one o a) (one q b) h = second_by (same_step o q) o q a b h (second_root a b)
+  second_root (one o a) (leaf l) h = h
+  second_root (one o a) (two q b c) h = h
+  second_root (one o a) (choice b c e) h = h
+  second_root (one o a) (many q ts) h = h
+  second_root (leaf l) y h = h
+  second_root (two o a b) y h = h
+  second_root (choice a b c) y h = h
+  second_root (many o ts) y h = h

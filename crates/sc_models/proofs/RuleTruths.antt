@@ -39,7 +39,6 @@ use Rattle.sc_rules.specs.Sets.{se1, se2, se3, se4, se5, se6, se7, se8}
 use Rattle.sc_rules.specs.Places.{roots, half_by, half, under}
 use Rattle.sc_rules.specs.Entities.{en1_of, en1, en2, en3_of, en3, en4, en5, en6, en7, en8}
 use Rattle.sc_rules.specs.Strings.{Pattern, Signs, AreFew, st1, st3}
-use Rattle.sc_rules.proofs.PlaceLaws.{first_root, second_root}
 use Rattle.sc_instances.specs.declared.rule.EqualRule.TheVariants.{Eq1, Eq2, Eq3, Eq4, Eq5, Eq6, Eq7, Eq8}
 use Rattle.sc_instances.specs.declared.rule.SetRule.TheVariants.{Se1, Se2, Se3, Se4, Se5, Se6, Se7, Se8}
 use Rattle.sc_instances.specs.declared.rule.EntityRule.TheVariants.{En1, En2, En3, En4, En5, En6, En7, En8}
@@ -54,7 +53,7 @@ use Rattle.sc_models.specs.Laws.{IsClosed, AreClosed, FalsifiesNothing}
 use Rattle.sc_models.proofs.ClauseTruths.{atom_truth, unbroken_true}
 use Rattle.sc_models.proofs.LiteralTruths.{clause_told}
 use Rattle.sc_models.proofs.PartSorts.{AreTruths, IsOfTruths}
-use Rattle.sc_models.proofs.PlaceParts.{is_set_in, half_place}
+use Rattle.sc_models.proofs.PlaceParts.{is_set_in, half_place, first_root, second_root}
 use Rattle.sc_rebuilding.proofs.ClosedLaws.{of_part}
 use Rattle.sc_models.proofs.EqualParts.{eq1_truths, eq2_truths, eq3_truths, eq4_truths, eq5_truths, eq6_truths, eq7_truths, eq8_truths}
 use Rattle.sc_models.proofs.SetParts.{se1_truths, se2_truths, se3_truths, se4_truths, se5_truths, se6_truths, se7_truths, se8_truths}
@@ -160,7 +159,7 @@ module _ (laws : TermsHold) (p : Posed) (posed : IsPosed p) (m : Assignment) (no
   -- a rule on two places, of which none is falsified whose number is that of the candidate
   module _ (rule : Tree → Tree → Said → Said) (none : (r q : Tree) → is_falsified p m (rule r q None) ≡ false) (x y : Tree) (cx : IsClosed p x) (cy : IsClosed p y)
       (known : (i : ℕ) → is_falsified p m (on_two (term_of p (number x)) (term_of p (number y)) (λ t u. rule (roots t u).0 (roots t u).1 (half t u i (term_of p i)))) ≡ false) where
-    at : Said → Type 0
+    abbrev at : Said → Type 0
     at said = is_falsified p m (rule (roots x y).0 (roots x y).1 said) ≡ false
 
     known_at : (i : ℕ) → at (half x y i (term_of p i))
@@ -175,7 +174,7 @@ module _ (laws : TermsHold) (p : Posed) (posed : IsPosed p) (m : Assignment) (no
         subst at (ap (λ (l : Sort-F Sort). half_by l x y (number z) (term_of p (number z))) e ∙ ap (half_by (s.Set j) x y i) (numbered z c) ∙ ap (λ (l : Sort-F Sort). half_by l x y i (Some z)) (sym e))
         (known_at (number z))
     half_at (s.Set j) e true n i None c = subst at (ap (λ (l : Sort-F Sort). half_by l x y i None) (sym e)) (none (roots x y).0 (roots x y).1)
-    half_at k e true n i z c = never _ n
+    half_at k e true n i z c = never _ (sym n)
 
     places_unbroken : (i : ℕ) (z : Option Tree) → IfSome z (IsClosed p) → at (half x y i z)
     places_unbroken i z c = half_at (out-Sort (tree_sort x)) refl (is_set_in (out-Sort (tree_sort x))) refl i z c

@@ -89,38 +89,3 @@ unfolding held_term
 built_held (one o a) h = refl
 built_held (two o a b) h = refl
 built_held _ h = absurd cc
-
--- ---- what is kept by what an operator is on holds of roots
-
-module _ (P : Tree → Type 0) (down : (o : UnaryOp) (a : Tree) → P (one o a) → P a) where
-  first_by : (t : Bool) (o q : UnaryOp) (a b : Tree) → P (one o a) → (P a → P (roots a b).0) → P (cond t (roots a b) (one o a, one q b)).0
-  first_by true o q a b h next = next (down o a h)
-  first_by false o q a b h next = h
-
-  pub first_root : (x y : Tree) → P x → P (roots x y).0
-  unfolding roots
-  first_root (one o a) (one q b) h = first_by (same_step o q) o q a b h (first_root a b)
-  first_root (one o a) (leaf l) h = h
-  first_root (one o a) (two q b c) h = h
-  first_root (one o a) (choice b c e) h = h
-  first_root (one o a) (many q ts) h = h
-  first_root (leaf l) y h = h
-  first_root (two o a b) y h = h
-  first_root (choice a b c) y h = h
-  first_root (many o ts) y h = h
-
-  second_by : (t : Bool) (o q : UnaryOp) (a b : Tree) → P (one q b) → (P b → P (roots a b).1) → P (cond t (roots a b) (one o a, one q b)).1
-  second_by true o q a b h next = next (down q b h)
-  second_by false o q a b h next = h
-
-  pub second_root : (x y : Tree) → P y → P (roots x y).1
-  unfolding roots
-  second_root (one o a) (one q b) h = second_by (same_step o q) o q a b h (second_root a b)
-  second_root (one o a) (leaf l) h = h
-  second_root (one o a) (two q b c) h = h
-  second_root (one o a) (choice b c e) h = h
-  second_root (one o a) (many q ts) h = h
-  second_root (leaf l) y h = h
-  second_root (two o a b) y h = h
-  second_root (choice a b c) y h = h
-  second_root (many o ts) y h = h
