@@ -7,6 +7,7 @@ use Rattle.std.specs.List.{AllByRecursion, list_all}
 use Rattle.sc_laws.proofs.BoolLaws.{never}
 use Rattle.sc_laws.proofs.OptionLaws.{same_some}
 use Rattle.sc_lists.specs.Members.{Has}
+use Rattle.std.proofs.lemmas.Bool.Decides.{nat_tests}
 use Rattle.sc_laws.proofs.NumberLaws.{nat_lt_true}
 use Rattle.sc_schema.specs.Declarations.{Declarations}
 use Rattle.sc_sorts.specs.Inside.{SortFields}

@@ -1,5 +1,5 @@
 -- The rules of what is stored of entities speak of truth values, where they speak of terms.
-use Rattle.std.proofs.Common.{◌≡◌, ◌&&◌, ◌==◌, ℕ, Bool, true, false, not, List, [], ◌∷◌, map, length, Contains, if◌then◌else◌, Option, Some, None, refl, sym, ap, ◌∙◌, subst}
+use Rattle.std.proofs.Common.{◌≡◌, ◌==◌, ℕ, Bool, true, false, not, List, [], ◌∷◌, map, length, Contains, if◌then◌else◌, Option, Some, None, refl, sym, ap, ◌∙◌}
 use Rattle.std.specs.List.{AllByRecursion}
 use Rattle.sc_laws.proofs.BoolLaws.{and_first, and_second, never}
 use Rattle.sc_lists.specs.Members.{Has}
@@ -21,19 +21,18 @@ use Rattle.sc_nodes.specs.declared.node.BinaryOp.TheVariants as binary
 use Rattle.sc_terms.specs.Trees.{Tree, leaf, one, two}
 use Rattle.sc_terms.specs.TreeSorts.{tree_sort}
 use Rattle.sc_terms.specs.Folds.{constant, equal_term, default_term}
-use Rattle.sc_terms.proofs.OrderLaws.{tree_eq-exact}
 use Rattle.sc_term_laws.specs.Judging.{IsTermOf, IsTerm}
 use Rattle.sc_term_laws.specs.Tests.{is_entity_sort, string_level, is_string}
 use Rattle.sc_term_laws.proofs.BinaryJudged.{binary_kept}
 use Rattle.sc_term_laws.proofs.DefaultMade.{default_made}
 use Rattle.sc_term_laws.proofs.JudgingLaws.{sort_is, member_of}
 use Rattle.sc_term_laws.proofs.TestLaws.{same_sorts}
-use Rattle.sc_term_laws.proofs.UnaryJudged.{unary_kept, of_sort}
+use Rattle.sc_term_laws.proofs.UnaryJudged.{unary_kept}
 use Rattle.sc_footprint.specs.Atoms.{is_bool, is_bool_in}
 use Rattle.sc_footprint.proofs.SortLaws.{sort_lawful}
 use Rattle.sc_rules.specs.Signed.{Said, so, unless}
-use Rattle.sc_rules.specs.Terms.{one_sort, member, above, keys, entity, choices_level, choices_in}
-use Rattle.sc_rules.specs.Places.{roots, half, under}
+use Rattle.sc_rules.specs.Terms.{member, above, keys, entity, choices_level, choices_in}
+use Rattle.sc_rules.specs.Places.{roots, half}
 use Rattle.sc_rules.specs.Entities.{en1_of, en1, same_sets, en2, en3_of, en3, en4, en5, en6, is_literal_of, en7_by, en7, en8}
 use Rattle.sc_models.proofs.PartSorts.{plain, plain_at, entity_plain, plain_equal, member_bool, same_equal, AreTruths, IsOfTruths, given_truths, mapped_truths}
 use Rattle.sc_models.proofs.SetParts.{of_member}

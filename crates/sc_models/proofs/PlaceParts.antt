@@ -1,6 +1,5 @@
 -- What says that like places are alike speaks of truth values.
-use Rattle.std.proofs.Common.{◌≡◌, ◌++◌, ℕ, zero, suc, Bool, true, false, cond, nat_lt, List, [], ◌∷◌, Option, Some, None, refl, sym, ap, ◌∙◌, subst}
-use Rattle.std.specs.List.{AllByRecursion}
+use Rattle.std.proofs.Common.{◌≡◌, ℕ, zero, suc, Bool, true, false, cond, nat_lt, List, [], ◌∷◌, Option, Some, None, refl, sym, ap, ◌∙◌, subst}
 use Rattle.sc_laws.proofs.OptionLaws.{same_some}
 use Rattle.sc_laws.proofs.BoolLaws.{never}
 use Rattle.sc_lists.proofs.ListLaws.{all_append}

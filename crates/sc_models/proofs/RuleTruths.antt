@@ -1,20 +1,16 @@
 -- Where no instance is falsified, each rule holds at closed terms, where it speaks of closed terms alone.
-use Rattle.std.proofs.Common.{◌≡◌, ◌&&◌, ℕ, Bool, true, false, inl, inr, List, [], ◌∷◌, length, Option, Some, None, IfSome, refl, sym, ap, ◌∙◌, subst}
+use Rattle.std.proofs.Common.{◌≡◌, ℕ, Bool, true, false, inl, inr, List, [], ◌∷◌, length, Option, Some, None, IfSome, refl, sym, ap, ◌∙◌, subst}
 use Rattle.std.specs.Bool.{⊤}
 use Rattle.std.specs.List.{AllByRecursion}
-use Rattle.sc_laws.proofs.BoolLaws.{and_second, never}
+use Rattle.sc_laws.proofs.BoolLaws.{never}
 use Rattle.sc_lists.proofs.ListLaws.{all_weaker}
-use Rattle.sc_lists.proofs.MemberLaws.{Has-from_Contains, Contains-from_Has}
-use Rattle.sc_laws.proofs.OptionLaws.{same_some}
+use Rattle.sc_lists.proofs.MemberLaws.{Has-from_Contains}
 use Rattle.sc_lists.specs.Members.{Has}
 use Rattle.sc_clauses.specs.declared.lit.Lit.{Lit}
 use Rattle.sc_clauses.specs.Assignments.{Assignment}
-use Rattle.sc_schema.specs.declared.ty.Ty.{Ty}
-use Rattle.sc_schema.specs.Declarations.{attrs_of}
 use Rattle.sc_sorts.specs.declared.sort.Sort.{Sort, Sort-F, out-Sort}
 use Rattle.sc_sorts.specs.declared.sort.Sort.TheOpen as s
 use Rattle.sc_sorts.specs.contracts.sort.SortPartialEq.TheImpl.{ghosts as sorts}
-use Rattle.sc_sorts.specs.OfTypes.{sort_of}
 use Rattle.sc_nodes.specs.declared.node.UnaryOp.{UnaryOp}
 use Rattle.sc_nodes.specs.declared.node.UnaryOp.TheVariants as unary
 use Rattle.sc_nodes.specs.declared.node.BinaryOp.TheVariants as binary
@@ -22,18 +18,14 @@ use Rattle.sc_terms.specs.Folds.{equal_term}
 use Rattle.sc_terms.specs.Trees.{Tree, one, two}
 use Rattle.sc_terms.specs.TreeSorts.{tree_sort}
 use Rattle.sc_terms.specs.Tables.{tree}
-use Rattle.sc_terms.proofs.OrderLaws.{tree_cmp_level, tree_eq-exact}
+use Rattle.sc_terms.proofs.OrderLaws.{tree_cmp_level}
 use Rattle.sc_term_laws.specs.Judging.{IsTerm}
-use Rattle.sc_term_laws.specs.Tests.{is_entity_sort, name_of}
-use Rattle.sc_term_laws.proofs.TestLaws.{type_is}
-use Rattle.sc_term_laws.proofs.UnaryJudged.{unary_kept}
 use Rattle.sc_footprint.specs.Atoms.{is_bool}
 use Rattle.sc_footprint.specs.Problems.{Posed, IsPosed, closed_terms, goal_term, atoms, number_among, term_of}
 use Rattle.sc_footprint.specs.Theories.{IsListed, TermsHold}
 use Rattle.sc_footprint.proofs.NumberingLaws.{numbered_map, numbered_back}
 use Rattle.sc_footprint.proofs.ProblemLaws.{literal_listed}
 use Rattle.sc_rules.specs.Signed.{Signed, Said, unless}
-use Rattle.sc_rules.specs.Terms.{one_sort}
 use Rattle.sc_rules.specs.Equal.{eq1, eq2, eq3, eq4, eq5, eq6, eq7, eq8}
 use Rattle.sc_rules.specs.Sets.{se1, se2, se3, se4, se5, se6, se7, se8}
 use Rattle.sc_rules.specs.Places.{roots, half_by, half, under}
