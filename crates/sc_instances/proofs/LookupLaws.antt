@@ -2,12 +2,13 @@
 use Rattle.std.proofs.Common.{◌≡◌, ℕ, true, false, Option, Some, None, IfSome, is_some, refl, sym, ap, ◌∙◌}
 use Rattle.sc_clauses.specs.declared.lit.Lit.{Lit}
 use Rattle.sc_clauses.specs.Clauses.{positive, negation}
-use Rattle.sc_nodes.specs.declared.node.UnaryOp.TheVariants.{Present}
+use Rattle.sc_nodes.specs.declared.node.Literal.{Literal}
+use Rattle.sc_nodes.specs.declared.node.UnaryOp.TheVariants.{Bit, Present}
 use Rattle.sc_nodes.specs.declared.node.BinaryOp.{BinaryOp}
 use Rattle.sc_terms.specs.Trees.{Tree, one, two}
 use Rattle.sc_terms.specs.Tables.{tree}
 use Rattle.sc_sorts.specs.declared.sort.Sort.{Sort}
-use Rattle.sc_terms.specs.Folds.{absent, present_by, present_term}
+use Rattle.sc_terms.specs.Folds.{absent, present_by, present_term, literal_of, bit_by, bit_term}
 use Rattle.sc_terms.specs.Finding.{IsFound}
 use Rattle.sc_footprint.specs.Problems.{Posed, IsPosed, atom_number, literal, literal_in}
 use Rattle.sc_instances.proofs.LiteralLaws.{not_in_table, not_listed}
@@ -45,3 +46,13 @@ present_plain_by t None h = refl
 pub present_plain : (t : Tree) → is_some (absent t) ≡ false → present_term t ≡ one Present t
 unfolding present_term
 present_plain t h = present_plain_by t (absent t) h
+
+-- a bit of a term that is no literal
+pub found_bit : (p : Posed) (a : Tree) (i : ℕ) (found : Option ℕ) (l : Lit) → IsPosed p → IsFound p.nodes (one (Bit i) a) found → IfSome found (λ n. l ≡ literal_in p (tree p.nodes n)) → (found ≡ None → l ≡ positive 0)
+    → l ≡ literal_in p (one (Bit i) a)
+unfolding literal
+found_bit p a i found l posed = found_by p (one (Bit i) a) found l posed refl
+
+pub bit_plain : (t : Tree) (i : ℕ) → literal_of t ≡ None → bit_term t i ≡ one (Bit i) t
+unfolding bit_term
+bit_plain t i h = ap (λ (o : Option Literal). bit_by o t i) h

@@ -19,9 +19,7 @@ use Rattle.sc_footprint.specs.Closure.{one_sort}
 use Rattle.sc_footprint.specs.declared.kind.Kind.TheVariants as kind
 use Rattle.sc_footprint.specs.Problems.{Posed, IsPosed, closed_terms, numbered}
 use Rattle.sc_footprint.specs.Shelves.{shelf, is_of_kind, has_key_like, key_of}
-use Rattle.sc_rules.specs.Entities.{are_attributes_of}
 use Rattle.sc_rules.specs.Terms.{above}
-use Rattle.sc_instances.specs.Attributes.{attributes_of}
 use Rattle.sc_instances.specs.Lookups.{IsClosedFound, IsFoundAmong, IsNumberAmong, is_above}
 use Rattle.sc_instances.proofs.LiteralLaws.{not_in_table}
 
@@ -62,16 +60,6 @@ sort_itself e = (sort_eq_decides (tree_sort e) (tree_sort e)).1 refl
 
 same_sort : (e f : Tree) → tree_eq e f ≡ true → one_sort f e ≡ true
 same_sort e f h = subst (λ (g : Tree). one_sort g e ≡ true) (tree_eq-exact e f h) (sort_itself e)
-
-attributes_keyed : (p : Posed) (e t : Tree) → are_attributes_of e t ≡ true → (is_of_kind (closed_terms p) kind.Attributes t && has_key_like e (key_of kind.Attributes t)) ≡ true
-attributes_keyed p e (one (unary.Attributes k) f) h = same_sort e f h
-attributes_keyed p e _ h = absurd cc
-
-pub attributes_shelved : (p : Posed) (e : Tree) (ns : List ℕ) (found : Option ℕ) → map (tree p.nodes) ns ≡ shelf p kind.Attributes e → IsNumberAmong p.nodes (find (are_attributes_of e) (map (tree p.nodes) ns)) found
-    → IsFoundAmong p (attributes_of p e) found
-attributes_shelved p e ns found are h =
-    subst (λ (o : Option Tree). IsNumberAmong p.nodes o found)
-    (ap (find (are_attributes_of e)) are ∙ find_kept (are_attributes_of e) (λ t. is_of_kind (closed_terms p) kind.Attributes t && has_key_like e (key_of kind.Attributes t)) (attributes_keyed p e) (closed_terms p)) h
 
 above_keyed : (p : Posed) (k : Sort) (e t : Tree) → is_above k e t ≡ true → (is_of_kind (closed_terms p) kind.Ancestors t && has_key_like e (key_of kind.Ancestors t)) ≡ true
 above_keyed p k e (one (unary.Ancestors l) f) h = same_sort e f (and_parts (sorts.eq k l) (tree_eq e f) h).1

@@ -18,7 +18,6 @@ use Rattle.sc_instances.specs.declared.rule.SetRule.TheVariants.{Se1, Se2, Se3, 
 use Rattle.sc_instances.specs.declared.rule.EntityRule.{EntityRule}
 use Rattle.sc_instances.specs.declared.rule.EntityRule.TheVariants.{En1, En2, En3, En4, En5, En6, En7, En8}
 use Rattle.sc_rules.specs.Signed.{Said, Holds}
-use Rattle.sc_instances.specs.Attributes.{attributes_of, en1_of}
 use Rattle.sc_instances.specs.Names.{equal_rule, set_rule, entity_rule}
 use Rattle.sc_instances.specs.Instances.{on_one, on_two, on_three, on_four, equal_said, set_said, entity_said, equal_of, set_of, entity_of, said_by}
 use Rattle.sc_rules.proofs.EqualSound.{eq1_holds, eq2_holds, eq5_holds, eq6_holds, eq8_holds}
@@ -86,15 +85,10 @@ module _ (laws : TermsHold) (p : Posed) (w : World) (posed : IsPosed p) (formed 
   set_holds (Se7 s t x) = three_hold w (term_of p s) (term_of p t) (term_of p x) _ (se7_holds w)
   set_holds (Se8 s t i) = two_hold w (term_of p s) (term_of p t) _ (λ u v e f. se8_true p.schema p.env p.literals w posed.lawful formed u v i (closed_term s u e) (closed_term t v f))
 
-  attributes_hold : (e f : Tree) (o q : Option Tree) → Holds w (en1_of e f o q)
-  attributes_hold e f (Some a) (Some b) = en1_holds w e f a b
-  attributes_hold e f (Some a) None = tt
-  attributes_hold e f None q = tt
-
   entity_holds : (rule : EntityRule) → Holds w (entity_said p rule)
-  entity_holds (En1 e f) = two_hold w (term_of p e) (term_of p f) _ (λ t u i j. attributes_hold t u (attributes_of p t) (attributes_of p u))
+  entity_holds (En1 x y i) = two_hold w (term_of p x) (term_of p y) _ (λ t u e f. en1_holds w t u i (term_of p i))
   entity_holds (En2 x s z) = three_hold w (term_of p x) (term_of p s) (term_of p z) _ (en2_holds w)
-  entity_holds (En3 a b) = two_hold w (term_of p a) (term_of p b) _ (λ t u i j. en3_holds w t u)
+  entity_holds (En3 x y i) = two_hold w (term_of p x) (term_of p y) _ (λ t u e f. en3_holds w t u i (term_of p i))
   entity_holds (En4 e) = one_holds w (term_of p e) _ (λ t i. en4_true p.schema p.env p.literals w posed.lawful formed t)
   entity_holds (En5 e f x u) = four_hold w (term_of p e) (term_of p f) (term_of p x) (term_of p u) _ (en5_true p.schema p.env p.literals w posed.lawful formed)
   entity_holds (En6 a) = one_holds w (term_of p a) _ (λ t i. en6_true p.schema p.env p.literals w posed.lawful formed t (closed_term a t i))

@@ -1,5 +1,5 @@
 pub mod Clauses
-pub mod Attributes
+pub mod EntityLiterals
 pub mod Names
 pub mod Instances
 pub mod Known

@@ -18,11 +18,11 @@ pub use given::{Closed, both, closed_of};
 pub use known::known_literal;
 pub use laws::rule_laws;
 pub use literals::{
-    FALSE, NOWHERE, TRUE, common, equal, find, literal_if, member, negated_if, present, subset,
+    FALSE, NOWHERE, TRUE, bit, common, equal, find, literal_if, member, negated_if, present, subset,
 };
 pub use parts::{
-    above, asked_at, attributes, closed_at, entity, field_count, is_one_sort, is_sort_named,
-    is_sort_option, is_sort_set, keys, members,
+    above, asked_at, closed_at, entity, field_count, is_one_sort, is_sort_named, is_sort_option,
+    is_sort_set, keys, members,
 };
 pub use rule::{EntityRule, EqualRule, SetRule};
 pub use saying::{Saying, clause_of, is_falsified, is_instance};

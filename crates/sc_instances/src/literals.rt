@@ -5,7 +5,7 @@ ghost use Rattle.sc_clauses.specs.Clauses.{positive, negation as negated};
 ghost use Rattle.sc_footprint.specs.Problems.{literal_in};
 ghost use Rattle.sc_terms.specs.Finding.{IsFound};
 ghost use Rattle.sc_terms.specs.Tables.{tree, node_tree, PartsAreBelow};
-ghost use Rattle.sc_terms.specs.Folds.{equal_term, other_equal, equation as equation_of, literals_same, literal_of, absent, present_term};
+ghost use Rattle.sc_terms.specs.Folds.{equal_term, other_equal, equation as equation_of, literals_same, literal_of, absent, present_term, bit_term};
 ghost use Rattle.sc_terms.specs.Order.{tree_eq, tree_cmp};
 ghost use Rattle.std.specs.Ordering.{is_gt};
 ghost use Rattle.sc_terms.specs.Trees.{two};
@@ -188,4 +188,14 @@ pub fn present(problem: &Problem<'_>, option: u64) -> Lit
         return of_truth(false);
     }
     literal_if(problem, find(problem, Node::One(UnaryOp::Present, option)))
+}
+
+/// The literal of a bit of a term that is no literal.
+pub fn bit(problem: &Problem<'_>, n: u64, place: u64) -> Lit
+    requires within { n < length problem.now.nodes }
+    requires other { literal_of (tree problem.now.nodes n) ≡ None }
+    ensures { result ≡ literal_in problem.now (bit_term (tree problem.now.nodes n) place) }
+{
+    problem.laws();
+    literal_if(problem, find(problem, Node::One(UnaryOp::Bit(place), n)))
 }

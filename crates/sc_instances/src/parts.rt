@@ -4,10 +4,9 @@ ghost use Rattle.std.specs.List.{AllByRecursion};
 ghost use Rattle.std.specs.Option.{option_copied};
 ghost use Rattle.sc_footprint.specs.Problems.{closed_terms, numbered, term_of};
 ghost use Rattle.sc_terms.specs.Tables.{tree};
-ghost use Rattle.sc_instances.specs.Attributes.{attributes_of, is_entity_literal};
+ghost use Rattle.sc_instances.specs.EntityLiterals.{is_entity_literal};
 ghost use Rattle.sc_instances.specs.Lookups.{IsClosedFound, IsFoundAmong, IsMembers, IsNumberAmong, is_above as above_test};
 ghost use Rattle.sc_rules.specs.Strings.{asked_of};
-ghost use Rattle.sc_rules.specs.Entities.{are_attributes_of as attributes_test};
 ghost use Rattle.sc_rules.specs.Terms as term;
 
 use crate::literals::find as find_number;
@@ -76,42 +75,6 @@ pub fn members<'a>(problem: &'a Problem<'_>, n: u64) -> Option<&'a [(Text, u64)]
 }
 
 // ---- entities
-
-fn is_attributes_of(problem: &Problem<'_>, entity: u64, n: u64) -> bool
-    requires entity_in { entity < length problem.now.nodes }
-    requires n_in { n < length problem.now.nodes }
-    ensures { result ≡ attributes_test (tree problem.now.nodes entity) (tree problem.now.nodes n) }
-{
-    match problem.terms().node(n) {
-        Node::One(UnaryOp::Attributes(_), of) => problem.terms().is_same(entity, *of),
-        _ => false,
-    }
-}
-
-/// The first of some terms that is an entity's attributes.
-fn attributes_among(problem: &Problem<'_>, entity: u64, terms: &[u64]) -> Option<u64>
-    requires entity_in { entity < length problem.now.nodes }
-    requires terms_in { AllByRecursion (λ t. t < length problem.now.nodes) terms.now }
-    ensures { IsNumberAmong problem.now.nodes (find (attributes_test (tree problem.now.nodes entity))
-        (map (tree problem.now.nodes) terms.now)) result }
-{
-    let mut rest = terms;
-    while let Some((n, later)) = rest.split_first() {
-        if is_attributes_of(problem, entity, *n) {
-            return Some(*n);
-        }
-        rest = later;
-    }
-    None
-}
-
-/// The closed term that is an entity's attributes.
-pub fn attributes(problem: &Problem<'_>, entity: u64) -> Option<u64>
-    requires { entity < length problem.now.nodes }
-    ensures { IsFoundAmong problem.now (attributes_of problem.now (tree problem.now.nodes entity)) result }
-{
-    attributes_among(problem, entity, problem.shelf(Kind::Attributes, entity))
-}
 
 fn is_above(problem: &Problem<'_>, sort: &Sort, entity: u64, n: u64) -> bool
     requires entity_in { entity < length problem.now.nodes }

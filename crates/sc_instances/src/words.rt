@@ -172,12 +172,22 @@ fn entity_one(rule: &str, a: u64) -> Option<EntityRule>
 fn entity_two(rule: &str, a: u64, b: u64) -> Option<EntityRule>
     ensures { result ≡ names.entity_two rule.now a b }
 {
-    if equals(rule, "EN1") {
-        Some(EntityRule::En1(a, b))
-    } else if equals(rule, "EN3") {
-        Some(EntityRule::En3(a, b))
-    } else if equals(rule, "EN7") {
+    if equals(rule, "EN7") {
         Some(EntityRule::En7(a, b))
+    } else {
+        None
+    }
+}
+
+fn entity_three(rule: &str, a: u64, b: u64, c: u64) -> Option<EntityRule>
+    ensures { result ≡ names.entity_three rule.now a b c }
+{
+    if equals(rule, "EN1") {
+        Some(EntityRule::En1(a, b, c))
+    } else if equals(rule, "EN2") {
+        Some(EntityRule::En2(a, b, c))
+    } else if equals(rule, "EN3") {
+        Some(EntityRule::En3(a, b, c))
     } else {
         None
     }
@@ -191,13 +201,7 @@ pub fn entity_rule(instance: &Instance) -> Option<EntityRule>
     match numbers_in(instance.words.as_slice()) {
         Numbers::One(a) => entity_one(rule, a),
         Numbers::Two(a, b) => entity_two(rule, a, b),
-        Numbers::Three(a, b, c) => {
-            if equals(rule, "EN2") {
-                Some(EntityRule::En2(a, b, c))
-            } else {
-                None
-            }
-        }
+        Numbers::Three(a, b, c) => entity_three(rule, a, b, c),
         Numbers::Four(a, b, c, d) => {
             if equals(rule, "EN5") {
                 Some(EntityRule::En5(a, b, c, d))

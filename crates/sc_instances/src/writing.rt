@@ -86,9 +86,9 @@ pub fn write_entity(alloc: Global, rule: EntityRule) -> Result<Instance, AllocEr
     ensures { IfOk result (λ i. names.entity_rule i ≡ Some rule) }
 {
     match rule {
-        EntityRule::En1(e, f) => numbered(alloc, "EN1", &[e, f]),
+        EntityRule::En1(x, y, i) => numbered(alloc, "EN1", &[x, y, i]),
         EntityRule::En2(x, s, z) => numbered(alloc, "EN2", &[x, s, z]),
-        EntityRule::En3(a, b) => numbered(alloc, "EN3", &[a, b]),
+        EntityRule::En3(x, y, i) => numbered(alloc, "EN3", &[x, y, i]),
         EntityRule::En4(e) => numbered(alloc, "EN4", &[e]),
         EntityRule::En5(e, f, x, u) => numbered(alloc, "EN5", &[e, f, x, u]),
         EntityRule::En6(a) => numbered(alloc, "EN6", &[a]),

@@ -1,6 +1,6 @@
 use Rattle.std.proofs.Common.{◌∙◌, Option, Some, refl, sym, subst}
 use Rattle.sc_terms.specs.Trees.{Tree}
-use Rattle.sc_instances.specs.Attributes.{is_entity_literal}
+use Rattle.sc_instances.specs.EntityLiterals.{is_entity_literal}
 use Rattle.sc_instances.specs.Lookups.{IsNumberAmong}
 use Rattle.sc_instances.proofs.PartLaws.{found_here, found_later}
 use Rattle.sc_instances.proofs.parts.entity.Goals as goal

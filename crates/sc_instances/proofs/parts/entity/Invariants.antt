@@ -1,7 +1,7 @@
 use Rattle.std.proofs.Common.{◌≡◌, map, find, drop}
 use Rattle.sc_terms.specs.Tables.{tree}
 use Rattle.sc_footprint.specs.Problems.{closed_terms}
-use Rattle.sc_instances.specs.Attributes.{is_entity_literal}
+use Rattle.sc_instances.specs.EntityLiterals.{is_entity_literal}
 use Rattle.sc_instances.proofs.parts.entity.Given as goal
 
 abbrev pub invariant-loop-place : goal.invariant-loop-place
