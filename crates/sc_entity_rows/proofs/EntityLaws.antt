@@ -28,7 +28,7 @@ use Rattle.sc_term_laws.specs.Judging as judged
 use Rattle.sc_footprint.specs.Problems.{Posed, IsPosed, closed_terms, literal, literal_in}
 use Rattle.sc_footprint.specs.Theories.{TermsHold}
 use Rattle.sc_footprint.proofs.ProblemLaws.{term_judged}
-use Rattle.sc_instances.specs.Attributes.{is_entity_literal}
+use Rattle.sc_instances.specs.EntityLiterals.{is_entity_literal}
 use Rattle.sc_instances.specs.Lookups.{IsFoundAmong, IsNumberAmong}
 use Rattle.sc_instances.proofs.PartLaws.{find_none}
 use Rattle.sc_rules.specs.Terms.{entity}

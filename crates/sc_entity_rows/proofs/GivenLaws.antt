@@ -1,57 +1,70 @@
 -- What an instance says at closed terms that are given by their numbers.
-use Rattle.std.proofs.Common.{◌≡◌, ◌<◌, ℕ, length, Option, Some, None, IsSomeAnd, refl, sym, ap, ◌∙◌, subst}
+use Rattle.std.proofs.Common.{◌≡◌, ◌<◌, ◌++◌, ℕ, true, List, [], ◌∷◌, Option, Some, None, IsSomeAnd, refl, sym, ap, ◌∙◌, subst}
 use Rattle.sc_clauses.specs.declared.lit.Lit.{Lit}
 use Rattle.sc_clauses.specs.Clauses.{positive}
-use Rattle.sc_terms.specs.Trees.{Tree}
-use Rattle.sc_footprint.specs.Problems.{Posed}
+use Rattle.sc_footprint.specs.Problems.{Posed, term_of}
 use Rattle.sc_instances.proofs.GivenLaws.{two_given}
 use Rattle.sc_instances.specs.Clauses.{said_clause}
-use Rattle.sc_instances.specs.Attributes.{attributes_of, en1_of}
 use Rattle.sc_instances.specs.Given.{IsGiven, term_at}
 use Rattle.sc_instances.specs.Instances.{entity_said}
-use Rattle.sc_instances.specs.Lookups.{IsFoundAmong, IsNumberAmong}
-use Rattle.sc_instances.specs.declared.rule.EntityRule.TheVariants.{En1}
-use Rattle.sc_instances.specs.Saying.{count_of, literal_of}
-use Rattle.sc_rules.specs.Signed.{Said}
 use Rattle.sc_instances.specs.declared.given.Closed.{Closed}
+use Rattle.sc_instances.specs.declared.rule.EntityRule.TheVariants.{En1, En3}
+use Rattle.sc_instances.specs.Saying.{count_of, literal_of}
+use Rattle.sc_rules.specs.Entities.{en1, en1_of, en3, en3_of}
+use Rattle.sc_rules.specs.Places.{half, under}
+use Rattle.sc_rules.specs.Signed.{Signed, Said}
+use Rattle.sc_entity_rows.specs.declared.alike.Alike.{Alike}
+use Rattle.sc_entity_rows.specs.declared.places.Pair.{Pair}
+use Rattle.sc_entity_rows.specs.declared.places.TagPairs.{TagPairs}
 use Rattle.sc_entity_rows.specs.declared.row.Row.{Row}
-use Rattle.sc_terms.specs.Tables.{tree}
-use Rattle.sc_entity_rows.specs.declared.row.Row.TheVariants.{Attributes}
-use Rattle.sc_entity_rows.specs.Rows.{AreAttributes, AreAttributesIf, IsRow, row_said}
+use Rattle.sc_entity_rows.specs.declared.row.Row.TheVariants.{Attributes, Tags}
+use Rattle.sc_entity_rows.specs.Alike.{IsAlike, IsAlikeIf}
+use Rattle.sc_entity_rows.specs.Roots.{AreEntities, AreEntitiesIf, AreTags, AreTagsIf, unless_equal}
+use Rattle.sc_entity_rows.specs.Rows.{IsRow, row_said}
 
 module _ (p : Posed) where
-  -- ---- attributes
+  -- ---- like places
 
-  found_is : (o : Option Tree) (n : ℕ) → IsNumberAmong p.nodes o (Some n) → (n < length p.nodes) × (o ≡ Some (tree p.nodes n))
-  found_is (Some t) n h = (h.within, ap Some (sym h.is))
-  found_is None n h = absurd h
+  under_guard : (guard : List Signed) (said : Said) (parts : List Signed) → said ≡ Some parts → under true guard said ≡ Some (guard ++ parts)
+  under_guard guard said parts e = ap (under true guard) e
 
-  found_none : (o : Option Tree) → IsNumberAmong p.nodes o None → o ≡ None
-  found_none (Some t) h = absurd h
-  found_none None h = refl
+  under_nothing : (guard : List Signed) (said : Said) → said ≡ None → under true guard said ≡ None
+  under_nothing guard said e = ap (under true guard) e
 
-  pub attributes_none : (x y : Tree) → IsFoundAmong p (attributes_of p x) None → en1_of x y (attributes_of p x) (attributes_of p y) ≡ None
-  attributes_none x y h = ap (λ (o : Option Tree). en1_of x y o (attributes_of p y)) (found_none (attributes_of p x) h)
+  module _ (x y i : ℕ) (a b : Closed) (g : IsGiven p x a) (h : IsGiven p y b) where
+    pub attributes_row : (q : Pair) (like : Alike) → AreEntities p a.term b.term q → IsAlike p a.term b.term i like → IsRow p (entity_said p (En1 x y i)) (Attributes q like)
+    attributes_row q like are is = record {
+      closed = (are.inside, is.inside);
+      is = two_given p x y a b (λ t u. en1 t u i (term_of p i)) g h
+          ∙ are.says (half (term_at p a) (term_at p b) i (term_of p i))
+          ∙ under_guard (unless_equal p q ∷ []) (half (term_at p a) (term_at p b) i (term_of p i)) _ is.says;
+    }
 
-  pub others_none : (x y : Tree) (a : ℕ) → IsFoundAmong p (attributes_of p x) (Some a) → IsFoundAmong p (attributes_of p y) None → en1_of x y (attributes_of p x) (attributes_of p y) ≡ None
-  others_none x y a h k = rw ((found_is (attributes_of p x) a h).1, found_none (attributes_of p y) k) refl
+    pub no_entities : AreEntitiesIf p a.term b.term None → entity_said p (En1 x y i) ≡ None
+    no_entities none = two_given p x y a b (λ t u. en1 t u i (term_of p i)) g h ∙ none (half (term_at p a) (term_at p b) i (term_of p i))
 
-  pub attributes_found : (x y : Tree) (a b : ℕ) → IsFoundAmong p (attributes_of p x) (Some a) → IsFoundAmong p (attributes_of p y) (Some b) → AreAttributes p x y a b
-  attributes_found x y a b h k =
-      let first = found_is (attributes_of p x) a h in
-      let second = found_is (attributes_of p y) b k in
-      record { first_in = first.0; second_in = second.0; first = first.1; second = second.1 }
+    pub attributes_unlike : (q : Pair) → AreEntities p a.term b.term q → IsAlikeIf p a.term b.term i None → entity_said p (En1 x y i) ≡ None
+    attributes_unlike q are none =
+        two_given p x y a b (λ t u. en1 t u i (term_of p i)) g h
+        ∙ are.says (half (term_at p a) (term_at p b) i (term_of p i))
+        ∙ under_nothing (unless_equal p q ∷ []) (half (term_at p a) (term_at p b) i (term_of p i)) none
 
-  pub attributes_row : (e f : ℕ) (x y : Closed) (a b : ℕ) → IsGiven p e x → IsGiven p f y → AreAttributes p (term_at p x) (term_at p y) a b → IsRow p (entity_said p (En1 e f)) (Attributes x y a b)
-  attributes_row e f x y a b g h are = record {
-    closed = (g.closed, h.closed, are);
-    is = two_given p e f x y (λ t u. en1_of t u (attributes_of p t) (attributes_of p u)) g h
-        ∙ ap (λ (o : Option Tree). en1_of (term_at p x) (term_at p y) o (attributes_of p (term_at p y))) are.first
-        ∙ ap (λ (o : Option Tree). en1_of (term_at p x) (term_at p y) (Some (tree p.nodes a)) o) are.second;
-  }
+    pub tags_row : (q : TagPairs) (like : Alike) → AreTags p a.term b.term q → IsAlike p a.term b.term i like → IsRow p (entity_said p (En3 x y i)) (Tags q like)
+    tags_row q like are is = record {
+      closed = (are.entities_in, are.keys_in, is.inside);
+      is = two_given p x y a b (λ t u. en3 t u i (term_of p i)) g h
+          ∙ are.says (half (term_at p a) (term_at p b) i (term_of p i))
+          ∙ under_guard (unless_equal p q.entities ∷ unless_equal p q.keys ∷ []) (half (term_at p a) (term_at p b) i (term_of p i)) _ is.says;
+    }
 
-  pub attributes_no_row : (e f : ℕ) (x y : Closed) → IsGiven p e x → IsGiven p f y → AreAttributesIf p (term_at p x) (term_at p y) None → entity_said p (En1 e f) ≡ None
-  attributes_no_row e f x y g h none = two_given p e f x y (λ t u. en1_of t u (attributes_of p t) (attributes_of p u)) g h ∙ none
+    pub no_tags : AreTagsIf p a.term b.term None → entity_said p (En3 x y i) ≡ None
+    no_tags none = two_given p x y a b (λ t u. en3 t u i (term_of p i)) g h ∙ none (half (term_at p a) (term_at p b) i (term_of p i))
+
+    pub tags_unlike : (q : TagPairs) → AreTags p a.term b.term q → IsAlikeIf p a.term b.term i None → entity_said p (En3 x y i) ≡ None
+    tags_unlike q are none =
+        two_given p x y a b (λ t u. en3 t u i (term_of p i)) g h
+        ∙ are.says (half (term_at p a) (term_at p b) i (term_of p i))
+        ∙ under_nothing (unless_equal p q.entities ∷ unless_equal p q.keys ∷ []) (half (term_at p a) (term_at p b) i (term_of p i)) none
 
   -- ---- counts and literals
 

@@ -1,3 +1,5 @@
+mod AlikeLaws
+mod PlaceLaws
 mod GivenLaws
 mod RowLaws
 mod AbsentLaws

@@ -11,16 +11,14 @@ use Rattle.sc_nodes.specs.declared.node.UnaryOp.TheVariants as unary
 use Rattle.sc_nodes.specs.declared.node.BinaryOp.TheVariants as binary
 use Rattle.sc_terms.specs.Trees.{Tree, leaf, one, two, choice, many}
 use Rattle.sc_terms.specs.TreeSorts.{tree_sort}
-use Rattle.sc_terms.specs.Tables.{tree}
 use Rattle.sc_terms.specs.Folds.{equal_term, default_term}
-use Rattle.sc_footprint.specs.Problems.{Posed, literal_in, closed_terms}
+use Rattle.sc_footprint.specs.Problems.{Posed, literal_in}
 use Rattle.sc_instances.specs.Clauses.{literal_for, clause_for, said_clause}
 use Rattle.sc_instances.specs.Saying.{count_of, literal_of}
 use Rattle.sc_rules.specs.Signed.{Signed, Said, so, unless, given}
-use Rattle.sc_rules.specs.Entities.{are_attributes_of, en1, en2, en3, en4, en5, en6, en7, en7_by, en8}
-use Rattle.sc_rules.specs.Terms.{above, choices_in, entity, keys, member, one_sort}
-use Rattle.sc_entity_rows.specs.Rows.{AreAttributes, are_ancestors_of, are_same_sets, are_tags, above_name, declared_above, is_tag, moved, owner, tag_entity, tag_key}
-use Rattle.sc_entity_rows.proofs.EntityLaws.{found_passes}
+use Rattle.sc_rules.specs.Entities.{en2, en4, en5, en6, en7, en7_by, en8}
+use Rattle.sc_rules.specs.Terms.{above, choices_in, entity, keys, member}
+use Rattle.sc_entity_rows.specs.Rows.{are_ancestors_of, are_same_sets, above_name, declared_above, is_tag, moved, owner, tag_entity, tag_key}
 
 -- ---- what each rule says, whatever the terms are
 
@@ -35,11 +33,6 @@ sets_said x (two o a b) z = refl
 sets_said x (choice c a b) z = refl
 sets_said x (many o ts) z = refl
 
-pub tags_said : (x y : Tree) → en3 x y ≡ given (are_tags x y) (unless (equal_term (tag_entity x) (tag_entity y)) ∷ unless (equal_term (tag_key x) (tag_key y)) ∷ so (equal_term x y) ∷ [])
-tags_said (two (binary.Tag s) e k) (two (binary.Tag t) f l) = refl
-tags_said (two (binary.Tag s) e k) _ = refl
-tags_said _ y = refl
-
 pub through_said : (e f x u : Tree) → en5 e f x u ≡ given (are_ancestors_of f u) (unless (member f (above (tree_sort f) e)) ∷ unless (member x u) ∷ so (member x (moved u e)) ∷ [])
 through_said e f x (one (unary.Ancestors k) g) = refl
 through_said e f x _ = refl
@@ -48,11 +41,6 @@ pub lacking_said : (a : Tree) → en6 a ≡ given (is_tag a) (so (member (tag_ke
 unfolding tree_sort
 lacking_said (two (binary.Tag s) e k) = refl
 lacking_said _ = refl
-
-pub attributes_said : (p : Posed) (x y : Tree) (a b : ℕ) → AreAttributes p x y a b
-    → en1 x y (tree p.nodes a) (tree p.nodes b) ≡ given (one_sort (tree p.nodes a) (tree p.nodes b)) (unless (equal_term x y) ∷ so (equal_term (tree p.nodes a) (tree p.nodes b)) ∷ [])
-attributes_said p x y a b h =
-    rw ((found_passes (are_attributes_of x) (closed_terms p) (tree p.nodes a) h.first).1, (found_passes (are_attributes_of y) (closed_terms p) (tree p.nodes b) h.second).1) refl
 
 pub declared_said : (d : Declarations) (s x : Tree) → en7 d s x ≡ en7_by d s (above_name s) (declared_above d s) x
 declared_said d (one (unary.Ancestors k) (leaf (Literal (literal.Entity u choices)))) x = refl

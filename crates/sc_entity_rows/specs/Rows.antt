@@ -1,5 +1,5 @@
 -- Instances at closed terms, and what they say whatever the terms are. No public promise speaks of it.
-use Rattle.std.specs.Prelude.{◌≡◌, ◌<◌, ℕ, Bool, true, false, List, [], length, Option, Some, None, if◌then◌else◌}
+use Rattle.std.specs.Prelude.{◌≡◌, ◌<◌, ℕ, Bool, true, false, List, [], ◌∷◌, length, Option, Some, None, if◌then◌else◌}
 use Rattle.std.specs.Ordering.{is_eq}
 use Rattle.sc_names.specs.declared.uid.Uid.{Uid}
 use Rattle.sc_names.specs.Uids.{uid_cmp}
@@ -8,7 +8,6 @@ use Rattle.sc_clauses.specs.Clauses.{positive, negation}
 use Rattle.sc_schema.specs.Declarations.{Declarations, action_ancestors}
 use Rattle.sc_sorts.specs.declared.sort.Sort.{Sort, Sort-F, out-Sort}
 use Rattle.sc_sorts.specs.declared.sort.Sort.TheOpen as s
-use Rattle.sc_sorts.specs.contracts.sort.SortPartialEq.TheImpl.{ghosts as sorts}
 use Rattle.sc_sorts.specs.Inside.{name_in}
 use Rattle.sc_definitions.specs.Definitions.{bits_in}
 use Rattle.sc_nodes.specs.declared.node.Leaf.TheVariants.{Literal}
@@ -20,31 +19,32 @@ use Rattle.sc_terms.specs.Trees.{Tree, leaf, one, two}
 use Rattle.sc_terms.specs.Tables.{tree}
 use Rattle.sc_terms.specs.Order.{tree_eq}
 use Rattle.sc_footprint.specs.Problems.{Posed}
-use Rattle.sc_instances.specs.Attributes.{attributes_of, en1_of}
 use Rattle.sc_instances.specs.Given.{IsClosed, term_at}
-use Rattle.sc_rules.specs.Entities.{en1, en2, en3, en4, en5, en6, en7, en8, same_sets}
+use Rattle.sc_rules.specs.Entities.{en2, en4, en5, en6, en7, en8, same_sets}
 use Rattle.sc_rules.specs.Signed.{Said}
 use Rattle.sc_rules.specs.Terms.{above}
+use Rattle.sc_entity_rows.specs.Alike.{IsAlikeIn, alike_parts}
+use Rattle.sc_entity_rows.specs.Roots.{IsPairIn, unless_equal}
+use Rattle.sc_entity_rows.specs.declared.alike.Alike.{Alike}
+use Rattle.sc_entity_rows.specs.declared.places.Pair.{Pair}
+use Rattle.sc_entity_rows.specs.declared.places.TagPairs.{TagPairs}
 use Rattle.sc_entity_rows.specs.declared.row.Row.{Row}
 use Rattle.sc_entity_rows.specs.declared.row.Row.TheVariants.{Attributes, Sets, Tags, Own, Through, Lacking, Declared, Chosen}
 
--- the closed attributes of two entities, by their numbers in the table
-pub record AreAttributes (p : Posed) (x y : Tree) (a b : ℕ) : Type 0 where
-  pub first_in : a < length p.nodes
-  pub second_in : b < length p.nodes
-  pub first : attributes_of p x ≡ Some (tree p.nodes a)
-  pub second : attributes_of p y ≡ Some (tree p.nodes b)
-
-abbrev pub AreAttributesIf : Posed → Tree → Tree → Option (ℕ × ℕ) → Type 0
-AreAttributesIf p x y (Some (a, b)) = AreAttributes p x y a b
-AreAttributesIf p x y None = en1_of x y (attributes_of p x) (attributes_of p y) ≡ None
-
 -- ---- instances
 
+-- like places of the attributes of equal entities are alike
+abbrev pub attributes_said : Posed → Pair → Alike → Said
+attributes_said p q a = Some (unless_equal p q ∷ alike_parts p a)
+
+-- like places of the tags of equal entities under equal keys are alike
+abbrev pub tags_said : Posed → TagPairs → Alike → Said
+tags_said p q a = Some (unless_equal p q.entities ∷ unless_equal p q.keys ∷ alike_parts p a)
+
 abbrev pub row_said : Posed → Row → Said
-row_said p (Attributes x y a b) = en1 (term_at p x) (term_at p y) (tree p.nodes a) (tree p.nodes b)
+row_said p (Attributes q a) = attributes_said p q a
 row_said p (Sets x s z) = en2 (term_at p x) (term_at p s) (term_at p z)
-row_said p (Tags a b) = en3 (term_at p a) (term_at p b)
+row_said p (Tags q a) = tags_said p q a
 row_said p (Own e) = en4 (term_at p e)
 row_said p (Through e f x u) = en5 (term_at p e) (term_at p f) (term_at p x) (term_at p u)
 row_said p (Lacking a) = en6 (term_at p a)
@@ -52,9 +52,9 @@ row_said p (Declared s x) = en7 p.schema (term_at p s) (term_at p x)
 row_said p (Chosen x) = en8 p.schema (term_at p x)
 
 abbrev pub AreClosed : Posed → Row → Type 0
-AreClosed p (Attributes x y a b) = IsClosed p x × IsClosed p y × AreAttributes p (term_at p x) (term_at p y) a b
+AreClosed p (Attributes q a) = IsPairIn p q × IsAlikeIn p a
 AreClosed p (Sets x s z) = IsClosed p x × IsClosed p s × IsClosed p z
-AreClosed p (Tags a b) = IsClosed p a × IsClosed p b
+AreClosed p (Tags q a) = IsPairIn p q.entities × IsPairIn p q.keys × IsAlikeIn p a
 AreClosed p (Own e) = IsClosed p e
 AreClosed p (Through e f x u) = IsClosed p e × IsClosed p f × IsClosed p x × IsClosed p u
 AreClosed p (Lacking a) = IsClosed p a
@@ -86,11 +86,6 @@ are_same_sets _ _ = false
 abbrev pub owner : Tree → Tree
 owner (one o e) = e
 owner t = t
-
--- two tags of one sort
-abbrev pub are_tags : Tree → Tree → Bool
-are_tags (two (binary.Tag s) e k) (two (binary.Tag t) f l) = sorts.eq s t
-are_tags _ _ = false
 
 abbrev pub is_tag : Tree → Bool
 is_tag (two (binary.Tag s) e k) = true

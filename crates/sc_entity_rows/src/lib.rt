@@ -3,10 +3,13 @@
 //! it.
 #![tactic(auto)]
 
+mod alike;
 mod declared;
+mod places;
 mod row;
 mod rows;
 mod said;
 mod stored;
 
+pub use places::roots;
 pub use said::Said;

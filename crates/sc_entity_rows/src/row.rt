@@ -1,14 +1,16 @@
 //! Instances at closed terms.
 
+use crate::alike::Alike;
+use crate::places::{Pair, TagPairs};
 use sc_instances::Closed;
 
-/// An instance of a rule on entities, by its closed terms. Attributes stand by their numbers in the
-/// table beside their entities.
+/// An instance of a rule on entities, by its closed terms. Those of like places have what the places
+/// are of, too.
 #[derive(Clone, Copy, Debug)]
 pub(crate) enum Row {
-    Attributes(Closed, Closed, u64, u64),
+    Attributes(Pair, Alike),
     Sets(Closed, Closed, Closed),
-    Tags(Closed, Closed),
+    Tags(TagPairs, Alike),
     Own(Closed),
     Through(Closed, Closed, Closed, Closed),
     Lacking(Closed),

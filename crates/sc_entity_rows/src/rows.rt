@@ -2,26 +2,30 @@
 ghost use Rattle.std.specs.Prelude.{◌≡◌, ◌<◌, ◌+◌, ◌^◌, ◌==◌, length, not, Some, None, IsSomeAnd, true, if◌then◌else◌};
 ghost use Rattle.sc_instances.specs.Saying.{count_of, literal_of};
 ghost use Rattle.sc_footprint.specs.Problems.{literal_in};
-ghost use Rattle.sc_rules.specs.Entities.{en1, en2, en3, en4, en5, en6, en7, en8};
+ghost use Rattle.sc_rules.specs.Entities.{en2, en4, en5, en6, en7, en8};
 ghost use Rattle.sc_terms.specs.Tables.{tree};
 ghost use Rattle.sc_terms.specs.TreeSorts.{tree_sort};
 ghost use Rattle.sc_sorts.specs.declared.sort.Sort.{out-Sort};
 ghost use Rattle.sc_terms.specs.Folds.{default_term, equal_term};
 ghost use Rattle.sc_instances.specs.Given.{IsClosed, term_at};
-ghost use Rattle.sc_entity_rows.specs.Rows.{AreAttributes, AreClosed, inner_level, is_tag as tag_test, row_said};
+ghost use Rattle.sc_entity_rows.specs.Alike.{IsAlikeIn};
+ghost use Rattle.sc_entity_rows.specs.Roots.{IsPairIn};
+ghost use Rattle.sc_entity_rows.specs.Rows.{AreClosed, attributes_said, inner_level, is_tag as tag_test, row_said, tags_said};
 
+use crate::alike::{Alike, alike_literal, half_count};
 use crate::declared::{
     above_name, choices_of, count_of_type, declared_above, entity_equal, is_one_of, of_type_at,
     uid_at,
 };
+use crate::places::{Pair, TagPairs};
 use crate::row::Row;
 use crate::stored::{
-    above_literal, are_ancestors_of, are_same_sets, are_tags, is_tag, key_literal, moved_literal,
-    owner, pair_equal, pair_member, tag_entity, tag_key,
+    above_literal, are_ancestors_of, are_same_sets, is_tag, key_literal, moved_literal, owner,
+    pair_equal, pair_member, tag_entity, tag_key,
 };
 use sc_clauses::Lit;
 use sc_footprint::Problem;
-use sc_instances::{Closed, NOWHERE, is_one_sort, negated_if};
+use sc_instances::{Closed, NOWHERE, negated_if};
 use sc_sorts::Sort;
 
 /// So many literals, where a test passes.
@@ -31,36 +35,34 @@ fn counted(test: bool, count: u128) -> Option<u128>
     if test { Some(count) } else { None }
 }
 
-// ---- EN1
+// ---- EN1 and EN3
 
-fn attributes_count(problem: &Problem<'_>, x: Closed, y: Closed, a: u64, b: u64) -> Option<u128>
-    requires { AreAttributes problem.now (term_at problem.now x) (term_at problem.now y) a b }
-    ensures { result ≡ count_of (en1 (term_at problem.now x) (term_at problem.now y) (tree problem.now.nodes a)
-        (tree problem.now.nodes b)) }
-{
-    counted(is_one_sort(problem, a, b), 2)
-}
-
-fn attributes_literal(
-    problem: &Problem<'_>,
-    x: Closed,
-    y: Closed,
-    a: u64,
-    b: u64,
-    place: u128,
-) -> Lit
-    requires x { IsClosed problem.now x }
-    requires y { IsClosed problem.now y }
-    requires attributes { AreAttributes problem.now (term_at problem.now x) (term_at problem.now y) a b }
-    requires place { IsSomeAnd (count_of (en1 (term_at problem.now x) (term_at problem.now y) (tree problem.now.nodes a)
-        (tree problem.now.nodes b))) (λ n. place < n) }
-    ensures { result ≡ literal_of problem.now (en1 (term_at problem.now x) (term_at problem.now y)
-        (tree problem.now.nodes a) (tree problem.now.nodes b)) place }
+fn attributes_literal(problem: &Problem<'_>, entities: Pair, alike: Alike, place: u128) -> Lit
+    requires entities { IsPairIn problem.now entities }
+    requires alike { IsAlikeIn problem.now alike }
+    requires place { IsSomeAnd (count_of (attributes_said problem.now entities alike)) (λ n. place < n) }
+    ensures { result ≡ literal_of problem.now (attributes_said problem.now entities alike) place }
 {
     if place == 0 {
-        return pair_equal(problem, x.term, y.term, false);
+        return pair_equal(problem, entities.first, entities.second, false);
     }
-    pair_equal(problem, a, b, true)
+    alike_literal(problem, alike, place - 1)
+}
+
+fn tags_literal(problem: &Problem<'_>, tags: TagPairs, alike: Alike, place: u128) -> Lit
+    requires entities { IsPairIn problem.now tags.entities }
+    requires keys { IsPairIn problem.now tags.keys }
+    requires alike { IsAlikeIn problem.now alike }
+    requires place { IsSomeAnd (count_of (tags_said problem.now tags alike)) (λ n. place < n) }
+    ensures { result ≡ literal_of problem.now (tags_said problem.now tags alike) place }
+{
+    if place == 0 {
+        return pair_equal(problem, tags.entities.first, tags.entities.second, false);
+    }
+    if place == 1 {
+        return pair_equal(problem, tags.keys.first, tags.keys.second, false);
+    }
+    alike_literal(problem, alike, place - 2)
 }
 
 // ---- EN2
@@ -91,35 +93,6 @@ fn sets_literal(problem: &Problem<'_>, x: Closed, s: Closed, z: Closed, place: u
         return pair_member(problem, x.term, s.term, false);
     }
     pair_member(problem, x.term, z.term, true)
-}
-
-// ---- EN3
-
-fn tags_count(problem: &Problem<'_>, a: Closed, b: Closed) -> Option<u128>
-    requires a { IsClosed problem.now a }
-    requires b { IsClosed problem.now b }
-    ensures { result ≡ count_of (en3 (term_at problem.now a) (term_at problem.now b)) }
-{
-    counted(are_tags(problem, a.term, b.term), 3)
-}
-
-fn tags_literal(problem: &Problem<'_>, a: Closed, b: Closed, place: u128) -> Lit
-    requires a { IsClosed problem.now a }
-    requires b { IsClosed problem.now b }
-    requires place { IsSomeAnd (count_of (en3 (term_at problem.now a) (term_at problem.now b))) (λ n. place < n) }
-    ensures { result ≡ literal_of problem.now (en3 (term_at problem.now a) (term_at problem.now b)) place }
-{
-    if place == 0 {
-        let e = tag_entity(problem, a.term);
-        let f = tag_entity(problem, b.term);
-        return pair_equal(problem, e, f, false);
-    }
-    if place == 1 {
-        let k = tag_key(problem, a.term);
-        let l = tag_key(problem, b.term);
-        return pair_equal(problem, k, l, false);
-    }
-    pair_equal(problem, a.term, b.term, true)
 }
 
 // ---- EN4 and EN5
@@ -291,14 +264,15 @@ fn chosen_literal(problem: &Problem<'_>, x: Closed, place: u128) -> Lit
 // ---- all rules
 
 /// How many literals an instance has. None exactly where it isn't of its rule's form.
+#[tactic(auto, using(crate::proofs::AlikeLaws::one_more, crate::proofs::AlikeLaws::two_more))]
 pub(crate) fn count(problem: &Problem<'_>, row: Row) -> Option<u128>
     requires { AreClosed problem.now row }
     ensures { result ≡ count_of (row_said problem.now row) }
 {
     match row {
-        Row::Attributes(x, y, a, b) => attributes_count(problem, x, y, a, b),
+        Row::Attributes(_, alike) => Some(half_count(alike.half) + 1),
         Row::Sets(x, s, z) => sets_count(problem, x, s, z),
-        Row::Tags(a, b) => tags_count(problem, a, b),
+        Row::Tags(_, alike) => Some(half_count(alike.half) + 2),
         Row::Own(_) => Some(1),
         Row::Through(e, f, x, u) => through_count(problem, e, f, x, u),
         Row::Lacking(a) => lacking_count(problem, a),
@@ -314,9 +288,9 @@ pub(crate) fn literal(problem: &Problem<'_>, row: Row, place: u128) -> Lit
     ensures { result ≡ literal_of problem.now (row_said problem.now row) place }
 {
     match row {
-        Row::Attributes(x, y, a, b) => attributes_literal(problem, x, y, a, b, place),
+        Row::Attributes(entities, alike) => attributes_literal(problem, entities, alike, place),
         Row::Sets(x, s, z) => sets_literal(problem, x, s, z, place),
-        Row::Tags(a, b) => tags_literal(problem, a, b, place),
+        Row::Tags(tags, alike) => tags_literal(problem, tags, alike, place),
         Row::Own(e) => own_literal(problem, e, place),
         Row::Through(e, f, x, u) => through_literal(problem, e, f, x, u, place),
         Row::Lacking(a) => lacking_literal(problem, a, place),

@@ -1,16 +1,17 @@
 //! What an instance says.
-ghost use Rattle.std.specs.Prelude.{◌≡◌, ◌<◌, length, IsSomeAnd};
-ghost use Rattle.sc_terms.specs.Tables.{tree};
+ghost use Rattle.std.specs.Prelude.{◌≡◌, ◌<◌, IsSomeAnd};
 ghost use Rattle.sc_instances.specs.declared.rule.EntityRule.TheVariants.{En1, En2, En3, En4, En5, En6, En7, En8};
 ghost use Rattle.sc_instances.specs.Instances.{entity_said};
 ghost use Rattle.sc_instances.specs.Saying.{count_of, literal_of};
-ghost use Rattle.sc_entity_rows.specs.Rows.{AreAttributesIf, IsRowIf};
+ghost use Rattle.sc_entity_rows.specs.Rows.{IsRowIf};
 
+use crate::alike::alike_of;
+use crate::places::{entities_of, tags_of};
 use crate::row::Row;
 use crate::rows::{count, literal};
 use sc_clauses::Lit;
 use sc_footprint::Problem;
-use sc_instances::{EntityRule, NOWHERE, Saying, attributes, both, closed_of};
+use sc_instances::{EntityRule, NOWHERE, Saying, both, closed_of};
 
 /// An instance of a rule on entities of a problem.
 #[derive(Drop)]
@@ -21,31 +22,19 @@ pub struct Said<'a, 'b> {
     pub rule: EntityRule,
 }
 
-/// The closed attributes of two entities, by their numbers in the table.
-fn both_attributes(problem: &Problem<'_>, x: u64, y: u64) -> Option<(u64, u64)>
-    requires x { x < length problem.now.nodes }
-    requires y { y < length problem.now.nodes }
-    ensures { AreAttributesIf problem.now (tree problem.now.nodes x) (tree problem.now.nodes y) result }
+fn attributes(problem: &Problem<'_>, x: u64, y: u64, i: u64) -> Option<Row>
+    ensures { IsRowIf problem.now (entity_said problem.now (En1 x y i)) result }
 {
-    let Some(a) = attributes(problem, x) else {
+    let Some((a, b)) = both(problem, x, y) else {
         return None;
     };
-    let Some(b) = attributes(problem, y) else {
+    let Some(entities) = entities_of(problem, a.term, b.term) else {
         return None;
     };
-    Some((a, b))
-}
-
-fn attributes_row(problem: &Problem<'_>, e: u64, f: u64) -> Option<Row>
-    ensures { IsRowIf problem.now (entity_said problem.now (En1 e f)) result }
-{
-    let Some((x, y)) = both(problem, e, f) else {
+    let Some(alike) = alike_of(problem, a.term, b.term, i) else {
         return None;
     };
-    let Some((a, b)) = both_attributes(problem, x.term, y.term) else {
-        return None;
-    };
-    Some(Row::Attributes(x, y, a, b))
+    Some(Row::Attributes(entities, alike))
 }
 
 fn sets(problem: &Problem<'_>, x: u64, s: u64, z: u64) -> Option<Row>
@@ -60,13 +49,19 @@ fn sets(problem: &Problem<'_>, x: u64, s: u64, z: u64) -> Option<Row>
     Some(Row::Sets(x, s, z))
 }
 
-fn tags(problem: &Problem<'_>, a: u64, b: u64) -> Option<Row>
-    ensures { IsRowIf problem.now (entity_said problem.now (En3 a b)) result }
+fn tags(problem: &Problem<'_>, x: u64, y: u64, i: u64) -> Option<Row>
+    ensures { IsRowIf problem.now (entity_said problem.now (En3 x y i)) result }
 {
-    let Some((x, y)) = both(problem, a, b) else {
+    let Some((a, b)) = both(problem, x, y) else {
         return None;
     };
-    Some(Row::Tags(x, y))
+    let Some(tags) = tags_of(problem, a.term, b.term) else {
+        return None;
+    };
+    let Some(alike) = alike_of(problem, a.term, b.term, i) else {
+        return None;
+    };
+    Some(Row::Tags(tags, alike))
 }
 
 fn own(problem: &Problem<'_>, e: u64) -> Option<Row>
@@ -122,9 +117,9 @@ fn row(problem: &Problem<'_>, rule: EntityRule) -> Option<Row>
     ensures { IsRowIf problem.now (entity_said problem.now rule) result }
 {
     match rule {
-        EntityRule::En1(e, f) => attributes_row(problem, e, f),
+        EntityRule::En1(x, y, i) => attributes(problem, x, y, i),
         EntityRule::En2(x, s, z) => sets(problem, x, s, z),
-        EntityRule::En3(a, b) => tags(problem, a, b),
+        EntityRule::En3(x, y, i) => tags(problem, x, y, i),
         EntityRule::En4(e) => own(problem, e),
         EntityRule::En5(e, f, x, u) => through(problem, e, f, x, u),
         EntityRule::En6(a) => lacking(problem, a),

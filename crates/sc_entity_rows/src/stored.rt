@@ -6,7 +6,7 @@ ghost use Rattle.sc_footprint.specs.Problems.{literal_in};
 ghost use Rattle.sc_instances.specs.Clauses.{literal_for};
 ghost use Rattle.sc_rules.specs.Entities.{same_sets};
 ghost use Rattle.sc_rules.specs.Terms as term;
-ghost use Rattle.sc_entity_rows.specs.Rows.{are_ancestors_of as ancestors_test, are_same_sets as sets_test, are_tags as tags_test, is_tag as tag_test, moved, owner as owner_of, tag_entity as entity_of, tag_key as key_of};
+ghost use Rattle.sc_entity_rows.specs.Rows.{are_ancestors_of as ancestors_test, are_same_sets as sets_test, is_tag as tag_test, moved, owner as owner_of, tag_entity as entity_of, tag_key as key_of};
 
 use sc_clauses::Lit;
 use sc_footprint::{Problem, problem_laws};
@@ -70,21 +70,6 @@ pub(crate) fn are_ancestors_of(problem: &Problem<'_>, f: u64, s: u64) -> bool
 }
 
 // ---- tags
-
-/// Whether two tags are of one sort.
-pub(crate) fn are_tags(problem: &Problem<'_>, a: u64, b: u64) -> bool
-    requires a { a < length problem.now.nodes }
-    requires b { b < length problem.now.nodes }
-    ensures { result ≡ tags_test (tree problem.now.nodes a) (tree problem.now.nodes b) }
-{
-    match problem.terms().node(a) {
-        Node::Two(BinaryOp::Tag(s), _, _) => match problem.terms().node(b) {
-            Node::Two(BinaryOp::Tag(t), _, _) => *s == *t,
-            _ => false,
-        },
-        _ => false,
-    }
-}
 
 pub(crate) fn is_tag(problem: &Problem<'_>, a: u64) -> bool
     requires { a < length problem.now.nodes }
