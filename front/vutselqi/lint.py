@@ -1,0 +1,125 @@
+"""`lint`: rules that can err, kinds of request that nothing allows or all of which are allowed, rules that do nothing."""
+
+from __future__ import annotations
+
+from dataclasses import dataclass
+
+from vutselqi.compare import openness
+from vutselqi.faults import refusal
+from vutselqi.inputs import Input
+from vutselqi.lines import COUNTEREXAMPLE, HOLDS, Fate, Kind, read_fate
+from vutselqi.program import Answer, Option
+from vutselqi.questions import Asker, Question, Told, files_of, reading
+from vutselqi.replays import replay, rule_answer, rule_text, rules_text, words_in
+from vutselqi.report import NOTE, WARNING, Finding, Report, Row
+from vutselqi.trouble import Trouble
+from vutselqi.words import Words, counted, fitting
+from vutselqi.worlds import read_world
+
+ERRORS = {"Overflow": "a number leaves the 64 bits that it has"}
+NO_REDUCE = "This program has no `reduce`: rules that do nothing aren't looked for."
+
+
+@dataclass(frozen=True)
+class Lint:
+    """A set of policies over the asker's schema."""
+
+    asker: Asker
+    policies: Input
+
+    def report(self) -> Report:
+        """Asks all questions, and says what was found."""
+        errs = self.ask("never-errors", "asking which rules can err")
+        denied = self.ask("always-denies", "asking what nothing allows")
+        allowed = self.ask("always-allows", "asking what is always allowed")
+        rows = [self.row(*told) for told in zip(errs, denied, allowed)]
+        report = Report("lint", f"What is odd in {self.policies.name}", rows)
+        self.reduce(report)
+        warnings = sum(finding.level == WARNING for finding in report.findings)
+        is_open = sum(finding.code == "undecided" for finding in report.findings)
+        report.status = 1 if warnings else 2 if is_open else 0
+        looked_at = f"{counted(len(self.policies.rules), 'rule')}, {counted(len(rows), 'kind')} of request"
+        found = counted(warnings, "warning") if warnings else "nothing odd"
+        report.summary = f"{looked_at}: {found}{', ' + counted(is_open, 'question') + ' undecided' if is_open else ''}."
+        return report
+
+    def ask(self, name: str, task: str) -> list[Told]:
+        """Asks one question of all kinds of request."""
+        return self.asker.ask(Question(name, self.policies, None, task))
+
+    def row(self, errs: Told, denied: Told, allowed: Told) -> Row:
+        """What is said of one kind of request."""
+        kind, findings, verdict = errs.verdict.kind, [], "depends"
+        if errs.verdict.says == COUNTEREXAMPLE:
+            findings.append(self.error(errs))
+        if denied.verdict.says == HOLDS:
+            verdict = "never allowed"
+            findings.append(constant(denied, "nothing-allowed", "Nothing allows any request of this kind."))
+        elif allowed.verdict.says == HOLDS:
+            verdict = "always allowed"
+            findings.append(constant(allowed, "everything-allowed", "Every request of this kind is allowed."))
+        for told, what in ((errs, "a rule can err"), (denied, "nothing allows such a request"), (allowed, "every such request is allowed")):
+            if told.verdict.is_open:
+                findings.append(undecided(kind, f"Whether {what} is undecided: {openness(told.verdict)}.", list(told.lines)))
+                verdict = verdict if told is errs or verdict != "depends" else "undecided"
+        return Row(kind, verdict, findings, [*errs.lines, *denied.lines, *allowed.lines])
+
+    def error(self, told: Told) -> Finding:
+        """A rule that errs, with the world in which it does."""
+        world, named, workspace = read_world(told.verdict.world), self.policies.words, self.asker.workspace
+        finding = Finding("may-err", WARNING, "", told.verdict.kind, world=world, lines=list(told.lines))
+        try:
+            kept = workspace.keep("world.json", "world.json", world.text.encode())
+            replayed = replay(self.asker.program, workspace, self.asker.schema, self.policies, kept)
+        except Trouble as trouble:
+            who = Words(world, named).request("asks to")
+            finding.sentence = f"A rule errs where {who}. The world can't be replayed: {trouble.sentence}."
+            return finding
+        finding.rules = replayed.rules("errs")
+        words = fitting(world, words_in(finding.rules), named)
+        names = {standing.error for standing in replayed.replay.standings if standing.error}
+        reason = "; ".join(f"{name}: {ERRORS[name]}" if name in ERRORS else name for name in sorted(names))
+        rules = rules_text(finding.rules, "", "errs", "err").capitalize()
+        finding.sentence = f"{rules} ({reason}) where {words.request('asks to')}."
+        finding.details = words.besides()
+        finding.place = next((rule.place for rule in finding.rules if rule.place), None)
+        finding.lines += replayed.answer.transcript
+        return finding
+
+    def reduce(self, report: Report) -> None:
+        """Asks which rules do nothing, where the program can be asked that."""
+        for budget in self.asker.budgets:
+            options: dict[str, Option] = {"schema": self.asker.schema, "policies": self.policies, "budget": budget}
+            self.asker.progress.begin(f"asking which rules do nothing, budget {budget:,}")
+            answer = self.asker.program.ask("reduce", options)
+            if answer.status == 10:
+                report.notes.append(NO_REDUCE)
+                return
+            if answer.status not in (0, 2):
+                raise refusal(answer, files_of(options))
+            with reading():
+                fates = [read_fate(line) for line in answer.lines]
+            if all(fate.says != "unproved" for fate in fates):
+                break
+        report.others += [self.fate(fate, answer) for fate in fates if fate.says != "kept"]
+
+    def fate(self, fate: Fate, answer: Answer) -> Finding:
+        """What is said of a rule that does nothing, or of which that isn't known."""
+        rule = rule_answer(self.policies, fate.number)
+        lines = [answer.command, fate.line]
+        if fate.says == "dropped":
+            sentence = f"Rule {rule_text(rule)} does nothing: without all that are named so, every request is decided the same."
+            return Finding("does-nothing", WARNING, sentence, place=rule.place, rules=[rule], lines=lines)
+        why = "the budget didn't suffice" if fate.says == "unproved" else "the question is too large"
+        sentence = f"Whether rule {rule_text(rule)} does anything is undecided: {why}."
+        return Finding("undecided", NOTE, sentence, fate.kind, place=rule.place, rules=[rule], lines=lines)
+
+
+def constant(told: Told, code: str, sentence: str) -> Finding:
+    """A kind of request that is always decided the same."""
+    return Finding(code, WARNING, sentence, told.verdict.kind, lines=list(told.lines))
+
+
+def undecided(kind: Kind, sentence: str, lines: list[str]) -> Finding:
+    """A question that is open."""
+    return Finding("undecided", NOTE, sentence, kind, lines=lines)
