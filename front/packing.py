@@ -17,7 +17,7 @@ from typing import Any, Optional
 FRONT = Path(__file__).resolve().parent
 PACKAGE = FRONT / "vutselqi"
 NAME = "vutselqi"
-VERSION = re.search(r'__version__ = "(.*)"', (PACKAGE / "__init__.py").read_text(encoding="utf-8"))[1]
+VERSION = re.findall(r'__version__ = "(.*)"', (PACKAGE / "__init__.py").read_text(encoding="utf-8"))[0]
 ABOUT = f"{NAME}-{VERSION}.dist-info"
 METADATA = f"""\
 Metadata-Version: 2.1
@@ -52,7 +52,12 @@ def record_line(name: str, content: bytes) -> str:
 
 def write_wheel(folder: str, files: dict[str, bytes]) -> str:
     """Writes a wheel of some files, and returns its name."""
-    files = {**files, f"{ABOUT}/METADATA": METADATA.encode(), f"{ABOUT}/WHEEL": WHEEL.encode(), f"{ABOUT}/entry_points.txt": SCRIPTS.encode()}
+    files = {
+        **files,
+        f"{ABOUT}/METADATA": METADATA.encode(),
+        f"{ABOUT}/WHEEL": WHEEL.encode(),
+        f"{ABOUT}/entry_points.txt": SCRIPTS.encode(),
+    }
     record = "".join(record_line(name, content) for name, content in files.items()) + f"{ABOUT}/RECORD,,\n"
     wheel = f"{NAME}-{VERSION}-py3-none-any.whl"
     with zipfile.ZipFile(Path(folder) / wheel, "w", zipfile.ZIP_DEFLATED) as archive:
@@ -61,12 +66,16 @@ def write_wheel(folder: str, files: dict[str, bytes]) -> str:
     return wheel
 
 
-def build_wheel(wheel_directory: str, config_settings: Optional[Any] = None, metadata_directory: Optional[str] = None) -> str:
+def build_wheel(
+    wheel_directory: str, config_settings: Optional[Any] = None, metadata_directory: Optional[str] = None
+) -> str:
     """Builds a wheel."""
     return write_wheel(wheel_directory, modules())
 
 
-def build_editable(wheel_directory: str, config_settings: Optional[Any] = None, metadata_directory: Optional[str] = None) -> str:
+def build_editable(
+    wheel_directory: str, config_settings: Optional[Any] = None, metadata_directory: Optional[str] = None
+) -> str:
     """Builds a wheel that leads to this folder (PEP 660)."""
     return write_wheel(wheel_directory, {f"{NAME}.pth": f"{FRONT}\n".encode()})
 
@@ -75,7 +84,9 @@ def build_sdist(sdist_directory: str, config_settings: Optional[Any] = None) -> 
     """Builds a source archive, which can be built in turn."""
     top = f"{NAME}-{VERSION}"
     files = {**modules(), "PKG-INFO": METADATA.encode()}
-    files.update((path.name, path.read_bytes()) for path in (FRONT / "pyproject.toml", FRONT / "packing.py", FRONT / "README.md"))
+    files.update(
+        (path.name, path.read_bytes()) for path in (FRONT / "pyproject.toml", FRONT / "packing.py", FRONT / "README.md")
+    )
     with tarfile.open(Path(sdist_directory) / f"{top}.tar.gz", "w:gz") as archive:
         for name, content in files.items():
             entry = tarfile.TarInfo(f"{top}/{name}")

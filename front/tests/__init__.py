@@ -1,4 +1,5 @@
 """Tests of the front, by `python3 -m unittest` in the folder `front`.
 
-Those that ask the proved program take the one that `vutselqi` finds: the variable CEDAR_SYMCC names it, or the gate has left it.
+Those that ask the proved program take the one that `vutselqi` finds: the variable CEDAR_SYMCC names it, or the gate has
+left it.
 """

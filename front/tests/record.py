@@ -1,6 +1,7 @@
-"""Records what the proved program answers about the policy sets of `examples`: `python3 -m tests.record` in the folder `front`.
+"""Records what the proved program answers about some policy sets: `python3 -m tests.record` in the folder `front`.
 
-The words that are expected of `vutselqi` are about these answers, since which of several counterexamples is printed may change.
+The words that are expected of `vutselqi` are about these answers, since another of several counterexamples may be
+printed some day.
 """
 
 from __future__ import annotations
@@ -23,7 +24,18 @@ def record(name: str, folder: Path, files: dict[str, str]) -> None:
     """Records the answers about one set."""
     answers = []
     for query, policies, against, words in QUESTIONS:
-        command = [str(PROGRAM), "analyse", "--schema", files["schema"], "--policies", files[policies], "--query", query, "--budget", "10000"]
+        command = [
+            str(PROGRAM),
+            "analyse",
+            "--schema",
+            files["schema"],
+            "--policies",
+            files[policies],
+            "--query",
+            query,
+            "--budget",
+            "10000",
+        ]
         command += ["--against", files[against]] if against else []
         run = subprocess.run(command, cwd=folder, capture_output=True, text=True, check=False)
         answers.append({"words": ["analyse", *words], "status": run.returncode, "lines": run.stdout.splitlines()})

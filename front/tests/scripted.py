@@ -1,7 +1,8 @@
-"""Stands for the proved program: answers commands as a JSON file says that SCRIPTED names, and hands all others to the program SCRIPTED_REAL.
+"""Stands for the proved program: answers some commands as a JSON file says, and hands all others to the program.
 
-The file is a list of answers, {"words": [..], "status": N, "lines": [..]}; the first whose words are all among those of the command answers.
-A file is a word by its last name: `--schema=schema.json`. A status below 0 is a signal.
+The variable SCRIPTED names the file, SCRIPTED_REAL the program. The file is a list of answers, {"words": [..],
+"status": N, "lines": [..]}; the first whose words are all among those of the command answers. A file is a word by its
+last name: `--schema=schema.json`. A status below 0 is a signal.
 """
 
 import json

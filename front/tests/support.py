@@ -68,7 +68,7 @@ class FrontTest(unittest.TestCase):
         return name
 
     def vutselqi(self, *words: str, at: Optional[Path] = None, program: Optional[Path] = None, **more: str) -> Run:
-        """Runs `vutselqi` in the test's folder, or at another place. `more` are further variables of its surroundings."""
+        """Runs `vutselqi` in the test's folder or at another place; `more` are further variables that it sees."""
         out, err = io.TextIOWrapper(io.BytesIO(), "utf-8"), io.TextIOWrapper(io.BytesIO(), "utf-8")
         before = os.getcwd()
         os.chdir(at or self.folder)
@@ -85,7 +85,13 @@ class FrontTest(unittest.TestCase):
     def process(self, *words: str, program: Optional[Path] = None, **more: str) -> Run:
         """Runs `vutselqi` as a process of its own."""
         command = [sys.executable, "-m", "vutselqi", *words]
-        run = subprocess.run(command, cwd=self.folder, env={**os.environ, **surroundings(program, more)}, capture_output=True, check=False)
+        run = subprocess.run(
+            command,
+            cwd=self.folder,
+            env={**os.environ, **surroundings(program, more)},
+            capture_output=True,
+            check=False,
+        )
         return Run(run.returncode, run.stdout.decode(), run.stderr.decode())
 
     def scripted(self, answers: list[dict[str, Any]], *words: str, **more: str) -> Run:
@@ -100,13 +106,15 @@ class FrontTest(unittest.TestCase):
     def over(self, answers: Path, at: Path, *words: str, **more: str) -> Run:
         """Runs `vutselqi` over a program that gives the answers of a file."""
         program = self.folder / "scripted program"
-        program.write_text(f"#!/bin/sh\nexec {shlex.quote(sys.executable)} -ES {shlex.quote(str(SCRIPTED))} \"$@\"\n", encoding="utf-8")
+        program.write_text(
+            f'#!/bin/sh\nexec {shlex.quote(sys.executable)} -ES {shlex.quote(str(SCRIPTED))} "$@"\n', encoding="utf-8"
+        )
         program.chmod(0o755)
         more = {"SCRIPTED": str(answers), "SCRIPTED_REAL": str(PROGRAM or ""), **more}
         return self.vutselqi(*words, at=at, program=program, **more)
 
     def expect(self, name: str, text: str) -> None:
-        """Compares a text with the one that is expected; with the variable WRITE_EXPECTED it becomes the expected one."""
+        """Compares a text with the expected one, which it becomes where the variable WRITE_EXPECTED is set."""
         path = EXPECTED / name
         if os.environ.get("WRITE_EXPECTED"):
             path.write_text(text, encoding="utf-8")
@@ -115,7 +123,12 @@ class FrontTest(unittest.TestCase):
 
 def surroundings(program: Optional[Path], more: dict[str, str]) -> dict[str, str]:
     """The variables that a run sees."""
-    fixed = {"PYTHONPATH": str(FRONT), "PYTHONDONTWRITEBYTECODE": "1", "NO_COLOR": "1", "CEDAR_SYMCC": str(program or PROGRAM or "")}
+    fixed = {
+        "PYTHONPATH": str(FRONT),
+        "PYTHONDONTWRITEBYTECODE": "1",
+        "NO_COLOR": "1",
+        "CEDAR_SYMCC": str(program or PROGRAM or ""),
+    }
     return {**fixed, **more}
 
 

@@ -14,7 +14,15 @@ from tests.support import FrontTest, needs_program
 
 BROWSERS = ("chromium", "chromium-browser", "google-chrome", "chrome")
 BROWSER = next(filter(None, map(shutil.which, BROWSERS)), None)
-FLAGS = ("--headless", "--no-sandbox", "--disable-gpu", "--disable-dev-shm-usage", "--hide-scrollbars", "--window-size=1000,1400", "--force-device-scale-factor=0.5")
+FLAGS = (
+    "--headless",
+    "--no-sandbox",
+    "--disable-gpu",
+    "--disable-dev-shm-usage",
+    "--hide-scrollbars",
+    "--window-size=1000,1400",
+    "--force-device-scale-factor=0.5",
+)
 PRINCIPAL, RESOURCE = (0xDC, 0xEB, 0xFA), (0xFB, 0xEE, 0xD5)  # the colours of their boxes in pictures
 
 
@@ -57,7 +65,9 @@ class Browser(FrontTest):
     def setUp(self) -> None:
         super().setUp()
         self.page = self.folder / "page.html"
-        run = self.recorded("taxdesk", "compare", "--schema", "schema.json", "--html", str(self.page), "v1.cedar", "v3.cedar")
+        run = self.recorded(
+            "taxdesk", "compare", "--schema", "schema.json", "--html", str(self.page), "v1.cedar", "v3.cedar"
+        )
         self.assertEqual((run.status, run.err), (1, ""))
 
     def browse(self, *words: str) -> bytes:

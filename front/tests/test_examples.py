@@ -38,7 +38,9 @@ class Words(FrontTest):
     def test_explain(self) -> None:
         for name in SETS:
             with self.subTest(name):
-                run = self.recorded(name, "explain", "--schema", "schema.json", "--policies", "v3.cedar", self.world(name))
+                run = self.recorded(
+                    name, "explain", "--schema", "schema.json", "--policies", "v3.cedar", self.world(name)
+                )
                 self.expect(f"explain-{name}.txt", run.out)
                 self.assertEqual((run.status, run.err), (0, ""))
 
@@ -52,7 +54,9 @@ class Words(FrontTest):
         write_blocks(self.folder)
         for form in ("json", "sarif", "github", "raw"):
             with self.subTest(form):
-                run = self.recorded("team", "compare", "--schema", "team.json", f"--{form}", "team-old.cedar", "team-new.cedar")
+                run = self.recorded(
+                    "team", "compare", "--schema", "team.json", f"--{form}", "team-old.cedar", "team-new.cedar"
+                )
                 self.expect(f"compare-team.{form}", run.out)
                 self.assertEqual((run.status, run.err), (1, ""))
         for form in ("sarif", "github"):
@@ -71,10 +75,24 @@ class Answers(FrontTest):
             with self.subTest(name):
                 wider = answers(name, "--query implies --policies v3.cedar --against v1.cedar")
                 narrower = answers(name, "--query implies --policies v1.cedar --against v3.cedar")
-                run = self.vutselqi("compare", "--schema", "schema.json", "--json", "--jobs", "2", "v1.cedar", "v3.cedar", at=EXAMPLES / name)
+                run = self.vutselqi(
+                    "compare",
+                    "--schema",
+                    "schema.json",
+                    "--json",
+                    "--jobs",
+                    "2",
+                    "v1.cedar",
+                    "v3.cedar",
+                    at=EXAMPLES / name,
+                )
                 for row in json.loads(run.out)["kinds"]:
                     kind = " ".join(row["kind"].values())
-                    found = [word for word, said in (("wider", wider), ("narrower", narrower)) if said[kind] == "counterexample"]
+                    found = [
+                        word
+                        for word, said in (("wider", wider), ("narrower", narrower))
+                        if said[kind] == "counterexample"
+                    ]
                     self.assertEqual(row["verdict"], " and ".join(found) or "same", kind)
                     self.assertEqual([finding["code"] for finding in row["findings"]], found, kind)
                     for finding in row["findings"]:
@@ -88,7 +106,12 @@ class Answers(FrontTest):
                 self.assertRegex(run.out, r"kinds of request: \d+ same\.\n\Z")
 
     def test_fail_on(self) -> None:
-        for only, old, new, status in (("wider", "v1", "v3", 1), ("narrower", "v1", "v3", 0), ("wider", "v3", "v1", 0), ("narrower", "v3", "v1", 1)):
+        for only, old, new, status in (
+            ("wider", "v1", "v3", 1),
+            ("narrower", "v1", "v3", 0),
+            ("wider", "v3", "v1", 0),
+            ("narrower", "v3", "v1", 1),
+        ):
             words = ("--fail-on", only, f"{old}.cedar", f"{new}.cedar")
             run = self.vutselqi("compare", "--schema", "schema.json", *words, at=EXAMPLES / "codeforge")
             self.assertEqual(run.status, status, words)

@@ -25,7 +25,13 @@ class Install(FrontTest):
         subprocess.run([sys.executable, "-m", "venv", str(self.folder / "fresh")], check=True)
         variables = {name: value for name, value in os.environ.items() if name not in ("PYTHONPATH", "CEDAR_SYMCC")}
         path = f"{self.folder}/fresh/bin{os.pathsep}{os.environ['PATH']}"
-        self.variables = {**variables, "PATH": path, "PIP_NO_INDEX": "1", "PIP_DISABLE_PIP_VERSION_CHECK": "1", "NO_COLOR": "1"}
+        self.variables = {
+            **variables,
+            "PATH": path,
+            "PIP_NO_INDEX": "1",
+            "PIP_DISABLE_PIP_VERSION_CHECK": "1",
+            "NO_COLOR": "1",
+        }
         write_blocks(self.folder)
 
     def call(self, *words: str, at: Path) -> "subprocess.CompletedProcess[str]":
@@ -35,16 +41,28 @@ class Install(FrontTest):
     def test_install_and_action(self) -> None:
         run = self.call("pip", "install", "./front", at=TOP)
         self.assertEqual(run.returncode, 0, run.stderr)
-        run = self.call("vutselqi", "compare", "--program", str(PROGRAM), "--schema", "schema.json", "old.cedar", "new.cedar", at=self.folder)
+        run = self.call(
+            "vutselqi",
+            "compare",
+            "--program",
+            str(PROGRAM),
+            "--schema",
+            "schema.json",
+            "old.cedar",
+            "new.cedar",
+            at=self.folder,
+        )
         self.assertEqual((run.returncode, run.stdout[:30], run.stderr), (1, 'User Action::"view" Doc: wider', ""))
         self.file("bad.cedar", "permit(")
-        run = self.call("vutselqi", "lint", "--program", str(PROGRAM), "--schema", "schema.json", "bad.cedar", at=self.folder)
+        run = self.call(
+            "vutselqi", "lint", "--program", str(PROGRAM), "--schema", "schema.json", "bad.cedar", at=self.folder
+        )
         self.assertIn("UnexpectedEnd: the file ends within a policy", run.stderr)
         self.assertEqual(self.call("pip", "uninstall", "--yes", "vutselqi", at=self.folder).returncode, 0)
         self.action()
 
     def action(self) -> None:
-        """Runs each step of the action in a repository of policies with a change that widens access, and then without."""
+        """Runs the action in a repository of policies with a change that widens access, and then without."""
         work, kept = self.folder / "policies", self.folder / "kept"
         (work / "tools").mkdir(parents=True)
         kept.mkdir()
@@ -53,10 +71,18 @@ class Install(FrontTest):
         shutil.copy(self.folder / "schema.json", work / "schema.json")
         shutil.copy(self.folder / "old.cedar", work / "policies.cedar")
         self.commit(work)
-        self.variables.update(RUNNER_TEMP=str(kept), GITHUB_BASE_REF="main", GITHUB_STEP_SUMMARY=str(kept / "summary.md"))
-        steps = {name: textwrap.dedent(text) for name, text in STEP.findall((FRONT / "README.md").read_text(encoding="utf-8"))}
+        self.variables.update(
+            RUNNER_TEMP=str(kept), GITHUB_BASE_REF="main", GITHUB_STEP_SUMMARY=str(kept / "summary.md")
+        )
+        steps = {
+            name: textwrap.dedent(text)
+            for name, text in STEP.findall((FRONT / "README.md").read_text(encoding="utf-8"))
+        }
         self.assertEqual(list(steps), ["Install", "Say what changes", "Say it in the summary"])
-        for policies, status, said in (("new", 1, "::error file=policies.cedar,line=1,col=1,"), ("old", 0, "1 kind of request: 1 same.")):
+        for policies, status, said in (
+            ("new", 1, "::error file=policies.cedar,line=1,col=1,"),
+            ("old", 0, "1 kind of request: 1 same."),
+        ):
             shutil.copy(self.folder / f"{policies}.cedar", work / "policies.cedar")
             for name, script in steps.items():
                 run = self.call("bash", "-e", "-c", script, at=work)
@@ -69,7 +95,12 @@ class Install(FrontTest):
     def commit(self, work: Path) -> None:
         """Makes a repository whose main branch, as its origin has it, is what the folder holds."""
         name = ["-c", "user.name=t", "-c", "user.email=t@t.invalid"]
-        for words in (["init", "-q"], ["add", "."], [*name, "commit", "-q", "-m", "policies"], ["update-ref", "refs/remotes/origin/main", "HEAD"]):
+        for words in (
+            ["init", "-q"],
+            ["add", "."],
+            [*name, "commit", "-q", "-m", "policies"],
+            ["update-ref", "refs/remotes/origin/main", "HEAD"],
+        ):
             run = self.call("git", *words, at=work)
             self.assertEqual(run.returncode, 0, run.stderr)
 

@@ -1,10 +1,11 @@
-"""Forms of output, where what a user gives is hostile: nothing in it acts on a terminal, a page, an annotation or a picture."""
+"""Forms of output where what a user gives is hostile: nothing acts on a terminal, a page, a log or a picture."""
 
 from __future__ import annotations
 
 import json
 import re
 import shutil
+import subprocess
 import unittest
 from html.parser import HTMLParser
 from xml.etree import ElementTree
@@ -33,7 +34,9 @@ class Page(HTMLParser):
     def handle_starttag(self, tag: str, attrs: list) -> None:
         self.elements.append(tag)
         for name, value in attrs:
-            if name.startswith("on") or (name in ("href", "src", "action", "data", "xlink:href") and not (value or "").startswith("#")):
+            if name.startswith("on") or (
+                name in ("href", "src", "action", "data", "xlink:href") and not (value or "").startswith("#")
+            ):
                 self.outside.append(f"{tag} {name}={value}")
 
     def handle_data(self, data: str) -> None:
@@ -43,7 +46,13 @@ class Page(HTMLParser):
 def schema_of(name: str) -> str:
     """A schema with one attribute of a name."""
     shape = {"type": "Record", "attributes": {name: {"type": "String"}}}
-    view = {"appliesTo": {"principalTypes": ["User"], "resourceTypes": ["Doc"], "context": {"type": "Record", "attributes": {}}}}
+    view = {
+        "appliesTo": {
+            "principalTypes": ["User"],
+            "resourceTypes": ["Doc"],
+            "context": {"type": "Record", "attributes": {}},
+        }
+    }
     return json.dumps({"": {"entityTypes": {"User": {"shape": shape}, "Doc": {}}, "actions": {HOSTILE: view}}})
 
 
@@ -61,7 +70,9 @@ class Hostile(FrontTest):
         self.file("schema.json", schema_of(HOSTILE))
         self.file("old.cedar", "forbid(principal, action, resource);\n")
         rule = f"@id({cedar(HOSTILE)})\npermit(principal == User::{cedar(HOSTILE)}, action, resource)"
-        self.file(NAME, f"{rule} when {{ principal[{cedar(HOSTILE)}] == {cedar(HOSTILE)} }}; // {HOSTILE.splitlines()[0]}\n")
+        self.file(
+            NAME, f"{rule} when {{ principal[{cedar(HOSTILE)}] == {cedar(HOSTILE)} }}; // {HOSTILE.splitlines()[0]}\n"
+        )
 
     def compare(self, *words: str) -> str:
         """What `compare` writes."""
@@ -79,7 +90,9 @@ class Hostile(FrontTest):
     def test_github(self) -> None:
         out = self.compare("--github")
         first, second, rest = out.split("\n")
-        self.assertTrue(first.startswith("::error file=a \"new\"\\u{a}set; $(touch ran) <b>&.cedar,line=2,col=1,title="), first)
+        self.assertTrue(
+            first.startswith('::error file=a "new"\\u{a}set; $(touch ran) <b>&.cedar,line=2,col=1,title='), first
+        )
         self.assertTrue(out.replace("\n", "").isprintable())
         self.assertEqual((second, rest), ("1 kind of request: 1 wider.", ""))
         self.assertIn("%250A", first)
@@ -92,7 +105,9 @@ class Hostile(FrontTest):
             self.assertTrue(out.replace("\n", "").isprintable() and out.isascii())
         result = json.loads(out)["runs"][0]["results"][0]
         place = result["locations"][0]["physicalLocation"]
-        self.assertEqual(place["artifactLocation"]["uri"], "a%20%22new%22%5Cu%7Ba%7Dset%3B%20%24%28touch%20ran%29%20%3Cb%3E%26.cedar")
+        self.assertEqual(
+            place["artifactLocation"]["uri"], "a%20%22new%22%5Cu%7Ba%7Dset%3B%20%24%28touch%20ran%29%20%3Cb%3E%26.cedar"
+        )
         self.assertEqual(place["region"], {"startLine": 2, "startColumn": 1})
 
     def test_page(self) -> None:
@@ -108,7 +123,10 @@ class Hostile(FrontTest):
 
     def test_raw(self) -> None:
         out = self.compare("--raw")
-        self.assertIn("    | $ cedar_symcc analyse --schema schema.json --policies 'a \"new\"\nset; $(touch ran) <b>&.cedar' --against", out)
+        name = "$'a \"new\"\\x0aset; $(touch ran) <b>&.cedar'"
+        self.assertIn(f"    | $ cedar_symcc analyse --schema schema.json --policies {name} --against old.cedar", out)
+        run = subprocess.run(["bash", "-c", f"printf %s {name}"], capture_output=True, text=True, check=True)
+        self.assertEqual(run.stdout, NAME)
 
     def test_names_of_files(self) -> None:
         for name in ("-x.cedar", "--help", "ü \\ '.cedar", "\udcff.cedar", "\x1b[31m.cedar"):
@@ -123,11 +141,11 @@ class Pictures(FrontTest):
     @needs_dot
     def test_hostile_labels(self) -> None:
         label = "</svg><script>\"' & &lt; \\N \\l\x1b\n"
-        text = json.dumps(label)[1:-1]
-        uids = [f'{{"type":"User","id":"{text}"}}', '{"type":"Doc","id":"0"}']
-        stored = ",".join(f'{{"uid":{uid},"attrs":{{"{text}":"{text}","to":{{"__entity":{uids[0]}}}}},"parents":[],"tags":{{}}}}' for uid in uids)
-        world = f'{{"entities":[{stored}],"request":{{"principal":{uids[0]},"action":{{"type":"Action","id":"{text}"}},"resource":{uids[1]},"context":{{"a":1}}}}}}'
-        picture = svg_of(read_world(world), True) or ""
+        user, doc, view = ({"type": type, "id": id} for type, id in (("User", label), ("Doc", "0"), ("Action", label)))
+        attributes = {label: label, "to": {"__entity": user}}
+        stored = [{"uid": uid, "attrs": attributes, "parents": [], "tags": {label: label}} for uid in (user, doc)]
+        request = {"principal": user, "action": view, "resource": doc, "context": {label: label}}
+        picture = svg_of(read_world(json.dumps({"entities": stored, "request": request})), True) or ""
         tree = ElementTree.fromstring(picture)
         words = "".join(tree.itertext())
         self.assertIn("\n</svg><script>\"' & &lt; \\N \\l\\u{1b}\\u{a}\n", words)
@@ -138,7 +156,9 @@ class Pictures(FrontTest):
     def test_without_dot(self) -> None:
         write_blocks(self.folder)
         nowhere = {"PATH": "/nowhere"}
-        run = self.vutselqi("compare", "--schema", "schema.json", "--html", "page.html", "old.cedar", "new.cedar", **nowhere)
+        run = self.vutselqi(
+            "compare", "--schema", "schema.json", "--html", "page.html", "old.cedar", "new.cedar", **nowhere
+        )
         self.assertEqual((run.status, run.err), (1, ""))
         page = Page((self.folder / "page.html").read_text(encoding="utf-8"))
         self.assertNotIn("svg", page.elements)
@@ -152,7 +172,9 @@ class Pictures(FrontTest):
     @needs_program
     def test_picture(self) -> None:
         write_blocks(self.folder)
-        run = self.vutselqi("explain", "--schema", "schema.json", "--policies", "old.cedar", "--picture", "w.svg", "world.json")
+        run = self.vutselqi(
+            "explain", "--schema", "schema.json", "--policies", "old.cedar", "--picture", "w.svg", "world.json"
+        )
         self.assertEqual((run.status, run.err), (0, ""))
         words = "".join(ElementTree.parse(self.folder / "w.svg").getroot().itertext())
         for word in ("User 0", "Doc 0", "view", "mfa true"):

@@ -12,7 +12,8 @@ from vutselqi.words import Words, listed
 from vutselqi.worlds import read_world
 
 WORLD = (
-    '{"entities":[{"attrs":{"boss":{"__entity":{"id":"b","type":"N::User"}},"rate":{"__extn":{"arg":"1.5","fn":"decimal"}}},'
+    '{"entities":[{"attrs":'
+    '{"boss":{"__entity":{"id":"b","type":"N::User"}},"rate":{"__extn":{"arg":"1.5","fn":"decimal"}}},'
     '"parents":[{"id":"staff","type":"N::Group"}],"tags":{"k":"v"},"uid":{"id":"a","type":"N::User"}},'
     '{"attrs":{"on":true},"parents":[],"tags":{},"uid":{"id":"b","type":"N::User"}}],'
     '"link":{"?principal":{"id":"a","type":"N::User"}},'
@@ -32,11 +33,20 @@ class Lines(unittest.TestCase):
             ('env User Action::"view" Doc: counterexample {"entities":[]}', "counterexample"),
         ):
             self.assertEqual(lines.read_verdict(text).says, says)
-        self.assertEqual(lines.read_verdict('env U Action::"v" D link ?principal U: holds').kind.text, 'U Action::"v" D link ?principal U')
+        self.assertEqual(
+            lines.read_verdict('env U Action::"v" D link ?principal U: holds').kind.text,
+            'U Action::"v" D link ?principal U',
+        )
         self.assertEqual(lines.read_verdict('env U Action::"a\\"\\u{1}" D: holds').kind.action_id, 'a"\x01')
 
     def test_other_lines(self) -> None:
-        for text in ("", "env User", 'env User Action::"view" Doc: perhaps', 'env User Action::"view" Doc: holds ', "policy1 dropped"):
+        for text in (
+            "",
+            "env User",
+            'env User Action::"view" Doc: perhaps',
+            'env User Action::"view" Doc: holds ',
+            "policy1 dropped",
+        ):
             with self.assertRaises(lines.Unread):
                 lines.read_verdict(text)
 
@@ -51,7 +61,9 @@ class Lines(unittest.TestCase):
             self.assertEqual(lines.read_fate(text).says, says)
 
     def test_replay(self) -> None:
-        replay = lines.read_replay(['world not well-formed: missing A::"b"', "policy0 satisfied", "policy1 errs Overflow", "decision Deny"])
+        replay = lines.read_replay(
+            ['world not well-formed: missing A::"b"', "policy0 satisfied", "policy1 errs Overflow", "decision Deny"]
+        )
         self.assertEqual((replay.fault, replay.decision), ('missing A::"b"', "Deny"))
         self.assertEqual([(s.says, s.error) for s in replay.standings], [("satisfied", ""), ("errs", "Overflow")])
 
@@ -89,7 +101,8 @@ class Rules(unittest.TestCase):
 
     def test_rules(self) -> None:
         text = (
-            '// permit;\n@id("one \\"1\\"")\n@note("forbid;")\npermit(principal, action, resource) when { "a;b" == "c" };\n'
+            '// permit;\n@id("one \\"1\\"")\n@note("forbid;")\n'
+            'permit(principal, action, resource) when { "a;b" == "c" };\n'
             "\r\n@permit\n@id\nforbid(principal, action, resource) // ;\n;permit(principal,action,resource);"
         )
         found = [(rule.number, rule.effect, rule.identity, rule.place("f", text).line) for rule in rules_of(text)]
@@ -99,7 +112,9 @@ class Rules(unittest.TestCase):
 
     def test_text(self) -> None:
         text = "permit(principal, action, resource)\nwhen { true };\n"
-        self.assertEqual(rules_of(text)[0].place("f", text).excerpt, ("permit(principal, action, resource)", "when { true };"))
+        self.assertEqual(
+            rules_of(text)[0].place("f", text).excerpt, ("permit(principal, action, resource)", "when { true };")
+        )
 
 
 class Texts(unittest.TestCase):
@@ -109,7 +124,8 @@ class Texts(unittest.TestCase):
         words = Words(read_world(WORLD))
         self.assertEqual(
             words.request("may"),
-            'User a, who is in Group staff, with boss User b and rate 1.5, tagged k "v", may "see all" Doc "", where ?principal stands for User a',
+            'User a, who is in Group staff, with boss User b and rate 1.5, tagged k "v", may "see all" Doc "", '
+            "where ?principal stands for User a",
         )
         self.assertEqual(words.besides(), ["User b: on true"])
         self.assertIn("staff, with rate 1.5, tagged", Words(read_world(WORLD), {"rate"}).request("may"))
@@ -120,7 +136,7 @@ class Texts(unittest.TestCase):
 
     def test_escapes(self) -> None:
         self.assertEqual(plain("a\x1b[31m\n\u202e\x85é"), "a\\u{1b}[31m\\u{a}\\u{202e}\\u{85}é")
-        self.assertEqual(unescaped("\\u{41}\\x42\\n\\\"\\q\\u{ffffff}"), 'AB\n"\\q\\u{ffffff}')
+        self.assertEqual(unescaped('\\u{41}\\x42\\n\\"\\q\\u{ffffff}'), 'AB\n"\\q\\u{ffffff}')
 
     def test_budgets(self) -> None:
         self.assertEqual(budgets_up_to(100), [100])
@@ -129,8 +145,17 @@ class Texts(unittest.TestCase):
 
     def test_meanings(self) -> None:
         meanings = faults.meanings()
-        for status, name in ((11, "Unexpected"), (11, "TooDeep"), (12, "NotJson"), (13, "NotBoolean"), (14, "Malformed"), (17, "BadWorld")):
+        for status, name in (
+            (11, "Unexpected"),
+            (11, "TooDeep"),
+            (12, "NotJson"),
+            (13, "NotBoolean"),
+            (14, "Malformed"),
+            (17, "BadWorld"),
+        ):
             self.assertTrue(all(meanings[status, name]), name)
-        self.assertEqual(meanings[13, "NotBoolean"][0], "a condition, or an operand of `&&`, `||`, `!`, `if`, isn't Boolean")
+        self.assertEqual(
+            meanings[13, "NotBoolean"][0], "a condition, or an operand of `&&`, `||`, `!`, `if`, isn't Boolean"
+        )
         for status in (20, 21, 22, 30):
             self.assertTrue(meanings[status, ""][0])

@@ -28,7 +28,9 @@ class Sharing(FrontTest):
 
     def compare(self, *words: str) -> str:
         """What `compare` writes about a policy set."""
-        run = self.vutselqi("compare", "--schema", "schema.json", *words, "v1.cedar", "v3.cedar", at=EXAMPLES / "taxdesk")
+        run = self.vutselqi(
+            "compare", "--schema", "schema.json", *words, "v1.cedar", "v3.cedar", at=EXAMPLES / "taxdesk"
+        )
         self.assertEqual((run.status, run.err), (1, ""))
         return run.out
 
@@ -94,13 +96,18 @@ class Notations(FrontTest):
     def test_faults_of_a_translation(self) -> None:
         self.file("wrong", "permit(principal, action, resource) when { 1 };")
         run = self.with_cedar("wrong", "lint", "--schema", "schema.json", "old.cedar.json")
-        self.assertIn("vutselqi lint: old.cedar.json (as `cedar translate-policy` gives it):1:44: NotBoolean: ", run.err)
+        self.assertIn(
+            "vutselqi lint: old.cedar.json (as `cedar translate-policy` gives it):1:44: NotBoolean: ", run.err
+        )
         run = self.with_cedar("nowhere", "lint", "--schema", "schema.json", "old.cedar.json")
         self.assertEqual(run.status, 2)
         self.assertIn("the policies are in JSON, and `cedar translate-policy` refuses it: cat: ", run.err)
 
     def test_no_cedar(self) -> None:
-        for words, what in ((("schema.json", "old.cedar.json"), "policy"), (("schema.cedarschema", "old.cedar"), "schema")):
+        for words, what in (
+            (("schema.json", "old.cedar.json"), "policy"),
+            (("schema.cedarschema", "old.cedar"), "schema"),
+        ):
             run = self.vutselqi("lint", "--schema", *words, PATH="/nowhere")
             self.assertEqual((run.status, run.out), (2, ""))
             self.assertIn(f"`cedar translate-{what}` translates, and the command `cedar` isn't installed", run.err)
@@ -135,9 +142,21 @@ class Terminal(FrontTest):
 
     def test_a_pipe_that_closes(self) -> None:
         write_blocks(self.folder)
-        command = [sys.executable, "-m", "vutselqi", "compare", "--schema", "schema.json", "--raw", "old.cedar", "new.cedar"]
+        command = [
+            sys.executable,
+            "-m",
+            "vutselqi",
+            "compare",
+            "--schema",
+            "schema.json",
+            "--raw",
+            "old.cedar",
+            "new.cedar",
+        ]
         variables = {**os.environ, **surroundings(PROGRAM, {})}
-        with subprocess.Popen(command, cwd=self.folder, env=variables, stdout=subprocess.PIPE, stderr=subprocess.PIPE) as process:
+        with subprocess.Popen(
+            command, cwd=self.folder, env=variables, stdout=subprocess.PIPE, stderr=subprocess.PIPE
+        ) as process:
             assert process.stdout and process.stderr
             process.stdout.close()
             said = process.stderr.read()

@@ -8,14 +8,15 @@ import shutil
 from tests.support import FRONT, FrontTest, Run, answer, needs_program, write_blocks
 
 FAULTS = {
-    "an operator too many": "@id(\"numbers\")\npermit(principal, action, resource)\n\twhen { context.mfa < 1 < 2 };\n",
-    "a text that isn't closed": "permit(principal, action, resource) when { \"é };\n",
+    "an operator too many": '@id("numbers")\npermit(principal, action, resource)\n\twhen { context.mfa < 1 < 2 };\n',
+    "a text that isn't closed": 'permit(principal, action, resource) when { "é };\n',
     "an end too soon": "permit(principal, action, resource) when { context.mfa",
-    "no condition": "// first\n@id(\"typed\")\npermit(principal, action, resource) when { context.mfa && 1 };\n",
+    "no condition": '// first\n@id("typed")\npermit(principal, action, resource) when { context.mfa && 1 };\n',
     "an unknown type": "permit(principal, action, resource);\npermit(principal is Robot, action, resource);\n",
 }
 SCHEMAS = {
-    "a member too many": '{"": {"entityTypes": {"U": {"shape": {"type": "Record", "attributes": {}, "additionalAttributes": true}}}}}',
+    "a member too many": '{"": {"entityTypes": {"U": {"shape": '
+    '{"type": "Record", "attributes": {}, "additionalAttributes": true}}}}}',
     "an unknown group": '{"": {\n  "entityTypes": {"User": {"memberOfTypes": ["Team"]}}}}',
     "no JSON": '{"": \n  {"entityTypes": {} "actions": {}}}',
     "a cycle": '{"": {"commonTypes": {"A": {"type": "A"}}}}',
@@ -59,7 +60,9 @@ class Troubles(FrontTest):
             self.file("a schema.json", text)
             self.tell(title, self.vutselqi("lint", "--schema", "a schema.json", "--raw", "old.cedar"))
         self.file("a world.json", '{"entities": [],\n "request": {}}')
-        self.tell("no world", self.vutselqi("explain", "--schema", "schema.json", "--policies", "old.cedar", "a world.json"))
+        self.tell(
+            "no world", self.vutselqi("explain", "--schema", "schema.json", "--policies", "old.cedar", "a world.json")
+        )
         for words in (("nowhere.json", "old.cedar"), ("schema.json", "nowhere.cedar"), ("schema.json", ".")):
             self.tell(" ".join(words), self.vutselqi("lint", "--schema", *words))
         self.expect("troubles-files.txt", self.told)
@@ -69,7 +72,10 @@ class Troubles(FrontTest):
             self.tell(title, self.scripted([one], "lint", "--schema", "schema.json", "old.cedar", SCRIPTED_REAL=""))
         for title, one in (("of many runs", STATUSES["another version"]), ("of many runs", STATUSES["no memory"])):
             one = {**one, "words": ["log"]}
-            self.tell(title, self.scripted([one], "lint", "--schema", "schema.json", "old.cedar", "--jobs", "2", SCRIPTED_REAL=""))
+            self.tell(
+                title,
+                self.scripted([one], "lint", "--schema", "schema.json", "old.cedar", "--jobs", "2", SCRIPTED_REAL=""),
+            )
         self.expect("troubles-statuses.txt", self.told)
 
     def test_programs(self) -> None:
@@ -84,7 +90,9 @@ class Troubles(FrontTest):
 
     def test_no_program(self) -> None:
         shutil.copytree(FRONT / "vutselqi", self.folder / "vutselqi")
-        run = self.process("lint", "--schema", "schema.json", "old.cedar", CEDAR_SYMCC="", PATH="/nowhere", PYTHONPATH=str(self.folder))
+        run = self.process(
+            "lint", "--schema", "schema.json", "old.cedar", CEDAR_SYMCC="", PATH="/nowhere", PYTHONPATH=str(self.folder)
+        )
         self.tell("no program", run)
         self.expect("troubles-no-program.txt", self.told)
 
@@ -100,7 +108,12 @@ class Troubles(FrontTest):
         self.assertIn("no/page.html couldn't be written: No such file or directory", run.err)
 
     def test_words(self) -> None:
-        for words in ((), ("compare",), ("lint", "--schema", "s", "--budget", "0", "p"), ("lint", "--schema", "s", "--json", "--sarif", "p")):
+        for words in (
+            (),
+            ("compare",),
+            ("lint", "--schema", "s", "--budget", "0", "p"),
+            ("lint", "--schema", "s", "--json", "--sarif", "p"),
+        ):
             run = self.vutselqi(*words)
             self.assertEqual((run.status, run.out), (2, ""))
             self.assertIn("usage: vutselqi", run.err)

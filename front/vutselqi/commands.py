@@ -3,6 +3,7 @@
 from __future__ import annotations
 
 import argparse
+import io
 import os
 import sys
 from typing import Callable, Optional, Sequence
@@ -25,6 +26,7 @@ from vutselqi.trouble import Trouble
 
 FORMS: dict[str, Callable[[Report], str]] = {"json": objects.text_of, "sarif": sarif.text_of, "github": github.text_of}
 MOST_BUDGET = 1_000_000_000
+INTERRUPTED = 130  # as shells tell it
 
 
 def whole(least: int, most: int) -> Callable[[str], int]:
@@ -41,15 +43,21 @@ def whole(least: int, most: int) -> Callable[[str], int]:
 
 def parser() -> argparse.ArgumentParser:
     """The reader of the command line."""
-    top = argparse.ArgumentParser(prog="vutselqi", description="What changes of Cedar policies do, in words, from the answers of cedar_symcc.")
+    top = argparse.ArgumentParser(
+        prog="vutselqi", description="What changes of Cedar policies do, in words, from the answers of cedar_symcc."
+    )
     top.add_argument("--version", action="version", version=f"vutselqi {vutselqi.__version__}")
     commands = top.add_subparsers(dest="command", required=True, metavar="COMMAND")
     compare = commands.add_parser("compare", help="what a change does to each kind of request")
     with_questions(with_files(compare))
     compare.add_argument("old", metavar="OLD", help="the policies before the change")
     compare.add_argument("new", metavar="NEW", help="the policies after it")
-    compare.add_argument("--fail-on", choices=[DIFFERENT, WIDER, NARROWER], default=DIFFERENT, help="the difference that gives status 1")
-    lint = commands.add_parser("lint", help="rules that can err or do nothing, and kinds of request that are always decided the same")
+    compare.add_argument(
+        "--fail-on", choices=[DIFFERENT, WIDER, NARROWER], default=DIFFERENT, help="the difference that gives status 1"
+    )
+    lint = commands.add_parser(
+        "lint", help="rules that can err or do nothing, and kinds of request that are always decided the same"
+    )
     with_questions(with_files(lint))
     lint.add_argument("policies", metavar="POLICIES", help="the policies")
     explain = commands.add_parser("explain", help="a world in words and as a picture")
@@ -68,15 +76,25 @@ def with_files(command: argparse.ArgumentParser) -> argparse.ArgumentParser:
         forms.add_argument(f"--{form}", dest="form", action="store_const", const=form, help=f"write {text}")
     command.add_argument("--html", metavar="FILE", help="write a page as well")
     command.add_argument("--raw", action="store_true", help="show the lines of the program below each sentence")
-    command.add_argument("--color", choices=["auto", "always", "never"], default="auto", help="colours: auto is on a terminal")
+    command.add_argument(
+        "--color", choices=["auto", "always", "never"], default="auto", help="colours: auto is on a terminal"
+    )
     return command
 
 
 def with_questions(command: argparse.ArgumentParser) -> None:
     """Adds the options of commands that ask questions of all kinds of request."""
     budget = whole(1, MOST_BUDGET)
-    command.add_argument("--budget", type=budget, default=100_000, metavar="N", help="the most units of work for a kind of request (100000)")
-    command.add_argument("--jobs", type=whole(1, 4096), default=1, metavar="N", help="how many processes share the work (1)")
+    command.add_argument(
+        "--budget",
+        type=budget,
+        default=100_000,
+        metavar="N",
+        help="the most units of work for a kind of request (100000)",
+    )
+    command.add_argument(
+        "--jobs", type=whole(1, 4096), default=1, metavar="N", help="how many processes share the work (1)"
+    )
     command.add_argument("--hosts", metavar="FILE", help="share the work among these hosts, by GNU parallel")
 
 
@@ -86,7 +104,9 @@ def report_of(given: argparse.Namespace, workspace: Workspace) -> Report:
     schema = schema_in_json(workspace, workspace.take(given.schema, "schema.json"))
     if given.command == "explain":
         policies = policies_of(workspace, given.policies, "policies.cedar")
-        return Explanation(program, workspace, schema, policies, workspace.take_world(given.world, "world.json")).report()
+        return Explanation(
+            program, workspace, schema, policies, workspace.take_world(given.world, "world.json")
+        ).report()
     fleet = Fleet(program, given.hosts, given.jobs) if given.hosts else None
     progress = Progress(sys.stderr, sys.stderr.isatty())
     asker = Asker(program, workspace, schema, given.budget, given.jobs, progress, fleet)
@@ -112,7 +132,9 @@ def write(report: Report, given: argparse.Namespace) -> None:
     else:
         out = sys.stderr if report.trouble else sys.stdout
         is_terminal = out.isatty()
-        is_coloured = given.color == "always" or (given.color == "auto" and is_terminal and not os.environ.get("NO_COLOR"))
+        is_coloured = given.color == "always" or (
+            given.color == "auto" and is_terminal and not os.environ.get("NO_COLOR")
+        )
         TextForm(out, is_coloured, given.raw, is_terminal).write(report)
     sys.stdout.flush()
 
@@ -122,7 +144,10 @@ def picture_of(report: Report) -> str:
     world = next(finding.world for finding in report.findings if finding.world)
     picture = svg_of(world, True)
     if picture is None:
-        raise Trouble(NO_DOT if not can_draw() else "`dot` doesn't draw this world", advice="install Graphviz, or leave --picture out")
+        raise Trouble(
+            NO_DOT if not can_draw() else "`dot` doesn't draw this world",
+            advice="install Graphviz, or leave --picture out",
+        )
     return picture
 
 
@@ -140,12 +165,15 @@ def main(words: Optional[Sequence[str]] = None) -> int:
     """Runs a command, and returns its status."""
     given = parser().parse_args(words)
     for stream in (sys.stdout, sys.stderr):
-        stream.reconfigure(errors="backslashreplace")  # type: ignore[union-attr]
+        if isinstance(stream, io.TextIOWrapper):
+            stream.reconfigure(errors="backslashreplace")
     try:
         with Workspace() as workspace:
             report = report_of(given, workspace)
     except Trouble as trouble:
         report = of_trouble(given.command, trouble)
+    except KeyboardInterrupt:
+        return INTERRUPTED
     try:
         write(report, given)
     except Trouble as trouble:

@@ -39,8 +39,14 @@ class Comparison:
 
     def row(self, wider: Told, narrower: Told) -> Row:
         """What is said of one kind of request."""
-        findings = [self.finding(told, code) for told, code in ((wider, WIDER), (narrower, NARROWER)) if told.verdict.says != HOLDS]
-        return Row(wider.verdict.kind, verdict_of(wider.verdict, narrower.verdict), findings, [*wider.lines, *narrower.lines])
+        findings = [
+            self.finding(told, code)
+            for told, code in ((wider, WIDER), (narrower, NARROWER))
+            if told.verdict.says != HOLDS
+        ]
+        return Row(
+            wider.verdict.kind, verdict_of(wider.verdict, narrower.verdict), findings, [*wider.lines, *narrower.lines]
+        )
 
     def finding(self, told: Told, code: str) -> Finding:
         """A difference with its example, or what is open."""
@@ -51,7 +57,7 @@ class Comparison:
         return Finding(UNDECIDED, level, sentence, told.verdict.kind, lines=list(told.lines))
 
     def difference(self, told: Told, code: str) -> Finding:
-        """A difference with its example in words, from the world that the program printed, and from its replay over both sets."""
+        """A difference with its example in words: the world that the program printed, replayed over both sets."""
         level = ERROR if self.fail_on in (code, DIFFERENT) else WARNING
         world, named = read_world(told.verdict.world), self.old.words | self.new.words
         finding = Finding(code, level, "", told.verdict.kind, world=world, lines=list(told.lines))
@@ -78,7 +84,7 @@ class Comparison:
         return replay(self.asker.program, workspace, self.asker.schema, policies, kept)
 
     def status(self, wider: list[Told], narrower: list[Told]) -> int:
-        """As for `diff`: 0 where nothing differs that is looked for, 1 where something does, 2 where that isn't known."""
+        """As for `diff`: 0 where nothing differs that is looked for, 1 where it does, 2 where that isn't known."""
         looked_for = (wider if self.fail_on != NARROWER else []) + (narrower if self.fail_on != WIDER else [])
         if any(told.verdict.says == COUNTEREXAMPLE for told in looked_for):
             return 1

@@ -4,19 +4,33 @@ from __future__ import annotations
 
 import json
 import re
+import shlex
 
 LETTERS = {"n": "\n", "r": "\r", "t": "\t", "0": "\0", "\\": "\\", '"': '"', "'": "'", "*": "*"}
 ESCAPE = re.compile(r"\\(?:x([0-9a-fA-F]{2})|u\{([0-9a-fA-F]{1,6})\}|(.))", re.S)
 
 
 def plain(text: str) -> str:
-    """The text on one line, with each character escaped that isn't seen as itself: controls, turns of direction, ends of lines."""
+    """The text with each character escaped that isn't seen as itself: controls, turns of direction, ends of lines."""
     return "".join(c if c.isprintable() else f"\\u{{{ord(c):x}}}" for c in text)
 
 
 def quoted(text: str) -> str:
     """The text between double quotes, as JSON writes it."""
     return json.dumps(text, ensure_ascii=False)
+
+
+def shell_word(text: str) -> str:
+    """A word for a shell, in one line: with bash's `$'..'` where a character in it isn't seen as itself."""
+    if text.isprintable():
+        return shlex.quote(text)
+    seen = "".join(c if c.isprintable() and c not in "\\'" else escaped_bytes(c) for c in text)
+    return f"$'{seen}'"
+
+
+def escaped_bytes(text: str) -> str:
+    """The bytes of a text, as `$'..'` has them."""
+    return "".join(f"\\x{byte:02x}" for byte in text.encode("utf-8", "surrogateescape"))
 
 
 def unescaped(text: str) -> str:

@@ -32,7 +32,9 @@ class Explanation:
         details = [*fault_lines(replayed), *told_entities(world, words), *context, *told_rules(replayed)]
         level = WARNING if replayed.replay.fault else NOTE
         rules = [replayed.rule(standing) for standing in replayed.replay.standings]
-        finding = Finding("world", level, sentence, None, details, rules=rules, world=world, lines=replayed.answer.transcript)
+        finding = Finding(
+            "world", level, sentence, None, details, rules=rules, world=world, lines=replayed.answer.transcript
+        )
         finding.place = next((rule.place for rule in deciding(replayed) if rule.place), None)
         title = f"What {self.policies.name} does in {self.world.name}"
         summary = f"Decision: {replayed.replay.decision}."
@@ -53,18 +55,18 @@ def fault_lines(replayed: Replayed) -> list[str]:
     """What keeps the world from being well-formed."""
     fault = replayed.replay.fault
     what, _, uid = fault.partition(" ")
-    texts = {
-        "": [],
-        "request": ["The world isn't well-formed: the request isn't of a kind that the schema lists, or its context isn't of that kind."],
-        "entity": [f"The world isn't well-formed: entity {uid} isn't as the schema declares it."],
-        "missing": [f"The world isn't well-formed: {uid} isn't stored."],
+    reasons = {
+        "request": "its request is of no kind that the schema lists, or has another context",
+        "entity": f"entity {uid} isn't as the schema declares it",
+        "missing": f"{uid} isn't stored",
     }
-    return texts.get(what, [f"The world isn't well-formed: {fault}."])
+    return [f"The world isn't well-formed: {reasons.get(what, fault)}."] if fault else []
 
 
 def told_entities(world: World, words: Words) -> list[str]:
     """A line on each entity that is no action, with all that it is in, its attributes and tags."""
-    return [": ".join([words.uid(uid), *filter(None, [", ".join(words.facts(uid))])]) for uid in world.entities if not world.is_action(uid)]
+    uids = [uid for uid in world.entities if not world.is_action(uid)]
+    return [": ".join(filter(None, [words.uid(uid), ", ".join(words.facts(uid))])) for uid in uids]
 
 
 def told_rules(replayed: Replayed) -> list[str]:

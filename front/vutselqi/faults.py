@@ -20,12 +20,18 @@ ROW = re.compile(r"\| `(?P<name>\w+)[^`]*` \| (?P<cells>.*) \|")
 BULLET = re.compile(r"- (?:`error (?P<code>\d+)[^`]*`|status (?P<status>\d+)[^:]*): (?P<text>.*)")
 REFUSAL = re.compile(r"error (?P<status>\d+) (?P<rest>.*)")
 OF_POLICY = re.compile(rf"policy(?P<number>\d+) (?:{KIND} )?(?P<name>\w+) at (?P<offset>\d+)")
-ROLES = {"schema": "the schema", "policies": "the policies", "against": "the policies to compare with", "world": "the world", "log": "the log"}
+ROLES = {
+    "schema": "the schema",
+    "policies": "the policies",
+    "against": "the policies to compare with",
+    "world": "the world",
+    "log": "the log",
+}
 
 
 @lru_cache(maxsize=None)
 def meanings() -> dict[tuple[int, str], tuple[str, str]]:
-    """By status and name of a fault ('' for the status itself): what it means and what to do about it, from the page of codes."""
+    """By status and name of a fault, '' for the status itself: what it means and what to do, from the page of codes."""
     found, status = {}, 0
     for line in codes_page().splitlines():
         if line.startswith("## "):
@@ -49,7 +55,7 @@ def codes_page() -> str:
 
 
 def refusal(answer: Answer, inputs: dict[str, Input]) -> Trouble:
-    """What to say where the program gives no answer. `inputs` are the files of the command, by the program's words for them."""
+    """What to say where the program gives no answer. `inputs` are the files, by the program's words for them."""
     if answer.status < 0:
         return Trouble(f"the program was stopped by signal {-answer.status}", line=answer.command)
     found = REFUSAL.fullmatch(answer.lines[-1]) if answer.lines else None
@@ -94,7 +100,11 @@ def of_policies(status: int, file: Input, fault: str, line: str) -> Trouble:
     if not found:
         name, _, offset = fault.partition(" at ")
         sentence, advice = explained(status, name)
-        return Trouble(sentence, at_offset(file, offset), advice, line) if offset.isdigit() else of_whole(file, sentence, advice, line)
+        return (
+            Trouble(sentence, at_offset(file, offset), advice, line)
+            if offset.isdigit()
+            else of_whole(file, sentence, advice, line)
+        )
     sentence, advice = explained(status, found["name"])
     number, rules = int(found["number"]), file.rules
     identity = f" (`{rules[number].identity}`)" if number < len(rules) and rules[number].identity is not None else ""
@@ -119,12 +129,18 @@ def of_json(status: int, file: Input, fault: str, line: str) -> Trouble:
     name, _, where = fault.partition(" at ")
     sentence, advice = explained(status, name)
     if name == "NotJson":
-        return Trouble(sentence, json_stop(file), advice, line) if json_stop(file) else of_whole(file, sentence, advice, line)
+        return (
+            Trouble(sentence, json_stop(file), advice, line)
+            if json_stop(file)
+            else of_whole(file, sentence, advice, line)
+        )
     offset = offset_of(file.text, unescaped(where)) if where.startswith("/") or fault.endswith(" at ") else None
     if where:
         sentence = f"{sentence}; at {where}"
-    return Trouble(sentence, at_character(file.name, file.text, offset), advice, line) if offset is not None else of_whole(
-        file, sentence, advice, line
+    return (
+        Trouble(sentence, at_character(file.name, file.text, offset), advice, line)
+        if offset is not None
+        else of_whole(file, sentence, advice, line)
     )
 
 

@@ -1,4 +1,4 @@
-"""Many machines, by GNU parallel, which sends the program and the files to each host over ssh, and brings the answers back."""
+"""Many machines, by GNU parallel, which sends the program and the files to each by ssh, and brings the answers."""
 
 from __future__ import annotations
 
@@ -28,7 +28,10 @@ class Fleet:
 
     def __init__(self, program: Program, hosts: str, jobs: int) -> None:
         if not shutil.which("parallel"):
-            raise Trouble("--hosts needs GNU parallel, and the command `parallel` isn't installed", advice="install it, or leave --hosts out")
+            raise Trouble(
+                "--hosts needs GNU parallel, and the command `parallel` isn't installed",
+                advice="install it, or leave --hosts out",
+            )
         if not os.path.isfile(hosts):
             raise Trouble(f"the file of hosts, {hosts}, isn't there", advice="write a file with a line for each host")
         self.hosts = os.path.abspath(hosts)
@@ -39,10 +42,19 @@ class Fleet:
         self.program = program.path
 
     def ask(self, options: dict[str, Option], places: list[int]) -> list[Answer]:
-        """Asks about each kind of request at some places. Hosts work in a folder of the same name, and on copies of the files."""
+        """Asks about the kinds of request at some places. Each host works on copies, in a folder of the same name."""
         with tempfile.TemporaryDirectory(prefix="vutselqi-hosts-") as name:
             files = self.stage(options, Path(name))
-            words = ["parallel", "--plain", "--will-cite", "--keep-order", "--sshloginfile", self.hosts, "--workdir", name]
+            words = [
+                "parallel",
+                "--plain",
+                "--will-cite",
+                "--keep-order",
+                "--sshloginfile",
+                self.hosts,
+                "--workdir",
+                name,
+            ]
             words += ["--jobs", str(self.jobs)] if self.jobs > 1 else []
             words += ["--cleanup"] if self.is_remote else []
             words += [word for file in files for word in ("--basefile", file)]
@@ -52,7 +64,10 @@ class Fleet:
         missing = [place for place in places if place not in found]
         if missing:
             said = run.stderr.decode("utf-8", "replace").strip() or f"status {run.returncode}"
-            raise Trouble(f"GNU parallel brought no answer for {counted(len(missing), 'kind')} of request: {said}", line=shlex.join(words))
+            raise Trouble(
+                f"GNU parallel brought no answer for {counted(len(missing), 'kind')} of request: {said}",
+                line=shlex.join(words),
+            )
         return [found[place] for place in places]
 
     def stage(self, options: dict[str, Option], folder: Path) -> list[str]:
@@ -61,7 +76,8 @@ class Fleet:
         for path in (self.program, *inputs):
             if path.is_file():
                 shutil.copy(path, folder / (path.name if path in inputs else "cedar_symcc"))
-        named = {name: value.path.name if isinstance(value, Input) else value for name, value in options.items()}
+        named: dict[str, Option] = dict(options)
+        named.update((name, value.path.name) for name, value in options.items() if isinstance(value, Input))
         command = shlex.join(words_of("./cedar_symcc", "log", named, False))
         (folder / "ask.sh").write_text(SCRIPT.format(command=command), encoding="utf-8")
         return [path.name for path in folder.iterdir()]

@@ -1,4 +1,4 @@
-"""Files that the user gives: each is read once and kept in a folder of its own, so that all questions are about the same bytes."""
+"""Files that the user gives: each is read once and kept in a folder, so that all questions are about the same bytes."""
 
 from __future__ import annotations
 
@@ -63,7 +63,7 @@ class Workspace:
         self.folder.cleanup()
 
     def take(self, given: str, name: str) -> Input:
-        """Reads a file that the user gave, and keeps it by a plain name. One that can't be read isn't kept: the program says so then."""
+        """Reads a file, and keeps it by a plain name. One that can't be read isn't kept: the program says so then."""
         shown, path = os.fsencode(given).decode("utf-8", "replace"), self.path / name
         try:
             with open(given, "rb") as file:

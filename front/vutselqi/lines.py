@@ -28,7 +28,7 @@ HOLDS, COUNTEREXAMPLE, UNKNOWN, OVER_LIMIT = "holds", "counterexample", "unknown
 
 @dataclass(frozen=True)
 class Kind:
-    """A kind of request: the principal's type, the action, the resource's type, and the link of a template, each as the program prints it."""
+    """A kind of request: the principal's type, the action, the resource's type, and a template's link, as printed."""
 
     principal: str
     action: str
@@ -64,7 +64,7 @@ class Verdict:
 
 @dataclass(frozen=True)
 class Standing:
-    """How a policy, by its number from 0, stands in a replayed world: `satisfied`, `not satisfied` or `errs`, then with the error's name."""
+    """How a policy, by its number from 0, stands in a world: `satisfied`, `not satisfied`, or `errs` with an error."""
 
     number: int
     says: str
@@ -74,7 +74,7 @@ class Standing:
 
 @dataclass(frozen=True)
 class Replay:
-    """What a world does: what keeps it from being well-formed ('' where nothing does), how each policy stands, and the decision."""
+    """What keeps a world from being well-formed, '' where nothing does, how each policy stands, and the decision."""
 
     fault: str
     standings: tuple[Standing, ...]

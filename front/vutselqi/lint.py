@@ -1,4 +1,4 @@
-"""`lint`: rules that can err, kinds of request that nothing allows or all of which are allowed, rules that do nothing."""
+"""`lint`: rules that can err or do nothing, kinds of request that nothing allows or all of which are allowed."""
 
 from __future__ import annotations
 
@@ -9,7 +9,7 @@ from vutselqi.faults import refusal
 from vutselqi.inputs import Input
 from vutselqi.lines import COUNTEREXAMPLE, HOLDS, Fate, Kind, read_fate
 from vutselqi.program import Answer, Option
-from vutselqi.questions import Asker, Question, Told, files_of, reading
+from vutselqi.questions import Asker, Question, Told, files_of, odd, reading
 from vutselqi.replays import replay, rule_answer, rule_text, rules_text, words_in
 from vutselqi.report import NOTE, WARNING, Finding, Report, Row
 from vutselqi.trouble import Trouble
@@ -17,6 +17,7 @@ from vutselqi.words import Words, counted, fitting
 from vutselqi.worlds import read_world
 
 ERRORS = {"Overflow": "a number leaves the 64 bits that it has"}
+NOTHING = "without this and all others named so, every request is decided the same"
 NO_REDUCE = "This program has no `reduce`: rules that do nothing aren't looked for."
 
 
@@ -36,11 +37,13 @@ class Lint:
         report = Report("lint", f"What is odd in {self.policies.name}", rows)
         self.reduce(report)
         warnings = sum(finding.level == WARNING for finding in report.findings)
-        is_open = sum(finding.code == "undecided" for finding in report.findings)
-        report.status = 1 if warnings else 2 if is_open else 0
+        open_ones = sum(finding.code == "undecided" for finding in report.findings)
+        report.status = 1 if warnings else 2 if open_ones else 0
         looked_at = f"{counted(len(self.policies.rules), 'rule')}, {counted(len(rows), 'kind')} of request"
         found = counted(warnings, "warning") if warnings else "nothing odd"
-        report.summary = f"{looked_at}: {found}{', ' + counted(is_open, 'question') + ' undecided' if is_open else ''}."
+        report.summary = (
+            f"{looked_at}: {found}{', ' + counted(open_ones, 'question') + ' undecided' if open_ones else ''}."
+        )
         return report
 
     def ask(self, name: str, task: str) -> list[Told]:
@@ -58,9 +61,15 @@ class Lint:
         elif allowed.verdict.says == HOLDS:
             verdict = "always allowed"
             findings.append(constant(allowed, "everything-allowed", "Every request of this kind is allowed."))
-        for told, what in ((errs, "a rule can err"), (denied, "nothing allows such a request"), (allowed, "every such request is allowed")):
+        for told, what in (
+            (errs, "a rule can err"),
+            (denied, "nothing allows such a request"),
+            (allowed, "every such request is allowed"),
+        ):
             if told.verdict.is_open:
-                findings.append(undecided(kind, f"Whether {what} is undecided: {openness(told.verdict)}.", list(told.lines)))
+                findings.append(
+                    undecided(kind, f"Whether {what} is undecided: {openness(told.verdict)}.", list(told.lines))
+                )
                 verdict = verdict if told is errs or verdict != "depends" else "undecided"
         return Row(kind, verdict, findings, [*errs.lines, *denied.lines, *allowed.lines])
 
@@ -88,31 +97,44 @@ class Lint:
 
     def reduce(self, report: Report) -> None:
         """Asks which rules do nothing, where the program can be asked that."""
+        answer, fates = self.reduced()
+        if answer.status == 10:
+            report.notes.append(NO_REDUCE)
+        report.others += [self.fate(fate, answer) for fate in fates if fate.says != "kept"]
+
+    def reduced(self) -> tuple[Answer, list[Fate]]:
+        """What the program says of each rule, with budgets that rise while some rule is unproved."""
         for budget in self.asker.budgets:
             options: dict[str, Option] = {"schema": self.asker.schema, "policies": self.policies, "budget": budget}
             self.asker.progress.begin(f"asking which rules do nothing, budget {budget:,}")
             answer = self.asker.program.ask("reduce", options)
             if answer.status == 10:
-                report.notes.append(NO_REDUCE)
-                return
+                return answer, []
             if answer.status not in (0, 2):
                 raise refusal(answer, files_of(options))
             with reading():
                 fates = [read_fate(line) for line in answer.lines]
+            if len(fates) != len(self.policies.rules) or (answer.status == 2) != any(map(is_open, fates)):
+                raise odd(answer)
             if all(fate.says != "unproved" for fate in fates):
                 break
-        report.others += [self.fate(fate, answer) for fate in fates if fate.says != "kept"]
+        return answer, fates
 
     def fate(self, fate: Fate, answer: Answer) -> Finding:
         """What is said of a rule that does nothing, or of which that isn't known."""
         rule = rule_answer(self.policies, fate.number)
         lines = [answer.command, fate.line]
         if fate.says == "dropped":
-            sentence = f"Rule {rule_text(rule)} does nothing: without all that are named so, every request is decided the same."
+            sentence = f"Rule {rule_text(rule)} does nothing: {NOTHING}."
             return Finding("does-nothing", WARNING, sentence, place=rule.place, rules=[rule], lines=lines)
         why = "the budget didn't suffice" if fate.says == "unproved" else "the question is too large"
         sentence = f"Whether rule {rule_text(rule)} does anything is undecided: {why}."
         return Finding("undecided", NOTE, sentence, fate.kind, place=rule.place, rules=[rule], lines=lines)
+
+
+def is_open(fate: Fate) -> bool:
+    """Whether it isn't known what a rule does."""
+    return fate.says not in ("kept", "dropped")
 
 
 def constant(told: Told, code: str, sentence: str) -> Finding:

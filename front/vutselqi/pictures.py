@@ -24,7 +24,7 @@ def can_draw() -> bool:
 
 
 def svg_of(world: World, is_whole: bool) -> Optional[str]:
-    """The world, whole or as far as the request leads, as an SVG element; None where `dot` isn't installed, or doesn't draw it."""
+    """The world, whole or as far as the request leads, as an SVG element; None where `dot` doesn't draw it."""
     if not can_draw():
         return None
     graph = graph_of(world, is_whole).encode("utf-8", "replace")
@@ -32,7 +32,9 @@ def svg_of(world: World, is_whole: bool) -> Optional[str]:
     text = run.stdout.decode("utf-8", "replace")
     if run.returncode or "<svg" not in text:
         return None
-    return SIZE.sub(r'<svg role="img" \1 style="max-width:100%;height:auto"', NAME.sub("", FRONT.sub("", text)), count=1)
+    return SIZE.sub(
+        r'<svg role="img" \1 style="max-width:100%;height:auto"', NAME.sub("", FRONT.sub("", text)), count=1
+    )
 
 
 def graph_of(world: World, is_whole: bool) -> str:
@@ -44,20 +46,32 @@ def graph_of(world: World, is_whole: bool) -> str:
     lines = [
         "digraph {",
         '  graph [rankdir=LR, bgcolor="transparent", fontname="Helvetica", nodesep=0.3];',
-        '  node [shape=box, style="rounded,filled", fillcolor="#f6f6f2", color="#888888", fontname="Helvetica", fontsize=11];',
+        '  node [shape=box, style="rounded,filled", fillcolor="#f6f6f2", color="#888888"];',
+        '  node [fontname="Helvetica", fontsize=11];',
         '  edge [color="#888888", fontname="Helvetica", fontsize=10, arrowsize=0.7];',
     ]
     for uid in drawn:
-        fill = ', fillcolor="#dcebfa"' if uid == world.principal else ', fillcolor="#fbeed5"' if uid == world.resource else ""
+        fill = (
+            ', fillcolor="#dcebfa"'
+            if uid == world.principal
+            else ', fillcolor="#fbeed5"'
+            if uid == world.resource
+            else ""
+        )
         lines.append(f"  {names[uid]} [label={label(node_lines(world, words, uid))}{fill}];")
     for uid in drawn:
         entity = world.entity(uid)
-        lines += [f'  {names[uid]} -> {names[parent]} [style=dashed, label="in"];' for parent in nearest(world, entity) if parent in names]
+        lines += [
+            f'  {names[uid]} -> {names[parent]} [style=dashed, label="in"];'
+            for parent in nearest(world, entity)
+            if parent in names
+        ]
         for name, value in (*entity.attrs.items(), *entity.tags.items()):
             ends = dict.fromkeys(end for end in uids_in(value) if end in names)
             lines += [f"  {names[uid]} -> {names[end]} [label={label([name])}];" for end in ends]
     asked = label([world.action.id])
-    lines.append(f'  {names[world.principal]} -> {names[world.resource]} [label={asked}, color="#b03030", fontcolor="#b03030", penwidth=2];')
+    red = 'color="#b03030", fontcolor="#b03030", penwidth=2'
+    lines.append(f"  {names[world.principal]} -> {names[world.resource]} [label={asked}, {red}];")
     lines += context_lines(world, words, names)
     return "\n".join([*lines, "}", ""])
 

@@ -16,7 +16,7 @@ LINES = 8  # lines of a rule that are shown
 
 @dataclass(frozen=True)
 class Place:
-    """A place in a file, by the name that the user gave; `excerpt` is what stands there: a line with a caret below it, or a rule."""
+    """A place in a file of the user's name; `excerpt` is what stands there: a line with a caret below it, or a rule."""
 
     file: str
     line: int
@@ -52,7 +52,10 @@ def at_character(file: str, source: str, offset: int) -> Place:
 def at_rule(file: str, source: str, offset: int, end: int) -> Place:
     """The place of a rule, from one character up to another, with its text."""
     place = at_character(file, source, offset)
-    lines = [shown(line if len(line) <= ROOM else line[: ROOM - 1] + "…") for line in re.split(r"\r\n|\r|\n", source[offset:end] + ";")]
+    lines = [
+        shown(line if len(line) <= ROOM else line[: ROOM - 1] + "…")
+        for line in re.split(r"\r\n|\r|\n", source[offset:end] + ";")
+    ]
     return replace(place, excerpt=tuple(lines if len(lines) <= LINES else [*lines[: LINES - 1], "…"]))
 
 

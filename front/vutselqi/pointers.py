@@ -15,7 +15,7 @@ def steps_of(pointer: str) -> list[str]:
 
 
 def offset_of(text: str, pointer: str) -> Optional[int]:
-    """The character at which the value stands that the pointer leads to, or that of its key; None where there is none."""
+    """The character at which the value that the pointer leads to stands, or its key; None where there is none."""
     try:
         at = shown_at = after_blanks(text, 0)
         for step in steps_of(pointer):

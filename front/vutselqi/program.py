@@ -10,6 +10,7 @@ from dataclasses import dataclass, field
 from pathlib import Path
 from typing import Callable, Optional, Union
 
+from vutselqi.escapes import shell_word
 from vutselqi.inputs import Input
 from vutselqi.trouble import Trouble
 
@@ -61,7 +62,7 @@ class Answer:
     @property
     def command(self) -> str:
         """The command, quoted for a shell."""
-        return "$ " + shlex.join(self.words)
+        return "$ " + " ".join(map(shell_word, self.words))
 
     @property
     def transcript(self) -> list[str]:
@@ -93,13 +94,15 @@ class Program:
         each: Optional[Callable[[str], None]] = None,
         at_most: Optional[int] = None,
     ) -> Answer:
-        """Asks one question. `each` sees each line as it comes; of more lines than `at_most` the further ones aren't kept."""
+        """Asks one question. `each` sees each line as it comes; of more lines than `at_most` the rest isn't kept."""
         answer = Answer(words_of("cedar_symcc", command, options, True), 0)
         words = words_of(str(self.path), command, options, False)
         try:
             process = subprocess.Popen(words, stdin=subprocess.DEVNULL, stdout=subprocess.PIPE)
         except OSError as error:
-            raise Trouble(f"{self.path} can't be run: {error.strerror}", advice="is it built for this machine?") from error
+            raise Trouble(
+                f"{self.path} can't be run: {error.strerror}", advice="is it built for this machine?"
+            ) from error
         with process:
             for line in process.stdout or ():
                 text = line.decode("utf-8", "replace").rstrip("\n")

@@ -8,7 +8,7 @@ from vutselqi.escapes import plain
 
 
 class Progress:
-    """Tells how many kinds of request are answered, on a terminal alone."""
+    """Tells which task has begun, and how many kinds of request are answered."""
 
     def __init__(self, stream: TextIO, is_told: bool) -> None:
         self.stream = stream
@@ -19,9 +19,14 @@ class Progress:
     def begin(self, task: str) -> None:
         """Begins with a task, in a few words."""
         self.task, self.done = task, 0
+        self.put(task)
 
     def answered(self, kind: str, says: str) -> None:
         """Tells that a kind of request is answered."""
         self.done += 1
+        self.put(f"{self.task}: {self.done}. {kind}: {says}")
+
+    def put(self, line: str) -> None:
+        """Writes a line."""
         if self.is_told:
-            print(f"{self.task}: {self.done}. {plain(kind)}: {says}", file=self.stream, flush=True)
+            print(plain(line), file=self.stream, flush=True)

@@ -53,7 +53,14 @@ class Asker:
     """Asks the program about one schema."""
 
     def __init__(
-        self, program: Program, workspace: Workspace, schema: Input, budget: int, jobs: int, progress: Progress, fleet: Optional[Fleet]
+        self,
+        program: Program,
+        workspace: Workspace,
+        schema: Input,
+        budget: int,
+        jobs: int,
+        progress: Progress,
+        fleet: Optional[Fleet],
     ) -> None:
         self.program = program
         self.workspace = workspace
@@ -128,7 +135,7 @@ class Asker:
         raise Trouble(f"the program lists {len(lines)} kinds of request out of {count}", line=answer.command)
 
     def each(self, question: Question, places: list[int], kinds: list[Kind], budget: int) -> dict[int, Told]:
-        """Asks about the kinds of request at some places, each in a run of its own; the answers are in the order of the places."""
+        """Asks about the kinds of request at some places, each in a run of its own; the answers are in their order."""
         options = self.options(question, {"budget": budget})
 
         def told(place: int, answer: Answer) -> Told:
@@ -167,7 +174,10 @@ def status_of(told: list[Told]) -> int:
 
 def odd(answer: Answer) -> Trouble:
     """What to say of lines that don't go with the status, or with one another."""
-    return Trouble(f"the program's lines don't go with its status {answer.status}: it is another version, or another program", line=answer.command)
+    return Trouble(
+        f"the program's lines don't go with its status {answer.status}: it is another version, or another program",
+        line=answer.command,
+    )
 
 
 def files_of(options: dict[str, Option]) -> dict[str, Input]:
@@ -181,4 +191,6 @@ def reading() -> Iterator[None]:
     try:
         yield
     except Unread as error:
-        raise Trouble("the program writes a line that this front can't read: it is another version", line=str(error)) from error
+        raise Trouble(
+            "the program writes a line that this front can't read: it is another version", line=str(error)
+        ) from error

@@ -26,8 +26,10 @@ CODES = {
 
 @dataclass(frozen=True)
 class RuleAnswer:
-    """A rule that a sentence speaks of: of which file, its number from 1, its `@id`, its effect, its place, how it stands in the world,
-    and the words that it writes."""
+    """A rule that a sentence speaks of: its file, its number from 1, its `@id`, its effect and its place.
+
+    `says` is how it stands in the world, and `words` are those that it writes.
+    """
 
     file: str
     number: int
@@ -65,7 +67,7 @@ class Row:
 
 @dataclass
 class Report:
-    """What a command has found: by kinds of request, further findings, a summary, remarks, and the status to end with."""
+    """What a command has found: by kinds of request, further findings, a summary, remarks, and its status."""
 
     command: str
     title: str

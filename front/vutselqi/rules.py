@@ -1,7 +1,7 @@
 """The rules of a policy file: where each begins, whether it permits or forbids, and its `@id`.
 
-A file that the program has read is what it takes it for: a rule ends at a semicolon outside of strings and comments, and what stands in
-front of its first bracket are its annotations and `permit` or `forbid`.
+In a file that the program has accepted a rule ends at a semicolon outside of strings and comments, and begins with its
+annotations and `permit` or `forbid`.
 """
 
 from __future__ import annotations
@@ -19,7 +19,7 @@ TOKEN = re.compile(r'//[^\n\r]*|"(?:[^"\\]|\\.)*"|[^\W\d]\w*|\s+|.', re.S)
 
 @dataclass(frozen=True)
 class Rule:
-    """A rule by its number, counted from 1. Its text is from the character where its `permit` or `forbid` stands, up to `end`.
+    """A rule by its number, counted from 1, with its text from the character of its `permit` or `forbid` up to `end`.
 
     `words` are the names and texts that it writes: what it looks at by name is among them.
     """
@@ -38,7 +38,8 @@ class Rule:
 
 def rules_of(text: str) -> list[Rule]:
     """The rules of a text, in order."""
-    rules, rule = [], []
+    rules: list[Rule] = []
+    rule: list[re.Match[str]] = []
     for found in tokens(text):
         if found.group() == ";":
             rules += read_rule(len(rules) + 1, rule)
@@ -60,7 +61,9 @@ def read_rule(number: int, found: list[re.Match[str]]) -> list[Rule]:
 
 def tokens(text: str) -> list[re.Match[str]]:
     """The tokens of a text, without white space and comments."""
-    return [found for found in TOKEN.finditer(text) if not found.group().isspace() and not found.group().startswith("//")]
+    return [
+        found for found in TOKEN.finditer(text) if not found.group().isspace() and not found.group().startswith("//")
+    ]
 
 
 def identity(front: list[str]) -> Optional[str]:

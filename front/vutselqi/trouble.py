@@ -10,7 +10,7 @@ from vutselqi.places import Place
 
 @dataclass
 class Trouble(Exception):
-    """A sentence on what went wrong, where that is in a file, what to do about it, and the line of the program that says so."""
+    """A sentence on what went wrong, where in a file, what to do about it, and the line of the program that says so."""
 
     sentence: str
     place: Optional[Place] = None

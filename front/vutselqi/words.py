@@ -1,13 +1,13 @@
 """Worlds in words.
 
-A sentence tells of the attributes that the rules name which decide; what other rules name is told besides, or in the sentence too if it is
-little. An attribute that no rule names can't matter to any rule, and isn't told.
+A sentence tells of the attributes that the rules name which decide; what other rules name is told besides, or in the
+sentence too if it is little. An attribute that no rule names can't matter to any rule, and isn't told.
 """
 
 from __future__ import annotations
 
 import re
-from typing import Collection, Iterable, Optional
+from typing import Collection, Iterable, Mapping, Optional
 
 from vutselqi.escapes import quoted
 from vutselqi.worlds import Entity, Extension, Uid, Value, World, uids_in
@@ -30,14 +30,19 @@ def counted(number: int, noun: str, plural: str = "") -> str:
 def fitting(world: World, told: Collection[str], known: Collection[str]) -> "Words":
     """Words that tell all that is known where it is little more than what is to be told."""
     words = Words(world, told, known)
-    spare = [*words.rest(world.context), *(name for uid in {world.principal, world.resource} for name in words.rest(world.entity(uid).attrs))]
+    spare = [
+        *words.rest(world.context),
+        *(name for uid in {world.principal, world.resource} for name in words.rest(world.entity(uid).attrs)),
+    ]
     return Words(world, known) if len(spare) <= LITTLE else words
 
 
 class Words:
-    """Words for one world. `told` are the names of what sentences tell, `known` of what is told besides; None stands for all names."""
+    """Words for one world: `told` are the names of what sentences tell, `known` of all that is told; None is all."""
 
-    def __init__(self, world: World, told: Optional[Collection[str]] = None, known: Optional[Collection[str]] = None) -> None:
+    def __init__(
+        self, world: World, told: Optional[Collection[str]] = None, known: Optional[Collection[str]] = None
+    ) -> None:
         self.world = world
         self.names = told
         self.known = told if known is None else known
@@ -60,10 +65,10 @@ class Words:
         if isinstance(value, list):
             return "[" + ", ".join(map(self.value, value)) + "]"
         if isinstance(value, dict):
-            return "{" + ", ".join(f"{name_text(name)}: {self.value(v)}" for name, v in value.items()) + "}"
+            return "{" + ", ".join(f"{name_text(name)}: {self.value(held)}" for name, held in value.items()) + "}"
         return quoted(value) if isinstance(value, str) else str(value).lower()
 
-    def pairs(self, attributes: dict[str, Value]) -> list[str]:
+    def pairs(self, attributes: Mapping[str, Value]) -> list[str]:
         """`size 3`, `title "a"`."""
         return [f"{name_text(name)} {self.value(value)}" for name, value in attributes.items()]
 
@@ -74,9 +79,11 @@ class Words:
             phrases.append(f"{pronoun} is in {listed(map(self.uid, entity.parents))}")
         owner, name = attributes.get("owner"), attributes.get("name")
         if isinstance(owner, Uid):
-            phrases.append(f"owned by {self.uid(attributes.pop('owner'))}")
+            phrases.append(f"owned by {self.uid(owner)}")
+            del attributes["owner"]
         if isinstance(name, str):
-            phrases.append(f"named {quoted(attributes.pop('name'))}")
+            phrases.append(f"named {quoted(name)}")
+            del attributes["name"]
         if attributes:
             phrases.append(f"with {listed(self.pairs(attributes))}")
         if entity.tags:
@@ -101,7 +108,7 @@ class Words:
         return sentence + (f", where {listed(link)}" if link else "")
 
     def besides(self) -> list[str]:
-        """A line on each thing that no sentence tells: of the request, and of entities that it leads to, nearest first."""
+        """A line on what no sentence tells: of the request, and of each entity that it leads to, nearest first."""
         world, lines = self.world, []
         ends = dict.fromkeys([world.principal, world.resource])
         for uid in ends:

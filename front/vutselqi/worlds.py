@@ -38,7 +38,7 @@ class Entity:
 
 @dataclass(frozen=True)
 class World:
-    """Who asks what of which resource in which context, with the uids that a template's slots stand for, and all stored entities."""
+    """Who asks what of which resource in which context, what a template's slots stand for, and all stored entities."""
 
     principal: Uid
     action: Uid
@@ -88,7 +88,7 @@ def read_record(tree: dict[str, Any]) -> dict[str, Value]:
     return {name: read_value(value) for name, value in tree.items()}
 
 
-def read_value(tree: Any) -> Value:
+def read_value(tree: Any) -> Any:
     """Reads a value."""
     if isinstance(tree, list):
         return [read_value(member) for member in tree]

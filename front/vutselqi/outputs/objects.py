@@ -57,7 +57,14 @@ def kind_tree(kind: Optional[Kind]) -> Optional[dict[str, str]]:
 def finding_tree(finding: Finding) -> dict[str, Any]:
     """A sentence, and all that it stands on."""
     rules = [
-        {"file": rule.file, "number": rule.number, "id": rule.identity, "effect": rule.effect, "place": place_tree(rule.place), "says": rule.says}
+        {
+            "file": rule.file,
+            "number": rule.number,
+            "id": rule.identity,
+            "effect": rule.effect,
+            "place": place_tree(rule.place),
+            "says": rule.says,
+        }
         for rule in finding.rules
     ]
     return {

@@ -12,13 +12,15 @@ from vutselqi.report import Finding, Report, Row
 
 POLICY = "default-src 'none'; style-src 'unsafe-inline'"
 STYLE = """
-body { font: 16px/1.5 system-ui, sans-serif; margin: 2rem auto; max-width: 70rem; padding: 0 1rem; color: #222; background: #fff; }
-h1 { font-size: 1.5rem; } h2 { font-size: 1.15rem; margin-top: 2.5rem; }
+body { font: 16px/1.5 system-ui, sans-serif; margin: 2rem auto; max-width: 70rem; padding: 0 1rem; color: #222; }
+html { background: #fff; } h1 { font-size: 1.5rem; } h2 { font-size: 1.15rem; margin-top: 2.5rem; }
 table { border-collapse: collapse; } th, td { border: 1px solid #ccc; padding: .3rem .7rem; text-align: left; }
-code, pre { font-family: ui-monospace, monospace; font-size: .9em; } pre { overflow-x: auto; background: #f6f6f2; padding: .6rem; }
+code, pre { font-family: ui-monospace, monospace; font-size: .9em; }
+pre { overflow-x: auto; background: #f6f6f2; padding: .6rem; }
 td.quiet { color: #17632b; } td.loud { color: #8a2b00; font-weight: 600; }
-.error { border-left: 4px solid #b03030; } .warning { border-left: 4px solid #c98a00; } .note { border-left: 4px solid #3a75b0; }
-.finding { padding-left: 1rem; margin: 1rem 0; } figure { margin: 1rem 0; } .lines pre { white-space: pre-wrap; overflow-wrap: anywhere; }
+.finding { padding-left: 1rem; margin: 1rem 0; border-left: 4px solid; } figure { margin: 1rem 0; }
+.error { border-color: #b03030; } .warning { border-color: #c98a00; } .note { border-color: #3a75b0; }
+.lines pre { white-space: pre-wrap; overflow-wrap: anywhere; }
 """
 QUIET = {"same", "depends"}
 
@@ -50,7 +52,8 @@ def document(title: str, body: str) -> str:
         '<!DOCTYPE html>\n<html lang="en">\n<head>\n<meta charset="utf-8">\n'
         f'<meta http-equiv="Content-Security-Policy" content="{escape(POLICY)}">\n'
         '<meta name="viewport" content="width=device-width, initial-scale=1">\n'
-        f"<title>{shown(title)}</title>\n<style>{STYLE}</style>\n</head>\n<body>\n<h1>{shown(title)}</h1>\n{body}\n</body>\n</html>\n"
+        f"<title>{shown(title)}</title>\n<style>{STYLE}</style>\n</head>\n<body>\n"
+        f"<h1>{shown(title)}</h1>\n{body}\n</body>\n</html>\n"
     )
 
 
@@ -61,7 +64,10 @@ def table(rows: list[Row]) -> str:
         verdict = shown(row.verdict)
         if row.findings:
             verdict = f'<a href="#kind{number}">{verdict}</a>'
-        cells = "".join(f"<td><code>{shown(text)}</code></td>" for text in (row.kind.principal, row.kind.action, row.kind.resource + row.kind.link))
+        cells = "".join(
+            f"<td><code>{shown(text)}</code></td>"
+            for text in (row.kind.principal, row.kind.action, row.kind.resource + row.kind.link)
+        )
         mood = "quiet" if row.verdict in QUIET else "loud"
         lines.append(f'<tr>{cells}<td class="{mood}">{verdict}</td></tr>')
     return "\n".join([*lines, "</table>"])

@@ -43,7 +43,12 @@ def result(finding: Finding, codes: list[str]) -> dict[str, Any]:
 
 def result_of(code: str, level: str, message: str, place: Optional[Place], codes: list[str]) -> dict[str, Any]:
     """A result with where it is, if it is anywhere."""
-    found: dict[str, Any] = {"ruleId": code, "ruleIndex": codes.index(code), "level": level, "message": {"text": message}}
+    found: dict[str, Any] = {
+        "ruleId": code,
+        "ruleIndex": codes.index(code),
+        "level": level,
+        "message": {"text": message},
+    }
     if place:
         region = {"startLine": place.line, "startColumn": place.column}
         uri = ("file://" if place.file.startswith("/") else "") + quote(place.file)
