@@ -6,7 +6,7 @@ from dataclasses import dataclass
 
 from vutselqi.inputs import Input
 from vutselqi.lines import COUNTEREXAMPLE, HOLDS, Verdict
-from vutselqi.questions import Asker, Question, Told
+from vutselqi.questions import Asker, Question, Told, by_kind, openness
 from vutselqi.replays import Replayed, deciding, replay, rules_text, words_in
 from vutselqi.report import ERROR, WARNING, Finding, Report, Row
 from vutselqi.trouble import Trouble
@@ -31,9 +31,7 @@ class Comparison:
         """Asks `implies` both ways, and says what that means for each kind of request."""
         wider = self.asker.ask(Question("implies", self.new, self.old, "asking what gets wider"))
         narrower = self.asker.ask(Question("implies", self.old, self.new, "asking what gets narrower"))
-        if [told.verdict.kind for told in wider] != [told.verdict.kind for told in narrower]:
-            raise Trouble("the program lists other kinds of request for one question than for the other")
-        rows = [self.row(one, other) for one, other in zip(wider, narrower)]
+        rows = [self.row(*told) for told in by_kind(wider, narrower)]
         title = f"What changes from {self.old.name} to {self.new.name}"
         return Report("compare", title, rows, summary=summary_of(rows), status=self.status(wider, narrower))
 
@@ -97,11 +95,6 @@ def verdict_of(wider: Verdict, narrower: Verdict) -> str:
     if found:
         return " and ".join(found)
     return SAME if wider.says == narrower.says == HOLDS else UNDECIDED
-
-
-def openness(verdict: Verdict) -> str:
-    """Why a question is open."""
-    return f"{counted(verdict.units, 'unit')} of work didn't suffice" if verdict.units else "the question is too large"
 
 
 def widened(old: Replayed, new: Replayed) -> str:

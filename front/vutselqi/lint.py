@@ -4,12 +4,11 @@ from __future__ import annotations
 
 from dataclasses import dataclass
 
-from vutselqi.compare import openness
 from vutselqi.faults import refusal
 from vutselqi.inputs import Input
-from vutselqi.lines import COUNTEREXAMPLE, HOLDS, Fate, Kind, read_fate
+from vutselqi.lines import COUNTEREXAMPLE, HOLDS, Fate, read_fate
 from vutselqi.program import Answer, Option
-from vutselqi.questions import Asker, Question, Told, files_of, odd, reading
+from vutselqi.questions import Asker, Question, Told, by_kind, files_of, odd, openness, reading
 from vutselqi.replays import replay, rule_answer, rule_text, rules_text, words_in
 from vutselqi.report import NOTE, WARNING, Finding, Report, Row
 from vutselqi.trouble import Trouble
@@ -33,17 +32,16 @@ class Lint:
         errs = self.ask("never-errors", "asking which rules can err")
         denied = self.ask("always-denies", "asking what nothing allows")
         allowed = self.ask("always-allows", "asking what is always allowed")
-        rows = [self.row(*told) for told in zip(errs, denied, allowed)]
+        rows = [self.row(*told) for told in by_kind(errs, denied, allowed)]
         report = Report("lint", f"What is odd in {self.policies.name}", rows)
         self.reduce(report)
         warnings = sum(finding.level == WARNING for finding in report.findings)
         open_ones = sum(finding.code == "undecided" for finding in report.findings)
         report.status = 1 if warnings else 2 if open_ones else 0
         looked_at = f"{counted(len(self.policies.rules), 'rule')}, {counted(len(rows), 'kind')} of request"
-        found = counted(warnings, "warning") if warnings else "nothing odd"
-        report.summary = (
-            f"{looked_at}: {found}{', ' + counted(open_ones, 'question') + ' undecided' if open_ones else ''}."
-        )
+        found = [counted(warnings, "warning") if warnings else "nothing odd"]
+        found += [f"{counted(open_ones, 'question')} undecided"] if open_ones else []
+        report.summary = f"{looked_at}: {', '.join(found)}."
         return report
 
     def ask(self, name: str, task: str) -> list[Told]:
@@ -52,26 +50,20 @@ class Lint:
 
     def row(self, errs: Told, denied: Told, allowed: Told) -> Row:
         """What is said of one kind of request."""
-        kind, findings, verdict = errs.verdict.kind, [], "depends"
-        if errs.verdict.says == COUNTEREXAMPLE:
-            findings.append(self.error(errs))
+        findings = [self.error(errs)] if errs.verdict.says == COUNTEREXAMPLE else []
+        verdict = "undecided" if denied.verdict.is_open or allowed.verdict.is_open else "depends"
         if denied.verdict.says == HOLDS:
             verdict = "never allowed"
-            findings.append(constant(denied, "nothing-allowed", "Nothing allows any request of this kind."))
+            findings.append(of_kind("nothing-allowed", WARNING, "Nothing allows any request of this kind.", denied))
         elif allowed.verdict.says == HOLDS:
             verdict = "always allowed"
-            findings.append(constant(allowed, "everything-allowed", "Every request of this kind is allowed."))
-        for told, what in (
-            (errs, "a rule can err"),
-            (denied, "nothing allows such a request"),
-            (allowed, "every such request is allowed"),
-        ):
+            findings.append(of_kind("everything-allowed", WARNING, "Every request of this kind is allowed.", allowed))
+        questions = {"a rule can err": errs, "nothing allows it": denied, "all of it is allowed": allowed}
+        for what, told in questions.items():
             if told.verdict.is_open:
-                findings.append(
-                    undecided(kind, f"Whether {what} is undecided: {openness(told.verdict)}.", list(told.lines))
-                )
-                verdict = verdict if told is errs or verdict != "depends" else "undecided"
-        return Row(kind, verdict, findings, [*errs.lines, *denied.lines, *allowed.lines])
+                sentence = f"Whether {what} is undecided: {openness(told.verdict)}."
+                findings.append(of_kind("undecided", NOTE, sentence, told))
+        return Row(errs.verdict.kind, verdict, findings, [*errs.lines, *denied.lines, *allowed.lines])
 
     def error(self, told: Told) -> Finding:
         """A rule that errs, with the world in which it does."""
@@ -85,6 +77,8 @@ class Lint:
             finding.sentence = f"A rule errs where {who}. The world can't be replayed: {trouble.sentence}."
             return finding
         finding.rules = replayed.rules("errs")
+        if not finding.rules:
+            raise Trouble("the replay of a printed world has no rule that errs", line=told.verdict.line)
         words = fitting(world, words_in(finding.rules), named)
         names = {standing.error for standing in replayed.replay.standings if standing.error}
         reason = "; ".join(f"{name}: {ERRORS[name]}" if name in ERRORS else name for name in sorted(names))
@@ -137,11 +131,6 @@ def is_open(fate: Fate) -> bool:
     return fate.says not in ("kept", "dropped")
 
 
-def constant(told: Told, code: str, sentence: str) -> Finding:
-    """A kind of request that is always decided the same."""
-    return Finding(code, WARNING, sentence, told.verdict.kind, lines=list(told.lines))
-
-
-def undecided(kind: Kind, sentence: str, lines: list[str]) -> Finding:
-    """A question that is open."""
-    return Finding("undecided", NOTE, sentence, kind, lines=lines)
+def of_kind(code: str, level: str, sentence: str, told: Told) -> Finding:
+    """What is found of a kind of request as a whole."""
+    return Finding(code, level, sentence, told.verdict.kind, lines=list(told.lines))

@@ -15,6 +15,7 @@ from vutselqi.lines import COUNTEREXAMPLE, HOLDS, UNKNOWN, Kind, Unread, Verdict
 from vutselqi.program import Answer, Option, Program
 from vutselqi.progress import Progress
 from vutselqi.trouble import Trouble
+from vutselqi.words import counted
 
 FIRST_BUDGET = 10_000
 BEHIND_ALL = 4_294_967_295  # the largest number of a kind of request
@@ -170,6 +171,18 @@ def status_of(told: list[Told]) -> int:
     """The status that goes with some answers: 1 where one is a counterexample, else 2 where one is open, else 0."""
     says = [one.verdict for one in told]
     return 1 if any(one.says == COUNTEREXAMPLE for one in says) else 2 if any(one.is_open for one in says) else 0
+
+
+def openness(verdict: Verdict) -> str:
+    """Why a question is open."""
+    return f"{counted(verdict.units, 'unit')} of work didn't suffice" if verdict.units else "the question is too large"
+
+
+def by_kind(*answers: list[Told]) -> list[tuple[Told, ...]]:
+    """The answers to several questions, by kind of request."""
+    if any([told.verdict.kind for told in one] != [told.verdict.kind for told in answers[0]] for one in answers):
+        raise Trouble("the program lists other kinds of request for one question than for another")
+    return list(zip(*answers))
 
 
 def odd(answer: Answer) -> Trouble:
