@@ -1,8 +1,8 @@
 #!/bin/sh
 # Runs every example of README.md and docs/CODES.md with the built program, and compares what it prints, byte by byte, and its status.
 # In these pages a block that begins with ```LANGUAGE NAME is the file NAME; one that begins with ```console is a transcript, in which
-# `cedar_symcc` is the program; a table behind <!-- examples: FRONT --> has a row an example: how the line ends that begins with FRONT,
-# what it means, and the file that gives it.
+# `cedar_symcc` is the program, and `vutselqi` the front over it; a table behind <!-- examples: FRONT --> has a row an example: how the line
+# ends that begins with FRONT, what it means, and the file that gives it.
 # usage: scripts/examples.sh [PROGRAM]      build the program first, by rt ci at the top of the repository
 set -u
 cd "$(dirname "$0")/.." || exit 2
@@ -31,7 +31,10 @@ blocks() {
         front != "" && /^\| `/ {
             rows++
             print front "\t" $0 > (room "/rows")
+            within = 1
+            next
         }
+        within && !/^\|/ { front = ""; within = 0 }
     ' "$1"
 }
 
@@ -48,7 +51,10 @@ transcript() {
         if [ "$command" = 'echo $?' ]; then
             echo "$status" > "$1.$at.found"
         else
-            case $command in cedar_symcc*) command="$program${command#cedar_symcc}" ;; esac
+            case $command in
+                cedar_symcc*) command="$program${command#cedar_symcc}" ;;
+                vutselqi*) command="CEDAR_SYMCC=$program PYTHONDONTWRITEBYTECODE=1 PYTHONPATH=$top/front python3 -m $command" ;;
+            esac
             (cd "$folder" && eval "$command") > "$1.$at.found" 2> /dev/null
             status=$?
         fi

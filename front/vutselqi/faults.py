@@ -1,0 +1,166 @@
+"""Refusals of the program as sentences, with what the page `docs/CODES.md` says of each."""
+
+from __future__ import annotations
+
+import json
+import re
+from functools import lru_cache
+from pathlib import Path
+from typing import Optional
+
+from vutselqi.escapes import unescaped
+from vutselqi.inputs import Input
+from vutselqi.lines import KIND
+from vutselqi.places import Place, at_byte, at_character
+from vutselqi.pointers import offset_of
+from vutselqi.program import Answer
+from vutselqi.trouble import Trouble
+
+ROW = re.compile(r"\| `(?P<name>\w+)[^`]*` \| (?P<cells>.*) \|")
+BULLET = re.compile(r"- (?:`error (?P<code>\d+)[^`]*`|status (?P<status>\d+)[^:]*): (?P<text>.*)")
+REFUSAL = re.compile(r"error (?P<status>\d+) (?P<rest>.*)")
+OF_POLICY = re.compile(rf"policy(?P<number>\d+) (?:{KIND} )?(?P<name>\w+) at (?P<offset>\d+)")
+ROLES = {
+    "schema": "the schema",
+    "policies": "the policies",
+    "against": "the policies to compare with",
+    "world": "the world",
+    "log": "the log",
+}
+
+
+@lru_cache(maxsize=None)
+def meanings() -> dict[tuple[int, str], tuple[str, str]]:
+    """By status and name of a fault, '' for the status itself: what it means and what to do, from the page of codes."""
+    found, status = {}, 0
+    for line in codes_page().splitlines():
+        if line.startswith("## "):
+            status = int((re.match(r"## (\d+)", line) or [0, 0])[1])
+        row, bullet = ROW.fullmatch(line), BULLET.match(line)
+        if row:
+            cells = [cell.replace(r"\|", "|").strip() for cell in row["cells"].split(" | ")]
+            found[status, row["name"]] = (cells[0], cells[-1])
+        elif bullet:
+            found[int(bullet["code"] or bullet["status"]), ""] = (bullet["text"].rstrip("."), "")
+    return found
+
+
+def codes_page() -> str:
+    """The page `docs/CODES.md`: beside this module where the package is installed, else in the checkout."""
+    here = Path(__file__).resolve().parent
+    for page in (here / "CODES.md", here.parents[1] / "docs" / "CODES.md"):
+        if page.is_file():
+            return page.read_text(encoding="utf-8")
+    return ""
+
+
+def refusal(answer: Answer, inputs: dict[str, Input]) -> Trouble:
+    """What to say where the program gives no answer. `inputs` are the files, by the program's words for them."""
+    if answer.status < 0:
+        return Trouble(f"the program was stopped by signal {-answer.status}", line=answer.command)
+    found = REFUSAL.fullmatch(answer.lines[-1]) if answer.lines else None
+    if not found or int(found["status"]) != answer.status:
+        return unspoken(answer)
+    status, rest, line = answer.status, found["rest"], found.group()
+    word, _, fault = rest.partition(" ")
+    if status == 10:
+        return Trouble("the program doesn't know this command: it is another version than this front is for", line=line)
+    if status in (11, 13) and word in inputs:
+        return of_policies(status, inputs[word], fault, line)
+    if status in (12, 17):
+        return of_json(status, inputs["schema" if status == 12 else "world"], rest, line)
+    if status in (20, 22):
+        return of_file(status, word, inputs.get(word), line)
+    if status == 16:
+        return Trouble(f"the schema has no such kind of request: {rest}", line=line)
+    if status == 18:
+        return Trouble(f"the templates can be linked in too many ways: {rest}", line=line)
+    return Trouble(f"the program refuses: {rest}", advice="docs/CODES.md has each code", line=line)
+
+
+def unspoken(answer: Answer) -> Trouble:
+    """A status without a line of its own."""
+    meaning = meanings().get((answer.status, ""))
+    if answer.status in (21, 30) and meaning:
+        return Trouble(f"the program ended with status {answer.status}: {meaning[0]}", line=answer.command)
+    if answer.status in (126, 127):
+        return Trouble("the program couldn't be run", line=answer.command)
+    return Trouble(f"the program ended with status {answer.status} and no line that says why", line=answer.command)
+
+
+def explained(status: int, name: str) -> tuple[str, str]:
+    """A fault with what it means, and what to do about it."""
+    meaning, advice = meanings().get((status, name), ("", "docs/CODES.md has each code"))
+    return (f"{name}: {meaning}" if meaning else name), advice
+
+
+def of_policies(status: int, file: Input, fault: str, line: str) -> Trouble:
+    """A fault in a file of policies: of its text, or of a policy's names and types."""
+    found = OF_POLICY.fullmatch(fault)
+    if not found:
+        name, _, offset = fault.partition(" at ")
+        sentence, advice = explained(status, name)
+        return (
+            Trouble(sentence, at_offset(file, offset), advice, line)
+            if offset.isdigit()
+            else of_whole(file, sentence, advice, line)
+        )
+    sentence, advice = explained(status, found["name"])
+    number, rules = int(found["number"]), file.rules
+    identity = f" (`{rules[number].identity}`)" if number < len(rules) and rules[number].identity is not None else ""
+    kind = found["kind"]
+    where = f", in requests {kind[4:]}" if kind else ""
+    return Trouble(f"{sentence}; in rule {number + 1}{identity}{where}", at_offset(file, found["offset"]), advice, line)
+
+
+def at_offset(file: Input, offset: str) -> Place:
+    """The place of a byte in a file, which is the one that the user gave unless it was translated."""
+    name = f"{file.name} (as {file.translator} gives it)" if file.translator else file.name
+    return at_byte(name, file.content, int(offset))
+
+
+def of_whole(file: Input, sentence: str, advice: str, line: str) -> Trouble:
+    """A fault of a whole file."""
+    return Trouble(f"{file.name}: {sentence}", advice=advice, line=line)
+
+
+def of_json(status: int, file: Input, fault: str, line: str) -> Trouble:
+    """A fault in a schema or a world."""
+    name, _, where = fault.partition(" at ")
+    sentence, advice = explained(status, name)
+    if name == "NotJson":
+        return (
+            Trouble(sentence, json_stop(file), advice, line)
+            if json_stop(file)
+            else of_whole(file, sentence, advice, line)
+        )
+    offset = offset_of(file.text, unescaped(where)) if where.startswith("/") or fault.endswith(" at ") else None
+    if where:
+        sentence = f"{sentence}; at {where}"
+    return (
+        Trouble(sentence, at_character(file.name, file.text, offset), advice, line)
+        if offset is not None
+        else of_whole(file, sentence, advice, line)
+    )
+
+
+def json_stop(file: Input) -> Optional[Place]:
+    """Where Python's own reader of JSON stops in a text that is none."""
+    try:
+        json.loads(file.text)
+    except json.JSONDecodeError as error:
+        return at_character(file.name, file.text, error.pos)
+    except RecursionError:
+        pass
+    return None
+
+
+def of_file(status: int, word: str, file: Optional[Input], line: str) -> Trouble:
+    """A file that can't be read, or is too long."""
+    role = ROLES.get(word, word)
+    if status == 22:
+        name = f"{file.name} ({role})" if file else role
+        return Trouble(f"{name} is too long: {meanings().get((22, ''), ('', ''))[0]}", line=line)
+    name = f"{role}, {file.name}," if file else role
+    reason = f": {file.fault}" if file and file.fault else ""
+    return Trouble(f"{name} couldn't be read{reason}", advice="check that the file is there and readable", line=line)

@@ -1,0 +1,1 @@
+"""Forms of output: each module writes a report in one form."""
