@@ -9,6 +9,7 @@ import subprocess
 import sys
 
 PROGRAM, FOLDER, SETS = os.path.abspath(sys.argv[1]), sys.argv[2], sys.argv[3]
+WRONG = []
 SOLVER = shutil.which("cvc5")
 MOST_SECONDS = 60
 SOLVER_WORDS = [SOLVER, "--lang=smt2", "--strings-exp"]
@@ -231,6 +232,19 @@ def files(question):
     return words
 
 
+def mark(wrong, what):
+    """A word beside an answer that isn't right or isn't there, which is kept for the status."""
+    if wrong:
+        WRONG.append(what)
+    return " WRONG" if wrong else ""
+
+
+def is_wrong(question, answers, wanted=None):
+    """Whether answers aren't there, or aren't those that are known or that the solver gives."""
+    known = "holds" if question.holds is True else wanted
+    return len(answers) != question.environments or bool(known and set(answers) - {known, "holds" if question.holds is True else "unknown"})
+
+
 def measure(family, size):
     question = family(size)
     words = files(question)
@@ -242,7 +256,7 @@ def measure(family, size):
         units = str(max(log.count("\n") - 1, 0))
     other, said = timed([*SOLVER_WORDS, write("q.smt2", question.smt)]) if SOLVER else (None, "")
     wanted = {"unsat": "holds", "sat": "counterexample"}.get(said.strip())
-    wrong = " WRONG" if question.holds is True and set(answers) - {"holds"} or wanted and set(answers) - {wanted, "unknown"} else ""
+    wrong = mark(is_wrong(question, answers, wanted), f"{family.__name__} {size}")
     if SOLVER and other is not None:
         other *= question.environments
     print(f"| {family.__name__} | {size} | {told(answers)}{wrong} | {units} | {shown(seconds)} | {shown(other) if SOLVER else ''} |", flush=True)
@@ -269,7 +283,7 @@ def measure_set(name):
         scripts = sorted(it for it in os.listdir(f"{folder}/scripts") if it.startswith(f"q{number:02d}-")) if os.path.isdir(f"{folder}/scripts") else []
         taken = [timed([*SOLVER_WORDS, f"{folder}/scripts/{it}"])[0] for it in scripts] if SOLVER else []
         other = None if not taken or None in taken else sum(taken)
-        wrong = "" if answers == wanted else " WRONG"
+        wrong = mark(answers != wanted, f"{name} question {number}")
         print(f"| {name} question {number} | {len(wanted)} | {told(answers)}{wrong} | | {shown(seconds)} | {shown(other) if taken else ''} |", flush=True)
 
 
@@ -284,7 +298,9 @@ def instructions(words):
 
 
 def beyond(question, starts):
-    """Millions of instructions of both beyond the start, or none."""
+    """Millions of instructions of both beyond the start, or none. What the program answers is looked at."""
+    answers = verdicts(subprocess.run([PROGRAM, "analyse", *files(question), "--budget", "100000"], capture_output=True, text=True).stdout)
+    mark(is_wrong(question, answers), question.query)
     runs = [[PROGRAM, "analyse", *files(question), "--budget", "100000"], [*SOLVER_WORDS, write("q.smt2", question.smt)]]
     return [None if count is None else count - start for count, start in zip(map(instructions, runs), starts)]
 
@@ -303,6 +319,7 @@ def growth():
         before = (None, None)
         for size in sizes:
             counts = beyond_on_average(size, starts) if family is random_clauses else beyond(family(size), starts)
+            mark(counts[0] is None, f"{family.__name__} {size}")
             times = ["" if count is None or not last else f"{count / last:.2f}" for count, last in zip(counts, before)]
             millions = ["" if count is None else f"{count:.2f}" for count in counts]
             print(f"| {family.__name__} | {size} | {millions[0]} | {millions[1]} | {times[0]} | {times[1]} |", flush=True)
@@ -324,3 +341,6 @@ if SETS == "growth":
     growth()
 else:
     main()
+if WRONG:
+    print(f"not right, or not there: {', '.join(WRONG)}", file=sys.stderr)
+sys.exit(1 if WRONG else 0)

@@ -3,6 +3,7 @@
 # that the program wrote, with the lines of its learned clauses over and over before the last; each of them is checked again. For the time of reading,
 # the same bytes stand behind a first line that is at fault, after which no step is looked at. The questions: whether eight clauses over three
 # attributes can be met (lines of few bytes), nine pigeons in eight holes (lines of many), and 240 policies against each of them split in two.
+# The status is 0 where each long log is accepted, and rejected behind the line at fault.
 # usage: scripts/large_logs.sh [PROGRAM [MEGABYTES]]
 set -u
 cd "$(dirname "$0")/.." || exit 2
@@ -72,7 +73,9 @@ for name, begins in (("checked", first), ("read", "log 2\n")):
 PY
 }
 
-# the seconds of the check of a question's log
+wrong=0
+
+# the seconds of the check of a question's log, of which this is to be said
 timed() {
     begun=$(date +%s.%N)
     status=0
@@ -81,6 +84,7 @@ timed() {
     ended=$(date +%s.%N)
     echo "$ended $begun" | awk '{ print $1 - $2 }' >>"$folder/$2.seconds"
     told="$told, status $status: $(cat "$folder/out")"
+    [ "$(cat "$folder/out")" = "$3" ] || wrong=$((wrong + 1))
 }
 
 least() { sort -n "$folder/$1.seconds" | head -n 1; }
@@ -91,9 +95,10 @@ for question in clauses pigeons refactoring; do
     # by turns, since a machine's memory is faster at one time than at another
     for turn in 1 2 3 4 5 6 7 8 9 10 11 12 13 14 15; do
         told=
-        timed "$question" read
-        timed "$question" checked
+        timed "$question" read "error 14 step 0 Malformed"
+        timed "$question" checked "accepted"
     done
     echo "$(least checked) $(least read)" | awk -v of="$question" -v bytes="$(wc -c <"$folder/checked.log")" -v told="$told" \
         '{ printf "%-12s %10d bytes  read %.3f s  checked %.3f s  %.1f times%s\n", of, bytes, $2, $1, $1 / $2, told }'
 done
+[ "$wrong" -eq 0 ] || { echo "$wrong runs said something else"; exit 1; }

@@ -1,7 +1,7 @@
 #!/bin/sh
 # Runs the program on large policy files and prints the seconds, the status and the first line of each run, which is stopped after 120 seconds
 # (status 124): 10,000 accesses to a context of 1,000 attributes, in 25 policies and in a hundred; first with a context that holds a number
-# as well, then with truth values alone.
+# as well, then with truth values alone. The status is 0 where each run says that no policy errs, as is so.
 # usage: scripts/large_policies.sh [PROGRAM [DIVISOR]]     with a divisor each policy has only that part of its accesses
 set -u
 cd "$(dirname "$0")/.." || exit 2
@@ -33,6 +33,8 @@ policies("25.cedar", 25, 400)
 policies("100.cedar", 100, 100)
 PY
 
+wrong=0
+
 timed() {
     name=$1
     shift
@@ -41,6 +43,7 @@ timed() {
     timeout 120 "$program" "$@" >"$folder/out" 2>&1 || status=$?
     ended=$(date +%s.%N)
     printf '%-40s %8.2f s  status %3d  %s\n' "$name" "$(echo "$ended $begun" | awk '{ print $1 - $2 }')" "$status" "$(head -c 80 "$folder/out" | head -n 1)"
+    [ "$(cat "$folder/out")" = 'env User Action::"view" Doc: holds' ] || wrong=$((wrong + 1))
 }
 
 for set in 25 100; do
@@ -48,3 +51,4 @@ for set in 25 100; do
         timed "$set policies, context of $context" analyse --schema "$folder/$context.json" --policies "$folder/$set.cedar" --query never-errors --budget 10000
     done
 done
+[ "$wrong" -eq 0 ]
