@@ -179,8 +179,137 @@ def products(size):
     return Question(schema({"n": LONG}), permits([tests]), "always-denies", None, script(constants(["n"], "(_ BitVec 64)"), f"(assert (and {value} (not {errs})))\n"))
 
 
+# ---- sets inside attributes and tags
+
+
+def record_of(fields):
+    return {"type": "Record", "attributes": fields}
+
+
+def set_of(element):
+    return {"type": "Set", "element": element}
+
+
+def entity(name):
+    return {"type": "Entity", "name": name}
+
+
+def seen_by(principal, resource, types, context=None):
+    """A schema of these entity types, in which a principal views a resource."""
+    applies = {"appliesTo": {"principalTypes": [principal], "resourceTypes": [resource], "context": record_of(context or {})}}
+    return json.dumps({"": {"entityTypes": types, "actions": {"view": applies}}})
+
+
+def declared(*lines):
+    return "".join(f"{it}\n" for it in lines)
+
+
+def on_entities(*names):
+    return declared(*(f"(declare-datatype {it} (({it.lower()} ({it}.id String))))" for it in names))
+
+
+def met(one, other, element):
+    return f"(not (= (set.inter {one} {other}) (as set.empty (Set {element}))))"
+
+
+def widened(types, principal, resource, context, rows, rest, smt):
+    """Whether policies that ask for more allow anything but the same ones without what is asked last."""
+    old, new = permits(f"{row} && {last}" for row, last in zip(rows, rest)), permits(rows)
+    return Question(seen_by(principal, resource, types, context), new, "implies", False, script(*smt), old)
+
+
+def bosses(size):
+    """Friends of an owner's bosses, one further up in each policy, who share a team with the document."""
+    types = {"Team": {}, "User": {"shape": record_of({"boss": USER, "friends": set_of(USER), "teams": set_of(entity("Team"))})}, "Doc": {"shape": record_of({"owner": USER, "teams": set_of(entity("Team"))})}}
+    rows = [f"resource.owner{'.boss' * it}.friends.contains(principal)" for it in range(size)]
+    up = lambda it: "owner" if it == 0 else f"(boss {up(it - 1)})"
+    first = [f"(set.member principal (friends {up(it)}))" for it in range(size)]
+    both = [f"(and {it} {met('(teams principal)', 'wanted', 'Team')})" for it in first]
+    known = declared("(declare-const principal User)", "(declare-const owner User)", "(declare-const wanted (Set Team))", "(declare-fun boss (User) User)", "(declare-fun friends (User) (Set User))", "(declare-fun teams (User) (Set Team))")
+    return widened(types, "User", "Doc", None, rows, ["principal.teams.containsAny(resource.teams)"] * size, [on_entities("User", "Team"), known, f"(assert (and {smt_or(first)} (not {smt_or(both)})))\n"])
+
+
+def tags(size):
+    """Tags that are sets, one key a policy: those of the principal have all that those of the document have."""
+    types = {"User": {"tags": set_of(TEXT)}, "Doc": {"tags": set_of(TEXT)}}
+    rows = [f'principal.hasTag("k{it}") && resource.hasTag("k{it}")' for it in range(size)]
+    rest = [f'principal.getTag("k{it}").containsAll(resource.getTag("k{it}"))' for it in range(size)]
+    first = [f'(and (set.member "k{it}" mine) (set.member "k{it}" theirs))' for it in range(size)]
+    both = [f'(and {row} (set.subset (theirs_at "k{it}") (mine_at "k{it}")))' for it, row in enumerate(first)]
+    known = declared("(declare-const mine (Set String))", "(declare-const theirs (Set String))", "(declare-fun mine_at (String) (Set String))", "(declare-fun theirs_at (String) (Set String))")
+    return widened(types, "User", "Doc", None, rows, rest, [known, f"(assert (and {smt_or(first)} (not {smt_or(both)})))\n"])
+
+
+def listed_groups(size):
+    """Who is in one of some groups that are written, and a folder that is among those of the principal."""
+    types = {"Group": {}, "User": {"memberOfTypes": ["Group"], "shape": record_of({"groups": set_of(entity("Group"))})}, "Doc": {"memberOfTypes": ["Group"]}}
+    rows = [f'principal in [Group::"a{it}", Group::"b{it}"]' for it in range(size)]
+    first = [f'(or (set.member (group "a{it}") mine) (set.member (group "b{it}") mine))' for it in range(size)]
+    both = [f"(and {it} {met('above', 'groups', 'Group')})" for it in first]
+    known = declared("(declare-const mine (Set Group))", "(declare-const above (Set Group))", "(declare-const groups (Set Group))")
+    return widened(types, "User", "Doc", None, rows, ["resource in principal.groups"] * size, [on_entities("Group"), known, f"(assert (and {smt_or(first)} (not {smt_or(both)})))\n"])
+
+
+def managers(size):
+    """A manager further up in each policy, who has all skills that a task needs."""
+    types = {"Employee": {"shape": record_of({"manager": entity("Employee"), "skills": set_of(TEXT), "needed": set_of(TEXT), "teams": set_of(TEXT)})}, "Task": {"shape": record_of({"owner": entity("Employee"), "needed": set_of(TEXT)})}}
+    rows = [f"principal == resource.owner{'.manager' * (it + 1)}" for it in range(size)]
+    up = lambda it: "owner" if it == 0 else f"(manager {up(it - 1)})"
+    first = [f"(= principal {up(it + 1)})" for it in range(size)]
+    both = [f"(and {it} (set.subset needed (skills principal)))" for it in first]
+    known = declared("(declare-const principal Employee)", "(declare-const owner Employee)", "(declare-const needed (Set String))", "(declare-fun manager (Employee) Employee)", "(declare-fun skills (Employee) (Set String))")
+    return widened(types, "Employee", "Task", None, rows, ["principal.skills.containsAll(resource.needed)"] * size, [on_entities("Employee"), known, f"(assert (and {smt_or(first)} (not {smt_or(both)})))\n"])
+
+
+def grants(size):
+    """Sets of records with an entity and a text, among those of the owner and its bosses."""
+    grant = record_of({"on": entity("Doc"), "right": TEXT})
+    types = {"User": {"shape": record_of({"boss": USER, "grants": set_of(grant)})}, "Doc": {"shape": record_of({"owner": USER})}}
+    rows = [f'principal{".boss" * it}.grants.contains({{on: resource, right: "r{it}"}})' for it in range(size)]
+    up = lambda it: "principal" if it == 0 else f"(boss {up(it - 1)})"
+    first = [f'(set.member (grant resource "r{it}") (grants {up(it)}))' for it in range(size)]
+    both = [f"(and {it} (= principal owner))" for it in first]
+    known = declared("(declare-datatype Grant ((grant (Grant.on Doc) (Grant.right String))))", "(declare-const principal User)", "(declare-const owner User)", "(declare-const resource Doc)", "(declare-fun boss (User) User)", "(declare-fun grants (User) (Set Grant))")
+    return widened(types, "User", "Doc", None, rows, ["principal == resource.owner"] * size, [on_entities("User", "Doc"), known, f"(assert (and {smt_or(first)} (not {smt_or(both)})))\n"])
+
+
+def named_tags(size):
+    """Tags whose key is an attribute, of the owner and its bosses."""
+    types = {"User": {"shape": record_of({"boss": USER, "team": TEXT})}, "Doc": {"shape": record_of({"owner": USER}), "tags": set_of(USER)}}
+    who = [f"resource.owner{'.boss' * it}" for it in range(size)]
+    rows = [f"resource.hasTag({it}.team) && resource.getTag({it}.team).contains(principal)" for it in who]
+    up = lambda it: "owner" if it == 0 else f"(boss {up(it - 1)})"
+    first = [f"(and (set.member (team {up(it)}) keys) (set.member principal (at (team {up(it)}))))" for it in range(size)]
+    both = [f'(and {row} (= (team principal) (team {up(it)})))' for it, row in enumerate(first)]
+    known = declared("(declare-const principal User)", "(declare-const owner User)", "(declare-const keys (Set String))", "(declare-fun boss (User) User)", "(declare-fun team (User) String)", "(declare-fun at (String) (Set User))")
+    return widened(types, "User", "Doc", None, rows, [f"principal.team == {it}.team" for it in who], [on_entities("User"), known, f"(assert (and {smt_or(first)} (not {smt_or(both)})))\n"])
+
+
+def profiles(size):
+    """Optional records with an optional set, of the owner and its bosses."""
+    profile = record_of({"roles": {**set_of(TEXT), "required": False}})
+    types = {"User": {"shape": record_of({"boss": USER, "profile": {**profile, "required": False}})}, "Doc": {"shape": record_of({"owner": USER})}}
+    who = [f"resource.owner{'.boss' * it}" for it in range(size)]
+    rows = [f'{it} has profile && {it}.profile has roles && {it}.profile.roles.contains("r{number}")' for number, it in enumerate(who)]
+    up = lambda it: "owner" if it == 0 else f"(boss {up(it - 1)})"
+    first = [f'(and (has_profile {up(it)}) (has_roles {up(it)}) (set.member "r{it}" (roles {up(it)})))' for it in range(size)]
+    both = [f"(and {row} (= principal {up(it)}))" for it, row in enumerate(first)]
+    known = declared("(declare-const principal User)", "(declare-const owner User)", "(declare-fun boss (User) User)", "(declare-fun has_profile (User) Bool)", "(declare-fun has_roles (User) Bool)", "(declare-fun roles (User) (Set String))")
+    return widened(types, "User", "Doc", None, rows, [f"principal == {it}" for it in who], [on_entities("User"), known, f"(assert (and {smt_or(first)} (not {smt_or(both)})))\n"])
+
+
+def many_sets(size):
+    """Many sets in the context, each within the one before."""
+    names = [f"s{it}" for it in range(size)]
+    chain = " && ".join(f"context.{one}.containsAll(context.{other})" for one, other in zip(names, names[1:])) or "true"
+    old, new = permits([f'{chain} && context.{names[-1]}.contains("x")']), permits([f'context.{names[0]}.contains("x")'])
+    smt = script(constants(names, "(Set String)"), f'(assert (and {smt_and(f"(set.subset {other} {one})" for one, other in zip(names, names[1:]))} (set.member "x" {names[-1]}) (not (set.member "x" {names[0]}))))\n')
+    return Question(schema({it: set_of(TEXT) for it in names}), old, "implies", True, smt, new)
+
+
 FAMILIES = [(refactoring, (60, 120, 240, 480)), (pigeons, (5, 6, 7, 8)), (random_clauses, (60, 80, 100, 120, 140)), (environments, (1, 10, 100, 1000)), (entities, (40, 80, 160, 320)),
-            (groups, (10, 20, 40, 80)), (sets, (10, 20, 40, 80)), (strings, (80, 320, 1280, 5120)), (patterns, (4, 8, 16, 32)), (conditions, (20, 40, 80, 160)), (products, (1, 2, 5, 10))]
+            (groups, (10, 20, 40, 80)), (sets, (10, 20, 40, 80)), (strings, (80, 320, 1280, 5120)), (patterns, (4, 8, 16, 32)), (conditions, (20, 40, 80, 160)), (products, (1, 2, 5, 10)),
+            (bosses, (4, 8, 12, 16)), (tags, (4, 8, 12, 16)), (listed_groups, (4, 8, 12, 16)), (managers, (4, 8, 12, 16)), (grants, (4, 8, 12, 16)), (named_tags, (2, 4, 8)), (profiles, (4, 8, 16)), (many_sets, (10, 20, 30))]
 
 
 GROWTH = [(refactoring, (60, 120, 240, 480, 960, 1920)), (entities, (40, 80, 160, 320)), (groups, (10, 20, 40, 80)), (sets, (10, 20, 40, 80)), (strings, (80, 160, 320, 640, 1280, 2560, 5120)),
@@ -213,7 +342,7 @@ def write(name, text):
 
 
 def verdicts(text):
-    return [re.sub(r"^env .*?: (holds|counterexample|unknown|over limit).*$", r"\1", it) for it in text.splitlines()]
+    return [re.sub(r"^env .*?: (holds|counterexample|unknown|over limit).*$", r"\1", it) for it in text.split("\n") if it]
 
 
 def told(answers):
