@@ -3,6 +3,8 @@ mod LeftLaws
 mod LiftedLaws
 mod ListedLaws
 mod MembershipLaws
+mod PlaceLaws
+mod AlikeLaws
 mod PastLaws
 mod PruneLaws
 mod RunLaws

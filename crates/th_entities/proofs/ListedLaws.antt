@@ -46,7 +46,7 @@ module _ (p : Posed) (m : Assignment) where
       ∙ numbered_back tree_cmp_level (closed_terms p) (member x s) (Has-from_Contains (closed_terms p) (member x s)
       (number_closed p (member x s) (known_atom m (literal_in p (member x s)) true (false_negation m (literal_in p (member x s)) h))))
 
-  true_listed : (known : List Membership) → AreMemberships p m known → (x s : Tree) → is_true p m (member x s) ≡ true → Has known (membership_in p x s)
+  pub true_listed : (known : List Membership) → AreMemberships p m known → (x s : Tree) → is_true p m (member x s) ≡ true → Has known (membership_in p x s)
   unfolding AreMemberships
   true_listed known all x s h =
       let said : true_closed p m (Some (member x s)) ≡ Some (membership_in p x s) = ap (λ (b : Bool). cond b (Some (membership_in p x s)) None) h in
@@ -57,18 +57,18 @@ module _ (p : Posed) (m : Assignment) where
   abbrev Out : Said → Type 0
   Out said = is_falsified p m said ≡ true
 
-  nothing_out : Out None → ⊥
+  pub nothing_out : Out None → ⊥
   unfolding is_falsified
   nothing_out h = cc
 
-  free_if : (said : Said) → (Out said → is_falsified p m said ≡ false) → is_falsified p m said ≡ false
+  pub free_if : (said : Said) → (Out said → is_falsified p m said ≡ false) → is_falsified p m said ≡ false
   free_if said h = by (is_falsified p m said) refl
     where
       by : (b : Bool) → is_falsified p m said ≡ b → b ≡ false
       by false e = refl
       by true e = let never : true ≡ false = sym e ∙ h e in cc
 
-  given_out : (test : Bool) (s t : Signed) (parts : List Signed) → Out (given test (s ∷ t ∷ parts)) → (test ≡ true) × (is_out m (literal_for p s) ≡ true) × (is_out m (literal_for p t) ≡ true)
+  pub given_out : (test : Bool) (s t : Signed) (parts : List Signed) → Out (given test (s ∷ t ∷ parts)) → (test ≡ true) × (is_out m (literal_for p s) ≡ true) × (is_out m (literal_for p t) ≡ true)
   unfolding is_falsified
   given_out true s t parts h = let all = and_parts _ _ h in let rest = and_parts _ _ all.1 in (refl, all.0, rest.0)
   given_out false s t parts h = absurd (nothing_out h)

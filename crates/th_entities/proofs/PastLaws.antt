@@ -3,12 +3,11 @@ use Rattle.std.proofs.Common.{◌≡◌, ℕ, false, Option, Some, None, refl, a
 use Rattle.sc_clauses.specs.Assignments.{Assignment}
 use Rattle.sc_terms.specs.Trees.{Tree}
 use Rattle.sc_footprint.specs.Problems.{Posed, term_of}
-use Rattle.sc_instances.specs.declared.rule.EntityRule.TheVariants.{En1, En2, En3, En6, En7, En8}
-use Rattle.sc_instances.specs.Attributes.{attributes_of, en1_of}
+use Rattle.sc_instances.specs.declared.rule.EntityRule.TheVariants.{En2, En6, En7, En8}
 use Rattle.sc_instances.specs.Instances.{on_one, on_two, on_three}
 use Rattle.sc_instances.specs.Known.{is_falsified}
 use Rattle.sc_rules.specs.Signed.{Said}
-use Rattle.sc_rules.specs.Entities.{en2, en3, en6, en7, en8}
+use Rattle.sc_rules.specs.Entities.{en2, en6, en7, en8}
 use Rattle.th_entities.specs.Free.{IsFree}
 
 pub free_none : (p : Posed) (m : Assignment) (said : Said) → said ≡ None → is_falsified p m said ≡ false
@@ -29,26 +28,11 @@ three_third (Some a) None rule = refl
 three_third None q rule = refl
 
 module _ (p : Posed) (m : Assignment) where
-  abbrev rule1 : Tree → Tree → Said
-  rule1 t u = en1_of t u (attributes_of p t) (attributes_of p u)
-
-  pub past1e : (e f : ℕ) → term_of p e ≡ None → IsFree p m (En1 e f)
-  past1e e f gone = free_none p m _ (ap (λ (o : Option Tree). on_two o (term_of p f) rule1) gone)
-
-  pub past1f : (e f : ℕ) → term_of p f ≡ None → IsFree p m (En1 e f)
-  past1f e f gone = free_none p m _ (ap (λ (o : Option Tree). on_two (term_of p e) o rule1) gone ∙ two_second (term_of p e) rule1)
-
   pub past2s : (x s z : ℕ) → term_of p s ≡ None → IsFree p m (En2 x s z)
   past2s x s z gone = free_none p m _ (ap (λ (o : Option Tree). on_three (term_of p x) o (term_of p z) en2) gone ∙ three_second (term_of p x) (term_of p z) en2)
 
   pub past2z : (x s z : ℕ) → term_of p z ≡ None → IsFree p m (En2 x s z)
   past2z x s z gone = free_none p m _ (ap (λ (o : Option Tree). on_three (term_of p x) (term_of p s) o en2) gone ∙ three_third (term_of p x) (term_of p s) en2)
-
-  pub past3a : (a b : ℕ) → term_of p a ≡ None → IsFree p m (En3 a b)
-  past3a a b gone = free_none p m _ (ap (λ (o : Option Tree). on_two o (term_of p b) en3) gone)
-
-  pub past3b : (a b : ℕ) → term_of p b ≡ None → IsFree p m (En3 a b)
-  past3b a b gone = free_none p m _ (ap (λ (o : Option Tree). on_two (term_of p a) o en3) gone ∙ two_second (term_of p a) en3)
 
   pub past6 : (a : ℕ) → term_of p a ≡ None → IsFree p m (En6 a)
   past6 a gone = free_none p m _ (ap (λ (o : Option Tree). on_one o en6) gone)

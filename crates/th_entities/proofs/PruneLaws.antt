@@ -6,21 +6,20 @@ use Rattle.sc_clauses.specs.Clauses.{negation}
 use Rattle.sc_nodes.specs.declared.node.Leaf.TheVariants.{Literal}
 use Rattle.sc_nodes.specs.declared.node.Literal.TheVariants as literal
 use Rattle.sc_nodes.specs.declared.node.UnaryOp.TheVariants as unary
-use Rattle.sc_nodes.specs.declared.node.BinaryOp.TheVariants as binary
 use Rattle.sc_terms.specs.Trees.{Tree, leaf, one, two, choice, many}
 use Rattle.sc_terms.specs.Folds.{equal_term}
 use Rattle.sc_footprint.specs.Problems.{Posed, literal_in, term_of}
-use Rattle.sc_instances.specs.declared.rule.EntityRule.TheVariants.{En1, En2, En3, En7}
+use Rattle.sc_instances.specs.declared.rule.EntityRule.TheVariants.{En2, En7}
 use Rattle.sc_instances.specs.Clauses.{clause_for, literal_for, said_clause}
 use Rattle.sc_instances.specs.Instances.{entity_said, on_two, on_three}
 use Rattle.sc_instances.proofs.FalseLaws.{false_known, false_negation}
 use Rattle.sc_instances.specs.Known.{is_broken, is_falsified, known}
 use Rattle.sc_instances.specs.Saying.{count_of, literal_of}
 use Rattle.sc_rules.specs.Signed.{Signed, Said, so, unless, given}
-use Rattle.sc_rules.specs.Entities.{en2, en3, en7, en7_by, same_sets}
+use Rattle.sc_rules.specs.Entities.{en2, en7, en7_by, same_sets}
 use Rattle.sc_rules.specs.Terms.{above, member}
 use Rattle.sc_entity_rows.specs.Rows.{above_name, declared_in}
-use Rattle.th_entities.specs.Free.{IsFree, is_head_out, is_out, is_stored, is_tag}
+use Rattle.th_entities.specs.Free.{IsFree, is_head_out, is_out, is_stored}
 use Rattle.th_entities.proofs.PastLaws.{free_none}
 
 module _ (p : Posed) (m : Assignment) where
@@ -38,9 +37,6 @@ module _ (p : Posed) (m : Assignment) where
   head_of None n l b e h f g = absurd cc
   head_of (Some []) n l b e h f g = absurd (let z : n ≡ 0 = cc in h z)
   head_of (Some (s ∷ parts)) n l b e h f g = g ∙ ap (is_out m) f
-
-  pub prune1 : (e f : ℕ) → ((g : ℕ) → entity_said p (En1 e g) ≡ None) → IsFree p m (En1 e f)
-  prune1 e f h = free_none p m _ (h f)
 
   -- ---- EN2
 
@@ -128,20 +124,6 @@ module _ (p : Posed) (m : Assignment) where
 
   pub prune2_second : (x s z : ℕ) → is_stored (term_of p z) ≡ false → IsFree p m (En2 x s z)
   prune2_second x s z = on_second_stored2 (term_of p x) (term_of p s) (term_of p z)
-
-  -- ---- EN3
-
-  tag3 : (a b : Tree) → is_tag (Some a) ≡ false → en3 a b ≡ None
-  tag3 (two (binary.Tag s) e k) b h = absurd cc
-  tag3 _ b h = refl
-
-  on_tag3 : (o q : Option Tree) → is_tag o ≡ false → is_falsified p m (on_two o q en3) ≡ false
-  on_tag3 (Some a) (Some b) h = free_none p m _ (tag3 a b h)
-  on_tag3 (Some a) None h = free_none p m None refl
-  on_tag3 None q h = free_none p m None refl
-
-  pub prune3 : (a b : ℕ) → is_tag (term_of p a) ≡ false → IsFree p m (En3 a b)
-  prune3 a b = on_tag3 (term_of p a) (term_of p b)
 
   -- ---- EN7
 

@@ -3,9 +3,8 @@ use Rattle.std.specs.Prelude.{◌≡◌, ◌&&◌, ◌==◌, ◌+◌, ◌<◌, �
 use Rattle.std.specs.List.{AllByRecursion, list_any}
 use Rattle.sc_clauses.specs.declared.lit.Lit.{Lit}
 use Rattle.sc_clauses.specs.Assignments.{Assignment, is_false}
-use Rattle.sc_nodes.specs.declared.node.BinaryOp.TheVariants as binary
 use Rattle.sc_nodes.specs.declared.node.UnaryOp.TheVariants as unary
-use Rattle.sc_terms.specs.Trees.{Tree, one, two}
+use Rattle.sc_terms.specs.Trees.{Tree, one}
 use Rattle.sc_footprint.specs.Problems.{Posed}
 use Rattle.sc_instances.specs.declared.rule.EntityRule.{EntityRule}
 use Rattle.sc_instances.specs.declared.rule.EntityRule.TheVariants.{En2, En4, En5}
@@ -68,7 +67,3 @@ abbrev pub is_stored : Option Tree → Bool
 is_stored (Some (one (unary.Ancestors k) e)) = true
 is_stored (Some (one unary.Keys e)) = true
 is_stored _ = false
-
-abbrev pub is_tag : Option Tree → Bool
-is_tag (Some (two (binary.Tag s) e k)) = true
-is_tag _ = false

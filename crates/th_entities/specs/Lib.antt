@@ -1,2 +1,4 @@
 pub mod Free
 pub mod Memberships
+pub mod Places
+pub mod Alike

@@ -69,17 +69,20 @@ unfoldable pub AreMemberships : Posed → Assignment → List Membership → Typ
 AreMemberships p m known = ((n : ℕ) → IsAmong known (true_closed p m (term_of p n))) × AllByRecursion (IsHeld p m) known
 
 -- it comes after the others, if there is one
-abbrev pub IsPut : List Membership → Option Membership → List Membership → Type 0
+abbrev pub IsPut : {X : Type 0} → List X → Option X → List X → Type 0
 IsPut known (Some k) more = more ≡ known ++ k ∷ []
 IsPut known None more = more ≡ known
 
--- ---- runs, each in the ancestors of one entity
+-- ---- runs
 
--- those of the first entity, up to those of another, and those behind
-pub record IsFirstRun (known : List Membership) (e : ℕ) (run later : List Membership) : Type 0 where
+-- those of the first number, up to those of another, and those behind
+pub record IsFirstRun {X : Type 0} (number : X → ℕ) (known : List X) (e : ℕ) (run later : List X) : Type 0 where
   pub whole : known ≡ run ++ later
-  pub alike : AllByRecursion (λ (k : Membership). k.owner ≡ e) run
+  pub alike : AllByRecursion (λ (k : X). number k ≡ e) run
   pub less : length later < length known
+
+abbrev pub owner_of : Membership → ℕ
+owner_of k = k.owner
 
 -- all are in the ancestors of one entity, and the assignment says that they are true
 unfoldable pub AreOf : Posed → Assignment → ℕ → List Membership → Type 0

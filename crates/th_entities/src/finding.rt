@@ -3,69 +3,21 @@
 //! that the assignment says are true are.
 ghost use Rattle.std.specs.Prelude.{◌≡◌, true, ℕ, IfSome, IfNone};
 ghost use Rattle.std.specs.List.{AllByRecursion};
-ghost use Rattle.sc_instances.specs.declared.rule.EntityRule.TheVariants.{En1, En2, En3, En4, En5, En6, En7, En8};
+ghost use Rattle.sc_instances.specs.declared.rule.EntityRule.TheVariants.{En2, En4, En5, En6, En7, En8};
 ghost use Rattle.sc_instances.specs.Instances.{entity_said};
 ghost use Rattle.sc_instances.specs.Known.{NoneFalsified, is_falsified as falsified_of};
 ghost use Rattle.th_entities.specs.Free.{IsFree, IsMovedFree, IsOwnFree, IsLifted, AreLifted, IsUnder};
 ghost use Rattle.th_entities.specs.Memberships.{AreMemberships, AreOf, IsHeld};
+ghost use Rattle.th_entities.specs.Places.{ArePlaces};
 
+use crate::alike::unlike_places;
 use crate::memberships::Membership;
+use crate::places::Place;
 use crate::runs::{first_run, has_member, is_lifted};
-use crate::testing::{has_attributes, is_head_out, is_said, is_stored, is_tag};
+use crate::testing::{if_falsified, is_head_out, is_said, is_stored};
 use sc_clauses::Assignment;
-use sc_entity_rows::Said;
 use sc_footprint::Problem;
-use sc_instances::{EntityRule, is_falsified};
-
-/// The instance, if an assignment falsifies it.
-fn if_falsified(problem: &Problem<'_>, m: &Assignment, rule: EntityRule) -> Option<EntityRule>
-    ensures found { IfSome result (λ rule. falsified_of problem.now m.now (entity_said problem.now rule) ≡ true) }
-    ensures none { IfNone result (IsFree problem.now m.now rule) }
-{
-    let said = Said { problem, rule };
-    if is_falsified(&said, m) {
-        Some(rule)
-    } else {
-        None
-    }
-}
-
-/// An instance of EN1 for an entity and any other.
-fn equal_attributes(problem: &Problem<'_>, m: &Assignment, e: u64) -> Option<EntityRule>
-    ensures found { IfSome result (λ rule. falsified_of problem.now m.now (entity_said problem.now rule) ≡ true) }
-    ensures none { IfNone result ((f : ℕ) → IsFree problem.now m.now (En1 e f)) }
-{
-    for n in 0..problem.closed_count() {
-        if let Some(rule) = if_falsified(problem, m, EntityRule::En1(e, n + 1)) {
-            return Some(rule);
-        }
-    }
-    None
-}
-
-/// The same where the entity has closed attributes.
-fn attributes_of(problem: &Problem<'_>, m: &Assignment, e: u64) -> Option<EntityRule>
-    ensures found { IfSome result (λ rule. falsified_of problem.now m.now (entity_said problem.now rule) ≡ true) }
-    ensures none { IfNone result ((f : ℕ) → IsFree problem.now m.now (En1 e f)) }
-{
-    if has_attributes(problem, e) {
-        return equal_attributes(problem, m, e);
-    }
-    None
-}
-
-/// An instance of EN1.
-fn first_rule(problem: &Problem<'_>, m: &Assignment) -> Option<EntityRule>
-    ensures found { IfSome result (λ rule. falsified_of problem.now m.now (entity_said problem.now rule) ≡ true) }
-    ensures none { IfNone result ((e : ℕ) → (f : ℕ) → IsFree problem.now m.now (En1 e f)) }
-{
-    for n in 0..problem.closed_count() {
-        if let Some(rule) = attributes_of(problem, m, n + 1) {
-            return Some(rule);
-        }
-    }
-    None
-}
+use sc_instances::EntityRule;
 
 /// The instance of EN2 for two sets and a membership, if that is one of the first set.
 fn moved_member(
@@ -191,43 +143,6 @@ fn second_rule(problem: &Problem<'_>, m: &Assignment, known: &[Membership]) -> O
 {
     for n in 0..problem.closed_count() {
         if let Some(rule) = sets_of(problem, m, known, n + 1) {
-            return Some(rule);
-        }
-    }
-    None
-}
-
-/// An instance of EN3 for a tag and any other.
-fn other_tags(problem: &Problem<'_>, m: &Assignment, a: u64) -> Option<EntityRule>
-    ensures found { IfSome result (λ rule. falsified_of problem.now m.now (entity_said problem.now rule) ≡ true) }
-    ensures none { IfNone result ((b : ℕ) → IsFree problem.now m.now (En3 a b)) }
-{
-    for n in 0..problem.closed_count() {
-        if let Some(rule) = if_falsified(problem, m, EntityRule::En3(a, n + 1)) {
-            return Some(rule);
-        }
-    }
-    None
-}
-
-/// The same where the term is a tag.
-fn tags_of(problem: &Problem<'_>, m: &Assignment, a: u64) -> Option<EntityRule>
-    ensures found { IfSome result (λ rule. falsified_of problem.now m.now (entity_said problem.now rule) ≡ true) }
-    ensures none { IfNone result ((b : ℕ) → IsFree problem.now m.now (En3 a b)) }
-{
-    if is_tag(problem, a) {
-        return other_tags(problem, m, a);
-    }
-    None
-}
-
-/// An instance of EN3.
-fn third_rule(problem: &Problem<'_>, m: &Assignment) -> Option<EntityRule>
-    ensures found { IfSome result (λ rule. falsified_of problem.now m.now (entity_said problem.now rule) ≡ true) }
-    ensures none { IfNone result ((a : ℕ) → (b : ℕ) → IsFree problem.now m.now (En3 a b)) }
-{
-    for n in 0..problem.closed_count() {
-        if let Some(rule) = tags_of(problem, m, n + 1) {
             return Some(rule);
         }
     }
@@ -435,8 +350,10 @@ pub(crate) fn falsified_rule(
     problem: &Problem<'_>,
     m: &Assignment,
     known: &[Membership],
+    places: &[Place],
 ) -> Option<EntityRule>
-    requires { AreMemberships problem.now m.now known.now }
+    requires known { AreMemberships problem.now m.now known.now }
+    requires places { ArePlaces problem.now places.now }
     ensures found { IfSome result (λ rule. falsified_of problem.now m.now (entity_said problem.now rule) ≡ true) }
     ensures none { IfNone result (NoneFalsified entity_said problem.now m.now) }
 {
@@ -446,13 +363,10 @@ pub(crate) fn falsified_rule(
     if let Some(rule) = fifth_rule(problem, m, known) {
         return Some(rule);
     }
-    if let Some(rule) = first_rule(problem, m) {
+    if let Some(rule) = unlike_places(problem, m, known, places) {
         return Some(rule);
     }
     if let Some(rule) = second_rule(problem, m, known) {
-        return Some(rule);
-    }
-    if let Some(rule) = third_rule(problem, m) {
         return Some(rule);
     }
     if let Some(rule) = sixth_rule(problem, m) {

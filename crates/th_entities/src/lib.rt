@@ -2,8 +2,10 @@
 //! tags and declared actions.
 #![tactic(auto)]
 
+mod alike;
 mod finding;
 mod memberships;
+mod places;
 mod runs;
 mod testing;
 mod theory;

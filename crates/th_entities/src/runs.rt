@@ -3,7 +3,7 @@ ghost use Rattle.std.specs.Prelude.{◌≡◌, ◌&&◌, ◌==◌, [], length, I
 ghost use Rattle.std.specs.List.{take_while, list_any};
 ghost use Rattle.std.specs.List.Sorted.{IsPermutation};
 ghost use Rattle.th_entities.specs.Free.{has_member as member_test};
-ghost use Rattle.th_entities.specs.Memberships.{IsFirstRun};
+ghost use Rattle.th_entities.specs.Memberships.{IsFirstRun, owner_of};
 
 use crate::memberships::Membership;
 use std::cmp::Ordering;
@@ -32,7 +32,7 @@ fn run_length(owner: u64, known: &[Membership]) -> usize
 pub(crate) fn first_run<'a>(
     known: &'a [Membership],
 ) -> Option<(u64, &'a [Membership], &'a [Membership])>
-    ensures some { IfSome result (λ r. IsFirstRun known.now r.0 r.1.now r.2.now) }
+    ensures some { IfSome result (λ r. IsFirstRun owner_of known.now r.0 r.1.now r.2.now) }
     ensures none { IfNone result (known.now ≡ []) }
 {
     let Some((first, _)) = known.split_first() else {

@@ -1,16 +1,16 @@
 //! Tests that are taken before many instances are looked at.
-ghost use Rattle.std.specs.Prelude.{◌≡◌, ◌&&◌, ℕ, None, false, is_some};
+ghost use Rattle.std.specs.Prelude.{◌≡◌, ◌&&◌, true, is_some, IfSome, IfNone};
 ghost use Rattle.sc_footprint.specs.Problems.{term_of};
-ghost use Rattle.sc_instances.specs.declared.rule.EntityRule.TheVariants.{En1};
 ghost use Rattle.sc_instances.specs.Instances.{entity_said};
+ghost use Rattle.sc_instances.specs.Known.{is_falsified as falsified_of};
 ghost use Rattle.sc_instances.specs.Saying.{count_of};
-ghost use Rattle.th_entities.specs.Free.{is_head_out as head_test, is_out as out_test, is_stored as stored_test, is_tag as tag_test};
+ghost use Rattle.th_entities.specs.Free.{IsFree, is_head_out as head_test, is_out as out_test, is_stored as stored_test};
 
 use sc_clauses::{Assignment, Lit, is_false, is_same};
 use sc_entity_rows::Said;
 use sc_footprint::Problem;
-use sc_instances::{EntityRule, Saying, TRUE, attributes};
-use sc_nodes::{BinaryOp, Node, UnaryOp};
+use sc_instances::{EntityRule, Saying, TRUE, is_falsified};
+use sc_nodes::{Node, UnaryOp};
 
 /// Whether a literal is asked and false.
 pub(crate) fn is_out(m: &Assignment, lit: Lit) -> bool
@@ -44,19 +44,6 @@ pub(crate) fn is_head_out(problem: &Problem<'_>, m: &Assignment, rule: EntityRul
     is_out(m, said.literal(0))
 }
 
-/// Whether an entity has closed attributes.
-pub(crate) fn has_attributes(problem: &Problem<'_>, e: u64) -> bool
-    ensures { result ≡ false → (f : ℕ) → entity_said problem.now (En1 e f) ≡ None }
-{
-    let Some(at) = problem.term(e) else {
-        return false;
-    };
-    match attributes(problem, at) {
-        Some(_) => true,
-        None => false,
-    }
-}
-
 /// Whether a closed term is the ancestors of an entity, or the keys of its tags.
 pub(crate) fn is_stored(problem: &Problem<'_>, s: u64) -> bool
     ensures { result ≡ stored_test (term_of problem.now s) }
@@ -71,15 +58,19 @@ pub(crate) fn is_stored(problem: &Problem<'_>, s: u64) -> bool
     }
 }
 
-/// Whether a closed term is a tag.
-pub(crate) fn is_tag(problem: &Problem<'_>, a: u64) -> bool
-    ensures { result ≡ tag_test (term_of problem.now a) }
+/// The instance, if an assignment falsifies it.
+pub(crate) fn if_falsified(
+    problem: &Problem<'_>,
+    m: &Assignment,
+    rule: EntityRule,
+) -> Option<EntityRule>
+    ensures found { IfSome result (λ rule. falsified_of problem.now m.now (entity_said problem.now rule) ≡ true) }
+    ensures none { IfNone result (IsFree problem.now m.now rule) }
 {
-    let Some(at) = problem.term(a) else {
-        return false;
-    };
-    match problem.terms().node(at) {
-        Node::Two(BinaryOp::Tag(_), _, _) => true,
-        _ => false,
+    let said = Said { problem, rule };
+    if is_falsified(&said, m) {
+        Some(rule)
+    } else {
+        None
     }
 }

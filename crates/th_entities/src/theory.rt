@@ -5,6 +5,7 @@ ghost use Rattle.sc_instances.specs.Known.{is_falsified, NoneFalsified};
 
 use crate::finding::falsified_rule;
 use crate::memberships::true_memberships;
+use crate::places::all_places;
 use sc_clauses::{Assignment, Clause, Instance};
 use sc_entity_rows::Said;
 use sc_footprint::{Problem, Theory};
@@ -51,7 +52,8 @@ impl Theory for Entities {
         m: &Assignment,
     ) -> Result<Option<Instance>, AllocError> {
         let known = true_memberships(alloc, problem, m)?;
-        match falsified_rule(problem, m, known.as_slice()) {
+        let places = all_places(alloc, problem)?;
+        match falsified_rule(problem, m, known.as_slice(), places.as_slice()) {
             Some(rule) => Ok(Some(write_entity(alloc, rule)?)),
             None => Ok(None),
         }
