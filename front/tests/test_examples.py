@@ -98,6 +98,20 @@ class Answers(FrontTest):
                     for finding in row["findings"]:
                         self.assertRegex(finding["sentence"], r" (may|may no longer) .*: .*(before|now)")
 
+    def test_lint(self) -> None:
+        for name in SETS:
+            with self.subTest(name):
+                run = self.vutselqi("lint", "--schema", "schema.json", "--json", "v1.cedar", at=EXAMPLES / name)
+                status = 1 if '"level": "warning"' in run.out else 2 if '"code": "undecided"' in run.out else 0
+                self.assertEqual((run.status, run.err), (status, ""))
+                errs, denied = (
+                    answers(name, f"--query {query} --policies v1") for query in ("never-errors", "always-denies")
+                )
+                for row in json.loads(run.out)["kinds"]:
+                    kind, codes = " ".join(row["kind"].values()), {finding["code"] for finding in row["findings"]}
+                    self.assertEqual("may-err" in codes, errs[kind] == "counterexample", kind)
+                    self.assertEqual(row["verdict"] == "never allowed", denied[kind] == "holds", kind)
+
     def test_the_same(self) -> None:
         for name in SETS:
             with self.subTest(name):

@@ -7,6 +7,7 @@ import re
 import shutil
 import subprocess
 import sys
+import tarfile
 import textwrap
 import unittest
 from importlib.util import find_spec
@@ -116,7 +117,8 @@ class Archives(FrontTest):
 
     def test_source(self) -> None:
         name = packing.build_sdist(str(self.folder))
-        subprocess.run(["tar", "-xzf", name], cwd=self.folder, check=True)
+        with tarfile.open(self.folder / name) as archive:
+            archive.extractall(self.folder, **({"filter": "data"} if hasattr(tarfile, "data_filter") else {}))
         top = self.folder / name[: -len(".tar.gz")]
         words = [sys.executable, "-c", "import packing; print(packing.build_wheel('.'))"]
         run = subprocess.run(words, cwd=top, capture_output=True, text=True, check=False)

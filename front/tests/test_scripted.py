@@ -179,6 +179,17 @@ class Scripted(FrontTest):
         self.expect("lint-open.txt", run.out)
         self.assertEqual((run.status, run.err), (2, ""))
 
+    @needs_program
+    def test_worlds_of_lines(self) -> None:
+        lines = (f"{LINKED}: counterexample {PLAIN}", f"policy12 kept {ENV} {PLAIN}", f"\n {PLAIN}\n\n")
+        for line in lines:
+            words = ("--schema", "schema.json", "--policies", "old.cedar", self.file("line", line))
+            run = self.vutselqi("explain", *words)
+            self.assertEqual((run.status, run.err), (0, ""), line)
+            self.assertTrue(
+                run.out.startswith("    User 0 asks to view Doc 0: denied, since no rule permits it.\n"), run.out
+            )
+
     def test_worlds_that_are_not_well_formed(self) -> None:
         for fault in ("request", 'entity User::"0"', 'missing Doc::"0"'):
             lines = [f"world not well-formed: {fault}", "policy0 satisfied", "decision Allow"]

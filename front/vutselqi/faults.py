@@ -100,48 +100,31 @@ def of_policies(status: int, file: Input, fault: str, line: str) -> Trouble:
     if not found:
         name, _, offset = fault.partition(" at ")
         sentence, advice = explained(status, name)
-        return (
-            Trouble(sentence, at_offset(file, offset), advice, line)
-            if offset.isdigit()
-            else of_whole(file, sentence, advice, line)
+        return in_file(
+            file, at_byte(file.source, file.content, int(offset)) if offset.isdigit() else None, sentence, advice, line
         )
     sentence, advice = explained(status, found["name"])
     number, rules = int(found["number"]), file.rules
     identity = f" (`{rules[number].identity}`)" if number < len(rules) and rules[number].identity is not None else ""
-    kind = found["kind"]
-    where = f", in requests {kind[4:]}" if kind else ""
-    return Trouble(f"{sentence}; in rule {number + 1}{identity}{where}", at_offset(file, found["offset"]), advice, line)
-
-
-def at_offset(file: Input, offset: str) -> Place:
-    """The place of a byte in a file, which is the one that the user gave unless it was translated."""
-    name = f"{file.name} (as {file.translator} gives it)" if file.translator else file.name
-    return at_byte(name, file.content, int(offset))
-
-
-def of_whole(file: Input, sentence: str, advice: str, line: str) -> Trouble:
-    """A fault of a whole file."""
-    return Trouble(f"{file.name}: {sentence}", advice=advice, line=line)
+    where = f", in requests {found['kind'][4:]}" if found["kind"] else ""
+    place = at_byte(file.source, file.content, int(found["offset"]))
+    return in_file(file, place, f"{sentence}; in rule {number + 1}{identity}{where}", advice, line)
 
 
 def of_json(status: int, file: Input, fault: str, line: str) -> Trouble:
-    """A fault in a schema or a world."""
+    """A fault in a schema or a world, at a place that a JSON pointer leads to, or else of a type or an action."""
     name, _, where = fault.partition(" at ")
     sentence, advice = explained(status, name)
     if name == "NotJson":
-        return (
-            Trouble(sentence, json_stop(file), advice, line)
-            if json_stop(file)
-            else of_whole(file, sentence, advice, line)
-        )
+        return in_file(file, json_stop(file), sentence, advice, line)
     offset = offset_of(file.text, unescaped(where)) if where.startswith("/") or fault.endswith(" at ") else None
-    if where:
-        sentence = f"{sentence}; at {where}"
-    return (
-        Trouble(sentence, at_character(file.name, file.text, offset), advice, line)
-        if offset is not None
-        else of_whole(file, sentence, advice, line)
-    )
+    place = None if offset is None else at_character(file.source, file.text, offset)
+    return in_file(file, place, f"{sentence}; at {where}" if where else sentence, advice, line)
+
+
+def in_file(file: Input, place: Optional[Place], sentence: str, advice: str, line: str) -> Trouble:
+    """A fault at a place in a file, or of the whole file."""
+    return Trouble(sentence if place else f"{file.source}: {sentence}", place, advice, line)
 
 
 def json_stop(file: Input) -> Optional[Place]:
@@ -149,8 +132,8 @@ def json_stop(file: Input) -> Optional[Place]:
     try:
         json.loads(file.text)
     except json.JSONDecodeError as error:
-        return at_character(file.name, file.text, error.pos)
-    except RecursionError:
+        return at_character(file.source, file.text, error.pos)
+    except (RecursionError, ValueError):
         pass
     return None
 

@@ -33,6 +33,11 @@ class Input:
         """The user's name for the file, on one line."""
         return plain(self.shown)
 
+    @property
+    def source(self) -> str:
+        """Where places in the text are: in the user's file, or in its translation."""
+        return f"{self.name} (as {self.translator} gives it)" if self.translator else self.name
+
     @cached_property
     def text(self) -> str:
         """What the file holds, as text."""

@@ -8,7 +8,7 @@ from __future__ import annotations
 
 import re
 from dataclasses import dataclass
-from typing import Optional
+from typing import Iterator, Optional
 
 from vutselqi.escapes import unescaped
 from vutselqi.places import Place, at_rule
@@ -59,11 +59,11 @@ def read_rule(number: int, found: list[re.Match[str]]) -> list[Rule]:
     return []
 
 
-def tokens(text: str) -> list[re.Match[str]]:
+def tokens(text: str) -> Iterator[re.Match[str]]:
     """The tokens of a text, without white space and comments."""
-    return [
-        found for found in TOKEN.finditer(text) if not found.group().isspace() and not found.group().startswith("//")
-    ]
+    for found in TOKEN.finditer(text):
+        if not found.group().isspace() and not found.group().startswith("//"):
+            yield found
 
 
 def identity(front: list[str]) -> Optional[str]:
