@@ -102,6 +102,14 @@ impl Known {
         }
     }
 
+    /// The truth of a literal.
+    pub(crate) fn literal_truth(&self, lit: Lit) -> Option<bool> {
+        if lit.atom == 1 {
+            return Some(!lit.negated);
+        }
+        Some(self.truth(lit.atom)? != lit.negated)
+    }
+
     /// The number of a term that the one of a number equals, or 0.
     pub(crate) fn partner(&self, number: u64) -> u64 {
         match self.partners.get(number as usize) {
@@ -118,10 +126,6 @@ impl Known {
         let Some(b) = problem.term(other) else {
             return None;
         };
-        let lit = equal(problem, a, b);
-        if lit.atom == 1 {
-            return Some(!lit.negated);
-        }
-        Some(self.truth(lit.atom)? != lit.negated)
+        self.literal_truth(equal(problem, a, b))
     }
 }

@@ -1,5 +1,6 @@
-//! Instances by an equation that is known to be true, or by memberships that are.
+//! Instances by an equation that is known to be true, by memberships that are, or by what is known of like places.
 
+use crate::alike::put_alike;
 use crate::climbing::put_climbs;
 use crate::known::{Known, equation, is_constant, tell_equation};
 use sc_clauses::{Instance, Lit};
@@ -55,8 +56,8 @@ fn put_equal(
     Ok(())
 }
 
-/// Instances that may give a literal where these are all that are known: by the equations and the memberships that they tell,
-/// if one is told after the first `seen` of them.
+/// Instances that may give a literal where these are all that are known: by the equations, the memberships and the places of
+/// which they tell, if one is told after the first `seen` of them.
 pub fn suggested(
     alloc: Global,
     problem: &Problem<'_>,
@@ -70,5 +71,6 @@ pub fn suggested(
     };
     put_equal(alloc, problem, lits, new, &mut found)?;
     put_climbs(alloc, problem, lits, new, &mut found)?;
+    put_alike(alloc, problem, lits, new, &mut found)?;
     Ok(found)
 }
