@@ -24,3 +24,5 @@ mod patterns;
 mod pointers;
 #[cfg(test)]
 mod questions;
+#[cfg(test)]
+mod refutations;

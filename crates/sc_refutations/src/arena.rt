@@ -16,7 +16,7 @@ use std::marker::Model;
 pub struct Arena {
     pub(crate) codes: Vec<u32>,
     /// Of each clause the place behind its last literal.
-    pub(crate) ends: Vec<u32>,
+    pub(crate) ends: Vec<usize>,
 }
 
 impl Model for Arena {
@@ -34,7 +34,7 @@ impl Model for Arena {
 /// Where the clause at a place begins.
 #[inline(always)]
 #[tactic(auto, using(crate::proofs::ArenaLaws::begin_first, crate::proofs::ArenaLaws::begin_later))]
-fn start_at(ends: &[u32], place: usize) -> u32
+fn start_at(ends: &[usize], place: usize) -> usize
     requires { place ≤ length ends.now }
     ensures { result ≡ begin_at 0 ends.now place }
 {
@@ -46,17 +46,17 @@ fn start_at(ends: &[u32], place: usize) -> u32
 
 /// The numbers from a place on, up to another.
 #[inline(always)]
-fn part(codes: &[u32], start: u32, end: u32) -> &[u32]
+fn part(codes: &[u32], start: usize, end: usize) -> &[u32]
     requires ordered { start ≤ end }
     requires within { end ≤ length codes.now }
     ensures { result.now ≡ take (end - start) (drop start codes.now) }
 {
-    &codes[start as usize..end as usize]
+    &codes[start..end]
 }
 
 /// The numbers of the clause at a place, counted from 0, where clauses end at these places. None exactly past the last.
 #[inline(always)]
-pub(crate) fn codes_at<'a>(codes: &'a [u32], ends: &[u32], place: usize) -> Option<&'a [u32]>
+pub(crate) fn codes_at<'a>(codes: &'a [u32], ends: &[usize], place: usize) -> Option<&'a [u32]>
     requires { IsTrue (are_within 0 ends.now (length codes.now)) }
     ensures { option_map (map lit_of) (option_copied result) ≡ slice_get (pieces 0 codes.now ends.now) place }
 {
@@ -116,24 +116,20 @@ impl Arena {
         codes_at(self.codes.as_slice(), self.ends.as_slice(), place)
     }
 
-    /// Puts a clause after the others, by the numbers of its literals. It is refused as too large where the place behind
-    /// its last literal has more than 32 bits.
+    /// Puts a clause after the others, by the numbers of its literals.
     #[inline(always)]
     pub fn push(&mut self, clause: &[u32]) -> Result<(), AllocError>
         ensures { OnOk result (self.new ≡ self.old ++ map lit_of clause.now ∷ []) }
     {
         make_room(&mut self.ends, 1)?;
         make_room(&mut self.codes, clause.len())?;
-        let Ok(end) = u32::try_from(self.codes.len() + clause.len()) else {
-            return Err(AllocError);
-        };
+        let end = self.codes.len() + clause.len();
         write_reserved(&mut self.codes, clause);
         self.ends.push_reserved(end);
         Ok(())
     }
 
-    /// Puts a clause after the others. It is refused as too large where a literal has no number, or the place behind its
-    /// last one more than 32 bits.
+    /// Puts a clause after the others. It is refused as too large where a literal has no number.
     pub fn push_lits(
         &mut self,
         alloc: Global,

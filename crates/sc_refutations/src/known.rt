@@ -1,5 +1,5 @@
 //! The literals that are known to be true in the check of one step.
-ghost use Rattle.std.specs.Prelude.{◌≡◌, ◌<◌, ◌+◌, ◌*◌, ◌&&◌, false, not, IfOk, IsTrue, MatchOption, map, slice_get, length};
+ghost use Rattle.std.specs.Prelude.{◌≡◌, ◌<◌, ◌+◌, ◌*◌, ◌&&◌, false, nat_lt, not, IfOk, IsTrue, MatchOption, map, slice_get, length};
 ghost use Rattle.std.specs.List.{list_all};
 ghost use Rattle.sc_clauses.specs.Clauses.{negation};
 ghost use Rattle.sc_refutations.specs.Arenas.{lit_of, has_code};
@@ -34,12 +34,19 @@ pub(crate) fn is_false(marks: &[u64], step: u64, code: u32) -> bool
     marks[code as usize] == step
 }
 
+/// Whether the literals of so many atoms have numbers: 31 bits can count the atoms.
+fn are_few(count: u64) -> bool
+    ensures { result ≡ nat_lt count 2147483648 }
+{
+    count < 2147483648
+}
+
 impl Known {
     /// Nothing is known of so many atoms. More than 31 bits can count are refused as too many.
     pub fn new(alloc: Global, count: u64) -> Result<Known, AllocError>
         ensures { IfOk result (λ k. (k.count ≡ count) × (k.step ≡ 0)) }
     {
-        if count >= 2147483648 {
+        if !are_few(count) {
             return Err(AllocError);
         }
         let mut marks = Vec::new(alloc);

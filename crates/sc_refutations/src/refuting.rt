@@ -69,7 +69,7 @@ fn left_of(marks: &[u64], step: u64, codes: &[u32]) -> Left
 
 /// The numbers of the clause of a number, counted from 1.
 #[inline(always)]
-fn clause_at<'a>(codes: &'a [u32], ends: &[u32], number: u64) -> Option<&'a [u32]>
+fn clause_at<'a>(codes: &'a [u32], ends: &[usize], number: u64) -> Option<&'a [u32]>
     requires { IsTrue (are_within 0 ends.now (length codes.now)) }
     ensures { option_map (map lit_of) (option_copied result) ≡ clause_at (pieces 0 codes.now ends.now) number }
 {
@@ -81,7 +81,7 @@ fn clause_at<'a>(codes: &'a [u32], ends: &[u32], number: u64) -> Option<&'a [u32
 
 /// What is left of the clause of a number. Of one that isn't there, several literals.
 #[inline(always)]
-fn left_at(known: &Known, codes: &[u32], ends: &[u32], number: u64) -> Left
+fn left_at(known: &Known, codes: &[u32], ends: &[usize], number: u64) -> Left
     requires listed { IsTrue (are_listed known.now.count (pieces 0 codes.now ends.now)) }
     requires within { IsTrue (are_within 0 ends.now (length codes.now)) }
     ensures { residual_by result ≡ residual_at (marked known.now.step known.now.marks.items)
@@ -120,7 +120,7 @@ fn write_false(known: &mut Known, codes: &mut Vec<u32>, clause: &[u32]) -> bool
 }
 
 /// Whether each hint in turn leaves one literal, which is true from then on, and the last none.
-fn follow(known: &mut Known, codes: &[u32], ends: &[u32], hints: &[u64]) -> bool
+fn follow(known: &mut Known, codes: &[u32], ends: &[usize], hints: &[u64]) -> bool
     requires listed { IsTrue (are_listed known.old.count (pieces 0 codes.now ends.now)) }
     requires within { IsTrue (are_within 0 ends.now (length codes.now)) }
     ensures shown { result ≡ refutes (pieces 0 codes.now ends.now)
@@ -144,7 +144,7 @@ fn follow(known: &mut Known, codes: &[u32], ends: &[u32], hints: &[u64]) -> bool
 fn write_shown(
     known: &mut Known,
     codes: &mut Vec<u32>,
-    ends: &[u32],
+    ends: &[usize],
     clause: &[u32],
     hints: &[u64],
 ) -> bool
@@ -167,7 +167,7 @@ fn write_shown(
 }
 
 /// Puts a learned clause, given by the numbers of its literals, after the others where it is shown by its hints, and tells
-/// whether it is. It is refused as too large where the place behind its last literal has more than 32 bits.
+/// whether it is.
 pub fn learn(
     known: &mut Known,
     number: u64,
@@ -190,9 +190,6 @@ pub fn learn(
     make_room(&mut clauses.codes, clause.len())?;
     let start = clauses.codes.len();
     let end = start + clause.len();
-    if end >= 4294967296 {
-        return Err(AllocError);
-    }
     if write_shown(
         known,
         &mut clauses.codes,
@@ -200,7 +197,7 @@ pub fn learn(
         clause,
         hints,
     ) {
-        clauses.ends.push_reserved(end as u32);
+        clauses.ends.push_reserved(end);
         return Ok(true);
     }
     clauses.codes.truncate(start);
