@@ -1,5 +1,5 @@
 -- Policies that are compiled one after the other.
-use Rattle.std.proofs.Common.{◌≡◌, ℕ, ◌+◌, ◌<◌, ◌≤◌, true, false, List, [], ◌∷◌, ◌++◌, length, drop, get_or, map, Option, Some, None, IsSome, IfSome, refl, sym, ap, subst, ◌∙◌, arith, append_assoc}
+use Rattle.std.proofs.Common.{◌≡◌, ℕ, ◌+◌, ◌<◌, ◌≤◌, Bool, true, false, List, [], ◌∷◌, ◌++◌, length, drop, get_or, map, Option, Some, None, IsSome, IfSome, refl, sym, ap, subst, ◌∙◌, arith, append_assoc}
 use Rattle.std.specs.Option.{option_map, option_and_then}
 use Rattle.std.proofs.lemmas.List.{drop_more, drop_all, map-append, append-nil}
 use Rattle.std.proofs.lemmas.List.Elements.{All-push}
@@ -13,6 +13,7 @@ use Rattle.sc_codes.specs.declared.opt.Opt.{Opt}
 use Rattle.sc_symauth.specs.declared.compiled.CompiledPolicy.{CompiledPolicy}
 use Rattle.sc_symauth.specs.Standings.{Compiled}
 use Rattle.sc_goal.specs.Goals.{with_effect, all_by}
+use Rattle.sc_goal.specs.Selections.{selected}
 use Rattle.sc_codes.specs.Numbers.{IsCode, code_at}
 use Rattle.sc_symauth.specs.Numbers.{AreCodes, compiled_at}
 use Rattle.sc_symauth.proofs.NumbersLaws.{codes_later, compiled_same}
@@ -47,16 +48,16 @@ module _ {X : Type 0} (f : X → Option Compiled) where
   abbrev after : List Compiled → List X → Option (List Compiled)
   after cs xs = option_map (λ (ds : List Compiled). cs ++ ds) (all_by f xs)
 
-  -- the first i are compiled
-  pub record AreSoFar (all : List X) (i : ℕ) (table : List Node) (ps : List CompiledPolicy) : Type 0 where
+  -- all but the rest are compiled
+  pub record AreSoFar (all rest : List X) (table : List Node) (ps : List CompiledPolicy) : Type 0 where
     pub codes : AreCodes table ps
-    pub whole : all_by f all ≡ after (map (compiled_at table) ps) (drop i all)
+    pub whole : all_by f all ≡ after (map (compiled_at table) ps) rest
 
   none_before : (o : Option (List Compiled)) → o ≡ option_map (λ (ds : List Compiled). [] ++ ds) o
   none_before None = refl
   none_before (Some cs) = refl
 
-  pub first_so_far : (all : List X) (table : List Node) → AreSoFar all 0 table []
+  pub first_so_far : (all : List X) (table : List Node) → AreSoFar all all table []
   first_so_far all table = record { codes = λ i d within. absurd (omega (arith, within)); whole = none_before (all_by f all) }
 
   -- the next one is compiled, where all are
@@ -67,10 +68,9 @@ module _ {X : Type 0} (f : X → Option Compiled) where
       by None k = k
       by (Some c) k = refl
 
-  pub next_some : (all : List X) (i : ℕ) (table : List Node) (ps : List CompiledPolicy) (x : X) → IsSome (all_by f all) → i < length all → x ≡ get_or all i x → AreSoFar all i table ps → IsSome (f x)
-  next_some all i table ps x some within e h =
-      head_some (map (compiled_at table) ps) x (drop (i + 1) all)
-      (subst (λ (o : Option (List Compiled)). IsSome o) (h.whole ∙ ap (after (map (compiled_at table) ps)) (drop_more all i x within ∙ ap (λ (y : X). y ∷ drop (i + 1) all) (sym e))) some)
+  pub next_some : (all rest : List X) (table : List Node) (ps : List CompiledPolicy) (x : X) → IsSome (all_by f all) → AreSoFar all (x ∷ rest) table ps → IsSome (f x)
+  next_some all rest table ps x some h =
+      head_some (map (compiled_at table) ps) x rest (subst (λ (o : Option (List Compiled)). IsSome o) h.whole some)
 
   after_more : (cs : List Compiled) (c : Compiled) (x : X) (xs : List X) → f x ≡ Some c → after cs (x ∷ xs) ≡ after (cs ++ c ∷ []) xs
   after_more cs c x xs e =
@@ -81,20 +81,57 @@ module _ {X : Type 0} (f : X → Option Compiled) where
       by (Some ds) = ap Some (sym (append_assoc cs (c ∷ []) ds))
 
   -- one more is compiled
-  pub more_so_far : (all : List X) (i : ℕ) (s t : List Node) (ps qs : List CompiledPolicy) (x : X) (effect : Effect) (m : Option Code) (o : Opt)
-      → IsSome (all_by f all) → i < length all → x ≡ get_or all i x → f x ≡ with_effect effect m → AreSoFar all i s ps → Keeps s t
-      → IfSome m (λ (c : Code). StandsAs t o c) → qs ≡ ps ++ record { effect = effect; code = o } ∷ [] → AreSoFar all (i + 1) t qs
-  more_so_far all i s t ps qs x effect m o some within e is h k stands pushed =
+  pub more_so_far : (all rest : List X) (s t : List Node) (ps qs : List CompiledPolicy) (x : X) (effect : Effect) (m : Option Code) (o : Opt)
+      → IsSome (all_by f all) → f x ≡ with_effect effect m → AreSoFar all (x ∷ rest) s ps → Keeps s t
+      → IfSome m (λ (c : Code). StandsAs t o c) → qs ≡ ps ++ record { effect = effect; code = o } ∷ [] → AreSoFar all rest t qs
+  more_so_far all rest s t ps qs x effect m o some is h k stands pushed =
       let p : CompiledPolicy = record { effect = effect; code = o } in
-      let compiled : IsSome m = with_effect_some effect m (subst (λ (r : Option Compiled). IsSome r) is (next_some all i s ps x some within e h)) in
-      subst (AreSoFar all (i + 1) t) (sym pushed) (record {
+      let compiled : IsSome m = with_effect_some effect m (subst (λ (r : Option Compiled). IsSome r) is (next_some all rest s ps x some h)) in
+      subst (AreSoFar all rest t) (sym pushed) (record {
         codes = All-push (λ (q : CompiledPolicy). IsCode t q.code) ps p (codes_later s t ps k h.codes) (is_code t o m compiled stands);
         whole =
-            h.whole ∙ ap (λ (cs : List Compiled). after cs (drop i all)) (sym (compiled_same s t ps k h.codes))
-            ∙ ap (after (map (compiled_at t) ps)) (drop_more all i x within ∙ ap (λ (y : X). y ∷ drop (i + 1) all) (sym e))
-            ∙ after_more (map (compiled_at t) ps) (compiled_at t p) x (drop (i + 1) all) (is ∙ with_effect_is t effect o m compiled stands)
-            ∙ ap (λ (cs : List Compiled). after cs (drop (i + 1) all)) (sym (map-append (compiled_at t) ps (p ∷ [])));
+            h.whole ∙ ap (λ (cs : List Compiled). after cs (x ∷ rest)) (sym (compiled_same s t ps k h.codes))
+            ∙ after_more (map (compiled_at t) ps) (compiled_at t p) x rest (is ∙ with_effect_is t effect o m compiled stands)
+            ∙ ap (λ (cs : List Compiled). after cs rest) (sym (map-append (compiled_at t) ps (p ∷ [])));
       })
 
-  pub all_so_far : (all : List X) (i : ℕ) (table : List Node) (ps : List CompiledPolicy) → length all ≤ i → AreSoFar all i table ps → all_by f all ≡ Some (map (compiled_at table) ps)
-  all_so_far all i table ps h k = k.whole ∙ ap (after (map (compiled_at table) ps)) (drop_all i all h) ∙ ap Some (append-nil (map (compiled_at table) ps))
+  pub all_so_far : (all : List X) (table : List Node) (ps : List CompiledPolicy) → AreSoFar all [] table ps → all_by f all ≡ Some (map (compiled_at table) ps)
+  all_so_far all table ps k = k.whole ∙ ap Some (append-nil (map (compiled_at table) ps))
+
+-- ---- those of a list that are marked
+
+-- what of the marked ones stands from place i on
+abbrev pub marked_from : {X : Type 0} → ℕ → List Bool → List X → List X
+marked_from i marks xs = selected (drop i marks) (drop i xs)
+
+pub marked_next : {X : Type 0} (marks : List Bool) (xs : List X) (i : ℕ) (d : Bool) (x : X) → i < length marks → i < length xs → get_or marks i d ≡ true → x ≡ get_or xs i x
+    → marked_from i marks xs ≡ x ∷ marked_from (i + 1) marks xs
+marked_next {X} marks xs i d x in_marks in_all mark element =
+    ap (λ (ms : List Bool). selected ms (drop i xs)) (drop_more marks i d in_marks ∙ ap (λ (b : Bool). b ∷ drop (i + 1) marks) mark)
+    ∙ ap (λ (ys : List X). selected (true ∷ drop (i + 1) marks) ys) (drop_more xs i x in_all ∙ ap (λ (y : X). y ∷ drop (i + 1) xs) (sym element))
+
+pub marked_past : {X : Type 0} (marks : List Bool) (xs : List X) (i : ℕ) (d : Bool) → i < length marks → i < length xs → get_or marks i d ≡ false → marked_from i marks xs ≡ marked_from (i + 1) marks xs
+marked_past {X} marks xs i d in_marks in_all mark =
+    let some : X = head_of xs (omega (arith, in_all)) in
+    ap (λ (ms : List Bool). selected ms (drop i xs)) (drop_more marks i d in_marks ∙ ap (λ (b : Bool). b ∷ drop (i + 1) marks) mark)
+    ∙ ap (λ (ys : List X). selected (false ∷ drop (i + 1) marks) ys) (drop_more xs i some in_all)
+  where
+    head_of : (ys : List X) → 0 < length ys → X
+    head_of [] h = absurd (omega (arith, h))
+    head_of (y ∷ ys) h = y
+
+pub marked_end : {X : Type 0} (marks : List Bool) (xs : List X) (i : ℕ) → length marks ≤ i → marked_from i marks xs ≡ []
+marked_end marks xs i h = ap (λ (ms : List Bool). selected ms (drop i xs)) (drop_all i marks h)
+
+-- ---- the marked ones are compiled
+
+module _ {X : Type 0} (f : X → Option Compiled) (marks : List Bool) (xs : List X) (i : ℕ) (in_marks : i < length marks) (in_all : i < length xs) where
+  pub more_marked : (d : Bool) (s t : List Node) (ps qs : List CompiledPolicy) (x : X) (effect : Effect) (m : Option Code) (o : Opt) → get_or marks i d ≡ true → x ≡ get_or xs i x
+      → IsSome (all_by f (selected marks xs)) → f x ≡ with_effect effect m → AreSoFar f (selected marks xs) (marked_from i marks xs) s ps → Keeps s t
+      → IfSome m (λ (c : Code). StandsAs t o c) → qs ≡ ps ++ record { effect = effect; code = o } ∷ [] → AreSoFar f (selected marks xs) (marked_from (i + 1) marks xs) t qs
+  more_marked d s t ps qs x effect m o mark element some is h k stands pushed =
+      more_so_far f (selected marks xs) (marked_from (i + 1) marks xs) s t ps qs x effect m o some is
+      (subst (λ (rest : List X). AreSoFar f (selected marks xs) rest s ps) (marked_next marks xs i d x in_marks in_all mark element) h) k stands pushed
+
+  pub none_marked : (d : Bool) (s : List Node) (ps : List CompiledPolicy) → get_or marks i d ≡ false → AreSoFar f (selected marks xs) (marked_from i marks xs) s ps → AreSoFar f (selected marks xs) (marked_from (i + 1) marks xs) s ps
+  none_marked d s ps mark h = subst (λ (rest : List X). AreSoFar f (selected marks xs) rest s ps) (marked_past marks xs i d in_marks in_all mark) h

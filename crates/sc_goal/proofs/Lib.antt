@@ -5,4 +5,5 @@ pub mod QueriesLaws
 pub mod RightLaws
 pub mod TermsLaws
 pub mod PosedLaws
+pub mod SelectionsLaws
 mod Examples

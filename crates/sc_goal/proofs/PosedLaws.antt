@@ -45,7 +45,7 @@ typed_of i env (Err f) e = absurd (some_not_none {X = IllTyped} (Some (record { 
 
 -- ---- all policies
 
-both_come : (o : Option Compiled) (r : Option (List Compiled)) → IsSome o → IsSome r → IsSome (option_and_then (λ (c : Compiled). option_map (λ (cs : List Compiled). c ∷ cs) r) o)
+pub both_come : (o : Option Compiled) (r : Option (List Compiled)) → IsSome o → IsSome r → IsSome (option_and_then (λ (c : Compiled). option_map (λ (cs : List Compiled). c ∷ cs) r) o)
 both_come None r h k = h
 both_come (Some c) None h k = k
 both_come (Some c) (Some cs) h k = refl

@@ -1,3 +1,4 @@
 pub mod Properties
 pub mod Queries
 pub mod Goals
+pub mod Selections

@@ -10,6 +10,6 @@ mod queries;
 
 pub use asking::query;
 pub use laws::{goal_laws, property_laws};
-pub use posing::goal;
+pub use posing::{goal, goal_of};
 pub use queries::Query;
 pub use sc_question::Question;

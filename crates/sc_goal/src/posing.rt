@@ -1,13 +1,14 @@
 //! The goal of a question.
-ghost use Rattle.std.specs.Prelude.{map, IfOk, IfSome, IsSome};
+ghost use Rattle.std.specs.Prelude.{◌≡◌, length, map, IfOk, IfSome, IsSome};
 ghost use Rattle.sc_terms.specs.Tables.{Keeps, StandsFor};
 ghost use Rattle.sc_terms.specs.Folds.{not_term, and_term, equal_term};
 ghost use Rattle.sc_symauth.specs.Standings.{allow};
 ghost use Rattle.sc_symauth.specs.Numbers.{AreCodes, compiled_at};
 ghost use Rattle.sc_goal.specs.Goals.{goal_of, goal_term};
 ghost use Rattle.sc_goal.specs.Queries.{second};
+ghost use Rattle.sc_goal.specs.Selections.{selected};
 
-use crate::compiling::compile_all;
+use crate::compiling::compile_marked;
 use crate::queries::Query;
 use sc_question::Question;
 use sc_schema::{Env, Schema};
@@ -32,6 +33,30 @@ pub fn goal(
         (second query.now)) (λ t. StandsFor terms.new n t)) }
     ensures kept { Keeps terms.old terms.new }
 {
+    let left = Vec::from_elem(alloc, true, query.sets().0.len())?;
+    let right = Vec::from_elem(alloc, true, query.second().len())?;
+    goal_of(alloc, terms, schema, query, env, &left, &right)
+}
+
+/// The goal of a query, as `goal` gives it, of some of its policies: of those of the first set that `left`
+/// marks and those of the second that `right` marks, each by its place. There is one mark for each policy.
+/// All policies of both sets are typed in the environment.
+pub fn goal_of(
+    alloc: Global,
+    terms: &mut Terms,
+    schema: &Schema,
+    query: &Query<'_>,
+    env: &Env,
+    left: &[bool],
+    right: &[bool],
+) -> Result<u64, AllocError>
+    requires posed { IsSome (goal_term schema.now env.now query.now.question query.now.first (second query.now)) }
+    requires lefts { length left.now ≡ length query.now.first }
+    requires rights { length right.now ≡ length (second query.now) }
+    ensures ok { IfOk result (λ n. IfSome (goal_term schema.now env.now query.now.question
+        (selected left.now query.now.first) (selected right.now (second query.now))) (λ t. StandsFor terms.new n t)) }
+    ensures kept { Keeps terms.old terms.new }
+{
     let policies = query.sets().0;
     let variables = variables_of(alloc, terms, schema, env)?;
     let setting = Setting {
@@ -40,9 +65,9 @@ pub fn goal(
         env,
         variables,
     };
-    let first = compile_all(&setting, terms, policies.as_slice())?;
-    let second = compile_all(&setting, terms, query.second())?;
-    goal_of(
+    let first = compile_marked(&setting, terms, policies.as_slice(), left)?;
+    let second = compile_marked(&setting, terms, query.second(), right)?;
+    goal_between(
         alloc,
         terms,
         query.question(),
@@ -52,7 +77,7 @@ pub fn goal(
 }
 
 /// The goal of a question of policies that are compiled.
-fn goal_of(
+fn goal_between(
     alloc: Global,
     terms: &mut Terms,
     question: Question,
