@@ -1,5 +1,5 @@
 -- Where an assignment falsifies no instance of EN1 or of EN3 for the places that it may falsify some for, it falsifies none.
-use Rattle.std.proofs.Common.{◌≡◌, ◌≢◌, ◌<◌, ◌≤◌, ◌&&◌, ◌++◌, ◌+◌, ◌∙◌, ℕ, zero, suc, nat_lt, Bool, true, false, not, List, [], ◌∷◌, Option, Some, None, IfNone, refl, sym, ap, subst, arith, ⊎_elim}
+use Rattle.std.proofs.Common.{◌≡◌, ◌<◌, ◌≤◌, ◌&&◌, ◌++◌, ◌+◌, ◌∙◌, ℕ, zero, suc, nat_lt, Bool, true, false, List, [], ◌∷◌, Option, Some, None, IfNone, refl, sym, ap, subst, arith, ⊎_elim}
 use Rattle.std.proofs.lemmas.Bool.{and_from, and_parts, cases_lt}
 use Rattle.std.proofs.lemmas.Bool.Decides.{nat_tests}
 use Rattle.std.specs.List.{AllByRecursion}
@@ -15,9 +15,9 @@ use Rattle.sc_nodes.specs.declared.node.BinaryOp.TheVariants as binary
 use Rattle.sc_terms.specs.Trees.{Tree, one, two}
 use Rattle.sc_terms.specs.TreeSorts.{tree_sort}
 use Rattle.sc_terms.specs.Tables.{tree}
-use Rattle.sc_terms.specs.Folds.{bit_term, equal_term, present_term, truth_term}
+use Rattle.sc_terms.specs.Folds.{bit_term, equal_term, present_term}
 use Rattle.sc_footprint.specs.Problems.{Posed, IsPosed, literal_in, term_of}
-use Rattle.sc_instances.specs.Clauses.{clause_for, is_asked, literal_for}
+use Rattle.sc_instances.specs.Clauses.{clause_for}
 use Rattle.sc_instances.specs.Instances.{entity_said, on_two}
 use Rattle.sc_instances.specs.Known.{is_broken, is_falsified}
 use Rattle.sc_instances.proofs.KnownLaws.{equal_itself}
@@ -28,11 +28,11 @@ use Rattle.sc_rules.specs.Entities.{en1, en1_of, en3, en3_of}
 use Rattle.sc_rules.specs.Terms.{member}
 use Rattle.th_entities.specs.declared.memberships.Membership.{Membership}
 use Rattle.th_entities.specs.declared.places.Place.{Place}
-use Rattle.th_entities.specs.Alike.{IsAlikeFree, IsCandidateFree, IsFreeBeside, IsPairFree, alike_rule, are_like, guard_out, half_level}
+use Rattle.th_entities.specs.Alike.{IsAlikeFree, IsCandidateFree, IsFreeBeside, IsPairFree, alike_rule, are_like, guard_out, half_level, may_break, may_break_by}
 use Rattle.th_entities.specs.Free.{IsFree, is_out}
 use Rattle.th_entities.specs.Memberships.{AreMemberships, is_true, membership_in}
-use Rattle.th_entities.specs.Places.{ArePlaces, AreRooted, IsPlace, IsPlaced, IsPlacedAt, is_root, is_tag, root}
-use Rattle.th_entities.proofs.ListedLaws.{free_if, nothing_out, number_back, true_listed}
+use Rattle.th_entities.specs.Places.{ArePlaces, AreRooted, IsPlace, IsPlaced, is_root, is_tag, root}
+use Rattle.th_entities.proofs.ListedLaws.{free_if, given_out, nothing_out, number_back, true_listed}
 use Rattle.th_entities.proofs.PlaceLaws.{place_root, place_term, roots_one, roots_own}
 use Rattle.th_entities.proofs.PruneLaws.{both_out}
 
@@ -287,6 +287,22 @@ module _ (p : Posed) (m : Assignment) where
       let same : f.first ≡ tree p.nodes a.term = place_term p a f.first place f.first_is in
       let none = half_past (out-Sort (tree_sort f.first)) f.first f.second i (term_of p i) count (level ∙ ap (λ (t : Tree). half_level (out-Sort (tree_sort t))) (sym same)) past in
       absurd (nothing_out p m (subst Out none f.told))))
+
+  breaks : (k : Sort-F Sort) (x y : Tree) (i : ℕ) (z : Option Tree) → Out (half_by k x y i z) → may_break_by k p m x i ≡ true
+  breaks s.Long x y i z h = (given_out p m (nat_lt i 64) (unless (bit_term x i)) (so (bit_term y i)) [] h).1
+  breaks s.Decimal x y i z h = (given_out p m (nat_lt i 64) (unless (bit_term x i)) (so (bit_term y i)) [] h).1
+  breaks s.Ip x y i z h = (given_out p m (nat_lt i 257) (unless (bit_term x i)) (so (bit_term y i)) [] h).1
+  breaks s.Bool x y i z h = refl
+  breaks s.String x y i z h = refl
+  breaks (s.Entity name us) x y i z h = refl
+  breaks (s.Option held) x y i z h = refl
+  breaks (s.Set k) x y i z h = refl
+  breaks (s.Record fields) x y i z h = refl
+
+  pub kept_free : (tags : Bool) (a : Place) (y i : ℕ) → IsPlace p a → may_break p m (tree p.nodes a.term) i ≡ false → IsFree p m (alike_rule tags a.number y i)
+  kept_free tags a y i place e = free_unless tags a.number y i (λ f. (
+      let same : f.first ≡ tree p.nodes a.term = place_term p a f.first place f.first_is in
+      never (may_break p m f.first i) (breaks (out-Sort (tree_sort f.first)) f.first f.second i (term_of p i) f.told) (ap (λ (t : Tree). may_break p m t i) same ∙ e)))
 
   -- those below a number are free
   unfoldable pub AreBelow : Bool → ℕ → ℕ → ℕ → Type 0

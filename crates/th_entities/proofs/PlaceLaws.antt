@@ -15,6 +15,7 @@ use Rattle.sc_nodes.specs.declared.node.UnaryOp.TheVariants as unary
 use Rattle.sc_nodes.specs.declared.node.BinaryOp.TheVariants as binary
 use Rattle.sc_terms.specs.Trees.{Tree, leaf, one, two, choice, many}
 use Rattle.sc_terms.specs.Tables.{tree, node_tree, PartsAreBelow}
+use Rattle.sc_terms.specs.Folds.{literal_of}
 use Rattle.sc_footprint.specs.Problems.{Posed, numbered, term_of}
 use Rattle.sc_rules.specs.Places.{roots, same_step}
 use Rattle.th_entities.specs.declared.places.Place.{Place}
@@ -149,8 +150,8 @@ module _ (p : Posed) (n : ℕ) where
         term_by (Some i) = Some (tree p.nodes i)
         term_by None = None
 
-    pub place_is : (top : ℕ) → at < length p.nodes → IsRootOf p.nodes at top → IsPlaceIf p n (Some (record { number = n; term = at; root = top }))
-    place_is top h found = (record { term_in = h; root_in = found.within; is = term_is; of = found.is }, refl)
+    pub place_is : (top : ℕ) (b : Bool) → at < length p.nodes → IsRootOf p.nodes at top → b ≡ is_root (tree p.nodes top) → b ≡ true → IsPlaceIf p n (Some (record { number = n; term = at; root = top }))
+    place_is top b h found e f = (record { term_in = h; root_in = found.within; is = term_is; of = found.is; top = sym e ∙ f }, refl)
 
     pub no_root : (top : ℕ) (b : Bool) → IsRootOf p.nodes at top → b ≡ is_root (tree p.nodes top) → b ≡ false → IsNoPlace p n
     no_root top b found e f t there =
@@ -163,6 +164,18 @@ place_root p k t h e = let same : t ≡ tree p.nodes k.term = same_some (sym e �
 
 pub place_term : (p : Posed) (k : Place) (t : Tree) → IsPlace p k → term_of p k.number ≡ Some t → t ≡ tree p.nodes k.term
 place_term p k t h e = same_some (sym e ∙ h.is)
+
+-- a place is no literal
+no_literal : (t : Tree) → is_root (root t) ≡ true → literal_of t ≡ None
+unfolding root
+no_literal (leaf l) h = absurd cc
+no_literal (one o a) h = refl
+no_literal (two o a b) h = refl
+no_literal (choice c a b) h = refl
+no_literal (many o ts) h = refl
+
+pub place_other : (p : Posed) (k : Place) → IsPlace p k → literal_of (tree p.nodes k.term) ≡ None
+place_other p k h = no_literal (tree p.nodes k.term) (ap is_root h.of ∙ h.top)
 
 -- ---- one place more
 

@@ -2,13 +2,14 @@
 use Rattle.std.specs.Prelude.{◌≡◌, ◌&&◌, ℕ, Bool, true, false, List, Option, Some, None}
 use Rattle.std.specs.List.{AllByRecursion}
 use Rattle.sc_clauses.specs.Assignments.{Assignment}
-use Rattle.sc_sorts.specs.declared.sort.Sort.{Sort, Sort-F}
+use Rattle.sc_sorts.specs.declared.sort.Sort.{Sort, Sort-F, out-Sort}
 use Rattle.sc_sorts.specs.declared.sort.Sort.TheOpen as s
 use Rattle.sc_sorts.specs.contracts.sort.SortPartialEq.TheImpl.{ghosts as sorts}
 use Rattle.sc_nodes.specs.declared.node.UnaryOp.TheVariants as unary
 use Rattle.sc_nodes.specs.declared.node.BinaryOp.TheVariants as binary
 use Rattle.sc_terms.specs.Trees.{Tree, one, two}
-use Rattle.sc_terms.specs.Folds.{equal_term}
+use Rattle.sc_terms.specs.TreeSorts.{tree_sort}
+use Rattle.sc_terms.specs.Folds.{bit_term, equal_term}
 use Rattle.sc_footprint.specs.Problems.{Posed}
 use Rattle.sc_instances.specs.declared.rule.EntityRule.{EntityRule}
 use Rattle.sc_instances.specs.declared.rule.EntityRule.TheVariants.{En1, En3}
@@ -36,6 +37,16 @@ guard_out p m _ _ = false
 -- two terms are like places of attributes or of tags
 abbrev pub are_like : Tree → Tree → Bool
 are_like x y = is_root (roots x y).0 && is_root (roots x y).1
+
+-- the half of a number may be broken: of two numbers the bit of the first one has to be one
+abbrev pub may_break_by : Sort-F Sort → Posed → Assignment → Tree → ℕ → Bool
+may_break_by s.Long p m x i = is_true p m (bit_term x i)
+may_break_by s.Decimal p m x i = is_true p m (bit_term x i)
+may_break_by s.Ip p m x i = is_true p m (bit_term x i)
+may_break_by _ p m x i = true
+
+abbrev pub may_break : Posed → Assignment → Tree → ℕ → Bool
+may_break p m x i = may_break_by (out-Sort (tree_sort x)) p m x i
 
 -- how many halves there are for terms of a sort, numbered from 0; of sets they have the numbers of candidates
 abbrev pub half_level : Sort-F Sort → Option ℕ

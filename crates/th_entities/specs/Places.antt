@@ -56,6 +56,7 @@ pub record IsPlace (p : Posed) (k : Place) : Type 0 where
   pub root_in : k.root < length p.nodes
   pub is : term_of p k.number ≡ Some (tree p.nodes k.term)
   pub of : root (tree p.nodes k.term) ≡ tree p.nodes k.root
+  pub top : is_root (tree p.nodes k.root) ≡ true
 
 -- the closed term of a number is no place of attributes or of a tag
 abbrev pub IsNoPlace : Posed → ℕ → Type 0

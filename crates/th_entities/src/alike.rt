@@ -6,10 +6,10 @@ ghost use Rattle.std.specs.List.{AllByRecursion};
 ghost use Rattle.sc_instances.specs.Instances.{entity_said};
 ghost use Rattle.sc_instances.specs.Known.{is_falsified as falsified_of};
 ghost use Rattle.sc_sorts.specs.declared.sort.Sort.{out-Sort};
-ghost use Rattle.sc_terms.specs.Folds.{equal_term};
+ghost use Rattle.sc_terms.specs.Folds.{bit_term, equal_term};
 ghost use Rattle.sc_terms.specs.Tables.{tree};
 ghost use Rattle.sc_terms.specs.TreeSorts.{tree_sort};
-ghost use Rattle.th_entities.specs.Alike.{IsAlikeFree, IsCandidateFree, IsFreeBeside, IsPairFree, alike_rule, are_like as like_test, half_level, guard_out};
+ghost use Rattle.th_entities.specs.Alike.{IsAlikeFree, IsCandidateFree, IsFreeBeside, alike_rule, are_like as like_test, half_level, guard_out, may_break as break_test};
 ghost use Rattle.th_entities.specs.Free.{IsFree};
 ghost use Rattle.th_entities.specs.Memberships.{AreMemberships, is_true};
 ghost use Rattle.th_entities.specs.Places.{ArePlaces, IsPlace, AreRooted};
@@ -20,7 +20,7 @@ use crate::testing::{if_falsified, is_out};
 use sc_clauses::{Assignment, negation};
 use sc_entity_rows::roots;
 use sc_footprint::Problem;
-use sc_instances::{EntityRule, equal};
+use sc_instances::{EntityRule, bit, equal};
 use sc_nodes::{BinaryOp, Node, UnaryOp};
 use sc_sorts::Sort;
 
@@ -93,7 +93,49 @@ fn half_count(problem: &Problem<'_>, x: u64) -> Option<u64>
     }
 }
 
+/// Whether an assignment says that a bit of a place is one.
+#[tactic(auto, using(crate::proofs::MembershipLaws::true_is, crate::proofs::PlaceLaws::place_other))]
+fn is_one(problem: &Problem<'_>, m: &Assignment, a: Place, i: u64) -> bool
+    requires { IsPlace problem.now a }
+    ensures { result ≡ is_true problem.now m.now (bit_term (tree problem.now.nodes a.term) i) }
+{
+    is_out(m, negation(bit(problem, a.term, i)))
+}
+
+/// Whether the half of a number may be broken: of two numbers the bit of the first one has to be one.
+fn may_break(problem: &Problem<'_>, m: &Assignment, a: Place, i: u64) -> bool
+    requires { IsPlace problem.now a }
+    ensures { result ≡ break_test problem.now m.now (tree problem.now.nodes a.term) i }
+{
+    match problem.terms().sort(a.term) {
+        Sort::Long => is_one(problem, m, a, i),
+        Sort::Decimal => is_one(problem, m, a, i),
+        Sort::Ip => is_one(problem, m, a, i),
+        _ => true,
+    }
+}
+
 // ---- two places
+
+/// The instance for two places and the half of a number, if an assignment falsifies it.
+#[tactic(auto, using(crate::proofs::AlikeLaws::kept_free))]
+fn by_half(
+    problem: &Problem<'_>,
+    m: &Assignment,
+    tags: bool,
+    a: Place,
+    b: Place,
+    i: u64,
+) -> Option<EntityRule>
+    requires { IsPlace problem.now a }
+    ensures found { IfSome result (λ rule. falsified_of problem.now m.now (entity_said problem.now rule) ≡ true) }
+    ensures none { IfNone result (IsFree problem.now m.now (alike_rule tags a.number b.number i)) }
+{
+    if may_break(problem, m, a, i) {
+        return if_falsified(problem, m, alike(tags, a.number, b.number, i));
+    }
+    None
+}
 
 /// An instance for two places, by the numbers of halves.
 fn by_number(
@@ -110,7 +152,7 @@ fn by_number(
     ensures none { IfNone result (IsAlikeFree problem.now m.now tags a.number b.number) }
 {
     for i in 0..count {
-        if let Some(rule) = if_falsified(problem, m, alike(tags, a.number, b.number, i)) {
+        if let Some(rule) = by_half(problem, m, tags, a, b, i) {
             return Some(rule);
         }
     }

@@ -1,6 +1,4 @@
-use Rattle.std.proofs.Common.{arith, sym, subst}
-use Rattle.sc_instances.specs.declared.rule.EntityRule.{EntityRule}
-use Rattle.th_entities.specs.Free.{IsFree}
+use Rattle.std.proofs.Common.{arith}
 use Rattle.th_entities.proofs.AlikeLaws.{below_all, below_more, below_none}
 use Rattle.th_entities.proofs.alike.by_number.Goals as goal
 
@@ -9,7 +7,7 @@ loop-i-init c = below_none c.args.problem.now c.args.m.now c.args.tags c.args.a.
 
 pub loop-i-preserved : goal.loop-i-preserved
 loop-i-preserved c =
-    below_more c.args.problem.now c.args.m.now c.args.tags c.args.a.number c.args.b.number c.loop-i.i (subst (λ (r : EntityRule). IsFree c.args.problem.now c.args.m.now r) c.alike.ensures c.in_default.ensures.none) c.loop-i.invariant
+    below_more c.args.problem.now c.args.m.now c.args.tags c.args.a.number c.args.b.number c.loop-i.i c.in_default.ensures.none c.loop-i.invariant
 
 pub returns-clause-none : goal.returns-clause-none
 returns-clause-none c =
