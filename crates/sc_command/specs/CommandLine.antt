@@ -1,5 +1,5 @@
 -- The command line, and which command words are.
-use Rattle.std.specs.Prelude.{◌≡◌, ◌≤◌, ◌==◌, ℕ, List, [], ◌∷◌, map, Bool, true, false, Option, Some, is_some, option_map, String, string_bytes, codes}
+use Rattle.std.specs.Prelude.{◌≡◌, ◌≤◌, ◌==◌, ℕ, List, [], ◌∷◌, map, Bool, true, false, Option, Some, None, is_some, option_map, String, string_bytes, codes}
 use Rattle.std.specs.Str.Parse.{IsNumeral, digits_value}
 use Rattle.std.specs.declared.alloc.Global.{Global}
 use Rattle.clap.specs.Words.{App, Row, Rule, Text, fault_of, first_of, found_of, new_app, new_rule, rows_of, subcommand_of, with_rule, with_subcommand}
@@ -8,10 +8,12 @@ use Rattle.clap.specs.declared.builder.action.ArgAction.TheVariants.{Set}
 use Rattle.clap.specs.declared.parser.matches.ArgMatches.{ArgMatches}
 use Rattle.sc_question.specs.Questions.{name_of, takes_two}
 use Rattle.sc_question.specs.declared.question.Question.{Question}
+use Rattle.sc_question.specs.declared.question.Question.TheVariants.{Equivalent}
 use Rattle.sc_command.specs.declared.command.Analyse as analyse_code
 use Rattle.sc_command.specs.declared.command.Asked as asked_code
 use Rattle.sc_command.specs.declared.command.Check as check_code
 use Rattle.sc_command.specs.declared.command.Log as log_code
+use Rattle.sc_command.specs.declared.command.Reduce as reduce_code
 use Rattle.sc_command.specs.declared.command.Replay as replay_code
 use Rattle.sc_command.specs.declared.command.Command as command_code
 use Rattle.sc_command.specs.declared.command.Command.TheVariants as command_kind
@@ -46,6 +48,9 @@ log_line = with_rule (with_rule (asking (codes "log")) (required (codes "budget"
 abbrev pub check_line : App
 check_line = with_rule (with_rule (asking (codes "check")) (required (codes "env"))) (required (codes "log"))
 
+abbrev pub reduce_line : App
+reduce_line = with_rule (on_files (codes "reduce")) (required (codes "budget"))
+
 -- the words begin with the name of a subcommand
 abbrev pub bare_tool : App
 bare_tool = on_top (λ s. record s { no_binary_name = true; subcommand_required = true })
@@ -55,8 +60,12 @@ bare_tool = on_top (λ s. record s { no_binary_name = true; subcommand_required 
 unfoldable pub served_line : App
 served_line = with_subcommand (with_subcommand bare_tool analyse_line.top) replay_line.top
 
+-- these, and those that write a log and read one
+unfoldable pub logging_line : App
+logging_line = with_subcommand (with_subcommand served_line log_line.top) check_line.top
+
 unfoldable pub tool : App
-tool = with_subcommand (with_subcommand served_line log_line.top) check_line.top
+tool = with_subcommand logging_line reduce_line.top
 
 -- ---- commands
 
@@ -87,11 +96,17 @@ pub record Check : Type 0 where
   pub environment : ℕ
   pub log : Text
 
+-- whether the policies are equivalent to fewer of them
+pub record Reduce : Type 0 where
+  pub asked : Asked
+  pub budget : ℕ
+
 pub data Command : Type 0 where
   analyse : Analyse → Command
   replay : Replay → Command
   write_log : Log → Command
   check_log : Check → Command
+  reduce : Reduce → Command
 
 -- the word begins with `+`
 abbrev pub begins_with_plus : Text → Bool
@@ -160,6 +175,14 @@ pub record IsReplay (given : Values) (r : Replay) : Type 0 where
   pub policies_given : given (codes "policies") ≡ Some r.policies
   pub world_given : given (codes "world") ≡ Some r.world
 
+-- the options of `reduce` were given what this command says
+pub record IsReduce (given : Values) (r : Reduce) : Type 0 where
+  pub schema_given : given (codes "schema") ≡ Some r.asked.schema
+  pub policies_given : given (codes "policies") ≡ Some r.asked.policies
+  pub no_second_set : r.asked.against ≡ None
+  pub question_is : r.asked.question ≡ Equivalent
+  pub budget_given : HasBudget given r.budget
+
 abbrev pub values_of : List Row → Values
 values_of rows name = first_of name rows
 
@@ -169,6 +192,7 @@ Reads entered (analyse a) = (rows : List Row) × (entered ≡ Some (codes "analy
 Reads entered (replay r) = (rows : List Row) × (entered ≡ Some (codes "replay", rows)) × IsReplay (values_of rows) r
 Reads entered (write_log l) = (rows : List Row) × (entered ≡ Some (codes "log", rows)) × IsLog (values_of rows) l
 Reads entered (check_log c) = (rows : List Row) × (entered ≡ Some (codes "check", rows)) × IsCheck (values_of rows) c
+Reads entered (reduce r) = (rows : List Row) × (entered ≡ Some (codes "reduce", rows)) × IsReduce (values_of rows) r
 
 -- `clap` accepts the words by this command line, and what they give is this command
 pub record Commands (words : List Text) (c : Command) : Type 0 where
@@ -203,8 +227,12 @@ log_view l = record { asked = asked_view l.asked; budget = l.budget; environment
 abbrev pub check_view : check_code.Check → Check
 check_view c = record { asked = asked_view c.asked; environment = c.environment; log = c.log.now }
 
+abbrev pub reduce_view : reduce_code.Reduce → Reduce
+reduce_view r = record { asked = asked_view r.asked; budget = r.budget }
+
 abbrev pub command_view : command_code.Command → Command
 command_view (command_kind.Analyse a) = analyse (analyse_view a)
 command_view (command_kind.Replay r) = replay (replay_view r)
 command_view (command_kind.Log l) = write_log (log_view l)
 command_view (command_kind.Check c) = check_log (check_view c)
+command_view (command_kind.Reduce r) = reduce (reduce_view r)

@@ -12,6 +12,8 @@ pub enum Command<'w> {
     Log(Log<'w>),
     /// To check a log that was written so.
     Check(Check<'w>),
+    /// To find which policies of a set do nothing.
+    Reduce(Reduce<'w>),
 }
 
 /// A question, and the policies that it is asked of.
@@ -67,4 +69,13 @@ pub struct Check<'w> {
     pub environment: u32,
     /// The name of the file with the log.
     pub log: &'w str,
+}
+
+/// The command to find which policies of a set do nothing.
+#[derive(Clone, Copy, PartialEq, Eq)]
+pub struct Reduce<'w> {
+    /// What is asked of the policies and of fewer of them: whether they are equivalent. There is no second file.
+    pub asked: Asked<'w>,
+    /// How many units of work each policy may take in each environment, from 1 to 1,000,000,000.
+    pub budget: u64,
 }

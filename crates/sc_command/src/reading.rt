@@ -3,9 +3,9 @@ ghost use Rattle.std.specs.Prelude.{◌≡◌, ◌≢◌, ℕ, List, [], IfNone,
 ghost use Rattle.clap.specs.Words.{Text as AnyText, fault_of, found_of, rows_of, subcommand_of, subcommand_rows_of};
 ghost use Rattle.sc_question.specs.Questions.{name_of};
 ghost use Rattle.sc_question.specs.declared.question.Question.{Question as AnyQuestion};
-ghost use Rattle.sc_command.specs.CommandLine.{Analyse as AnyAnalyse, Asked as AnyAsked, Check as AnyCheck, Command as AnyCommand, Commands, HasBudget, HasPlace, IsAnalyse, IsAsked, IsCheck, IsLog, IsReplay, Log as AnyLog, Reads, Replay as AnyReplay, analyse_view, asked_view, check_view, command_view, given_of, log_view, replay_view, tool, words_view};
+ghost use Rattle.sc_command.specs.CommandLine.{Analyse as AnyAnalyse, Asked as AnyAsked, Check as AnyCheck, Command as AnyCommand, Commands, HasBudget, HasPlace, IsAnalyse, IsAsked, IsCheck, IsLog, IsReduce, IsReplay, Log as AnyLog, Reads, Reduce as AnyReduce, Replay as AnyReplay, analyse_view, asked_view, check_view, command_view, given_of, log_view, reduce_view, replay_view, tool, words_view};
 
-use crate::command::{Analyse, Asked, Check, Command, Log, Replay};
+use crate::command::{Analyse, Asked, Check, Command, Log, Reduce, Replay};
 use crate::numbers::{budget_of, place_of};
 use crate::tool::tool;
 use clap::ArgMatches;
@@ -148,6 +148,28 @@ fn replay_of<'w>(values: &ArgMatches<'w>) -> Option<Replay<'w>>
     })
 }
 
+fn reduce_of<'w>(values: &ArgMatches<'w>) -> Option<Reduce<'w>>
+    ensures found { IfSome result (λ r. IsReduce (given_of values.now) (reduce_view r)) }
+    ensures none { IfNone result ((r : AnyReduce) → IsReduce (given_of values.now) r → ⊥) }
+{
+    let Some(schema) = given(values, "schema") else {
+        return None;
+    };
+    let Some(policies) = given(values, "policies") else {
+        return None;
+    };
+    let Some(budget) = units_of(values) else {
+        return None;
+    };
+    let asked = Asked {
+        schema,
+        policies,
+        against: None,
+        question: Question::Equivalent,
+    };
+    Some(Reduce { asked, budget })
+}
+
 /// The subcommand that the words name, and what its options were given.
 fn entered<'m, 'w>(matches: &'m ArgMatches<'w>) -> Option<(&'w str, &'m ArgMatches<'w>)>
     ensures { option_map (λ p. (p.0.now, rows_of (found_of p.1.now))) result ≡ subcommand_rows_of matches.now }
@@ -173,6 +195,9 @@ fn command_in<'w>(matches: &ArgMatches<'w>) -> Option<Command<'w>>
     }
     if name == "check" {
         return Some(Command::Check(check_of(values)?));
+    }
+    if name == "reduce" {
+        return Some(Command::Reduce(reduce_of(values)?));
     }
     None
 }

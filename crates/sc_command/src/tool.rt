@@ -1,7 +1,7 @@
 //! The command line, as `clap` is told it.
 ghost use Rattle.std.specs.Prelude.{◌≡◌, IfOk, false};
 ghost use Rattle.clap.specs.Words.{app_of, rule_of};
-ghost use Rattle.sc_command.specs.CommandLine.{analyse_line, asking, bare_tool, check_line, log_line, on_files, option, replay_line, required, served_line, tool};
+ghost use Rattle.sc_command.specs.CommandLine.{analyse_line, asking, bare_tool, check_line, log_line, logging_line, on_files, option, reduce_line, replay_line, required, served_line, tool};
 
 use clap::{Arg, ArgAction, Command};
 use std::alloc::{AllocError, Global};
@@ -68,6 +68,12 @@ fn check_line<'w>(alloc: Global) -> Result<Command<'w>, AllocError>
         .arg(required(alloc, "log"))
 }
 
+fn reduce_line<'w>(alloc: Global) -> Result<Command<'w>, AllocError>
+    ensures { IfOk result (λ c. app_of c ≡ reduce_line) }
+{
+    on_files(alloc, "reduce")?.arg(required(alloc, "budget"))
+}
+
 fn bare_tool<'w>(alloc: Global) -> Command<'w>
     ensures { app_of result ≡ bare_tool }
 {
@@ -84,10 +90,18 @@ fn served_line<'w>(alloc: Global) -> Result<Command<'w>, AllocError>
     line.subcommand(replay_line(alloc)?)
 }
 
+/// The command line with these, and with those that write a log and read one.
+fn logging_line<'w>(alloc: Global) -> Result<Command<'w>, AllocError>
+    ensures { IfOk result (λ c. app_of c ≡ logging_line) }
+{
+    let line = served_line(alloc)?.subcommand(log_line(alloc)?)?;
+    line.subcommand(check_line(alloc)?)
+}
+
 /// The whole command line.
 pub(crate) fn tool<'w>(alloc: Global) -> Result<Command<'w>, AllocError>
     ensures { IfOk result (λ c. app_of c ≡ tool) }
 {
-    let line = served_line(alloc)?.subcommand(log_line(alloc)?)?;
-    line.subcommand(check_line(alloc)?)
+    let line = logging_line(alloc)?;
+    line.subcommand(reduce_line(alloc)?)
 }

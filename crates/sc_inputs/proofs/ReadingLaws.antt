@@ -10,7 +10,7 @@ use Rattle.sc_schema.specs.Declarations.{Declarations}
 use Rattle.sc_world.specs.declared.world.World.{World}
 use Rattle.sc_world_json.specs.Reading.{SpellsWorld}
 use Rattle.sc_typing.specs.Names.{name_fault}
-use Rattle.sc_inputs.specs.Serving.{Aim, Command, Serves, HasSets, MayWork, asking, checking, logging, replaying, reporting}
+use Rattle.sc_inputs.specs.Serving.{Aim, Command, Serves, HasSets, MayWork, asking, checking, logging, reducing, replaying, reporting}
 use Rattle.sc_inputs.proofs.ServingLaws.{units_of, sets_of}
 use Rattle.sc_inputs.specs.Readings.{FailsWith, Checks, IsNoSchema, IsNoPolicies, IsNoWorld, ReadsRest, ReadsInputs, IsRead, RefusesSets, by_first, by_against, ReadsAll, ReadsAsking, RefusesAsking, by_files, by_place, by_question, RefusesScene, by_policies, by_world, by_names}
 use Rattle.sc_inputs.specs.Refusals as spec
@@ -18,7 +18,7 @@ use Rattle.sc_inputs.specs.Refusals.{Content, File, Side, policies_side, against
 use Rattle.sc_inputs.specs.View.{refusal_view}
 use Rattle.sc_inputs.specs.declared.inputs.Asking.{Asking}
 use Rattle.sc_inputs.specs.declared.inputs.Inputs.{Inputs}
-use Rattle.sc_inputs.specs.declared.inputs.Inputs.TheVariants.{Asked, Checked, Logged, Replayed}
+use Rattle.sc_inputs.specs.declared.inputs.Inputs.TheVariants.{Asked, Checked, Logged, Reduced, Replayed}
 use Rattle.sc_inputs.specs.declared.refusal.Refusal.{Refusal}
 
 -- ---- one file
@@ -221,6 +221,7 @@ words-read-one : (content : Content) (words : List (List ℕ)) (c : Command) (s 
 words-read-one content words c s (Asked i) serves reads h = asked-read content words c s (reporting i.budget) i.asking serves reads h
 words-read-one content words c s (Logged i) serves reads h = asked-read content words c s (logging i.analysis.budget i.environment) i.analysis.asking serves reads h
 words-read-one content words c s (Checked i) serves reads h = asked-read content words c s (checking i.environment i.log.now) i.asking serves reads h
+words-read-one content words c s (Reduced i) serves reads h = asked-read content words c s (reducing i.budget) i.asking serves reads h
 words-read-one content words c s (Replayed x) serves reads h = record {
   name = h.0;
   reaches = record { command = c; commands = serves; task = h.1; schema = schema_at content c x.schema s h.2.schema reads; policies = h.2.policies_read };

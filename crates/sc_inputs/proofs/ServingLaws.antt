@@ -1,23 +1,25 @@
 -- Words are one command that is served at most.
-use Rattle.std.proofs.Common.{◌≡◌, ◌∙◌, ℕ, List, [], Bool, true, false, Option, None, ap, refl, sym}
+use Rattle.std.proofs.Common.{◌≡◌, ◌∙◌, ℕ, List, [], Bool, true, false, Option, None, is_some, ap, refl, sym}
 use Rattle.sc_question.specs.declared.question.Question.{Question}
 use Rattle.sc_question.specs.declared.question.Question.TheVariants.{AlwaysDenies}
 use Rattle.std.proofs.lemmas.Bool.{true≢false}
-use Rattle.sc_command.specs.CommandLine.{Asked, Command as AnyCommand, Commands, analyse, check_log, replay, write_log}
+use Rattle.sc_command.specs.CommandLine.{Asked, Command as AnyCommand, Commands, analyse, check_log, reduce, replay, write_log}
 use Rattle.sc_command.proofs.CommandLaws.{one_command}
-use Rattle.sc_inputs.specs.Serving.{Aim, Command, HasSets, MayWork, Serves, Task, as_command, asking, checking, command_for, logging, replaying, reporting}
+use Rattle.sc_inputs.specs.Serving.{Aim, Command, HasSets, MayWork, Serves, Task, as_command, asking, checking, command_for, logging, reducing, replaying, reporting}
 
 abbrev schema_of : AnyCommand → List ℕ
 schema_of (analyse a) = a.asked.schema
 schema_of (replay r) = r.schema
 schema_of (write_log l) = l.asked.schema
 schema_of (check_log c) = c.asked.schema
+schema_of (reduce r) = r.asked.schema
 
 abbrev policies_of : AnyCommand → List ℕ
 policies_of (analyse a) = a.asked.policies
 policies_of (replay r) = r.policies
 policies_of (write_log l) = l.asked.policies
 policies_of (check_log c) = c.asked.policies
+policies_of (reduce r) = r.asked.policies
 
 abbrev task_for : Asked → Aim → Task
 task_for a aim = asking a.question a.against aim
@@ -27,23 +29,27 @@ task_of (analyse a) = task_for a.asked (reporting a.budget)
 task_of (replay r) = replaying r.world
 task_of (write_log l) = task_for l.asked (logging l.budget l.environment)
 task_of (check_log c) = task_for c.asked (checking c.environment c.log)
+task_of (reduce r) = task_for r.asked (reducing r.budget)
 
 schema-of : (schema policies : List ℕ) (t : Task) → schema_of (command_for schema policies t) ≡ schema
 schema-of schema policies (asking question against (reporting budget)) = refl
 schema-of schema policies (asking question against (logging budget place)) = refl
 schema-of schema policies (asking question against (checking place log)) = refl
+schema-of schema policies (asking question against (reducing budget)) = refl
 schema-of schema policies (replaying world) = refl
 
 policies-of : (schema policies : List ℕ) (t : Task) → policies_of (command_for schema policies t) ≡ policies
 policies-of schema policies (asking question against (reporting budget)) = refl
 policies-of schema policies (asking question against (logging budget place)) = refl
 policies-of schema policies (asking question against (checking place log)) = refl
+policies-of schema policies (asking question against (reducing budget)) = refl
 policies-of schema policies (replaying world) = refl
 
 task-of : (schema policies : List ℕ) (t : Task) → task_of (command_for schema policies t) ≡ t
 task-of schema policies (asking question against (reporting budget)) = refl
 task-of schema policies (asking question against (logging budget place)) = refl
 task-of schema policies (asking question against (checking place log)) = refl
+task-of schema policies (asking question against (reducing budget)) = refl
 task-of schema policies (replaying world) = refl
 
 pub same_schema : (words : List (List ℕ)) (c d : Command) → Serves words c → Serves words d → c.schema ≡ d.schema
@@ -76,6 +82,7 @@ units-of-task : (words : List (List ℕ)) (schema policies : List ℕ) (t : Task
 units-of-task words schema policies (asking question against (reporting budget)) h = h.reads.2.budget_given.spelled.least
 units-of-task words schema policies (asking question against (logging budget place)) h = h.reads.2.budget_given.spelled.least
 units-of-task words schema policies (asking question against (checking place log)) h = tt
+units-of-task words schema policies (asking question against (reducing budget)) h = h.reads.2.budget_given.spelled.least
 units-of-task words schema policies (replaying world) h = tt
 
 -- a budget that words give is one unit at least
@@ -86,9 +93,10 @@ sets-of-task : (words : List (List ℕ)) (schema policies : List ℕ) (t : Task)
 sets-of-task words schema policies (asking question against (reporting budget)) h = h.reads.2.asked_given.second_set
 sets-of-task words schema policies (asking question against (logging budget place)) h = h.reads.2.asked_given.second_set
 sets-of-task words schema policies (asking question against (checking place log)) h = h.reads.2.asked_given.second_set
+sets-of-task words schema policies (asking question against (reducing budget)) h = ap is_some h.reads.2.no_second_set
 sets-of-task words schema policies (replaying world) h = tt
 
--- words name a second file exactly where their question takes two sets
+-- words name a second file exactly where their question takes two sets, unless the first is to be reduced
 pub sets_of : (words : List (List ℕ)) (c : Command) → Serves words c → HasSets c.task
 sets_of words c h = sets-of-task words c.schema c.policies c.task h
 

@@ -9,18 +9,17 @@ use Rattle.sc_schema_syntax.specs.declared.fault.SchemaFault.{SchemaFault}
 use Rattle.sc_parser.specs.declared.fault.PolicyFault.{PolicyFault}
 use Rattle.sc_parser.specs.Spelling.{HasFault}
 use Rattle.sc_question.specs.declared.question.Question.{Question}
-use Rattle.sc_question.specs.Questions.{takes_two}
 use Rattle.sc_typing.specs.declared.name_fault.NameFault.{NameFault}
 use Rattle.sc_typing.specs.Names.{name_fault}
 use Rattle.sc_world.specs.declared.world.World.{World}
 use Rattle.sc_world_json.specs.declared.fault.WorldFault.{WorldFault}
 use Rattle.sc_world_json.specs.Reading as world
-use Rattle.sc_inputs.specs.Serving.{Aim, Command, HasUnits, asking, checking, logging, replaying, reporting}
+use Rattle.sc_inputs.specs.Serving.{Aim, Command, HasUnits, asking, checking, has_second, logging, reducing, replaying, reporting}
 use Rattle.sc_inputs.specs.Refusals as spec
 use Rattle.sc_inputs.specs.View.{refusal_view}
 use Rattle.sc_inputs.specs.declared.inputs.Asking.{Asking}
 use Rattle.sc_inputs.specs.declared.inputs.Inputs.{Inputs}
-use Rattle.sc_inputs.specs.declared.inputs.Inputs.TheVariants.{Asked, Replayed, Logged, Checked}
+use Rattle.sc_inputs.specs.declared.inputs.Inputs.TheVariants.{Asked, Replayed, Logged, Checked, Reduced}
 use Rattle.sc_inputs.specs.declared.inputs.Scene.{Scene}
 use Rattle.sc_inputs.specs.declared.refusal.Refusal.{Refusal}
 use Rattle.sc_inputs.specs.declared.refusal.Refusal.TheVariants.{ReadFault}
@@ -28,11 +27,12 @@ use Rattle.sc_inputs.specs.declared.refusal.Refusal.TheVariants.{ReadFault}
 -- ---- a command whose files are read
 
 -- the words are a command to ask this question for this aim, its files were read and spell a schema and these policies, which write
--- declared names alone and are typed in each environment, and the environment that is named is one of the schema; the budget allows some work, and there is a second set where the question takes two
+-- declared names alone and are typed in each environment, and the environment that is named is one of the schema; the budget allows some work, and
+-- there is a second set where the question takes two, unless the first is to be reduced
 pub record ReadsAll (content : spec.Content) (words : List (List ℕ)) (s : Declarations) (question : Question) (first : List Policy) (against : Option (List Policy)) (aim : Aim) : Type 0 where
   pub reached : spec.ReachesAim content words s question first against aim
   pub units : HasUnits aim
-  pub sets : is_some against ≡ takes_two question
+  pub sets : is_some against ≡ has_second aim question
 
 -- the words are a command to replay a world, its files were read and spell a schema, policies and the world, and the
 -- policies write declared names alone
@@ -102,6 +102,7 @@ abbrev pub ReadsRest : spec.Content → Command → Declarations → Inputs → 
 ReadsRest content c s (Asked i) = ReadsAsking content c s (reporting i.budget) i.asking
 ReadsRest content c s (Logged i) = ReadsAsking content c s (logging i.analysis.budget i.environment) i.analysis.asking
 ReadsRest content c s (Checked i) = ReadsAsking content c s (checking i.environment i.log.now) i.asking
+ReadsRest content c s (Reduced i) = ReadsAsking content c s (reducing i.budget) i.asking
 ReadsRest content c s (Replayed x) = (name : List ℕ) × (c.task ≡ replaying name) × ReadsScene content c.policies name s x
 
 -- all files are read
@@ -119,6 +120,7 @@ abbrev pub IsRead : spec.Content → List (List ℕ) → Inputs → Type 0
 IsRead content words (Asked i) = IsAskedFor content words (reporting i.budget) i.asking
 IsRead content words (Logged i) = IsAskedFor content words (logging i.analysis.budget i.environment) i.analysis.asking
 IsRead content words (Checked i) = IsAskedFor content words (checking i.environment i.log.now) i.asking
+IsRead content words (Reduced i) = IsAskedFor content words (reducing i.budget) i.asking
 IsRead content words (Replayed x) = ReadsWorld content words x.schema x.policies x.world
 
 -- ---- why the files of a command are refused, where the schema is read

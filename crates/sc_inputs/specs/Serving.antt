@@ -1,8 +1,8 @@
 -- The commands, by what is done with the policies under a schema.
-use Rattle.std.specs.Prelude.{◌≡◌, ◌≤◌, ℕ, List, Option, Some, None, option_map, is_some, ⊤}
+use Rattle.std.specs.Prelude.{◌≡◌, ◌≤◌, ℕ, List, Bool, false, Option, Some, None, option_map, is_some, ⊤}
 use Rattle.sc_question.specs.Questions.{takes_two}
 use Rattle.sc_question.specs.declared.question.Question.{Question}
-use Rattle.sc_command.specs.CommandLine.{Asked, Command as AnyCommand, Commands, analyse, check_log, replay, write_log}
+use Rattle.sc_command.specs.CommandLine.{Asked, Command as AnyCommand, Commands, analyse, check_log, reduce, replay, write_log}
 use Rattle.sc_inputs.specs.declared.serving.Aim as aim_code
 use Rattle.sc_inputs.specs.declared.serving.Aim.TheVariants as aim
 use Rattle.sc_inputs.specs.declared.serving.Served.{Served}
@@ -17,6 +17,8 @@ pub data Aim : Type 0 where
   logging : (budget place : ℕ) → Aim
   -- a verdict on the log in the file of this name, for the environment at this place
   checking : ℕ → List ℕ → Aim
+  -- which policies do nothing, within this budget for each in each environment
+  reducing : ℕ → Aim
 
 -- what is done with a policy file
 pub data Task : Type 0 where
@@ -35,6 +37,7 @@ abbrev pub asked_for : Asked → Aim → AnyCommand
 asked_for asked (reporting budget) = analyse (record { asked = asked; budget = budget })
 asked_for asked (logging budget place) = write_log (record { asked = asked; budget = budget; environment = place })
 asked_for asked (checking place log) = check_log (record { asked = asked; environment = place; log = log })
+asked_for asked (reducing budget) = reduce (record { asked = asked; budget = budget })
 
 -- a task under a schema file and a policy file, among all commands
 abbrev pub command_for : List ℕ → List ℕ → Task → AnyCommand
@@ -54,14 +57,21 @@ abbrev pub HasUnits : Aim → Type 0
 HasUnits (reporting budget) = 1 ≤ budget
 HasUnits (logging budget place) = 1 ≤ budget
 HasUnits (checking place log) = ⊤
+HasUnits (reducing budget) = 1 ≤ budget
 
 abbrev pub MayWork : Task → Type 0
 MayWork (asking question against a) = HasUnits a
 MayWork (replaying world) = ⊤
 
--- a second file is named exactly where the question takes two sets
+-- whether a second file is named: the question takes two sets; but policies that are to be fewer are compared with themselves
+abbrev pub has_second : Aim → Question → Bool
+has_second (reporting budget) question = takes_two question
+has_second (logging budget place) question = takes_two question
+has_second (checking place log) question = takes_two question
+has_second (reducing budget) question = false
+
 abbrev pub HasSets : Task → Type 0
-HasSets (asking question against a) = is_some against ≡ takes_two question
+HasSets (asking question against a) = is_some against ≡ has_second a question
 HasSets (replaying world) = ⊤
 
 -- the place of the environment that is named, where one is
@@ -69,11 +79,13 @@ abbrev pub place_in : Aim → Option ℕ
 place_in (reporting budget) = None
 place_in (logging budget place) = Some place
 place_in (checking place log) = Some place
+place_in (reducing budget) = None
 
 abbrev pub aim_view : aim_code.Aim → Aim
 aim_view (aim.Report budget) = reporting budget
 aim_view (aim.Log budget place) = logging budget place
 aim_view (aim.Check place log) = checking place log.now
+aim_view (aim.Reduce budget) = reducing budget
 
 abbrev pub task_view : code.Task → Task
 task_view (task.Ask question against a) = asking question (option_map (λ name. name.now) against) (aim_view a)

@@ -106,6 +106,7 @@ fn place_in(aim: Aim<'_>) -> Option<u64>
 {
     match aim {
         Aim::Report(_) => None,
+        Aim::Reduce(_) => None,
         Aim::Log(_, place) => Some(u64::from(place)),
         Aim::Check(place, _) => Some(u64::from(place)),
     }

@@ -68,4 +68,6 @@ pub enum Inputs<'w> {
     Logged(Logging),
     /// To check a log of an environment.
     Checked(Claim<'w>),
+    /// To find which policies of the first set do nothing, within a budget for each in each environment.
+    Reduced(Analysis),
 }

@@ -103,6 +103,7 @@ fn for_aim<'w>(asking: Asking, aim: Aim<'w>) -> Inputs<'w>
             environment,
             log,
         }),
+        Aim::Reduce(budget) => Inputs::Reduced(Analysis { asking, budget }),
     }
 }
 

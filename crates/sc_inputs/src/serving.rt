@@ -3,7 +3,7 @@ ghost use Rattle.std.specs.Prelude.{◌≡◌, IfNone, IfOk, IfSome};
 ghost use Rattle.sc_command.specs.CommandLine.{asked_view, command_view, words_view};
 ghost use Rattle.sc_inputs.specs.Serving.{Command as AnyServed, Serves, aim_view, as_command, asked_for, served_view};
 
-use sc_command::{Analyse, Asked, Check, Command, Log, Replay, command_of};
+use sc_command::{Analyse, Asked, Check, Command, Log, Reduce, Replay, command_of};
 use sc_question::Question;
 use std::alloc::{AllocError, Global};
 
@@ -16,6 +16,9 @@ pub enum Aim<'w> {
     Log(u64, u32),
     /// To check a log of the environment at a place, in the file of this name.
     Check(u32, &'w str),
+    /// To find which policies do nothing, within so many units of work for each in each environment. It is asked of one set
+    /// whether fewer of its policies are equivalent to it.
+    Reduce(u64),
 }
 
 /// What is done with a policy file.
@@ -69,6 +72,7 @@ fn as_served<'w>(command: &Command<'w>) -> Served<'w>
                 log,
             },
         ) => asking(*asked, Aim::Check(*environment, *log)),
+        Command::Reduce(Reduce { asked, budget }) => asking(*asked, Aim::Reduce(*budget)),
         Command::Replay(
             Replay {
                 schema,

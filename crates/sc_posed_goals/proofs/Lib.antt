@@ -1,3 +1,4 @@
 pub mod PlainLaws
 pub mod KeptLaws
 pub mod GoalsLaws
+pub mod WrittenLaws

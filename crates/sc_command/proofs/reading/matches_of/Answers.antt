@@ -1,15 +1,15 @@
 use Rattle.std.proofs.Common.{◌≡◌, ◌∙◌, true, refl, sym, ap, ⊎_elim, subst}
 use Rattle.clap.specs.Words.{App, IsAmong, fault_of, is_simple, is_simple_and_free, kind_of, subcommand_of}
 use Rattle.clap.proofs.OnLiterals.{clap_on_literals}
-use Rattle.sc_command.specs.CommandLine.{served_line, tool, words_view}
+use Rattle.sc_command.specs.CommandLine.{logging_line, served_line, tool, words_view}
 use Rattle.sc_command.proofs.reading.matches_of.Goals as goal
 
 is_plain_line : is_simple tool ≡ true
-unfolding tool served_line clap_on_literals
+unfolding tool logging_line served_line clap_on_literals
 is_plain_line = refl
 
 is_free_line : is_simple_and_free tool ≡ true
-unfolding tool served_line clap_on_literals
+unfolding tool logging_line served_line clap_on_literals
 is_free_line = refl
 
 pub returns-in-Ok-clause-accepted : goal.returns-in-Ok-clause-accepted
