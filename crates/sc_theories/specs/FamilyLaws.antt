@@ -90,12 +90,12 @@ module _ (rule : List ℕ) where
       named rule Entity r (codes "EN8") refl (En8 a) None e (λ f. absurd cc)))
   entity_letters r (Number a ∷ Signed v ∷ ws) e = absurd cc
   entity_letters r (Number a ∷ Number b ∷ []) e =
-      named rule Entity r (codes "EN1") refl (En1 a b) _ e (λ e.
-      named rule Entity r (codes "EN3") refl (En3 a b) _ e (λ e.
-      named rule Entity r (codes "EN7") refl (En7 a b) None e (λ f. absurd cc)))
+      named rule Entity r (codes "EN7") refl (En7 a b) None e (λ f. absurd cc)
   entity_letters r (Number a ∷ Number b ∷ Signed v ∷ ws) e = absurd cc
   entity_letters r (Number a ∷ Number b ∷ Number c ∷ []) e =
-      named rule Entity r (codes "EN2") refl (En2 a b c) None e (λ f. absurd cc)
+      named rule Entity r (codes "EN1") refl (En1 a b c) _ e (λ e.
+      named rule Entity r (codes "EN2") refl (En2 a b c) _ e (λ e.
+      named rule Entity r (codes "EN3") refl (En3 a b c) None e (λ f. absurd cc)))
   entity_letters r (Number a ∷ Number b ∷ Number c ∷ Signed v ∷ ws) e = absurd cc
   entity_letters r (Number a ∷ Number b ∷ Number c ∷ Number d ∷ []) e =
       named rule Entity r (codes "EN5") refl (En5 a b c d) None e (λ f. absurd cc)

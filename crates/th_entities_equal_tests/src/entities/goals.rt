@@ -17,11 +17,17 @@ const STORED: &str =
 const DECLARED: &str =
     r#"{"":{"entityTypes":{"Doc":{},"User":{}},"actions":{"all":{},"most":{"memberOf":[{"id":"all"}]},"view":{"memberOf":[{"id":"most"}],"appliesTo":{"principalTypes":["User"],"resourceTypes":["Doc"],"context":{"type":"Record","attributes":{"flag":{"type":"Boolean"}}}}}}}}"#;
 
+/// What is stored of a user and of its tags has values of many sorts.
+const PLACES: &str =
+    r#"{"":{"entityTypes":{"User":{"shape":{"type":"Record","attributes":{"boss":{"type":"Entity","name":"User"},"home":{"type":"Record","required":false,"attributes":{"city":{"type":"String"}}},"level":{"type":"Long"},"mates":{"type":"Set","element":{"type":"Entity","name":"User"}},"name":{"type":"Record","attributes":{"last":{"type":"String"}}},"nick":{"type":"String","required":false},"vip":{"type":"Boolean"}}},"tags":{"type":"Set","element":{"type":"String"}}}},"actions":{"view":{"appliesTo":{"principalTypes":["User"],"resourceTypes":["User"],"context":{"type":"Record","attributes":{"key":{"type":"String"},"mate":{"type":"Entity","name":"User"},"other":{"type":"Entity","name":"User"},"word":{"type":"String"}}}}}}}}"#;
+
 /// What a goal asks.
 #[derive(Clone, Copy, Debug)]
 pub(crate) enum Asked {
     /// Whether both users are important, have a tag each and are in the resource, which is in a group.
     Stored,
+    /// Whether both users have a mate, and a tag each with a key in it.
+    Places,
     /// Whether an action, to view if a flag is set and else all, is in all.
     Declared,
 }
@@ -30,6 +36,7 @@ pub(crate) enum Asked {
 pub(crate) fn schema_text(asked: Asked) -> &'static str {
     match asked {
         Asked::Stored => STORED,
+        Asked::Places => PLACES,
         Asked::Declared => DECLARED,
     }
 }
@@ -66,8 +73,13 @@ fn user(place: Place<'_>, terms: &mut Terms, principal: bool) -> Result<u64, All
     }
 }
 
-/// Whether a user is important.
-fn importance(place: Place<'_>, terms: &mut Terms, principal: bool) -> Result<u64, AllocError>
+/// An attribute of a user.
+fn attribute(
+    place: Place<'_>,
+    terms: &mut Terms,
+    principal: bool,
+    name: &str,
+) -> Result<u64, AllocError>
     requires { place.context < length terms.old }
     ensures within { IfOk result (λ n. n < length terms.new) }
     ensures grows { length terms.old ≤ length terms.new }
@@ -77,7 +89,7 @@ fn importance(place: Place<'_>, terms: &mut Terms, principal: bool) -> Result<u6
     };
     let user = user(place, terms, principal)?;
     let attributes = terms.attributes(user, sort_of(place.alloc, ty)?)?;
-    terms.field(attributes, Text::from_str(place.alloc, "vip")?)
+    terms.field(attributes, Text::from_str(place.alloc, name)?)
 }
 
 /// A user's tag under a key of the context.
@@ -146,7 +158,7 @@ fn of_user(
     ensures within { IfOk result (λ n. n < length terms.new) }
     ensures grows { length terms.old ≤ length terms.new }
 {
-    let importance = importance(place, terms, principal)?;
+    let importance = attribute(place, terms, principal, "vip")?;
     let tag = tag(place, terms, principal, key)?;
     let membership = membership(place, terms, principal)?;
     let both = terms.and(importance, tag)?;
@@ -163,6 +175,61 @@ fn stored(place: Place<'_>, terms: &mut Terms) -> Result<u64, AllocError>
     let both = terms.and(first, second)?;
     let upper = upper_membership(place, terms)?;
     terms.and(both, upper)
+}
+
+// ---- places of what is stored of users
+
+/// Whether the mate of the context is one of a user.
+fn has_mate(place: Place<'_>, terms: &mut Terms, principal: bool) -> Result<u64, AllocError>
+    requires { place.context < length terms.old }
+    ensures within { IfOk result (λ n. n < length terms.new) }
+    ensures grows { length terms.old ≤ length terms.new }
+{
+    let mates = attribute(place, terms, principal, "mates")?;
+    let mate = field(place, terms, "mate")?;
+    terms.member(mate, mates)
+}
+
+/// Whether a key of the context is in a user's tag under another.
+fn has_key(
+    place: Place<'_>,
+    terms: &mut Terms,
+    principal: bool,
+    under: &str,
+) -> Result<u64, AllocError>
+    requires { place.context < length terms.old }
+    ensures within { IfOk result (λ n. n < length terms.new) }
+    ensures grows { length terms.old ≤ length terms.new }
+{
+    let keys = tag(place, terms, principal, under)?;
+    let key = field(place, terms, "key")?;
+    terms.member(key, keys)
+}
+
+/// What is asked of the places of one user.
+fn of_places(
+    place: Place<'_>,
+    terms: &mut Terms,
+    principal: bool,
+    under: &str,
+) -> Result<u64, AllocError>
+    requires { place.context < length terms.old }
+    ensures within { IfOk result (λ n. n < length terms.new) }
+    ensures grows { length terms.old ≤ length terms.new }
+{
+    let mate = has_mate(place, terms, principal)?;
+    let key = has_key(place, terms, principal, under)?;
+    terms.and(mate, key)
+}
+
+fn places(place: Place<'_>, terms: &mut Terms) -> Result<u64, AllocError>
+    requires { place.context < length terms.old }
+    ensures within { IfOk result (λ n. n < length terms.new) }
+    ensures grows { length terms.old ≤ length terms.new }
+{
+    let first = of_places(place, terms, true, "key")?;
+    let second = of_places(place, terms, false, "word")?;
+    terms.and(first, second)
 }
 
 // ---- declared actions
@@ -218,6 +285,7 @@ pub(crate) fn goal(place: Place<'_>, terms: &mut Terms, asked: Asked) -> Result<
 {
     match asked {
         Asked::Stored => stored(place, terms),
+        Asked::Places => places(place, terms),
         Asked::Declared => declared(place, terms),
     }
 }

@@ -110,22 +110,24 @@ pub(crate) fn is_refused(
 }
 
 const FORGED: &str = "# numbers of no closed term
-EN1: 0 | other
-EN1: principal | past
+EN1: 0 | vip of other | 0
+EN1: vip of principal | past | 0
 EN4: past
 EN5: principal | resource | top | past
 EN6: 1000000000000000000
 EN8: past
 # terms of other sorts
-EN1: principal | context
-EN1: principal | resource
+EN1: principal | context | 0
+EN1: principal | other | 0
+EN1: attributes of principal | attributes of other | 0
 EN2: key | ancestors of principal | ancestors of other
 EN2: resource | ancestors of principal | keys of other
 EN2: resource | ancestors of principal | ancestors of resource
 EN2: resource | resource | top
 EN2: resource | attributes of principal | attributes of other
-EN3: principal | other
-EN3: tag of principal | vip of other
+EN1: vip of principal | tag of other | 0
+EN3: principal | other | 0
+EN3: tag of principal | vip of other | 0
 EN4: key
 EN5: principal | key | top | ancestors of resource
 EN6: keys of principal
@@ -139,23 +141,28 @@ EN8: principal
 EN5: principal | resource | top | ancestors of principal
 EN5: principal | top | resource | ancestors of resource
 EN5: principal | other | resource | ancestors of other
-# atoms that aren't listed: attributes of groups, users above users, and what is above the group
-EN1: resource | top
+# no half but the first
+EN1: vip of principal | vip of other | 1
+EN3: tag of principal | tag of other | 1
+# atoms that aren't listed: users above users, and what is above the group
 EN4: principal
 EN4: top
-# what is always so: an entity equals itself, and what is above is above
-EN1: principal | principal
+# what is always so: a place is like itself, and what is above is above
+EN1: vip of principal | vip of principal | 0
 EN2: resource | ancestors of principal | ancestors of principal
-EN3: tag of principal | tag of principal
+EN3: tag of principal | tag of principal | 0
 EN5: resource | resource | top | ancestors of resource
 EN5: principal | resource | resource | ancestors of resource
 # words too few, too many, or no numbers
 EN4: nothing
 EN4: resource | resource
 EN4: +
-EN1: principal
-EN1: principal | other | 0
-EN1: principal | +
+EN1: vip of principal
+EN1: vip of principal | vip of other
+EN1: vip of principal | vip of other | +
+EN1: vip of principal | vip of other | 0 | 0
+EN3: tag of principal | tag of other
+EN3: tag of principal | tag of other | 0 | 0
 EN2: resource | ancestors of principal
 EN5: principal | resource | top
 EN5: principal | resource | top | ancestors of resource | 0
@@ -179,7 +186,7 @@ EN8: view
 EN8: all
 EN2: all | ancestors of all | ancestors of view
 # attributes that aren't asked for
-EN1: view | choice
+EN1: view | choice | 0
 # what is above is above
 EN5: view | view | all | ancestors of view
 EN5: choice | view | view | ancestors of view
@@ -283,17 +290,57 @@ pub(crate) fn is_accepted(
 }
 
 const RIGHT: &str =
-    "EN1: principal | other => not principal = other; attributes of principal = attributes of other
-EN1: other | principal => not other = principal; attributes of other = attributes of principal
+    "EN1: vip of principal | vip of other | 0 => not principal = other; not vip of principal is so; vip of other is so
+EN1: vip of other | vip of principal | 0 => not other = principal; not vip of other is so; vip of principal is so
 EN2: resource | ancestors of principal | ancestors of other => not principal = other; not resource in ancestors of principal; resource in ancestors of other
 EN2: top | ancestors of other | ancestors of principal => not other = principal; not top in ancestors of other; top in ancestors of principal
 EN2: key | keys of principal | keys of other => not principal = other; not key in keys of principal; key in keys of other
-EN3: tag of principal | tag of other => not principal = other; not key = word; tag of principal = tag of other
+EN3: tag of principal | tag of other | 0 => not principal = other; not key = word; not tag of principal is so; tag of other is so
+EN3: tag of other | tag of principal | 0 => not other = principal; not word = key; not tag of other is so; tag of principal is so
 EN4: resource => not resource in ancestors of resource
 EN5: principal | resource | top | ancestors of resource => not resource in ancestors of principal; not top in ancestors of resource; top in ancestors of principal
 # a truth value is the default where it isn't so
 EN6: tag of principal => key in keys of principal; not tag of principal is so
 EN6: tag of other => word in keys of other; not tag of other is so";
+
+const FORGED_OF_PLACES: &str = "# no like places
+EN1: level of principal | vip of other | 0
+EN1: last of name of principal | city of held of home of other | 0
+EN1: nick of principal | held of nick of other | 0
+EN1: home of principal | nick of other | 0
+EN1: boss of principal | mates of other | mate
+# records have no halves of their own
+EN1: name of principal | name of other | 0
+EN1: held of home of principal | held of home of other | 0
+# no bit, and no candidate
+EN1: level of principal | level of other | 64
+EN1: mates of principal | mates of other | 0
+EN1: mates of principal | mates of other | key
+EN1: mates of principal | mates of other | past
+EN3: tag of principal | tag of other | mate
+# a number that is none of the half
+EN1: boss of principal | boss of other | mate
+# a place of attributes isn't one of a tag
+EN3: mates of principal | mates of other | mate
+EN1: tag of principal | tag of other | key
+# words too few
+EN1: mates of principal | mates of other
+EN3: tag of principal | tag of other";
+
+const RIGHT_OF_PLACES: &str =
+    "EN1: boss of principal | boss of other | 0 => not principal = other; boss of principal = boss of other
+EN1: boss of other | boss of principal | 0 => not principal = other; boss of principal = boss of other
+EN1: level of principal | level of other | 0 => not principal = other; not bit 0 of level of principal is so; bit 0 of level of other is so
+EN1: level of other | level of principal | 63 => not principal = other; not bit 63 of level of other is so; bit 63 of level of principal is so
+EN1: last of name of principal | last of name of other | 0 => not principal = other; last of name of principal = last of name of other
+EN1: nick of principal | nick of other | 0 => not principal = other; not presence of nick of principal is so; presence of nick of other is so
+EN1: home of other | home of principal | 0 => not principal = other; not presence of home of other is so; presence of home of principal is so
+EN1: held of nick of principal | held of nick of other | 0 => not principal = other; held of nick of principal = held of nick of other
+EN1: city of held of home of principal | city of held of home of other | 0 => not principal = other; city of held of home of principal = city of held of home of other
+EN1: mates of principal | mates of other | mate => not principal = other; not mate in mates of principal; mate in mates of other
+EN1: mates of other | mates of principal | mate => not principal = other; not mate in mates of other; mate in mates of principal
+EN3: tag of principal | tag of other | key => not principal = other; not key = word; not key in tag of principal; key in tag of other
+EN3: tag of other | tag of principal | key => not principal = other; not key = word; not key in tag of other; key in tag of principal";
 
 const RIGHT_OF_ACTIONS: &str =
     "EN2: most | ancestors of view | ancestors of choice => not view = choice; not most in ancestors of view; most in ancestors of choice
@@ -323,6 +370,13 @@ fn refused(rt: HostRuntime) -> Result<(), Fail> {
 }
 
 #[test]
+fn refused_of_places(rt: HostRuntime) -> Result<(), Fail> {
+    let wrong = first_wrong(rt.alloc(), Asked::Places, Rows::Forged, FORGED_OF_PLACES)?;
+    assert!(rt; wrong.is_none(), "{wrong:?}");
+    Ok(())
+}
+
+#[test]
 fn refused_of_actions(rt: HostRuntime) -> Result<(), Fail> {
     let wrong = first_wrong(rt.alloc(), Asked::Declared, Rows::Forged, FORGED_OF_ACTIONS)?;
     assert!(rt; wrong.is_none(), "{wrong:?}");
@@ -332,6 +386,13 @@ fn refused_of_actions(rt: HostRuntime) -> Result<(), Fail> {
 #[test]
 fn accepted(rt: HostRuntime) -> Result<(), Fail> {
     let wrong = first_wrong(rt.alloc(), Asked::Stored, Rows::Right, RIGHT)?;
+    assert!(rt; wrong.is_none(), "{wrong:?}");
+    Ok(())
+}
+
+#[test]
+fn accepted_of_places(rt: HostRuntime) -> Result<(), Fail> {
+    let wrong = first_wrong(rt.alloc(), Asked::Places, Rows::Right, RIGHT_OF_PLACES)?;
     assert!(rt; wrong.is_none(), "{wrong:?}");
     Ok(())
 }

@@ -1,13 +1,14 @@
 //! Closed terms and atoms of a problem by names. An attribute of the context and a declared action have
 //! their own, `choice` is the choice of two actions, and what is stored of an entity is, as `keys of other`,
-//! of that entity.
+//! of that entity. A place of its attributes is `vip of other`, `city of held of home of other`, where `held` is what an
+//! option holds; what is asked of a place is `bit 3 of level of other` or `presence of home of other`.
 //!
 //! A fact says of two terms that they are equal, `a = b`, or that the first is a member of the second,
 //! `a in b`, or of one that it is so, `a is so`. With `not ` before it that is false, or negated as a
 //! literal of a clause. What says that a term equals itself is the atom that is always true. Several facts
 //! have `; ` between them; `others` behind them are all atoms of which none of them is, and `nothing`
 //! stands for no facts.
-ghost use Rattle.std.specs.Prelude.{◌<◌, length};
+ghost use Rattle.std.specs.Prelude.{◌<◌, length, IfSome};
 
 use sc_clauses::Lit;
 use sc_footprint::Problem;
@@ -41,7 +42,36 @@ fn are_attributes(problem: &Problem<'_>, at: u64, owner: &str) -> bool
     }
 }
 
-/// Whether a term is what is stored of the entity of this name.
+/// What a term is one step into, and the name of that, where a name is that of a field or of what an option holds.
+fn step<'t>(problem: &Problem<'_>, at: u64, name: &'t str) -> Option<(u64, &'t str)>
+    requires { at < length problem.now.nodes }
+    ensures { IfSome result (λ r. r.0 < length problem.now.nodes) }
+{
+    let (what, owner) = name.split_once(" of ")?;
+    match problem.terms().node(at) {
+        Node::One(UnaryOp::Field(own), part) if own.as_str() == what => Some((*part, owner)),
+        Node::One(UnaryOp::Held, part) if what == "held" => Some((*part, owner)),
+        _ => None,
+    }
+}
+
+/// Whether a term is the place of this name of attributes.
+fn is_place(problem: &Problem<'_>, at: u64, name: &str) -> bool
+    requires { at < length problem.now.nodes }
+{
+    let mut term = at;
+    let mut rest = name;
+    for _ in 0..8 {
+        let Some((part, owner)) = step(problem, term, rest) else {
+            return are_attributes(problem, term, rest);
+        };
+        term = part;
+        rest = owner;
+    }
+    false
+}
+
+/// Whether a term is what is stored of the entity of this name, or what is asked of a place of this name.
 fn is_stored_of(problem: &Problem<'_>, at: u64, what: &str, owner: &str) -> bool
     requires { at < length problem.now.nodes }
 {
@@ -53,8 +83,11 @@ fn is_stored_of(problem: &Problem<'_>, at: u64, what: &str, owner: &str) -> bool
             what == "ancestors" && is_own_name(problem, *entity, owner)
         }
         Node::One(UnaryOp::Keys, entity) => what == "keys" && is_own_name(problem, *entity, owner),
-        Node::One(UnaryOp::Field(own), attributes) => {
-            own.as_str() == what && are_attributes(problem, *attributes, owner)
+        Node::One(UnaryOp::Present, option) => {
+            what == "presence" && is_place(problem, *option, owner)
+        }
+        Node::One(UnaryOp::Bit(i), number) => {
+            is_bit(what, *i) && is_place(problem, *number, owner)
         }
         Node::Two(BinaryOp::Tag(_), entity, _) => {
             what == "tag" && is_own_name(problem, *entity, owner)
@@ -63,12 +96,25 @@ fn is_stored_of(problem: &Problem<'_>, at: u64, what: &str, owner: &str) -> bool
     }
 }
 
+/// Whether a word is that of a bit.
+fn is_bit(what: &str, i: u64) -> bool {
+    match what.strip_prefix("bit ") {
+        Some(place) => match place.parse::<u64>() {
+            Ok(plain) => plain == i,
+            Err(_) => false,
+        },
+        None => false,
+    }
+}
+
 /// Whether a term has this name.
 fn is_named(problem: &Problem<'_>, at: u64, name: &str) -> bool
     requires { at < length problem.now.nodes }
 {
     match name.split_once(" of ") {
-        Some((what, owner)) => is_stored_of(problem, at, what, owner),
+        Some((what, owner)) => {
+            is_stored_of(problem, at, what, owner) || is_place(problem, at, name)
+        }
         None => is_own_name(problem, at, name),
     }
 }

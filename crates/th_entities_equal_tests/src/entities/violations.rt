@@ -97,14 +97,38 @@ pub(crate) fn is_falsified(
 const EQUALS: &str = "# nothing is known
 nothing => nothing
 # what is stored of equal entities
-principal = other; not attributes of principal = attributes of other => EN1: principal | other or EN1: other | principal
-not attributes of principal = attributes of other => nothing
+principal = other; vip of principal is so; not vip of other is so => EN1: vip of principal | vip of other | 0
+principal = other; not vip of principal is so; vip of other is so => EN1: vip of other | vip of principal | 0
+vip of principal is so; not vip of other is so => nothing
+principal = other; vip of principal is so => nothing
 principal = other; resource in ancestors of principal; not resource in ancestors of other => EN2: resource | ancestors of principal | ancestors of other
 resource in ancestors of principal; not resource in ancestors of other => nothing
 principal = other; not key in keys of principal; key in keys of other => EN2: key | keys of other | keys of principal
-principal = other; key = word; not tag of principal = tag of other => EN3: tag of principal | tag of other or EN3: tag of other | tag of principal
+principal = other; key = word; tag of principal is so; not tag of other is so => EN3: tag of principal | tag of other | 0
 # the keys may differ
-principal = other; not tag of principal = tag of other => nothing";
+principal = other; tag of principal is so; not tag of other is so => nothing";
+
+/// Truths of a few atoms on the places of equal entities.
+const PLACES: &str = "# each sort
+principal = other; not boss of principal = boss of other => EN1: boss of principal | boss of other | 0 or EN1: boss of other | boss of principal | 0
+principal = other; bit 5 of level of principal is so; not bit 5 of level of other is so => EN1: level of principal | level of other | 5
+principal = other; bit 5 of level of principal is so; not bit 6 of level of other is so => nothing
+principal = other; not last of name of principal = last of name of other => EN1: last of name of principal | last of name of other | 0 or EN1: last of name of other | last of name of principal | 0
+principal = other; not presence of nick of principal is so; presence of nick of other is so => EN1: nick of other | nick of principal | 0
+principal = other; not presence of nick of principal is so; presence of home of other is so => nothing
+principal = other; not held of nick of principal = held of nick of other => EN1: held of nick of principal | held of nick of other | 0 or EN1: held of nick of other | held of nick of principal | 0
+principal = other; not city of held of home of principal = city of held of home of other => EN1: city of held of home of principal | city of held of home of other | 0 or EN1: city of held of home of other | city of held of home of principal | 0
+principal = other; mate in mates of principal; not mate in mates of other => EN1: mates of principal | mates of other | mate
+principal = other; not mate in mates of principal; mate in mates of other => EN1: mates of other | mates of principal | mate
+principal = other; not mate in mates of principal; not mate in mates of other => nothing
+# of entities that may differ
+mate in mates of principal; not mate in mates of other => nothing
+bit 5 of level of principal is so; not bit 5 of level of other is so => nothing
+# tags that are sets
+principal = other; key = word; key in tag of principal; not key in tag of other => EN3: tag of principal | tag of other | key
+principal = other; key = word; not key in tag of principal; key in tag of other => EN3: tag of other | tag of principal | key
+principal = other; key in tag of principal; not key in tag of other => nothing
+key = word; key in tag of principal; not key in tag of other => nothing";
 
 /// Truths of a few atoms on what is stored of entities.
 const STORED: &str = "# an entity above itself
@@ -125,7 +149,7 @@ not word in keys of principal; tag of principal is so => nothing";
 
 /// Truths of all atoms.
 const WHOLE: &str = "# two users, one of whom is important, in no groups and without tags
-true = true; vip of principal is so; tag of principal = tag of other; not others => nothing
+true = true; vip of principal is so; not others => nothing
 # one user with a tag, in the resource, which is in another group
 not resource = top; top in ancestors of principal; not resource in ancestors of resource; others => nothing
 # the same, but that the principal isn't in that group
@@ -163,6 +187,13 @@ true = true; not others => EN7: ancestors of view | all or EN7: ancestors of vie
 #[test]
 fn equal_entities(rt: HostRuntime) -> Result<(), Fail> {
     let wrong = first_wrong(rt.alloc(), Asked::Stored, Rows::Told, EQUALS)?;
+    assert!(rt; wrong.is_none(), "{wrong:?}");
+    Ok(())
+}
+
+#[test]
+fn equal_places(rt: HostRuntime) -> Result<(), Fail> {
+    let wrong = first_wrong(rt.alloc(), Asked::Places, Rows::Told, PLACES)?;
     assert!(rt; wrong.is_none(), "{wrong:?}");
     Ok(())
 }
