@@ -11,7 +11,7 @@ import sys
 import tempfile
 
 PROGRAM, FOLDER, COUNT, SEED = os.path.abspath(sys.argv[1]), sys.argv[2], int(sys.argv[3]), int(sys.argv[4])
-SECONDS = 10
+LIMITED = ["sh", "-c", 'ulimit -t 10 && ulimit -v 8000000 && exec "$@"', "sh", PROGRAM]
 draw = random.Random(SEED)
 
 REFUSED = (10, 11, 12, 13, 14, 16, 17, 20, 22)
@@ -165,11 +165,8 @@ wrong = 0
 
 
 def run(words, folder=FOLDER):
-    """The status of a run and what it writes, errors of the process among it; 124 where it doesn't end in time."""
-    try:
-        ended = subprocess.run([PROGRAM, *words], cwd=folder, stdout=subprocess.PIPE, stderr=subprocess.STDOUT, timeout=SECONDS, close_fds=False)
-    except subprocess.TimeoutExpired:
-        return 124, b""
+    """The status of a run and what it writes, errors of the process among it. It is ended after ten seconds of the processor."""
+    ended = subprocess.run([*LIMITED, *words], cwd=folder, stdout=subprocess.PIPE, stderr=subprocess.STDOUT, close_fds=False)
     return ended.returncode, ended.stdout
 
 
