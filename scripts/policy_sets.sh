@@ -1,7 +1,8 @@
 #!/bin/sh
 # Asks each question that is written in the answers.txt of each policy set in a folder, and compares what is said of every kind of request:
 # `holds`, or `counterexample`. Prints for each question the seconds, the status and how many lines are as they are written; a line that
-# isn't is printed, with the one that was wanted. A run is stopped after 120 seconds (status 124).
+# isn't is printed, with the one that was wanted. Then reduces each version of each set, and prints the places of the policies that are dropped; each
+# policy that stays has to do so by a world. A run is stopped after 120 seconds (status 124).
 # usage: scripts/policy_sets.sh [PROGRAM [FOLDER [BUDGET]]]      the folder is `examples`, if none is given
 set -u
 cd "$(dirname "$0")/.." || exit 2
@@ -52,6 +53,22 @@ for answers in sorted(folder.glob("*/answers.txt")):
                 print(f"    wanted {one}\n    found  {other}")
         right += same
         wrong += length - same
-print(f"{right} lines as they are written, {wrong} not")
+def reduce(policies):
+    begun = time.monotonic()
+    asked = [program, "reduce", "--schema", "schema.json", "--policies", policies.name, "--budget", budget]
+    try:
+        run = subprocess.run(asked, cwd=policies.parent, capture_output=True, text=True, timeout=120)
+        status, lines = run.returncode, run.stdout.splitlines()
+    except subprocess.TimeoutExpired:
+        status, lines = 124, []
+    dropped = [line.split()[0] for line in lines if line.endswith(" dropped")]
+    decided = status == 0 and bool(lines) and all(line.split()[1] in ("dropped", "kept") for line in lines)
+    seconds = time.monotonic() - begun
+    print(f"{seconds:8.2f} s  status {status:3}  reduce {policies.parent.name}/{policies.name}: {len(lines)} policies, dropped {' '.join(dropped) or 'none'}", flush=True)
+    return decided
+
+for policies in sorted(folder.glob("*/v*.cedar")):
+    right, wrong = (right + 1, wrong) if reduce(policies) else (right, wrong + 1)
+print(f"{right} lines and reductions as they should be, {wrong} not")
 sys.exit(0 if right and not wrong else 1)
 PY

@@ -1,5 +1,5 @@
 //! Which command the words of a line are.
-use sc_command::{Analyse, Asked, Check, Command, Log, Replay, command_of};
+use sc_command::{Analyse, Asked, Check, Command, Log, Reduce, Replay, command_of};
 use sc_question::Question;
 use std::alloc::{AllocError, Global};
 
@@ -385,11 +385,31 @@ fn other_places_are_refused(rt: HostRuntime) {
     assert!(rt; are_refused(rt.alloc(), OTHER_PLACES));
 }
 
+fn is_reduction(alloc: Global, line: &str, budget: u64) -> bool {
+    let wanted = Reduce {
+        asked: asked(Question::Equivalent, None),
+        budget,
+    };
+    reads(alloc, line, Some(Command::Reduce(wanted))).unwrap_or(false)
+}
+
+#[test]
+fn reductions_are_read(rt: HostRuntime) {
+    let alloc = rt.alloc();
+    assert!(rt; is_reduction(alloc, "reduce --schema s --policies p --budget 10", 10));
+    assert!(rt; is_reduction(alloc, "reduce --budget=007 --policies=p --schema s", 7));
+}
+
 /// Lines with the options of another command.
 const OPTIONS_OF_OTHERS: &[&str] = &[
     "replay --schema s --policies p",
     "replay --schema s --policies p --world w --budget 10",
     "analyse --schema s --policies p --world w",
+    "reduce --schema s --policies p",
+    "reduce --schema s --policies p --budget 0",
+    "reduce --schema s --policies p --budget 10 --env 0",
+    "reduce --schema s --policies p --budget 10 --query equivalent",
+    "reduce --schema s --policies p --against q --budget 10",
 ];
 
 #[test]

@@ -20,10 +20,11 @@ use Rattle.sc_goal.specs.Properties.{has}
 use Rattle.sc_goal.specs.Queries.{Asked as Query, IsAsked, second}
 use Rattle.sc_inputs.specs.Readings.{ReadsAll}
 use Rattle.sc_inputs.specs.Refusals.{Content, Side, policies_side, against_side, on, in_against, first_fault, AreServed, HasAgainst}
-use Rattle.sc_inputs.specs.Serving.{Aim, Serves, Task, asking, checking, logging, replaying, reporting}
+use Rattle.sc_inputs.specs.Serving.{Aim, Serves, Task, asking, checking, has_second, logging, reducing, replaying, reporting}
 use Rattle.sc_inputs.specs.declared.inputs.Asking.{Asking}
 use Rattle.sc_names.specs.declared.uid.Uid.{Uid}
 use Rattle.sc_parser.specs.Spelling.{Spells}
+use Rattle.sc_question.specs.Questions.{takes_two}
 use Rattle.sc_question.specs.declared.question.Question.{Question}
 use Rattle.sc_schema.specs.declared.declarations.Env.{Env}
 use Rattle.sc_schema.specs.Declarations.{Declarations, environments}
@@ -77,7 +78,7 @@ not-on : {F : Type 0} (side : Side) (o : Option F) → on side o ≡ None → o 
 not-on side None e = refl
 not-on side (Some f) e = absurd cc
 
-first-none : {F : Type 0} (fault : List Policy → Option F) (first : List Policy) (against : Option (List Policy)) → first_fault fault first against ≡ None → fault first ≡ None
+pub first-none : {F : Type 0} (fault : List Policy → Option F) (first : List Policy) (against : Option (List Policy)) → first_fault fault first against ≡ None → fault first ≡ None
 first-none fault first against e = not-on policies_side (fault first) (no-left (on policies_side (fault first)) (in_against fault against) e)
 
 second-none : {F : Type 0} (fault : List Policy → Option F) (first : List Policy) (against : Option (List Policy)) → fault [] ≡ None → first_fault fault first against ≡ None → fault (unwrap_or against []) ≡ None
@@ -181,6 +182,7 @@ abbrev HasMost : Aim → Type 0
 HasMost (reporting budget) = budget ≤ most_units
 HasMost (logging budget place) = budget ≤ most_units
 HasMost (checking place log) = ⊤
+HasMost (reducing budget) = budget ≤ most_units
 
 abbrev TaskHasMost : Task → Type 0
 TaskHasMost (asking question against aim) = HasMost aim
@@ -190,6 +192,7 @@ most-of-task : (words : List (List ℕ)) (schema policies : List ℕ) (t : Task)
 most-of-task words schema policies (asking question against (reporting budget)) h = h.reads.2.budget_given.spelled.most
 most-of-task words schema policies (asking question against (logging budget place)) h = h.reads.2.budget_given.spelled.most
 most-of-task words schema policies (asking question against (checking place log)) h = tt
+most-of-task words schema policies (asking question against (reducing budget)) h = h.reads.2.budget_given.spelled.most
 most-of-task words schema policies (replaying world) h = tt
 
 -- a budget that is read is no more than a log may have steps
@@ -209,13 +212,14 @@ against-proper spelled content None (Some ps) h = absurd h
 against-proper spelled content (Some name) None h = absurd h
 against-proper spelled content (Some name) (Some ps) h = spelled h.bytes ps h.spelled
 
--- what is read may be asked
-pub may-be-asked : Spelled → (content : Content) (words : List (List ℕ)) (i : Asking) (aim : Aim) → ReadsAll content words i.schema i.question i.policies i.against aim → MayBeAsked i
-may-be-asked spelled content words i aim read =
+-- what is read for an aim that asks the question as it stands may be asked
+pub may-be-asked : Spelled → (content : Content) (words : List (List ℕ)) (i : Asking) (aim : Aim) → has_second aim i.question ≡ takes_two i.question
+    → ReadsAll content words i.schema i.question i.policies i.against aim → MayBeAsked i
+may-be-asked spelled content words i aim plain read =
     let reaches = read.reached.reaches in
     record {
       served = read.reached.served;
-      sets = read.sets;
+      sets = read.sets ∙ plain;
       first_proper = spelled reaches.policies.bytes i.policies reaches.policies.spelled;
       second_proper = against-proper spelled content reaches.name i.against reaches.others;
     }

@@ -14,7 +14,7 @@ use Rattle.sc_typing.specs.declared.name_fault.NameFault.{NameFault}
 use Rattle.sc_typing.specs.Names.{name_fault}
 use Rattle.sc_world.specs.declared.world.World.{World}
 use Rattle.sc_world_json.specs.Reading as world
-use Rattle.sc_inputs.specs.Serving.{Aim, Command, Serves, asking, checking, logging, place_in, reporting}
+use Rattle.sc_inputs.specs.Serving.{Aim, Command, Serves, asking, checking, logging, place_in, reducing, reporting}
 use Rattle.sc_inputs.proofs.ServingLaws.{same_policies, same_schema, same_task, not_both_tasks, one_world_file, one_question}
 use Rattle.sc_inputs.specs.Readings.{ReadsAll, ReadsWorld}
 use Rattle.sc_inputs.specs.Refusals.{Refusal, Side, policies_side, against_side, IsRefusal, no_command, of_schema, of_policies, of_against, of_world, of_names, of_log, of_place, of_question, RefusesLog, log_long, log_unread, RefusesPlace, misplaced, RefusesQuestion, undeclared, untyped, unread, long, RefusesSchema, schema_unread, schema_faulty, RefusesPolicies, policies_unread, policies_faulty, RefusesWorld, world_unread, world_faulty, code_of, Content, IsContent, IsTooLong, ReadsSchema, HasPolicies, HasAgainst, HasWorld, AreServed, HasEnvironment, IsLongLog, ReachesAim, ReachesQuestion, ReachesWorld, names_fault, types_fault, limit, log_limit}
@@ -23,7 +23,10 @@ use Rattle.sc_reports.specs.Logs.{Logged, log_first, log_front, log_whole, other
 use Rattle.sc_reports.specs.Progress.{Reported, whole, cut, cut_none, stopped}
 use Rattle.sc_run.specs.Replays.{Replayed, told_whole, told_front, told_first, untold}
 use Rattle.sc_reports.specs.Reports.{Asked}
-use Rattle.sc_run.specs.Runs.{Run, HasRisen, Ends, refused, refusal_cut, reported, replayed, wrote_log, checked_log, no_memory, scene, IsReadable, IsServed, IsWhole, IsWholeFor, LogIsLong, LogIsTold, MustBe, PlaceIsMissing, SchemaTold, PoliciesTold, AgainstTold, no_file, told_file, AgainstNamed, AllSpelled, WorldTold, WorldSpelled, QuestionSpelled, SchemaIsLong, SchemaIsFaulty, PoliciesAreLong, PoliciesAreFaulty, AgainstIsLong, AgainstIsFaulty, WorldIsLong, WorldIsFaulty, NamesAreUnknown, PoliciesAreUntyped, IsReplayable, IsReplayed}
+use Rattle.sc_run.specs.Runs.{Run, HasRisen, Ends, refused, refusal_cut, reduced, reported, replayed, wrote_log, checked_log, no_memory, scene, IsReadable, IsServed, IsWhole, IsWholeFor, LogIsLong, LogIsTold, MustBe, PlaceIsMissing, SchemaTold, PoliciesTold, AgainstTold, no_file, told_file, AgainstNamed, AllSpelled, WorldTold, WorldSpelled, QuestionSpelled, SchemaIsLong, SchemaIsFaulty, PoliciesAreLong, PoliciesAreFaulty, AgainstIsLong, AgainstIsFaulty, WorldIsLong, WorldIsFaulty, NamesAreUnknown, PoliciesAreUntyped, IsReplayable, IsReplayed}
+use Rattle.sc_run.specs.Reduces.{Reduced, to_reduce}
+use Rattle.sc_run.proofs.ReductionLaws.{reduction-codes}
+use Rattle.sc_reduction.specs.Reductions.{Asked as Reduction}
 use Rattle.sc_reports.specs.Analyses.{asked}
 use Rattle.sc_run.proofs.StatusLaws.{status-code}
 
@@ -100,6 +103,7 @@ abbrev HasShortLog : Content → Aim → Type 0
 HasShortLog content (reporting budget) = ⊤
 HasShortLog content (logging budget place) = ⊤
 HasShortLog content (checking place name) = IsShort (content name)
+HasShortLog content (reducing budget) = ⊤
 
 -- a run must end with a status, where each refusal that may come has it, and no report comes
 record Only (r : Run) (n : ℕ) : Type 0 where
@@ -145,6 +149,7 @@ module _ (r : Run) (spent : List (List Step)) where
   must-be n (reported s question first against budget reads report) x = absurd (x.report s question first against (reporting budget) reads tt)
   must-be n (wrote_log s question first against budget place env reads at report) x = absurd (x.report s question first against (logging budget place) reads tt)
   must-be n (checked_log s question first against place name env reads at report none) x = checked-must n place name _ env (λ short. x.report s question first against (checking place name) reads short) report
+  must-be n (reduced s question first against budget reads report) x = absurd (x.report s question first against (reducing budget) reads tt)
   must-be n (replayed s ps w reads report none) x = absurd (x.replay s ps w reads)
   must-be n (no_memory c t none) x = inr (inr c)
 
@@ -546,11 +551,17 @@ module _ (r : Run) (spent : List (List Step)) where
     checked-whole content q env (answer_front a n short claims rose c text) calm = absurd (calm rose)
     checked-whole content q env (unchecked c text) calm = inr (inr (inr (inr c)))
 
+    reduction-whole : (y : Reduction) → Reduced y r.before r.after (HasRisen r.writes) r.code spent → (HasRisen r.writes → ⊥) → (r.code ≡ 0) ⊎ ((r.code ≡ 2) ⊎ (r.code ≡ 30))
+    reduction-whole y report calm =
+        ⊎_elim (λ h. ⊎_elim (λ (e : r.code ≡ 0). inl e) (λ (e : r.code ≡ 2). inr (inl e)) h)
+        (λ h. ⊎_elim (λ (x : (r.code ≡ 21) × (HasRisen r.writes)). absurd (calm x.1)) (λ (e : r.code ≡ 30). inr (inr e)) h) (reduction-codes y r.before r.after (HasRisen r.writes) r.code spent report)
+
     -- want of memory is one of the statuses of each aim
     out-of-memory : (aim : Aim) (code : ℕ) → code ≡ 30 → IsWholeFor aim code
     out-of-memory (reporting budget) code c = inr (inr (inr c))
     out-of-memory (logging budget place) code c = inr (inr (inr c))
     out-of-memory (checking place name) code c = inr (inr (inr (inr c)))
+    out-of-memory (reducing budget) code c = inr (inr c)
 
     -- what is done is for the aim that the words name
     for-aim : (x : IsReadable r) (s : Declarations) (question : Question) (first : List Policy) (against : Option (List Policy)) (aim : Aim) → ReadsAll r.content r.words s question first against aim → IsWholeFor aim r.code → IsWholeFor x.served.0.before.aim r.code
@@ -562,6 +573,7 @@ module _ (r : Run) (spent : List (List Step)) where
     complete (reported s question first against budget reads report) x calm still = for-aim x s question first against (reporting budget) reads (reported-whole (asked s question first against budget) report still)
     complete (wrote_log s question first against budget place env reads at report) x calm still = for-aim x s question first against (logging budget place) reads (logged-whole (asked s question first against budget) env report still)
     complete (checked_log s question first against place name env reads at report none) x calm still = for-aim x s question first against (checking place name) reads (checked-whole (r.content name) (asked s question first against 0) env report still)
+    complete (reduced s question first against budget reads report) x calm still = for-aim x s question first against (reducing budget) reads (reduction-whole (to_reduce s first budget) report still)
     complete (replayed s ps w reads report none) x calm still = absurd (no-replay x.served.0.before s ps reads.name reads.reaches)
     complete (no_memory c t none) x calm still = out-of-memory x.served.0.before.aim r.code c
 
@@ -719,5 +731,6 @@ module _ (r : Run) (spent : List (List Step)) where
       complete-replay (reported s question first against budget reads report) x calm still = absurd (none-asked x.0.before s question first against (reporting budget) reads.reached.reaches)
       complete-replay (wrote_log s question first against budget place env reads at report) x calm still = absurd (none-asked x.0.before s question first against (logging budget place) reads.reached.reaches)
       complete-replay (checked_log s question first against place name env reads at report none) x calm still = absurd (none-asked x.0.before s question first against (checking place name) reads.reached.reaches)
+      complete-replay (reduced s question first against budget reads report) x calm still = absurd (none-asked x.0.before s question first against (reducing budget) reads.reached.reaches)
       complete-replay (replayed s ps w reads report none) x calm still = replayed-whole x (this-scene x s ps w reads report) still
       complete-replay (no_memory c t none) x calm still = inr c

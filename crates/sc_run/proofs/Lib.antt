@@ -1,3 +1,4 @@
 pub mod StatusLaws
 pub mod DeterminedLaws
 pub mod ReplayLaws
+pub mod ReductionLaws

@@ -19,7 +19,7 @@ use Rattle.sc_world.specs.WellFormed.{IsWellFormed}
 use Rattle.sc_world_breaks.specs.Breaks.{IsFirstBreak}
 use Rattle.sc_world_breaks.specs.declared.breaks.Break.{Break}
 use Rattle.sc_world_json.specs.Reading as world
-use Rattle.sc_inputs.specs.Serving.{Aim, Command, Serves, checking, logging, reporting}
+use Rattle.sc_inputs.specs.Serving.{Aim, Command, Serves, checking, logging, reducing, reporting}
 use Rattle.sc_inputs.proofs.ReadingLaws.{log_rises}
 use Rattle.sc_inputs.specs.declared.inputs.Claim.{Claim}
 use Rattle.sc_inputs.specs.Refusals.{Content}
@@ -38,10 +38,12 @@ use Rattle.sc_reports.specs.Claims.{Answer, Checked, Claims, IsShort, accepted, 
 use Rattle.sc_reports.specs.Logs.{Logged, log_first, log_front, log_whole, other_front, other_whole, unlogged}
 use Rattle.sc_reports.proofs.ReportLaws.{append-nil}
 use Rattle.sc_reports.specs.Progress.{Reported, whole, cut, cut_none, stopped}
+use Rattle.sc_run.specs.Reduces.{Reduced, to_reduce, reduced_whole, reduced_front, reduced_first, unreduced}
+use Rattle.sc_run.proofs.ReductionLaws.{ReducedCode, fate-logged, reduction-codes}
 use Rattle.sc_run.specs.Replays.{Replayed, told_whole, told_front, told_first, untold}
 use Rattle.sc_outside.specs.Writes.{appended}
 use Rattle.sc_reports.specs.Reports.{Asked, IsReport, line_text, report_text, Line, Verdict, holds, counterexample, unknown, over_limit, IsLine, AlwaysHas, Violates, IsUndecided, is_counterexample, is_open, has_counterexample, has_open, status_by, status_of, log_of, logs_of}
-use Rattle.sc_run.specs.Runs.{Run, HasRisen, Ends, refused, refusal_cut, reported, replayed, wrote_log, checked_log, no_memory, scene, asked_about, asked_for, listed, IsReporting, IsLogging, IsChecking, AsksFor, ChecksLog, WritesLog, LogIsAccepted, LogIsRejected, LogIsWritten, SaysOf, IsMisplaced, log_long, Refuses, MustBe, Reports, AllHold, Tells, IsWell, AllWell, AsksQuestion, ReplaysWorld, SomeFails, SomeOpen, IsLogged, IsBroken, ReachesAgainst, TooLong, schema_long, policies_long, against_long, world_long, IsFaulty, policies_faulty, against_faulty, IsFaultySchema, IsFaultyWorld, IsUntyped, undeclared, untyped}
+use Rattle.sc_run.specs.Runs.{Run, HasRisen, Ends, refused, refusal_cut, reduced, reported, replayed, wrote_log, checked_log, no_memory, scene, asked_about, asked_for, listed, IsReporting, IsLogging, IsChecking, IsReducing, AsksFor, ChecksLog, WritesLog, ReducesSet, SetIsReduced, SomeLeft, IsFateLogged, LogIsAccepted, LogIsRejected, LogIsWritten, SaysOf, IsMisplaced, log_long, Refuses, MustBe, Reports, AllHold, Tells, IsWell, AllWell, AsksQuestion, ReplaysWorld, SomeFails, SomeOpen, IsLogged, IsBroken, ReachesAgainst, TooLong, schema_long, policies_long, against_long, world_long, IsFaulty, policies_faulty, against_faulty, IsFaultySchema, IsFaultyWorld, IsUntyped, undeclared, untyped}
 
 pub refusal-ends : (r : Run) (spent : List (List Step)) (a : Refusal) (n : ℕ) → IsRefusal r.content r.words (HasRisen r.reads) a → Refuses a r.before r.after (HasRisen r.writes) n → r.code ≡ n → spent ≡ [] → Ends r spent
 refusal-ends r spent a n h e is none =
@@ -260,16 +262,32 @@ other-logged r spent s question first against budget place env reads at (other_w
 other-logged r spent s question first against budget place env reads at (other_front l n other rose c text none) log among = absurd (none-spent spent log none among)
 other-logged r spent s question first against budget place env reads at (unlogged c text none) log among = absurd (none-spent spent log none among)
 
--- each log is of an environment that is asked about
-pub logged : (r : Run) (spent : List (List Step)) → Ends r spent → (log : List Step) → Contains spent log → IsLogged r log
+-- each log is of an environment that is asked about, or of a policy for which the budget was spent
+pub logged : (r : Run) (spent : List (List Step)) → Ends r spent → (log : List Step) → Contains spent log → IsLogged r log ⊎ IsFateLogged r log
 logged r spent (refused a h c t none) log among = absurd (none-spent spent log none among)
 logged r spent (refusal_cut a n h rose c t none) log among = absurd (none-spent spent log none among)
 logged r spent (reported s question first against budget reads report) log among =
     let x = logged-reported (asked s question first against budget) r.before r.after (HasRisen r.writes) r.code spent log report among in
-    record { schema = s; question = question; first = first; against = against; aim = reporting budget; reads = reads; env = x.env; listed = x.listed; undecided = x.undecided }
-logged r spent (wrote_log s question first against budget place env reads at report) log among = other-logged r spent s question first against budget place env reads at report log among
+    inl (record { schema = s; question = question; first = first; against = against; aim = reporting budget; reads = reads; env = x.env; listed = x.listed; undecided = x.undecided })
+logged r spent (wrote_log s question first against budget place env reads at report) log among = inl (other-logged r spent s question first against budget place env reads at report log among)
 logged r spent (checked_log s question first against place name env reads at report none) log among = absurd (none-spent spent log none among)
 logged r spent (replayed s ps w reads report none) log among = absurd (none-spent spent log none among)
+logged r spent (reduced s question first against budget reads report) log among =
+    let x = fate-logged (to_reduce s first budget) r.before r.after (HasRisen r.writes) r.code spent report log among in
+    inr (record {
+      schema = s;
+      question = question;
+      policies = first;
+      against = against;
+      budget = budget;
+      reads = reads;
+      fates = x.fates;
+      is_reduction = x.is_reduction;
+      place = x.place;
+      env = x.env;
+      listed = x.listed;
+      undecided = x.undecided;
+    })
 logged r spent (no_memory c t none) log among = absurd (none-spent spent log none among)
 
 -- ---- what is written of one environment
@@ -306,6 +324,15 @@ none-written code rose w least f g = ⊎_elim (λ (h : code ≤ 2). omega (arith
 
 none-said : (code : ℕ) (rose : Type 0) → Said code rose → (code ≡ 14 → ⊥) → (code ≡ 0 → ⊥) → (code ≡ 2 → ⊥) → (code ≡ 21 → ⊥) → (code ≡ 30 → ⊥) → ⊥
 none-said code rose w a b d f g = ⊎_elim (λ x. ⊎_elim a (λ y. ⊎_elim b d y) x) (λ x. ⊎_elim (λ (h : (code ≡ 21) × rose). f h.0) g x) w
+
+-- a status that no reduction ends with
+none-reduced : (code : ℕ) (rose : Type 0) → ReducedCode code rose → (code ≡ 0 → ⊥) → (code ≡ 2 → ⊥) → (code ≡ 21 → ⊥) → (code ≡ 30 → ⊥) → ⊥
+none-reduced code rose w a b f g = ⊎_elim (λ x. ⊎_elim a b x) (λ x. ⊎_elim (λ (h : (code ≡ 21) × rose). f h.0) g x) w
+
+reduced-rose : (code : ℕ) (rose : Type 0) → ReducedCode code rose → code ≡ 21 → rose
+reduced-rose code rose w e =
+    ⊎_elim (λ x. absurd (⊎_elim (λ (h : code ≡ 0). omega (arith, h, e)) (λ (h : code ≡ 2). omega (arith, h, e)) x))
+    (λ x. ⊎_elim (λ (h : (code ≡ 21) × rose). h.1) (λ (h : code ≡ 30). absurd (omega (arith, h, e))) x) w
 
 written-rose : (code : ℕ) (rose : Type 0) → Written code rose → code ≡ 21 → rose
 written-rose code rose w e = ⊎_elim (λ (h : code ≤ 2). absurd (omega (arith, h, e))) (λ x. ⊎_elim (λ (h : (code ≡ 21) × rose). h.1) (λ (h : code ≡ 30). absurd (omega (arith, h, e))) x) w
@@ -422,13 +449,22 @@ module _ (r : Run) (spent : List (List Step)) where
   log-rejected s question first against place name env reads at (answer_front a n short claims rose c text) e = absurd (omega (arith, c, e))
   log-rejected s question first against place name env reads at (unchecked c text) e = absurd (omega (arith, c, e))
 
+  set-reduced : (s : Declarations) (question : Question) (first : List Policy) (against : Option (List Policy)) (budget : ℕ) → ReadsAll r.content r.words s question first against (reducing budget)
+      → Reduced (to_reduce s first budget) r.before r.after (HasRisen r.writes) r.code spent → r.code < 10 → SetIsReduced r
+  set-reduced s question first against budget reads (reduced_whole fates is c text logs) low =
+      record { schema = s; question = question; policies = first; against = against; budget = budget; reads = reads; fates = fates; is_reduction = is; status = c; text = text }
+  set-reduced s question first against budget reads (reduced_front fates lines next rest n is order rose c text logs) low = absurd (omega (arith, c, low))
+  set-reduced s question first against budget reads (reduced_first fates lines rest is order c text logs) low = absurd (omega (arith, c, low))
+  set-reduced s question first against budget reads (unreduced c text none) low = absurd (omega (arith, c, low))
+
   pub all-well : Nowhere → Stored → Ends r spent → r.code ≡ 0 → AllWell r
   all-well nowhere stored (refused a h c t none) e = absurd (let is = refusal-code a in omega (arith, is.least, c, e))
   all-well nowhere stored (refusal_cut a n h rose c t none) e = absurd (omega (arith, c, e))
   all-well nowhere stored (reported s question first against budget reads report) e = inl (hold-reported s question first against budget reads report e)
   all-well nowhere stored (wrote_log s question first against budget place env reads at report) e = inr (inr (inl (log-written s question first against budget place env reads at report e)))
-  all-well nowhere stored (checked_log s question first against place name env reads at report none) e = inr (inr (inr (log-accepted s question first against place name env reads at report e)))
+  all-well nowhere stored (checked_log s question first against place name env reads at report none) e = inr (inr (inr (inl (log-accepted s question first against place name env reads at report e))))
   all-well nowhere stored (replayed s ps w reads report none) e = inr (inl (is-well nowhere stored (well-replayed s ps w reads report e)))
+  all-well nowhere stored (reduced s question first against budget reads report) e = inr (inr (inr (inr (set-reduced s question first against budget reads report (omega (arith, e))))))
   all-well nowhere stored (no_memory c t none) e = absurd (omega (arith, c, e))
 
   -- the aim of what is done is of the kind that the words have
@@ -458,36 +494,45 @@ module _ (r : Run) (spent : List (List Step)) where
   not-reporting (reporting budget) a b = b
   not-reporting (logging budget place) a b = a
   not-reporting (checking place name) a b = a
+  not-reporting (reducing budget) a b = a
 
   not-checking : (aim : Aim) → IsReporting aim → IsChecking aim → ⊥
   not-checking (reporting budget) a b = b
   not-checking (logging budget place) a b = a
   not-checking (checking place name) a b = a
+  not-checking (reducing budget) a b = a
+
+  kind-reduced : (K : Aim → Type 0) → AsksFor K r → (y : SetIsReduced r) → K (reducing y.budget)
+  kind-reduced K x y = kind-of K x y.schema y.question y.policies y.against (reducing y.budget) y.reads.reached.reaches
 
   pub all-hold : Nowhere → Stored → Ends r spent → AsksQuestion r → r.code ≡ 0 → AllHold r
   all-hold nowhere stored ends x e =
       ⊎_elim (λ (h : AllHold r). h)
       (λ y. ⊎_elim (λ (w : IsWell r). absurd (not-replayed IsReporting x w))
-      (λ z. ⊎_elim (λ (w : LogIsWritten r). absurd (kind-written IsReporting x w)) (λ (w : LogIsAccepted r). absurd (kind-accepted IsReporting x w)) z) y) (all-well nowhere stored ends e)
+      (λ z. ⊎_elim (λ (w : LogIsWritten r). absurd (kind-written IsReporting x w))
+      (λ v. ⊎_elim (λ (w : LogIsAccepted r). absurd (kind-accepted IsReporting x w)) (λ (w : SetIsReduced r). absurd (kind-reduced IsReporting x w)) v) z) y) (all-well nowhere stored ends e)
 
   pub log-is-written : Nowhere → Stored → Ends r spent → WritesLog r → r.code ≡ 0 → LogIsWritten r
   log-is-written nowhere stored ends x e =
       ⊎_elim (λ (h : AllHold r). absurd (not-reporting h.told.aim h.of_all (kind-held IsLogging x h)))
       (λ y. ⊎_elim (λ (w : IsWell r). absurd (not-replayed IsLogging x w))
-      (λ z. ⊎_elim (λ (w : LogIsWritten r). w) (λ (w : LogIsAccepted r). absurd (kind-accepted IsLogging x w)) z) y) (all-well nowhere stored ends e)
+      (λ z. ⊎_elim (λ (w : LogIsWritten r). w)
+      (λ v. ⊎_elim (λ (w : LogIsAccepted r). absurd (kind-accepted IsLogging x w)) (λ (w : SetIsReduced r). absurd (kind-reduced IsLogging x w)) v) z) y) (all-well nowhere stored ends e)
 
   pub log-is-accepted : Nowhere → Stored → Ends r spent → ChecksLog r → r.code ≡ 0 → LogIsAccepted r
   log-is-accepted nowhere stored ends x e =
       ⊎_elim (λ (h : AllHold r). absurd (not-checking h.told.aim h.of_all (kind-held IsChecking x h)))
       (λ y. ⊎_elim (λ (w : IsWell r). absurd (not-replayed IsChecking x w))
-      (λ z. ⊎_elim (λ (w : LogIsWritten r). absurd (kind-written IsChecking x w)) (λ (w : LogIsAccepted r). w) z) y) (all-well nowhere stored ends e)
+      (λ z. ⊎_elim (λ (w : LogIsWritten r). absurd (kind-written IsChecking x w))
+      (λ v. ⊎_elim (λ (w : LogIsAccepted r). w) (λ (w : SetIsReduced r). absurd (kind-reduced IsChecking x w)) v) z) y) (all-well nowhere stored ends e)
 
   pub well-formed : Nowhere → Stored → Ends r spent → ReplaysWorld r → r.code ≡ 0 → IsWell r
   well-formed nowhere stored ends x e =
       ⊎_elim (λ (h : AllHold r). absurd (not-asked x h.told.schema h.told.question h.told.first h.told.against h.told.aim h.told.reads.reached.reaches))
       (λ y. ⊎_elim (λ (w : IsWell r). w)
       (λ z. ⊎_elim (λ (w : LogIsWritten r). absurd (not-asked x w.schema w.question w.first w.against (logging w.budget w.place) w.reads.reached.reaches))
-      (λ (w : LogIsAccepted r). absurd (not-asked x w.schema w.question w.first w.against (checking w.place w.name) w.reads.reached.reaches)) z) y) (all-well nowhere stored ends e)
+      (λ v. ⊎_elim (λ (w : LogIsAccepted r). absurd (not-asked x w.schema w.question w.first w.against (checking w.place w.name) w.reads.reached.reaches))
+      (λ (w : SetIsReduced r). absurd (not-asked x w.schema w.question w.policies w.against (reducing w.budget) w.reads.reached.reaches)) v) z) y) (all-well nowhere stored ends e)
 
   broken-replayed : (s : Declarations) (ps : List Policy) (w : World) → ReadsWorld r.content r.words s ps w → Replayed (scene s ps w) r.before r.after (HasRisen r.writes) r.code → r.code ≡ 3 → IsBroken r
   broken-replayed s ps w reads (told_whole None finds c text) e = absurd (omega (arith, c, e))
@@ -511,6 +556,8 @@ module _ (r : Run) (spent : List (List Step)) where
       absurd (none-said r.code (HasRisen r.writes) (checked-codes (r.content name) (asked s question first against 0) env r.before r.after (HasRisen r.writes) r.code report)
       (λ h. omega (arith, h, e)) (λ h. omega (arith, h, e)) (λ h. omega (arith, h, e)) (λ h. omega (arith, h, e)) (λ h. omega (arith, h, e)))
   is-broken (replayed s ps w reads report none) e = broken-replayed s ps w reads report e
+  is-broken (reduced s question first against budget reads report) e =
+      absurd (none-reduced r.code (HasRisen r.writes) (reduction-codes (to_reduce s first budget) r.before r.after (HasRisen r.writes) r.code spent report) (λ h. omega (arith, h, e)) (λ h. omega (arith, h, e)) (λ h. omega (arith, h, e)) (λ h. omega (arith, h, e)))
   is-broken (no_memory c t none) e = absurd (omega (arith, c, e))
 
   fail-reported : (s : Declarations) (question : Question) (first : List Policy) (against : Option (List Policy)) (budget : ℕ) → ReadsAll r.content r.words s question first against (reporting budget)
@@ -627,16 +674,37 @@ module _ (r : Run) (spent : List (List Step)) where
       absurd (none-said r.code (HasRisen r.writes) (checked-codes (r.content name) (asked s question first against 0) env r.before r.after (HasRisen r.writes) r.code report)
       (λ h. omega (arith, h, e)) (λ h. omega (arith, h, e)) (λ h. omega (arith, h, e)) (λ h. omega (arith, h, e)) (λ h. omega (arith, h, e)))
   some-fails (replayed s ps w reads report none) e = absurd (not-between s ps w report (omega (arith, e)) (omega (arith, e)))
+  some-fails (reduced s question first against budget reads report) e =
+      absurd (none-reduced r.code (HasRisen r.writes) (reduction-codes (to_reduce s first budget) r.before r.after (HasRisen r.writes) r.code spent report) (λ h. omega (arith, h, e)) (λ h. omega (arith, h, e)) (λ h. omega (arith, h, e)) (λ h. omega (arith, h, e)))
   some-fails (no_memory c t none) e = absurd (omega (arith, c, e))
 
-  pub some-open : Ends r spent → r.code ≡ 2 → SomeOpen r
-  some-open (refused a h c t none) e = absurd (let is = refusal-code a in omega (arith, is.least, c, e))
-  some-open (refusal_cut a n h rose c t none) e = absurd (omega (arith, c, e))
-  some-open (reported s question first against budget reads report) e = open-reported r spent s question first against budget reads report e
-  some-open (wrote_log s question first against budget place env reads at report) e = open-logged r spent s question first against budget place env reads at report e
-  some-open (checked_log s question first against place name env reads at report none) e = open-checked r spent s question first against place name env reads at report e
-  some-open (replayed s ps w reads report none) e = absurd (not-between s ps w report (omega (arith, e)) (omega (arith, e)))
-  some-open (no_memory c t none) e = absurd (omega (arith, c, e))
+  pub some-left : Ends r spent → r.code ≡ 2 → SomeLeft r
+  some-left (refused a h c t none) e = absurd (let is = refusal-code a in omega (arith, is.least, c, e))
+  some-left (refusal_cut a n h rose c t none) e = absurd (omega (arith, c, e))
+  some-left (reported s question first against budget reads report) e = inl (open-reported r spent s question first against budget reads report e)
+  some-left (wrote_log s question first against budget place env reads at report) e = inl (open-logged r spent s question first against budget place env reads at report e)
+  some-left (checked_log s question first against place name env reads at report none) e = inl (open-checked r spent s question first against place name env reads at report e)
+  some-left (replayed s ps w reads report none) e = absurd (not-between s ps w report (omega (arith, e)) (omega (arith, e)))
+  some-left (reduced s question first against budget reads report) e = inr (set-reduced r spent s question first against budget reads report (omega (arith, e)))
+  some-left (no_memory c t none) e = absurd (omega (arith, c, e))
+
+  -- the words of a reduction are no others
+  not-reducing : ReducesSet r → (s : Declarations) (question : Question) (first : List Policy) (against : Option (List Policy)) (aim : Aim) → ReachesQuestion r.content r.words s question first against aim → (IsReducing aim → ⊥) → ⊥
+  not-reducing x s question first against aim reaches other = other (kind-of r spent IsReducing x s question first against aim reaches)
+
+  pub set-is-reduced : Ends r spent → ReducesSet r → (r.code ≡ 0) ⊎ (r.code ≡ 2) → SetIsReduced r
+  set-is-reduced ends x e = by ends (⊎_elim (λ (h : r.code ≡ 0). omega (arith, h)) (λ (h : r.code ≡ 2). omega (arith, h)) e)
+    where
+      by : Ends r spent → r.code < 10 → SetIsReduced r
+      by (refused a h c t none) low = absurd (let is = refusal-code a in omega (arith, is.least, c, low))
+      by (refusal_cut a n h rose c t none) low = absurd (omega (arith, c, low))
+      by (reported s question first against budget reads report) low = absurd (not-reducing x s question first against (reporting budget) reads.reached.reaches (λ h. h))
+      by (wrote_log s question first against budget place env reads at report) low = absurd (not-reducing x s question first against (logging budget place) reads.reached.reaches (λ h. h))
+      by (checked_log s question first against place name env reads at report none) low = absurd (not-reducing x s question first against (checking place name) reads.reached.reaches (λ h. h))
+      by (replayed s ps w reads report none) low =
+          absurd (not_both_tasks x.command.task x.question x.name x.aim reads.name x.task (same_task r.words x.command reads.reaches.command x.commands reads.reaches.commands ∙ reads.reaches.task))
+      by (reduced s question first against budget reads report) low = set-reduced r spent s question first against budget reads report low
+      by (no_memory c t none) low = absurd (omega (arith, c, low))
 
   pub is-rejected : Ends r spent → r.code ≡ 14 → LogIsRejected r
   is-rejected (refused a h c t none) e = absurd (not-rejection a (sym c ∙ e))
@@ -648,6 +716,8 @@ module _ (r : Run) (spent : List (List Step)) where
   is-rejected (checked_log s question first against place name env reads at report none) e = log-rejected r spent s question first against place name env reads at report e
   is-rejected (replayed s ps w reads report none) e =
       absurd (replayed-high s ps w r.before r.after (HasRisen r.writes) r.code report (omega (arith, e)) (λ h. omega (arith, h, e)) (λ h. omega (arith, h, e)))
+  is-rejected (reduced s question first against budget reads report) e =
+      absurd (none-reduced r.code (HasRisen r.writes) (reduction-codes (to_reduce s first budget) r.before r.after (HasRisen r.writes) r.code spent report) (λ h. omega (arith, h, e)) (λ h. omega (arith, h, e)) (λ h. omega (arith, h, e)) (λ h. omega (arith, h, e)))
   is-rejected (no_memory c t none) e = absurd (omega (arith, c, e))
 
 -- ---- the refusal that a status tells
@@ -669,6 +739,9 @@ by-code r spent n (checked_log s question first against place name env reads at 
     (λ h. p (sym e ∙ h)) (λ h. omega (arith, h, e, l)) (λ h. omega (arith, h, e, l)) (λ h. f (sym e ∙ h)) (λ h. g (sym e ∙ h)))
 by-code r spent n (replayed s ps w reads report none) e l p f g =
     absurd (replayed-high s ps w r.before r.after (HasRisen r.writes) r.code report (omega (arith, e, l)) (λ h. f (sym e ∙ h)) (λ h. g (sym e ∙ h)))
+by-code r spent n (reduced s question first against budget reads report) e l p f g =
+    absurd (none-reduced r.code (HasRisen r.writes) (reduction-codes (to_reduce s first budget) r.before r.after (HasRisen r.writes) r.code spent report)
+    (λ h. omega (arith, h, e, l)) (λ h. omega (arith, h, e, l)) (λ h. f (sym e ∙ h)) (λ h. g (sym e ∙ h)))
 by-code r spent n (no_memory c t none) e l p f g = absurd (g (sym e ∙ c))
 
 -- what a refusal tells of the run
@@ -806,4 +879,6 @@ write-rose r spent (wrote_log s question first against budget place env reads at
 write-rose r spent (checked_log s question first against place name env reads at report none) e =
     said-rose r.code (HasRisen r.writes) (checked-codes (r.content name) (asked s question first against 0) env r.before r.after (HasRisen r.writes) r.code report) e
 write-rose r spent (replayed s ps w reads report none) e = replayed-rose s ps w r.before r.after (HasRisen r.writes) r.code report e
+write-rose r spent (reduced s question first against budget reads report) e =
+    reduced-rose r.code (HasRisen r.writes) (reduction-codes (to_reduce s first budget) r.before r.after (HasRisen r.writes) r.code spent report) e
 write-rose r spent (no_memory c t none) e = absurd (omega (arith, c, e))

@@ -1,9 +1,9 @@
 -- What is promised of each run.
-use Rattle.std.specs.Prelude.{◌≡◌, List}
+use Rattle.std.specs.Prelude.{◌≡◌, ◌⊎◌, List}
 use Rattle.std.specs.List.{Contains}
 use Rattle.sc_clauses.specs.declared.step.Step.{Step}
 use Rattle.sc_inputs.specs.Serving.{Command, Serves}
-use Rattle.sc_run.specs.Runs.{Run, HasRisen, WentUp, Ends, AllWell, AllHold, AsksQuestion, ChecksLog, WritesLog, ReplaysWorld, IsMisplaced, IsWell, LogIsAccepted, LogIsLong, LogIsRejected, LogIsWritten, PlaceIsMissing, SomeFails, SomeOpen, IsLogged, IsBroken, IsReadable, IsWholeFor, IsReplayable, IsReplayed, MustBe, TooLong, SchemaIsLong, SchemaIsFaulty, PoliciesAreLong, PoliciesAreFaulty, AgainstIsLong, AgainstIsFaulty, PoliciesAreUntyped, WorldIsLong, WorldIsFaulty, NamesAreUnknown, IsFaulty, IsFaultySchema, IsFaultyWorld, IsUntyped}
+use Rattle.sc_run.specs.Runs.{Run, HasRisen, WentUp, Ends, AllWell, AllHold, AsksQuestion, ChecksLog, WritesLog, ReducesSet, ReplaysWorld, IsMisplaced, IsWell, LogIsAccepted, LogIsLong, LogIsRejected, LogIsWritten, PlaceIsMissing, SetIsReduced, SomeFails, SomeLeft, IsFateLogged, IsLogged, IsBroken, IsReadable, IsWholeFor, IsReplayable, IsReplayed, MustBe, TooLong, SchemaIsLong, SchemaIsFaulty, PoliciesAreLong, PoliciesAreFaulty, AgainstIsLong, AgainstIsFaulty, PoliciesAreUntyped, WorldIsLong, WorldIsFaulty, NamesAreUnknown, IsFaulty, IsFaultySchema, IsFaultyWorld, IsUntyped}
 
 -- no read failed, and no write did
 abbrev pub AllRead : Run → Type 0
@@ -18,7 +18,7 @@ pub record Promises (r : Run) (logs : List (List Step)) : Type 0 where
   pub ends : Ends r logs
   -- 0 comes only where each environment is reported to hold: each of its well-formed worlds has the property; or where a world is
   -- replayed that is well-formed for an environment of the schema; or where a log is written that shows the property of the environment
-  -- that is named, or is accepted for it.
+  -- that is named, or is accepted for it; or where a policy set is reduced, and of each policy it is known whether it matters.
   pub holds : r.code ≡ 0 → AllWell r
   -- Of a question 0 says that each well-formed world of each environment has the property.
   pub always : AsksQuestion r → r.code ≡ 0 → AllHold r
@@ -33,11 +33,15 @@ pub record Promises (r : Run) (logs : List (List Step)) : Type 0 where
   pub rejected : r.code ≡ 14 → LogIsRejected r
   -- 1 comes only where a line prints a counterexample: a well-formed world of its environment that lacks the property.
   pub counterexample : r.code ≡ 1 → SomeFails r
-  -- 2 comes only where no line prints a counterexample and some line says `unknown` or `over limit`.
-  pub undecided : r.code ≡ 2 → SomeOpen r
-  -- Each log is of an environment that is reported as unknown: as many units as the budget, each lawful, new and true, and one more
-  -- step is due.
-  pub spent : (log : List Step) → Contains logs log → IsLogged r log
+  -- 2 comes only where no line prints a counterexample and some line says `unknown` or `over limit`; or where a policy set is reduced, and
+  -- of some policy it isn't known whether it matters.
+  pub undecided : r.code ≡ 2 → SomeLeft r
+  -- Where a policy set is to be reduced 0 and 2 say that it is: the whole report is written, and the status is 2 exactly where a line says
+  -- `unproved` or `over limit`.
+  pub reduced : ReducesSet r → (r.code ≡ 0) ⊎ (r.code ≡ 2) → SetIsReduced r
+  -- Each log is of an environment that is reported as unknown, or of a policy that is reported as unproved: as many units as the budget,
+  -- each lawful, new and true, and one more step is due.
+  pub spent : (log : List Step) → Contains logs log → IsLogged r log ⊎ IsFateLogged r log
   -- 3 comes only where a world is replayed, and its report tells what keeps it from being well-formed, first of all.
   pub replayed : r.code ≡ 3 → IsBroken r
   -- Where all files of a question are told, short enough and spelled, the policies are declared and typed, and no read or write

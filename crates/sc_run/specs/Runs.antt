@@ -26,7 +26,7 @@ use Rattle.sc_world.specs.WellFormed.{IsWellFormed}
 use Rattle.sc_world_breaks.specs.declared.breaks.Break.{Break}
 use Rattle.sc_world_json.specs.declared.fault.WorldFault.{WorldFault}
 use Rattle.sc_world_json.specs.Reading as world_file
-use Rattle.sc_inputs.specs.Serving.{Aim, Command, Serves, asking, checking, logging, place_in, replaying, reporting}
+use Rattle.sc_inputs.specs.Serving.{Aim, Command, Serves, asking, checking, logging, place_in, reducing, replaying, reporting}
 use Rattle.sc_inputs.specs.Readings.{ReadsAll, ReadsWorld}
 use Rattle.sc_checker.specs.declared.checking.Reason.{Reason}
 use Rattle.sc_reports.specs.Analyses.{asked, asked_within}
@@ -34,6 +34,11 @@ use Rattle.sc_reports.specs.Claims.{Answer, Checked, Claims, IsShort, accepted, 
 use Rattle.sc_reports.specs.Logs.{Logged, Shows, log_lines}
 use Rattle.sc_reports.specs.Lines.{text_of}
 use Rattle.sc_reports.specs.Progress.{Reported}
+use Rattle.sc_reduction.specs.Lines.{status_of as reduction_status}
+use Rattle.sc_reduction.specs.Reductions.{IsReduction, kept, without}
+use Rattle.sc_reduction.specs.Trials as trial
+use Rattle.sc_reduction.specs.declared.fate.Fate.{Fate}
+use Rattle.sc_run.specs.Reduces.{Reduced, lines_of as reduced_lines, to_reduce}
 use Rattle.sc_run.specs.Replays.{Finds, Replayed, lines_of}
 use Rattle.sc_inputs.specs.Refusals.{Refusal, Side, IsRefusal, code_of, refusal_text, Content, IsContent, IsTooLong, ReadsSchema, HasPolicies, HasWorld, HasEnvironment, IsLongLog, RefusesLog, ReachesAim, ReachesQuestion, ReachesWorld, names_fault, types_fault, AreServed, limit, log_limit}
 use Rattle.sc_reports.specs.Reports.{Asked, Line, counterexample, IsReport, AlwaysHas, Violates, IsUndecided, has_counterexample, has_open, report_text}
@@ -89,12 +94,14 @@ abbrev pub asked_about : Declarations → Aim → List Env
 asked_about s (reporting budget) = environments s
 asked_about s (logging budget place) = listed (slice_get (environments s) place)
 asked_about s (checking place log) = listed (slice_get (environments s) place)
+asked_about s (reducing budget) = environments s
 
 -- the units that an aim allows; a check looks for nothing
 abbrev pub budget_in : Aim → ℕ
 budget_in (reporting budget) = budget
 budget_in (logging budget place) = budget
 budget_in (checking place log) = 0
+budget_in (reducing budget) = budget
 
 -- what is asked for an aim
 abbrev pub asked_for : Declarations → Question → List Policy → Option (List Policy) → Aim → Asked
@@ -112,6 +119,8 @@ pub data Ends (r : Run) (spent : List (List Step)) : Type 0 where
   checked_log : (s : Declarations) (question : Question) (first : List Policy) (against : Option (List Policy)) (place : ℕ) (name : List ℕ) (env : Env) → ReadsAll r.content r.words s question first against (checking place name)
       → slice_get (environments s) place ≡ Some env → Checked (r.content name) (asked s question first against 0) env r.before r.after (HasRisen r.writes) r.code → spent ≡ [] → Ends r spent
   replayed : (s : Declarations) (ps : List Policy) (w : World) → ReadsWorld r.content r.words s ps w → Replayed (scene s ps w) r.before r.after (HasRisen r.writes) r.code → spent ≡ [] → Ends r spent
+  reduced : (s : Declarations) (question : Question) (first : List Policy) (against : Option (List Policy)) (budget : ℕ) → ReadsAll r.content r.words s question first against (reducing budget)
+      → Reduced (to_reduce s first budget) r.before r.after (HasRisen r.writes) r.code spent → Ends r spent
   no_memory : r.code ≡ 30 → r.after ≡ r.before → spent ≡ [] → Ends r spent
 
 -- what an aim is
@@ -119,16 +128,25 @@ abbrev pub IsReporting : Aim → Type 0
 IsReporting (reporting budget) = ⊤
 IsReporting (logging budget place) = ⊥
 IsReporting (checking place name) = ⊥
+IsReporting (reducing budget) = ⊥
 
 abbrev pub IsLogging : Aim → Type 0
 IsLogging (reporting budget) = ⊥
 IsLogging (logging budget place) = ⊤
 IsLogging (checking place name) = ⊥
+IsLogging (reducing budget) = ⊥
 
 abbrev pub IsChecking : Aim → Type 0
 IsChecking (reporting budget) = ⊥
 IsChecking (logging budget place) = ⊥
 IsChecking (checking place name) = ⊤
+IsChecking (reducing budget) = ⊥
+
+abbrev pub IsReducing : Aim → Type 0
+IsReducing (reporting budget) = ⊥
+IsReducing (logging budget place) = ⊥
+IsReducing (checking place name) = ⊥
+IsReducing (reducing budget) = ⊤
 
 -- what the words ask, and a whole report on it that is written
 pub record Reports (r : Run) : Type 0 where
@@ -260,9 +278,47 @@ LogIsAccepted r = SaysOf r accepted
 abbrev pub LogIsRejected : Run → Type 0
 LogIsRejected r = (step : ℕ) × (why : Reason) × SaysOf r (rejected step why)
 
--- status 0: a question's property holds in each environment, or a world is replayed that is well-formed, or a log is written or accepted
+-- the words are a command to reduce a policy set
+abbrev pub ReducesSet : Run → Type 0
+ReducesSet r = AsksFor IsReducing r
+
+-- what becomes of each policy of the file is written whole, and is so: those that stay decide as all do in each environment, and each line of
+-- one that is kept prints a well-formed world in which those that stay decide otherwise without it
+pub record SetIsReduced (r : Run) : Type 0 where
+  pub schema : Declarations
+  pub question : Question
+  pub policies : List Policy
+  pub against : Option (List Policy)
+  pub budget : ℕ
+  pub reads : ReadsAll r.content r.words schema question policies against (reducing budget)
+  pub fates : List Fate
+  pub is_reduction : IsReduction (to_reduce schema policies budget) fates
+  pub status : r.code ≡ reduction_status fates
+  pub text : r.after ≡ appended r.before (text_of (reduced_lines (to_reduce schema policies budget) fates))
+
+-- status 0: a question's property holds in each environment, or a world is replayed that is well-formed, or a log is written or accepted, or
+-- a policy set is reduced
 abbrev pub AllWell : Run → Type 0
-AllWell r = AllHold r ⊎ (IsWell r ⊎ (LogIsWritten r ⊎ LogIsAccepted r))
+AllWell r = AllHold r ⊎ (IsWell r ⊎ (LogIsWritten r ⊎ (LogIsAccepted r ⊎ SetIsReduced r)))
+
+-- status 2: some environment is open, or it isn't known of some policy whether it matters
+abbrev pub SomeLeft : Run → Type 0
+SomeLeft r = SomeOpen r ⊎ SetIsReduced r
+
+-- a log of just as many units as the budget, of the problem whether those policies that stay decide otherwise without one of them
+pub record IsFateLogged (r : Run) (log : List Step) : Type 0 where
+  pub schema : Declarations
+  pub question : Question
+  pub policies : List Policy
+  pub against : Option (List Policy)
+  pub budget : ℕ
+  pub reads : ReadsAll r.content r.words schema question policies against (reducing budget)
+  pub fates : List Fate
+  pub is_reduction : IsReduction (to_reduce schema policies budget) fates
+  pub place : ℕ
+  pub env : Env
+  pub listed : Contains (environments schema) env
+  pub undecided : trial.IsUndecided (without (to_reduce schema policies budget) (kept fates) place) env log
 
 -- status 3: a world is replayed that isn't well-formed
 abbrev pub IsBroken : Run → Type 0
@@ -318,6 +374,7 @@ IsServed r = (t : AllSpelled r) × AreServed t.before.before.schema t.before.pol
 abbrev pub LogIsTold : Content → Aim → Type 0
 LogIsTold content (reporting budget) = ⊤
 LogIsTold content (logging budget place) = ⊤
+LogIsTold content (reducing budget) = ⊤
 LogIsTold content (checking place name) = (bytes : List ℕ) × (content name ≡ Some bytes) × (length bytes ≤ log_limit)
 
 -- the same, the schema has the environment that is named, where one is, and the log that is to be checked, where one is, is told and short
@@ -354,6 +411,7 @@ abbrev pub IsWholeFor : Aim → ℕ → Type 0
 IsWholeFor (reporting budget) code = IsWhole code
 IsWholeFor (logging budget place) code = IsWhole code
 IsWholeFor (checking place name) code = (code ≡ 14) ⊎ IsWhole code
+IsWholeFor (reducing budget) code = (code ≡ 0) ⊎ ((code ≡ 2) ⊎ (code ≡ 30))
 
 -- this status, unless the write failed or memory ran out
 abbrev pub MustBe : ℕ → ℕ → Type 0

@@ -3,6 +3,7 @@
 #![tactic(auto)]
 
 mod ending;
+mod reducing;
 mod replaying;
 mod running;
 

@@ -11,7 +11,7 @@ use sc_replay::report_of;
 use std::alloc::Global;
 
 /// Puts out lines, one after another.
-fn put_lines<O: Sink>(lines: &[Text], out: &mut O) -> Result<(), SinkFault>
+pub(crate) fn put_lines<O: Sink>(lines: &[Text], out: &mut O) -> Result<(), SinkFault>
     ensures puts { PutsLines lines.now (O.written out.old) (O.written out.new) (Rose (O.faults out.old)
         (O.faults out.new)) result }
     ensures later { O.faults out.old ≤ O.faults out.new }

@@ -8,6 +8,7 @@ ghost use Rattle.sc_inputs.specs.View.{refusal_view};
 ghost use Rattle.sc_run.specs.Promises.{Promises};
 ghost use Rattle.sc_run.specs.Runs.{ChecksClaim, Ends, MustBe, Refuses, run_of};
 
+use crate::reducing::report_reduction;
 use crate::replaying::replay;
 use sc_inputs::{Claim, Inputs, Refusal, code, inputs_of, text_of};
 use sc_lists::Fault;
@@ -67,6 +68,7 @@ fn ends<F: Files, O: Sink>(alloc: Global, words: &[String], files: &mut F, out: 
         Ok(Inputs::Checked(claim)) => {
             Status::without_logs(alloc, check(alloc, claim, files, out))
         }
+        Ok(Inputs::Reduced(analysis)) => report_reduction(alloc, analysis, out),
         Ok(Inputs::Replayed(scene)) => Status::without_logs(alloc, replay(alloc, scene, out)),
         Err(Fault::Told(refusal)) => Status::without_logs(alloc, refuse(alloc, refusal, out)),
         Err(Fault::NoMemory) => Status::without_logs(alloc, 30),

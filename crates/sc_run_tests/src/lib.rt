@@ -21,6 +21,8 @@ mod questions;
 #[cfg(test)]
 mod questions_of_sets;
 #[cfg(test)]
+mod reductions;
+#[cfg(test)]
 mod refusals;
 #[cfg(test)]
 mod reports;

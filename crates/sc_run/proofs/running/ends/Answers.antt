@@ -1,20 +1,21 @@
-use Rattle.std.proofs.Common.{◌∙◌, ℕ, subst, sym}
+use Rattle.std.proofs.Common.{◌∙◌, ℕ, refl, subst, sym}
 use Rattle.sc_command.specs.CommandLine.{words_view}
 use Rattle.sc_inputs.specs.Readings.{FailsWith, IsRead, IsReadFault}
 use Rattle.sc_inputs.specs.Refusals.{IsRefusal}
 use Rattle.sc_outside.proofs.CountLaws.{rose_before, stands, told_later}
 use Rattle.sc_outside.specs.Counts.{Rose}
 use Rattle.sc_schema.specs.Declarations.{environments}
-use Rattle.sc_run.specs.Runs.{MustBe, reported, wrote_log}
-use Rattle.sc_inputs.specs.Serving.{checking, logging, reporting}
+use Rattle.sc_run.specs.Runs.{MustBe, reduced, reported, wrote_log}
+use Rattle.sc_inputs.specs.Serving.{checking, logging, reducing, reporting}
 use Rattle.sc_reports.proofs.AnalysisLaws.{may-be-asked, most-of-aim}
+use Rattle.sc_run.proofs.ReductionLaws.{reducible}
 use Rattle.sc_run.proofs.StatusLaws.{claim-ends, found-at, refusal-ends, replay-ends, unread-must}
 use Rattle.sc_run.proofs.running.ends.Goals as goal
 
 pub report-requires-clause-allowed : goal.report-requires-clause-allowed
 report-requires-clause-allowed g c =
     let i = c.in-Ok-Asked.analysis in
-    may-be-asked c.constant_laws.ensures (g.F.Files.content c.args.files.now) (words_view c.args.words.now) i.asking (reporting i.budget)
+    may-be-asked c.constant_laws.ensures (g.F.Files.content c.args.files.now) (words_view c.args.words.now) i.asking (reporting i.budget) refl
     (subst (IsRead (g.F.Files.content c.args.files.now) (words_view c.args.words.now)) (rw c.in-Ok-Asked.is at c.in-Ok-Asked.field-0-is) (rw c.in-Ok-Asked.is at c.inputs_of-read.ensures.reads))
 
 pub report-requires-clause-units : goal.report-requires-clause-units
@@ -56,7 +57,7 @@ report_log-requires-clause-environment g c =
 pub report_log-requires-clause-allowed : goal.report_log-requires-clause-allowed
 report_log-requires-clause-allowed g c =
     let i = c.in-Ok-Logged.logging in
-    may-be-asked c.constant_laws.ensures (g.F.Files.content c.args.files.now) (words_view c.args.words.now) i.analysis.asking (logging i.analysis.budget i.environment)
+    may-be-asked c.constant_laws.ensures (g.F.Files.content c.args.files.now) (words_view c.args.words.now) i.analysis.asking (logging i.analysis.budget i.environment) refl
     (subst (IsRead (g.F.Files.content c.args.files.now) (words_view c.args.words.now)) (rw c.in-Ok-Logged.is at c.in-Ok-Logged.field-0-is) (rw c.in-Ok-Logged.is at c.inputs_of-read.ensures.reads))
 
 pub report_log-requires-clause-units : goal.report_log-requires-clause-units
@@ -81,7 +82,7 @@ check-requires-clause-environment g c =
 pub check-requires-clause-allowed : goal.check-requires-clause-allowed
 check-requires-clause-allowed g c =
     let i = c.in-Ok-Checked.claim in
-    may-be-asked c.constant_laws.ensures (g.F.Files.content c.args.files.now) (words_view c.args.words.now) i.asking (checking i.environment i.log.now)
+    may-be-asked c.constant_laws.ensures (g.F.Files.content c.args.files.now) (words_view c.args.words.now) i.asking (checking i.environment i.log.now) refl
     (subst (IsRead (g.F.Files.content c.args.files.now) (words_view c.args.words.now)) (rw c.in-Ok-Checked.is at c.in-Ok-Checked.field-0-is) (rw c.in-Ok-Checked.is at c.inputs_of-read.ensures.reads))
 
 pub returns-in-Ok-Checked-clause-ends : goal.returns-in-Ok-Checked-clause-ends
@@ -103,3 +104,21 @@ returns-in-Ok-Checked-clause-read_told g c = λ up.
 
 pub returns-in-Ok-Checked-clause-write_told : goal.returns-in-Ok-Checked-clause-write_told
 returns-in-Ok-Checked-clause-write_told g c = λ up. c.without_logs.ensures.code ∙ c.check.ensures.write_told up
+
+pub report_reduction-requires-clause-allowed : goal.report_reduction-requires-clause-allowed
+report_reduction-requires-clause-allowed g c =
+    let i = c.in-Ok-Reduced.analysis in
+    reducible c.constant_laws.ensures (g.F.Files.content c.args.files.now) (words_view c.args.words.now) i.asking (reducing i.budget)
+    (subst (IsRead (g.F.Files.content c.args.files.now) (words_view c.args.words.now)) (rw c.in-Ok-Reduced.is at c.in-Ok-Reduced.field-0-is) (rw c.in-Ok-Reduced.is at c.inputs_of-read.ensures.reads))
+
+pub report_reduction-requires-clause-units : goal.report_reduction-requires-clause-units
+report_reduction-requires-clause-units g c =
+    let i = c.in-Ok-Reduced.analysis in
+    most-of-aim (g.F.Files.content c.args.files.now) (words_view c.args.words.now) i.asking.schema i.asking.question i.asking.policies i.asking.against (reducing i.budget)
+    (subst (IsRead (g.F.Files.content c.args.files.now) (words_view c.args.words.now)) (rw c.in-Ok-Reduced.is at c.in-Ok-Reduced.field-0-is) (rw c.in-Ok-Reduced.is at c.inputs_of-read.ensures.reads))
+
+pub returns-in-Ok-Reduced-clause-ends : goal.returns-in-Ok-Reduced-clause-ends
+returns-in-Ok-Reduced-clause-ends g c =
+    let i = c.in-Ok-Reduced.analysis in
+    let reads = subst (IsRead (g.F.Files.content c.args.files.now) (words_view c.args.words.now)) (rw c.in-Ok-Reduced.is at c.in-Ok-Reduced.field-0-is) (rw c.in-Ok-Reduced.is at c.inputs_of-read.ensures.reads) in
+    reduced i.asking.schema i.asking.question i.asking.policies i.asking.against i.budget reads c.report_reduction.ensures.reports

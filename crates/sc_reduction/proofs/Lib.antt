@@ -1,0 +1,4 @@
+pub mod TellingLaws
+pub mod SearchLaws
+pub mod PassLaws
+pub mod TrialLaws

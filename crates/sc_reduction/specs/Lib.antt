@@ -1,0 +1,6 @@
+pub mod Lines
+pub mod Marked
+pub mod Passes
+pub mod Reductions
+pub mod Telling
+pub mod Trials
