@@ -1,5 +1,5 @@
 -- A trial has a goal in each environment, and what the solver answers of its problem is a finding.
-use Rattle.std.proofs.Common.{◌≡◌, ◌↔◌, ◌⊎◌, ℕ, Bool, List, [], not, Option, Some, None, IfSome, IsSome, Contains, inl, unwrap_or, refl, sym, ap, ◌∙◌, subst, ⊎_elim}
+use Rattle.std.proofs.Common.{◌≡◌, ◌↔◌, ◌⊎◌, ℕ, Bool, true, false, List, [], not, Option, Some, None, IfSome, IsSome, Contains, inl, unwrap_or, refl, sym, ap, ◌∙◌, subst, ⊎_elim}
 use Rattle.std.specs.List.{AllByRecursion}
 use Rattle.std.proofs.lemmas.Bool.{true_from_ne_false}
 use Rattle.sc_laws.proofs.BoolLaws.{not_true}
