@@ -1,8 +1,8 @@
+mod ListedLaws
+mod Soundness
+mod ProgressLaws
 pub mod VerdictLaws
-pub mod RejectionLaws
-pub mod Soundness
-pub mod AcceptedLaws
-pub mod ProgressLaws
 pub mod StreamLaws
 mod PieceLaws
 pub mod StreamVerdicts
+mod OnceLaws

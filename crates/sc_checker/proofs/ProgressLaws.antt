@@ -1,8 +1,8 @@
 -- Laws of what a checker holds of the steps so far.
-use Rattle.std.proofs.Common.{◌≡◌, ◌+◌, ◌<◌, ℕ, suc, List, [], ◌∷◌, ◌++◌, drop, drop-cons, get_or, length, Bool, true, false, Option, Some, None, is_some, Result, Ok, Err, refl, sym, ap, ◌∙◌, subst, arith, add-one}
-use Rattle.std.specs.List.{Contains}
+use Rattle.std.proofs.Common.{◌≡◌, ◌+◌, ◌<◌, ◌≤◌, ℕ, suc, List, [], ◌∷◌, ◌++◌, drop, drop-cons, get_or, length, Bool, true, false, Option, Some, None, is_some, Result, Ok, Err, refl, sym, ap, ◌∙◌, subst, arith, add-one}
+use Rattle.std.specs.List.{Contains, AllByRecursion, list_all}
 use Rattle.std.proofs.lemmas.Bool.{true≢false}
-use Rattle.std.proofs.lemmas.List.{length-append}
+use Rattle.std.proofs.lemmas.List.{length-append, drop_all}
 use Rattle.sc_lists.proofs.ListLaws.{all_element}
 use Rattle.sc_lists.specs.Members.{Has}
 use Rattle.sc_lists.proofs.MemberLaws.{Contains-from_Has, Has-last}
@@ -15,84 +15,105 @@ use Rattle.sc_world.specs.declared.world.World.{World}
 use Rattle.sc_footprint.specs.Definitions.{defining}
 use Rattle.sc_footprint.specs.Problems.{Posed, atoms, goal_literal}
 use Rattle.sc_footprint.specs.Theories.{IsClauseOf}
-use Rattle.sc_footprint.specs.Truths.{truths, IsTrueIn, IsWorldOf, IsUnsatisfiable}
+use Rattle.sc_footprint.specs.Truths.{truths, IsTrueIn, IsWorldOf, Satisfies, IsUnsatisfiable}
 use Rattle.th_defs.specs.Laws.{before, defining_is}
 use Rattle.sc_checker.specs.declared.checking.Reason.{Reason}
-use Rattle.sc_checker.specs.declared.checking.Verdict.{Verdict}
 use Rattle.sc_checker.specs.declared.checking.Verdict.TheVariants.{Refuted}
-use Rattle.sc_checker.specs.Progress.{Progress, start, failed, counted, grown, taken, unless_at_fault, after_step, after_steps, verdict_at, verdict_of, IsChecked}
-use Rattle.sc_refutations.specs.Refutations.{is_nil}
-use Rattle.sc_checker.specs.Verdicts.{Rules, added, of_learned, next, verdict_from, verdict}
-use Rattle.sc_checker.proofs.AcceptedLaws.{AreDefined, AreSound, all_hold, defining_listed, rules_listed}
-use Rattle.sc_checker.proofs.Soundness.{added-holds, all-push}
-use Rattle.sc_checker.proofs.VerdictLaws.{AreListed, listed_more, nil_is}
+use Rattle.sc_checker.specs.Progress.{Progress, start, failed, counted, grown, taken, IsTaken, AfterStep, is_past_fault, is_taken, AfterSteps, verdict_at, verdict_of, IsChecked}
+use Rattle.sc_refutations.specs.Refutations.{is_nil, is_listed}
+use Rattle.sc_checker.specs.Verdicts.{IsOfInstance, IsAdded, of_learned}
+use Rattle.sc_checker.proofs.ListedLaws.{AreDefined, all_hold, clause_listed, defining_listed, learned_listed, listed_more}
+use Rattle.sc_checker.proofs.Soundness.{all-push, learned-holds}
 
--- ---- faults
-
--- where a step was at fault, no step is looked at
-pub fault_stays : (rules : Rules) (g : Progress) (s : Step) (f : ℕ × Reason) → g.fault ≡ Some f → after_step rules g s ≡ g
-fault_stays rules g s f e = ap (λ (o : Option (ℕ × Reason)). unless_at_fault o g (taken (added rules g.listed g.clauses s) g)) e
-
-pub steps_stay : (rules : Rules) (g : Progress) (ss : List Step) (f : ℕ × Reason) → g.fault ≡ Some f → after_steps rules g ss ≡ g
-steps_stay rules g [] f e = refl
-steps_stay rules g (s ∷ ss) f e = ap (λ (h : Progress). after_steps rules h ss) (fault_stays rules g s f e) ∙ steps_stay rules g ss f e
-
-pub no_fault : (rules : Rules) (g : Progress) (s : Step) → g.fault ≡ None → after_step rules g s ≡ taken (added rules g.listed g.clauses s) g
-no_fault rules g s e = ap (λ (o : Option (ℕ × Reason)). unless_at_fault o g (taken (added rules g.listed g.clauses s) g)) e
+-- ---- whether there is a fault
 
 pub none_is : {X : Type 0} (o : Option X) → false ≡ is_some o → o ≡ None
 none_is None e = refl
 none_is (Some x) e = absurd (true≢false (sym e))
 
-stays_by : (rules : Rules) (g : Progress) (s : Step) (o : Option (ℕ × Reason)) → g.fault ≡ o → true ≡ is_some o → g ≡ after_step rules g s
-stays_by rules g s None e h = absurd (true≢false h)
-stays_by rules g s (Some f) e h = sym (fault_stays rules g s f e)
+pub some_is : {X : Type 0} (o : Option X) → true ≡ is_some o → (x : X) × (o ≡ Some x)
+some_is None e = absurd (true≢false e)
+some_is (Some x) e = (x, refl)
 
-pub stays_at_fault : (rules : Rules) (g : Progress) (s : Step) → true ≡ is_some g.fault → g ≡ after_step rules g s
-stays_at_fault rules g s h = stays_by rules g s g.fault refl h
+-- ---- what a step adds is one thing
 
--- a step that is taken, as one of its two kinds
-pub taken_step : (rules : Rules) (g h : Progress) (s t : Step) → false ≡ is_some g.fault → s ≡ t → h ≡ taken (added rules g.listed g.clauses t) g → h ≡ after_step rules g s
-taken_step rules g h s t e same is = is ∙ (ap (λ (x : Step). taken (added rules g.listed g.clauses x) g) (sym same) ∙ sym (no_fault rules g s (none_is g.fault e)))
+instance_once : (has : Instance → Type 0) (clause_of : Instance → Clause) (i : Instance) (q r : Result Clause Reason) → IsOfInstance has clause_of i q → IsOfInstance has clause_of i r → q ≡ r
+instance_once has clause_of i (Ok c) (Ok d) a b = ap (λ (x : Clause). Ok x) (a.1 ∙ sym b.1)
+instance_once has clause_of i (Ok c) (Err reason) a b = absurd (b.0 a.0)
+instance_once has clause_of i (Err reason) (Ok d) a b = absurd (a.0 b.0)
+instance_once has clause_of i (Err reason) (Err why) a b = ap (λ (x : Reason). Err x) (a.1 ∙ sym b.1)
+
+pub added_once : (has : Instance → Type 0) (clause_of : Instance → Clause) (n : ℕ) (clauses : List Clause) (s : Step) (q r : Result Clause Reason) → IsAdded has clause_of n clauses s q → IsAdded has clause_of n clauses s r → q ≡ r
+added_once has clause_of n clauses (Taken i) q r a b = instance_once has clause_of i q r a b
+added_once has clause_of n clauses (Learned l) q r a b = a ∙ sym b
 
 -- a learned clause whose literals and hints are handed on
 pub learned_taken : (g h : Progress) (clause : Clause) (hints : List ℕ) (l : learned.Learned) → clause ≡ l.clause → hints ≡ l.hints
     → h ≡ taken (of_learned g.listed g.clauses (record { clause = clause; hints = hints })) g → h ≡ taken (of_learned g.listed g.clauses l) g
 learned_taken g h clause hints l same same' is = is ∙ (λ i. taken (of_learned g.listed g.clauses (record { clause = same i; hints = same' i })) g)
 
--- ---- verdicts
+module _ (has : Instance → Type 0) (clause_of : Instance → Clause) where
+  -- ---- a step
 
-taken_verdict : (rules : Rules) (g : Progress) (ss : List Step) (r : Result Clause Reason) → g.fault ≡ None
-    → ((h : Progress) → h.fault ≡ None → verdict_of (after_steps rules h ss) ≡ verdict_from rules h.listed h.clauses h.steps h.is_empty ss)
-    → verdict_of (after_steps rules (taken r g) ss) ≡ next r (g.steps + 1) (λ c. verdict_from rules g.listed (g.clauses ++ c ∷ []) (g.steps + 1) (is_nil c) ss)
-taken_verdict rules g ss (Ok c) e later = later (taken (Ok c) g) e
-taken_verdict rules g ss (Err reason) e later =
-    ap verdict_of (steps_stay rules (taken (Err reason) g) ss (g.steps + 1, reason) refl)
+  -- where a step was at fault, no step is looked at
+  pub fault_stays : (g h : Progress) (s : Step) (f : ℕ × Reason) → g.fault ≡ Some f → AfterStep has clause_of g s h → h ≡ g
+  fault_stays g h s f e (is_past_fault k is same) = same
+  fault_stays g h s f e (is_taken none t) = absurd (let both : Some f ≡ None = sym e ∙ none in cc)
 
--- the verdict after steps is that on them
-pub steps_verdict : (rules : Rules) (g : Progress) (ss : List Step) → g.fault ≡ None → verdict_of (after_steps rules g ss) ≡ verdict_from rules g.listed g.clauses g.steps g.is_empty ss
-steps_verdict rules g [] e = ap (λ (o : Option (ℕ × Reason)). verdict_at o g.steps g.is_empty) e
-steps_verdict rules g (s ∷ ss) e =
-    ap (λ (h : Progress). verdict_of (after_steps rules h ss)) (no_fault rules g s e)
-    ∙ taken_verdict rules g ss (added rules g.listed g.clauses s) e (λ h f. steps_verdict rules h ss f)
+  pub step_taken : (g h : Progress) (s : Step) → g.fault ≡ None → AfterStep has clause_of g s h → IsTaken (IsAdded has clause_of g.listed g.clauses s) g h
+  step_taken g h s e (is_past_fault k is same) = absurd (let both : Some k ≡ None = sym is ∙ e in cc)
+  step_taken g h s e (is_taken none t) = t
 
-pub start_verdict : (rules : Rules) (p : Posed) (ss : List Step) → verdict_of (after_steps rules (start p) ss) ≡ verdict rules p ss
-start_verdict rules p ss = steps_verdict rules (start p) ss refl
+  pub stays_at_fault : (g : Progress) (s : Step) → true ≡ is_some g.fault → AfterStep has clause_of g s g
+  stays_at_fault g s h = let f = some_is g.fault h in is_past_fault f.0 f.1 refl
 
--- ---- the steps of a list, one after another
+  pub instance_step : (g h : Progress) (s : Step) (i : Instance) → g.fault ≡ None → s ≡ Taken i → IsTaken (IsOfInstance has clause_of i) g h → AfterStep has clause_of g s h
+  instance_step g h s i e same t =
+      subst (λ (x : Step). AfterStep has clause_of g x h) (sym same) (is_taken e (record { outcome = t.outcome; is_so = t.is_so; leaves = t.leaves }))
 
-pub steps_more : (rules : Rules) (g h : Progress) (ss : List Step) (k : ℕ) (s : Step) → k < length ss → s ≡ get_or ss k s → h ≡ after_step rules g s
-    → after_steps rules h (drop (k + 1) ss) ≡ after_steps rules g (drop k ss)
-steps_more rules g h ss k s within at is =
-    let here : drop k ss ≡ s ∷ drop (k + 1) ss = rw add-one (drop-cons ss k s within ∙ ap (λ (x : Step). x ∷ drop (suc k) ss) (sym at)) in
-    ap (λ (x : Progress). after_steps rules x (drop (k + 1) ss)) is ∙ sym (ap (after_steps rules g) here)
+  pub learned_step : (g h : Progress) (s : Step) (l : learned.Learned) → g.fault ≡ None → s ≡ Learned l → h ≡ taken (of_learned g.listed g.clauses l) g → AfterStep has clause_of g s h
+  learned_step g h s l e same is =
+      subst (λ (x : Step). AfterStep has clause_of g x h) (sym same) (is_taken e (record { outcome = of_learned g.listed g.clauses l; is_so = refl; leaves = is }))
+
+  -- ---- the steps of a list, one after another
+
+  pub steps_stay : (g h : Progress) (ss : List Step) (f : ℕ × Reason) → g.fault ≡ Some f → AfterSteps has clause_of g ss h → h ≡ g
+  unfolding AfterSteps
+  steps_stay g h [] f e a = a
+  steps_stay g h (s ∷ ss) f e a = steps_stay g h ss f e (subst (λ (x : Progress). AfterSteps has clause_of x ss h) (fault_stays g a.0 s f e a.1) a.2)
+
+  pub fault_past : (g : Progress) (ss : List Step) (f : ℕ × Reason) → g.fault ≡ Some f → AfterSteps has clause_of g ss g
+  unfolding AfterSteps
+  fault_past g [] f e = refl
+  fault_past g (s ∷ ss) f e = (g, is_past_fault f e refl, fault_past g ss f e)
+
+  pub steps_split : (g h : Progress) (ss ts : List Step) → AfterSteps has clause_of g (ss ++ ts) h → (k : Progress) × AfterSteps has clause_of g ss k × AfterSteps has clause_of k ts h
+  unfolding AfterSteps
+  steps_split g h [] ts a = (g, refl, a)
+  steps_split g h (s ∷ ss) ts a = let later = steps_split a.0 h ss ts a.2 in (later.0, (a.0, a.1, later.1), later.2)
+
+  -- what the rest leaves after a step, that step and the rest leave
+  pub steps_more : (g h end : Progress) (ss : List Step) (k : ℕ) (s : Step) → k < length ss → s ≡ get_or ss k s → AfterStep has clause_of g s h
+      → AfterSteps has clause_of h (drop (k + 1) ss) end → AfterSteps has clause_of g (drop k ss) end
+  unfolding AfterSteps
+  steps_more g h end ss k s within at step rest =
+      let here : drop k ss ≡ s ∷ drop (k + 1) ss = rw add-one (drop-cons ss k s within ∙ ap (λ (x : Step). x ∷ drop (suc k) ss) (sym at)) in
+      subst (λ (xs : List Step). AfterSteps has clause_of g xs end) (sym here) (h, step, rest)
+
+  pub steps_over : (g : Progress) (ss : List Step) (k : ℕ) → length ss ≤ k → AfterSteps has clause_of g (drop k ss) g
+  unfolding AfterSteps
+  steps_over g ss k all = subst (λ (xs : List Step). AfterSteps has clause_of g xs g) (sym (drop_all k ss all)) refl
+
+-- a step that is counted, and at fault
+pub failed_taken : (g k h : Progress) (number : ℕ) (x reason : Reason) → h ≡ failed number x k → number ≡ g.steps + 1 → x ≡ reason → k ≡ counted g → h ≡ taken (Err reason) g
+failed_taken g k h number x reason is count same before = is ∙ (λ i. failed (count i) (same i) (before i))
 
 -- ---- what is so of the steps on a problem
 
 one_at_least : (xs : List Clause) (c : Clause) → 0 < length (xs ++ c ∷ [])
 one_at_least xs c = let long = length-append xs (c ∷ []) in omega (arith, long)
 
-pub start_checked : (p : Posed) → ((c : Clause) → Contains (defining p) c → IsClauseOf p c) → AreDefined p → IsChecked p (start p)
+start_checked : (p : Posed) → ((c : Clause) → Contains (defining p) c → IsClauseOf p c) → AreDefined p → IsChecked p (start p)
 start_checked p lawful defined = record {
   count = refl;
   fit = defining_listed p lawful;
@@ -112,30 +133,36 @@ started p n clauses e f lawful defined =
 pub failed_checked : (p : Posed) (g : Progress) (number : ℕ) (reason : Reason) → IsChecked p g → IsChecked p (failed number reason g)
 failed_checked p g number reason k = record { count = k.count; fit = k.fit; room = λ e. absurd cc; hold = k.hold; last = k.last }
 
+pub nil_is : (c : Clause) → is_nil c ≡ true → c ≡ []
+nil_is [] e = refl
+nil_is (l ∷ c) e = absurd (true≢false (sym e))
+
 last_there : (clauses : List Clause) (c : Clause) → is_nil c ≡ true → Contains (clauses ++ c ∷ []) []
 last_there clauses c e = Contains-from_Has (clauses ++ c ∷ []) [] (subst (λ (d : Clause). Has (clauses ++ c ∷ []) d) (nil_is c e) (Has-last clauses c))
 
-taken_checked : (p : Posed) (rules : Rules) (g : Progress) (s : Step) (r : Result Clause Reason) → AreListed rules (length (atoms p)) → AreSound p rules → IsChecked p g → g.fault ≡ None
-    → added rules g.listed g.clauses s ≡ r → IsChecked p (taken r g)
-taken_checked p rules g s (Ok c) listed sound k e is = record {
+-- a clause of listed atoms that is true where those before it are
+grown_checked : (p : Posed) (g : Progress) (c : Clause) → list_all (is_listed g.listed) c ≡ true → ((w : World) → Satisfies p w → AllByRecursion (IsTrueIn p w) g.clauses → IsTrueIn p w c) → IsChecked p g → g.fault ≡ None
+    → IsChecked p (grown c (counted g))
+grown_checked p g c listed holds k e = record {
   count = k.count;
-  fit = listed_more rules g.listed g.listed g.clauses s c (subst (AreListed rules) (sym k.count) listed) refl k.fit (sym is);
+  fit = listed_more g.listed g.clauses c k.fit listed;
   room = λ f. let more = length-append g.clauses (c ∷ []) in let enough = k.room e in omega (arith, more, enough);
-  hold = λ w t. all-push (truths p w) g.clauses c (k.hold w t) (added-holds (truths p w) rules g.listed g.clauses s c (λ i h. sound i w h t.well_formed) (k.hold w t) is);
+  hold = λ w t. all-push (truths p w) g.clauses c (k.hold w t) (holds w t (k.hold w t));
   last = last_there g.clauses c;
 }
-taken_checked p rules g s (Err reason) listed sound k e is = record { count = k.count; fit = k.fit; room = λ f. absurd cc; hold = k.hold; last = k.last }
 
-step_checked_at : (p : Posed) (rules : Rules) (g : Progress) (s : Step) (o : Option (ℕ × Reason)) → AreListed rules (length (atoms p)) → AreSound p rules → IsChecked p g → g.fault ≡ o
-    → IsChecked p (unless_at_fault o g (taken (added rules g.listed g.clauses s) g))
-step_checked_at p rules g s None listed sound k e = taken_checked p rules g s _ listed sound k e refl
-step_checked_at p rules g s (Some f) listed sound k e = k
+-- the clause of an instance is one of the problem, and true in each well-formed world
+pub instance_checked : (p : Posed) (g : Progress) (c : Clause) → IsClauseOf p c → ((w : World) → IsWorldOf p w → IsTrueIn p w c) → IsChecked p g → g.fault ≡ None → IsChecked p (grown c (counted g))
+instance_checked p g c lawful sound k e =
+    grown_checked p g c (subst (λ (n : ℕ). list_all (is_listed n) c ≡ true) (sym k.count) (clause_listed p c lawful)) (λ w s hold. sound w s.well_formed) k e
 
-pub step_checked : (p : Posed) (rules : Rules) (g : Progress) (s : Step) → AreListed rules (length (atoms p)) → AreSound p rules → IsChecked p g → IsChecked p (after_step rules g s)
-step_checked p rules g s listed sound k = step_checked_at p rules g s g.fault listed sound k refl
+learned_checked_at : (p : Posed) (g : Progress) (l : learned.Learned) (r : Result Clause Reason) → IsChecked p g → g.fault ≡ None → of_learned g.listed g.clauses l ≡ r → IsChecked p (taken r g)
+learned_checked_at p g l (Ok c) k e is =
+    grown_checked p g c (learned_listed g.listed g.clauses l c is) (λ w s hold. learned-holds (truths p w) g.listed g.clauses l c hold is) k e
+learned_checked_at p g l (Err reason) k e is = record { count = k.count; fit = k.fit; room = λ f. absurd cc; hold = k.hold; last = k.last }
 
-pub checked_after : (p : Posed) (rules : Rules) (g h : Progress) (s : Step) → AreListed rules (length (atoms p)) → AreSound p rules → IsChecked p g → h ≡ after_step rules g s → IsChecked p h
-checked_after p rules g h s listed sound k is = subst (IsChecked p) (sym is) (step_checked p rules g s listed sound k)
+pub learned_checked : (p : Posed) (g h : Progress) (l : learned.Learned) → IsChecked p g → g.fault ≡ None → h ≡ taken (of_learned g.listed g.clauses l) g → IsChecked p h
+learned_checked p g h l k e is = subst (IsChecked p) (sym is) (learned_checked_at p g l (of_learned g.listed g.clauses l) k e refl)
 
 -- ---- what a refutation tells
 
@@ -146,26 +173,3 @@ refuted_last None steps false e = absurd cc
 
 pub refuted_sound : (p : Posed) (g : Progress) → IsChecked p g → verdict_of g ≡ Refuted → IsUnsatisfiable p
 refuted_sound p g k e w s = true≢false (sym (all_element (IsTrueIn p w) g.clauses [] (k.hold w s) (k.last (refuted_last g.fault g.steps g.is_empty e))))
-
--- what the code of a check of a log finds
-pub verdict_is : (rules : Rules) (p : Posed) (log steps : List Step) (g h : Progress) (v : Verdict) → g ≡ start p → steps ≡ log → h ≡ after_steps rules g steps → v ≡ verdict_of h → v ≡ verdict rules p log
-verdict_is rules p log steps g h v first same is told =
-    told ∙ (ap verdict_of is ∙ (ap (λ (x : Progress). verdict_of (after_steps rules x steps)) first
-    ∙ (ap (λ (ss : List Step). verdict_of (after_steps rules (start p) ss)) same ∙ start_verdict rules p log)))
-
--- ---- instances of a theory
-
--- the clause of an instance is one of the problem, and true in each well-formed world
-pub instance_checked : (p : Posed) (g : Progress) (i : Instance) (c : Clause) → IsClauseOf p c → ((w : World) → IsWorldOf p w → IsTrueIn p w c) → IsChecked p g → g.fault ≡ None
-    → IsChecked p (grown c (counted g))
-instance_checked p g i c lawful sound k e =
-    let one : Rules = record { accepts = λ j. true; clause_of = λ j. c } in
-    taken_checked p one g (Taken i) (Ok c) (rules_listed p one (λ j h. lawful)) (λ j w h formed. sound w formed) k e refl
-
--- no instance is needed for what a learned clause gives
-abbrev pub no_rules : Rules
-no_rules = record { accepts = λ i. false; clause_of = λ i. [] }
-
-pub learned_checked : (p : Posed) (g h : Progress) (s : Step) (l : learned.Learned) → IsChecked p g → false ≡ is_some g.fault → s ≡ Learned l → h ≡ taken (of_learned g.listed g.clauses l) g → IsChecked p h
-learned_checked p g h s l k e same is =
-    checked_after p no_rules g h s (λ i f. absurd (true≢false (sym f))) (λ i w f formed. absurd (true≢false (sym f))) k (taken_step no_rules g h s (Learned l) e same is)

@@ -1,4 +1,4 @@
--- Where a log is accepted, the goal is true in no well-formed world.
+-- What hints show is true where the clauses before it are.
 use Rattle.std.proofs.Common.{◌≡◌, ◌-◌, ◌==◌, ℕ, zero, suc, List, [], ◌∷◌, ◌++◌, Bool, true, false, not, cond, ◌&&◌, ◌||◌, Option, Some, None, Ok, Err, slice_get, IfSome, refl, sym, ap, ◌∙◌, subst, ⊎_elim}
 use Rattle.std.specs.Prelude.{⊤}
 use Rattle.std.specs.List.{list_all, AllByRecursion}
@@ -8,12 +8,10 @@ use Rattle.sc_clauses.specs.declared.lit.Lit.{Lit}
 use Rattle.sc_clauses.specs.Clauses.{Clause, lit_eq, negation, is_in, holds, clause_holds}
 use Rattle.sc_refutations.specs.declared.refuting.Residual.{Residual}
 use Rattle.sc_refutations.specs.declared.refuting.Residual.TheVariants.{Conflict, Unit, Open}
-use Rattle.sc_clauses.specs.declared.step.Instance as instance
-use Rattle.sc_clauses.specs.declared.step.Step.{Step}
-use Rattle.sc_clauses.specs.declared.step.Step.TheVariants.{Instance, Learned}
-use Rattle.sc_checker.specs.declared.checking.Reason.TheVariants.{NoInstance, NotRefuted}
+use Rattle.sc_clauses.specs.declared.step.Learned as learned
+use Rattle.sc_checker.specs.declared.checking.Reason.TheVariants.{NotRefuted}
 use Rattle.sc_refutations.specs.Refutations.{LitSet, negated, with_lit, open_lits, residual, residual_at, clause_at, is_nil, goes_on, refutes, is_clause}
-use Rattle.sc_checker.specs.Verdicts.{Rules, added, Adds, no_step, first_step}
+use Rattle.sc_checker.specs.Verdicts.{of_learned}
 use Rattle.sc_clauses.proofs.LitLaws.{lit_eq-true, holds_negation}
 
 abbrev pub AllHold : (ℕ → Bool) → List Clause → Type 0
@@ -69,7 +67,7 @@ from-option : (v : ℕ → Bool) (known : LitSet) (o : Option Clause) → AllTru
 from-option v known None t h = tt
 from-option v known (Some c) t h = residual-sound v (open_lits known c) (open-holds v known c t h)
 
--- ---- hints, steps and logs
+-- ---- hints and steps
 
 false-negation : (v : ℕ → Bool) (l m : Lit) → lit_eq (negation l) m ≡ true → holds v m ≡ false → holds v l ≡ true
 false-negation v l m s e = not-false (holds v l) (sym (holds_negation v l) ∙ ap (holds v) (lit_eq-true (negation l) m s) ∙ e)
@@ -100,41 +98,15 @@ step-holds : (v : ℕ → Bool) (cs : List Clause) (c : Clause) (hints : List �
 step-holds v cs c hints true h e is = refl
 step-holds v cs c hints false h e is = absurd (refutes-sound v cs (negated c) hints h (negated-true v c is) e)
 
-shown-holds : (v : ℕ → Bool) (count : ℕ) (cs : List Clause) (d c : Clause) (hints : List ℕ) (a b : Bool) → AllHold v cs → refutes cs (negated d) hints ≡ b → cond (a && b) (Ok d) (Err NotRefuted) ≡ Ok c → clause_holds v c ≡ true
-shown-holds v count cs d c hints true true h e is = let same : d ≡ c = cc in subst (λ (x : Clause). clause_holds v x ≡ true) same (step-holds v cs d hints _ h e refl)
-shown-holds v count cs d c hints true false h e is = absurd cc
-shown-holds v count cs d c hints false b h e is = absurd cc
+shown-holds : (v : ℕ → Bool) (cs : List Clause) (d c : Clause) (hints : List ℕ) (a b : Bool) → AllHold v cs → refutes cs (negated d) hints ≡ b → cond (a && b) (Ok d) (Err NotRefuted) ≡ Ok c → clause_holds v c ≡ true
+shown-holds v cs d c hints true true h e is = let same : d ≡ c = cc in subst (λ (x : Clause). clause_holds v x ≡ true) same (step-holds v cs d hints _ h e refl)
+shown-holds v cs d c hints true false h e is = absurd cc
+shown-holds v cs d c hints false b h e is = absurd cc
 
-instance_holds : (v : ℕ → Bool) (d c : Clause) (b : Bool) → (b ≡ true → clause_holds v d ≡ true) → cond b (Ok d) (Err NoInstance) ≡ Ok c → clause_holds v c ≡ true
-instance_holds v d c true h is = let same : d ≡ c = cc in subst (λ (x : Clause). clause_holds v x ≡ true) same (h refl)
-instance_holds v d c false h is = absurd cc
-
--- the clause of each instance of the rules is true
-abbrev pub AreTrue : (ℕ → Bool) → Rules → Type 0
-AreTrue v rules = (i : instance.Instance) → rules.accepts i ≡ true → clause_holds v (rules.clause_of i) ≡ true
-
--- the clause that a step adds is true where those before it and those of the rules are
-pub added-holds : (v : ℕ → Bool) (rules : Rules) (count : ℕ) (cs : List Clause) (s : Step) (c : Clause) → AreTrue v rules → AllHold v cs → added rules count cs s ≡ Ok c → clause_holds v c ≡ true
-added-holds v rules count cs (Instance i) c t h e = instance_holds v (rules.clause_of i) c (rules.accepts i) (t i) e
-added-holds v rules count cs (Learned l) c t h e = shown-holds v count cs l.clause c l.hints (is_clause count l.clause) _ h refl e
+-- a learned clause that is added is true where those before it are
+pub learned-holds : (v : ℕ → Bool) (count : ℕ) (cs : List Clause) (l : learned.Learned) (c : Clause) → AllHold v cs → of_learned count cs l ≡ Ok c → clause_holds v c ≡ true
+learned-holds v count cs l c h e = shown-holds v cs l.clause c l.hints (is_clause count l.clause) _ h refl e
 
 pub all-push : (v : ℕ → Bool) (cs : List Clause) (c : Clause) → AllHold v cs → clause_holds v c ≡ true → AllHold v (cs ++ c ∷ [])
 all-push v [] c h e = (e, tt)
 all-push v (d ∷ cs) c h e = (h.0, all-push v cs c h.1 e)
-
--- each clause that the steps add is true
-adds-hold : (v : ℕ → Bool) (rules : Rules) (count : ℕ) (clauses : List Clause) (steps : List Step) (cs : List Clause) → AreTrue v rules → AllHold v clauses → Adds rules count clauses steps cs → AllHold v cs
-adds-hold v rules count clauses [] [] t h no_step = tt
-adds-hold v rules count clauses [] (c ∷ cs) t h adds = elim adds [ ]
-adds-hold v rules count clauses (s ∷ ss) [] t h adds = elim adds [ ]
-adds-hold v rules count clauses (s ∷ ss) (c ∷ cs) t h (first_step is rest) =
-    let holds-c : clause_holds v c ≡ true = added-holds v rules count clauses s c t h is in
-    (holds-c, adds-hold v rules count (clauses ++ c ∷ []) ss cs t (all-push v clauses c h holds-c) rest)
-
-last-false : (v : ℕ → Bool) (before : List Clause) → AllHold v (before ++ [] ∷ []) → ⊥
-last-false v [] h = true≢false (sym h.0)
-last-false v (c ∷ before) h = last-false v before h.1
-
--- steps that end in the empty clause leave no assignment that makes the clauses before them, and those of the rules, true
-pub accepted-sound : (v : ℕ → Bool) (rules : Rules) (count : ℕ) (clauses : List Clause) (steps : List Step) (before : List Clause) → AreTrue v rules → AllHold v clauses → Adds rules count clauses steps (before ++ [] ∷ []) → ⊥
-accepted-sound v rules count clauses steps before t h adds = last-false v before (adds-hold v rules count clauses steps (before ++ [] ∷ []) t h adds)

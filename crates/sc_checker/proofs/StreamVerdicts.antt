@@ -1,10 +1,11 @@
 -- The verdict on bytes that come in pieces.
-use Rattle.std.proofs.Common.{◌≡◌, ◌≢◌, ◌↔◌, ◌+◌, ◌≤◌, ℕ, zero, suc, List, [], ◌∷◌, ◌++◌, length, Bool, true, false, cond, Option, Some, None, Result, Ok, Err, IsTrue, inl, inr, refl, sym, ap, ◌∙◌, subst, arith}
+use Rattle.std.proofs.Common.{◌≡◌, ◌≢◌, ◌↔◌, ◌+◌, ◌≤◌, ℕ, zero, suc, List, [], ◌∷◌, ◌++◌, length, Bool, true, false, cond, Option, Some, None, IsTrue, inl, inr, refl, sym, ap, ◌∙◌, subst, arith}
 use Rattle.std.specs.Str.{bytes_eq}
 use Rattle.std.proofs.lemmas.Bool.{and_from, both_ways}
 use Rattle.std.proofs.lemmas.List.{append-nil, length-append}
 use Rattle.std.proofs.lemmas.Slice.Eq.{bytes_eq-Decides}
 use Rattle.sc_clauses.specs.Clauses.{Clause}
+use Rattle.sc_clauses.specs.declared.step.Instance.{Instance}
 use Rattle.sc_clauses.specs.declared.step.Step.{Step}
 use Rattle.sc_footprint.specs.Definitions.{defining}
 use Rattle.sc_footprint.specs.Problems.{Posed, atoms}
@@ -13,19 +14,18 @@ use Rattle.sc_checker.specs.declared.checking.Reason.TheVariants.{Malformed}
 use Rattle.sc_checker.specs.declared.checking.Verdict.{Verdict}
 use Rattle.sc_checker.specs.declared.checking.Verdict.TheVariants.{Refuted, Rejected}
 use Rattle.sc_logs.specs.LineSteps.{step_of}
-use Rattle.sc_checker.specs.Progress.{Progress, start, failed, taken, unless_at_fault, after_steps, verdict_of}
+use Rattle.sc_checker.specs.Progress.{Progress, start, failed, AfterSteps, unless_at_fault, verdict_at, verdict_of}
 use Rattle.sc_logs.specs.Readings.{Reads, AreWritable, IsText, BeginsWith, StopsAt}
-use Rattle.sc_checker.specs.Streams.{unread, first_words, after_reading, after, line_number, ended, first_fault, HasVerdict, of_log, of_no_log, of_no_line, IsAcceptedText}
+use Rattle.sc_checker.specs.Streams.{Checking, unread, first_words, AfterReading, After, line_number, ended, HasVerdict, of_log, of_no_log, of_fault, of_no_line, IsAcceptedText}
 use Rattle.sc_logs.specs.Texts.{has_no_newline, step_line, steps_text, first_line}
-use Rattle.sc_checker.specs.Verdicts.{Rules, added, next, verdict}
+use Rattle.sc_checker.specs.Verdicts.{IsVerdictOn}
 use Rattle.sc_logs.specs.Writable.{is_writable}
 use Rattle.sc_logs.proofs.LineStepLaws.{step_reads}
-use Rattle.sc_checker.proofs.ProgressLaws.{no_fault, steps_stay, start_verdict}
 use Rattle.sc_logs.proofs.ReadingLaws.{line_first, line_only, next_none, newline_cut}
-use Rattle.sc_checker.proofs.StreamLaws.{not_begun, after_fault, after_part, after_whole, between, after_lines, after_log, Cut, no_end, ends, cut_of, has_newline}
-use Rattle.sc_checker.proofs.VerdictLaws.{refuted_accepted}
+use Rattle.sc_checker.proofs.StreamLaws.{held, between, nothing_is, after_fault, part_is, after_whole, later_line, steps_read, first_line_read, log_begun, Cut, no_end, ends, cut_of, has_newline}
+use Rattle.sc_checker.proofs.VerdictLaws.{adds_leave, Went, went_all, went_until, went, fault_told, told_verdict, verdict_is}
 
--- ---- where bytes end between lines
+-- ---- where bytes end
 
 between_at : (g : Progress) (o : Option (ℕ × Reason)) → unless_at_fault o (verdict_of g) (verdict_of g) ≡ verdict_of g
 between_at g None = refl
@@ -34,101 +34,15 @@ between_at g (Some f) = refl
 ended_between : (g : Progress) → ended (between g) ≡ verdict_of g
 ended_between g = between_at g g.fault
 
--- ---- where a line is none of a log
-
--- the fault of a step, or else that of the next line
-abbrev stop_verdict : Progress → Verdict
-stop_verdict g = unless_at_fault g.fault (verdict_of g) (Rejected (g.steps + 1) Malformed)
-
-stopped_at_fault : (rules : Rules) (g : Progress) (rest : List ℕ) (f : ℕ × Reason) → g.fault ≡ Some f → ended (after rules (between g) rest) ≡ stop_verdict g
-stopped_at_fault rules g rest f e =
-    ap ended (after_fault rules (between g) rest f e)
-    ∙ (ended_between g
-    ∙ sym (ap (λ (o : Option (ℕ × Reason)). unless_at_fault o (verdict_of g) (Rejected (g.steps + 1) Malformed)) e))
-
-stop_here : (g : Progress) → g.fault ≡ None → stop_verdict g ≡ Rejected (g.steps + 1) Malformed
-stop_here g e = ap (λ (o : Option (ℕ × Reason)). unless_at_fault o (verdict_of g) (Rejected (g.steps + 1) Malformed)) e
-
-unended : (begun : Bool) (g : Progress) (line : List ℕ) → line ≢ [] → g.fault ≡ None → ended (record { begun = begun; line = line; progress = g }) ≡ Rejected (line_number begun g) Malformed
+unended : (begun : Bool) (g : Progress) (line : List ℕ) → line ≢ [] → g.fault ≡ None → ended (held begun line g) ≡ Rejected (line_number begun g) Malformed
 unended begun g [] h e = absurd (h refl)
 unended begun g (b ∷ bs) h e = ap (λ (o : Option (ℕ × Reason)). unless_at_fault o (verdict_of g) (Rejected (line_number begun g) Malformed)) e
 
-no_step_at : (line rest bytes : List ℕ) (o : Option Step) → bytes ≡ line ++ 10 ∷ rest → ((s : Step) → IsTrue (is_writable s) → ¬ BeginsWith bytes s) → Reads is_writable step_line line o → o ≡ None
+pub no_step_at : (line rest bytes : List ℕ) (o : Option Step) → bytes ≡ line ++ 10 ∷ rest → ((s : Step) → IsTrue (is_writable s) → ¬ BeginsWith bytes s) → Reads is_writable step_line line o → o ≡ None
 no_step_at line rest bytes None is none read = refl
 no_step_at line rest bytes (Some s) is none read = absurd (none s read.0 (rest, is ∙ ap (λ (l : List ℕ). l ++ 10 ∷ rest) (sym read.1)))
 
-stopped_by : (rules : Rules) (g : Progress) (bytes : List ℕ) → g.fault ≡ None → bytes ≢ [] → ((s : Step) → IsTrue (is_writable s) → ¬ BeginsWith bytes s) → Cut bytes → ended (after rules (between g) bytes) ≡ stop_verdict g
-stopped_by rules g bytes e more none (no_end free) =
-    ap ended (after_part rules (between g) bytes e free) ∙ (unended true g bytes more e ∙ sym (stop_here g e))
-stopped_by rules g bytes e more none (ends line rest is free) =
-    let no_step : step_of line ≡ None = no_step_at line rest bytes (step_of line) is none (step_reads line) in
-    let fault : Progress = failed (g.steps + 1) Malformed g in
-    ap (λ (bs : List ℕ). ended (after rules (between g) bs)) is
-    ∙ (ap ended (after_whole rules true g line rest e free)
-    ∙ (ap (λ (o : Option Step). ended (after rules (between (after_reading rules g o)) rest)) no_step
-    ∙ (ap ended (after_fault rules (between fault) rest (g.steps + 1, Malformed) refl)
-    ∙ sym (stop_here g e))))
-
-stopped_at : (rules : Rules) (g : Progress) (bytes : List ℕ) (o : Option (ℕ × Reason)) → g.fault ≡ o → bytes ≢ [] → ((s : Step) → IsTrue (is_writable s) → ¬ BeginsWith bytes s) → ended (after rules (between g) bytes) ≡ stop_verdict g
-stopped_at rules g bytes None e more none = stopped_by rules g bytes e more none (cut_of bytes)
-stopped_at rules g bytes (Some f) e more none = stopped_at_fault rules g bytes f e
-
-stop_taken : (rules : Rules) (g : Progress) (ss : List Step) (number : ℕ) (r : Result Clause Reason) → g.fault ≡ None
-    → ((h : Progress) → h.fault ≡ None → h.steps ≡ g.steps + 1 → stop_verdict (after_steps rules h ss) ≡ first_fault rules h.listed h.clauses h.steps ss (Rejected number Malformed))
-    → stop_verdict (after_steps rules (taken r g) ss) ≡ next r (g.steps + 1) (λ c. first_fault rules g.listed (g.clauses ++ c ∷ []) (g.steps + 1) ss (Rejected number Malformed))
-stop_taken rules g ss number (Ok c) e later = later (taken (Ok c) g) e refl
-stop_taken rules g ss number (Err reason) e later = ap stop_verdict (steps_stay rules (taken (Err reason) g) ss (g.steps + 1, reason) refl)
-
-stop_steps : (rules : Rules) (g : Progress) (ss : List Step) (number : ℕ) → g.fault ≡ None → number ≡ g.steps + (length ss + 1)
-    → stop_verdict (after_steps rules g ss) ≡ first_fault rules g.listed g.clauses g.steps ss (Rejected number Malformed)
-stop_steps rules g [] number e count = stop_here g e ∙ ap (λ (n : ℕ). Rejected n Malformed) (sym count)
-stop_steps rules g (s ∷ ss) number e count =
-    ap (λ (h : Progress). stop_verdict (after_steps rules h ss)) (no_fault rules g s e)
-    ∙ stop_taken rules g ss number (added rules g.listed g.clauses s) e (λ h f same. stop_steps rules h ss number f (omega (arith, same, count)))
-
--- ---- the verdict where bytes have it
-
-on_log : (rules : Rules) (p : Posed) (bytes : List ℕ) (steps : List Step) → AreWritable steps → IsText bytes steps → ended (after rules (unread p) bytes) ≡ verdict rules p steps
-on_log rules p bytes steps w (inl is) =
-    let h = after_steps rules (start p) steps in
-    ap (λ (bs : List ℕ). ended (after rules (unread p) bs)) is
-    ∙ (ap ended (after_log rules p (steps_text steps))
-    ∙ (ap (λ (bs : List ℕ). ended (after rules (between (start p)) bs)) (sym (append-nil (steps_text steps)))
-    ∙ (ap ended (after_lines rules (start p) steps [] w)
-    ∙ (ended_between h
-    ∙ start_verdict rules p steps))))
-on_log rules p bytes steps w (inr is) = ap (λ (bs : List ℕ). ended (after rules (unread p) bs)) is.0 ∙ ap (verdict rules p) (sym is.1)
-
-not_first : (rules : Rules) (p : Posed) (line rest : List ℕ) (t : Bool) → bytes_eq line first_words ≡ t → (line ≡ first_words → ⊥)
-    → ended (after rules (cond t (between (start p)) (not_begun (start p))) rest) ≡ Rejected 0 Malformed
-not_first rules p line rest true e other = absurd (other ((bytes_eq-Decides line first_words).0 e))
-not_first rules p line rest false e other = ap ended (after_fault rules (not_begun (start p)) rest (0, Malformed) refl)
-
-on_no_log : (rules : Rules) (p : Posed) (bytes : List ℕ) → bytes ≢ [] → ((rest : List ℕ) → ¬ (bytes ≡ first_line ++ rest)) → Cut bytes → ended (after rules (unread p) bytes) ≡ Rejected 0 Malformed
-on_no_log rules p bytes more none (no_end free) = ap ended (after_part rules (unread p) bytes refl free) ∙ unended false (start p) bytes more refl
-on_no_log rules p bytes more none (ends line rest is free) =
-    ap (λ (bs : List ℕ). ended (after rules (unread p) bs)) is
-    ∙ (ap ended (after_whole rules false (start p) line rest refl free)
-    ∙ not_first rules p line rest (bytes_eq line first_words) refl (λ same. none rest (is ∙ ap (λ (l : List ℕ). l ++ 10 ∷ rest) same)))
-
-on_no_line : (rules : Rules) (p : Posed) (bytes rest : List ℕ) (number : ℕ) → bytes ≡ first_line ++ rest → (stop : StopsAt rest number)
-    → ended (after rules (unread p) bytes) ≡ first_fault rules (length (atoms p)) (defining p) 0 stop.before (Rejected number Malformed)
-on_no_line rules p bytes rest number is stop =
-    let h = after_steps rules (start p) stop.before in
-    let count : number ≡ 0 + (length stop.before + 1) = let n = stop.number_is in omega (arith, n) in
-    ap (λ (bs : List ℕ). ended (after rules (unread p) bs)) is
-    ∙ (ap ended (after_log rules p rest)
-    ∙ (ap (λ (bs : List ℕ). ended (after rules (between (start p)) bs)) stop.text
-    ∙ (ap ended (after_lines rules (start p) stop.before stop.rest stop.writable)
-    ∙ (stopped_at rules h stop.rest h.fault refl stop.more stop.no_step
-    ∙ stop_steps rules (start p) stop.before number refl count))))
-
-has_verdict : (rules : Rules) (p : Posed) (bytes : List ℕ) (v : Verdict) → HasVerdict rules p bytes v → ended (after rules (unread p) bytes) ≡ v
-has_verdict rules p bytes v (of_log steps w text is) = on_log rules p bytes steps w text ∙ sym is
-has_verdict rules p bytes v (of_no_log more none is) = on_no_log rules p bytes more none (cut_of bytes) ∙ sym is
-has_verdict rules p bytes v (of_no_line rest number first stop is) = on_no_line rules p bytes rest number first stop ∙ sym is
-
--- ---- all bytes have one
+-- ---- lines
 
 -- lines of steps, or lines that stop somewhere
 data Lines (bytes : List ℕ) : Type 0 where
@@ -179,51 +93,134 @@ lines_by (suc most) (b ∷ bs) h = lines_at most b bs h (λ rest less. lines_by 
 lines_of : (bytes : List ℕ) → Lines bytes
 lines_of bytes = lines_by (length bytes) bytes (omega arith)
 
-log_verdict : (rules : Rules) (p : Posed) (bytes rest : List ℕ) → bytes ≡ first_line ++ rest → Lines rest → (v : Verdict) × HasVerdict rules p bytes v
-log_verdict rules p bytes rest is (all_steps steps w text) = (_, of_log steps w (inl (is ∙ ap (λ (bs : List ℕ). first_line ++ bs) text)) refl)
-log_verdict rules p bytes rest is (stops number at) = (_, of_no_line rest number is at refl)
+-- ---- what is held tells the verdict
 
-first_verdict : (rules : Rules) (p : Posed) (bytes line rest : List ℕ) (t : Bool) → bytes_eq line first_words ≡ t → bytes ≡ line ++ 10 ∷ rest → has_no_newline line ≡ true → (v : Verdict) × HasVerdict rules p bytes v
-first_verdict rules p bytes line rest true e is free =
-    log_verdict rules p bytes rest (is ∙ ap (λ (l : List ℕ). l ++ 10 ∷ rest) ((bytes_eq-Decides line first_words).0 e)) (lines_of rest)
-first_verdict rules p bytes line rest false e is free =
-    let other : (later : List ℕ) → ¬ (bytes ≡ first_line ++ later) = λ later same.
-    both_ways (bytes_eq line first_words) e ((bytes_eq-Decides line first_words).1 (newline_cut line first_words rest later free refl (sym is ∙ same)).0) in
-    (_, of_no_log (not_nil line rest 10 bytes is) other refl)
+other_line : (line rest : List ℕ) (bytes : List ℕ) → bytes ≡ line ++ 10 ∷ rest → has_no_newline line ≡ true → bytes_eq line first_words ≡ false → (later : List ℕ) → ¬ (bytes ≡ first_line ++ later)
+other_line line rest bytes is free other later same =
+    both_ways (bytes_eq line first_words) other ((bytes_eq-Decides line first_words).1 (newline_cut line first_words rest later free refl (sym is ∙ same)).0)
 
-cut_verdict : (rules : Rules) (p : Posed) (b : ℕ) (bs : List ℕ) → Cut (b ∷ bs) → (v : Verdict) × HasVerdict rules p (b ∷ bs) v
-cut_verdict rules p b bs (no_end free) = (_, of_no_log (λ e. absurd cc) (λ rest same. has_newline first_words rest (sym (ap has_no_newline same) ∙ free)) refl)
-cut_verdict rules p b bs (ends line rest is free) = first_verdict rules p (b ∷ bs) line rest (bytes_eq line first_words) refl is free
+module _ (has : Instance → Type 0) (clause_of : Instance → Clause) where
+  -- a line that is none of a log
+  stopped_by : (g : Progress) (bytes : List ℕ) (end : Checking) → g.fault ≡ None → bytes ≢ [] → ((s : Step) → IsTrue (is_writable s) → ¬ BeginsWith bytes s) → Cut bytes → After has clause_of (between g) bytes end
+      → ended end ≡ Rejected (g.steps + 1) Malformed
+  stopped_by g bytes end e more none (no_end free) a = ap ended (part_is has clause_of (between g) end bytes e free a) ∙ unended true g bytes more e
+  stopped_by g bytes end e more none (ends line rest is free) a =
+      let read = after_whole has clause_of true g line rest end e free (subst (λ (bs : List ℕ). After has clause_of (between g) bs end) is a) in
+      let later = later_line has clause_of g line read.0 read.1 in
+      let no_step : step_of line ≡ None = no_step_at line rest bytes (step_of line) is none (step_reads line) in
+      let fault : Progress = failed (g.steps + 1) Malformed g in
+      let failed_there : later.0 ≡ fault = subst (λ (o : Option Step). AfterReading has clause_of g o later.0) no_step later.1 in
+      let here : read.0 ≡ between fault = later.2 ∙ ap between failed_there in
+      ap ended (after_fault has clause_of (between fault) end rest (g.steps + 1, Malformed) refl (subst (λ (x : Checking). After has clause_of x rest end) here read.2))
 
-some_verdict : (rules : Rules) (p : Posed) (bytes : List ℕ) → (v : Verdict) × HasVerdict rules p bytes v
-some_verdict rules p [] = (_, of_log [] refl (inr (refl, refl)) refl)
-some_verdict rules p (b ∷ bs) = cut_verdict rules p b bs (cut_of (b ∷ bs))
+  -- a step that was at fault
+  stopped_at : (g : Progress) (bytes : List ℕ) (end : Checking) (f : ℕ × Reason) → g.fault ≡ Some f → After has clause_of (between g) bytes end → ended end ≡ Rejected f.0 f.1
+  stopped_at g bytes end f e a =
+      ap ended (after_fault has clause_of (between g) end bytes f e a)
+      ∙ ap (λ (o : Option (ℕ × Reason)). unless_at_fault o (verdict_at o g.steps g.is_empty) (verdict_at o g.steps g.is_empty)) e
 
--- ---- laws
+  module _ (p : Posed) where
+    on_log : (bytes : List ℕ) (steps : List Step) (end : Checking) → AreWritable steps → IsText bytes steps → After has clause_of (unread p) bytes end
+        → (h : Progress) × AfterSteps has clause_of (start p) steps h × (ended end ≡ verdict_of h)
+    unfolding AfterSteps
+    on_log bytes steps end w (inl is) a =
+        let begun = log_begun has clause_of p (steps_text steps) end (subst (λ (bs : List ℕ). After has clause_of (unread p) bs end) is a) in
+        let read = steps_read has clause_of (start p) steps [] end w (subst (λ (bs : List ℕ). After has clause_of (between (start p)) bs end) (sym (append-nil (steps_text steps))) begun) in
+        (read.0, read.1, ap ended (nothing_is has clause_of (between read.0) end read.2) ∙ ended_between read.0)
+    on_log bytes steps end w (inr is) a =
+        let here : end ≡ unread p = nothing_is has clause_of (unread p) end (subst (λ (bs : List ℕ). After has clause_of (unread p) bs end) is.0 a) in
+        (start p, subst (λ (ss : List Step). AfterSteps has clause_of (start p) ss (start p)) (sym is.1) refl, ap ended here)
 
-pub agrees : (rules : Rules) (p : Posed) (bytes : List ℕ) (v : Verdict) → (ended (after rules (unread p) bytes) ≡ v) ↔ HasVerdict rules p bytes v
-agrees rules p bytes v = (
-  (λ e. let (u, h) = some_verdict rules p bytes in subst (λ (x : Verdict). HasVerdict rules p bytes x) (sym (has_verdict rules p bytes u h) ∙ e) h),
-  (λ h. has_verdict rules p bytes v h),
-)
+    on_no_log : (bytes : List ℕ) (end : Checking) → bytes ≢ [] → ((rest : List ℕ) → ¬ (bytes ≡ first_line ++ rest)) → Cut bytes → After has clause_of (unread p) bytes end → ended end ≡ Rejected 0 Malformed
+    on_no_log bytes end more none (no_end free) a = ap ended (part_is has clause_of (unread p) end bytes refl free a) ∙ unended false (start p) bytes more refl
+    on_no_log bytes end more none (ends line rest is free) a =
+        let read = first_line_read has clause_of (start p) line rest end refl free (subst (λ (bs : List ℕ). After has clause_of (unread p) bs end) is a) in
+        by (bytes_eq line first_words) refl read
+      where
+        by : (t : Bool) → bytes_eq line first_words ≡ t → After has clause_of (cond t (between (start p)) (held false [] (failed 0 Malformed (start p)))) rest end → ended end ≡ Rejected 0 Malformed
+        by true e b = absurd (none rest (is ∙ ap (λ (l : List ℕ). l ++ 10 ∷ rest) ((bytes_eq-Decides line first_words).0 e)))
+        by false e b = ap ended (after_fault has clause_of (held false [] (failed 0 Malformed (start p))) end rest (0, Malformed) refl b)
 
-next_no_refutation : (r : Result Clause Reason) (number : ℕ) (rest : Clause → Verdict) → ((c : Clause) → Refuted ≡ rest c → ⊥) → Refuted ≡ next r number rest → ⊥
-next_no_refutation (Ok c) number rest later e = later c e
-next_no_refutation (Err reason) number rest later e = absurd cc
+    on_lines : (bytes rest : List ℕ) (number : ℕ) (end : Checking) → bytes ≡ first_line ++ rest → (stop : StopsAt rest number) → After has clause_of (unread p) bytes end
+        → (h : Progress) × AfterSteps has clause_of (start p) stop.before h × After has clause_of (between h) stop.rest end
+    on_lines bytes rest number end is stop a =
+        let begun = log_begun has clause_of p rest end (subst (λ (bs : List ℕ). After has clause_of (unread p) bs end) is a) in
+        steps_read has clause_of (start p) stop.before stop.rest end stop.writable (subst (λ (bs : List ℕ). After has clause_of (between (start p)) bs end) stop.text begun)
 
-fault_no_refutation : (rules : Rules) (count : ℕ) (clauses : List Clause) (number k : ℕ) (reason : Reason) (ss : List Step) → Refuted ≡ first_fault rules count clauses number ss (Rejected k reason) → ⊥
-fault_no_refutation rules count clauses number k reason [] e = absurd cc
-fault_no_refutation rules count clauses number k reason (s ∷ ss) e =
-    next_no_refutation (added rules count clauses s) (number + 1) (λ c. first_fault rules count (clauses ++ c ∷ []) (number + 1) ss (Rejected k reason))
-    (λ c f. fault_no_refutation rules count (clauses ++ c ∷ []) (number + 1) k reason ss f) e
+    -- lines of steps that each add a clause, and then none of a step
+    stopped_after : (rest : List ℕ) (number : ℕ) (end : Checking) (h : Progress) (stop : StopsAt rest number) → h.fault ≡ None → h.steps ≡ 0 + length stop.before → After has clause_of (between h) stop.rest end
+        → ended end ≡ Rejected number Malformed
+    stopped_after rest number end h stop none count a =
+        let numbered = stop.number_is in
+        let same : h.steps + 1 ≡ number = omega (arith, count, numbered) in
+        stopped_by h stop.rest end none stop.more stop.no_step (cut_of stop.rest) a ∙ ap (λ (k : ℕ). Rejected k Malformed) same
 
-refuted_text : (rules : Rules) (p : Posed) (bytes : List ℕ) → HasVerdict rules p bytes Refuted → IsAcceptedText rules p bytes
-refuted_text rules p bytes (of_log steps w text is) = record { steps = steps; writable = w; text = text; accepted = (refuted_accepted rules p steps).0 (sym is) }
-refuted_text rules p bytes (of_no_log more none is) = absurd cc
-refuted_text rules p bytes (of_no_line rest number first stop is) = absurd (fault_no_refutation rules (length (atoms p)) (defining p) 0 number Malformed stop.before is)
+    -- ---- where bytes have a verdict, it is told
 
-pub accepted_text : (rules : Rules) (p : Posed) (bytes : List ℕ) → (ended (after rules (unread p) bytes) ≡ Refuted) ↔ IsAcceptedText rules p bytes
-accepted_text rules p bytes = (
-  (λ e. refuted_text rules p bytes ((agrees rules p bytes Refuted).0 e)),
-  (λ a. (agrees rules p bytes Refuted).1 (of_log a.steps a.writable a.text (sym ((refuted_accepted rules p a.steps).1 a.accepted)))),
-)
+    pub told : (bytes : List ℕ) (end : Checking) (v : Verdict) → After has clause_of (unread p) bytes end → HasVerdict has clause_of p bytes v → ended end ≡ v
+    told bytes end v a (of_log steps w text is) = let x = on_log bytes steps end w text a in x.2 ∙ told_verdict has clause_of p steps x.0 v x.1 is
+    told bytes end v a (of_no_log more none is) = on_no_log bytes end more none (cut_of bytes) a ∙ sym is
+    told bytes end v a (of_fault rest number k reason first stop fails is) =
+        let x = on_lines bytes rest number end first stop a in
+        stopped_at x.0 stop.rest end (k, reason) (fault_told has clause_of p stop.before k reason x.0 fails x.1) x.2 ∙ sym is
+    told bytes end v a (of_no_line rest number clauses first stop adds is) =
+        let x = on_lines bytes rest number end first stop a in
+        let y = adds_leave has clause_of (length (atoms p)) (defining p) stop.before clauses adds (start p) x.0 refl refl refl x.1 in
+        stopped_after rest number end x.0 stop y.no_fault y.count x.2 ∙ sym is
+
+    -- ---- bytes have the verdict that is told
+
+    log_verdict : (bytes : List ℕ) (steps : List Step) (end : Checking) → AreWritable steps → IsText bytes steps → After has clause_of (unread p) bytes end → HasVerdict has clause_of p bytes (ended end)
+    log_verdict bytes steps end w text a =
+        let x = on_log bytes steps end w text a in
+        of_log steps w text (subst (IsVerdictOn has clause_of p steps) (sym x.2) (verdict_is has clause_of p steps x.0 x.1))
+
+    stop_verdict : (bytes rest : List ℕ) (number : ℕ) (end : Checking) (h : Progress) → bytes ≡ first_line ++ rest → (stop : StopsAt rest number) → After has clause_of (between h) stop.rest end
+        → Went has clause_of (start p) h stop.before → HasVerdict has clause_of p bytes (ended end)
+    stop_verdict bytes rest number end h is stop a (went_all cs adds x) = of_no_line rest number cs is stop adds (stopped_after rest number end h stop x.no_fault x.count a)
+    stop_verdict bytes rest number end h is stop a (went_until before later s cs reason whole adds fails fault) =
+        of_fault rest number (0 + length before + 1) reason is stop
+        (record { before = before; step = s; later = later; clauses = cs; are_all = whole; before_add = adds; fails = fails; number_is = omega arith })
+        (stopped_at h stop.rest end (0 + length before + 1, reason) fault a)
+
+    lines_verdict : (bytes rest : List ℕ) (end : Checking) → bytes ≡ first_line ++ rest → Lines rest → After has clause_of (unread p) bytes end → HasVerdict has clause_of p bytes (ended end)
+    lines_verdict bytes rest end is (all_steps steps w text) a = log_verdict bytes steps end w (inl (is ∙ ap (λ (bs : List ℕ). first_line ++ bs) text)) a
+    lines_verdict bytes rest end is (stops number stop) a =
+        let x = on_lines bytes rest number end is stop a in
+        stop_verdict bytes rest number end x.0 is stop x.2 (went has clause_of (start p) x.0 stop.before refl x.1)
+
+    first_verdict : (bytes line rest : List ℕ) (end : Checking) (t : Bool) → bytes_eq line first_words ≡ t → bytes ≡ line ++ 10 ∷ rest → has_no_newline line ≡ true → After has clause_of (unread p) bytes end
+        → HasVerdict has clause_of p bytes (ended end)
+    first_verdict bytes line rest end true e is free a =
+        lines_verdict bytes rest end (is ∙ ap (λ (l : List ℕ). l ++ 10 ∷ rest) ((bytes_eq-Decides line first_words).0 e)) (lines_of rest) a
+    first_verdict bytes line rest end false e is free a =
+        let more = not_nil line rest 10 bytes is in
+        let none = other_line line rest bytes is free e in
+        of_no_log more none (on_no_log bytes end more none (cut_of bytes) a)
+
+    some_verdict : (bytes : List ℕ) (end : Checking) → After has clause_of (unread p) bytes end → HasVerdict has clause_of p bytes (ended end)
+    some_verdict [] end a = log_verdict [] [] end refl (inr (refl, refl)) a
+    some_verdict (b ∷ bs) end a = by (cut_of (b ∷ bs))
+      where
+        by : Cut (b ∷ bs) → HasVerdict has clause_of p (b ∷ bs) (ended end)
+        by (no_end free) =
+            let none : (rest : List ℕ) → ¬ (b ∷ bs ≡ first_line ++ rest) = λ rest same. has_newline first_words rest (sym (ap has_no_newline same) ∙ free) in
+            of_no_log (λ e. absurd cc) none (on_no_log (b ∷ bs) end (λ e. absurd cc) none (no_end free) a)
+        by (ends line rest is free) = first_verdict (b ∷ bs) line rest end (bytes_eq line first_words) refl is free a
+
+    -- ---- laws
+
+    pub agrees : (bytes : List ℕ) (end : Checking) (v : Verdict) → After has clause_of (unread p) bytes end → (ended end ≡ v) ↔ HasVerdict has clause_of p bytes v
+    agrees bytes end v a = ((λ e. subst (λ (x : Verdict). HasVerdict has clause_of p bytes x) e (some_verdict bytes end a)), (λ h. told bytes end v a h))
+
+    refuted_text : (bytes : List ℕ) → HasVerdict has clause_of p bytes Refuted → IsAcceptedText has clause_of p bytes
+    refuted_text bytes (of_log steps w text is) = record { steps = steps; writable = w; text = text; accepted = is }
+    refuted_text bytes (of_no_log more none is) = absurd cc
+    refuted_text bytes (of_fault rest number k reason first stop fails is) = absurd cc
+    refuted_text bytes (of_no_line rest number clauses first stop adds is) = absurd cc
+
+    pub accepted_text : (bytes : List ℕ) (end : Checking) → After has clause_of (unread p) bytes end → (ended end ≡ Refuted) ↔ IsAcceptedText has clause_of p bytes
+    accepted_text bytes end a = (
+      (λ e. refuted_text bytes ((agrees bytes end Refuted a).0 e)),
+      (λ x. (agrees bytes end Refuted a).1 (of_log x.steps x.writable x.text x.accepted)),
+    )

@@ -1,133 +1,196 @@
--- Laws of verdicts.
-use Rattle.std.proofs.Common.{◌≡◌, ◌+◌, ◌<◌, ◌==◌, ℕ, suc, List, [], ◌∷◌, ◌++◌, drop, drop-cons, get_or, length, Bool, true, false, not, cond, ◌&&◌, ◌↔◌, Result, Ok, Err, refl, sym, ap, ◌∙◌, subst, add-one}
-use Rattle.std.proofs.Math.Dec.{eqb-suc-zero}
-use Rattle.std.specs.List.{list_all}
-use Rattle.std.proofs.lemmas.List.Folds.{list_all-append}
-use Rattle.std.proofs.lemmas.Bool.{and_parts, and_from, true≢false}
-use Rattle.sc_clauses.specs.Clauses.{Clause, negation, is_in}
-use Rattle.sc_footprint.specs.Problems.{Posed, atoms}
-use Rattle.sc_footprint.specs.Definitions.{defining}
-use Rattle.sc_clauses.specs.declared.step.Instance as instance
+-- What a checker holds after the steps of a log tells the verdict on it.
+use Rattle.std.proofs.Common.{◌≡◌, ◌≢◌, ◌+◌, ◌↔◌, ℕ, List, [], ◌∷◌, ◌++◌, length, Bool, true, false, Option, Some, None, Result, Ok, Err, refl, sym, ap, ◌∙◌, subst, arith}
+use Rattle.std.proofs.lemmas.Bool.{true≢false}
+use Rattle.std.proofs.lemmas.List.{append-nil, append_assoc}
+use Rattle.sc_clauses.specs.Clauses.{Clause}
+use Rattle.sc_clauses.specs.declared.step.Instance.{Instance}
 use Rattle.sc_clauses.specs.declared.step.Step.{Step}
-use Rattle.sc_clauses.specs.declared.step.Step.TheVariants.{Instance, Learned}
+use Rattle.sc_clauses.specs.declared.step.Step.TheVariants.{Instance as Taken, Learned}
 use Rattle.sc_checker.specs.declared.checking.Reason.{Reason}
-use Rattle.sc_checker.specs.declared.checking.Reason.TheVariants.{NoInstance, NotEmpty, NotRefuted}
+use Rattle.sc_checker.specs.declared.checking.Reason.TheVariants.{NotEmpty}
 use Rattle.sc_checker.specs.declared.checking.Verdict.{Verdict}
 use Rattle.sc_checker.specs.declared.checking.Verdict.TheVariants.{Refuted, Rejected}
-use Rattle.sc_refutations.specs.Refutations.{negated, refutes, is_nil, is_listed, is_clause, are_listed}
-use Rattle.sc_checker.specs.Verdicts.{Rules, added, Adds, no_step, first_step, IsAccepted, next, verdict_from, verdict}
+use Rattle.sc_refutations.specs.Refutations.{is_nil}
+use Rattle.sc_footprint.specs.Problems.{Posed, atoms}
+use Rattle.sc_footprint.specs.Definitions.{defining}
+use Rattle.sc_checker.specs.Progress.{Progress, start, taken, AfterSteps, verdict_at, verdict_of}
+use Rattle.sc_checker.specs.Verdicts.{IsAdded, Adds, no_step, first_step, FailsAt, adds_none, not_empty, IsVerdictOn}
+use Rattle.sc_checker.proofs.ProgressLaws.{added_once, step_taken, steps_split, steps_stay, nil_is}
 
-nil_length : (c : Clause) → is_nil c ≡ (length c == 0)
-nil_length [] = refl
-nil_length (l ∷ c) = sym (eqb-suc-zero (length c))
+-- ---- the last clause
 
-listed_part : (n : ℕ) (a c : Clause) → list_all (λ l. is_listed n l && not (is_in a (negation l))) c ≡ true → list_all (is_listed n) c ≡ true
-listed_part n a [] e = refl
-listed_part n a (l ∷ c) e =
-    let parts = and_parts (is_listed n l && not (is_in a (negation l))) _ e in
-    and_from (is_listed n l) (list_all (is_listed n) c) (and_parts (is_listed n l) _ parts.0).0 (listed_part n a c parts.1)
+-- whether the last clause is empty; where there is none, whether the one before was
+abbrev last_is_empty : Bool → List Clause → Bool
+last_is_empty was [] = was
+last_is_empty was (c ∷ cs) = last_is_empty (is_nil c) cs
 
-added_listed_at : (n : ℕ) (d c : Clause) (a b : Bool) → is_clause n d ≡ a → cond (a && b) (Ok d) (Err NotRefuted) ≡ Ok c → list_all (is_listed n) c ≡ true
-added_listed_at n d c true true e is = let same : d ≡ c = cc in subst (λ (x : Clause). list_all (is_listed n) x ≡ true) same (listed_part n d d e)
-added_listed_at n d c true false e is = absurd cc
-added_listed_at n d c false b e is = absurd cc
+ends_empty : (was : Bool) (before : List Clause) → last_is_empty was (before ++ [] ∷ []) ≡ true
+ends_empty was [] = refl
+ends_empty was (c ∷ before) = ends_empty (is_nil c) before
 
-instance_listed_at : (n : ℕ) (d c : Clause) (b : Bool) → (b ≡ true → list_all (is_listed n) d ≡ true) → cond b (Ok d) (Err NoInstance) ≡ Ok c → list_all (is_listed n) c ≡ true
-instance_listed_at n d c true e is = let same : d ≡ c = cc in subst (λ (x : Clause). list_all (is_listed n) x ≡ true) same (e refl)
-instance_listed_at n d c false e is = absurd cc
+ends_open : (clauses : List Clause) → last_is_empty false clauses ≡ false → (before : List Clause) → clauses ≢ before ++ [] ∷ []
+ends_open clauses e before is = true≢false (sym (ends_empty false before) ∙ (ap (last_is_empty false) (sym is) ∙ e))
 
--- each instance of the rules has a clause of listed atoms
-abbrev pub AreListed : Rules → ℕ → Type 0
-AreListed rules n = (i : instance.Instance) → rules.accepts i ≡ true → list_all (is_listed n) (rules.clause_of i) ≡ true
+-- the clauses before a last one that is empty
+before_last : (c : Clause) (cs : List Clause) → last_is_empty (is_nil c) cs ≡ true → (before : List Clause) × (c ∷ cs ≡ before ++ [] ∷ [])
+before_last c [] e = ([], ap (λ (d : Clause). d ∷ []) (nil_is c e))
+before_last c (d ∷ cs) e = let (before, is) = before_last d cs e in (c ∷ before, ap (λ (ds : List Clause). c ∷ ds) is)
 
-added_listed : (rules : Rules) (n : ℕ) (clauses : List Clause) (s : Step) (c : Clause) → AreListed rules n → added rules n clauses s ≡ Ok c → list_all (is_listed n) c ≡ true
-added_listed rules n clauses (Instance i) c lawful e = instance_listed_at n (rules.clause_of i) c (rules.accepts i) (lawful i) e
-added_listed rules n clauses (Learned l) c lawful e = added_listed_at n l.clause c _ (refutes clauses (negated l.clause) l.hints) refl e
+open_by : (clauses : List Clause) (b : Bool) → last_is_empty false clauses ≡ b → ((before : List Clause) → clauses ≢ before ++ [] ∷ []) → b ≡ false
+open_by clauses false e none = refl
+open_by [] true e none = absurd (true≢false (sym e))
+open_by (c ∷ cs) true e none = let (before, is) = before_last c cs e in absurd (none before is)
 
--- a clause that is added has literals of listed atoms
-pub listed_more : (rules : Rules) (n m : ℕ) (clauses : List Clause) (s : Step) (c : Clause) → AreListed rules n → m ≡ n → are_listed n clauses ≡ true → Ok c ≡ added rules m clauses s → are_listed n (clauses ++ c ∷ []) ≡ true
-listed_more rules n m clauses s c lawful same e is =
-    list_all-append (list_all (is_listed n)) clauses (c ∷ [])
-    ∙ and_from _ _ e (and_from _ _ (added_listed rules n clauses s c lawful (ap (λ k. added rules k clauses s) (sym same) ∙ sym is)) refl)
+open_ends : (clauses : List Clause) → ((before : List Clause) → clauses ≢ before ++ [] ∷ []) → last_is_empty false clauses ≡ false
+open_ends clauses none = open_by clauses (last_is_empty false clauses) refl none
 
--- the verdict after a step that adds a clause
-pub verdict_more : (rules : Rules) (n m : ℕ) (clauses : List Clause) (number : ℕ) (is_empty : Bool) (steps : List Step) (k : ℕ) (s : Step) (c : Clause) → m ≡ n → k < length steps → s ≡ get_or steps k s → Ok c ≡ added rules m clauses s
-    → verdict_from rules n (clauses ++ c ∷ []) (number + 1) (length c == 0) (drop (k + 1) steps) ≡ verdict_from rules n clauses number is_empty (drop k steps)
-verdict_more rules n m clauses number is_empty steps k s c same h at is =
-    let here : drop k steps ≡ s ∷ drop (k + 1) steps = rw add-one (drop-cons steps k s h ∙ ap (λ x. x ∷ drop (suc k) steps) (sym at)) in
-    let adds : added rules n clauses s ≡ Ok c = ap (λ j. added rules j clauses s) (sym same) ∙ sym is in
-    sym (ap (verdict_from rules n clauses number is_empty) here
-    ∙ ap (λ r. next r (number + 1) (λ d. verdict_from rules n (clauses ++ d ∷ []) (number + 1) (is_nil d) (drop (k + 1) steps))) adds
-    ∙ ap (λ b. verdict_from rules n (clauses ++ c ∷ []) (number + 1) b (drop (k + 1) steps)) (nil_length c))
+-- ---- steps that each add a clause
 
--- ---- the logs with verdict Refuted are the accepted ones
+-- what is held after steps that add these clauses
+pub record HasAdded (g h : Progress) (steps : List Step) (cs : List Clause) : Type 0 where
+  pub no_fault : h.fault ≡ None
+  pub count : h.steps ≡ g.steps + length steps
+  pub last : h.is_empty ≡ last_is_empty g.is_empty cs
+  pub clauses : h.clauses ≡ g.clauses ++ cs
+  pub listed : h.listed ≡ g.listed
 
--- the clauses that steps add, the last of which is empty, or there is no step and the clause before was empty
-data Ends (rules : Rules) (n : ℕ) (clauses : List Clause) (is_empty : Bool) (steps : List Step) : Type 0 where
-  ends_at_once : is_empty ≡ true → steps ≡ [] → Ends rules n clauses is_empty steps
-  ends_later : (before : List Clause) → Adds rules n clauses steps (before ++ [] ∷ []) → Ends rules n clauses is_empty steps
+pub nothing_added : (g h : Progress) → g.fault ≡ None → h ≡ g → HasAdded g h [] []
+nothing_added g h none same =
+    subst (λ (x : Progress). HasAdded g x [] []) (sym same) (record { no_fault = none; count = omega arith; last = refl; clauses = sym (append-nil g.clauses); listed = refl })
 
-pub nil_is : (c : Clause) → is_nil c ≡ true → c ≡ []
-nil_is [] e = refl
-nil_is (l ∷ c) e = absurd (true≢false (sym e))
+pub one_added : (g h : Progress) (s : Step) (ss : List Step) (c : Clause) (cs : List Clause) → HasAdded (taken (Ok c) g) h ss cs → HasAdded g h (s ∷ ss) (c ∷ cs)
+one_added g h s ss c cs a =
+    let count = a.count in
+    record { no_fault = a.no_fault; count = omega (arith, count); last = a.last; clauses = a.clauses ∙ append_assoc g.clauses (c ∷ []) cs; listed = a.listed }
 
-end_refuted : (rules : Rules) (n : ℕ) (clauses : List Clause) (number : ℕ) (b : Bool) → cond b Refuted (Rejected number NotEmpty) ≡ Refuted → Ends rules n clauses b []
-end_refuted rules n clauses number true e = ends_at_once refl refl
-end_refuted rules n clauses number false e = absurd cc
+abbrev fault_at : ℕ → Reason → Option (ℕ × Reason)
+fault_at k reason = Some (k, reason)
 
-step_refuted : (rules : Rules) (n : ℕ) (clauses : List Clause) (is_empty : Bool) (s : Step) (c : Clause) (ss : List Step) → added rules n clauses s ≡ Ok c → Ends rules n (clauses ++ c ∷ []) (is_nil c) ss → Ends rules n clauses is_empty (s ∷ ss)
-step_refuted rules n clauses is_empty s c ss e (ends_at_once nil none) =
-    ends_later [] (subst (λ (x : List Step). Adds rules n clauses (s ∷ x) ([] ∷ [])) (sym none)
-    (subst (λ (d : Clause). Adds rules n clauses (s ∷ []) (d ∷ [])) (nil_is c nil) (first_step e no_step)))
-step_refuted rules n clauses is_empty s c ss e (ends_later before adds) = ends_later (c ∷ before) (first_step e adds)
+-- the number of the step at fault
+fault_after : (first here size : ℕ) (reason : Reason) → here ≡ first + size → fault_at (here + 1) reason ≡ fault_at (first + size + 1) reason
+fault_after first here size reason e = ap (λ (k : ℕ). fault_at (k + 1) reason) e
 
-next_refuted : (rules : Rules) (n : ℕ) (clauses : List Clause) (number : ℕ) (is_empty : Bool) (s : Step) (ss : List Step) (r : Result Clause Reason) → added rules n clauses s ≡ r
-    → next r number (λ c. verdict_from rules n (clauses ++ c ∷ []) number (is_nil c) ss) ≡ Refuted
-    → ((c : Clause) → verdict_from rules n (clauses ++ c ∷ []) number (is_nil c) ss ≡ Refuted → Ends rules n (clauses ++ c ∷ []) (is_nil c) ss) → Ends rules n clauses is_empty (s ∷ ss)
-next_refuted rules n clauses number is_empty s ss (Ok c) is e rest = step_refuted rules n clauses is_empty s c ss is (rest c e)
-next_refuted rules n clauses number is_empty s ss (Err reason) is e rest = absurd cc
+-- each step adds a clause, or some step is the first that adds none
+pub data Went (has : Instance → Type 0) (clause_of : Instance → Clause) (g h : Progress) (steps : List Step) : Type 0 where
+  went_all : (cs : List Clause) → Adds has clause_of g.listed g.clauses steps cs → HasAdded g h steps cs → Went has clause_of g h steps
+  went_until : (before later : List Step) (s : Step) (cs : List Clause) (reason : Reason) → steps ≡ before ++ s ∷ later → Adds has clause_of g.listed g.clauses before cs
+      → IsAdded has clause_of g.listed (g.clauses ++ cs) s (Err reason) → h.fault ≡ Some (g.steps + length before + 1, reason) → Went has clause_of g h steps
 
-refuted_ends : (rules : Rules) (n : ℕ) (clauses : List Clause) (number : ℕ) (is_empty : Bool) (steps : List Step) → verdict_from rules n clauses number is_empty steps ≡ Refuted → Ends rules n clauses is_empty steps
-refuted_ends rules n clauses number is_empty [] e = end_refuted rules n clauses number is_empty e
-refuted_ends rules n clauses number is_empty (s ∷ ss) e =
-    next_refuted rules n clauses (number + 1) is_empty s ss (added rules n clauses s) refl e (λ c f. refuted_ends rules n (clauses ++ c ∷ []) (number + 1) (is_nil c) ss f)
+module _ (has : Instance → Type 0) (clause_of : Instance → Clause) where
+  -- where the clauses are these, the step leaves just this
+  taken_as : (n : ℕ) (clauses : List Clause) (g h : Progress) (s : Step) (ss : List Step) (r : Result Clause Reason) → g.listed ≡ n → g.clauses ≡ clauses → g.fault ≡ None → IsAdded has clause_of n clauses s r
+      → AfterSteps has clause_of g (s ∷ ss) h → AfterSteps has clause_of (taken r g) ss h
+  unfolding AfterSteps
+  taken_as n clauses g h s ss r listed are none adds a =
+      let t = step_taken has clause_of g a.0 s none a.1 in
+      let there : IsAdded has clause_of n clauses s t.outcome
+      = subst (λ (ds : List Clause). IsAdded has clause_of n ds s t.outcome) are (subst (λ (m : ℕ). IsAdded has clause_of m g.clauses s t.outcome) listed t.is_so) in
+      let same : t.outcome ≡ r = added_once has clause_of n clauses s t.outcome r there adds in
+      subst (λ (x : Progress). AfterSteps has clause_of x ss h) (t.leaves ∙ ap (λ (x : Result Clause Reason). taken x g) same) a.2
 
-ends_accepted : (rules : Rules) (p : Posed) (steps : List Step) → Ends rules (length (atoms p)) (defining p) false steps → IsAccepted rules p steps
-ends_accepted rules p steps (ends_at_once e none) = absurd (true≢false (sym e))
-ends_accepted rules p steps (ends_later before adds) = record { before = before; steps_add = adds }
+  pub adds_leave : (n : ℕ) (clauses : List Clause) (steps : List Step) (cs : List Clause) → Adds has clause_of n clauses steps cs → (g h : Progress) → g.listed ≡ n → g.clauses ≡ clauses → g.fault ≡ None
+      → AfterSteps has clause_of g steps h → HasAdded g h steps cs
+  unfolding AfterSteps
+  adds_leave n _ _ _ (no_step clauses) g h listed are none a = nothing_added g h none a
+  adds_leave n _ _ _ (first_step clauses s ss c cs adds rest) g h listed are none a =
+      one_added g h s ss c cs
+      (adds_leave n (clauses ++ c ∷ []) ss cs rest (taken (Ok c) g) h listed (ap (λ (ds : List Clause). ds ++ c ∷ []) are) none (taken_as n clauses g h s ss (Ok c) listed are none adds a))
 
-no_end : (before : List Clause) → before ++ [] ∷ [] ≡ [] → ⊥
-no_end [] e = cc
-no_end (c ∷ before) e = cc
+  pub fails_leave : (n : ℕ) (clauses : List Clause) (before later : List Step) (s : Step) (cs : List Clause) (reason : Reason) (g h : Progress) → Adds has clause_of n clauses before cs → IsAdded has clause_of n (clauses ++ cs) s (Err reason)
+      → g.listed ≡ n → g.clauses ≡ clauses → g.fault ≡ None → AfterSteps has clause_of g (before ++ s ∷ later) h → h.fault ≡ Some (g.steps + length before + 1, reason)
+  fails_leave n clauses before later s cs reason g h adds fails listed are none a =
+      let k = steps_split has clause_of g h before (s ∷ later) a in
+      let x = adds_leave n clauses before cs adds g k.0 listed are none k.1 in
+      let there = taken_as n (clauses ++ cs) k.0 h s later (Err reason) (x.listed ∙ listed) (x.clauses ∙ ap (λ (ds : List Clause). ds ++ cs) are) x.no_fault fails k.2 in
+      let stays = steps_stay has clause_of (taken (Err reason) k.0) h later (k.0.steps + 1, reason) refl there in
+      ap (λ (y : Progress). y.fault) stays ∙ fault_after g.steps k.0.steps (length before) reason x.count
 
-nil_is_nil : (c : Clause) → c ≡ [] → is_nil c ≡ true
-nil_is_nil [] e = refl
-nil_is_nil (l ∷ c) e = absurd cc
+  -- ---- how far steps went
 
-last_refuted : (rules : Rules) (n : ℕ) (clauses : List Clause) (number : ℕ) (c : Clause) (steps : List Step) (cs : List Clause) → Adds rules n clauses steps cs → c ∷ cs ≡ [] ∷ [] → verdict_from rules n clauses number (is_nil c) steps ≡ Refuted
-last_refuted rules n clauses number c [] [] no_step e = let empty : is_nil c ≡ true = nil_is_nil c cc in rw empty refl
-last_refuted rules n clauses number c [] (d ∷ cs) adds e = elim adds [ ]
-last_refuted rules n clauses number c (s ∷ ss) [] adds e = elim adds [ ]
-last_refuted rules n clauses number c (s ∷ ss) (d ∷ cs) (first_step is rest) e = absurd cc
+  went_on : (g h : Progress) (s : Step) (ss : List Step) (c : Clause) → IsAdded has clause_of g.listed g.clauses s (Ok c) → Went has clause_of (taken (Ok c) g) h ss → Went has clause_of g h (s ∷ ss)
+  went_on g h s ss c adds (went_all cs rest x) = went_all (c ∷ cs) (first_step g.clauses s ss c cs adds rest) (one_added g h s ss c cs x)
+  went_on g h s ss c adds (went_until before later t cs reason whole rest fails fault) =
+      let count : g.steps + 1 + length before + 1 ≡ g.steps + length (s ∷ before) + 1 = omega arith in
+      went_until (s ∷ before) later t (c ∷ cs) reason (ap (λ (xs : List Step). s ∷ xs) whole) (first_step g.clauses s before c cs adds rest)
+      (subst (λ (ds : List Clause). IsAdded has clause_of g.listed ds t (Err reason)) (append_assoc g.clauses (c ∷ []) cs) fails) (fault ∙ ap (λ (k : ℕ). fault_at k reason) count)
 
-rest_refuted : (rules : Rules) (n : ℕ) (clauses : List Clause) (number : ℕ) (c : Clause) (steps : List Step) (cs before : List Clause) → Adds rules n clauses steps cs → c ∷ cs ≡ before ++ [] ∷ []
-    → ((b : List Clause) → cs ≡ b ++ [] ∷ [] → verdict_from rules n clauses number (is_nil c) steps ≡ Refuted) → verdict_from rules n clauses number (is_nil c) steps ≡ Refuted
-rest_refuted rules n clauses number c steps cs [] adds e later = last_refuted rules n clauses number c steps cs adds e
-rest_refuted rules n clauses number c steps cs (b ∷ before) adds e later = later before cc
+  went_by : (g h : Progress) (s : Step) (ss : List Step) (r : Result Clause Reason) → g.fault ≡ None → IsAdded has clause_of g.listed g.clauses s r → AfterSteps has clause_of (taken r g) ss h
+      → ((k : Progress) → k.fault ≡ None → AfterSteps has clause_of k ss h → Went has clause_of k h ss) → Went has clause_of g h (s ∷ ss)
+  went_by g h s ss (Ok c) none adds a later = went_on g h s ss c adds (later (taken (Ok c) g) none a)
+  went_by g h s ss (Err reason) none adds a later =
+      let stays = steps_stay has clause_of (taken (Err reason) g) h ss (g.steps + 1, reason) refl a in
+      let count : g.steps ≡ g.steps + 0 = omega arith in
+      went_until [] ss s [] reason refl (no_step g.clauses) (subst (λ (ds : List Clause). IsAdded has clause_of g.listed ds s (Err reason)) (sym (append-nil g.clauses)) adds)
+      (ap (λ (y : Progress). y.fault) stays ∙ fault_after g.steps g.steps 0 reason count)
 
-adds_refuted : (rules : Rules) (n : ℕ) (clauses : List Clause) (number : ℕ) (is_empty : Bool) (steps : List Step) (cs before : List Clause) → Adds rules n clauses steps cs → cs ≡ before ++ [] ∷ [] → verdict_from rules n clauses number is_empty steps ≡ Refuted
-adds_refuted rules n clauses number is_empty [] [] before no_step e = absurd (no_end before (sym e))
-adds_refuted rules n clauses number is_empty [] (c ∷ cs) before adds e = elim adds [ ]
-adds_refuted rules n clauses number is_empty (s ∷ ss) [] before adds e = elim adds [ ]
-adds_refuted rules n clauses number is_empty (s ∷ ss) (c ∷ cs) before (first_step is rest) e =
-    ap (λ r. next r (number + 1) (λ d. verdict_from rules n (clauses ++ d ∷ []) (number + 1) (is_nil d) ss)) is
-    ∙ rest_refuted rules n (clauses ++ c ∷ []) (number + 1) c ss cs before rest e (λ b f. adds_refuted rules n (clauses ++ c ∷ []) (number + 1) (is_nil c) ss cs b rest f)
+  pub went : (g h : Progress) (steps : List Step) → g.fault ≡ None → AfterSteps has clause_of g steps h → Went has clause_of g h steps
+  unfolding AfterSteps
+  went g h [] none a = went_all [] (no_step g.clauses) (nothing_added g h none a)
+  went g h (s ∷ ss) none a =
+      let t = step_taken has clause_of g a.0 s none a.1 in
+      went_by g h s ss t.outcome none t.is_so (subst (λ (x : Progress). AfterSteps has clause_of x ss h) t.leaves a.2) (λ k e b. went k h ss e b)
 
-pub refuted_accepted : (rules : Rules) (p : Posed) (steps : List Step) → (verdict rules p steps ≡ Refuted) ↔ IsAccepted rules p steps
-refuted_accepted rules p steps = (
-  (λ e. ends_accepted rules p steps (refuted_ends rules (length (atoms p)) (defining p) 0 false steps e)),
-  (λ a. adds_refuted rules (length (atoms p)) (defining p) 0 false steps (a.before ++ [] ∷ []) a.before a.steps_add refl),
-)
+  -- ---- the verdict
 
-pub accepted_at : (rules : Rules) (p : Posed) (steps : List Step) (v : Verdict) → v ≡ verdict rules p steps → (v ≡ Refuted) ↔ IsAccepted rules p steps
-accepted_at rules p steps v is = ((λ e. (refuted_accepted rules p steps).0 (sym is ∙ e)), (λ a. is ∙ (refuted_accepted rules p steps).1 a))
+  all_verdict : (p : Posed) (steps : List Step) (cs : List Clause) (number : ℕ) (b : Bool) → Adds has clause_of (length (atoms p)) (defining p) steps cs → b ≡ last_is_empty false cs → number ≡ 0 + length steps
+      → IsVerdictOn has clause_of p steps (verdict_at None number b)
+  all_verdict p steps [] number true adds e count = absurd (true≢false e)
+  all_verdict p steps (c ∷ cs) number true adds e count =
+      let last = before_last c cs (sym e) in
+      record { before = last.0; steps_add = subst (λ (ds : List Clause). Adds has clause_of (length (atoms p)) (defining p) steps ds) last.1 adds }
+  all_verdict p steps cs number false adds e count = not_empty cs adds (ends_open cs (sym e)) (omega (arith, count)) refl
+
+  by_went : (p : Posed) (steps : List Step) (h : Progress) → Went has clause_of (start p) h steps → IsVerdictOn has clause_of p steps (verdict_of h)
+  by_went p steps h (went_all cs adds x) =
+      subst (λ (o : Option (ℕ × Reason)). IsVerdictOn has clause_of p steps (verdict_at o h.steps h.is_empty)) (sym x.no_fault) (all_verdict p steps cs h.steps h.is_empty adds x.last x.count)
+  by_went p steps h (went_until before later s cs reason whole adds fails fault) =
+      subst (λ (o : Option (ℕ × Reason)). IsVerdictOn has clause_of p steps (verdict_at o h.steps h.is_empty)) (sym fault)
+      (adds_none (record { before = before; step = s; later = later; clauses = cs; are_all = whole; before_add = adds; fails = fails; number_is = omega arith }))
+
+  pub verdict_is : (p : Posed) (steps : List Step) (h : Progress) → AfterSteps has clause_of (start p) steps h → IsVerdictOn has clause_of p steps (verdict_of h)
+  verdict_is p steps h a = by_went p steps h (went (start p) h steps refl a)
+
+  -- a step at fault is told
+  pub fault_told : (p : Posed) (steps : List Step) (k : ℕ) (reason : Reason) (h : Progress) → FailsAt has clause_of p steps k reason → AfterSteps has clause_of (start p) steps h → h.fault ≡ Some (k, reason)
+  fault_told p steps k reason h f a =
+      let number = f.number_is in
+      let count : 0 + length f.before + 1 ≡ k = omega (arith, number) in
+      fails_leave (length (atoms p)) (defining p) f.before f.later f.step f.clauses reason (start p) h f.before_add f.fails refl refl refl
+      (subst (λ (ss : List Step). AfterSteps has clause_of (start p) ss h) f.are_all a)
+      ∙ ap (λ (j : ℕ). fault_at j reason) count
+
+  pub told_verdict : (p : Posed) (steps : List Step) (h : Progress) (v : Verdict) → AfterSteps has clause_of (start p) steps h → IsVerdictOn has clause_of p steps v → verdict_of h ≡ v
+  told_verdict p steps h Refuted a accepted =
+      let x = adds_leave (length (atoms p)) (defining p) steps (accepted.before ++ [] ∷ []) accepted.steps_add (start p) h refl refl refl a in
+      let empty : h.is_empty ≡ true = x.last ∙ ends_empty false accepted.before in
+      λ i. verdict_at (x.no_fault i) h.steps (empty i)
+  told_verdict p steps h (Rejected k reason) a (adds_none f) = ap (λ (o : Option (ℕ × Reason)). verdict_at o h.steps h.is_empty) (fault_told p steps k reason h f a)
+  told_verdict p steps h (Rejected k reason) a (not_empty cs adds none number why) =
+      let x = adds_leave (length (atoms p)) (defining p) steps cs adds (start p) h refl refl refl a in
+      let opened : h.is_empty ≡ false = x.last ∙ open_ends cs none in
+      let count = x.count in
+      let same : h.steps ≡ k = omega (arith, count, number) in
+      (λ i. verdict_at (x.no_fault i) h.steps (opened i)) ∙ (ap (λ (j : ℕ). Rejected j NotEmpty) same ∙ ap (λ (r : Reason). Rejected k r) (sym why))
+
+  -- what the check of a log finds
+  pub verdict_found : (p : Posed) (log steps : List Step) (g h : Progress) (v : Verdict) → g ≡ start p → steps ≡ log → AfterSteps has clause_of g steps h → v ≡ verdict_of h → (u : Verdict) → (v ≡ u) ↔ IsVerdictOn has clause_of p log u
+  verdict_found p log steps g h v first same a told u =
+      let all : AfterSteps has clause_of (start p) log h
+      = subst (λ (ss : List Step). AfterSteps has clause_of (start p) ss h) same (subst (λ (x : Progress). AfterSteps has clause_of x steps h) first a) in (
+        (λ e. subst (IsVerdictOn has clause_of p log) (sym told ∙ e) (verdict_is p log h all)),
+        (λ is. told ∙ told_verdict p log h u all is),
+      )
+
+-- ---- rules that have more instances
+
+added_by_more : (has more : Instance → Type 0) (clause_of : Instance → Clause) → ((i : Instance) → has i → more i) → (n : ℕ) (clauses : List Clause) (s : Step) (c : Clause) → IsAdded has clause_of n clauses s (Ok c)
+    → IsAdded more clause_of n clauses s (Ok c)
+added_by_more has more clause_of wider n clauses (Taken i) c a = (wider i a.0, a.1)
+added_by_more has more clause_of wider n clauses (Learned l) c a = a
+
+-- what steps add by rules they add by rules that have more instances
+pub adds_by_more : (has more : Instance → Type 0) (clause_of : Instance → Clause) → ((i : Instance) → has i → more i) → (n : ℕ) (clauses : List Clause) (steps : List Step) (cs : List Clause) → Adds has clause_of n clauses steps cs
+    → Adds more clause_of n clauses steps cs
+adds_by_more has more clause_of wider n _ _ _ (no_step clauses) = no_step clauses
+adds_by_more has more clause_of wider n _ _ _ (first_step clauses s ss c cs adds rest) =
+    first_step clauses s ss c cs (added_by_more has more clause_of wider n clauses s c adds) (adds_by_more has more clause_of wider n (clauses ++ c ∷ []) ss cs rest)

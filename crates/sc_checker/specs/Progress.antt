@@ -2,6 +2,7 @@
 use Rattle.std.specs.Prelude.{◌≡◌, ◌<◌, ◌+◌, ℕ, List, [], ◌∷◌, ◌++◌, Bool, true, false, Option, Some, None, Result, Ok, Err, IsTrue, length, if◌then◌else◌}
 use Rattle.std.specs.List.{AllByRecursion, Contains}
 use Rattle.sc_clauses.specs.Clauses.{Clause}
+use Rattle.sc_clauses.specs.declared.step.Instance.{Instance}
 use Rattle.sc_clauses.specs.declared.step.Step.{Step}
 use Rattle.sc_world.specs.declared.world.World.{World}
 use Rattle.sc_footprint.specs.Problems.{Posed, atoms}
@@ -12,7 +13,7 @@ use Rattle.sc_checker.specs.declared.checking.Reason.TheVariants.{NotEmpty}
 use Rattle.sc_checker.specs.declared.checking.Verdict.{Verdict}
 use Rattle.sc_checker.specs.declared.checking.Verdict.TheVariants.{Refuted, Rejected}
 use Rattle.sc_refutations.specs.Refutations.{is_nil, are_listed}
-use Rattle.sc_checker.specs.Verdicts.{Rules, added}
+use Rattle.sc_checker.specs.Verdicts.{IsAdded}
 
 -- how many atoms are listed, how many steps there were, the defining clauses and those that the steps added, whether the last
 -- step's clause is empty, and the least step at fault with its reason
@@ -44,17 +45,26 @@ abbrev pub taken : Result Clause Reason → Progress → Progress
 taken (Ok c) g = grown c (counted g)
 taken (Err reason) g = failed (g.steps + 1) reason (counted g)
 
+-- after a step that does one of these
+pub record IsTaken (P : Result Clause Reason → Type 0) (g h : Progress) : Type 0 where
+  pub outcome : Result Clause Reason
+  pub is_so : P outcome
+  pub leaves : h ≡ taken outcome g
+
+-- what a step leaves
+pub data AfterStep (has : Instance → Type 0) (clause_of : Instance → Clause) (g : Progress) (s : Step) (h : Progress) : Type 0 where
+  is_past_fault : (fault : ℕ × Reason) → g.fault ≡ Some fault → h ≡ g → AfterStep has clause_of g s h
+  is_taken : g.fault ≡ None → IsTaken (IsAdded has clause_of g.listed g.clauses s) g h → AfterStep has clause_of g s h
+
+-- what steps leave, one after another
+unfoldable pub AfterSteps : (Instance → Type 0) → (Instance → Clause) → Progress → List Step → Progress → Type 0
+AfterSteps has clause_of g [] h = h ≡ g
+AfterSteps has clause_of g (s ∷ ss) h = (k : Progress) × AfterStep has clause_of g s k × AfterSteps has clause_of k ss h
+
 -- a fault stays: nothing after it is looked at
 abbrev pub unless_at_fault : {X : Type 0} → Option (ℕ × Reason) → X → X → X
 unless_at_fault None here next = next
 unless_at_fault (Some fault) here next = here
-
-abbrev pub after_step : Rules → Progress → Step → Progress
-after_step rules g s = unless_at_fault g.fault g (taken (added rules g.listed g.clauses s) g)
-
-abbrev pub after_steps : Rules → Progress → List Step → Progress
-after_steps rules g [] = g
-after_steps rules g (s ∷ ss) = after_steps rules (after_step rules g s) ss
 
 -- the verdict where the fault is this, or the steps end here, the last one with an empty clause or not
 abbrev pub verdict_at : Option (ℕ × Reason) → ℕ → Bool → Verdict

@@ -1,7 +1,7 @@
 //! The checker of logs.
 ghost use Rattle.std.specs.Prelude.{◌≡◌, ◌↔◌, ℕ, IfOk, OnOk};
-ghost use Rattle.sc_checker.specs.Progress.{IsChecked, after_steps};
-ghost use Rattle.sc_checker.specs.Verdicts.{Rules as AnyRules, AreRules, IsAccepted, IsRejected, verdict};
+ghost use Rattle.sc_checker.specs.Progress.{IsChecked, AfterSteps};
+ghost use Rattle.sc_checker.specs.Verdicts.{IsAccepted, IsRejected, IsVerdictOn};
 ghost use Rattle.sc_footprint.specs.Truths.{IsUnsatisfiable};
 
 use crate::steps::StepChecker;
@@ -47,8 +47,8 @@ fn take_steps<T: Theory>(
     steps: &[Step],
 ) -> Result<(), AllocError>
     requires { IsChecked problem.now checker.old }
-    ensures taken { OnOk result ((tests : AnyRules) → AreRules T.has_instance T.clause_of rules.now problem.now tests
-        → checker.new ≡ after_steps tests checker.old steps.now) }
+    ensures taken { OnOk result (AfterSteps (T.has_instance rules.now problem.now) (T.clause_of rules.now problem.now)
+        checker.old steps.now checker.new) }
     ensures checked { OnOk result (IsChecked problem.now checker.new) }
 {
     for step in steps {
@@ -64,19 +64,16 @@ pub fn check<T: Theory>(
     problem: &Problem<'_>,
     log: &Log,
 ) -> Result<Verdict, AllocError>
-    // The verdict is exact, by each test that tells just the instances of the rules: which step is the
-    // first at fault, and why.
-    ensures exact { IfOk result (λ v. (tests : AnyRules)
-        → AreRules T.has_instance T.clause_of rules.now problem.now tests
-        → v ≡ verdict tests problem.now log.now) }
+    // The verdict is exact: which step is the first at fault, and why.
+    ensures exact { IfOk result (IsVerdictOn (T.has_instance rules.now problem.now) (T.clause_of rules.now problem.now)
+        problem.now log.now) }
     // The logs that refute the goal are those that are accepted.
-    ensures accepted { IfOk result (λ v. (tests : AnyRules)
-        → AreRules T.has_instance T.clause_of rules.now problem.now tests
-        → (v ≡ Verdict.Refuted) ↔ IsAccepted tests problem.now log.now) }
+    ensures accepted { IfOk result (λ v. (v ≡ Verdict.Refuted)
+        ↔ IsAccepted (T.has_instance rules.now problem.now) (T.clause_of rules.now problem.now) problem.now log.now) }
     // A log is rejected at its least step at fault, for what that step lacks.
-    ensures rejected { IfOk result (λ v. (number : ℕ) (reason : Reason) (tests : AnyRules)
-        → AreRules T.has_instance T.clause_of rules.now problem.now tests
-        → (v ≡ Verdict.Rejected number reason) ↔ IsRejected tests problem.now log.now number reason) }
+    ensures rejected { IfOk result (λ v. (number : ℕ) (reason : Reason) → (v ≡ Verdict.Rejected number reason)
+        ↔ IsRejected (T.has_instance rules.now problem.now) (T.clause_of rules.now problem.now) problem.now log.now
+        number reason) }
     // Where the log refutes the goal, it is true in no well-formed world.
     ensures sound { IfOk result (λ v. v ≡ Verdict.Refuted → IsUnsatisfiable problem.now) }
 {

@@ -3,9 +3,8 @@ ghost use Rattle.std.specs.Prelude.{◌≡◌, ◌++◌, ◌∷◌, ◌<◌, ◌
 ghost use Rattle.std.specs.Str.{bytes_eq};
 ghost use Rattle.sc_logs.specs.LineSteps.{step_of, ends_line};
 ghost use Rattle.sc_checker.specs.Progress.{IsChecked};
-ghost use Rattle.sc_checker.specs.Streams.{unread, first_words, after_reading, ended_line, line_number, after, ended};
+ghost use Rattle.sc_checker.specs.Streams.{Checking as AnyChecking, unread, first_words, AfterReading, AfterLine, lengthened, line_number, After, ended};
 ghost use Rattle.sc_logs.specs.Texts.{has_no_newline};
-ghost use Rattle.sc_checker.specs.Verdicts.{Rules as AnyRules, AreRules};
 
 use crate::checking::{Reason, Verdict};
 use crate::steps::StepChecker;
@@ -50,8 +49,8 @@ fn take_line<T: Theory>(
 ) -> Result<(), AllocError>
     requires checked { IsChecked problem.now steps.old }
     requires going { steps.old.fault ≡ None }
-    ensures taken { OnOk result ((tests : AnyRules) → AreRules T.has_instance T.clause_of rules.now problem.now tests
-        → steps.new ≡ after_reading tests steps.old (step_of line.now)) }
+    ensures taken { OnOk result (AfterReading (T.has_instance rules.now problem.now)
+        (T.clause_of rules.now problem.now) steps.old (step_of line.now) steps.new) }
     ensures checked { OnOk result (IsChecked problem.now steps.new) }
 {
     if read_learned(line, room)? {
@@ -108,9 +107,8 @@ impl LineChecker {
         requires checked { IsChecked problem.now self.old.progress }
         requires going { self.old.progress.fault ≡ None }
         requires nothing { self.old.line ≡ [] }
-        ensures taken { OnOk result ((tests : AnyRules)
-            → AreRules T.has_instance T.clause_of rules.now problem.now tests
-            → self.new ≡ ended_line tests self.old.begun line.now self.old.progress) }
+        ensures taken { OnOk result (AfterLine (T.has_instance rules.now problem.now)
+            (T.clause_of rules.now problem.now) self.old.begun line.now self.old.progress self.new) }
         ensures checked { OnOk result (IsChecked problem.now self.new.progress) }
     {
         if self.begun {
@@ -134,8 +132,8 @@ impl LineChecker {
     ) -> Result<(), AllocError>
         requires checked { IsChecked problem.now self.old.progress }
         requires end { IsTrue (has_no_newline end.now) }
-        ensures read { OnOk result ((tests : AnyRules) → AreRules T.has_instance T.clause_of rules.now problem.now tests
-            → self.new ≡ after tests self.old (end.now ++ 10 ∷ [])) }
+        ensures read { OnOk result (After (T.has_instance rules.now problem.now) (T.clause_of rules.now problem.now)
+            self.old (end.now ++ 10 ∷ []) self.new) }
         ensures checked { OnOk result (IsChecked problem.now self.new.progress) }
     {
         if self.steps.is_at_fault() {
@@ -151,8 +149,7 @@ impl LineChecker {
 
     /// Keeps bytes of a line that doesn't end with them.
     fn keep(&mut self, bytes: &[u8]) -> Result<(), AllocError>
-        requires { IsTrue (has_no_newline bytes.now) }
-        ensures kept { OnOk result ((rules : AnyRules) → self.new ≡ after rules self.old bytes.now) }
+        ensures kept { OnOk result (self.new ≡ lengthened self.old bytes.now) }
         ensures same { self.new.progress ≡ self.old.progress }
     {
         if self.steps.is_at_fault() {
@@ -183,8 +180,11 @@ impl LineChecker {
         requires ended { IsTrue (ends_line bytes.now) }
         requires within { from < length bytes.now }
         ensures read { IfOk result (λ next. (length (drop next bytes.now) < length (drop from bytes.now))
-            × ((tests : AnyRules) → AreRules T.has_instance T.clause_of rules.now problem.now tests
-            → after tests self.new (drop next bytes.now) ≡ after tests self.old (drop from bytes.now))) }
+            × ((end : AnyChecking)
+            → After (T.has_instance rules.now problem.now) (T.clause_of rules.now problem.now) self.new
+            (drop next bytes.now) end
+            → After (T.has_instance rules.now problem.now) (T.clause_of rules.now problem.now) self.old
+            (drop from bytes.now) end)) }
         ensures checked { OnOk result (IsChecked problem.now self.new.progress) }
     {
         let Some((line, _)) = cut_line(&bytes[from..]) else {
@@ -208,8 +208,11 @@ impl LineChecker {
         requires ended { IsTrue (ends_line bytes.now) }
         requires within { from < length bytes.now }
         ensures read { IfOk result (λ next. (length (drop next bytes.now) < length (drop from bytes.now))
-            × ((tests : AnyRules) → AreRules T.has_instance T.clause_of rules.now problem.now tests
-            → after tests self.new (drop next bytes.now) ≡ after tests self.old (drop from bytes.now))) }
+            × ((end : AnyChecking)
+            → After (T.has_instance rules.now problem.now) (T.clause_of rules.now problem.now) self.new
+            (drop next bytes.now) end
+            → After (T.has_instance rules.now problem.now) (T.clause_of rules.now problem.now) self.old
+            (drop from bytes.now) end)) }
         ensures checked { OnOk result (IsChecked problem.now self.new.progress) }
     {
         if !self.is_between() {
@@ -235,8 +238,8 @@ impl LineChecker {
     ) -> Result<(), AllocError>
         requires checked { IsChecked problem.now self.old.progress }
         requires ended { (length bytes.now ≡ 0) ⊎ IsTrue (ends_line bytes.now) }
-        ensures read { OnOk result ((tests : AnyRules) → AreRules T.has_instance T.clause_of rules.now problem.now tests
-            → self.new ≡ after tests self.old bytes.now) }
+        ensures read { OnOk result (After (T.has_instance rules.now problem.now) (T.clause_of rules.now problem.now)
+            self.old bytes.now self.new) }
         ensures checked { OnOk result (IsChecked problem.now self.new.progress) }
     {
         let mut place = 0;
@@ -255,8 +258,8 @@ impl LineChecker {
         piece: &[u8],
     ) -> Result<(), AllocError>
         requires { IsChecked problem.now self.old.progress }
-        ensures read { OnOk result ((tests : AnyRules) → AreRules T.has_instance T.clause_of rules.now problem.now tests
-            → self.new ≡ after tests self.old piece.now) }
+        ensures read { OnOk result (After (T.has_instance rules.now problem.now) (T.clause_of rules.now problem.now)
+            self.old piece.now self.new) }
         ensures checked { OnOk result (IsChecked problem.now self.new.progress) }
     {
         let (lines, rest) = piece.split_at(lines_end(piece));

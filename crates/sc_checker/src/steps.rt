@@ -1,12 +1,12 @@
 //! The checker of steps, one after another.
-ghost use Rattle.std.specs.Prelude.{◌≡◌, ◌+◌, ◌<◌, None, OnOk, IfOk, IsTrue, map, length};
+ghost use Rattle.std.specs.Prelude.{◌≡◌, ◌+◌, ◌<◌, None, OnOk, IfErr, IfOk, IsTrue, map, length};
 ghost use Rattle.std.specs.List.{list_all};
 ghost use Rattle.std.specs.Option.{is_some};
-ghost use Rattle.sc_lists.specs.Told.{Gives};
-ghost use Rattle.sc_checker.specs.Progress.{IsChecked, start, failed, counted, grown, taken, after_step, verdict_of};
+ghost use Rattle.sc_logs.specs.Readings.{IfTold};
+ghost use Rattle.sc_checker.specs.Progress.{IsChecked, IsTaken, start, failed, counted, grown, taken, AfterStep, verdict_of};
 ghost use Rattle.sc_refutations.specs.Arenas.{lit_of, has_code};
 ghost use Rattle.sc_refutations.specs.Refutations.{are_listed};
-ghost use Rattle.sc_checker.specs.Verdicts.{Rules as AnyRules, AreRules, of_instance, of_learned};
+ghost use Rattle.sc_checker.specs.Verdicts.{IsOfInstance, of_learned};
 
 use crate::checking::{Reason, Verdict};
 use sc_clauses::{Clause, Instance, Lit, Step};
@@ -45,8 +45,8 @@ fn instance_clause<T: Theory>(
     problem: &Problem<'_>,
     instance: &Instance,
 ) -> Result<Clause, Fault<Reason>>
-    ensures told { (tests : AnyRules) → AreRules T.has_instance T.clause_of rules.now problem.now tests
-        → Gives result (of_instance tests instance.now) }
+    ensures none { IfErr result (λ fault. IfTold fault (λ reason.
+        (¬ T.has_instance rules.now problem.now instance.now) × (reason ≡ Reason.NoInstance))) }
     ensures has { IfOk result (λ c. T.has_instance rules.now problem.now instance.now) }
     ensures clause { IfOk result (λ c. c ≡ T.clause_of rules.now problem.now instance.now) }
 {
@@ -130,9 +130,8 @@ impl StepChecker {
     ) -> Result<(), AllocError>
         requires checked { IsChecked problem.now self.old }
         requires going { self.old.fault ≡ None }
-        ensures taken { OnOk result ((tests : AnyRules)
-            → AreRules T.has_instance T.clause_of rules.now problem.now tests
-            → self.new ≡ taken (of_instance tests instance.now) self.old) }
+        ensures taken { OnOk result (IsTaken (IsOfInstance (T.has_instance rules.now problem.now)
+            (T.clause_of rules.now problem.now) instance.now) self.old self.new) }
         ensures checked { OnOk result (IsChecked problem.now self.new) }
     {
         // The clauses of the rules have literals of listed atoms and are true in well-formed worlds,
@@ -205,9 +204,8 @@ impl StepChecker {
         step: &Step,
     ) -> Result<(), AllocError>
         requires { IsChecked problem.now self.old }
-        ensures taken { OnOk result ((tests : AnyRules)
-            → AreRules T.has_instance T.clause_of rules.now problem.now tests
-            → self.new ≡ after_step tests self.old step.now) }
+        ensures taken { OnOk result (AfterStep (T.has_instance rules.now problem.now)
+            (T.clause_of rules.now problem.now) self.old step.now self.new) }
         ensures checked { OnOk result (IsChecked problem.now self.new) }
     {
         if self.is_at_fault() {

@@ -1,8 +1,7 @@
 //! The checker of logs that come in pieces.
 ghost use Rattle.std.specs.Prelude.{◌≡◌, false, OnOk, OnErr, IfOk, IfErr, IsTrue};
 ghost use Rattle.sc_checker.specs.Progress.{IsChecked};
-ghost use Rattle.sc_checker.specs.Streams.{unread, after, ended};
-ghost use Rattle.sc_checker.specs.Verdicts.{Rules as AnyRules, AreRules};
+ghost use Rattle.sc_checker.specs.Streams.{unread, After, ended};
 ghost use Rattle.sc_footprint.specs.Truths.{IsUnsatisfiable};
 
 use crate::checking::Verdict;
@@ -63,17 +62,13 @@ impl<'c, 'p, T: Theory> LogChecker<'c, 'p, T> {
     /// Reads a further piece of the text. Its one fault is want of memory: then all calls are refused.
     pub fn feed(&mut self, piece: &[u8]) -> Result<(), AllocError>
         // What is held after the piece.
-        ensures fed { OnOk result ((tests : AnyRules)
-            → AreRules T.has_instance T.clause_of self.old.rules self.old.problem tests → self.new ≡ record {
-              rules = self.old.rules;
-              problem = self.old.problem;
-              state = after tests self.old.state piece.now;
-              refuses = false;
-            }) }
+        ensures fed { OnOk result (After (T.has_instance self.old.rules self.old.problem)
+            (T.clause_of self.old.rules self.old.problem) self.old.state piece.now self.new.state) }
+        ensures rules { OnOk result (self.new.rules ≡ self.old.rules) }
         ensures problem { OnOk result (self.new.problem ≡ self.old.problem) }
         // A refusal is the last answer but refusals.
         ensures refused { OnErr result (IsTrue self.new.refuses) }
-        ensures refuses { OnOk result (self.old.refuses ≡ false) }
+        ensures refuses { OnOk result ((self.old.refuses ≡ false) × (self.new.refuses ≡ false)) }
     {
         if self.refuses {
             return Err(AllocError);

@@ -1,5 +1,5 @@
 -- Why what a search finds is right.
-use Rattle.std.proofs.Common.{◌≡◌, ◌≤◌, ℕ, List, map, length, true, Contains, IsTrue, sym, subst}
+use Rattle.std.proofs.Common.{◌≡◌, ◌≤◌, ◌∙◌, ℕ, List, map, length, true, Contains, IsTrue, sym, subst, arith}
 use Rattle.std.specs.List.{list_all}
 use Rattle.sc_clauses.specs.declared.step.Instance.{Instance}
 use Rattle.sc_clauses.specs.declared.step.Step.{Step}
@@ -15,12 +15,12 @@ use Rattle.sc_footprint.specs.Definitions.{defining}
 use Rattle.sc_footprint.specs.Theories.{IsClauseOf}
 use Rattle.sc_footprint.specs.Truths.{truths, IsTrueIn, Satisfies, IsUnsatisfiable}
 use Rattle.sc_footprint.specs.Written.{is_instance}
-use Rattle.sc_checker.specs.Verdicts.{Rules, IsAccepted}
+use Rattle.sc_checker.specs.Verdicts.{IsAccepted}
 use Rattle.sc_checker.specs.Writable.{is_writable}
-use Rattle.sc_finding.specs.Findings.{Takes, IsConsistent, IsSpent}
+use Rattle.sc_finding.specs.Findings.{IsConsistent, IsSpent}
 use Rattle.sc_finding.proofs.ListLaws.{has_of, contains_of, has_right}
 use Rattle.sc_finding.proofs.StepLaws.{AllHold}
-use Rattle.sc_finding.proofs.UnitLaws.{units_add, units_are, units_writable, units_hold, refutation_adds, refutation_writable, refutation_never}
+use Rattle.sc_finding.proofs.UnitLaws.{units_add, units_listed, units_are, units_writable, units_hold, refutation_adds, refutation_writable, refutation_never}
 
 -- ---- what the search is given, and what it finds
 
@@ -59,20 +59,22 @@ module _ (p : Posed) (has : Instance → Type 0) (clause_of : Instance → Claus
     all_true : (w : World) → Satisfies p w → AllHold (truths p w) (defining p)
     all_true w s c h = true_laws w c s (contains_of (defining p) c h)
 
-    pub refuted : (budget : ℕ) (steps : List Step) → found.IsRefutation (length (atoms p)) has clause_of (defining p) budget steps
-        → ((rules : Rules) → Takes has clause_of rules → IsAccepted rules p steps) × (length steps ≤ budget) × IsUnsatisfiable p
-    refuted budget steps r = (
-      λ rules takes. record { before = _; steps_add = refutation_adds (length (atoms p)) has clause_of (defining p) budget steps r rules takes },
-      r.within,
-      λ w s. refutation_never (length (atoms p)) has clause_of (defining p) budget steps r (truths p w) (λ i h. told w i s h) (all_true w s),
-    )
+    pub refuted : (most budget : ℕ) (steps : List Step) → most ≤ budget → found.IsRefutation (length (atoms p)) has clause_of (defining p) most steps
+        → IsAccepted has clause_of p steps × (length steps ≤ budget) × IsUnsatisfiable p
+    refuted most budget steps enough r =
+        let within = r.within in (
+          record { before = _; steps_add = refutation_adds (length (atoms p)) has clause_of (defining p) most steps r },
+          omega (arith, enough, within),
+          λ w s. refutation_never (length (atoms p)) has clause_of (defining p) most steps r (truths p w) (λ i h. told w i s h) (all_true w s),
+        )
 
-    pub spent : (budget : ℕ) (steps : List Step) → found.IsSpent (length (atoms p)) has clause_of (defining p) budget steps → IsSpent has clause_of p budget steps
-    spent budget steps s =
+    pub spent : (most budget : ℕ) (steps : List Step) → most ≡ budget → found.IsSpent (length (atoms p)) has clause_of (defining p) most steps → IsSpent has clause_of p budget steps
+    spent most budget steps all s =
         record {
           clauses = map (added clause_of) steps;
-          steps_add = λ rules takes. units_add (length (atoms p)) has clause_of rules takes (defining p) steps s.are_units;
-          count = s.count;
+          steps_add = units_add (length (atoms p)) has clause_of (defining p) steps s.are_units;
+          count = s.count ∙ all;
+          listed = λ c h. units_listed (length (atoms p)) has clause_of (defining p) steps s.are_units c (has_of (map (added clause_of) steps) c h);
           are_units = units_are (length (atoms p)) has clause_of (defining p) steps s.are_units;
           hold = λ w c sat h. units_hold (length (atoms p)) has clause_of (truths p w) (λ i k. told w i sat k) (defining p) steps (all_true w sat) s.are_units c
               (has_right (defining p) (map (added clause_of) steps) c (has_of (map (added clause_of) steps) c h));

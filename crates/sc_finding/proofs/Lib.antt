@@ -3,3 +3,4 @@ pub mod LitLaws
 mod StepLaws
 mod UnitLaws
 mod FindingLaws
+pub mod CountLaws

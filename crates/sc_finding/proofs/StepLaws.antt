@@ -12,10 +12,9 @@ use Rattle.sc_clauses.specs.Clauses.{Clause, bool_eq, lit_eq, negation, is_in, h
 use Rattle.sc_trails.specs.Steps.{IsNumbered, IsClause, Refutes, conflict, one_left, IsNumber, IsShown, IsLawful}
 use Rattle.sc_trails.specs.Steps as search
 use Rattle.sc_checker.specs.Refutations.{LitSet, negated, with_lit, open_lits, residual, clause_at, refutes, is_listed, is_clause}
-use Rattle.sc_checker.specs.Verdicts.{Rules, added}
+use Rattle.sc_checker.specs.Verdicts.{IsAdded}
 use Rattle.sc_checker.specs.Writable.{is_lit, is_hint, are_hints, is_writable}
 use Rattle.sc_footprint.specs.Written.{is_instance}
-use Rattle.sc_finding.specs.Findings.{Takes}
 use Rattle.sc_finding.proofs.ListLaws.{Has, here, there, has_of, contains_of, of_all, has_filter, filter_has, map_has}
 use Rattle.std.proofs.lemmas.Bool.{and_from}
 use Rattle.sc_clauses.proofs.LitLaws.{lit_eq-true, lit_eq-itself}
@@ -26,7 +25,7 @@ use Rattle.sc_finding.proofs.LitLaws.{is_in_of, of_is_in, clash, negated_holds, 
 listed : (count : ℕ) (l : Lit) → 0 < l.atom → l.atom ≤ count → is_listed count l ≡ true
 listed count l least most = grind (arith, nat_tests)
 
-absent : (c : Clause) (l : Lit) (b : Bool) → is_in c l ≡ b → ¬ Contains c l → not b ≡ true
+pub absent : (c : Clause) (l : Lit) (b : Bool) → is_in c l ≡ b → ¬ Contains c l → not b ≡ true
 absent c l true e h = absurd (h (contains_of c l (of_is_in c l e)))
 absent c l false e h = refl
 
@@ -167,9 +166,9 @@ learned_writable atoms clauses s h =
 -- ---- steps of a search
 
 module _ (atoms : ℕ) (has : instance.Instance → Type 0) (clause_of : instance.Instance → Clause) where
-  pub step_adds : (rules : Rules) → Takes has clause_of rules → (clauses : List Clause) (s : Step) → IsLawful atoms has clause_of clauses s → added rules atoms clauses s ≡ Ok (search.added clause_of s)
-  step_adds rules takes clauses (Instance i) h = let t = takes i h.0 in rw (t.0, t.1) refl
-  step_adds rules takes clauses (Learned s) h =
+  pub step_adds : (clauses : List Clause) (s : Step) → IsLawful atoms has clause_of clauses s → IsAdded has clause_of atoms clauses s (Ok (search.added clause_of s))
+  step_adds clauses (Instance i) h = (h.0, refl)
+  step_adds clauses (Learned s) h =
       rw (is_clause_of atoms s.clause h.is_clause, refutes_of clauses (map negation s.clause) s.hints (negated s.clause) (negated_in s.clause) h.refutes) refl
 
   pub step_writable : ((i : instance.Instance) → has i → is_instance i ≡ true) → (clauses : List Clause) (s : Step) → IsLawful atoms has clause_of clauses s → is_writable s ≡ true

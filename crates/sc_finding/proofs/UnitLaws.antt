@@ -4,16 +4,16 @@ use Rattle.std.specs.List.{list_all}
 use Rattle.sc_clauses.specs.declared.step.Instance as instance
 use Rattle.sc_clauses.specs.declared.step.Step.{Step}
 use Rattle.sc_clauses.specs.Clauses.{Clause, clause_holds}
-use Rattle.sc_trails.specs.Steps.{after, IsLawful}
+use Rattle.sc_clauses.specs.declared.step.Step.TheVariants.{Instance, Learned}
+use Rattle.sc_trails.specs.Steps.{after, IsClause, IsLawful}
 use Rattle.sc_trails.specs.Steps as search
 use Rattle.sc_search.specs.Findings as found
 use Rattle.sc_search.specs.Findings.{IsRefutation}
-use Rattle.sc_checker.specs.Verdicts.{Rules, Adds, no_step, first_step}
+use Rattle.sc_checker.specs.Verdicts.{Adds, no_step, first_step}
 use Rattle.sc_checker.specs.Writable.{is_writable}
 use Rattle.sc_footprint.specs.Written.{is_instance}
-use Rattle.sc_finding.specs.Findings.{Takes}
 use Rattle.sc_finding.specs.Units.{AreUnits, no_unit, first_unit}
-use Rattle.sc_finding.proofs.ListLaws.{Has, has_either, has_only}
+use Rattle.sc_finding.proofs.ListLaws.{Has, here, there, has_either, has_only}
 use Rattle.std.proofs.lemmas.Bool.{and_from}
 use Rattle.sc_finding.proofs.StepLaws.{AllHold, step_adds, step_writable, step_holds}
 
@@ -30,23 +30,34 @@ module _ (atoms : ℕ) (has : instance.Instance → Type 0) (clause_of : instanc
 
   -- ---- the steps add their clauses
 
-  pub units_add : (rules : Rules) → Takes has clause_of rules → (before : List Clause) (steps : List Step) → Units before steps → Adds rules atoms before steps (clauses_of steps)
-  units_add rules takes _ _ (found.no_step before) = no_step
-  units_add rules takes _ _ (found.first_step before s steps u rest) =
-      first_step (step_adds atoms has clause_of rules takes before s u.is_lawful) (units_add rules takes (before ++ search.added clause_of s ∷ []) steps rest)
+  pub units_add : (before : List Clause) (steps : List Step) → Units before steps → Adds has clause_of atoms before steps (clauses_of steps)
+  units_add _ _ (found.no_step before) = no_step before
+  units_add _ _ (found.first_step before s steps u rest) =
+      first_step before s steps (search.added clause_of s) (clauses_of steps) (step_adds atoms has clause_of before s u.is_lawful) (units_add (before ++ search.added clause_of s ∷ []) steps rest)
 
-  pub units_and_last : (rules : Rules) → Takes has clause_of rules → (before : List Clause) (steps : List Step) (last : Step) → Units before steps → IsLawful atoms has clause_of (before ++ clauses_of steps) last
-      → Adds rules atoms before (steps ++ last ∷ []) (clauses_of steps ++ search.added clause_of last ∷ [])
-  units_and_last rules takes _ _ last (found.no_step before) h =
-      first_step (step_adds atoms has clause_of rules takes before last (subst (λ cs. IsLawful atoms has clause_of cs last) (append_nil before) h)) no_step
+  pub units_and_last : (before : List Clause) (steps : List Step) (last : Step) → Units before steps → IsLawful atoms has clause_of (before ++ clauses_of steps) last
+      → Adds has clause_of atoms before (steps ++ last ∷ []) (clauses_of steps ++ search.added clause_of last ∷ [])
+  units_and_last _ _ last (found.no_step before) h =
+      first_step before last [] (search.added clause_of last) [] (step_adds atoms has clause_of before last (subst (λ cs. IsLawful atoms has clause_of cs last) (append_nil before) h)) (no_step (before ++ search.added clause_of last ∷ []))
     where
       append_nil : (cs : List Clause) → cs ++ [] ≡ cs
       append_nil [] = refl
       append_nil (c ∷ cs) = ap (λ ds. c ∷ ds) (append_nil cs)
-  units_and_last rules takes _ _ last (found.first_step before s steps u rest) h =
-      first_step (step_adds atoms has clause_of rules takes before s u.is_lawful)
-      (units_and_last rules takes (before ++ search.added clause_of s ∷ []) steps last rest
+  units_and_last _ _ last (found.first_step before s steps u rest) h =
+      first_step before s (steps ++ last ∷ []) (search.added clause_of s) (clauses_of steps ++ search.added clause_of last ∷ []) (step_adds atoms has clause_of before s u.is_lawful)
+      (units_and_last (before ++ search.added clause_of s ∷ []) steps last rest
       (subst (λ cs. IsLawful atoms has clause_of cs last) (sym (moved before (search.added clause_of s) (clauses_of steps))) h))
+
+  -- ---- their clauses are of listed atoms
+
+  lawful_listed : (before : List Clause) (s : Step) → IsLawful atoms has clause_of before s → IsClause atoms (search.added clause_of s)
+  lawful_listed before (Instance i) h = h.1
+  lawful_listed before (Learned s) h = h.is_clause
+
+  pub units_listed : (before : List Clause) (steps : List Step) → Units before steps → (c : Clause) → Has (clauses_of steps) c → IsClause atoms c
+  units_listed _ _ (found.no_step before) c h = elim h [ ]
+  units_listed _ _ (found.first_step before s steps u rest) _ (here _ _) = lawful_listed before s u.is_lawful
+  units_listed _ _ (found.first_step before s steps u rest) c (there _ _ _ h) = units_listed (before ++ search.added clause_of s ∷ []) steps rest c h
 
   -- ---- their clauses are units
 
@@ -87,11 +98,11 @@ module _ (atoms : ℕ) (has : instance.Instance → Type 0) (clause_of : instanc
   -- ---- of a refutation
 
   module _ (before : List Clause) (budget : ℕ) (steps : List Step) (r : IsRefutation atoms has clause_of before budget steps) where
-    pub refutation_adds : (rules : Rules) → Takes has clause_of rules → Adds rules atoms before steps (clauses_of r.units ++ [] ∷ [])
-    refutation_adds rules takes =
-        subst (λ (ss : List Step). Adds rules atoms before ss (clauses_of r.units ++ [] ∷ [])) (sym r.are_all)
-        (subst (λ (c : Clause). Adds rules atoms before (r.units ++ r.last ∷ []) (clauses_of r.units ++ c ∷ [])) r.is_empty
-        (units_and_last rules takes before r.units r.last r.are_units r.is_lawful))
+    pub refutation_adds : Adds has clause_of atoms before steps (clauses_of r.units ++ [] ∷ [])
+    refutation_adds =
+        subst (λ (ss : List Step). Adds has clause_of atoms before ss (clauses_of r.units ++ [] ∷ [])) (sym r.are_all)
+        (subst (λ (c : Clause). Adds has clause_of atoms before (r.units ++ r.last ∷ []) (clauses_of r.units ++ c ∷ [])) r.is_empty
+        (units_and_last before r.units r.last r.are_units r.is_lawful))
 
     pub refutation_writable : ((i : instance.Instance) → has i → is_instance i ≡ true) → list_all is_writable steps ≡ true
     refutation_writable written = subst (λ ss. list_all is_writable ss ≡ true) (sym r.are_all) (units_and_last_writable written before r.units r.last r.are_units (after clause_of before r.units) r.is_lawful)

@@ -1,5 +1,5 @@
 //! Compares some of the policies of a set with others of them, in one environment.
-ghost use Rattle.std.specs.Prelude.{◌≡◌, ◌≤◌, length, Contains, IfOk, IfErr};
+ghost use Rattle.std.specs.Prelude.{◌≡◌, length, Contains, IfOk, IfErr};
 ghost use Rattle.sc_schema.specs.Declarations.{environments};
 ghost use Rattle.sc_footprint.specs.Atoms.{IsRefused};
 ghost use Rattle.sc_footprint.specs.Problems.{IsProblemOf};
@@ -91,7 +91,6 @@ pub(crate) fn compare(
 ) -> Result<Finding, AllocError>
     requires environment { Contains (environments task.now.schema.now) env.now }
     requires task { MayBeReduced task.now.schema.now task.now.query.now }
-    requires units { task.now.budget ≤ 1000000000 }
     requires lefts { length left.now ≡ length task.now.query.now.first }
     requires rights { length right.now ≡ length task.now.query.now.first }
     ensures { IfOk result (IsFinding (trial_of task.now left.now right.now) env.now) }
@@ -117,7 +116,6 @@ fn solved(
     problem: &Problem<'_>,
 ) -> Result<Finding, AllocError>
     requires problem { IsProblem (trial_of task.now left.now right.now) env.now problem.now }
-    requires units { task.now.budget ≤ 1000000000 }
     ensures { IfOk result (IsFinding (trial_of task.now left.now right.now) env.now) }
 {
     task.schema.laws();

@@ -1,5 +1,5 @@
 //! Passes over the policies that stay.
-ghost use Rattle.std.specs.Prelude.{◌≡◌, ◌≤◌, ◌<◌, List, Bool, false, true, length, slice_set, slice_index_or, IfOk};
+ghost use Rattle.std.specs.Prelude.{◌≡◌, ◌<◌, List, Bool, false, true, length, slice_set, slice_index_or, IfOk};
 ghost use Rattle.std.specs.List.{AllByRecursion};
 ghost use Rattle.sc_reduction.specs.Marked.{HasWorld, asked_by};
 ghost use Rattle.sc_reduction.specs.Passes.{IsFewer, IsPass, IsTried};
@@ -53,7 +53,6 @@ fn try_policy(
     before: Fate,
 ) -> Result<Fate, AllocError>
     requires task { MayBeReduced task.now.schema.now task.now.query.now }
-    requires units { task.now.budget ≤ 1000000000 }
     requires one_each { length kept.old.items ≡ length task.now.query.now.first }
     requires within { place < length kept.old.items }
     requires world { HasWorld (asked_by task.now) before }
@@ -74,7 +73,6 @@ fn try_policy(
 /// One more pass: each policy that stays is tried, by its place.
 pub(crate) fn next_pass(task: &Task<'_>, last: Pass) -> Result<Pass, AllocError>
     requires task { MayBeReduced task.now.schema.now task.now.query.now }
-    requires units { task.now.budget ≤ 1000000000 }
     requires last { IsPass (asked_by task.now) last }
     ensures pass { IfOk result (IsPass (asked_by task.now)) }
     ensures fewer { IfOk result (λ p. IsFewer p.dropped last.kept.items p.kept.items) }

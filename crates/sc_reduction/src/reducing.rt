@@ -1,5 +1,5 @@
 //! Reduces a policy set.
-ghost use Rattle.std.specs.Prelude.{◌≤◌, IfOk};
+ghost use Rattle.std.specs.Prelude.{IfOk};
 ghost use Rattle.std.specs.List.{AllByRecursion};
 ghost use Rattle.sc_reduction.specs.Lines.{IsPrintable};
 ghost use Rattle.sc_reduction.specs.Reductions.{IsReduction, MayBeReduced, asked_of};
@@ -23,7 +23,6 @@ pub fn reduce(
     budget: u64,
 ) -> Result<Seq<Fate>, AllocError>
     requires reduced { MayBeReduced schema.now query.now }
-    requires units { budget ≤ 1000000000 }
     ensures reduction { IfOk result (IsReduction (asked_of schema.now query.now budget)) }
     ensures printable { IfOk result (λ fates. AllByRecursion IsPrintable fates) }
 {

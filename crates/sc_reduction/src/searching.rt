@@ -1,5 +1,5 @@
 //! Whether a policy matters to others.
-ghost use Rattle.std.specs.Prelude.{◌≡◌, ◌≤◌, length, IfOk, IsTrue};
+ghost use Rattle.std.specs.Prelude.{◌≡◌, length, IfOk, IsTrue};
 ghost use Rattle.sc_reduction.specs.Marked.{HasWorld, asked_by, first_open, trial_of};
 ghost use Rattle.sc_reduction.specs.Reductions.{MayBeReduced};
 ghost use Rattle.sc_reduction.specs.Trials.{Finds};
@@ -24,7 +24,6 @@ fn first_open(found: Fate, next: Fate) -> Fate
 /// decide otherwise. The first world decides; else the first environment that is open does.
 fn search(task: &Task<'_>, left: &[bool], right: &[bool]) -> Result<Fate, AllocError>
     requires task { MayBeReduced task.now.schema.now task.now.query.now }
-    requires units { task.now.budget ≤ 1000000000 }
     requires lefts { length left.now ≡ length task.now.query.now.first }
     requires rights { length right.now ≡ length task.now.query.now.first }
     ensures { IfOk result (Finds (trial_of task.now left.now right.now)) }
@@ -68,7 +67,6 @@ pub(crate) fn fate_of(
     before: Fate,
 ) -> Result<Fate, AllocError>
     requires task { MayBeReduced task.now.schema.now task.now.query.now }
-    requires units { task.now.budget ≤ 1000000000 }
     requires lefts { length left.now ≡ length task.now.query.now.first }
     requires rights { length right.now ≡ length task.now.query.now.first }
     requires world { HasWorld (asked_by task.now) before }

@@ -1,6 +1,5 @@
 -- A query has a goal in each environment, and what the solver answers of its problem is a verdict.
-use Rattle.std.proofs.Common.{◌≡◌, ◌↔◌, ◌≤◌, ◌⊎◌, ◌++◌, ℕ, List, [], not, Option, Some, None, IfSome, IsSome, Contains, unwrap_or, refl, sym, ap, ◌∙◌, subst, ⊎_elim}
-use Rattle.std.specs.Bool.{⊤}
+use Rattle.std.proofs.Common.{◌≡◌, ◌↔◌, ◌⊎◌, ◌++◌, ℕ, List, [], not, Option, Some, None, IfSome, IsSome, Contains, unwrap_or, refl, sym, ap, ◌∙◌, subst, ⊎_elim}
 use Rattle.std.specs.List.{AllByRecursion}
 use Rattle.std.specs.Option.{option_or}
 use Rattle.std.proofs.lemmas.List.Elements.{Contains-append_left, Contains-append_right, Contains-append_cases}
@@ -20,7 +19,7 @@ use Rattle.sc_goal.specs.Properties.{has}
 use Rattle.sc_goal.specs.Queries.{Asked as Query, IsAsked, second}
 use Rattle.sc_inputs.specs.Readings.{ReadsAll}
 use Rattle.sc_inputs.specs.Refusals.{Content, Side, policies_side, against_side, on, in_against, first_fault, AreServed, HasAgainst}
-use Rattle.sc_inputs.specs.Serving.{Aim, Serves, Task, asking, checking, has_second, logging, reducing, replaying, reporting}
+use Rattle.sc_inputs.specs.Serving.{Aim, has_second}
 use Rattle.sc_inputs.specs.declared.inputs.Asking.{Asking}
 use Rattle.sc_names.specs.declared.uid.Uid.{Uid}
 use Rattle.sc_parser.specs.Spelling.{Spells}
@@ -39,7 +38,7 @@ use Rattle.sc_typing.specs.Names.{name_fault}
 use Rattle.sc_world.specs.declared.world.World.{World}
 use Rattle.sc_world.specs.Named.{IsDeclared}
 use Rattle.sc_world.specs.WellFormed.{IsWellFormed}
-use Rattle.sc_reports.specs.Analyses.{asked, asked_of, asked_within, most_units, HaveProper, IsAnswer, IsGoalOf, IsQueryOf, MayBeAsked}
+use Rattle.sc_reports.specs.Analyses.{asked, asked_of, asked_within, HaveProper, IsAnswer, IsGoalOf, IsQueryOf, MayBeAsked, MayBePosed}
 use Rattle.sc_reports.specs.View.{IsPrintable}
 use Rattle.sc_reports.specs.declared.analysing.EnvAnswer.{EnvAnswer}
 use Rattle.sc_reports.specs.declared.analysing.EnvAnswer.TheVariants.{Holds, Violated, Spent, OverLimit}
@@ -106,13 +105,22 @@ pub goal-stands : (o : Option Tree) (nodes : List Node) (n : ℕ) → IsSome o �
 goal-stands None nodes n h stands = absurd cc
 goal-stands (Some t) nodes n h stands = (t, refl, stands)
 
+-- it may be asked of an environment
+pub may-be-posed : Compiling → Posing → (s : Declarations) (env : Env) (q : Query) → AreServed s q.first q.against → Contains (environments s) env → MayBePosed s env q
+may-be-posed compiled posed s env q served among = record {
+  environment = among;
+  first_declared = first-none (name_fault s) q.first q.against served.declared;
+  second_declared = second-none (name_fault s) q.first q.against refl served.declared;
+  typed = query-posed compiled posed s env q served among;
+}
+
 -- the uids of a query are declared
-pub query-declared : Declaring → (s : Declarations) (q : Query) → IsAsked q → AreServed s q.first q.against → AllByRecursion (IsDeclared s) q.literals
-query-declared declared s q asked served =
+pub query-declared : Declaring → (s : Declarations) (env : Env) (q : Query) → IsAsked q → MayBePosed s env q → AllByRecursion (IsDeclared s) q.literals
+query-declared declared s env q asked may =
     all_of_elements (IsDeclared s) q.literals
     (λ u c. ⊎_elim
-    (λ (h : Contains (literals q.first) u). declared s q.first u (first-none (name_fault s) q.first q.against served.declared) h)
-    (λ (h : Contains (literals (second q)) u). declared s (second q) u (second-none (name_fault s) q.first q.against refl served.declared) h)
+    (λ (h : Contains (literals q.first) u). declared s q.first u may.first_declared h)
+    (λ (h : Contains (literals (second q)) u). declared s (second q) u may.second_declared h)
     ((asked.written u).0 c))
 
 -- ---- the problem of a query
@@ -177,30 +185,6 @@ pub spent-undecided : (q : Asked) (env : Env) (p : Posed) (log : List Step) → 
 spent-undecided q env p log is spent = (refl, record { posed = p; is_problem = is; spent = spent }, has-room q env p is)
 
 -- ---- what a command asks
-
-abbrev HasMost : Aim → Type 0
-HasMost (reporting budget) = budget ≤ most_units
-HasMost (logging budget place) = budget ≤ most_units
-HasMost (checking place log) = ⊤
-HasMost (reducing budget) = budget ≤ most_units
-
-abbrev TaskHasMost : Task → Type 0
-TaskHasMost (asking question against aim) = HasMost aim
-TaskHasMost (replaying world) = ⊤
-
-most-of-task : (words : List (List ℕ)) (schema policies : List ℕ) (t : Task) → Serves words (record { schema = schema; policies = policies; task = t }) → TaskHasMost t
-most-of-task words schema policies (asking question against (reporting budget)) h = h.reads.2.budget_given.spelled.most
-most-of-task words schema policies (asking question against (logging budget place)) h = h.reads.2.budget_given.spelled.most
-most-of-task words schema policies (asking question against (checking place log)) h = tt
-most-of-task words schema policies (asking question against (reducing budget)) h = h.reads.2.budget_given.spelled.most
-most-of-task words schema policies (replaying world) h = tt
-
--- a budget that is read is no more than a log may have steps
-pub most-of-aim : (content : Content) (words : List (List ℕ)) (s : Declarations) (question : Question) (first : List Policy) (against : Option (List Policy)) (aim : Aim) → ReadsAll content words s question first against aim → HasMost aim
-most-of-aim content words s question first against aim read =
-    let reaches = read.reached.reaches in
-    let c = reaches.command in
-    subst TaskHasMost reaches.task (most-of-task words c.schema c.policies c.task reaches.commands)
 
 -- the constants of policies that a file spells are values
 abbrev Spelled : Type 0

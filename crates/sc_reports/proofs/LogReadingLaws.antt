@@ -1,14 +1,16 @@
 -- A log is read in pieces, and what is held follows.
-use Rattle.std.proofs.Common.{◌≡◌, ◌≤◌, ◌<◌, ◌+◌, ◌++◌, ◌∙◌, ℕ, List, [], ◌∷◌, Option, Some, None, IfSome, length, false, refl, sym, ap, subst, arith, length-append, unwrap_or}
+use Rattle.std.proofs.Common.{◌≡◌, ◌↔◌, ◌≤◌, ◌<◌, ◌+◌, ◌++◌, ◌∙◌, ℕ, List, [], ◌∷◌, Option, Some, None, IfSome, length, refl, sym, ap, subst, arith, length-append, unwrap_or}
 use Rattle.sc_outside.specs.Pieces.{Left, behind}
-use Rattle.sc_checker.specs.Streams.{Checker, Checking, after}
-use Rattle.sc_checker.specs.Verdicts.{AreRules, Rules}
-use Rattle.sc_checker.proofs.StreamLaws.{after_cut}
+use Rattle.sc_checker.specs.Streams.{Checker, Checking, After, ended, unread, HasVerdict, IsAcceptedText}
+use Rattle.sc_checker.specs.declared.checking.Verdict.{Verdict}
+use Rattle.sc_checker.specs.declared.checking.Verdict.TheVariants.{Refuted}
+use Rattle.sc_checker.proofs.StreamLaws.{after_joined, nothing_is, nothing_read}
+use Rattle.sc_footprint.specs.Problems.{Posed}
 use Rattle.sc_inputs.specs.Refusals.{Content, Refusal, RefusesLog, log_limit, log_long, log_unread}
-use Rattle.sc_solver.specs.Solutions.{AreRulesOf}
 use Rattle.sc_solver.specs.Theories.{HasRule, rule_clause}
 use Rattle.sc_solver.specs.AllRules.{Rules as AllRules}
-use Rattle.sc_reports.specs.LogReading.{ComesTo, HasRead, HasReadAll, Held, IsOnTheWay, LeadsOn, RefusesPiece, SameProblem, TellsHeld, held_after, piece_long, piece_unread}
+use Rattle.sc_reports.specs.LogReading.{ComesTo, HasRead, HasReadAll, Held, IsOnTheWay, LeadsOn, RefusesPiece, SameProblem, piece_long, piece_unread}
+use Rattle.sc_reports.specs.Claims.{IsChecked}
 
 -- what is left behind a piece is told where what was left is
 record Split (piece rest : List ℕ) (left : Left) : Type 0 where
@@ -25,39 +27,32 @@ split piece rest None e = absurd cc
 split piece rest (Some None) e = absurd cc
 split piece rest (Some (Some more)) e = record { more = more; is_left = refl; parts = ap text_in e }
 
--- a test of the one problem is one of the other
-tells-on : (before now : Held) (tests : Rules) → SameProblem before now → TellsHeld before tests → TellsHeld now tests
-tells-on None None tests same h = tt
-tells-on None (Some d) tests same h = absurd same
-tells-on (Some c) None tests same h = absurd same
-tells-on (Some c) (Some d) tests same h = subst (λ p. AreRulesOf p tests) (sym same) h
-
 -- a piece that is fed leads on
-held-on : (tests : Rules) (now later : Held) (piece more : List ℕ) → SameProblem now later → held_after tests later [] ≡ held_after tests now piece → held_after tests later more ≡ held_after tests now (piece ++ more)
-held-on tests None None piece more same fed = refl
-held-on tests None (Some d) piece more same fed = absurd same
-held-on tests (Some c) None piece more same fed = absurd same
-held-on tests (Some c) (Some d) piece more same fed =
-    let state : d.state ≡ after tests c.state piece = ap (λ (o : Option Checking). unwrap_or o d.state) fed in
-    ap Some (ap (λ s. after tests s more) state ∙ after_cut tests c.state piece more)
+held-on : (now later : Held) (piece more : List ℕ) → SameProblem now later → ComesTo now piece later [] → ComesTo now (piece ++ more) later more
+held-on None None piece more same fed = λ end h. tt
+held-on None (Some d) piece more same fed = absurd same
+held-on (Some c) None piece more same fed = absurd same
+held-on (Some c) (Some d) piece more same fed = λ end h.
+    after_joined (HasRule c.problem) (rule_clause c.problem) c.state d.state end piece more
+    (fed d.state (nothing_read (HasRule d.problem) (rule_clause d.problem) d.state [] refl))
+    (subst (λ (p : Posed). After (HasRule p) (rule_clause p) d.state more end) same h)
 
-pub comes-on : (before now later : Held) (text piece more : List ℕ) → SameProblem before now → SameProblem now later → ComesTo now piece later [] → ComesTo before text now (piece ++ more) → ComesTo before text later more
-comes-on before now later text piece more kept same fed h = λ tests tells.
-    held-on tests now later piece more same (fed tests (tells-on before now tests kept tells)) ∙ h tests tells
+pub comes-on : (before now later : Held) (text piece more : List ℕ) → SameProblem now later → ComesTo now piece later [] → ComesTo before text now (piece ++ more) → ComesTo before text later more
+comes-on before now later text piece more same fed h = λ end k. h end (held-on now later piece more same fed end k)
 
 room-less : (room after_room count size more limit : ℕ) → room ≡ after_room + count → room + size ≡ limit + (count + more) → after_room + size ≡ limit + more
 room-less room after_room count size more limit e f = omega (arith, e, f)
 
 -- with a piece that is read and fed
 pub leads-on : (before now later : Held) (text piece : List ℕ) (room after_room : ℕ) (left next : Left) → LeadsOn before now text room left → left ≡ behind piece next → room ≡ after_room + length piece
-    → SameProblem before now → SameProblem now later → ComesTo now piece later [] → LeadsOn before later text after_room next
-leads-on before now later text piece room after_room left next x front fits kept same fed =
+    → SameProblem now later → ComesTo now piece later [] → LeadsOn before later text after_room next
+leads-on before now later text piece room after_room left next x front fits same fed =
     let s = split piece x.rest next (sym x.is_left ∙ front) in
     let size : length x.rest ≡ length piece + length s.more = ap length s.parts ∙ length-append piece s.more in
     record {
       rest = s.more;
       is_left = s.is_left;
-      follows = comes-on before now later text piece s.more kept same fed (λ tests tells. ap (held_after tests now) (sym s.parts) ∙ x.follows tests tells);
+      follows = comes-on before now later text piece s.more same fed (subst (λ (rest : List ℕ). ComesTo before text now rest) s.parts x.follows);
       counted = room-less room after_room (length piece) (length text) (length s.more) log_limit fits (x.counted ∙ ap (λ n. log_limit + n) size);
     }
 
@@ -65,7 +60,7 @@ leads-on before now later text piece room after_room left next x front fits kept
 pub read-whole : (before now : Held) (text : List ℕ) (room : ℕ) (left : Left) → LeadsOn before now text room left → IfSome left (λ told. IfSome told (λ rest. length rest ≡ 0)) → HasRead before now text
 read-whole before now text room left x end =
     let none : length x.rest ≡ 0 = subst (λ (l : Left). IfSome l (λ told. IfSome told (λ rest. length rest ≡ 0))) x.is_left end in
-    record { short = short-text room (length text) (length x.rest) log_limit x.counted none; reached = λ tests tells. ap (held_after tests now) (sym (no-text x.rest none)) ∙ x.follows tests tells }
+    record { short = short-text room (length text) (length x.rest) log_limit x.counted none; reached = subst (λ (rest : List ℕ). ComesTo before text now rest) (no-text x.rest none) x.follows }
   where
     short-text : (room size rest limit : ℕ) → room + size ≡ limit + rest → rest ≡ 0 → size ≤ limit
     short-text room size rest limit e f = omega (arith, e, f)
@@ -99,13 +94,13 @@ same-on (Some c) (Some d) (Some e) h k = k ∙ h
 pub way-begins : (start : Left) (held : Held) → IsOnTheWay start held held log_limit start
 way-begins None held = tt
 way-begins (Some None) held = tt
-way-begins (Some (Some text)) held = record { rest = text; is_left = refl; follows = λ tests tells. refl; counted = refl }
+way-begins (Some (Some text)) held = record { rest = text; is_left = refl; follows = λ end h. h; counted = refl }
 
 pub way-on : (start : Left) (before now later : Held) (piece : List ℕ) (room after_room : ℕ) (left next : Left) → IsOnTheWay start before now room left → left ≡ behind piece next → room ≡ after_room + length piece
-    → SameProblem before now → SameProblem now later → ComesTo now piece later [] → IsOnTheWay start before later after_room next
-way-on None before now later piece room after_room left next way front fits kept same fed = tt
-way-on (Some None) before now later piece room after_room left next way front fits kept same fed = tt
-way-on (Some (Some text)) before now later piece room after_room left next way front fits kept same fed = leads-on before now later text piece room after_room left next way front fits kept same fed
+    → SameProblem now later → ComesTo now piece later [] → IsOnTheWay start before later after_room next
+way-on None before now later piece room after_room left next way front fits same fed = tt
+way-on (Some None) before now later piece room after_room left next way front fits same fed = tt
+way-on (Some (Some text)) before now later piece room after_room left next way front fits same fed = leads-on before now later text piece room after_room left next way front fits same fed
 
 pub way-ends : (start : Left) (before now : Held) (room : ℕ) (left : Left) → IsOnTheWay start before now room left → IfSome left (λ told. IfSome told (λ rest. length rest ≡ 0)) → HasReadAll start before now
 way-ends None before now room left way end = tt
@@ -140,14 +135,28 @@ pub log-fails : (content : Content) (name : List ℕ) (left : Left) (risen rose 
 log-fails content name left risen rose since e _ (piece_unread h) = log_unread (since h)
 log-fails content name left risen rose since e _ (piece_long far) = log_long (subst (λ (l : Left). IfSome l (λ told. IfSome told (λ rest. log_limit < length rest))) e far)
 
--- a checker that has taken a piece checks the same problem, and holds what comes after the piece by any test of it
-abbrev IsFed : Rules → Checker AllRules → List ℕ → Checker AllRules → Type 0
-IsFed tests old piece new = new ≡ record { rules = old.rules; problem = old.problem; state = after tests old.state piece; refuses = false }
-
 pub fed-same : (held : Held) (old new : Checker AllRules) → held ≡ Some old → new.problem ≡ old.problem → SameProblem held (Some new)
 fed-same held old new is kept = subst (λ (h : Held). SameProblem h (Some new)) (sym is) kept
 
-pub fed-comes : (held : Held) (old new : Checker AllRules) (piece : List ℕ) → held ≡ Some old
-    → ((tests : Rules) → AreRules (λ (t : AllRules). HasRule) (λ (t : AllRules). rule_clause) old.rules old.problem tests → IsFed tests old piece new) → ComesTo held piece (Some new) []
+-- a checker that has taken a piece holds what comes after it
+pub fed-comes : (held : Held) (old new : Checker AllRules) (piece : List ℕ) → held ≡ Some old → After (HasRule old.problem) (rule_clause old.problem) old.state piece new.state → ComesTo held piece (Some new) []
 fed-comes held old new piece is fed = subst (λ (h : Held). ComesTo h piece (Some new) []) (sym is)
-    (λ tests tells. ap (λ (c : Checker AllRules). held_after tests (Some c) []) (fed tests (record { decides = tells.decides; clauses = tells.clauses })))
+    (λ end h. subst (After (HasRule old.problem) (rule_clause old.problem) old.state piece) (sym (nothing_is (HasRule new.problem) (rule_clause new.problem) new.state end h)) fed)
+
+-- the laws of streams, by the rules of a problem
+abbrev Agreeing : Posed → Type 0
+Agreeing p = (bytes : List ℕ) (c : Checking) (v : Verdict) → After (HasRule p) (rule_clause p) (unread p) bytes c → (ended c ≡ v) ↔ HasVerdict (HasRule p) (rule_clause p) p bytes v
+
+abbrev Accepting : Posed → Type 0
+Accepting p = (bytes : List ℕ) (c : Checking) → After (HasRule p) (rule_clause p) (unread p) bytes c → (ended c ≡ Refuted) ↔ IsAcceptedText (HasRule p) (rule_clause p) p bytes
+
+-- where a text is read to its end, the checker has checked it
+pub read-checked : (content : Option (List ℕ)) (p : Posed) (old new : Checker AllRules) (v : Verdict) → Agreeing p → Accepting p → old.problem ≡ p → old.state ≡ unread p → IfSome content (HasRead (Some old) (Some new)) → v ≡ ended new.state
+    → IfSome content (λ text. IsChecked p text v)
+read-checked None p old new v agrees accepts problem first h is = tt
+read-checked (Some text) p old new v agrees accepts problem first h is =
+    let all : After (HasRule p) (rule_clause p) (unread p) text new.state
+    = subst (λ (c : Checking). After (HasRule p) (rule_clause p) c text new.state) first
+    (subst (λ (q : Posed). After (HasRule q) (rule_clause q) old.state text new.state) problem
+    (h.reached new.state (nothing_read (HasRule new.problem) (rule_clause new.problem) new.state [] refl))) in
+    record { verdict = (agrees text new.state v all).0 (sym is); accepted = λ e. (accepts text new.state all).0 (sym is ∙ e) }

@@ -1,9 +1,9 @@
 -- What analysing an environment asks, and what its answer means.
 use Rattle.sc_ast.specs.Conditions.{condition}
 use Rattle.sc_eval.specs.Written.{HasProperConstants}
-use Rattle.std.specs.List.{AllByRecursion}
-use Rattle.std.specs.Prelude.{◌≡◌, ◌≤◌, ℕ, List, [], Option, Some, is_some, length, unwrap_or, ⊤}
-use Rattle.sc_checker.specs.Verdicts.{IsAccepted, Rules}
+use Rattle.std.specs.List.{AllByRecursion, Contains}
+use Rattle.std.specs.Prelude.{◌≡◌, ◌≤◌, ℕ, List, [], IsSome, None, Option, Some, is_some, length, unwrap_or, ⊤}
+use Rattle.sc_checker.specs.Verdicts.{IsAccepted}
 use Rattle.sc_clauses.specs.declared.step.Step.{Step}
 use Rattle.sc_footprint.specs.Problems.{Posed}
 use Rattle.sc_goal.specs.Goals.{goal_term}
@@ -15,9 +15,10 @@ use Rattle.sc_inputs.specs.Refusals.{AreServed}
 use Rattle.sc_inputs.specs.declared.inputs.Analysis.{Analysis}
 use Rattle.sc_inputs.specs.declared.inputs.Asking.{Asking}
 use Rattle.sc_schema.specs.declared.declarations.Env.{Env}
-use Rattle.sc_schema.specs.Declarations.{Declarations}
-use Rattle.sc_solver.specs.Solutions.{AreRulesOf}
+use Rattle.sc_schema.specs.Declarations.{Declarations, environments}
+use Rattle.sc_solver.specs.Theories.{HasRule, rule_clause}
 use Rattle.sc_terms.specs.Trees.{Tree}
+use Rattle.sc_typing.specs.Names.{name_fault}
 use Rattle.sc_reports.specs.Reports.{Asked, IsProblem, IsVerdict}
 use Rattle.sc_reports.specs.View.{verdict_view}
 use Rattle.sc_reports.specs.declared.analysing.EnvAnswer.{EnvAnswer}
@@ -31,15 +32,23 @@ asked_of s q budget = record { schema = s; question = q.question; first = q.firs
 abbrev pub IsGoalOf : Declarations → Env → Query → Tree → Type 0
 IsGoalOf s env q t = goal_term s env q.question q.first (second q) ≡ Some t
 
+-- What may be asked of an environment: it is one of the schema's, the sets write declared names alone, and are typed in it, so that there
+-- is a goal.
+pub record MayBePosed (s : Declarations) (env : Env) (q : Query) : Type 0 where
+  pub environment : Contains (environments s) env
+  pub first_declared : name_fault s q.first ≡ None
+  pub second_declared : name_fault s (second q) ≡ None
+  pub typed : IsSome (goal_term s env q.question q.first (second q))
+
 -- what is answered is so
 abbrev pub IsAnswer : Asked → Env → EnvAnswer → Type 0
 IsAnswer q env a = IsVerdict q env (verdict_view q.budget a)
 
--- a log of at most as many steps as the budget refutes the environment's problem: any test that tells just its instances accepts it
+-- a log of at most as many steps as the budget refutes the environment's problem
 pub record IsRefuted (q : Asked) (env : Env) (log : List Step) : Type 0 where
   pub posed : Posed
   pub is_problem : IsProblem q env posed
-  pub accepted : (rules : Rules) → AreRulesOf posed rules → IsAccepted rules posed log
+  pub accepted : IsAccepted (HasRule posed) (rule_clause posed) posed log
   pub within : length log ≤ q.budget
 
 -- a log shows that the property holds
@@ -59,10 +68,6 @@ asked_within i budget = asked i.schema i.question i.policies i.against budget
 
 abbrev pub asked_in : Analysis → Asked
 asked_in i = asked_within i.asking i.budget
-
--- no log has more steps
-abbrev pub most_units : ℕ
-most_units = 1000000000
 
 -- the constants of policies are values: numbers of 64 bits, and texts of scalar values
 abbrev pub HaveProper : List Policy → Type 0

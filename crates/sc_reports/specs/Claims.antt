@@ -2,8 +2,7 @@
 use Rattle.std.specs.Prelude.{◌≡◌, ◌≤◌, ◌++◌, ℕ, List, Option, IfSome, length, codes, take}
 use Rattle.std.specs.Fmt.{decimal}
 use Rattle.sc_outside.specs.Writes.{appended}
-use Rattle.sc_checker.specs.Streams.{HasVerdict, IsAcceptedText, after, ended, unread}
-use Rattle.sc_checker.specs.Verdicts.{Rules}
+use Rattle.sc_checker.specs.Streams.{HasVerdict, IsAcceptedText}
 use Rattle.sc_checker.specs.declared.checking.Reason.{Reason}
 use Rattle.sc_checker.specs.declared.checking.Reason.TheVariants as reason
 use Rattle.sc_checker.specs.declared.checking.Verdict.{Verdict}
@@ -11,7 +10,7 @@ use Rattle.sc_checker.specs.declared.checking.Verdict.TheVariants.{Refuted, Reje
 use Rattle.sc_footprint.specs.Problems.{Posed}
 use Rattle.sc_inputs.specs.Refusals.{log_limit}
 use Rattle.sc_schema.specs.declared.declarations.Env.{Env}
-use Rattle.sc_solver.specs.Solutions.{AreRulesOf}
+use Rattle.sc_solver.specs.Theories.{HasRule, rule_clause}
 use Rattle.sc_reports.specs.Reports.{AlwaysHas, Asked, HasRoom, IsProblem, IsTooLarge, line_text, over_limit}
 use Rattle.sc_reports.specs.declared.claims.Answer as code
 use Rattle.sc_reports.specs.declared.claims.Answer.TheVariants as answer
@@ -25,17 +24,17 @@ pub data Answer : Type 0 where
   -- the environment's problem lists more atoms than may be
   too_large : Answer
 
--- the text has this verdict as a log of the environment's problem, by any test that tells just its instances
+-- the text has this verdict as a log of the environment's problem
 pub record HasTextVerdict (q : Asked) (env : Env) (text : List ℕ) (v : Verdict) : Type 0 where
   pub posed : Posed
   pub is_problem : IsProblem q env posed
-  pub verdict : (rules : Rules) → AreRulesOf posed rules → HasVerdict rules posed text v
+  pub verdict : HasVerdict (HasRule posed) (rule_clause posed) posed text v
 
 -- the text is that of a log of the environment's problem which is accepted
 pub record IsShown (q : Asked) (env : Env) (text : List ℕ) : Type 0 where
   pub posed : Posed
   pub is_problem : IsProblem q env posed
-  pub accepted_text : (rules : Rules) → AreRulesOf posed rules → IsAcceptedText rules posed text
+  pub accepted_text : IsAcceptedText (HasRule posed) (rule_clause posed) posed text
 
 -- what an answer claims, of a log file with this content, where that is told: that a log is accepted means, whatever the file holds, that
 -- each well-formed world of the environment has the property
@@ -72,10 +71,12 @@ answer_view answer.Accepted = accepted
 answer_view (answer.Rejected step why) = rejected step why
 answer_view answer.OverLimit = too_large
 
--- the verdict on a text as a log of a problem, and what is said of a verdict
-abbrev pub verdict_on : Rules → Posed → List ℕ → Verdict
-verdict_on rules p text = ended (after rules (unread p) text)
+-- a text is checked for a problem: this is its verdict
+pub record IsChecked (p : Posed) (text : List ℕ) (v : Verdict) : Type 0 where
+  pub verdict : HasVerdict (HasRule p) (rule_clause p) p text v
+  pub accepted : v ≡ Refuted → IsAcceptedText (HasRule p) (rule_clause p) p text
 
+-- what is said of a verdict
 abbrev pub says_of : Verdict → Answer
 says_of Refuted = accepted
 says_of (Rejected step why) = rejected step why

@@ -1,10 +1,9 @@
 -- How far a log is read.
-use Rattle.std.specs.Prelude.{◌≡◌, ◌+◌, ◌≤◌, ◌<◌, ℕ, List, [], Option, Some, None, IfSome, length, option_map, ⊤}
+use Rattle.std.specs.Prelude.{◌≡◌, ◌+◌, ◌≤◌, ◌<◌, ℕ, List, [], Option, Some, None, IfSome, length, ⊤}
 use Rattle.sc_outside.specs.Pieces.{Left}
-use Rattle.sc_checker.specs.Streams.{Checker, Checking, after}
+use Rattle.sc_checker.specs.Streams.{Checker, Checking, After}
 use Rattle.sc_inputs.specs.Refusals.{Refusal, log_file, log_limit, read_fault, too_long}
-use Rattle.sc_checker.specs.Verdicts.{Rules as Tests}
-use Rattle.sc_solver.specs.Solutions.{AreRulesOf}
+use Rattle.sc_solver.specs.Theories.{HasRule, rule_clause}
 use Rattle.sc_solver.specs.AllRules.{Rules}
 
 -- a piece of a log isn't read: the count rose, or more is left than may be
@@ -23,18 +22,14 @@ SameProblem (Some c) (Some d) = d.problem ≡ c.problem
 SameProblem None (Some d) = ⊥
 SameProblem (Some c) None = ⊥
 
--- a test that tells just the instances of the problem that is checked
-abbrev pub TellsHeld : Held → Tests → Type 0
-TellsHeld None tests = ⊤
-TellsHeld (Some c) tests = AreRulesOf c.problem tests
+-- this is held after a text, where a log is checked
+abbrev pub HoldsAfter : Held → List ℕ → Checking → Type 0
+HoldsAfter None text end = ⊤
+HoldsAfter (Some c) text end = After (HasRule c.problem) (rule_clause c.problem) c.state text end
 
--- what is held, where it is, after this text, by a test
-abbrev pub held_after : Tests → Held → List ℕ → Option Checking
-held_after tests held text = option_map (λ c. after tests c.state text) held
-
--- from the one what is held comes to what it comes to from the other, each with its text, by any such test
+-- from the one what is held comes to what it comes to from the other, each with its text
 abbrev pub ComesTo : Held → List ℕ → Held → List ℕ → Type 0
-ComesTo before text now rest = (tests : Tests) → TellsHeld before tests → held_after tests now rest ≡ held_after tests before text
+ComesTo before text now rest = (end : Checking) → HoldsAfter now rest end → HoldsAfter before text end
 
 -- what is left, where that is told, leads from what is held to where the whole text leads from what was held, with so much room up to
 -- the limit

@@ -1,12 +1,10 @@
 //! Analyses one environment.
-ghost use Rattle.std.specs.Prelude.{◌≡◌, ◌≤◌, Contains, IfOk, IfErr};
-ghost use Rattle.sc_schema.specs.Declarations.{environments};
+ghost use Rattle.std.specs.Prelude.{IfOk, IfErr};
 ghost use Rattle.sc_footprint.specs.Atoms.{IsRefused};
 ghost use Rattle.sc_footprint.specs.Problems.{IsProblemOf};
 ghost use Rattle.sc_goal.specs.Queries.{second};
-ghost use Rattle.sc_inputs.specs.Refusals.{AreServed};
 ghost use Rattle.sc_terms.specs.Trees.{Tree};
-ghost use Rattle.sc_reports.specs.Analyses.{asked_of, HaveProper, IsAnswer, IsFound, IsGoalOf, most_units};
+ghost use Rattle.sc_reports.specs.Analyses.{asked_of, HaveProper, IsAnswer, IsFound, IsGoalOf, MayBePosed};
 ghost use Rattle.sc_reports.specs.Reports.{IsProblem};
 
 use sc_checker::Log;
@@ -42,8 +40,7 @@ pub(crate) fn problem_of<'a>(
     env: &'a Env,
     query: &'a Query<'_>,
 ) -> Result<Problem<'a>, Fault<OverLimit>>
-    requires environment { Contains (environments schema.now) env.now }
-    requires served { AreServed schema.now query.now.first query.now.against }
+    requires posed { MayBePosed schema.now env.now query.now }
     requires first_proper { HaveProper query.now.first }
     requires second_proper { HaveProper (second query.now) }
     ensures ok { IfOk result (λ p. (t : Tree) → IsGoalOf schema.now env.now query.now t
@@ -62,7 +59,7 @@ pub(crate) fn problem_of<'a>(
 }
 
 /// Whether each well-formed world of an environment of the schema has the property that is asked about.
-/// The policies are declared and typed.
+/// The policies are declared, and typed in the environment.
 pub fn analyse_env(
     alloc: Global,
     schema: &Schema,
@@ -70,15 +67,12 @@ pub fn analyse_env(
     query: &Query<'_>,
     budget: u64,
 ) -> Result<EnvAnswer, AllocError>
-    requires environment { Contains (environments schema.now) env.now }
-    requires served { AreServed schema.now query.now.first query.now.against }
+    requires posed { MayBePosed schema.now env.now query.now }
     requires first_proper { HaveProper query.now.first }
     requires second_proper { HaveProper (second query.now) }
-    requires units { budget ≤ most_units }
     ensures answer { IfOk result (IsAnswer (asked_of schema.now query.now budget) env.now) }
     ensures found { IfOk result (IsFound (asked_of schema.now query.now budget) env.now) }
 {
-    goal_laws();
     query.laws();
     match problem_of(alloc, schema, env, query) {
         Ok(problem) => {
@@ -100,7 +94,6 @@ fn solved(
     budget: u64,
 ) -> Result<EnvAnswer, AllocError>
     requires problem { IsProblem (asked_of schema.now query.now budget) env.now problem.now }
-    requires units { budget ≤ most_units }
     ensures answer { IfOk result (IsAnswer (asked_of schema.now query.now budget) env.now) }
     ensures found { IfOk result (IsFound (asked_of schema.now query.now budget) env.now) }
 {

@@ -1,15 +1,13 @@
 //! Checks a log that was kept.
 ghost use Rattle.std.specs.Prelude.{◌≡◌, ◌<◌, ◌≤◌, Some, length, slice_get, IfErr, IfOk, IfSome, OnOk};
-ghost use Rattle.sc_checker.specs.Verdicts.{Rules as AnyRules};
 ghost use Rattle.sc_footprint.specs.Truths.{IsUnsatisfiable};
-ghost use Rattle.sc_solver.specs.Solutions.{AreRulesOf};
 ghost use Rattle.sc_inputs.specs.Readings.{FailsWith, IsUnread};
 ghost use Rattle.sc_inputs.specs.Refusals.{RefusesLog};
 ghost use Rattle.sc_outside.specs.Counts.{Rose};
 ghost use Rattle.sc_schema.specs.Declarations.{environments};
 ghost use Rattle.sc_schema.specs.declared.declarations.Env.{Env as AnyEnv};
 ghost use Rattle.sc_reports.specs.Analyses.{asked_of, asked_within, MayBeAsked};
-ghost use Rattle.sc_reports.specs.Claims.{answer_view, says_of, verdict_on, Claims, IsShort};
+ghost use Rattle.sc_reports.specs.Claims.{answer_view, says_of, Claims, IsChecked, IsShort};
 ghost use Rattle.sc_reports.specs.Reports.{IsProblem};
 
 use crate::analysing::problem_of;
@@ -56,8 +54,7 @@ fn checked<F: Files>(
     name: &str,
     problem: &Problem<'_>,
 ) -> Result<Verdict, Fault<Refusal>>
-    ensures verdict { IfOk result (λ v. IfSome (F.content files.old name.now) (λ text. (tests : AnyRules)
-        → AreRulesOf problem.now tests → verdict_on tests problem.now text ≡ v)) }
+    ensures verdict { IfOk result (λ v. IfSome (F.content files.old name.now) (λ text. IsChecked problem.now text v)) }
     ensures sound { IfOk result (λ v. v ≡ Verdict.Refuted → IsUnsatisfiable problem.now) }
     ensures short { OnOk result (IsShort (F.content files.old name.now)) }
     ensures fails { IfErr result (FailsWith (RefusesLog (F.content files.old) name.now (Rose (F.faults files.old)
@@ -65,6 +62,7 @@ fn checked<F: Files>(
     ensures later { F.faults files.old ≤ F.faults files.new }
     ensures told { F.faults files.old < F.faults files.new → IsUnread result }
 {
+    stream_laws::<Rules>();
     let rules = Rules::new();
     let mut held = match LogChecker::new(alloc, &rules, problem) {
         Ok(checker) => Some(checker),
@@ -119,7 +117,6 @@ fn check_problem<F: Files>(
     schema.laws();
     goal_laws();
     literal_laws();
-    stream_laws();
     let _ = env;
     let _ = query;
     match checked(alloc, files, name, problem) {

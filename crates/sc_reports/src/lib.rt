@@ -4,6 +4,7 @@
 mod analysing;
 mod claims;
 mod environment;
+mod laws;
 mod line;
 mod log_reading;
 mod logging;
@@ -14,6 +15,7 @@ mod tally;
 
 pub use analysing::{EnvAnswer, analyse_env};
 pub use claims::{Answer, check_claim};
+pub use laws::verdict_law;
 pub use logging::report_log;
 pub use reporting::report;
 pub use saying::put_said;

@@ -4,7 +4,7 @@ ghost use Rattle.sc_checker.specs.Texts.{step_line};
 ghost use Rattle.sc_outside.specs.Counts.{Rose};
 ghost use Rattle.sc_schema.specs.Declarations.{environments};
 ghost use Rattle.sc_schema.specs.declared.declarations.Env.{Env as AnyEnv};
-ghost use Rattle.sc_reports.specs.Analyses.{IsAnswer, IsFound, asked_in, most_units, MayBeAsked};
+ghost use Rattle.sc_reports.specs.Analyses.{IsAnswer, IsFound, asked_in, MayBeAsked};
 ghost use Rattle.sc_reports.specs.Lines.{PutsLines};
 ghost use Rattle.sc_reports.specs.Logs.{Logged, log_lines, log_status, step_lines};
 ghost use Rattle.sc_reports.specs.Progress.{Puts};
@@ -18,6 +18,7 @@ use crate::reporting::{put_answer, query_of, status_after};
 use crate::status::Status;
 use crate::tally::Tally;
 use sc_checker::{Log, Step, write_step};
+use sc_goal::goal_laws;
 use sc_inputs::{Analysis, Logging};
 use sc_outside::{Sink, SinkFault};
 use sc_schema::Env;
@@ -139,13 +140,13 @@ fn report_found<O: Sink>(
 pub fn report_log<O: Sink>(alloc: Global, inputs: &Logging, out: &mut O) -> Status
     requires environment { inputs.now.environment < length (environments inputs.now.analysis.asking.schema) }
     requires allowed { MayBeAsked inputs.now.analysis.asking }
-    requires units { inputs.now.analysis.budget ≤ most_units }
     ensures reports { (env : AnyEnv)
         → slice_get (environments inputs.now.analysis.asking.schema) inputs.now.environment ≡ Some env
         → Logged (asked_in inputs.now.analysis) env (O.written out.old) (O.written out.new) (Rose (O.faults out.old)
         (O.faults out.new)) result.code result.spent.items }
     ensures told { O.faults out.old < O.faults out.new → result.code ≡ 21 }
 {
+    goal_laws();
     let asking = &inputs.analysis.asking;
     let env = environment_at(&asking.schema, inputs.environment);
     let Ok(query) = query_of(alloc, asking) else {

@@ -2,7 +2,7 @@
 ghost use Rattle.std.specs.Prelude.{◌≡◌, ◌≢◌, ◌<◌, ◌≤◌, [], ◌∷◌, true, false, Contains, Err, IfOk};
 ghost use Rattle.sc_outside.specs.Counts.{Rose};
 ghost use Rattle.sc_schema.specs.Declarations.{environments};
-ghost use Rattle.sc_reports.specs.Analyses.{asked_in, most_units, IsQueryOf, MayBeAsked};
+ghost use Rattle.sc_reports.specs.Analyses.{asked_in, IsQueryOf, MayBeAsked};
 ghost use Rattle.sc_reports.specs.Progress.{IsFresh, PutsCounted, ReportsEnv, ReportsAll, ReportsNone, Reported, status_after};
 ghost use Rattle.sc_reports.specs.Reports.{is_counterexample, is_open, log_of};
 ghost use Rattle.sc_reports.specs.View.{verdict_view};
@@ -12,7 +12,7 @@ use crate::line::line_of;
 use crate::status::Status;
 use crate::tally::Tally;
 use sc_checker::Log;
-use sc_goal::{Query, query};
+use sc_goal::{Query, goal_laws, query};
 use sc_inputs::{Analysis, Asking};
 use sc_outside::{Sink, SinkFault};
 use sc_schema::{Env, environments};
@@ -110,12 +110,12 @@ fn report_env<O: Sink>(
     requires environment { Contains (environments inputs.now.asking.schema) env.now }
     requires asked { IsQueryOf inputs.now.asking query.now }
     requires allowed { MayBeAsked inputs.now.asking }
-    requires units { inputs.now.budget ≤ most_units }
     ensures reports { ReportsEnv (asked_in inputs.now) env.now tally.old tally.new (O.written out.old)
         (O.written out.new) (Rose (O.faults out.old) (O.faults out.new)) result }
     ensures later { O.faults out.old ≤ O.faults out.new }
     ensures told { O.faults out.old < O.faults out.new → result ≡ Err SinkFault.Failed }
 {
+    goal_laws();
     let Ok(answer) = analyse_env(alloc, &inputs.asking.schema, env, query, inputs.budget) else {
         return Err(SinkFault::NoMemory);
     };
@@ -137,7 +137,6 @@ fn report_all<O: Sink>(
     requires environments { envs.now ≡ environments inputs.now.asking.schema }
     requires asked { IsQueryOf inputs.now.asking query.now }
     requires allowed { MayBeAsked inputs.now.asking }
-    requires units { inputs.now.budget ≤ most_units }
     requires nothing { IsFresh tally.old }
     ensures reports { ReportsAll (asked_in inputs.now) envs.now tally.new (O.written out.old) (O.written out.new) (Rose
         (O.faults out.old) (O.faults out.new)) result }
@@ -190,7 +189,6 @@ fn report_some<O: Sink>(
     requires some { envs.now ≢ [] }
     requires asked { IsQueryOf inputs.now.asking query.now }
     requires allowed { MayBeAsked inputs.now.asking }
-    requires units { inputs.now.budget ≤ most_units }
     ensures reports { Reported (asked_in inputs.now) (O.written out.old) (O.written out.new) (Rose (O.faults out.old)
         (O.faults out.new)) result.code result.spent.items }
     ensures told { O.faults out.old < O.faults out.new → result.code ≡ 21 }
@@ -206,7 +204,6 @@ fn report_some<O: Sink>(
 /// Reports on each environment of the schema.
 pub fn report<O: Sink>(alloc: Global, inputs: &Analysis, out: &mut O) -> Status
     requires allowed { MayBeAsked inputs.now.asking }
-    requires units { inputs.now.budget ≤ most_units }
     ensures reports { Reported (asked_in inputs.now) (O.written out.old) (O.written out.new) (Rose (O.faults out.old)
         (O.faults out.new)) result.code result.spent.items }
     ensures told { O.faults out.old < O.faults out.new → result.code ≡ 21 }

@@ -1,6 +1,7 @@
 -- What a run must end with, since the words and the files determine what is read.
-use Rattle.std.proofs.Common.{◌≡◌, ◌≢◌, ◌≤◌, ◌<◌, ◌⊎◌, ℕ, zero, suc, List, [], ◌∷◌, Option, Some, None, IfSome, Ok, Err, length, refl, sym, ap, ◌∙◌, subst, arith, ⊎_elim, inl, inr}
+use Rattle.std.proofs.Common.{◌≡◌, ◌≢◌, ◌≤◌, ◌<◌, ◌⊎◌, ℕ, zero, suc, List, [], ◌∷◌, Option, Some, None, IfSome, Ok, Err, length, slice_get, refl, sym, ap, ◌∙◌, subst, arith, ⊎_elim, inl, inr}
 use Rattle.std.specs.Bool.{⊤}
+use Rattle.std.proofs.lemmas.Option.{slice_get_within}
 use Rattle.sc_schema.specs.declared.declarations.Env.{Env}
 use Rattle.sc_schema.specs.Declarations.{Declarations, environments}
 use Rattle.sc_schema_json.specs.Spelling as json
@@ -18,12 +19,14 @@ use Rattle.sc_inputs.specs.Serving.{Aim, Command, Serves, asking, checking, logg
 use Rattle.sc_inputs.proofs.ServingLaws.{same_policies, same_schema, same_task, not_both_tasks, one_world_file, one_question}
 use Rattle.sc_inputs.specs.Readings.{ReadsAll, ReadsWorld}
 use Rattle.sc_inputs.specs.Refusals.{Refusal, Side, policies_side, against_side, IsRefusal, no_command, of_schema, of_policies, of_against, of_world, of_names, of_log, of_place, of_question, RefusesLog, log_long, log_unread, RefusesPlace, misplaced, RefusesQuestion, undeclared, untyped, unread, long, RefusesSchema, schema_unread, schema_faulty, RefusesPolicies, policies_unread, policies_faulty, RefusesWorld, world_unread, world_faulty, code_of, Content, IsContent, IsTooLong, ReadsSchema, HasPolicies, HasAgainst, HasWorld, AreServed, HasEnvironment, IsLongLog, ReachesAim, ReachesQuestion, ReachesWorld, names_fault, types_fault, limit, log_limit}
-use Rattle.sc_reports.specs.Claims.{Answer, Checked, IsShort, accepted, answer_code, answer_front, answer_whole, rejected, too_large, unchecked}
+use Rattle.sc_checker.specs.declared.checking.Reason.{Reason}
+use Rattle.sc_checker.specs.declared.checking.Verdict.TheVariants.{Rejected}
+use Rattle.sc_reports.specs.Claims.{Answer, Checked, Claims, HasTextVerdict, IsShort, IsShown, accepted, answer_code, answer_front, answer_whole, rejected, too_large, unchecked}
 use Rattle.sc_reports.specs.Logs.{Logged, log_first, log_front, log_whole, other_front, other_whole, unlogged}
 use Rattle.sc_reports.specs.Progress.{Reported, whole, cut, cut_none, stopped}
 use Rattle.sc_run.specs.Replays.{Replayed, told_whole, told_front, told_first, untold}
 use Rattle.sc_reports.specs.Reports.{Asked}
-use Rattle.sc_run.specs.Runs.{Run, HasRisen, Ends, refused, refusal_cut, reduced, reported, replayed, wrote_log, checked_log, no_memory, scene, IsReadable, IsServed, IsWhole, IsWholeFor, LogIsLong, LogIsTold, MustBe, PlaceIsMissing, SchemaTold, PoliciesTold, AgainstTold, no_file, told_file, AgainstNamed, AllSpelled, WorldTold, WorldSpelled, QuestionSpelled, SchemaIsLong, SchemaIsFaulty, PoliciesAreLong, PoliciesAreFaulty, AgainstIsLong, AgainstIsFaulty, WorldIsLong, WorldIsFaulty, NamesAreUnknown, PoliciesAreUntyped, IsReplayable, IsReplayed}
+use Rattle.sc_run.specs.Runs.{Run, HasRisen, Ends, refused, refusal_cut, reduced, reported, replayed, wrote_log, checked_log, no_memory, scene, IsReadable, IsServed, IsWhole, IsWholeFor, LogIsLong, LogIsTold, MustBe, PlaceIsMissing, SchemaTold, PoliciesTold, AgainstTold, no_file, told_file, AgainstNamed, AllSpelled, WorldTold, WorldSpelled, QuestionSpelled, SchemaIsLong, SchemaIsFaulty, PoliciesAreLong, PoliciesAreFaulty, AgainstIsLong, AgainstIsFaulty, WorldIsLong, WorldIsFaulty, NamesAreUnknown, PoliciesAreUntyped, IsReplayable, IsReplayed, LogIsRight, LogIsWrong, MustSay, ReadsLog, asked_of_log}
 use Rattle.sc_run.specs.Reduces.{Reduced, to_reduce}
 use Rattle.sc_run.proofs.ReductionLaws.{reduction-codes}
 use Rattle.sc_reduction.specs.Reductions.{Asked as Reduction}
@@ -85,6 +88,10 @@ named-content : (content : Content) (n : Option (List ℕ)) (p : Option (List Po
 named-content content None p file is h = absurd cc
 named-content content (Some m) None file is h = absurd h
 named-content content (Some m) (Some ps) file is h = let same : m ≡ file = cc in (ps, subst (λ k. HasPolicies content k ps) same h)
+
+-- a text that is accepted isn't rejected
+abbrev ShownOnce : Type 0
+ShownOnce = (q : Asked) (env : Env) (text : List ℕ) (step : ℕ) (why : Reason) → IsShown q env text → ¬ HasTextVerdict q env text (Rejected step why)
 
 -- ---- what is reached
 
@@ -576,6 +583,78 @@ module _ (r : Run) (spent : List (List Step)) where
     complete (reduced s question first against budget reads report) x calm still = for-aim x s question first against (reducing budget) reads (reduction-whole (to_reduce s first budget) report still)
     complete (replayed s ps w reads report none) x calm still = absurd (no-replay x.served.0.before s ps reads.name reads.reaches)
     complete (no_memory c t none) x calm still = out-of-memory x.served.0.before.aim r.code c
+
+    -- ---- a log that is checked
+
+    -- what is asked is what the words and the files ask
+    one-asked : (t : AllSpelled r) (s : Declarations) (question : Question) (first : List Policy) (against : Option (List Policy)) (aim : Aim) → ReachesQuestion r.content r.words s question first against aim
+        → asked s question first against 0 ≡ asked t.before.before.schema t.before.question t.before.policies t.others 0
+    one-asked t s question first against aim x =
+        let schema = one-schema t.before.before x.command x.commands s x.schema in
+        let policies = one-policies t.before.before t.before.policies t.before.spelled x.command x.commands first x.policies in
+        let others = one-against r.content t.before.name x.name t.others against t.against (one-name t.before x.command question x.name aim x.commands x.task) x.others in
+        let same : question ≡ t.before.question
+        = sym (one_question t.before.before.command.task t.before.question question t.before.name x.name t.before.aim aim t.before.task (same_task r.words t.before.before.command x.command t.before.before.commands x.commands ∙ x.task)).0 in
+        λ i. asked (schema i) (same i) (policies i) (others i) 0
+
+    readable-log : (x : ReadsLog r) → IsReadable r
+    readable-log x = record {
+      served = x.served;
+      environment = subst (λ (m : Aim). HasEnvironment x.served.0.before.before.schema m) (sym x.aim_is) (slice_get_within (environments x.served.0.before.before.schema) x.place x.env x.named);
+      log = subst (LogIsTold r.content) (sym x.aim_is) (x.bytes, x.told, x.short);
+    }
+
+    -- the log is the one that is named, and the environment too
+    this-log : (x : ReadsLog r) (s : Declarations) (question : Question) (first : List Policy) (against : Option (List Policy)) (place : ℕ) (name : List ℕ) (env : Env) → ReadsAll r.content r.words s question first against (checking place name)
+        → slice_get (environments s) place ≡ Some env → Checked (r.content name) (asked s question first against 0) env r.before r.after (HasRisen r.writes) r.code
+        → Checked (Some x.bytes) (asked_of_log x) x.env r.before r.after (HasRisen r.writes) r.code
+    this-log x s question first against place name env reads at report =
+        let reaches = reads.reached.reaches in
+        let aims : checking place name ≡ checking x.place x.name = sym (one-aim x.served.0 s question first against (checking place name) reaches) ∙ x.aim_is in
+        let there : place ≡ x.place = cc in
+        let named : name ≡ x.name = cc in
+        let schema = reached-schema-is x.served.0 s question first against (checking place name) reaches in
+        let both : Some env ≡ Some x.env = sym at ∙ ((λ i. slice_get (environments (schema i)) (there i)) ∙ x.named) in
+        let envs : env ≡ x.env = cc in
+        subst (λ (e : Env). Checked (Some x.bytes) (asked_of_log x) e r.before r.after (HasRisen r.writes) r.code) envs
+        (subst (λ (q : Asked). Checked (Some x.bytes) q env r.before r.after (HasRisen r.writes) r.code) (one-asked x.served.0 s question first against (checking place name) reaches)
+        (subst (λ (o : Option (List ℕ)). Checked o (asked s question first against 0) env r.before r.after (HasRisen r.writes) r.code) (ap r.content named ∙ x.told) report))
+
+    said-whole : (x : ReadsLog r) (n : ℕ) → ((a : Answer) → Claims (Some x.bytes) (asked_of_log x) x.env a → r.code ≡ answer_code a → MustSay n r.code)
+        → Checked (Some x.bytes) (asked_of_log x) x.env r.before r.after (HasRisen r.writes) r.code → (HasRisen r.writes → ⊥) → MustSay n r.code
+    said-whole x n says (answer_whole a short claims c text) still = says a claims c
+    said-whole x n says (answer_front a k short claims rose c text) still = absurd (still rose)
+    said-whole x n says (unchecked c text) still = inr (inr c)
+
+    not-checking : (x : ReadsLog r) (s : Declarations) (question : Question) (first : List Policy) (against : Option (List Policy)) (aim : Aim) → ReachesQuestion r.content r.words s question first against aim → aim ≡ checking x.place x.name
+    not-checking x s question first against aim reaches = sym (one-aim x.served.0 s question first against aim reaches) ∙ x.aim_is
+
+    must-say : (x : ReadsLog r) (n : ℕ) → ((a : Answer) → Claims (Some x.bytes) (asked_of_log x) x.env a → r.code ≡ answer_code a → MustSay n r.code) → Ends r spent → (HasRisen r.reads → ⊥) → (HasRisen r.writes → ⊥) → MustSay n r.code
+    must-say x n says (refused a h c t none) calm still = absurd (none-refused (readable-log x) calm a h)
+    must-say x n says (refusal_cut a k h rose c t none) calm still = absurd (still rose)
+    must-say x n says (reported s question first against budget reads report) calm still =
+        absurd (let other = not-checking x s question first against (reporting budget) reads.reached.reaches in cc)
+    must-say x n says (wrote_log s question first against budget place env reads at report) calm still =
+        absurd (let other = not-checking x s question first against (logging budget place) reads.reached.reaches in cc)
+    must-say x n says (checked_log s question first against place name env reads at report none) calm still = said-whole x n says (this-log x s question first against place name env reads at report) still
+    must-say x n says (replayed s ps w reads report none) calm still = absurd (no-replay x.served.0.before s ps reads.name reads.reaches)
+    must-say x n says (no_memory c t none) calm still = inr (inr c)
+
+    right-answer : ShownOnce → (x : ReadsLog r) → IsShown (asked_of_log x) x.env x.bytes → (a : Answer) → Claims (Some x.bytes) (asked_of_log x) x.env a → r.code ≡ answer_code a → MustSay 0 r.code
+    right-answer once x shown accepted claims c = inl c
+    right-answer once x shown (rejected step why) claims c = absurd (once (asked_of_log x) x.env x.bytes step why shown claims.1)
+    right-answer once x shown too_large claims c = inr (inl c)
+
+    wrong-answer : (x : ReadsLog r) → ¬ IsShown (asked_of_log x) x.env x.bytes → (a : Answer) → Claims (Some x.bytes) (asked_of_log x) x.env a → r.code ≡ answer_code a → MustSay 14 r.code
+    wrong-answer x never accepted claims c = absurd (never claims.2)
+    wrong-answer x never (rejected step why) claims c = inl c
+    wrong-answer x never too_large claims c = inr (inl c)
+
+    pub right-log : ShownOnce → Ends r spent → LogIsRight r → (HasRisen r.reads → ⊥) → (HasRisen r.writes → ⊥) → MustSay 0 r.code
+    right-log once ends x calm still = must-say x.0 0 (right-answer once x.0 x.1) ends calm still
+
+    pub wrong-log : Ends r spent → LogIsWrong r → (HasRisen r.reads → ⊥) → (HasRisen r.writes → ⊥) → MustSay 14 r.code
+    wrong-log ends x calm still = must-say x.0 14 (wrong-answer x.0 x.1) ends calm still
 
     -- ---- a world file, where the schema and the policies are read
 

@@ -3,7 +3,7 @@ use Rattle.std.specs.Prelude.{◌≡◌, ◌⊎◌, List}
 use Rattle.std.specs.List.{Contains}
 use Rattle.sc_clauses.specs.declared.step.Step.{Step}
 use Rattle.sc_inputs.specs.Serving.{Command, Serves}
-use Rattle.sc_run.specs.Runs.{Run, HasRisen, WentUp, Ends, AllWell, AllHold, AsksQuestion, ChecksLog, WritesLog, ReducesSet, ReplaysWorld, IsMisplaced, IsWell, LogIsAccepted, LogIsLong, LogIsRejected, LogIsWritten, PlaceIsMissing, SetIsReduced, SomeFails, SomeLeft, IsFateLogged, IsLogged, IsBroken, IsReadable, IsWholeFor, IsReplayable, IsReplayed, MustBe, TooLong, SchemaIsLong, SchemaIsFaulty, PoliciesAreLong, PoliciesAreFaulty, AgainstIsLong, AgainstIsFaulty, PoliciesAreUntyped, WorldIsLong, WorldIsFaulty, NamesAreUnknown, IsFaulty, IsFaultySchema, IsFaultyWorld, IsUntyped}
+use Rattle.sc_run.specs.Runs.{Run, HasRisen, WentUp, Ends, AllWell, AllHold, AsksQuestion, ChecksLog, WritesLog, ReducesSet, ReplaysWorld, IsMisplaced, IsWell, LogIsAccepted, LogIsLong, LogIsRejected, LogIsWritten, PlaceIsMissing, SetIsReduced, SomeFails, SomeLeft, IsFateLogged, IsLogged, IsBroken, IsReadable, IsWholeFor, IsReplayable, IsReplayed, MustBe, TooLong, SchemaIsLong, SchemaIsFaulty, PoliciesAreLong, PoliciesAreFaulty, AgainstIsLong, AgainstIsFaulty, PoliciesAreUntyped, WorldIsLong, WorldIsFaulty, NamesAreUnknown, IsFaulty, IsFaultySchema, IsFaultyWorld, IsUntyped, LogIsRight, LogIsWrong, MustSay}
 
 -- no read failed, and no write did
 abbrev pub AllRead : Run → Type 0
@@ -31,6 +31,10 @@ pub record Promises (r : Run) (logs : List (List Step)) : Type 0 where
   pub accepted : ChecksLog r → r.code ≡ 0 → LogIsAccepted r
   -- 14 comes only where a log is checked and rejected, at its least step at fault and for what that step lacks.
   pub rejected : r.code ≡ 14 → LogIsRejected r
+  -- A log that is accepted is said to be, and one that isn't is rejected, unless the environment's problem is too large or memory ran out,
+  -- where no read or write failed.
+  pub right : LogIsRight r → AllRead r → AllWritten r → MustSay 0 r.code
+  pub wrong : LogIsWrong r → AllRead r → AllWritten r → MustSay 14 r.code
   -- 1 comes only where a line prints a counterexample: a well-formed world of its environment that lacks the property.
   pub counterexample : r.code ≡ 1 → SomeFails r
   -- 2 comes only where no line prints a counterexample and some line says `unknown` or `over limit`; or where a policy set is reduced, and

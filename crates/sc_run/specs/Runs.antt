@@ -30,7 +30,7 @@ use Rattle.sc_inputs.specs.Serving.{Aim, Command, Serves, asking, checking, logg
 use Rattle.sc_inputs.specs.Readings.{ReadsAll, ReadsWorld}
 use Rattle.sc_checker.specs.declared.checking.Reason.{Reason}
 use Rattle.sc_reports.specs.Analyses.{asked, asked_within}
-use Rattle.sc_reports.specs.Claims.{Answer, Checked, Claims, IsShort, accepted, answer_text, rejected}
+use Rattle.sc_reports.specs.Claims.{Answer, Checked, Claims, IsShort, IsShown, accepted, answer_text, rejected}
 use Rattle.sc_reports.specs.Logs.{Logged, Shows, log_lines}
 use Rattle.sc_reports.specs.Lines.{text_of}
 use Rattle.sc_reports.specs.Progress.{Reported}
@@ -401,6 +401,33 @@ pub record LogIsLong (r : Run) : Type 0 where
   pub bytes : List ℕ
   pub told : r.content name ≡ Some bytes
   pub long : log_limit < length bytes
+
+-- a log is to be checked: all files are as for a question, the schema has the environment that is named, and the log file is told and
+-- short enough
+pub record ReadsLog (r : Run) : Type 0 where
+  pub served : IsServed r
+  pub place : ℕ
+  pub name : List ℕ
+  pub aim_is : served.0.before.aim ≡ checking place name
+  pub env : Env
+  pub named : slice_get (environments served.0.before.before.schema) place ≡ Some env
+  pub bytes : List ℕ
+  pub told : r.content name ≡ Some bytes
+  pub short : length bytes ≤ log_limit
+
+abbrev pub asked_of_log : {r : Run} → ReadsLog r → Asked
+asked_of_log x = asked x.served.0.before.before.schema x.served.0.before.question x.served.0.before.policies x.served.0.others 0
+
+-- what the log file holds is the text of an accepted log of the environment's problem, or it isn't
+abbrev pub LogIsRight : Run → Type 0
+LogIsRight r = (x : ReadsLog r) × IsShown (asked_of_log x) x.env x.bytes
+
+abbrev pub LogIsWrong : Run → Type 0
+LogIsWrong r = (x : ReadsLog r) × ¬ IsShown (asked_of_log x) x.env x.bytes
+
+-- this status, unless the problem is too large or memory ran out
+abbrev pub MustSay : ℕ → ℕ → Type 0
+MustSay n code = (code ≡ n) ⊎ ((code ≡ 2) ⊎ (code ≡ 30))
 
 -- one of the statuses of a whole report, or want of memory
 abbrev pub IsWhole : ℕ → Type 0

@@ -1,5 +1,5 @@
 //! Tells which policies of a set do nothing.
-ghost use Rattle.std.specs.Prelude.{◌≡◌, ◌<◌, ◌≤◌, IfOk};
+ghost use Rattle.std.specs.Prelude.{◌≡◌, ◌<◌, IfOk};
 ghost use Rattle.std.specs.List.{AllByRecursion};
 ghost use Rattle.sc_outside.specs.Counts.{Rose};
 ghost use Rattle.sc_reduction.specs.Lines.{IsPrintable};
@@ -19,7 +19,6 @@ use std::alloc::{AllocError, Global};
 /// What becomes of each policy of the first set.
 fn fates_of(alloc: Global, inputs: &Analysis) -> Result<Seq<Fate>, AllocError>
     requires allowed { IsReducible inputs.now.asking.schema inputs.now.asking.policies }
-    requires units { inputs.now.budget ≤ 1000000000 }
     ensures reduction { IfOk result (IsReduction (to_reduce inputs.now.asking.schema inputs.now.asking.policies
         inputs.now.budget)) }
     ensures printable { IfOk result (λ fates. AllByRecursion IsPrintable fates) }
@@ -63,7 +62,6 @@ fn report_fates<O: Sink>(alloc: Global, fates: Seq<Fate>, lines: &[Text], out: &
 /// Reports what becomes of each policy of the first set.
 pub fn report_reduction<O: Sink>(alloc: Global, inputs: &Analysis, out: &mut O) -> Status
     requires allowed { IsReducible inputs.now.asking.schema inputs.now.asking.policies }
-    requires units { inputs.now.budget ≤ 1000000000 }
     ensures reports { Reduced (to_reduce inputs.now.asking.schema inputs.now.asking.policies inputs.now.budget)
         (O.written out.old) (O.written out.new) (Rose (O.faults out.old) (O.faults out.new)) result.code
         result.spent.items }

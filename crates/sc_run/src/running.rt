@@ -13,7 +13,7 @@ use crate::replaying::replay;
 use sc_inputs::{Claim, Inputs, Refusal, code, inputs_of, text_of};
 use sc_lists::Fault;
 use sc_outside::{Files, Sink, SinkFault};
-use sc_reports::{Status, check_claim, put_said, report, report_log};
+use sc_reports::{Status, check_claim, put_said, report, report_log, verdict_law};
 use sc_schema_json::spelling_laws;
 use sc_spelled_constants::constant_laws;
 use sc_world_breaks::break_laws;
@@ -85,5 +85,6 @@ pub fn run<F: Files, O: Sink>(alloc: Global, words: &[String], files: &mut F, ou
     spelling_laws();
     reading_laws();
     break_laws();
+    verdict_law();
     ends(alloc, words, files, out)
 }

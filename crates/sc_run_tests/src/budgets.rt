@@ -1,4 +1,5 @@
 //! Budgets: what is said where one is spent, the log that is kept, and what one suffices for.
+use sc_test_runs::questions::policy_under;
 use sc_test_runs::reports::reports;
 use sc_test_runs::runs::{Ended, Failing, ends_so, ran, text_in};
 use sc_test_runs::samples::{CONTRADICTION, HOLDS};
@@ -49,6 +50,34 @@ fn budgets_are_spent(rt: HostRuntime) -> Result<(), Fail> {
         assert!(rt;
             ends_within(rt.alloc(), budget, code, verdict, logs)?,
             "{budget}"
+        );
+    }
+    Ok(())
+}
+
+/// Conditions on one attribute, with the status of whether they always deny.
+const ONE_ATTRIBUTE: &[(&str, u8)] = &[
+    ("context.x", 1),
+    ("!context.x", 1),
+    ("context.x && !context.x", 0),
+];
+
+/// The status within nine units of whether a condition always denies.
+fn denies_within_nine(alloc: Global, condition: &str) -> Result<u8, AllocError> {
+    let policy = policy_under(alloc, condition)?;
+    let held = [("s", TWO_TRUTHS.as_bytes()), ("p", policy.as_bytes())];
+    let words = "analyse --schema s --policies p --query always-denies --budget 9";
+    let ended = ran(alloc, words, &held, Failing::Nothing)?;
+    Ok(ended.code)
+}
+
+/// An attribute is one atom beside `true`, and over two atoms there are fewer than nine units.
+#[test]
+fn nine_units_suffice_for_one_attribute(rt: HostRuntime) -> Result<(), Fail> {
+    for &(condition, code) in ONE_ATTRIBUTE {
+        assert!(rt;
+            denies_within_nine(rt.alloc(), condition)? == code,
+            "{condition}"
         );
     }
     Ok(())

@@ -4,4 +4,5 @@ mod AssignedLaws
 mod ConsistentLaws
 mod RebuiltLaws
 mod SolvingLaws
+mod SameLaws
 mod ConverseLaws

@@ -6,7 +6,7 @@ mod law;
 mod rebuilding;
 mod solving;
 
-pub use law::converse_law;
+pub use law::{accepted_law, converse_law, unit_law};
 pub use rebuilding::rebuild;
 pub use sc_theories::Rules;
 pub use solving::{Solved, solve};

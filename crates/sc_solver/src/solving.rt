@@ -1,5 +1,5 @@
 //! The solver.
-ghost use Rattle.std.specs.Prelude.{◌≤◌, IfOk};
+ghost use Rattle.std.specs.Prelude.{IfOk};
 ghost use Rattle.sc_solver.specs.Solutions.{IsSolution};
 
 use crate::rebuilding::rebuild;
@@ -25,7 +25,6 @@ pub enum Solved {
 /// as many units as the budget, each of them lawful and new, where one more step is due. Want of memory
 /// is its one fault.
 pub fn solve(alloc: Global, problem: &Problem<'_>, budget: u64) -> Result<Solved, AllocError>
-    requires budget { budget ≤ 1000000000 }
     ensures { IfOk result (IsSolution problem.now budget) }
 {
     match find(alloc, &OtherRules::new(), problem, budget)? {

@@ -12,5 +12,5 @@ returns-in-Ok-clause-claims g c =
     let env = c.args.env.now in
     let p = c.args.problem.now in
     subst (λ (a : Answer). Claims content q env a) (sym c.answer_of.ensures)
-    (verdict-claims c.stream_laws.ensures.agrees c.stream_laws.ensures.accepted q env p content c.in-Ok.verdict c.requires.problem (has-room q env p c.requires.problem)
+    (verdict-claims q env p content c.in-Ok.verdict c.requires.problem (has-room q env p c.requires.problem)
     (λ is. refuted-holds c.goal_laws.ensures.right c.literal_laws.ensures q env p c.laws.ensures.lawful c.requires.problem (c.in-Ok.ensures.sound is)) c.in-Ok.ensures.verdict)

@@ -28,7 +28,7 @@ loop-piece-preserved g c =
       started = stays_started (g.F.Files.left c.loop-piece.files) (g.F.Files.left c.next_piece.new.files) c.in-Ok.piece.items c.in-Ok.ensures.front c.loop-piece.invariant.started;
       same = same-on c.args.checker.now c.loop-piece.checker c.feed.new.checker c.loop-piece.invariant.same c.in-Ok-feed.ensures.problem;
       way = way-on (g.F.Files.left c.args.files.now) c.args.checker.now c.loop-piece.checker c.feed.new.checker c.in-Ok.piece.items c.loop-piece.room c.next_piece.new.room
-          (g.F.Files.left c.loop-piece.files) (g.F.Files.left c.next_piece.new.files) c.loop-piece.invariant.way c.in-Ok.ensures.front c.in-Ok.ensures.room c.loop-piece.invariant.same c.in-Ok-feed.ensures.problem fed;
+          (g.F.Files.left c.loop-piece.files) (g.F.Files.left c.next_piece.new.files) c.loop-piece.invariant.way c.in-Ok.ensures.front c.in-Ok.ensures.room c.in-Ok-feed.ensures.problem fed;
       keeps = λ other. c.in-Ok.ensures.keeps other ∙ c.loop-piece.invariant.keeps other;
       calm = c.loop-piece.invariant.calm ∙ stands (faults c.loop-piece.files) (faults c.next_piece.new.files) c.in-Ok.ensures.later c.in-Ok.ensures.told;
     }

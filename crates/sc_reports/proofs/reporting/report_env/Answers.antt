@@ -1,11 +1,13 @@
 use Rattle.std.proofs.Common.{◌∙◌}
 use Rattle.sc_reports.specs.Analyses.{asked_in, asked_of}
-use Rattle.sc_reports.proofs.AnalysisLaws.{query-first, query-second, query-served, query-answered, answer-printable}
+use Rattle.sc_reports.proofs.AnalysisLaws.{may-be-posed, query-first, query-second, query-served, query-answered, answer-printable}
 use Rattle.sc_reports.proofs.ReportLaws.{env-reported}
 use Rattle.sc_reports.proofs.reporting.report_env.Goals as goal
 
-pub analyse_env-requires-clause-served : goal.analyse_env-requires-clause-served
-analyse_env-requires-clause-served g c = query-served c.args.inputs.now.asking c.args.query.now c.requires.asked c.requires.allowed
+pub analyse_env-requires-clause-posed : goal.analyse_env-requires-clause-posed
+analyse_env-requires-clause-posed g c =
+    let i = c.args.inputs.now.asking in
+    may-be-posed c.goal_laws.ensures.posed c.goal_laws.ensures.both i.schema c.args.env.now c.args.query.now (query-served i c.args.query.now c.requires.asked c.requires.allowed) c.requires.environment
 
 pub analyse_env-requires-clause-first_proper : goal.analyse_env-requires-clause-first_proper
 analyse_env-requires-clause-first_proper g c = query-first c.args.inputs.now.asking c.args.query.now c.requires.asked c.requires.allowed

@@ -2,8 +2,10 @@ use Rattle.std.proofs.lemmas.Result.{IfOk-weaker}
 use Rattle.sc_run.proofs.ReductionLaws.{may-be-reduced, reduction-of}
 use Rattle.sc_run.proofs.reducing.fates_of.Goals as goal
 
-pub reduce-requires-clause-reduced : goal.reduce-requires-clause-reduced
-reduce-requires-clause-reduced c = may-be-reduced c.args.inputs.now.asking.schema c.args.inputs.now.asking.policies c.in_ok-query.query c.in_ok-query.ensures.question c.in_ok-query.ensures.first c.in_ok-query.ensures.against c.requires.allowed
+pub reduce-requires : goal.reduce-requires
+reduce-requires c = record {
+  reduced = may-be-reduced c.args.inputs.now.asking.schema c.args.inputs.now.asking.policies c.in_ok-query.query c.in_ok-query.ensures.question c.in_ok-query.ensures.first c.in_ok-query.ensures.against c.requires.allowed;
+}
 
 pub returns-clause-reduction : goal.returns-clause-reduction
 returns-clause-reduction c =

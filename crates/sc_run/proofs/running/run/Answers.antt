@@ -1,5 +1,5 @@
 use Rattle.sc_run.proofs.StatusLaws.{all-well, all-hold, well-formed, some-fails, some-left, set-is-reduced, logged, is-broken, no-command, is-faulty-schema, is-faulty, is-faulty-world, is-untyped, read-rose, write-rose, is-too-long, is-misplaced, is-rejected, log-is-accepted, log-is-written}
-use Rattle.sc_run.proofs.DeterminedLaws.{complete, complete-replay, unusable, schema-is-long, schema-is-faulty, policies-are-long, against-is-long, against-is-faulty, policies-are-faulty, world-is-long, world-is-faulty, names-are-unknown, policies-are-untyped, place-is-missing, log-is-long}
+use Rattle.sc_run.proofs.DeterminedLaws.{complete, complete-replay, unusable, schema-is-long, schema-is-faulty, policies-are-long, against-is-long, against-is-faulty, policies-are-faulty, world-is-long, world-is-faulty, names-are-unknown, policies-are-untyped, place-is-missing, log-is-long, right-log, wrong-log}
 use Rattle.sc_run.proofs.running.run.Goals as goal
 
 pub returns : goal.returns
@@ -11,6 +11,8 @@ returns g c = record {
   written = λ x e. log-is-written _ _ c.break_laws.ensures.nowhere c.reading_laws.ensures.stored c.ends.ensures.ends x e;
   accepted = λ x e. log-is-accepted _ _ c.break_laws.ensures.nowhere c.reading_laws.ensures.stored c.ends.ensures.ends x e;
   rejected = is-rejected _ _ c.ends.ensures.ends;
+  right = λ x f h. right-log _ _ c.spelling_laws.ensures c.verdict_law.ensures c.ends.ensures.ends x f h;
+  wrong = λ x f h. wrong-log _ _ c.spelling_laws.ensures c.ends.ensures.ends x f h;
   counterexample = some-fails _ _ c.ends.ensures.ends;
   undecided = some-left _ _ c.ends.ensures.ends;
   reduced = λ x e. set-is-reduced _ _ c.ends.ensures.ends x e;

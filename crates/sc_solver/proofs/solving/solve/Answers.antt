@@ -2,8 +2,8 @@ use Rattle.sc_theories.specs.OtherLaws.{other_word}
 use Rattle.sc_solver.proofs.SolvingLaws.{consistent, refuted, spent}
 use Rattle.sc_solver.proofs.solving.solve.Goals as goal
 
-pub find-requires-clause-words : goal.find-requires-clause-words
-find-requires-clause-words c = λ i h. other_word c.args.problem.now i h
+pub find-requires : goal.find-requires
+find-requires c = record { words = λ i h. other_word c.args.problem.now i h }
 
 pub rebuild-requires : goal.rebuild-requires
 rebuild-requires c = record {
