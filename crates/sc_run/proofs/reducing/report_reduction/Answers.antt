@@ -8,4 +8,4 @@ pub returns-in-Ok-lines_of-clause-reports : goal.returns-in-Ok-lines_of-clause-r
 returns-in-Ok-lines_of-clause-reports g c =
     let i = c.args.inputs.now in
     c.report_fates.ensures.reports (to_reduce i.asking.schema i.asking.policies i.budget) c.in-Ok.ensures.reduction
-    (c.as_slice-2.ensures ∙ c.in-Ok-lines_of.ensures ∙ ap (λ (fates : List Fate). fate_lines i.asking.schema i.budget fates) c.as_slice.ensures)
+    (c.as_slice-in-Ok-lines_of.ensures ∙ c.in-Ok-lines_of.ensures ∙ ap (λ (fates : List Fate). fate_lines i.asking.schema i.budget fates) c.as_slice.ensures)
