@@ -636,6 +636,8 @@ module _ (r : Run) (spent : List (List Step)) where
         absurd (let other = not-checking x s question first against (reporting budget) reads.reached.reaches in cc)
     must-say x n says (wrote_log s question first against budget place env reads at report) calm still =
         absurd (let other = not-checking x s question first against (logging budget place) reads.reached.reaches in cc)
+    must-say x n says (reduced s question first against budget reads report) calm still =
+        absurd (let other = not-checking x s question first against (reducing budget) reads.reached.reaches in cc)
     must-say x n says (checked_log s question first against place name env reads at report none) calm still = said-whole x n says (this-log x s question first against place name env reads at report) still
     must-say x n says (replayed s ps w reads report none) calm still = absurd (no-replay x.served.0.before s ps reads.name reads.reaches)
     must-say x n says (no_memory c t none) calm still = inr (inr c)
