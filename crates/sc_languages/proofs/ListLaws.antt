@@ -1,13 +1,13 @@
--- What is in a list.
+-- Members of lists.
 use Rattle.std.proofs.Common.{◌≡◌, ℕ, zero, suc, ◌+◌, ◌<◌, inl, inr, List, [], ◌∷◌, ◌++◌, take, length, get_or, slice_get, Some, None, refl, sym, ap, arith}
 use Rattle.sc_lists.specs.Members.{Has}
 
--- ---- the first of a list
+-- ---- the first element
 
 pub take_none : {X : Type 0} (xs : List X) (x : X) → Has (take 0 xs) x → ⊥
 take_none xs x h = h
 
--- what is read at a place comes after the elements before it
+-- the element at a place stands behind those before it
 pub take_next : {X : Type 0} (xs : List X) (i : ℕ) (x : X) → slice_get xs i ≡ Some x → take (i + 1) xs ≡ take i xs ++ x ∷ []
 take_next [] i x h = absurd cc
 take_next (y ∷ ys) zero x h = let same : y ≡ x = cc in ap (λ z. z ∷ []) same

@@ -25,7 +25,7 @@ nothing_more : (known f : Bool) → (known || (false && f)) ≡ known
 nothing_more true f = refl
 nothing_more false f = refl
 
--- behind its first item nothing is marked, so what is known stays
+-- behind the first item of a pattern none is active at the start, so what is known stays
 good_later : (parts : List Part) (sign : Bool) (rest : List Item) (known : Bool) (text : List ℕ)
     → completes (with_pattern parts sign rest) (start false (with_pattern parts sign rest)) known text ≡ (not (refuses (End sign) known) && obeys rest text)
 good_later [] sign rest known text = ap (λ v. not (refuses (End sign) v) && obeys rest text) (nothing_more known (is_end text))
@@ -65,7 +65,7 @@ with_more : (parts : List Part) (sign : Bool) (rest more : List Item) → with_p
 with_more [] sign rest more = refl
 with_more (part ∷ parts) sign rest more = ap (λ l. part_item part ∷ l) (with_more parts sign rest more)
 
--- one pattern more is put
+-- one more pattern
 pub items_more : (items now whole : List Item) (ps : List (List Part)) (i : ℕ) (p : List Part) (signs others : List Bool) (sign : Bool) → i < length ps → p ≡ get_or ps i p
     → signs ≡ sign ∷ others → now ≡ items ++ with_pattern p sign [] → items ++ items_of (drop i ps) signs ≡ whole → now ++ items_of (drop (i + 1) ps) others ≡ whole
 items_more items now whole ps i p signs others sign within read first put so_far =
@@ -97,7 +97,7 @@ all_obey (p ∷ ps) (sign ∷ signs) text o =
     obeys_pattern p sign (items_of ps signs) text
     ∙ and_from (not (refuses (End sign) (is_match p text))) (obeys (items_of ps signs) text) (sign_has sign (is_match p text) (of_sign sign (is_match p text) p text refl o.0)) (all_obey ps signs text o.1)
 
--- ---- on the way
+-- ---- the texts that were found
 
 distinct_push : (words : List (List ℕ)) (word : List ℕ) → AreDistinct words → ¬ (Has words word) → AreDistinct (words ++ word ∷ [])
 distinct_push [] word d h = ((λ k. k), tt)

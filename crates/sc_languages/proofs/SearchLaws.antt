@@ -1,4 +1,4 @@
--- The search meets all that can be met.
+-- The search meets every reachable set of active items.
 use Rattle.std.proofs.Common.{◌≡◌, ℕ, ◌+◌, ◌<◌, ◌≤◌, Bool, true, false, not, ◌&&◌, ◌==◌, ◌⊎◌, inl, inr, ⊎_elim, List, [], ◌∷◌, ◌++◌, take, length, get_or, slice_get, Some, None, refl, sym, ◌∙◌, ap, subst, append_assoc, append-nil, arith, length-append}
 use Rattle.std.proofs.lemmas.List.{take_more, map-append, take_at, take_all}
 use Rattle.std.proofs.lemmas.Bool.{and_parts, and_from, or_cases, or_parts, eqb-true, eq-eqb, cases_Bool, cases_lt}
@@ -22,7 +22,7 @@ text_has [] c h has = absurd has
 text_has (d ∷ text) c h (inl e) = subst IsScalar e h.0
 text_has (d ∷ text) c h (inr k) = text_has text c h.1 k
 
--- ---- texts that are not to be found
+-- ---- excluded texts
 
 begins_true : (word whole : List ℕ) → begins word whole ≡ true → (rest : List ℕ) × (whole ≡ word ++ rest)
 begins_true [] whole h = (whole, refl)
@@ -83,7 +83,7 @@ off_more words word c off rest has = off (c ∷ rest) (subst (λ l. Has words l)
 off_whole : (words : List (List ℕ)) (word : List ℕ) → IsOff words word → ¬ (Has words word)
 off_whole words word off has = off [] (subst (λ l. Has words l) (sym (append-nil word)) has)
 
--- ---- entries that are put behind others leave these
+-- ---- appended entries leave the others in the queue
 
 places_more : (old more new : List Entry) (b : List Bool) → new ≡ old ++ more → Has (places_of old) b → Has (places_of new) b
 places_more old more new b e h =
@@ -106,7 +106,7 @@ visited_more items symbols words old more new word e v = record {
   met = λ d h. ⊎_elim inl (λ m. inr (met_more items old more new (step d false false items v.marks) e m)) (v.met d h);
 }
 
--- ---- one further character
+-- ---- one character more
 
 module _ (items : List Item) (words : List (List ℕ)) (marks : List Bool) (word : List ℕ) (d : ℕ) (next : List Bool) (is : next ≡ step d false false items marks) where
   pub stepped_lost : (old : List Entry) → true ≡ is_dead false false items next → IsStepped items words marks word d old old
@@ -138,7 +138,7 @@ module _ (items : List Item) (words : List (List ℕ)) (marks : List Bool) (word
           subst (λ l. IsOff words l) more (on_false words further (sym on)),
         )
 
--- ---- each further character
+-- ---- each character of the alphabet
 
 module _ (items : List Item) (words : List (List ℕ)) (marks : List Bool) (word : List ℕ) where
   abbrev after : ℕ → List Bool
@@ -174,7 +174,7 @@ module _ (items : List Item) (words : List (List ℕ)) (marks : List Bool) (word
       subst (λ (l : List ℕ). IsFollowed items l words marks word old new) (ap (λ m. take j symbols ++ m ∷ []) read ∙ sym (take_more symbols j d within))
       (followed_next (take j symbols) d old mid new f scalar s)
 
--- ---- a text that is gone along
+-- ---- the prefixes of an excluded text
 
 module _ (items : List Item) (words : List (List ℕ)) (marks : List Bool) (word : List ℕ) (at : IsAt items marks word) where
   pub at_sought : (found : List ℕ) → true ≡ (accepts false items marks && not (is_one words word)) → found ≡ word → IsFound items words found
@@ -201,7 +201,7 @@ module _ (items : List Item) (words : List (List ℕ)) (marks : List Bool) (word
   leads_more : (c : ℕ) (text : List ℕ) → completes items (step c false false items marks) false text ≡ obeys items ((word ++ c ∷ []) ++ text)
   leads_more c text = completes_next c items marks text ∙ at.leads (c ∷ text) ∙ ap (λ l. obeys items l) (sym (append_assoc word (c ∷ []) text))
 
-  -- one character on
+  -- one character further
   pub at_more : (c : ℕ) (next : List Bool) (further whole : List ℕ) (i : ℕ) → IsText whole → i < length whole → c ≡ get_or whole i c → next ≡ step c false false items marks
       → further ≡ word ++ c ∷ [] → IsAt items next further
   at_more c next further whole i text within read is more =
@@ -210,7 +210,7 @@ module _ (items : List Item) (words : List (List ℕ)) (marks : List Bool) (word
         leads = leads_more c;
       }))
 
-  -- what is put are entries
+  -- what is appended are entries
   entries_more : (symbols : List ℕ) (old new : List Entry) → IsFollowed items symbols words marks word old new → ((e : Entry) → Has old e → IsEntry items words e)
       → (e : Entry) → Has new e → IsEntry items words e
   entries_more symbols old new f es e h =
@@ -246,7 +246,7 @@ pub walk_start : (items : List Item) (symbols : List ℕ) (words : List (List �
     → IsWalk items symbols words es es whole 0
 walk_start items symbols words es whole h = record { longer = ([], sym (append-nil es)); entries = h; walked = λ k below. absurd (omega (arith, below)) }
 
--- ---- all texts that are not to be found
+-- ---- all excluded texts
 
 pub entries_start : (items : List Item) (symbols : List ℕ) (words : List (List ℕ)) (old es : List Entry) (whole : List ℕ) → whole ≡ []
     → IsWalk items symbols words old es whole (length whole + 1) → AreEntries items symbols words [] es
@@ -274,7 +274,7 @@ pub entries_all : (items : List Item) (symbols : List ℕ) (words : List (List �
     → AreEntries items symbols words (take i words) es → AreEntries items symbols words words es
 entries_all items symbols words i es past a = subst (λ (l : List (List ℕ)). AreEntries items symbols words l es) (take_all i words past) a
 
--- ---- from the start to the end
+-- ---- the whole search
 
 pub search_start : (items : List Item) (symbols : List ℕ) (words : List (List ℕ)) (es : List Entry) → AreEntries items symbols words words es → IsSearch items symbols words es 0
 search_start items symbols words es a = record { are = a; done = λ e h. absurd h }
@@ -308,7 +308,7 @@ module _ (items : List Item) (symbols : List ℕ) (words : List (List ℕ)) (es 
             (Has-push (take i es) e x (subst (λ (l : List Entry). Has l x) (ap (λ (l : List Entry). take (i + 1) l) f.longer.1 ∙ take_longer es f.longer.0 i e at) h));
       }
 
-  -- one further character ends a text
+  -- one character more gives a text that is sought
   pub search_found : (none : List (List ℕ)) (e : Entry) (found : List ℕ) → slice_get es i ≡ Some e → IsEnd items none e.0 e.1 found → IsFound items words found
   search_found none e found at end =
       let here = s.are.entries e (Has-at es i e at) in
@@ -325,7 +325,7 @@ module _ (items : List Item) (symbols : List ℕ) (words : List (List ℕ)) (es 
     steps_same c d b (inl e) = ap (λ x. step x false false items b) (sym e)
     steps_same c d b (inr e) = step_alike c d false false items b e.0
 
-    -- from what was met no text comes to an end
+    -- from the queue no further text is sought
     never : (text : List ℕ) → IsText text → (b : List Bool) → Has (places_of es) b → completes items b false text ≡ false
     never [] h b there =
         let k = map-Has (λ (x : Entry). x.0) es b there in
@@ -343,7 +343,7 @@ module _ (items : List Item) (symbols : List ℕ) (words : List (List ℕ)) (es 
     never_met text h b (inl m) = never text h b m
     never_met text h b (inr m) = m text
 
-    -- a text that was gone along goes on as one that is not to be found, or isn't looked for
+    -- a visited text is a prefix of an excluded one, or isn't sought
     on_again : (word : List ℕ) (c d : ℕ) → StandsFor items words d c → IsOn words (word ++ d ∷ []) → IsOn words (word ++ c ∷ [])
     on_again word c d (inl e) on = subst (λ x. IsOn words (word ++ x ∷ [])) e on
     on_again word c d (inr e) on = absurd (e.1 ((word ++ d ∷ []) ++ on.0) on.1 (Has-left (word ++ d ∷ []) on.0 d (Has-last word d)))

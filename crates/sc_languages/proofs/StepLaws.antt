@@ -1,4 +1,4 @@
--- Reading a text character by character tells what it matches.
+-- What the automaton reads character by character is what the patterns match.
 use Rattle.std.proofs.Common.{◌≡◌, ℕ, List, [], ◌∷◌, Bool, true, false, not, ◌&&◌, ◌||◌, ◌==◌, cond, length, ⊎_elim, refl, ◌∙◌, ap, arith}
 use Rattle.std.proofs.lemmas.Bool.{or_parts, or_right, or_cases, and_from, and_left, and_right}
 use Rattle.sc_pattern.specs.Language.{is_end, behind, somewhere}
@@ -17,9 +17,9 @@ step_none c reached skipped [] marks h = refl
 step_none c reached skipped (x ∷ items) [] h = refl
 step_none c reached skipped (x ∷ items) (b ∷ marks) h = absurd (omega (arith, h))
 
--- ---- what Booleans have to be equal for that
+-- ---- the equations of Booleans behind it
 
--- what matches matches behind a star too
+-- what matches at a place matches behind a star there too
 twice : (a : Bool) → (a || a) ≡ a
 twice true = refl
 twice false = refl
@@ -57,7 +57,7 @@ end_of_bits a b = grind (arith)
 
 -- ---- one character
 
--- after a character, what is left does as the whole did
+-- what is left after a character matches as the whole did
 pub good_step : (c : ℕ) (k a : Bool) (items : List Item) (marks : List Bool) (known : Bool) (text : List ℕ)
     → completes items (step c k a items marks) known text ≡ completes items marks (known || ((k && fits items text) || (a && fits items (c ∷ text)))) (c ∷ text)
 good_step c k a [] marks known text = refl
@@ -92,7 +92,7 @@ accepts_from a (End sign ∷ items) (b ∷ marks) =
 pub completes_end : (items : List Item) (marks : List Bool) → completes items marks false [] ≡ accepts false items marks
 completes_end items marks = accepts_from false items marks
 
--- ---- no further text
+-- ---- dead marks
 
 pub lost_none : (any star : Bool) (items : List Item) (marks : List Bool) → length marks ≡ 0 → is_dead any star items marks ≡ false
 lost_none any star [] marks h = refl
@@ -114,7 +114,7 @@ end_dead true false star known false f lost h g = let e = h refl in rw e refl
 end_dead false any true known b f lost h g = let e = g refl in rw e refl
 end_dead false any false known b f lost h g = absurd cc
 
--- any: whether a mark of the pattern so far is marked; star: whether the item before is a star whose mark is
+-- any: whether an item of the pattern before is active; star: whether the item before is an active star
 pub dead_for_good : (any star known : Bool) (items : List Item) (marks : List Bool) (text : List ℕ) → is_dead any star items marks ≡ true
     → (any ≡ false → known ≡ false) → (star ≡ true → somewhere (fits items) text ≡ true → known ≡ true) → completes items marks known text ≡ false
 dead_for_good any star known [] marks text lost h g = absurd cc

@@ -1,4 +1,4 @@
--- Texts as their characters.
+-- Texts as lists of characters.
 use Rattle.std.proofs.Common.{◌≡◌, ℕ, ◌+◌, ◌<◌, ◌≤◌, List, [], ◌∷◌, ◌++◌, true, map, take, drop, length, get_or, refl, sym, ◌∙◌, ap, append-nil}
 use Rattle.std.proofs.lemmas.List.{take_more, map-append, drop_all}
 use Rattle.std.proofs.lemmas.Bool.{and_parts, and_from}
@@ -20,7 +20,7 @@ pub texts_next : {S : Type 0} (f : S → List ℕ) (now new : List S) (s : S) (w
 texts_next f now new s words i word within read is more so_far =
     ap (map f) more ∙ map-append f now (s ∷ []) ∙ ap (λ l. l ++ f s ∷ []) so_far ∙ ap (λ w. take i words ++ w ∷ []) (is ∙ read) ∙ sym (take_more words i word within)
 
--- what a caller has of a `str`: its characters are Unicode scalar values
+-- the characters of a `str` are Unicode scalar values
 text_scalars : (text : List ℕ) → scalars text ≡ true → IsText text
 text_scalars [] h = tt
 text_scalars (c ∷ text) h = let both = and_parts (scalar c) (scalars text) h in (both.0, text_scalars text both.1)

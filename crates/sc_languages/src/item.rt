@@ -1,4 +1,4 @@
-//! Several patterns at once, as one list of items.
+//! The states of the automaton that reads several patterns at once: one list of items.
 ghost use Rattle.std.specs.Prelude.{◌≡◌};
 ghost use Rattle.sc_languages.specs.Items.{is_end_item, stays, reaches, skips, refuses, dies, kept, is_star_item};
 
@@ -9,12 +9,12 @@ pub enum Item {
     Star,
     /// Just this character.
     Char(char),
-    /// A pattern ends here, and whether a text is to match it.
+    /// A pattern ends here; the sign says whether a text is to match it.
     End(bool),
 }
 
 impl Item {
-    /// Whether a pattern ends here.
+    /// Whether this is the end of a pattern.
     pub(crate) fn is_end(&self) -> bool
         ensures { result ≡ is_end_item self.now }
     {
@@ -24,7 +24,7 @@ impl Item {
         }
     }
 
-    /// Whether the text may go on here after a character, which was reached or active before.
+    /// Whether the item is active after a character: it was reached from the item before, or it is an active star.
     pub(crate) fn stays(&self, active: bool, reached: bool) -> bool
         ensures { result ≡ stays self.now active reached }
     {
@@ -34,7 +34,7 @@ impl Item {
         }
     }
 
-    /// Whether the text may go on at the next item after a character.
+    /// Whether the next item is active after a character, by this one.
     pub(crate) fn reaches(&self, c: char, active: bool, reached: bool) -> bool
         ensures { result ≡ reaches self.now c active reached }
     {
@@ -45,7 +45,7 @@ impl Item {
         }
     }
 
-    /// Whether the text may go on at the next item without a character.
+    /// Whether the next item is active too without a character, as it is behind an active star.
     pub(crate) fn skips(&self, active: bool) -> bool
         ensures { result ≡ skips self.now active }
     {
@@ -55,7 +55,7 @@ impl Item {
         }
     }
 
-    /// Whether a text that ends here has not the sign that is wanted of the pattern.
+    /// Whether a text that ends here denies the pattern its sign.
     pub(crate) fn refuses(&self, active: bool) -> bool
         ensures { result ≡ refuses self.now active }
     {
@@ -75,8 +75,8 @@ impl Item {
         }
     }
 
-    /// Whether a pattern that ends here can't have its sign any more: whether one of its places is
-    /// active, and whether the last is a star that is.
+    /// Whether the pattern that ends here can't get its sign any more: `any` is whether one of its items is active,
+    /// `star` whether its last one is an active star.
     pub(crate) fn dies(&self, any: bool, star: bool) -> bool
         ensures { result ≡ dies self.now any star }
     {
@@ -86,7 +86,7 @@ impl Item {
         }
     }
 
-    /// What is still known of a pattern at the next item.
+    /// What is known of a pattern, as the next item begins: at a pattern's end nothing is.
     pub(crate) fn keeps(&self, known: bool) -> bool
         ensures { result ≡ kept self.now known }
     {

@@ -1,10 +1,10 @@
-//! Texts that are not to be found.
+//! Texts that a search excludes, since they were found already.
 ghost use Rattle.std.specs.Prelude.{◌≡◌, ◌&&◌};
 ghost use Rattle.sc_languages.specs.Searching.{begins as begins_one, is_on as is_on_of, is_one as is_one_of};
 
 use sc_lists::Seq;
 
-/// Whether a text begins another.
+/// Whether a text is a prefix of another.
 fn begins(word: &[char], whole: &[char]) -> bool
     ensures { result ≡ begins_one word.now whole.now }
 {
@@ -21,7 +21,7 @@ fn begins(word: &[char], whole: &[char]) -> bool
     true
 }
 
-/// Whether a text begins one of a few.
+/// Whether a text is a prefix of an excluded one.
 pub(crate) fn is_on(words: &[Seq<char>], word: &[char]) -> bool
     ensures { result ≡ is_on_of words.now word.now }
 {
@@ -33,7 +33,7 @@ pub(crate) fn is_on(words: &[Seq<char>], word: &[char]) -> bool
     false
 }
 
-/// Whether two texts are one.
+/// Whether two texts are equal.
 fn is_same(word: &[char], other: &[char]) -> bool
     ensures { result ≡ (begins_one word.now other.now && begins_one other.now word.now) }
 {
@@ -42,7 +42,7 @@ fn is_same(word: &[char], other: &[char]) -> bool
     there & back
 }
 
-/// Whether a text is one of a few.
+/// Whether a text is excluded.
 pub(crate) fn is_one(words: &[Seq<char>], word: &[char]) -> bool
     ensures { result ≡ is_one_of words.now word.now }
 {

@@ -5,7 +5,7 @@ ghost use Rattle.sc_languages.specs.Items.{start as start_of, step as step_of, a
 use crate::item::Item;
 use std::alloc::{AllocError, Global};
 
-/// The places before the first character.
+/// The active items before the first character.
 pub(crate) fn start(alloc: Global, items: &[Item]) -> Result<Vec<bool>, AllocError>
     ensures { IfOk result (λ v. v.items ≡ start_of true items.now) }
 {
@@ -18,7 +18,7 @@ pub(crate) fn start(alloc: Global, items: &[Item]) -> Result<Vec<bool>, AllocErr
     Ok(marks)
 }
 
-/// The places after a further character.
+/// The active items after one more character.
 pub(crate) fn step(
     alloc: Global,
     items: &[Item],
@@ -44,7 +44,7 @@ pub(crate) fn step(
     Ok(next)
 }
 
-/// Whether a text that ends at these places has each pattern's sign.
+/// Whether a text that ends with these items active gives each pattern its sign.
 pub(crate) fn accepts(items: &[Item], marks: &[bool]) -> bool
     ensures { result ≡ accepts_of false items.now marks.now }
 {
@@ -64,7 +64,7 @@ pub(crate) fn accepts(items: &[Item], marks: &[bool]) -> bool
     true
 }
 
-/// Whether the sign of one of the patterns can't be had any more, however the text goes on.
+/// Whether some pattern can't get its sign any more, whatever the text goes on with.
 pub(crate) fn is_dead(items: &[Item], marks: &[bool]) -> bool
     ensures { result ≡ is_dead_at false false items.now marks.now }
 {

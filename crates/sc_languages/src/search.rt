@@ -1,5 +1,5 @@
-//! The search for one text that gives each pattern its sign, and is none of a few: breadth first, over
-//! what may be read so far, each once.
+//! The breadth-first search for one text that gives each pattern its sign and isn't excluded, over the reachable sets
+//! of active items, each once.
 ghost use Rattle.std.specs.Prelude.{◌≡◌, ◌&&◌, not, ◌++◌, ◌∷◌, [], ◌+◌, ◌<◌, ◌^◌, true, false, ℕ, List, slice_get, length, IfOk, IfSome, IfNone};
 ghost use Rattle.std.specs.Char.{IsScalar};
 ghost use Rattle.std.specs.Option.{option_map};
@@ -22,7 +22,7 @@ fn copy(alloc: Global, word: &[char]) -> Result<Vec<char>, AllocError>
     word.to_vec(alloc)
 }
 
-/// A text and one further character.
+/// A text with one character appended.
 fn longer(alloc: Global, word: &[char], c: char) -> Result<Vec<char>, AllocError>
     ensures { IfOk result (λ v. v.items ≡ word.now ++ c ∷ []) }
 {
@@ -31,7 +31,8 @@ fn longer(alloc: Global, word: &[char], c: char) -> Result<Vec<char>, AllocError
     Ok(further)
 }
 
-/// One further character: a text that is looked for, or what was met is put among the others.
+/// Appends one character to a text: the result, if it is sought, or else none, and the active items that it leads to
+/// are queued.
 fn follow_one(
     alloc: Global,
     items: &[Item],
@@ -64,8 +65,8 @@ fn follow_one(
     Ok(None)
 }
 
-/// Each further character of a few: a text that is looked for, or all that was met is put among the
-/// others.
+/// Appends each character of the alphabet in turn: the first result that is sought, or else none, and all active
+/// items that they lead to are queued.
 fn follow(
     alloc: Global,
     items: &[Item],
@@ -87,7 +88,7 @@ fn follow(
     Ok(None)
 }
 
-/// Whether a text that leads to these places is looked for.
+/// Whether a text that leads to these active items is sought: each pattern has its sign, and the text isn't excluded.
 fn is_sought(items: &[Item], words: &[Seq<char>], marks: &[bool], word: &[char]) -> bool
     ensures { result ≡ (accepts_of false items.now marks.now && not (is_one_of words.now word.now)) }
 {
@@ -96,7 +97,7 @@ fn is_sought(items: &[Item], words: &[Seq<char>], marks: &[bool], word: &[char])
     ends & other
 }
 
-/// The text itself, if it is looked for, or else as `follow`.
+/// The text itself, if it is sought, and else what `follow` gives.
 fn visit(
     alloc: Global,
     items: &[Item],
@@ -121,7 +122,7 @@ fn visit(
     }
 }
 
-/// Goes along a text that is not to be found, and visits each of its beginnings.
+/// Visits each prefix of an excluded text, the text itself included.
 fn walk(
     alloc: Global,
     items: &[Item],
@@ -168,7 +169,7 @@ fn walk(
     }
 }
 
-/// A copy of what was met at a place, counted from 0.
+/// A copy of the queue's entry at a place, counted from 0.
 fn entry(
     alloc: Global,
     visited: &Visited,
@@ -186,7 +187,7 @@ fn entry(
     Ok(Some((marks, word)))
 }
 
-/// Follows what was met, in order, and what is met then.
+/// Follows the queue's entries in order, those that are queued meanwhile included.
 fn search(
     alloc: Global,
     items: &[Item],
@@ -200,7 +201,7 @@ fn search(
     ensures none { IfOk result (λ o. IfNone o ((text : List ℕ) → IsText text → obeys items.now text ≡ true
         → Has words.now text)) }
 {
-    // What was met goes on to none of the texts that are not to be found.
+    // No excluded text begins with an entry's text.
     let others = Vec::new(alloc);
     let mut done = 0;
     loop {
@@ -223,7 +224,7 @@ fn search(
     }
 }
 
-/// A text that gives each pattern its sign and is none of a few, or none where there is no other.
+/// A text that gives each pattern its sign and isn't excluded, or none where there is no such text.
 pub(crate) fn find(
     alloc: Global,
     items: &[Item],

@@ -22,7 +22,7 @@ fn item_of(part: &Part) -> Item
     }
 }
 
-/// Puts a pattern and the sign that is wanted of it after others.
+/// Appends the items of a pattern, which end in the sign that is wanted of it.
 fn put_pattern(items: &mut Vec<Item>, pattern: &Pattern, sign: bool) -> Result<(), AllocError>
     ensures { OnOk result (items.new.items ≡ items.old.items ++ with_pattern pattern.now sign []) }
 {
@@ -33,7 +33,7 @@ fn put_pattern(items: &mut Vec<Item>, pattern: &Pattern, sign: bool) -> Result<(
     Ok(())
 }
 
-/// All patterns, each with its sign.
+/// The items of all patterns, each pattern with its sign.
 fn items_of(alloc: Global, patterns: &[Pattern], signs: &[bool]) -> Result<Vec<Item>, AllocError>
     ensures { IfOk result (λ v. v.items ≡ all_items patterns.now signs.now) }
 {
@@ -49,7 +49,7 @@ fn items_of(alloc: Global, patterns: &[Pattern], signs: &[bool]) -> Result<Vec<I
     Ok(items)
 }
 
-/// The same as `strings_of`, each text as its characters.
+/// Like `strings_of`, with each text as a list of characters.
 fn words_of(
     alloc: Global,
     patterns: &[Pattern],
@@ -95,10 +95,10 @@ fn texts_of(alloc: Global, words: &[Seq<char>]) -> Result<Vec<String>, AllocErro
     Ok(texts)
 }
 
-/// Distinct texts, each of which matches just the patterns whose sign is true: as many as are wanted, or fewer, and then all
-/// that there are. A pattern has the sign at its place; both lists may be empty, and of lists of two lengths what is longer says
-/// nothing. The time is in the number of sets of items that can be reached, which adds up over the patterns' lengths and
-/// multiplies with stars inside of patterns.
+/// Distinct texts, each of which matches exactly the patterns whose sign is true: `wanted` of them, or fewer where no
+/// more exist. The sign of a pattern stands at its place; both lists may be empty, and where one is longer its
+/// further elements are ignored. The time grows with the number of reachable sets of automaton states, which adds up
+/// over the patterns' lengths and multiplies with stars inside of patterns.
 pub fn strings_of(
     alloc: Global,
     patterns: &[Pattern],

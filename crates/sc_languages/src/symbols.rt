@@ -1,4 +1,4 @@
-//! A few characters that stand for all: those of the patterns, and one other.
+//! An alphabet of a few characters that stand for all: those of the patterns, and one other.
 ghost use Rattle.std.specs.Prelude.{◌≡◌, ◌∷◌, ◌<◌, ◌≤◌, ℕ, IfOk, OnOk, MatchOption};
 ghost use Rattle.std.specs.Bool.{MatchBool};
 ghost use Rattle.std.specs.Char.{IsScalar};
@@ -10,14 +10,14 @@ use crate::item::Item;
 use sc_lists::Seq;
 use std::alloc::{AllocError, Global};
 
-/// Whether a character is among some.
+/// Whether a list holds a character.
 fn is_among(letters: &[char], c: char) -> bool
     ensures { MatchBool result (Has letters.now c) (¬ (Has letters.now c)) }
 {
     letters.contains(&c)
 }
 
-/// Puts the character of an item after others, if it isn't among them.
+/// Appends the character of an item, if the list doesn't hold it.
 fn note_letter(letters: &mut Vec<char>, item: &Item) -> Result<(), AllocError>
     ensures { OnOk result (IsNoted letters.old.items letters.new.items item.now) }
 {
@@ -31,7 +31,7 @@ fn note_letter(letters: &mut Vec<char>, item: &Item) -> Result<(), AllocError>
     Ok(())
 }
 
-/// Puts the characters of items after others.
+/// Appends the characters of items that the list doesn't hold.
 fn note_items(letters: &mut Vec<char>, items: &[Item]) -> Result<(), AllocError>
     ensures kept { OnOk result (AreAmong letters.old.items letters.new.items) }
     ensures noted { OnOk result ((c : ℕ) → Has items.now (this_character c) → Has letters.new.items c) }
@@ -42,7 +42,7 @@ fn note_items(letters: &mut Vec<char>, items: &[Item]) -> Result<(), AllocError>
     Ok(())
 }
 
-/// Puts the characters of a text after others.
+/// Appends the characters of a text that the list doesn't hold.
 fn note_word(letters: &mut Vec<char>, word: &[char]) -> Result<(), AllocError>
     ensures kept { OnOk result (AreAmong letters.old.items letters.new.items) }
     ensures noted { OnOk result ((c : ℕ) → Has word.now c → Has letters.new.items c) }
@@ -65,7 +65,7 @@ fn letters_of(alloc: Global, items: &[Item], words: &[Seq<char>]) -> Result<Vec<
     Ok(letters)
 }
 
-/// The character of a number, if there is one and it isn't among some.
+/// The character with this code point, if there is one and the list doesn't hold it.
 fn other_at(letters: &[char], number: u32) -> Option<char>
     ensures { MatchOption result (IsScalar number → Has letters.now number) (λ c. ¬ (Has letters.now c)) }
 {
@@ -73,7 +73,7 @@ fn other_at(letters: &[char], number: u32) -> Option<char>
     if is_among(letters, c) { None } else { Some(c) }
 }
 
-/// The first character of a range that isn't among some.
+/// The first character of a range that the list doesn't hold.
 fn other_within(letters: &[char], from: u32, to: u32) -> Option<char>
     ensures { MatchOption result ((c : ℕ) → IsScalar c → from ≤ c → c < to
         → Has letters.now c) (λ c. ¬ (Has letters.now c)) }
@@ -86,7 +86,7 @@ fn other_within(letters: &[char], from: u32, to: u32) -> Option<char>
     None
 }
 
-/// A character that isn't among some: the first from `a` on, or before it.
+/// A character that the list doesn't hold: the first one from `a` on, or else one before it.
 fn other(letters: &[char]) -> Option<char>
     ensures { MatchOption result ((c : ℕ) → IsScalar c → Has letters.now c) (λ c. ¬ (Has letters.now c)) }
 {
@@ -96,7 +96,7 @@ fn other(letters: &[char]) -> Option<char>
     other_within(letters, 0, 97)
 }
 
-/// A few characters, of which one stands for any character: those of the items and the texts, and one
+/// An alphabet in which some character behaves like any given one: the characters of the items and texts, and one
 /// other.
 pub(crate) fn symbols(
     alloc: Global,

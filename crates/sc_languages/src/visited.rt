@@ -1,4 +1,4 @@
-//! What was met on the way, each once: places, and a text that leads there.
+//! The queue of the search: each set of active items that was met, once, with a text that leads to it.
 ghost use Rattle.std.specs.Prelude.{◌≡◌, [], ◌<◌, ◌^◌, slice_get, length, IsTrue, OnOk};
 ghost use Rattle.std.specs.Option.{option_map};
 ghost use Rattle.sc_lists.specs.Members.{Has};
@@ -8,7 +8,7 @@ use indexmap::IndexMap;
 use std::alloc::{AllocError, Global};
 use std::marker::Model;
 
-/// Places that were met, in order, each with a text that leads there.
+/// Sets of active items in the order in which they were met, each with a text that leads to it.
 #[derive(Drop)]
 pub(crate) struct Visited {
     entries: IndexMap<Vec<bool>, Vec<char>>,
@@ -23,7 +23,7 @@ impl Model for Visited {
 }
 
 impl Visited {
-    /// Nothing yet.
+    /// An empty queue.
     pub(crate) fn new(alloc: Global) -> Visited
         ensures { result ≡ [] }
     {
@@ -32,7 +32,7 @@ impl Visited {
         }
     }
 
-    /// How many entries there are, fewer than 2^63.
+    /// The number of entries, less than 2^63.
     pub(crate) fn len(&self) -> usize
         ensures len { result ≡ length self.now }
         ensures small { result < 2 ^ 63 }
@@ -40,14 +40,14 @@ impl Visited {
         self.entries.len()
     }
 
-    /// Whether these places were met.
+    /// Whether this set of active items was met.
     pub(crate) fn has(&self, marks: &[bool]) -> bool
         ensures { IsTrue result → Has (places_of self.now) marks.now }
     {
         self.entries.contains_key(marks)
     }
 
-    /// What was met at a place, counted from 0.
+    /// The entry at a place, counted from 0.
     pub(crate) fn get(&self, at: usize) -> Option<(&[bool], &[char])>
         ensures { option_map (λ p. (p.0.now, p.1.now)) result ≡ slice_get self.now at }
     {
@@ -57,7 +57,7 @@ impl Visited {
         }
     }
 
-    /// Puts places after the others, if they weren't met.
+    /// Appends a set of active items, if it wasn't met.
     pub(crate) fn put(&mut self, marks: Vec<bool>, word: Vec<char>) -> Result<(), AllocError>
         ensures { OnOk result (IsPut self.old self.new marks.items word.items) }
     {
