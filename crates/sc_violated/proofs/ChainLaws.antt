@@ -1,4 +1,4 @@
--- Three items that break equality are looked for one after the other.
+-- The search for three items that breach transitivity, one after the other.
 use Rattle.std.proofs.Common.{◌≡◌, ℕ, ◌<◌, ◌≤◌, ◌+◌, ◌==◌, List, length, get_or, Bool, true, false, Option, Some, None, inl, inr, ⊎_elim, refl, sym, ◌∙◌, subst, arith, eq-eqb, if◌then◌else◌}
 use Rattle.std.proofs.lemmas.Bool.{cases_lt, cases_eq}
 use Rattle.std.proofs.lemmas.List.{get_or_past}
@@ -42,7 +42,7 @@ module _ (truth : Truth) (n : ℕ) where
       (h.apart c (omega arith) (subst (λ m. truth a m ≡ Some false) same e)))
       (last_or_before d c below)
 
-  -- items of two labels have none between them
+  -- no item lies between items of two labels
   pub row_is : (labels : List ℕ) (row : List (Option Bool)) (a : ℕ) → AreLabels truth n labels → a < n → length row ≡ n
       → ((b : ℕ) → b < n → get_or row b None ≡ seen truth labels a b) → IsRow truth n a row
   row_is labels row a h bound size at = record {

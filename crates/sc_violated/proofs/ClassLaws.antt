@@ -1,4 +1,4 @@
--- Labels are joined one pair after the other.
+-- Classes are joined one pair after the other.
 use Rattle.std.proofs.Common.{◌≤◌, ◌≡◌, ℕ, ◌<◌, ◌+◌, ◌==◌, List, length, get_or, map, Bool, true, false, Some, ⊎_elim, refl, sym, ◌∙◌, ap, subst, arith, eq-eqb}
 use Rattle.std.proofs.lemmas.List.{get_or-map, length-map}
 use Rattle.std.proofs.lemmas.Bool.{cases_lt}
@@ -9,7 +9,7 @@ use Rattle.sc_laws.proofs.NumberLaws.{last_or_before}
 moved_from : (from to : ℕ) → moved from to from ≡ to
 moved_from from to = rw (eq-eqb from from refl) refl
 
--- what moves becomes the other, and the other stays
+-- the one label becomes the other, which stays
 moved_to : (from to : ℕ) → moved from to to ≡ to
 moved_to from to = moved_to_by (to == from) from to refl where
   moved_to_by : (t : Bool) (from to : ℕ) → (to == from) ≡ t → moved from to to ≡ to

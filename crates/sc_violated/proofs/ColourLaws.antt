@@ -1,4 +1,4 @@
--- Items are coloured one after the other; those that are all apart have a colour each.
+-- Items are coloured one after the other, and those that differ pairwise have a colour each.
 use Rattle.std.proofs.Common.{◌≡◌, ℕ, zero, suc, ◌<◌, ◌≤◌, ◌+◌, ◌-◌, ◌==◌, ◌&&◌, not, Bool, true, false, List, [], ◌∷◌, ◌++◌, length, get_or, Option, Some, None, ◌⊎◌, inl, inr, ⊎_elim, refl, sym, ◌∙◌, ap, subst, arith, length-append, eq-eqb}
 use Rattle.std.proofs.lemmas.Bool.{cases_Bool, cases_lt, cases_eq, eqb-true, and_parts, and_from}
 use Rattle.std.proofs.lemmas.List.{get_or_past, get_or_append_left, get_or_push}
@@ -10,7 +10,7 @@ use Rattle.sc_laws.proofs.NumberLaws.{last_or_before}
 use Rattle.sc_violated.proofs.CountLaws.{count_more, count_all}
 use Rattle.sc_violated.proofs.CrowdLaws.{further_later}
 
--- ---- what is in a list that got longer
+-- ---- a list that got longer
 
 old_or_new : (colours : List (Option ℕ)) (last : Option ℕ) (t g : ℕ) → get_or (colours ++ last ∷ []) t None ≡ Some g
     → ((t < length colours) × (get_or colours t None ≡ Some g)) ⊎ ((t ≡ length colours) × (last ≡ Some g))
@@ -122,7 +122,7 @@ module _ (truth : Truth) (chosen : List ℕ) (from : ℕ) where
     together = λ t u g less high one two. absurd (omega arith);
   })
 
-  -- ---- those that are all apart have a colour each
+  -- ---- items that differ pairwise have a colour each
 
   module _ (sign : Truth) (few : Few) (n k : ℕ) (colours : List (Option ℕ)) (h : AreColoured truth chosen from n k colours) where
     one_each : (m at : ℕ) (used test : ℕ → Bool) (w : Signs) → at + m ≡ n → from ≤ at → IsFurther truth sign n chosen at test w

@@ -17,7 +17,7 @@ count_less s t h at (suc m) =
     let rest = count_less s t h (suc at) m in
     omega arith
 
--- one more passes the second test
+-- one more number passes the second test
 pub count_more : (s t : ℕ → Bool) (k : ℕ) → ((i : ℕ) → s i ≡ true → t i ≡ true) → s k ≡ false → t k ≡ true → (at m : ℕ) → at ≤ k → k < at + m
     → count_from s at m + 1 ≤ count_from t at m
 count_more s t k h before now at zero low high = absurd (omega arith)
@@ -37,7 +37,7 @@ count_more s t k h before now at (suc m) low high =
     omega arith)
     (cases_eq at k)
 
--- all of m numbers
+-- all of m numbers pass
 pub count_all : (at m : ℕ) → count_from (λ i. true) at m ≡ m
 count_all at zero = refl
 count_all at (suc m) = let rest = count_all (suc at) m in omega arith
@@ -66,7 +66,7 @@ members n (t ∷ ts) h d =
     let more = count_more (is_in ts) (is_in (t ∷ ts)) t (λ i e. in_tail t ts i e) d.0 (in_head t ts) 0 n (omega arith) (omega arith) in
     omega arith
 
--- what holds of each element holds of each number that is in the list
+-- what holds of each element holds of each number in the list
 pub all_in : (P : ℕ → Type 0) (ts : List ℕ) (i : ℕ) → All P ts → is_in ts i ≡ true → P i
 all_in P [] i h e = absurd cc
 all_in P (t ∷ ts) i h e =

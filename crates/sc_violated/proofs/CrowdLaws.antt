@@ -9,7 +9,7 @@ use Rattle.sc_violated.specs.Truths.{Truth}
 use Rattle.sc_violated.specs.Crowds.{Signs, Few, IsWithin, Fits, IsChosen, NoneCrowded, agreed, IsRow, IsMeet, one_if, count_from, IsFurther, HasRoom, HasRoomFrom, NoneOn, NoneIn, NoneAfter}
 use Rattle.sc_violated.proofs.CountLaws.{is_in, AreDistinct, members, all_in, in_cases}
 
--- what is so where nothing is found, taken on
+-- what holds where nothing is found, carried on
 pub if_none : {T E A B : Type 0} (r : Result (Option T) E) → (A → B) → IfOk r (λ o. IfNone o A) → IfOk r (λ o. IfNone o B)
 if_none (Ok None) f h = f h
 if_none (Ok (Some x)) f h = h
@@ -65,7 +65,7 @@ module _ (sign : Truth) (patterns t : ℕ) (row : Signs) (is : IsRow sign patter
 pub fits_less : (sign : Truth) (w v : Signs) (t : ℕ) → IsWithin w v → Fits sign v t → Fits sign w t
 fits_less sign w v t inside fit p s e = fit p s (inside p s e)
 
--- ---- what is chosen
+-- ---- the chosen items
 
 module _ (truth sign : Truth) (few : Few) (n patterns : ℕ) where
   pub chosen_more : (chosen further : List ℕ) (v met : Signs) (t : ℕ) → IsChosen truth sign n patterns chosen v → IsMeet sign v t met → further ≡ chosen ++ t ∷ [] → t < n
@@ -117,7 +117,7 @@ module _ (truth sign : Truth) (few : Few) (n patterns : ℕ) where
   pub none_counted : (test : ℕ → Bool) (at : ℕ) → n ≤ at → count_from test at (n - at) ≡ 0
   none_counted test at past = let size : n - at ≡ 0 = omega arith in ap (λ m. count_from test at m) size
 
-  -- ---- how many there may be
+  -- ---- how many there can be
 
   pub room_end : (chosen : List ℕ) (at : ℕ) → n ≤ at → HasRoom truth sign n chosen at 0
   unfolding HasRoom
@@ -169,7 +169,7 @@ module _ (truth sign : Truth) (few : Few) (n patterns : ℕ) where
         (cases_Bool (test at))
 
   module _ (greater : (v : Signs) (k l : ℕ) → k ≤ l → few v k → few v l) (more_asked : (w v : Signs) (k : ℕ) → IsWithin w v → few w k → few v k) where
-    -- there isn't room for one
+    -- too few items are left for one
     pub in_room : (chosen : List ℕ) (v : Signs) (at most : ℕ) → HasRoom truth sign n chosen at most → ¬ (few v (length chosen + most)) → NoneIn truth sign few n v chosen at
     unfolding HasRoom NoneIn
     in_room chosen v at most room other w test inside h too_many =
@@ -205,7 +205,7 @@ module _ (truth sign : Truth) (few : Few) (n patterns : ℕ) where
       on_take (λ w. length w ≡ patterns) [] at (λ w. IsWithin w row) less (λ w size fit. row_most sign patterns at row is w size fit)
       (subst (λ l. NoneIn truth sign few n row l (suc at)) one taken) rest
 
-  -- there isn't room for a crowd with this one
+  -- too few are left for a crowd with this item
   pub in_tight : ((v : Signs) (k l : ℕ) → k ≤ l → few v k → few v l) → ((w v : Signs) (k : ℕ) → IsWithin w v → few w k → few v k)
       → (chosen : List ℕ) (v met : Signs) (from at above most : ℕ) → above ≡ at + 1 → from ≤ at → at < n → IsMeet sign v at met → HasRoomFrom truth sign n chosen from most
       → ¬ (few met (length chosen + most)) → NoneIn truth sign few n v chosen above → NoneIn truth sign few n v chosen at
@@ -223,7 +223,7 @@ module _ (truth sign : Truth) (few : Few) (n patterns : ℕ) where
       after w test inside (further_later chosen at test w h) (subst (λ m. few w (length chosen + m)) (count_no test at less e) too_many))
       (cases_Bool (test at))
 
-  -- there isn't room for a crowd that begins here
+  -- too few are left for a crowd that begins here
   pub after_room : ((v : Signs) (k l : ℕ) → k ≤ l → few v k → few v l) → ((w v : Signs) (k : ℕ) → IsWithin w v → few w k → few v k)
       → (empty : List ℕ) (row : Signs) (at most : ℕ) → empty ≡ [] → at < n → IsRow sign patterns at row → HasRoomFrom truth sign n empty 0 most → ¬ (few row most)
       → NoneAfter truth sign few n patterns (at + 1) → NoneAfter truth sign few n patterns at

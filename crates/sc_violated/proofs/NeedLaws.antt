@@ -1,4 +1,4 @@
--- Signs that needn't be asked are left out one after the other.
+-- Signs that aren't needed are left out one after the other.
 use Rattle.std.proofs.Common.{◌≡◌, ℕ, ◌<◌, ◌≤◌, ◌+◌, Bool, List, length, get_or, set, Option, Some, None, ⊎_elim, refl, sym, ◌∙◌, ap, subst, arith, length-set, get_or-set_same, get_or-set_other}
 use Rattle.std.proofs.lemmas.Bool.{cases_lt, cases_eq}
 use Rattle.std.proofs.lemmas.List.{get_or_past}
@@ -52,7 +52,7 @@ module _ (few : Few) (count : ℕ) where
   unfolding AreNeeded
   needed_first v p s less = absurd (omega arith)
 
-  -- what is needed stays so where less is asked
+  -- what is needed stays needed where less is asked
   pub needed_less : ((w v : Signs) (k : ℕ) → IsWithin w v → few w k → few v k) → (v w : Signs) (n : ℕ) → IsWithin w v → AreNeeded few count v n → AreNeeded few count w n
   unfolding AreNeeded
   needed_less asked v w n inside h p s less e enough =
@@ -82,7 +82,7 @@ module _ (few : Few) (count : ℕ) where
       let isnt : get_or v n None ≡ None = subst (λ (x : Option Bool). get_or v n x ≡ x) none (sym at) in
       needed_more v n (λ s e. absurd (none_some s (sym isnt ∙ e))) h
 
--- a crowd of which less is asked
+-- a crowd with fewer signs
 pub crowd_less : (truth sign : Truth) (few : Few) (n patterns : ℕ) (items : List ℕ) (v w : Signs) → IsEnough few (length items) v w
     → IsCrowd truth sign few n patterns items v → IsCrowd truth sign few n patterns items w
 crowd_less truth sign few n patterns items v w less h = record {

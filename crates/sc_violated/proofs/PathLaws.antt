@@ -1,4 +1,4 @@
--- Steps that don't go on are looked for one after the other.
+-- The search for a gap, one number after the other.
 use Rattle.std.proofs.Common.{◌≡◌, ℕ, ◌<◌, ◌+◌, Bool, true, false, List, get_or, Option, Some, None, ⊎_elim, sym, ◌∙◌, subst, arith}
 use Rattle.sc_violated.specs.Truths.{Truth}
 use Rattle.sc_violated.specs.Paths.{NoGap, IsReach, NoEnd, NoStart, NoMiddle}

@@ -1,5 +1,5 @@
--- Where nothing about the items is open: one item for each class of those that have some signs is the most that can be apart, and
--- where no item's own signs make a crowd there is none, whatever is asked.
+-- Where nothing about the items is open: one item of each class among those with some signs is the most that can
+-- differ pairwise; and if for no item those with its signs are a crowd, there is no crowd.
 use Rattle.std.proofs.Common.{◌≡◌, ℕ, zero, suc, ◌<◌, ◌≤◌, ◌+◌, ◌-◌, ◌==◌, ◌&&◌, ◌||◌, Bool, true, false, List, [], ◌∷◌, ◌++◌, length, get_or, set, Option, Some, None, ⊎_elim, refl, sym, ◌∙◌, ap, subst, arith, length-append, length-set, get_or-set_same, get_or-set_other, eq-eqb}
 use Rattle.std.proofs.lemmas.Bool.{cases_Bool, cases_lt, cases_eq, eqb-true, and_parts, or_cases, or_left, or_right}
 use Rattle.std.proofs.lemmas.List.Elements.{All-cons, All-push, All-nil, All-weaker}
@@ -15,7 +15,7 @@ use Rattle.sc_violated.proofs.CrowdLaws.{fits_less, row_most, asked_place, none_
 
 -- ---- counts
 
--- the last of some numbers
+-- the last number is counted too
 last_of : (test : ℕ → Bool) (at m : ℕ) → count_from test at (suc m) ≡ count_from test at m + one_if (test (at + m))
 last_of test at zero =
     let here : at + zero ≡ at = omega arith in
@@ -32,7 +32,7 @@ count_last test at m =
     let next : suc m ≡ m + 1 = omega arith in
     subst (λ k. count_from test at k ≡ count_from test at m + one_if (test (at + m))) next (last_of test at m)
 
--- a number that passes, where some do
+-- some number passes, where the count isn't 0
 some_counted : (test : ℕ → Bool) (at m : ℕ) → 0 < count_from test at m → (t : ℕ) × (at ≤ t) × (t < at + m) × (test t ≡ true)
 some_counted test at zero h = absurd (omega arith)
 some_counted test at (suc m) h =
@@ -58,7 +58,7 @@ has_it (Some false) true e = absurd cc
 has_it (Some false) false e = refl
 has_it None s e = absurd cc
 
--- those that pass have one sign or the other
+-- those that pass have the one sign or the other
 count_both : (test : ℕ → Bool) (o : ℕ → Option Bool) (at m : ℕ) → ((t : ℕ) → at ≤ t → t < at + m → (s : Bool) × (o t ≡ Some s))
     → count_from test at m ≡ count_from (λ t. test t && has_sign (o t) true) at m + count_from (λ t. test t && has_sign (o t) false) at m
 count_both test o at zero known = refl
@@ -74,7 +74,7 @@ count_both test o at (suc m) known =
     by false true = refl
     by false false = refl
 
--- ---- one item for each class
+-- ---- one item of each class
 
 module _ (truth sign : Truth) (n patterns : ℕ) where
   earlier : (m : ℕ) (w : Signs) (test : ℕ → Bool) → AreApart truth sign (m + 1) w test → AreApart truth sign m w test
@@ -91,7 +91,7 @@ module _ (truth sign : Truth) (n patterns : ℕ) where
   later_before : (m : ℕ) (picked : List ℕ) → All (λ t. t < m) picked → All (λ t. t < m + 1) picked
   later_before m picked h = All-weaker (λ t. t < m) (λ t. t < m + 1) (λ t less. omega arith) picked h
 
-  -- without the last, there are as many
+  -- without the last item there are as many
   unpassed : (m count : ℕ) (w : Signs) (test : ℕ → Bool) → test m ≡ false → HasMost truth sign m w count → AreApart truth sign (m + 1) w test → count_from test 0 (m + 1) ≤ count
   unfolding HasMost
   unpassed m count w test e most h =
@@ -132,7 +132,7 @@ module _ (truth sign : Truth) (n patterns : ℕ) where
     at_most true = omega arith
     at_most false = omega arith
 
-  -- one of those that were picked, from which an item isn't known to be apart
+  -- a picked item from which an item isn't known to differ
   abbrev IsNear : ℕ → List ℕ → Type 0
   IsNear m picked = (c : ℕ) × (is_in picked c ≡ true) × (truth c m ≡ Some false → ⊥)
 
@@ -155,7 +155,7 @@ module _ (truth sign : Truth) (n patterns : ℕ) where
     abbrev label : ℕ → ℕ
     label t = get_or labels t 0
 
-    -- which of two comes first doesn't matter to a third with the label of one of them
+    -- two items of one label compare alike with a third
     moved_apart : (c m t : ℕ) → c < m → m < n → t < m → label c ≡ label m → truth t m ≡ Some false → ¬ (t ≡ c) → (t < c → truth t c ≡ Some false) × (c < t → truth c t ≡ Some false)
     moved_apart c m t low high less one e other =
         let differ : (label t == label m) ≡ false = same_some (sym (ok.classes t m less high) ∙ e) in
@@ -167,7 +167,7 @@ module _ (truth sign : Truth) (n patterns : ℕ) where
           turned a b e =
               ⊎_elim (λ (f : (b == a) ≡ true). let both : (a == b) ≡ true = eq-eqb a b (sym (eqb-true b a f)) in absurd cc) (λ f. f) (cases_Bool (b == a))
 
-    -- the item is exchanged for the one of its class that was picked
+    -- the item is replaced by the picked one of its class
     exchanged : (c m : ℕ) (w : Signs) (test : ℕ → Bool) → c < m → m < n → label c ≡ label m → Fits sign w c → test m ≡ true → AreApart truth sign (m + 1) w test
         → AreApart truth sign m w (λ t. (t == c) || test t)
     exchanged c m w test low high one fit now h = record {
@@ -238,7 +238,7 @@ module _ (truth sign : Truth) (few : Few) (n patterns : ℕ) where
       (λ (same : u ≡ t). subst (IsRowFree truth sign few n patterns) (sym same) (record { row = row; is_row = is; count = length picked; most = h.most; enough = enough }))
       (last_or_before u t less)
 
-  -- ---- whatever is asked
+  -- ---- whatever signs are asked
 
   -- from a place on each pattern is asked
   abbrev AreAsked : ℕ → Signs → Type 0
@@ -249,7 +249,7 @@ module _ (truth sign : Truth) (few : Few) (n patterns : ℕ) where
       (greater : (v : Signs) (k l : ℕ) → k ≤ l → few v k → few v l) (asked : (w v : Signs) (k : ℕ) → IsWithin w v → few w k → few v k)
       (split : (v : Signs) (p k l : ℕ) → length v ≡ patterns → p < length v → get_or v p None ≡ None → few v (k + l) → ¬ (few (set v p (Some true)) k) → few (set v p (Some false)) l)
       (free : AreRowsFree truth sign few n patterns n) where
-    -- where each pattern is asked, those that have the signs have the signs of one of them
+    -- where each pattern is asked, the items with the signs have the signs of one of them
     row_within : (t : ℕ) (row w : Signs) → IsRow sign patterns t row → length w ≡ patterns → AreAsked 0 w → Fits sign w t → IsWithin row w
     row_within t row w is size all fit p s e =
         let size_row = is.sized in
@@ -276,7 +276,7 @@ module _ (truth sign : Truth) (few : Few) (n patterns : ℕ) where
         never w (subst (few w) zero_ enough))
         (cases_lt 0 (count_from test 0 n))
 
-    -- those that have a sign of a pattern that wasn't asked
+    -- the items with one sign more
     with_sign : (k : ℕ) (s : Bool) (w : Signs) (test : ℕ → Bool) → k < length w → AreApart truth sign n w test → AreApart truth sign n (set w k (Some s)) (λ t. test t && has_sign (sign t k) s)
     with_sign k s w test place h = record {
       apart = λ t u less high one two. h.apart t u less high (and_parts (test t) (has_sign (sign t k) s) one).0 (and_parts (test u) (has_sign (sign u k) s) two).0;
@@ -301,7 +301,7 @@ module _ (truth sign : Truth) (few : Few) (n patterns : ℕ) where
         (r, get_or-set_other w k p (Some s) None other ∙ is))
         (cases_eq p k)
 
-    -- no such items make a crowd, whatever they are
+    -- no such items are a crowd
     abbrev Claim : ℕ → Type 0
     Claim k = (w : Signs) (test : ℕ → Bool) → length w ≡ patterns → AreAsked k w → AreApart truth sign n w test → few w (count_from test 0 n) → ⊥
 

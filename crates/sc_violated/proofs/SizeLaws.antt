@@ -1,4 +1,4 @@
--- How many items have a label: three, where three items that break equality have it.
+-- How many items have a label: at least three, if three that breach transitivity have it.
 use Rattle.std.proofs.Common.{◌≡◌, ◌≢◌, ℕ, zero, suc, ◌<◌, ◌≤◌, ◌+◌, ◌==◌, Bool, true, false, List, [], ◌∷◌, length, take, get_or, Some, refl, sym, ap, ◌∙◌, subst, arith, eq-eqb, ⊎_elim}
 use Rattle.std.proofs.lemmas.Bool.{cases_lt}
 use Rattle.std.proofs.lemmas.List.{get_or_past}
@@ -19,7 +19,7 @@ next [] at l less = absurd (omega arith)
 next (x ∷ xs) zero l less = refl
 next (x ∷ xs) (suc at) l less = let rest = next xs at l (omega arith) in omega arith
 
--- one more was counted
+-- one more is counted
 count_next : (xs : List ℕ) (at l : ℕ) → at < length xs → count_of (take (at + 1) xs) l ≡ one_if (get_or xs at 0 == l) + count_of (take at xs) l
 count_next xs at l less = let more : at + 1 ≡ suc at = omega arith in ap (λ (n : ℕ). count_of (take n xs) l) more ∙ next xs at l less
 
@@ -29,7 +29,7 @@ front (suc n) [] l = omega arith
 front (suc n) (x ∷ xs) l = omega (arith, one_most (x == l), front n xs l)
 
 module _ (labels sizes : List ℕ) (at : ℕ) (sized : length labels ≤ length sizes) (less : at < length labels) (counted : (k : ℕ) → k < length sizes → get_or sizes k 0 ≡ count_of (take at labels) k) where
-  -- a label has been counted less often than there are items
+  -- a label is counted no more often than there are items
   pub room : get_or sizes (get_or labels at 0) 0 < length sizes
   room =
       let l : ℕ = get_or labels at 0 in
@@ -40,7 +40,7 @@ module _ (labels sizes : List ℕ) (at : ℕ) (sized : length labels ≤ length 
   counted_next more h k within =
       h k within ∙ ap (λ (n : ℕ). one_if (get_or labels at 0 == k) + n) (counted k within) ∙ sym (count_next labels at k less)
 
--- ---- items that have a label
+-- ---- items with a label
 
 module _ (l : ℕ) where
   one : (xs : List ℕ) (i : ℕ) → i < length xs → get_or xs i 0 ≡ l → 1 ≤ count_of xs l
@@ -69,7 +69,7 @@ module _ (l : ℕ) where
   three (x ∷ xs) (suc i) (suc j) (suc k) a b c less under below e f g =
       let rest = three xs i j k (λ same. a (ap suc same)) (λ same. b (ap suc same)) (λ same. c (ap suc same)) (omega arith) (omega arith) (omega arith) e f g in omega arith
 
--- an item of a label that fewer than three have is none of three that break equality
+-- an item whose label fewer than three have is in no breach
 pub few_from : (truth : Truth) (n : ℕ) (labels sizes : List ℕ) (a : ℕ) → AreLabels truth n labels → AreSizes labels sizes → a < n → get_or labels a 0 < length sizes → get_or sizes (get_or labels a 0) 0 ≤ 2 → NoneFrom truth n n a
 few_from truth n labels sizes a h counted bound within few c after below apart b less first second =
     let size = h.sized in

@@ -1,12 +1,12 @@
--- Labels of items, equal where items are known to be equal.
+-- Labels of items: items that are known to be equal have one label.
 use Rattle.std.specs.Prelude.{◌≡◌, ℕ, ◌<◌, ◌==◌, true, List, length, get_or, Some, if◌then◌else◌}
 use Rattle.sc_violated.specs.Truths.{Truth}
 
--- one label becomes another
+-- one label is replaced by another
 abbrev pub moved : ℕ → ℕ → ℕ → ℕ
 moved from to label = if label == from then to else label
 
--- items that are known to be equal have one label, of those before i, and of i with those before j
+-- this holds of the items before i, and of i with those before j
 pub record IsJoined (truth : Truth) (n i j : ℕ) (labels : List ℕ) : Type 0 where
   pub sized : length labels ≡ n
   pub rows : (a b : ℕ) → a < i → b < a → truth a b ≡ Some true → get_or labels a 0 ≡ get_or labels b 0

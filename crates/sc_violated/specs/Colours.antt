@@ -1,17 +1,18 @@
--- Colours of items, so that no two of one colour are known to be apart: of items that are all apart there are no more than colours.
+-- Greedy colouring: no two items of one colour are known to differ, so of items that differ pairwise there are no
+-- more than colours.
 use Rattle.std.specs.Prelude.{◌≡◌, ℕ, ◌<◌, ◌≤◌, false, List, length, get_or, Option, Some, None}
 use Rattle.std.specs.List.{All}
 use Rattle.sc_violated.specs.Truths.{Truth}
 
--- an item is known to be none of a few
+-- an item is known to differ from each of the chosen ones
 abbrev pub IsAway : Truth → List ℕ → ℕ → Type 0
 IsAway truth chosen t = All (λ c. truth c t ≡ Some false) chosen
 
--- an item may have a colour
+-- no item of the colour is known to differ from this one
 unfoldable pub MayHave : Truth → List (Option ℕ) → ℕ → ℕ → ℕ → Type 0
 MayHave truth colours upto u g = (t : ℕ) → t < upto → get_or colours t None ≡ Some g → ¬ (truth t u ≡ Some false)
 
--- the first items have k colours: each from a place on that is none of a few has one
+-- the items from a place on that differ from the chosen ones are coloured, with k colours
 pub record AreColoured (truth : Truth) (chosen : List ℕ) (from upto k : ℕ) (colours : List (Option ℕ)) : Type 0 where
   pub sized : length colours ≡ upto
   pub small : k ≤ upto

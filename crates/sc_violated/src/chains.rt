@@ -1,4 +1,5 @@
-//! Equalities that don't go on: one item equals a second, that a third, and the first isn't the third.
+//! Breaches of transitivity: one item is known to equal a second, the second to equal a third, and the first to
+//! differ from the third.
 ghost use Rattle.std.specs.Prelude.{◌≡◌, ℕ, ◌<◌, ◌≤◌, ◌+◌, ◌==◌, get_or, slice_index_or, length, IfOk, IfSome, IfNone, IsTrue, ◌↔◌, Some, None, true, false};
 ghost use Rattle.sc_violated.specs.Truths.{IsIntransitive, NoneIntransitive};
 ghost use Rattle.sc_violated.specs.Classes.{AreLabels};
@@ -8,7 +9,7 @@ ghost use Rattle.sc_violated.specs.Crowds.{one_if};
 use crate::truths::{Equalities, is};
 use std::alloc::{AllocError, Global};
 
-/// What is known of an item and another, where they have one label.
+/// What is known of two items, if they have one label; else nothing.
 fn seen<E: Equalities>(items: &E, labels: &[usize], a: usize, b: usize) -> Option<bool>
     requires a { a < length labels.now }
     requires b { b < length labels.now }
@@ -21,7 +22,7 @@ fn seen<E: Equalities>(items: &E, labels: &[usize], a: usize, b: usize) -> Optio
     }
 }
 
-/// What is known of an item and each other of its label.
+/// A row: what is known of an item and each other of its label.
 fn row<E: Equalities>(
     alloc: Global,
     items: &E,
@@ -39,7 +40,7 @@ fn row<E: Equalities>(
     Ok(row)
 }
 
-/// Whether a truth in a row is known, and is this one.
+/// Whether a row has this truth at a place.
 fn is_at(row: &[Option<bool>], b: usize, truth: bool) -> bool
     requires { b < length row.now }
     ensures { IsTrue result ↔ slice_index_or row.now b None ≡ Some truth }
@@ -47,7 +48,7 @@ fn is_at(row: &[Option<bool>], b: usize, truth: bool) -> bool
     is(row[b], truth)
 }
 
-/// An item between two others.
+/// An item that is known to equal both of two others.
 #[tactic(auto, using(crate::proofs::ChainLaws::between_unseen, crate::proofs::ChainLaws::between_last))]
 fn between<E: Equalities>(items: &E, row: &[Option<bool>], a: usize, c: usize) -> Option<usize>
     requires { IsRow (E.truth items.now) (E.size items.now) a row.now }
@@ -64,7 +65,7 @@ fn between<E: Equalities>(items: &E, row: &[Option<bool>], a: usize, c: usize) -
     None
 }
 
-/// Two items that make three with an item.
+/// A second and a third item that breach transitivity with a first one.
 #[tactic(auto, using(crate::proofs::ChainLaws::from_unseen, crate::proofs::ChainLaws::from_next))]
 fn from<E: Equalities>(items: &E, row: &[Option<bool>], a: usize) -> Option<(usize, usize)>
     requires row { IsRow (E.truth items.now) (E.size items.now) a row.now }
@@ -82,7 +83,7 @@ fn from<E: Equalities>(items: &E, row: &[Option<bool>], a: usize) -> Option<(usi
     None
 }
 
-/// Counts one more item of a label.
+/// Counts one more item with a label.
 fn count_one(sizes: &mut Vec<usize>, label: usize)
     requires { get_or sizes.old.items label 0 < length sizes.old.items }
     ensures sized { length sizes.new.items ≡ length sizes.old.items }
@@ -94,7 +95,7 @@ fn count_one(sizes: &mut Vec<usize>, label: usize)
     }
 }
 
-/// Zeros at the places up to a last one.
+/// Zeros at the places from 0 to `last`.
 fn zeros(alloc: Global, last: usize) -> Result<Vec<usize>, AllocError>
     ensures sized { IfOk result (λ v. length v.items ≡ last + 1) }
     ensures zero { IfOk result (λ v. (i : ℕ) → get_or v.items i 0 ≡ 0) }
@@ -113,7 +114,7 @@ fn larger(a: usize, b: usize) -> usize
     if a < b { b } else { a }
 }
 
-/// The highest of some labels, and no less than how many they are.
+/// The highest label, or the number of labels if that is greater.
 fn highest(labels: &[usize]) -> usize
     ensures { length labels.now ≤ result }
 {
@@ -124,7 +125,7 @@ fn highest(labels: &[usize]) -> usize
     most
 }
 
-/// How many items have each label.
+/// For each label the number of items that have it.
 fn sizes(alloc: Global, labels: &[usize]) -> Result<Vec<usize>, AllocError>
     ensures { IfOk result (λ v. AreSizes labels.now v.items) }
 {
@@ -135,7 +136,7 @@ fn sizes(alloc: Global, labels: &[usize]) -> Result<Vec<usize>, AllocError>
     Ok(sizes)
 }
 
-/// Whether a label may be that of three items.
+/// Whether three items may have a label.
 fn may_be_of_three(sizes: &[usize], label: usize) -> bool
     ensures within { result ≡ false → label < length sizes.now }
     ensures few { result ≡ false → get_or sizes.now label 0 ≤ 2 }
@@ -146,7 +147,8 @@ fn may_be_of_three(sizes: &[usize], label: usize) -> bool
     }
 }
 
-/// Two items that make three with an item. Only a label of three items is looked into.
+/// A second and a third item that breach transitivity with a first one. Labels of fewer than three items are passed
+/// over.
 fn beside<E: Equalities>(
     alloc: Global,
     items: &E,
@@ -167,8 +169,8 @@ fn beside<E: Equalities>(
     Ok(from(items, row.as_slice(), a))
 }
 
-/// Three items of which the first equals the second, the second the third, and the first not the third, or none where no
-/// three are so. Items that are known to be equal have one label.
+/// Three items that breach transitivity, or none exactly where no three do. Items that are known to be equal have one
+/// label.
 #[tactic(auto, using(crate::proofs::ChainLaws::from_each, crate::proofs::ChainLaws::none_intransitive))]
 pub fn intransitive_among<E: Equalities>(
     alloc: Global,

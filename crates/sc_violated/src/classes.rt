@@ -1,18 +1,18 @@
-//! Labels of items, equal where items are known to be equal.
+//! Labels of items, so that items which are known to be equal have one label.
 ghost use Rattle.std.specs.Prelude.{◌≡◌, ◌+◌, ◌<◌, map, length, slice_index_or, IfOk};
 ghost use Rattle.sc_violated.specs.Classes.{moved, IsJoined, AreLabels};
 
 use crate::truths::{Equalities, is};
 use std::alloc::{AllocError, Global};
 
-/// The label that an item has once one label becomes another.
+/// The label of an item, once one label is replaced by another.
 fn moved(from: usize, to: usize, label: usize) -> usize
     ensures { result ≡ moved from to label }
 {
     if label == from { to } else { label }
 }
 
-/// Gives each item of one label another label.
+/// Replaces one label by another.
 fn move_all(labels: &mut Vec<usize>, from: usize, to: usize)
     ensures { labels.new.items ≡ map (moved from to) labels.old.items }
 {
@@ -21,7 +21,7 @@ fn move_all(labels: &mut Vec<usize>, from: usize, to: usize)
     }
 }
 
-/// Gives two items one label, and with them all that have theirs.
+/// Joins the classes of two items: all items of both get one label.
 fn merge(labels: &mut Vec<usize>, one: usize, other: usize)
     requires one { one < length labels.old.items }
     requires other { other < length labels.old.items }
@@ -33,7 +33,7 @@ fn merge(labels: &mut Vec<usize>, one: usize, other: usize)
     move_all(labels, from, to);
 }
 
-/// Gives an item one label with each item before it that it is known to equal.
+/// Joins an item's class with that of each earlier item that it is known to equal.
 #[tactic(auto, using(crate::proofs::ClassLaws::joined_skip, crate::proofs::ClassLaws::joined_merge, crate::proofs::ClassLaws::joined_row))]
 fn join_row<E: Equalities>(items: &E, labels: &mut Vec<usize>, i: usize)
     requires bound { i < E.size items.now }
@@ -47,7 +47,7 @@ fn join_row<E: Equalities>(items: &E, labels: &mut Vec<usize>, i: usize)
     }
 }
 
-/// As many numbers, from 0 on.
+/// The numbers from 0 on, as many as there are items.
 fn numbers(alloc: Global, count: usize) -> Result<Vec<usize>, AllocError>
     ensures { IfOk result (λ v. length v.items ≡ count) }
 {
@@ -58,7 +58,7 @@ fn numbers(alloc: Global, count: usize) -> Result<Vec<usize>, AllocError>
     Ok(numbers)
 }
 
-/// A label for each item, equal where items are known to be equal.
+/// A label for each item, so that items which are known to be equal have one label.
 #[tactic(auto, using(crate::proofs::ClassLaws::joined_start, crate::proofs::ClassLaws::joined_end))]
 pub fn labels<E: Equalities>(alloc: Global, items: &E) -> Result<Vec<usize>, AllocError>
     ensures { IfOk result (λ v. AreLabels (E.truth items.now) (E.size items.now) v.items) }

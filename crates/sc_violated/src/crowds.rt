@@ -1,4 +1,6 @@
-//! Items that can't all be told apart: there are fewer texts with the signs that they have than there are of them.
+//! Crowds: items that are known to differ pairwise, more of them than there are texts with the signs that all of them
+//! have. They are looked for as cliques of differing items, with the number of colours of a greedy colouring as a
+//! bound.
 ghost use Rattle.std.specs.Prelude.{◌≡◌, ◌<◌, ◌≤◌, ◌+◌, ◌^◌, ◌++◌, ◌∷◌, [], slice_index_or, length, IfOk, IfSome, IfNone, IsTrue, ◌↔◌, Some, None, false};
 ghost use Rattle.std.specs.List.{All};
 ghost use Rattle.sc_violated.specs.Colours.{MayHave, AreColoured};
@@ -9,14 +11,14 @@ use crate::texts::Texts;
 use crate::truths::{Equalities, is};
 use std::alloc::{AllocError, Global};
 
-/// Items that can't all be told apart, and the signs that show it.
+/// A crowd, with the signs that show it.
 #[derive(Debug, Drop)]
 pub struct Crowd {
     pub items: Vec<usize>,
     pub signs: Vec<Option<bool>>,
 }
 
-/// The sign that both have.
+/// The sign on which two agree.
 fn agreed(one: Option<bool>, other: Option<bool>) -> Option<bool>
     ensures { result ≡ agreed one other }
 {
@@ -58,7 +60,7 @@ fn meet<S: Texts>(
     Ok(met)
 }
 
-/// Whether an item is known to be none of a few.
+/// Whether an item is known to differ from each of the chosen ones.
 pub(crate) fn is_apart<E: Equalities>(items: &E, chosen: &[usize], item: usize) -> bool
     ensures { IsTrue result ↔ All (λ c. E.truth items.now c item ≡ Some false) chosen.now }
 {
@@ -70,7 +72,7 @@ pub(crate) fn is_apart<E: Equalities>(items: &E, chosen: &[usize], item: usize) 
     true
 }
 
-/// Whether no item of a colour is known to be apart from an item.
+/// Whether an item may have a colour: no item of that colour is known to differ from it.
 #[tactic(auto, using(crate::proofs::ColourLaws::may_first, crate::proofs::ColourLaws::may_skip, crate::proofs::ColourLaws::may_more))]
 fn may_have<E: Equalities>(items: &E, colours: &[Option<usize>], item: usize, colour: usize) -> bool
     ensures { IsTrue result → MayHave (E.truth items.now) colours.now (length colours.now) item colour }
@@ -96,7 +98,7 @@ fn has_colour(colours: &[Option<usize>], item: usize, colour: usize) -> bool
     }
 }
 
-/// The first colour of a few that an item may have, or one more.
+/// The first colour that an item may have, or else a new one.
 fn colour_of<E: Equalities>(
     items: &E,
     colours: &[Option<usize>],
@@ -114,8 +116,8 @@ fn colour_of<E: Equalities>(
     count
 }
 
-/// How many further items there may be at most: as many as they have colours, where no two of one colour are known to be
-/// apart.
+/// An upper bound of how many further items can differ pairwise: the number of colours, where no two items of one
+/// colour are known to differ.
 #[tactic(auto, using(crate::proofs::ColourLaws::coloured_first))]
 fn room<E: Equalities, S: Texts>(
     alloc: Global,
@@ -138,7 +140,7 @@ fn room<E: Equalities, S: Texts>(
     Ok(count)
 }
 
-/// Gives a colour to an item that is none of those that were chosen, and tells how many colours there are.
+/// Colours an item that differs from each of the chosen ones, and gives the number of colours.
 fn colour_next<E: Equalities>(
     items: &E,
     chosen: &[usize],
@@ -167,7 +169,7 @@ fn colour_next<E: Equalities>(
     Ok(count + 1)
 }
 
-/// A list and one further number.
+/// A list with one more number.
 fn longer(alloc: Global, list: &[usize], item: usize) -> Result<Vec<usize>, AllocError>
     ensures { IfOk result (λ v. v.items ≡ list.now ++ item ∷ []) }
 {
@@ -183,7 +185,7 @@ fn copy(alloc: Global, list: &[usize]) -> Result<Vec<usize>, AllocError>
     list.to_vec(alloc)
 }
 
-/// Those that were chosen, as a crowd.
+/// The chosen items as a crowd.
 fn crowd_of(alloc: Global, chosen: &[usize], signs: &[Option<bool>]) -> Result<Crowd, AllocError>
     ensures items { IfOk result (λ c. c.items.items ≡ chosen.now) }
     ensures signs { IfOk result (λ c. c.signs.items ≡ signs.now) }
@@ -193,7 +195,7 @@ fn crowd_of(alloc: Global, chosen: &[usize], signs: &[Option<bool>]) -> Result<C
     Ok(Crowd { items, signs })
 }
 
-/// A crowd of those that were chosen and items from a place on, or none where there is none.
+/// A crowd of the chosen items and later ones from a place on; none exactly where there is none.
 #[cycle(visit)]
 #[tactic(auto, using(crate::proofs::CrowdLaws::in_end, crate::proofs::CrowdLaws::in_room, crate::proofs::CrowdLaws::in_skip))]
 fn visit<E: Equalities, S: Texts>(
@@ -234,7 +236,7 @@ fn visit<E: Equalities, S: Texts>(
     Ok(None)
 }
 
-/// A crowd of those that were chosen, this item and later ones, where no more than so many further ones can be apart.
+/// A crowd of the chosen items, this one and later ones, where at most `most` further ones can differ pairwise.
 #[cycle(visit)]
 fn visit_with<E: Equalities, S: Texts>(
     alloc: Global,
@@ -275,7 +277,7 @@ fn visit_with<E: Equalities, S: Texts>(
     )
 }
 
-/// A crowd whose first item is this one, where no more than so many items can be apart.
+/// A crowd whose first item is this one, where at most `most` items can differ pairwise.
 #[tactic(auto, using(crate::proofs::CrowdLaws::chosen_first))]
 fn begin<E: Equalities, S: Texts>(
     alloc: Global,
@@ -311,8 +313,7 @@ fn begin<E: Equalities, S: Texts>(
     )
 }
 
-/// Items, each two of them known to be apart, that are known to have signs which fewer texts have than there are of these
-/// items, or none where there are none.
+/// A crowd, or none exactly where there is none.
 #[tactic(auto, using(crate::proofs::CrowdLaws::after_end))]
 pub(crate) fn crowded<E: Equalities, S: Texts>(
     alloc: Global,

@@ -1,4 +1,5 @@
-//! Instances of rules that a partial assignment falsifies: found, or none exactly where there is none.
+//! Which instances of a rule a partial assignment falsifies: one of them, or none exactly where there is none.
+//! Nothing here knows of terms: a rule's items are numbers, and what is known of them is looked up.
 #![tactic(auto)]
 
 mod chains;

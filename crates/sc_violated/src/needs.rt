@@ -1,4 +1,4 @@
-//! Signs that needn't be asked.
+//! Leaving out signs that a crowd doesn't need.
 ghost use Rattle.std.specs.Prelude.{◌≡◌, ◌↔◌, ◌+◌, ◌<◌, length, map, true, false, IfOk, IfSome, IsTrue, None, Some};
 ghost use Rattle.sc_violated.specs.Crowds.{true_sign, IsPart, IsEnough, AreNeeded, AreAllNeeded};
 
@@ -6,7 +6,7 @@ use crate::texts::Texts;
 use crate::truths::is;
 use std::alloc::{AllocError, Global};
 
-/// Asks one sign less, if there are still fewer texts than so many.
+/// Leaves out a sign, if fewer than `count` texts have the remaining ones.
 fn ask_without<S: Texts>(
     alloc: Global,
     texts: &S,
@@ -30,7 +30,7 @@ fn ask_without<S: Texts>(
     Ok(())
 }
 
-/// Asks one sign less, if it is asked and there are still fewer texts than so many.
+/// Leaves out a sign, if it is asked and fewer than `count` texts have the remaining ones.
 fn ask_less<S: Texts>(
     alloc: Global,
     texts: &S,
@@ -75,7 +75,7 @@ fn true_sign(sign: Option<bool>) -> Option<bool>
     }
 }
 
-/// The signs that are true; the others aren't asked.
+/// The true signs alone; the false ones aren't asked.
 pub fn true_signs(alloc: Global, signs: &[Option<bool>]) -> Result<Vec<Option<bool>>, AllocError>
     ensures { IfOk result (λ v. v.items ≡ map true_sign signs.now) }
 {
@@ -86,14 +86,14 @@ pub fn true_signs(alloc: Global, signs: &[Option<bool>]) -> Result<Vec<Option<bo
     Ok(asked)
 }
 
-/// Whether a sign is that of a pattern which isn't matched.
+/// Whether a sign says that a pattern isn't matched.
 pub fn is_false(sign: Option<bool>) -> bool
     ensures { IsTrue result ↔ sign ≡ Some false }
 {
     is(sign, false)
 }
 
-/// Asks one sign more, if there are then fewer texts than so many, and tells whether there are.
+/// Asks one more sign, if fewer than `count` texts have all that are then asked, and says whether it did.
 fn ask_more<S: Texts>(
     alloc: Global,
     texts: &S,
@@ -116,7 +116,7 @@ fn ask_more<S: Texts>(
     Ok(false)
 }
 
-/// Those of some signs that are true, and one that is false or none, if fewer than so many texts have these already.
+/// The true signs and at most one false one, if fewer than `count` texts have these.
 fn few_signs<S: Texts>(
     alloc: Global,
     texts: &S,
@@ -140,7 +140,7 @@ fn few_signs<S: Texts>(
     Ok(None)
 }
 
-/// Asks but a few of some signs, if fewer than so many texts have these already.
+/// Leaves the true signs and at most one false one, if fewer than `count` texts have these; else all signs.
 fn ask_few<S: Texts>(
     alloc: Global,
     texts: &S,
@@ -160,7 +160,7 @@ fn ask_few<S: Texts>(
     }
 }
 
-/// Asks none of some signs that needn't be asked, one after the other.
+/// Leaves out each sign in turn that isn't needed.
 fn ask_needed<S: Texts>(
     alloc: Global,
     texts: &S,
@@ -178,8 +178,8 @@ fn ask_needed<S: Texts>(
     Ok(())
 }
 
-/// Asks none of some signs that needn't be asked: there are still fewer texts than so many, and there wouldn't be without
-/// any one of those that are left. Mostly few signs are needed, so it is tried first whether these are enough.
+/// Leaves out signs until each that is left is needed: fewer than `count` texts have them all, and no fewer have all
+/// but one. Mostly few signs are needed, so the true ones with at most one false one are tried first.
 pub fn ask_least<S: Texts>(
     alloc: Global,
     texts: &S,

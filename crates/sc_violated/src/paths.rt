@@ -1,58 +1,58 @@
-//! Steps that don't go on: a start is joined to a middle, the middle to an end, and the start is known not to be joined to
-//! that end.
+//! Gaps: a start is joined to a middle, the middle to an end, and the start is known not to be joined to that end. So
+//! transitivity fails, or that members of a subset are members.
 ghost use Rattle.std.specs.Prelude.{◌≡◌, ℕ, ◌<◌, Bool, Option, length, slice_index_or, ◌↔◌, None, IfOk, IfSome, IfNone, IsTrue, Some, true, false};
 ghost use Rattle.sc_violated.specs.Paths.{IsGap, NoGap, IsReach, NoEnd, NoStart};
 
 use crate::truths::is;
 use std::alloc::{AllocError, Global};
 
-/// Starts, middles and ends, each from 0 on, and what is known of each two of different kinds. The kinds may be one, and
-/// so may the relations.
+/// Starts, middles and ends, by their numbers from 0, and what is known of the three relations between them. All
+/// three may be the same items, and the relations may be one.
 pub trait Paths {
-    /// How many starts there are.
+    /// The number of starts.
     ghost starts: { Self → ℕ };
 
-    /// How many middles there are.
+    /// The number of middles.
     ghost middles: { Self → ℕ };
 
-    /// How many ends there are.
+    /// The number of ends.
     ghost ends: { Self → ℕ };
 
-    /// Whether a start is joined to a middle, as far as it is known.
+    /// Whether a start is joined to a middle, where that is known.
     ghost first: { Self → ℕ → ℕ → Option Bool };
 
-    /// Whether a middle is joined to an end, as far as it is known.
+    /// Whether a middle is joined to an end, where that is known.
     ghost second: { Self → ℕ → ℕ → Option Bool };
 
-    /// Whether a start is joined to an end, as far as it is known.
+    /// Whether a start is joined to an end, where that is known.
     ghost third: { Self → ℕ → ℕ → Option Bool };
 
-    /// How many starts there are.
+    /// The number of starts.
     fn starts(&self) -> usize
         ensures { result ≡ starts self.now };
 
-    /// How many middles there are.
+    /// The number of middles.
     fn middles(&self) -> usize
         ensures { result ≡ middles self.now };
 
-    /// How many ends there are.
+    /// The number of ends.
     fn ends(&self) -> usize
         ensures { result ≡ ends self.now };
 
-    /// Whether a start is joined to a middle, as far as it is known.
+    /// Whether a start is joined to a middle, where that is known.
     fn first(&self, start: usize, middle: usize) -> Option<bool>
         ensures { result ≡ first self.now start middle };
 
-    /// Whether a middle is joined to an end, as far as it is known.
+    /// Whether a middle is joined to an end, where that is known.
     fn second(&self, middle: usize, end: usize) -> Option<bool>
         ensures { result ≡ second self.now middle end };
 
-    /// Whether a start is joined to an end, as far as it is known.
+    /// Whether a start is joined to an end, where that is known.
     fn third(&self, start: usize, end: usize) -> Option<bool>
         ensures { result ≡ third self.now start end };
 }
 
-/// What is known of a middle and each end.
+/// A row: what is known of a middle and each end.
 fn reach<P: Paths>(alloc: Global, paths: &P, b: usize) -> Result<Vec<Option<bool>>, AllocError>
     ensures { IfOk result (λ v. IsReach (P.second paths.now) (P.ends paths.now) b v.items) }
 {
@@ -71,7 +71,7 @@ fn reaches(reach: &[Option<bool>], c: usize) -> bool
     is(reach[c], true)
 }
 
-/// An end that a middle is joined to and a start isn't.
+/// An end to which a middle is joined and a start is known not to be.
 #[tactic(auto, using(crate::proofs::PathLaws::end_first, crate::proofs::PathLaws::end_unreached, crate::proofs::PathLaws::end_joined))]
 fn end<P: Paths>(paths: &P, reach: &[Option<bool>], a: usize, b: usize) -> Option<usize>
     requires { IsReach (P.second paths.now) (P.ends paths.now) b reach.now }
@@ -88,7 +88,7 @@ fn end<P: Paths>(paths: &P, reach: &[Option<bool>], a: usize, b: usize) -> Optio
     None
 }
 
-/// A start that is joined to a middle, and an end that the middle is joined to and the start isn't.
+/// A start that is joined to a middle, and an end to which the middle is joined and the start is known not to be.
 #[tactic(auto, using(crate::proofs::PathLaws::start_first, crate::proofs::PathLaws::start_skip, crate::proofs::PathLaws::start_more))]
 fn start<P: Paths>(paths: &P, reach: &[Option<bool>], b: usize) -> Option<(usize, usize)>
     requires { IsReach (P.second paths.now) (P.ends paths.now) b reach.now }
@@ -106,8 +106,7 @@ fn start<P: Paths>(paths: &P, reach: &[Option<bool>], b: usize) -> Option<(usize
     None
 }
 
-/// A start, a middle and an end, the start joined to the middle, that to the end, and the start not joined to the end, or
-/// none where none are so.
+/// A gap, or none exactly where there is none.
 #[tactic(auto, using(crate::proofs::PathLaws::middle_first, crate::proofs::PathLaws::middle_more, crate::proofs::PathLaws::no_gap))]
 pub fn gap<P: Paths>(alloc: Global, paths: &P) -> Result<Option<(usize, usize, usize)>, AllocError>
     ensures found { IfOk result (λ o. IfSome o (λ t. IsGap (P.first paths.now) (P.second paths.now)

@@ -1,6 +1,6 @@
-//! Crowds where nothing about the items is open: they fall into classes, and each has a sign for
-//! each pattern. Then nothing is searched: of the items that have just the signs of one of them,
-//! one for each class tells.
+//! Crowds under an assignment that leaves nothing about the items open: they fall into classes, and each has a sign
+//! for each pattern. Then there is no search: for each item, one item of each class among those with its signs tells
+//! whether they are a crowd.
 ghost use Rattle.std.specs.Prelude.{◌≡◌, ℕ, ◌<◌, ◌+◌, ◌==◌, length, slice_index_or, IfOk, IfSome, IfNone, IsTrue, IsSome, ◌↔◌, Some, None};
 ghost use Rattle.sc_violated.specs.Crowds.{IsCrowd, Fits, NoneCrowded, AreAllNeeded};
 ghost use Rattle.sc_violated.specs.Settled.{IsSettled, IsPicked, AreRowsFree};
@@ -12,7 +12,7 @@ use crate::texts::Texts;
 use crate::truths::{Equalities, is};
 use std::alloc::{AllocError, Global};
 
-/// Whether two items are one just where they have one label.
+/// Whether two items are known to be equal if their labels are, and known to differ if these differ.
 fn is_classed<E: Equalities>(items: &E, labels: &[usize], a: usize, b: usize) -> bool
     requires a { a < length labels.now }
     requires b { b < length labels.now }
@@ -22,7 +22,7 @@ fn is_classed<E: Equalities>(items: &E, labels: &[usize], a: usize, b: usize) ->
     is(items.equal(a, b), labels[a] == labels[b])
 }
 
-/// Whether an item is one with just those before it that have its label.
+/// Whether an item and each before it are known to be equal if their labels are, and to differ if these do.
 fn is_row_classed<E: Equalities>(items: &E, labels: &[usize], b: usize) -> bool
     requires { b < length labels.now }
     ensures { IsTrue result → (a : ℕ) → a < b → E.truth items.now a b
@@ -36,7 +36,7 @@ fn is_row_classed<E: Equalities>(items: &E, labels: &[usize], b: usize) -> bool
     true
 }
 
-/// Whether items fall into classes: each two are known to be one, or not, by their labels.
+/// Whether items fall into classes, which their labels tell: each two are known to be equal, or known to differ.
 fn are_classed<E: Equalities>(items: &E, labels: &[usize]) -> bool
     ensures { IsTrue result → (a b : ℕ) → a < b → b < length labels.now → E.truth items.now a b
         ≡ Some (slice_index_or labels.now a 0 == slice_index_or labels.now b 0) }
@@ -68,7 +68,7 @@ fn has_all_signs<S: Texts>(texts: &S, item: usize) -> bool
     true
 }
 
-/// Whether each sign of each of the first items is known.
+/// Whether each sign of each of the first items is known, up to a number.
 fn have_all_signs<S: Texts>(texts: &S, count: usize) -> bool
     ensures { IsTrue result → (t p : ℕ) → t < count → p < S.patterns texts.now → IsSome (S.sign texts.now t p) }
 {
@@ -80,7 +80,7 @@ fn have_all_signs<S: Texts>(texts: &S, count: usize) -> bool
     true
 }
 
-/// Whether nothing about items is open.
+/// Whether nothing about the items is open.
 fn is_settled<E: Equalities, S: Texts>(items: &E, texts: &S, labels: &[usize]) -> bool
     requires { length labels.now ≡ E.size items.now }
     ensures { IsTrue result → IsSettled (E.truth items.now) (S.sign texts.now) (E.size items.now)
@@ -92,7 +92,7 @@ fn is_settled<E: Equalities, S: Texts>(items: &E, texts: &S, labels: &[usize]) -
     have_all_signs(texts, labels.len())
 }
 
-/// Whether an item has all signs that are asked.
+/// Whether an item has each sign that is asked.
 fn fits<S: Texts>(texts: &S, signs: &[Option<bool>], item: usize) -> bool
     ensures { IsTrue result ↔ Fits (S.sign texts.now) signs.now item }
 {
@@ -106,7 +106,7 @@ fn fits<S: Texts>(texts: &S, signs: &[Option<bool>], item: usize) -> bool
     true
 }
 
-/// Picks an item, if it has the signs and is apart from those that were picked.
+/// Picks an item, if it has the signs and differs from those that were picked.
 #[tactic(auto, using(crate::proofs::SettledLaws::picked_known))]
 fn pick<E: Equalities, S: Texts>(
     items: &E,
@@ -134,7 +134,7 @@ fn pick<E: Equalities, S: Texts>(
     Ok(())
 }
 
-/// One item for each class of those that have some signs.
+/// One item of each class among those that have some signs.
 fn pick_all<E: Equalities, S: Texts>(
     alloc: Global,
     items: &E,
@@ -155,7 +155,7 @@ fn pick_all<E: Equalities, S: Texts>(
     Ok(picked)
 }
 
-/// A crowd of those that have just the signs of one item.
+/// A crowd of items that have the signs of a given one; none where they are no crowd.
 #[tactic(auto, using(crate::proofs::SettledLaws::row_crowded, crate::proofs::SettledLaws::row_not_crowded))]
 fn row_crowd<E: Equalities, S: Texts>(
     alloc: Global,
@@ -183,7 +183,7 @@ fn row_crowd<E: Equalities, S: Texts>(
     }))
 }
 
-/// A crowd, where nothing about the items is open; none where there is none.
+/// A crowd, where nothing about the items is open; none exactly where there is none.
 #[tactic(auto, using(crate::proofs::SettledLaws::rows_first))]
 fn settled_crowd<E: Equalities, S: Texts>(
     alloc: Global,
@@ -206,7 +206,7 @@ fn settled_crowd<E: Equalities, S: Texts>(
     Ok(None)
 }
 
-/// A crowd; none where there is none. Only where something about the items is open it is searched.
+/// A crowd; none exactly where there is none. There is a search only where something about the items is open.
 fn any_crowd<E: Equalities, S: Texts>(
     alloc: Global,
     items: &E,
@@ -224,8 +224,8 @@ fn any_crowd<E: Equalities, S: Texts>(
     crowded(alloc, items, texts)
 }
 
-/// Items, each two of them known to be apart, that are known to have signs which fewer texts have
-/// than there are of these items, and no sign that could be left out; or none where there are none.
+/// A crowd: items that are known to differ pairwise and to have some signs, more of them than there are texts with
+/// these signs, and each sign that is asked is needed for that. None exactly where there is no crowd.
 #[tactic(auto, using(crate::proofs::NeedLaws::crowd_less))]
 pub fn crowd_of<E: Equalities, S: Texts>(
     alloc: Global,
