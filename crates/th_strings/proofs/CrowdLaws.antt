@@ -1,4 +1,4 @@
--- Strings that can't all be told apart: each crowd is a falsified instance of ST3, and there is no other.
+-- Crowds of strings: each is a falsified instance of ST3, and each falsified instance is one.
 use Rattle.std.proofs.Common.{◌≡◌, ◌≢◌, ◌<◌, ◌≤◌, ◌&&◌, ◌==◌, ℕ, zero, suc, Bool, true, false, inl, inr, List, [], ◌∷◌, map, length, slice_get, get_or, Option, Some, None, IfSome, IfNone, unwrap_or, refl, sym, ap, ◌∙◌, subst, arith, eq-eqb}
 use Rattle.std.proofs.lemmas.List.{length-map}
 use Rattle.std.proofs.lemmas.List.Elements.{All-from_recursion, recursion_from_All}
@@ -45,7 +45,7 @@ pairs_first R x xs h = λ i d less. h 0 (suc i) d (omega arith) (omega (arith, l
 pairs_rest : {X : Type 0} (R : X → X → Type 0) (x : X) (xs : List X) → AllPairs R (x ∷ xs) → AllPairs R xs
 pairs_rest R x xs h = λ i j d low high. h (suc i) (suc j) d (omega (arith, low)) (omega (arith, high))
 
--- ---- ST3 of terms
+-- ---- ST3 at terms
 
 module _ (p : Posed) (m : Assignment) (qs : List Pattern) (v : Signs) where
   st3_out : (ts : List Tree) → length v ≡ length qs → AllByRecursion (λ t. is_string t ≡ true) ts → AllByRecursion (λ t. IsWithin v (row_at p m qs t)) ts → AreAllApart p m ts → is_falsified p m (st3 qs v ts) ≡ true
@@ -73,7 +73,7 @@ module _ (p : Posed) (m : Assignment) (qs : List Pattern) (v : Signs) where
   all_view (Some ts) h = (ts, refl, h)
   all_view None h = absurd cc
 
--- ---- a crowd of numbers of closed terms
+-- ---- a crowd of closed terms, by their numbers
 
 module _ (p : Posed) (m : Assignment) (qs : List Pattern) (ns : List ℕ) where
   abbrev pub rows : List Signs
@@ -107,7 +107,7 @@ module _ (p : Posed) (m : Assignment) (qs : List Pattern) (ns : List ℕ) where
   sign_at : (i j : ℕ) → IsNamed i → sign_of rows i j ≡ get_or (row_at p m qs (at i)) j None
   sign_at i j (x, e) = sign_is p m ns qs i j x e ∙ ap (λ (t : Tree). get_or (row_at p m qs t) j None) (sym (at_named i x e))
 
-  -- what is said of each closed term at some places
+  -- what is known of the closed term at each of several places
   each_at : (P : Tree → Type 0) (items : List ℕ) → ((i : ℕ) → Has items i → P (at i)) → AllByRecursion P (map at items)
   each_at P items h = Has-AllByRecursion P (map at items) (λ t there. let (i, i_in, same) = map-Has at items t there in subst P same (h i i_in))
 
@@ -119,7 +119,7 @@ module _ (p : Posed) (m : Assignment) (qs : List Pattern) (ns : List ℕ) where
     all_apart items (pairs_rest (λ i j. truth_of p m ns i j ≡ Some false) i items h),
   )
 
-  -- the term of a scarce number is a string
+  -- the closed term of a scarce number is a string
   scarce_named : (count i : ℕ) → AllByRecursion (IsScarce p m qs count) ns → i < length ns → IsNamed i × (is_string (at i) ≡ true)
   scarce_named count i each less = by ns i each less refl
     where
@@ -162,7 +162,7 @@ module _ (p : Posed) (m : Assignment) (qs : List Pattern) (ns : List ℕ) where
           subst (AreFew qs signs) (sym (length-map items number)) c.too_many,
         )
 
-    -- ---- and there is no other
+    -- ---- there is no other crowd
 
     has_term : (ks : List ℕ) (ts : List Tree) (k : ℕ) (t : Tree) → all_at p ks ≡ Some ts → term_of p k ≡ Some t → Has ks k → Has ts t
     has_term [] ts k t e f h = absurd h
@@ -171,7 +171,7 @@ module _ (p : Posed) (m : Assignment) (qs : List Pattern) (ns : List ℕ) where
         subst (λ (vs : List Tree). Has vs t) (sym same)
         (elim h [ inl is ↦ inl (same_some (sym g ∙ ap (term_of p) is ∙ f)) | inr later ↦ inr (has_term ks us k t i f later) ])
 
-    -- terms that are apart have numbers of their own
+    -- terms that differ have different numbers
     apart_distinct : (ks : List ℕ) (ts : List Tree) → all_at p ks ≡ Some ts → AreAllApart p m ts → AreDistinct ks
     apart_distinct [] ts e h = tt
     apart_distinct (k ∷ ks) ts e h =
@@ -180,7 +180,7 @@ module _ (p : Posed) (m : Assignment) (qs : List Pattern) (ns : List ℕ) where
         (λ there. true_isnt_false p m u posed (AllByRecursion-Has (AreApart p m u) us u apart.0 (has_term ks us k u i g there)), apart_distinct ks us i apart.1)
 
     module _ (v : Signs) (less : ℕ) where
-      -- a number of a string that has the signs, where fewer texts have them, is scarce
+      -- a string with the signs of a crowd is scarce
       abbrev Own : Tree → Type 0
       Own t = (is_string t ≡ true) × IsWithin v (row_at p m qs t)
 
@@ -200,7 +200,7 @@ module _ (p : Posed) (m : Assignment) (qs : List Pattern) (ns : List ℕ) where
           let own : IsScarce p m qs count l = subst (IsScarceIf p m qs count) (sym g) (strings.0, few_greater qs (row_at p m qs u) less count within (few_asked qs v (row_at p m qs u) less fit.0 few)) in
           (scarce.all l (texts.all l u g (string_text u strings.0)) own, all_scarce few within ks us i strings.1 fit.1)
 
-    -- the places of numbers among the scarce ones
+    -- the places of a crowd's numbers among the scarce ones
     places : (ks : List ℕ) → AllByRecursion (Has ns) ks → List ℕ
     places [] h = []
     places (k ∷ ks) h = (Has-place ns k h.0).0 ∷ places ks h.1
@@ -267,7 +267,7 @@ module _ (p : Posed) (m : Assignment) (qs : List Pattern) (ns : List ℕ) where
           let (size, strings, fit, apart) = out_st3 p m qs v ts falsified in
           no_crowd v ks ts e size strings fit apart few
 
-    -- ---- the same of what is found
+    -- ---- the converse, of what a search finds
 
     module _ (rs : List Signs) (same : rs ≡ rows) (o : Option Crowd) where
       abbrev Told : Crowd → Type 0

@@ -1,4 +1,4 @@
--- Equal strings of which one matches a pattern and the other doesn't: each such gap is a falsified instance of ST1, and there is no other.
+-- Gaps of ST1: each is a falsified instance of it, and each falsified instance is one.
 use Rattle.std.proofs.Common.{◌≡◌, ◌≢◌, ◌<◌, ℕ, Bool, true, false, List, [], ◌∷◌, map, length, slice_get, get_or, Option, Some, None, IfSome, IfNone, is_some, Contains, refl, sym, ap, ◌∙◌, subst}
 use Rattle.std.proofs.lemmas.Bool.{true≢false, or_left, or_right}
 use Rattle.std.proofs.lemmas.Option.{slice_get_within}
@@ -39,7 +39,7 @@ use Rattle.th_strings.specs.Violated.{IsViolated, AreMatchesFree}
 use Rattle.th_strings.proofs.OutLaws.{outs, broken}
 use Rattle.th_strings.proofs.PlaceLaws.{equal_known, row_view, row_is, number_named, named_place, truth_view, truth_is, sign_is}
 
--- ---- of what a pattern is asked with a truth that is known, is a text
+-- ---- a closed term of which a truth about a pattern is known is a string or a constant
 
 like_inverted : (d : Declarations) (env : Env) (written : List Uid) (k : Sort) (q : Pattern) (t : Tree) → judged.IsTermOf d env written k (one (Like q) t) → judged.IsTermOf d env written sort.String t
 like_inverted d env written _ q t (judged.of_like _ _ h s) = h
@@ -66,7 +66,7 @@ module _ (laws : TermsHold) (p : Posed) (m : Assignment) (posed : IsPosed p) whe
           let asked : known m (literal_in p (one (Like q) t)) ≡ Some b = subst (λ (u : Tree). known m (literal_in p u) ≡ Some b) plain e in
           or_left (is_string t) (is_some (literal_of t)) (closed_string q t (number_closed p (one (Like q) t) (known_atom m (literal_in p (one (Like q) t)) b asked)))
 
--- ---- ST1 of two terms
+-- ---- ST1 at two terms
 
 module _ (p : Posed) (m : Assignment) where
   st1_out : (t u : Tree) (q : Pattern) (o : Option Pattern) → o ≡ Some q → equal_known p m t u ≡ Some true → like_known p m t q ≡ Some true → like_known p m u q ≡ Some false → is_falsified p m (st1_of t u o) ≡ true
@@ -139,7 +139,7 @@ module _ (p : Posed) (m : Assignment) where
           apart = sign_is p m ns qs k i y y_named ∙ row_is p m qs (tree p.nodes y) i q q_is ∙ like_y;
         })
 
-    -- ---- the same of what is found
+    -- ---- the converse, of what a search finds
 
     module _ (rs : List (List (Option Bool))) (same : rs ≡ rows) (o : Option (ℕ × ℕ × ℕ)) where
       pub match_told : (a b c : ℕ) (rule : StringRule) → o ≡ Some (a, b, c) → IfSome o (λ t. IsGap (turned_truth p m ns) (sign_of rs) (sign_of rs) t.0 t.1 t.2)

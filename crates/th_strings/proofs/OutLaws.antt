@@ -1,4 +1,4 @@
--- Which of the literals of what is said an assignment makes false, and what it then knows of strings.
+-- Which of an instance's literals an assignment makes false, and what it then tells of strings.
 use Rattle.std.proofs.Common.{◌≡◌, ◌≤◌, ◌&&◌, zero, suc, Bool, true, false, List, [], ◌∷◌, ◌++◌, map, length, Option, Some, None, refl, subst, arith}
 use Rattle.std.proofs.lemmas.Bool.{and_parts, and_from}
 use Rattle.std.specs.Bool.{⊤}
@@ -24,7 +24,7 @@ module _ (p : Posed) (m : Assignment) where
   abbrev pub AreOut : List Signed → Type 0
   AreOut parts = AllByRecursion (λ s. is_out s ≡ true) parts
 
-  -- what is out of two parts
+  -- both parts are false
   out_split : (these those : List Signed) → AreOut (these ++ those) → AreOut these × AreOut those
   out_split these those h = (
     Has-AllByRecursion (λ s. is_out s ≡ true) these (λ s there. AllByRecursion-Has (λ s. is_out s ≡ true) (these ++ those) s h (Has-left these those s there)),
@@ -69,11 +69,11 @@ module _ (p : Posed) (m : Assignment) where
 
   -- ---- equality
 
-  -- two are known not to be equal
+  -- two strings are known to differ
   abbrev pub AreApart : Tree → Tree → Type 0
   AreApart t u = known m (literal_in p (equal_term t u)) ≡ Some false
 
-  -- each two of some are
+  -- several differ pairwise
   abbrev pub AreAllApart : List Tree → Type 0
   AreAllApart [] = ⊤
   AreAllApart (t ∷ ts) = AllByRecursion (AreApart t) ts × AreAllApart ts

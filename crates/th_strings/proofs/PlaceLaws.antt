@@ -1,4 +1,4 @@
--- What stands at the places of numbers of closed terms, and what is known of it.
+-- The closed term at a place of a list of numbers, and what is known of it.
 use Rattle.std.proofs.Common.{◌≡◌, ◌≢◌, ◌<◌, ◌==◌, ℕ, zero, suc, Bool, true, false, cond, List, [], ◌∷◌, map, length, slice_get, get_or, Option, Some, None, option_map, option_and_then, refl, sym, ap, ◌∙◌}
 use Rattle.std.proofs.lemmas.Option.{slice_get-map, get_or_from_slice_get, slice_get_within}
 use Rattle.sc_laws.proofs.NumberLaws.{nat_eq_true}
@@ -22,7 +22,7 @@ module _ (p : Posed) (m : Assignment) where
   abbrev pub equal_known : Tree → Tree → Option Bool
   equal_known t u = known m (literal_in p (equal_term t u))
 
-  -- a sign that is known is of some pattern
+  -- a sign that is known is that of some pattern
   pub row_view : (qs : List Pattern) (t : Tree) (j : ℕ) (s : Bool) → get_or (row_at p m qs t) j None ≡ Some s → (q : Pattern) × (slice_get qs j ≡ Some q) × (like_known p m t q ≡ Some s)
   row_view [] t j s e = absurd cc
   row_view (q ∷ qs) t zero s e = (q, refl, e)

@@ -1,4 +1,4 @@
--- The strings of whose signs there are few texts, one number after the other.
+-- The scarce strings, one number after the other.
 use Rattle.std.proofs.Common.{◌≡◌, ◌≤◌, ◌+◌, ℕ, Bool, true, false, inl, inr, List, [], ◌∷◌, ◌++◌, length, sym, ◌∙◌, subst, arith, length-append, ◌⊎◌, IsTrue, ◌↔◌}
 use Rattle.std.specs.List.{AllByRecursion}
 use Rattle.sc_lists.proofs.ListLaws.{all_append}
@@ -9,7 +9,7 @@ use Rattle.sc_footprint.specs.Problems.{Posed}
 use Rattle.sc_rules.specs.Strings.{Pattern}
 use Rattle.th_strings.specs.Scarce.{AreScarce, IsScarce}
 
--- those of the numbers so far, with these to come
+-- the scarce ones among the numbers that were read and those to come
 pub record AreScarceSoFar (p : Posed) (m : Assignment) (qs : List Pattern) (count : ℕ) (numbers rest scarce : List ℕ) : Type 0 where
   pub few : length scarce + length rest ≤ length numbers
   pub each : AllByRecursion (IsScarce p m qs count) scarce

@@ -1,4 +1,4 @@
--- What a theory promises, from what its rules say.
+-- What a theory promises follows from what is said of its rules.
 use Rattle.std.proofs.Common.{◌≡◌, ℕ, Bool, true, false, List, [], length, Option, Some, None, Result, Ok, Err, IfOk, IfNone, IfSome, cond, refl, sym, ap, ◌∙◌, subst}
 use Rattle.std.specs.Option.{IsSomeAnd}
 use Rattle.sc_clauses.specs.Assignments.{Assignment, falsifies}
@@ -37,7 +37,7 @@ module _ (p : Posed) (m : Assignment) where
   all_out qs v None e h = h
   all_out qs v (Some ts) e h = rw e h
 
-  -- the rule of a crowd is falsified where ST3 is
+  -- the counting rule of a crowd is falsified where its ST3 is
   pub rule_out : (qs : List Pattern) (v : Signs) (ns : List ℕ) (rule : StringRule) → IsRuleOf v ns rule → IsViolated p m qs (St3 v ns) → IsViolated p m qs rule
   rule_out qs v ns (St1 a b i) is h = absurd is
   rule_out qs v ns (St2 w ms) (e, f, asked) h =
@@ -54,7 +54,7 @@ module _ (p : Posed) (m : Assignment) where
   none_after qs o (Ok None) is matches crowds = none_of_all qs (subst (λ q. IfNone q (AreMatchesFree p m qs)) is matches) crowds
   none_after qs o (Err e) is matches crowds = tt
 
-  -- where there are no patterns
+  -- a problem without patterns
   no_match : (i : ℕ) (o q : Option Tree) → is_falsified p m (on_two o q (λ t u. st1 [] t u i)) ≡ true → ⊥
   no_match i (Some t) (Some u) h = nothing_out h
   no_match i (Some t) None h = nothing_out h

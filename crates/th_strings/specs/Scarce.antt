@@ -1,4 +1,4 @@
--- Strings of whose signs there are few texts.
+-- Scarce strings: fewer texts than a number have their signs.
 use Rattle.std.specs.Prelude.{◌≡◌, ◌≤◌, ◌↔◌, ℕ, true, IsTrue, List, length, Option, Some, None}
 use Rattle.std.specs.List.{AllByRecursion}
 use Rattle.sc_lists.specs.Members.{Has}
@@ -10,11 +10,11 @@ use Rattle.sc_rules.specs.Terms.{is_string}
 use Rattle.th_strings.specs.Known.{row_at}
 use Rattle.th_strings.specs.declared.scarce.Answer.{Answer}
 
--- an answer is right
+-- a kept answer is right
 abbrev pub IsTold : List Pattern → ℕ → Answer → Type 0
 IsTold qs count a = IsTrue a.few ↔ AreFew qs a.signs count
 
--- a string, and fewer than so many texts have its signs
+-- the term is a string, and fewer than `count` texts have its signs
 abbrev pub IsScarceTerm : Posed → Assignment → List Pattern → ℕ → Tree → Type 0
 IsScarceTerm p m qs count t = (is_string t ≡ true) × AreFew qs (row_at p m qs t) count
 
@@ -25,7 +25,7 @@ IsScarceIf p m qs count None = ⊥
 abbrev pub IsScarce : Posed → Assignment → List Pattern → ℕ → ℕ → Type 0
 IsScarce p m qs count n = IsScarceIf p m qs count (term_of p n)
 
--- these are the scarce ones of some numbers
+-- the scarce ones among some closed terms, by their numbers
 pub record AreScarce (p : Posed) (m : Assignment) (qs : List Pattern) (count : ℕ) (numbers scarce : List ℕ)
     : Type 0 where
   pub few : length scarce ≤ length numbers

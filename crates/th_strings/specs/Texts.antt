@@ -1,4 +1,4 @@
--- The closed terms that may be texts: the strings, and the literals.
+-- The closed terms that may be strings of a rule: string terms, and constants.
 use Rattle.std.specs.Prelude.{◌≡◌, ◌≤◌, ◌||◌, ℕ, Bool, true, List, length, Some, is_some}
 use Rattle.sc_lists.specs.Members.{Has}
 use Rattle.sc_terms.specs.Folds.{literal_of}
@@ -9,12 +9,12 @@ use Rattle.sc_rules.specs.Terms.{is_string}
 abbrev pub is_text : Tree → Bool
 is_text t = is_string t || is_some (literal_of t)
 
--- these are all of them, up to a number
+-- all of these up to a number
 pub record AreTextsUpTo (p : Posed) (count : ℕ) (numbers : List ℕ) : Type 0 where
   pub few : length numbers ≤ count
   pub all : (n : ℕ) (t : Tree) → n ≤ count → term_of p n ≡ Some t → is_text t ≡ true → Has numbers n
 
--- these are all of them, and no more than there are closed terms
+-- all of these, which are no more than the closed terms
 pub record AreTexts (p : Posed) (numbers : List ℕ) : Type 0 where
   pub few : length numbers ≤ length p.closed
   pub all : (n : ℕ) (t : Tree) → term_of p n ≡ Some t → is_text t ≡ true → Has numbers n

@@ -1,4 +1,4 @@
--- The instances that an assignment falsifies.
+-- The instances of the rules on strings that an assignment falsifies.
 use Rattle.std.specs.Prelude.{◌≡◌, ℕ, true, List}
 use Rattle.sc_clauses.specs.Assignments.{Assignment}
 use Rattle.sc_footprint.specs.Problems.{Posed}
@@ -8,22 +8,22 @@ use Rattle.sc_string_rows.specs.declared.rule.StringRule.{StringRule}
 use Rattle.sc_string_rows.specs.declared.rule.StringRule.TheVariants.{St1, St2, St3}
 use Rattle.sc_string_rows.specs.Instances.{said_of, IsCrowded}
 
--- an instance is falsified, and it is one
+-- what the rule says is falsified; of a counting rule, fewer texts have its signs than it has strings
 abbrev pub IsViolated : Posed → Assignment → List Pattern → StringRule → Type 0
 IsViolated p m qs rule = (is_falsified p m (said_of p qs rule) ≡ true) × IsCrowded qs rule
 
 abbrev pub NoneViolated : Posed → Assignment → List Pattern → Type 0
 NoneViolated p m qs = (rule : StringRule) → ¬ (IsViolated p m qs rule)
 
--- none of ST1 is
+-- no instance of ST1 is
 abbrev pub AreMatchesFree : Posed → Assignment → List Pattern → Type 0
 AreMatchesFree p m qs = (a b i : ℕ) → ¬ (IsViolated p m qs (St1 a b i))
 
--- none of ST3 is; then none of ST2 is
+-- no instance of ST3 is, and so none of ST2
 abbrev pub AreCrowdsFree : Posed → Assignment → List Pattern → Type 0
 AreCrowdsFree p m qs = (v : Signs) (ns : List ℕ) → ¬ (IsViolated p m qs (St3 v ns))
 
--- the counting rule of some signs and strings
+-- a counting rule of these signs and strings
 abbrev pub IsRuleOf : Signs → List ℕ → StringRule → Type 0
 IsRuleOf v ns (St1 a b i) = ⊥
 IsRuleOf v ns (St2 w ms) = (w ≡ v) × (ms ≡ ns) × (is_asked_all v ≡ true)

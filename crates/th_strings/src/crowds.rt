@@ -1,4 +1,4 @@
-//! ST2 and ST3: strings that can't all be told apart.
+//! ST2 and ST3: strings that differ pairwise, more of them than there are texts with their signs.
 ghost use Rattle.std.specs.Prelude.{◌≡◌, ◌<◌, length, map, get_or, IfOk, IfSome, IfNone};
 ghost use Rattle.std.specs.List.{AllByRecursion};
 ghost use Rattle.th_strings.specs.Texts.{AreTexts};
@@ -16,7 +16,7 @@ use sc_string_rows::{StringRule, are_all_asked};
 use sc_violated::{Crowd, crowd_of};
 use std::alloc::{AllocError, Global};
 
-/// The numbers at some places.
+/// The numbers at several places of a list.
 fn numbers_at(alloc: Global, numbers: &[u64], places: &[usize]) -> Result<Seq<u64>, AllocError>
     requires { AllByRecursion (λ i. i < length numbers.now) places.now }
     ensures { IfOk result (λ ns. ns ≡ map (λ i. get_or numbers.now i 0) places.now) }
@@ -30,7 +30,7 @@ fn numbers_at(alloc: Global, numbers: &[u64], places: &[usize]) -> Result<Seq<u6
     Ok(found)
 }
 
-/// The instance of signs and strings: of ST2 where each pattern is asked.
+/// The instance of these signs and strings: of ST2 where each pattern is asked, else of ST3.
 fn counting_rule(signs: Seq<Option<bool>>, strings: Seq<u64>) -> StringRule
     ensures { IsRuleOf signs strings result }
 {
@@ -41,7 +41,7 @@ fn counting_rule(signs: Seq<Option<bool>>, strings: Seq<u64>) -> StringRule
     }
 }
 
-/// The instance that a crowd shows.
+/// The instance for a crowd.
 fn crowd_rule(alloc: Global, numbers: &[u64], crowd: Crowd) -> Result<StringRule, AllocError>
     requires { AllByRecursion (λ i. i < length numbers.now) crowd.items.items }
     ensures { IfOk result (IsRuleOf crowd.signs.items (map (λ i. get_or numbers.now i 0) crowd.items.items)) }
@@ -50,8 +50,8 @@ fn crowd_rule(alloc: Global, numbers: &[u64], crowd: Crowd) -> Result<StringRule
     Ok(counting_rule(Seq::from_vec(crowd.signs), strings))
 }
 
-/// An instance of ST2 or ST3 that an assignment falsifies, and that asks no pattern which could be
-/// left out; none where there is none.
+/// An instance of ST2 or ST3 that the assignment falsifies, with each sign in it needed; none exactly where there is
+/// none.
 pub(crate) fn broken_crowd(
     alloc: Global,
     problem: &Problem<'_>,

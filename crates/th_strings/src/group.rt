@@ -1,4 +1,5 @@
-//! Some closed terms, and what an assignment knows of each two of them, and of each and a pattern.
+//! Closed terms as items of the searches for gaps and crowds: what the assignment tells of each two, and of each and
+//! a pattern.
 ghost use Rattle.std.specs.Prelude.{◌≡◌};
 ghost use Rattle.sc_instances.specs.Known.{few_items, truth_of};
 
@@ -18,23 +19,23 @@ pub(crate) struct Group<'a, 'b> {
     pub(crate) problem: &'a Problem<'b>,
     pub(crate) m: &'a Assignment,
     pub(crate) patterns: &'a [Pattern],
-    /// Their numbers, from 1 on in the order of terms.
+    /// The numbers of the closed terms, in ascending order.
     pub(crate) numbers: &'a [u64],
-    /// Which patterns each of them matches.
+    /// The signs of each of them.
     pub(crate) signs: &'a [Seq<Option<bool>>],
 }
 
-/// A problem has no more closed terms.
+/// A bound of the number of closed terms of any problem.
 const MOST_NUMBERS: usize = 1_000_000_000_000_000_000;
 
-/// How many numbers there are; a problem has never more than `MOST_NUMBERS`.
+/// The number of items, which is at most `MOST_NUMBERS` in any problem.
 fn few_numbers(count: usize) -> usize
     ensures { result ≡ few_items count }
 {
     if count < MOST_NUMBERS { count } else { 0 }
 }
 
-/// Whether two closed terms are equal, as far as it is known.
+/// Whether two closed terms are equal, where that is known.
 fn equated(
     problem: &Problem<'_>,
     m: &Assignment,
@@ -74,7 +75,8 @@ impl<'a, 'b> Equalities for Group<'a, 'b> {
     ghost reflexive = { λ s. truth_itself s.problem.now s.m.now s.numbers.now };
 }
 
-/// A start is a string that a middle equals, and an end is a pattern.
+/// Gaps of ST1: a middle is joined to a start that equals it and to the patterns that it matches; a start to the
+/// patterns that it matches.
 impl<'a, 'b> Paths for Group<'a, 'b> {
     ghost use Rattle.std.specs.Prelude.{length};
     ghost use Rattle.th_strings.specs.Known.{sign_of, turned_truth};

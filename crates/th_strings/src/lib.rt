@@ -1,6 +1,5 @@
-//! The theory of strings and of the patterns that they match: equal strings match the same
-//! patterns, and strings can't all be told apart where fewer texts have their signs than there are
-//! of them.
+//! The theory of strings and of the patterns that they match: equal strings match the same patterns, and where fewer
+//! texts than there are strings have some signs, two of the strings are equal.
 #![tactic(auto)]
 
 mod crowds;

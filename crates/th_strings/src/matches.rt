@@ -13,7 +13,7 @@ use sc_string_rows::StringRule;
 use sc_violated::gap;
 use std::alloc::{AllocError, Global};
 
-/// The number at a place.
+/// The number at a place of a list.
 pub(crate) fn number_at(numbers: &[u64], place: usize) -> u64
     requires { place < length numbers.now }
     ensures { result ≡ get_or numbers.now place 0 }
@@ -21,7 +21,7 @@ pub(crate) fn number_at(numbers: &[u64], place: usize) -> u64
     numbers[place]
 }
 
-/// The instance of ST1 of a start, a middle and an end, by their places.
+/// The instance of ST1 for a gap: a string that equals another, and a pattern that only the other matches.
 fn match_rule(numbers: &[u64], start: usize, middle: usize, pattern: usize) -> StringRule
     requires start { start < length numbers.now }
     requires middle { middle < length numbers.now }
@@ -32,7 +32,7 @@ fn match_rule(numbers: &[u64], start: usize, middle: usize, pattern: usize) -> S
     StringRule::St1(a, b, pattern as u64)
 }
 
-/// An instance of ST1 that an assignment falsifies; none where there is none.
+/// An instance of ST1 that the assignment falsifies, or none exactly where there is none.
 pub(crate) fn broken_match(
     alloc: Global,
     problem: &Problem<'_>,

@@ -1,5 +1,5 @@
-//! Strings of whose signs there are few texts. Each string of a crowd is one of these, so only they
-//! are looked at.
+//! Scarce strings: fewer texts have their signs than there are strings in all. Each string of a crowd is scarce, so
+//! the search looks at these alone.
 ghost use Rattle.std.specs.Prelude.{◌≡◌, ◌↔◌, ◌<◌, length, IfOk, OnOk, IfSome, IsTrue};
 ghost use Rattle.std.specs.List.{AllByRecursion};
 ghost use Rattle.sc_rules.specs.Strings.{AreFew};
@@ -14,14 +14,14 @@ use sc_pattern::Pattern;
 use sc_string_rows::{are_few, copied_signs, is_sort_string};
 use std::alloc::{AllocError, Global};
 
-/// Whether few texts have these signs, once it was told.
+/// Whether few texts have these signs: an answer that is kept, since counting texts takes long.
 #[derive(Drop)]
 pub(crate) struct Answer {
     pub(crate) signs: Seq<Option<bool>>,
     pub(crate) few: bool,
 }
 
-/// Whether two signs are the same.
+/// Whether two signs are equal.
 fn same_sign(one: Option<bool>, other: Option<bool>) -> bool
     ensures { IsTrue result → one ≡ other }
 {
@@ -32,7 +32,7 @@ fn same_sign(one: Option<bool>, other: Option<bool>) -> bool
     }
 }
 
-/// Whether signs are the same.
+/// Whether two lists of signs are equal.
 fn same_signs(some: &[Option<bool>], others: &[Option<bool>]) -> bool
     ensures { IsTrue result → some.now ≡ others.now }
 {
@@ -51,7 +51,7 @@ fn same_signs(some: &[Option<bool>], others: &[Option<bool>]) -> bool
     right.is_empty()
 }
 
-/// Whether fewer than so many texts have some signs, if it was told.
+/// The kept answer to whether fewer than `count` texts have these signs, if there is one.
 fn told_few(
     patterns: &[Pattern],
     count: u64,
@@ -73,7 +73,7 @@ fn told_few(
     None
 }
 
-/// Whether fewer than so many texts have some signs. What was told before isn't counted again.
+/// Whether fewer than `count` texts have these signs, by a kept answer or else by counting, which is kept then.
 fn is_few(
     alloc: Global,
     patterns: &[Pattern],
@@ -94,7 +94,7 @@ fn is_few(
     Ok(few)
 }
 
-/// Whether a term of the table is a string of whose signs there are few texts.
+/// Whether a term of the table is a string with fewer than `count` texts that have its signs.
 fn is_scarce_term(
     alloc: Global,
     problem: &Problem<'_>,
@@ -117,7 +117,7 @@ fn is_scarce_term(
     is_few(alloc, patterns, count, answers, signs.as_slice())
 }
 
-/// The same of the closed term of a number.
+/// Whether a closed term, by its number, is such a string.
 fn is_scarce(
     alloc: Global,
     problem: &Problem<'_>,
@@ -137,7 +137,7 @@ fn is_scarce(
     }
 }
 
-/// Those of some numbers whose closed terms are strings of whose signs there are few texts.
+/// Those of several closed terms, by their numbers, that are such strings.
 pub(crate) fn scarce_numbers(
     alloc: Global,
     problem: &Problem<'_>,

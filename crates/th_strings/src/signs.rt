@@ -1,4 +1,4 @@
-//! Which patterns strings match, as far as an assignment tells.
+//! Which patterns strings match, where the assignment tells it.
 ghost use Rattle.std.specs.Prelude.{◌≡◌, ◌<◌, length, map, slice_get, IfOk};
 ghost use Rattle.sc_footprint.specs.Problems.{term_of};
 ghost use Rattle.sc_terms.specs.Tables.{tree};
@@ -12,7 +12,7 @@ use sc_pattern::Pattern;
 use sc_string_rows::like;
 use std::alloc::{AllocError, Global};
 
-/// Which of some patterns a term of the table matches.
+/// The signs of a term of the table: for each pattern whether the term matches it, where that is known.
 pub(crate) fn row(
     alloc: Global,
     problem: &Problem<'_>,
@@ -33,7 +33,7 @@ pub(crate) fn row(
     Ok(row)
 }
 
-/// The same of the closed term of a number.
+/// The signs of a closed term, by its number.
 fn number_row(
     alloc: Global,
     problem: &Problem<'_>,
@@ -49,7 +49,7 @@ fn number_row(
     }
 }
 
-/// The same of each of some numbers.
+/// The signs of several closed terms, by their numbers.
 pub(crate) fn rows(
     alloc: Global,
     problem: &Problem<'_>,
@@ -70,7 +70,7 @@ pub(crate) fn rows(
     Ok(rows)
 }
 
-/// The sign at a place.
+/// The sign at a place of a row; none behind its end.
 fn sign_at(signs: &[Option<bool>], place: usize) -> Option<bool>
     ensures { result ≡ sign_in (slice_get signs.now place) }
 {
@@ -80,7 +80,7 @@ fn sign_at(signs: &[Option<bool>], place: usize) -> Option<bool>
     }
 }
 
-/// The sign at a place of one of some rows.
+/// The sign of an item for a pattern, by their places among rows of signs.
 pub(crate) fn sign(rows: &[Seq<Option<bool>>], item: usize, place: usize) -> Option<bool>
     ensures { result ≡ sign_of rows.now item place }
 {

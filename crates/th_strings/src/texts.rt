@@ -1,4 +1,4 @@
-//! The closed terms that may be texts.
+//! The closed terms that may be strings of a rule: string terms, and constants.
 ghost use Rattle.std.specs.Prelude.{◌≡◌, ◌<◌, ◌+◌, length, is_some, IfOk, OnOk};
 ghost use Rattle.sc_terms.specs.Folds.{literal_of};
 ghost use Rattle.sc_terms.specs.Tables.{tree};
@@ -9,7 +9,7 @@ use sc_instances::closed_at;
 use sc_string_rows::is_sort_string;
 use std::alloc::{AllocError, Global};
 
-/// Whether a term is a literal.
+/// Whether a term is a constant.
 fn is_literal(problem: &Problem<'_>, n: u64) -> bool
     requires { n < length problem.now.nodes }
     ensures { result ≡ is_some (literal_of (tree problem.now.nodes n)) }
@@ -17,7 +17,7 @@ fn is_literal(problem: &Problem<'_>, n: u64) -> bool
     problem.terms().literal_at(n).is_some()
 }
 
-/// Whether a term is a string or a literal.
+/// Whether a term is a string or a constant.
 fn is_text(problem: &Problem<'_>, n: u64) -> bool
     requires { n < length problem.now.nodes }
     ensures { result ≡ text_test (tree problem.now.nodes n) }
@@ -27,7 +27,7 @@ fn is_text(problem: &Problem<'_>, n: u64) -> bool
     string || literal
 }
 
-/// Puts the number of the closed term of a place, if that is a string or a literal.
+/// Appends the number of a closed term, if that is a string or a constant.
 fn put_if_text(problem: &Problem<'_>, place: u64, numbers: &mut Vec<u64>) -> Result<(), AllocError>
     requires place { place < length problem.now.closed }
     requires texts { AreTextsUpTo problem.now place numbers.old.items }
@@ -41,7 +41,7 @@ fn put_if_text(problem: &Problem<'_>, place: u64, numbers: &mut Vec<u64>) -> Res
     Ok(())
 }
 
-/// The numbers of the strings and literals among the closed terms.
+/// The numbers of the strings and constants among the closed terms.
 pub(crate) fn text_numbers(alloc: Global, problem: &Problem<'_>) -> Result<Vec<u64>, AllocError>
     ensures { IfOk result (λ v. AreTexts problem.now v.items) }
 {

@@ -1,4 +1,4 @@
-//! The theory.
+//! The theory of strings, as the search and the checker use it.
 ghost use Rattle.std.specs.Prelude.{◌≡◌, ◌↔◌, IfOk, IfSome, IfNone, IsTrue};
 ghost use Rattle.sc_string_rows.specs.Patterns.{patterns as patterns_in};
 ghost use Rattle.th_strings.specs.Violated.{IsViolated, NoneViolated};
@@ -12,12 +12,12 @@ use sc_pattern::Pattern;
 use sc_string_rows::{StringRule, accepted, clause_of, patterns, write_string};
 use std::alloc::{AllocError, Global};
 
-/// The rules of strings. An instance is named by the numbers of its closed terms, by the place of a
-/// pattern or by a sign for each. Where there are no patterns there is none.
+/// The rules ST1 to ST3 on strings. An instance gives the numbers of its closed terms, and the place of a pattern or
+/// a sign for each. A problem without patterns has no instance.
 #[derive(Drop)]
 pub struct Strings;
 
-/// An instance of the rules on strings and these patterns that an assignment falsifies.
+/// An instance over these patterns that the assignment falsifies, or none exactly where there is none.
 fn broken_rule(
     alloc: Global,
     problem: &Problem<'_>,
@@ -38,7 +38,7 @@ fn broken_rule(
     }
 }
 
-/// An instance that an assignment falsifies, by its rule.
+/// An instance that the assignment falsifies, as its rule, or none exactly where there is none.
 fn violated_rule(
     alloc: Global,
     problem: &Problem<'_>,
