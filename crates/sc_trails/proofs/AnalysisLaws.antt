@@ -72,7 +72,7 @@ refutes-skip cs cells trail p i met hints l agree at unmet h known has only =
     (before-cases cells trail agree i l m at b))
     only
 
--- it resolves with the reason of one that was met
+-- it resolves with the reason of a met one
 pub refutes-resolve : (cs : List Clause) (cells : List Cell) (trail : List Lit) (p i r : ℕ) (met after : List Bool) (hints : List ℕ) (l : Lit) → Agree cells trail → At trail i l → i < p
     → (why : IsReason cs cells l i r) → MeetsMore met after → ((m : Lit) → Contains (why.clause) m → IsMet after m)
     → RefutesMet cs cells p (i + 1) met hints → RefutesMet cs cells p i after (hints ++ (r + 1) ∷ [])
@@ -162,7 +162,7 @@ met-more met c i d lt h here =
     subst (λ (ds : List Lit). AreMet met ds) (sym (take_more c i d lt))
     (λ m has. ⊎_elim (λ (old : Contains (take i c) m). h m old) (λ (e : get_or c i d ≡ m). subst (λ (x : Lit). IsMet met x) e here) (Contains-push_cases (take i c) (get_or c i d) m has))
 
--- what the cell of a literal on the trail is
+-- the cell of a literal on the trail
 module _ (cells : List Cell) (trail : List Lit) (agree : Agree cells trail) (i : ℕ) (l : Lit) (at : At trail i l) where
   pub trail-at : HasPlace cells l i
   trail-at = subst (λ (w : Lit). HasPlace cells w i) at.1 (agree.placed i l at.0)
@@ -218,7 +218,7 @@ has-neg c x (k, lt, e) = (k, let l : length (map negation c) ≡ length c = simp
 from-neg : (c : List Lit) (m : Lit) → Contains (map negation c) m → Contains c (negation m)
 from-neg c m h = subst (λ (d : List Lit). Contains d (negation m)) (twice c) (has-neg (map negation c) m h)
 
--- where one literal of the level is left, the clause of its negation and of what was met before the level
+-- where one met literal of the level is left: the clause of its negation and of what was met before the level
 module _ (cs : List Clause) (cells : List Cell) (trail : List Lit) (agree : Agree cells trail) (first i : ℕ) (met : List Bool) (lower : List Lit) (hints : List ℕ) (uip : Lit) (n : ℕ)
     (at : At trail i uip) (from : first ≤ i) (collected : IsCollected n cells first met lower) (none : NoneMet trail met first i) (h : RefutesMet cs cells (length trail) (i + 1) met hints) where
   uip-at : HasPlace cells uip i
@@ -272,7 +272,7 @@ collected-fresh n cells first met lower e f = record {
   are_lower = λ m has. absurd (contains_nothing m (subst (λ (xs : List Lit). Contains xs m) f has));
 }
 
--- where no place is left, nothing has to be known
+-- where no place is left nothing was assumed
 pub refutes-none : (cs : List Clause) (cells : List Cell) (p i : ℕ) (met : List Bool) (hints : List ℕ) → i ≤ 0 → RefutesMet cs cells p i met hints → Refutes cs [] (reverse hints)
 refutes-none cs cells p i met hints le h =
     h [] (λ m b is_met. let w = before-at cells m i b in let lt : w.0 < i = w.1 in absurd (omega arith)) (λ m has. absurd (contains_nothing m has))

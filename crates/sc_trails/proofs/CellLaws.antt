@@ -1,4 +1,4 @@
--- What cells tell, and what a write to one changes.
+-- What cells say, and what a write to one changes.
 use Rattle.std.proofs.Common.{◌≡◌, ◌≢◌, ⊎_elim, ℕ, ◌<◌, ◌≤◌, List, Bool, true, false, not, ◌&&◌, ltb, length, get_or, refl, sym, ap, ◌∙◌, subst, arith, get_or-set_same, get_or-set_other}
 use mathlib.Core.Path.{fun_ext}
 use Rattle.std.proofs.Math.ListN.{set}
@@ -60,7 +60,7 @@ cell-at-one Free s i j a b = absurd a
 cell-at-one (Decided n q) s i j a b = sym a.1 ∙ b.1
 cell-at-one (Implied n q r) s i j a b = sym a.1 ∙ b.1
 
--- one whose place is p or later isn't
+-- one whose place is p or later isn't true before p
 pub at-not-before : (cells : List Cell) (l : Lit) (i p : ℕ) → HasPlace cells l i → p ≤ i → true_before cells p l ≡ false
 at-not-before cells l i p a h =
     false_from_ne_true _ (λ e. let w = before-at cells l p e in let same : i ≡ w.0 = cell-at-one (cell_of cells l) l.negated i w.0 a w.2 in let lt : w.0 < p = w.1 in absurd (omega arith))

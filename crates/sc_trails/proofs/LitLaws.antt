@@ -1,4 +1,4 @@
--- What is in a list, and in a clause.
+-- Members of lists and of clauses.
 use Rattle.std.proofs.Common.{◌≡◌, ◌≢◌, ◌⊎◌, inl, inr, ⊎_elim, zero, suc, List, [], ◌∷◌, true, length, refl, sym, ◌∙◌, subst, arith}
 use Rattle.std.specs.List.{Contains}
 use Rattle.std.proofs.lemmas.Bool.{or_cases}
@@ -20,7 +20,7 @@ pub nil-of : {X : Type 0} (xs : List X) → length xs ≡ 0 → xs ≡ []
 nil-of [] e = refl
 nil-of (x ∷ xs) e = absurd (omega arith)
 
--- a literal that the test finds in a list is there
+-- a literal that the test finds is in the list
 found : (xs : List Lit) (m : Lit) → is_in xs m ≡ true → Contains xs m
 found [] m e = absurd cc
 found (x ∷ xs) m e =
@@ -29,7 +29,7 @@ found (x ∷ xs) m e =
     (λ (t : is_in xs m ≡ true). tail-has x m xs (found xs m t))
     (or_cases (lit_eq m x) (is_in xs m) e)
 
--- each literal of one clause is in the other
+-- each literal of the one clause is in the other
 pub contained-has : (c d : Clause) → contained c d ≡ true → (m : Lit) → Contains c m → Contains d m
 contained-has [] d e m has = absurd (contains_nothing m has)
 contained-has (x ∷ c) d e m has =

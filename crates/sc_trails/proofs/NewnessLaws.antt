@@ -1,4 +1,4 @@
--- A clause that a quiet set of literals falsifies but for one literal is new.
+-- A clause that a quiet trail falsifies but for one literal is new.
 use Rattle.std.proofs.Common.{◌≡◌, ◌≢◌, inl, inr, ⊎_elim, List, Bool, true, false, refl, sym, ◌∙◌, subst, true≢false}
 use Rattle.std.specs.List.{Contains}
 use Rattle.std.proofs.lemmas.Bool.{false_from_ne_true}
@@ -31,7 +31,7 @@ module _ (T : Lit → Bool) (consistent : IsSingle T) (cs : List Clause) (quiet 
   pub new-by : Contains C l → T l ≡ false → IsNewBy cs C l
   new-by cl fl = (cl, (λ g. true≢false (sym (gives-in g) ∙ fl)), λ (c, ic, all). ok-conflict T consistent c (quiet c ic) (λ m cm. gives-in (all m cm)))
 
--- a clause that is new has all literals of no clause before it
+-- a new clause contains no clause before it
 pub uncovered : (cs : List Clause) (C : Clause) → IsNew cs C → (c : Clause) → Contains cs c → contained c C ≡ false
 uncovered cs C (l, (has, not_given, no_conflict)) c ic =
     false_from_ne_true _ (λ e.

@@ -1,4 +1,4 @@
--- Clauses that are given by the numbers of their literals.
+-- Clauses by the numbers of their literals.
 use Rattle.std.proofs.Common.{◌≡◌, ◌+◌, ◌<◌, ◌≤◌, ⊎_elim, ℕ, List, true, nat_lt, length, get_or, map, take, take_all, sym, ◌∙◌, subst}
 use Rattle.std.specs.List.{All, Contains}
 use Rattle.std.proofs.lemmas.Bool.{and_parts, ltb-true}
@@ -27,7 +27,7 @@ atom_within n codes i l h e all = subst (λ (m : Lit). m.atom < n) (sym (lit_her
 lit_in_cells : (n : ℕ) (l : Lit) → in_cells n l ≡ true → InCells n l
 lit_in_cells n l e = let parts = and_parts (nat_lt 0 l.atom) (nat_lt l.atom n) e in (ltb-true 0 l.atom parts.0, ltb-true l.atom n parts.1)
 
--- one literal more has a cell
+-- one more literal has a cell
 pub in_cells_more : (n : ℕ) (codes : List ℕ) (i : ℕ) → i < length codes → AllInCells n (map lit_of (take i codes)) → in_cells n (lit_of (get_or codes i 0)) ≡ true → AllInCells n (map lit_of (take (i + 1) codes))
 in_cells_more n codes i h before e =
     let l : Lit = lit_of (get_or codes i 0) in

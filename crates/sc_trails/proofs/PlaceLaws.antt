@@ -1,4 +1,4 @@
--- What stands at a place of a list.
+-- Elements of lists by their places.
 use Rattle.std.proofs.Common.{◌≡◌, ◌<◌, ℕ, zero, suc, List, [], ◌∷◌, length, slice_get, Some, None, arith}
 use Rattle.sc_laws.proofs.OptionLaws.{same_some}
 use Rattle.sc_clauses.specs.Clauses.{Clause}

@@ -1,4 +1,4 @@
--- What reading a literal, a clause and all clauses tells.
+-- The truth of a literal, the status of a clause, and what both say of all clauses.
 use Rattle.std.proofs.Common.{◌≡◌, ◌≢◌, ⊎_elim, ℕ, ◌+◌, ◌<◌, ◌≤◌, List, [], ◌∷◌, ◌++◌, Bool, true, false, not, length, get_or, refl, sym, ap, ◌∙◌, subst, arith, take, Option, Some, None}
 use Rattle.std.specs.List.{Contains}
 use Rattle.std.proofs.lemmas.List.{get_or-take, length-take-le, take_more}

@@ -1,4 +1,4 @@
--- A clause more, and the trail where the levels that it leaves begin.
+-- A new clause, and the trail back at the levels that it leaves.
 use Rattle.std.proofs.Common.{◌≡◌, inr, ⊎_elim, ℕ, ◌+◌, ◌-◌, ◌^◌, ◌<◌, ◌≤◌, List, [], ◌∷◌, ◌++◌, Bool, true, length, get_or, map, sym, ap, ◌∙◌, subst, true≢false, arith, take, Option, Some, None}
 use Rattle.std.specs.List.{Contains, All}
 use Rattle.std.proofs.lemmas.List.{length-append, get_or_default, get_or-take, length-take-le}
@@ -41,11 +41,11 @@ has-atom cells trail l i h at = (
   trail-in-cells cells trail h i l (h.on_trail l i at),
 )
 
--- literals that are false are of atoms that have cells
+-- false literals are of atoms that have cells
 pub in-cells-of-false : (cells : List Cell) (trail : List Lit) (p : ℕ) (C : List Lit) → Agree cells trail → ((m : Lit) → Contains C m → true_before cells p (negation m) ≡ true) → AllInCells (length cells) C
 in-cells-of-false cells trail p C h false' m has = let w = before-at cells (negation m) p (false' m has) in has-atom cells trail (negation m) w.0 h w.2
 
--- and none is beside its negation
+-- and none of them stands with its negation
 pub single-of-false : (cells : List Cell) (p : ℕ) (C : List Lit) → ((m : Lit) → Contains C m → true_before cells p (negation m) ≡ true) → (m : Lit) → Contains C m → ¬ Contains C (negation m)
 single-of-false cells p C false' m has other = true≢false (sym (false' (negation m) other) ∙ consistent cells p (negation m) (false' m has))
 
@@ -93,11 +93,11 @@ module _ (n : ℕ) (cs : List Clause) (cells : List Cell) (trail : List Lit) (le
         hint_numbers = λ h has. hint-number cs _ hints learned.refutes few_clauses h (subst (λ (hs : List ℕ). Contains hs h) same has);
       }
 
--- what is so of each element, by place
+-- what holds of each element, by its place
 pub all-of : {X : Type 0} (P : X → Type 0) (xs : List X) → ((x : X) → Contains xs x → P x) → All P xs
 all-of P xs f k d lt = f (get_or xs k d) (Contains-get_or xs k d lt)
 
--- ---- room
+-- ---- the levels that are left
 
 -- a later level begins later
 start-order : (cells : List Cell) (levels : List ℕ) (p i j : ℕ) → AreLevels cells levels p → i ≤ j → j < length levels → get_or levels i 0 ≤ get_or levels j 0
@@ -125,7 +125,7 @@ room-none cells levels c most j e = record {
   open_at = λ k lt. absurd (omega arith);
 }
 
--- a clause is added where the levels that it leaves begin
+-- a clause is added where the search has jumped back to the levels that it leaves
 module _ (n : ℕ) (cs : List Clause) (C : Clause) (t u : Trail) (w v : Watches) (most : ℕ) (r : Room) (sound : HoldsTrail n cs t) (h : IsWellWatched n cs t w) (after : HoldsTrail n cs u) (room : IsRoom t.cells.items t.levels.items C most r)
     (few : most ≤ length t.levels.items) (rest : most ≡ length t.levels.items → AreAlive cs t w) (levels : u.levels.items ≡ take r.level t.levels.items)
     (start : r.level < length t.levels.items → length u.lits.items ≡ get_or t.levels.items r.level 0) (end : r.level ≡ length t.levels.items → length u.lits.items ≡ length t.lits.items)
@@ -133,7 +133,7 @@ module _ (n : ℕ) (cs : List Clause) (C : Clause) (t u : Trail) (w v : Watches)
   left : length u.levels.items ≡ r.level
   left = let le = room.within in ap length levels ∙ length-take-le r.level t.levels.items (omega arith)
 
-  -- where a level begins the same is true as before
+  -- where a level begins the same literals are true as before
   same-start : (k : ℕ) → k < length u.levels.items → true_before u.cells.items (get_or u.levels.items k 0) ≡ true_before t.cells.items (get_or t.levels.items k 0)
   same-start k lt =
       let e = left in

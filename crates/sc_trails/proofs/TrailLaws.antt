@@ -1,4 +1,4 @@
--- Each move of the search makes a trail of a trail.
+-- Each move of the search leads from a trail to a trail.
 use Rattle.std.proofs.Common.{◌≡◌, ◌≢◌, ⊎_elim, ℕ, ◌+◌, ◌<◌, ◌≤◌, List, [], ◌∷◌, ◌++◌, Bool, true, false, ◌&&◌, ltb, length, get_or, refl, sym, ap, ◌∙◌, subst, arith, get_or-set_same, get_or-set_other, take, Option, Some, None, MatchOption, replicate}
 use Rattle.std.specs.List.{Contains}
 use Rattle.std.proofs.Math.ListN.{set, length-set, get_or-append, get_or-eq_default}
@@ -18,7 +18,7 @@ use Rattle.sc_trails.specs.declared.cell.Cell.TheVariants.{Free, Decided, Implie
 use Rattle.sc_watches.proofs.LitLaws.{lit-of}
 use Rattle.std.proofs.lemmas.Bool.{cases_eq, cases_lt}
 
--- the cell has the literal's sign from place p on, and no other
+-- the cell has the literal's sign from place p on, and not the other
 abbrev pub HoldsFrom : Cell → Lit → ℕ → Type 0
 HoldsFrom x l p = ((s : Bool) (i : ℕ) → set_at x s i → (s ≡ l.negated) × (i ≡ p)) × set_at x l.negated p
 
@@ -36,7 +36,7 @@ and-false false = refl
 late-by : (n s : Bool) (q p : ℕ) → p ≤ q → bool_eq n s && ltb q p ≡ false
 late-by n s q p h = rw (ltb-false q p h) (and-false (bool_eq n s))
 
--- such a cell says nothing of the places before
+-- such a cell says nothing of earlier places
 late : (x : Cell) (l : Lit) (p p' : ℕ) → HoldsFrom x l p → p' ≤ p → (s : Bool) → set_before x p' s ≡ false
 late Free l p p' h le s = absurd h.1
 late (Decided n q) l p p' h le s = late-by n s q p' (let e : q ≡ p = h.1.1 in omega arith)
@@ -52,7 +52,7 @@ same-cell cells a x m e h = subst (λ (b : ℕ). get_or (set cells a x) b Free �
 at-free : (c : Cell) (s : Bool) (i : ℕ) → c ≡ Free → set_at c s i → ⊥
 at-free c s i e a = subst (λ (x : Cell). set_at x s i) e a
 
--- a literal is put at the end of the trail
+-- a literal is appended
 module _ (cells : List Cell) (trail : List Lit) (l : Lit) (x : Cell) (free : cell_of cells l ≡ Free) (some : 0 < l.atom) (in_range : l.atom < length cells) (holds : HoldsFrom x l (length trail)) where
   pub before-kept : (p : ℕ) → p ≤ length trail → true_before (set cells l.atom x) p ≡ true_before cells p
   before-kept p le = before-set cells l.atom p x in_range (λ s. late x l (length trail) p holds le s ∙ ap (λ (c : Cell). set_before c p s) (sym free))
@@ -327,7 +327,7 @@ module _ (n : ℕ) (cs : List Clause) (cells : List Cell) (t : List Lit) (levels
         subst (λ (T : Lit → Bool). AreQuiet T cs) (sym (before-pop (get_or levels k 0) (omega arith))) (sound.quiet k lt);
   }
 
--- the levels from j on are forgotten
+-- the levels from j on are dropped
 module _ (n : ℕ) (cs : List Clause) (cells : List Cell) (trail : List Lit) (levels : List ℕ) (p j : ℕ)
     (sound : IsTrail n cs cells trail levels p) (in_range : j < length levels) where
   pub trail-cut : IsTrail n cs cells trail (take j levels) (get_or levels j 0)
@@ -388,7 +388,7 @@ module _ (n : ℕ) (cs : List Clause) (cells : List Cell) (trail : List Lit) (le
         (Contains-push_cases cs C c has);
   }
 
--- the same, where the new trail is told by equations
+-- the same, with the new trail given by equations
 pub trail-imply-to : (n : ℕ) (cs : List Clause) (cells : List Cell) (trail : List Lit) (levels : List ℕ) (l : Lit) → IsTrail n cs cells trail levels (length trail) → cell_of cells l ≡ Free → InCells n l
     → (r : ℕ) → IsReason cs cells l (length trail) r → (cells' : List Cell) (trail' : List Lit) (levels' : List ℕ) → cells' ≡ set cells l.atom (Implied l.negated (length trail) r) → trail' ≡ trail ++ l ∷ [] → levels' ≡ levels
     → IsTrail n cs cells' trail' levels' (length trail')
@@ -418,7 +418,7 @@ module _ (n : ℕ) (cs : List Clause) (cells : List Cell) (trail : List Lit) (le
   pub before-pop-to : (q : ℕ) → q ≤ p → true_before cells' q ≡ true_before cells q
   before-pop-to q le = rw f (before-pop n cs cells t levels l p (rw e at sound) pop-enough q (let h = pop-enough in omega arith))
 
--- where no atom is a choice each has a value
+-- where no atom is free each has a value
 pub choice-or-all : (cells : List Cell) (r : Option ℕ) → MatchOption r ((a : ℕ) → ¬ IsChoice cells a) (IsChoice cells) → MatchOption r (AreAllSet cells) (IsChoice cells)
 choice-or-all cells None h = λ a some lt e. h a (some, lt, e)
 choice-or-all cells (Some a) h = h
@@ -448,6 +448,6 @@ empty n cs = record {
   quiet = λ k lt. absurd (omega arith);
 }
 
--- the trail before any move
+-- the empty trail
 pub trail-empty : (n : ℕ) (cs : List Clause) (cells : List Cell) (trail : List Lit) (levels : List ℕ) → cells ≡ replicate n Free → trail ≡ [] → levels ≡ [] → IsTrail n cs cells trail levels (length trail)
 trail-empty n cs cells trail levels e f g = rw (e, f, g) (empty n cs)

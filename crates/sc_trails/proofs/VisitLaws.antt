@@ -1,4 +1,4 @@
--- What stays seen while the trail goes on.
+-- What was seen stays seen while the trail grows.
 use Rattle.std.proofs.Common.{◌≡◌, ◌≢◌, ◌⊎◌, inl, inr, ⊎_elim, ℕ, ◌+◌, ◌<◌, ◌≤◌, List, [], ◌∷◌, ◌++◌, Bool, true, false, length, get_or, refl, sym, ap, ◌∙◌, subst, true≢false, arith, Option, Some, None, Result, Ok, Err, IfOk, Vec, Global}
 use Rattle.std.specs.List.{Contains}
 use Rattle.std.proofs.Math.ListN.{set, get_or-append}
@@ -29,7 +29,7 @@ use Rattle.sc_trails.specs.declared.trail.Trail.{Trail}
 use Rattle.sc_watches.specs.declared.watches.Watch.{Watch}
 use Rattle.sc_watches.specs.declared.watches.Watches.{Watches}
 
--- a literal is put at the end of the trail
+-- a literal is appended to the trail
 module _ (cells after : List Cell) (trail : List Lit) (l : Lit) (agree : Agree after (trail ++ l ∷ [])) (kept : true_before after (length trail) ≡ true_before cells (length trail)) where
   longer-by-one : length (trail ++ l ∷ []) ≡ length trail + 1
   longer-by-one = length-append trail (l ∷ [])
@@ -132,7 +132,7 @@ alive-at-levels n cs a b w sound h alive =
     let start = sound.are_levels.within k lt in
     subst (λ (T : Lit → Bool). AreAliveBy T w.pairs.items cs) (sym (h.before (get_or a.levels.items k 0) (omega arith))) (alive k lt))
 
--- the trail goes on, and what is watched stays
+-- the trail grows, and what is watched stays
 pub moves-trail : (n : ℕ) (cs : List Clause) (a b : Trail) (w : Watches) → HoldsTrail n cs a → IsWellWatched n cs a w → GoesOn n cs a b → MovesOn n cs a w b w
 moves-trail n cs a b w sound h k = record {
   goes_on = k;
@@ -146,7 +146,7 @@ moves-nowhere n cs t w sound h = moves-trail n cs t t w sound h (goes-nowhere n 
 pub keeps-others : (t : Trail) (place : ℕ) (w : Watches) → KeepsOthers t place w w
 keeps-others t place w = record { pairs = λ i ne. refl; lists = λ l e. refl }
 
--- two literals that are open
+-- two open literals may be watched
 pub open-may : (t : Trail) (was : Option Watch) (c : Clause) (watch : Watch) → AreTwoOpen t.cells.items c watch → MayWatch t was c watch
 open-may t was c watch both =
     let cells = t.cells.items in
@@ -164,7 +164,7 @@ open-may t was c watch both =
           watched);
     }
 
--- one that is true, and one that was watched and wasn't false where a level begins
+-- so may a true one beside a watched one that wasn't false where any level begins
 pub true-may : (n : ℕ) (cs : List Clause) (t : Trail) (was : Option Watch) (c : Clause) (y l : Lit) → HoldsTrail n cs t → Contains c y → true_before t.cells.items (length t.lits.items) y ≡ true → Contains c l → IsWatched was l → IsLate t l → y ≢ l
     → MayWatch t was c (record { first = y; second = l })
 true-may n cs t was c y l sound cy is_true cl watched late apart =
@@ -229,7 +229,7 @@ module _ (n : ℕ) (cs : List Clause) (t : Trail) (old new : Watches) (place : �
   pub rewatched-others : KeepsOthers t place old new
   rewatched-others = record { pairs = other; lists = λ l e. k.same l (was-watched l e) }
 
--- a literal that a clause gives is put at the end of the trail
+-- an implied literal is appended to the trail
 module _ (n : ℕ) (cs : List Clause) (old new : Trail) (l : Lit) (r : ℕ) (sound : HoldsTrail n cs old) (free : cell_of old.cells.items l ≡ Free) (in_range : InCells n l) (why : IsReason cs old.cells.items l (length old.lits.items) r)
     (cells : new.cells.items ≡ set old.cells.items l.atom (Implied l.negated (length old.lits.items) r)) (lits : new.lits.items ≡ old.lits.items ++ l ∷ []) (levels : new.levels ≡ old.levels) where
   implied-sound : HoldsTrail n cs new
@@ -262,7 +262,7 @@ module _ (n : ℕ) (cs : List Clause) (old new : Trail) (l : Lit) (r : ℕ) (sou
             subst (λ (ls : List Lit). IsSeenBy new.cells.items ls p o c) (sym lits) (seen-push old.cells.items new.cells.items old.lits.items l implied-agree (implied-before (length old.lits.items) (omega arith)) p o c le s);
       }
 
-  -- the clause that has it is alive
+  -- the clause that implied it is alive
   pub implied-alive : (o : Option Watch) (c : Clause) → Contains c l → IsAlive (true_before new.cells.items (length new.lits.items)) o c
   implied-alive o c has =
       inl (
@@ -271,7 +271,7 @@ module _ (n : ℕ) (cs : List Clause) (old new : Trail) (l : Lit) (r : ℕ) (sou
         subst (λ (ls : List Lit). true_before new.cells.items (length ls) l ≡ true) (sym lits) (last-true old.cells.items new.cells.items old.lits.items l implied-agree (implied-before (length old.lits.items) (omega arith))),
       )
 
--- one clause more is visited
+-- one more clause is visited
 pub each-step : (n : ℕ) (cs : List Clause) (p : ℕ) (b : Trail) (wb : Watches) (d : Trail) (wd : Watches) (k : ℕ) → p ≤ length b.lits.items → MovesOn n cs b wb d wd → ((i : ℕ) (c : Clause) → i < k → At cs i c → IsSeen b wb p i c) → HasVisited cs d wd k false
     → (i : ℕ) (c : Clause) → i < k + 1 → At cs i c → IsSeen d wd p i c
 each-step n cs p b wb d wd k le next old now i c lt at =
@@ -285,7 +285,7 @@ each-step n cs p b wb d wd k le next old now i c lt at =
 pub each-end : (cs : List Clause) (t : Trail) (w : Watches) (p k : ℕ) → length cs ≤ k → ((i : ℕ) (c : Clause) → i < k → At cs i c → IsSeen t w p i c) → HasVisitedEach cs t w p None
 each-end cs t w p k le seen i c at = let lt : i < length cs = at.0 in seen i c (omega arith) at
 
--- a clause that waits at a place of a list is none of those that stand before it
+-- a clause that waits in a list is none of those before it there
 wait-apart : (w : Watches) (lit : Lit) (at place i j : ℕ) → place ≡ get_or (places_of w.lists lit) at 0 → get_or (places_of w.lists lit) j 0 ≡ i → i ≢ place → j ≢ at
 wait-apart w lit at place i j is here ne e = ne (sym here ∙ ap (λ (k : ℕ). get_or (places_of w.lists lit) k 0) e ∙ sym is)
 
@@ -297,7 +297,7 @@ stays-false n cs a b first l lit sound goes within is neg =
     let now : true_before b.cells.items (length a.lits.items) l ≡ true = ap (λ (T : Lit → Bool). T l) (goes.before (length a.lits.items) (omega arith)) ∙ was in
     subst (λ (m : Lit). true_before b.cells.items (length b.lits.items) m ≡ true) (sym (ap negation neg ∙ negation_twice l)) (before-more b.cells.items (length a.lits.items) (length b.lits.items) l goes.longer now)
 
--- and is of an atom that has a cell
+-- and its atom has a cell
 pub placed-in-cells : (n : ℕ) (cs : List Clause) (t : Trail) (first : ℕ) (l lit : Lit) → HoldsTrail n cs t → first < length t.lits.items → l ≡ get_or t.lits.items first l → lit ≡ negation l → lit.atom < n
 placed-in-cells n cs t first l lit sound within is neg =
     let e = sound.sized in
@@ -305,7 +305,7 @@ placed-in-cells n cs t first l lit sound within is neg =
     let lt : l.atom < length t.cells.items = trail-in-cells t.cells.items t.lits.items sound.agree first l (within, sym is) in
     omega arith
 
--- all clauses that watch a literal wait, or were seen
+-- all clauses that watch a literal wait in its list, or were seen
 pub waits-first : (n : ℕ) (cs : List Clause) (t : Trail) (w : Watches) (first : ℕ) (l lit : Lit) → IsWatching n cs w → first < length t.lits.items → l ≡ get_or t.lits.items first l → lit ≡ negation l → AreSeen cs t w first
     → (i : ℕ) (c : Clause) → At cs i c → IsSeen t w (first + 1) i c ⊎ IsWaiting w lit 0 i
 waits-first n cs t w first l lit h within is neg seen i c at = by (seen.each i c at) where
@@ -329,7 +329,7 @@ module _ (n : ℕ) (cs : List Clause) (t : Trail) (w : Watches) (d : Trail) (v :
   list-kept : places_of v.lists lit ≡ places_of w.lists lit
   list-kept = others.lists lit is_false
 
-  -- those that wait stand elsewhere
+  -- those that wait stand at other places
   waits-apart : (i : ℕ) (c : Clause) → At cs i c → IsSeen d v p i c ⊎ ((j : ℕ) × (at ≤ j) × (j ≢ at) × (j < length (places_of v.lists lit)) × (get_or (places_of v.lists lit) j 0 ≡ i) × IsWatched (watch_of v i) lit)
   waits-apart i c there = by (each i c there) where
     by : IsSeen t w p i c ⊎ IsWaiting w lit at i → IsSeen d v p i c ⊎ ((j : ℕ) × (at ≤ j) × (j ≢ at) × (j < length (places_of v.lists lit)) × (get_or (places_of v.lists lit) j 0 ≡ i) × IsWatched (watch_of v i) lit)
@@ -372,7 +372,7 @@ module _ (n : ℕ) (cs : List Clause) (t : Trail) (w : Watches) (d : Trail) (v :
           subst (λ (q : Vec (Option Watch) Global). IsWatched (watch_in q.items i) lit) (sym pairs) watched,
         )
 
--- none waits any longer
+-- no clause waits any longer
 pub waits-last : (cs : List Clause) (t : Trail) (w : Watches) (lit : Lit) (p at : ℕ) → p ≤ length t.lits.items → length (places_of w.lists lit) ≤ at → ((i : ℕ) (c : Clause) → At cs i c → IsSeen t w p i c ⊎ IsWaiting w lit at i) → AreSeen cs t w p
 waits-last cs t w lit p at le end each = record {
   bounded = le;
@@ -383,7 +383,7 @@ waits-last cs t w lit p at le end each = record {
       (each i c there);
 }
 
--- a place is sifted out
+-- the place of a clause leaves a list
 pub sifted-moves : (n : ℕ) (cs : List Clause) (t : Trail) (v u : Watches) (lit : Lit) (at next : ℕ) → at < length (places_of v.lists lit) → HoldsTrail n cs t → IsWellWatched n cs t v → IsSifted lit at v u next → MovesOn n cs t v t u
 sifted-moves n cs t v u lit at next inside sound h k =
     let same : u.pairs ≡ v.pairs = sifted-pairs lit at v u next k in
@@ -405,7 +405,7 @@ all-alive cs t w p h le i c at = none-left (h.each i c at) where
 pub alive-seen : (cs : List Clause) (t : Trail) (w : Watches) (p : ℕ) → p ≡ length t.lits.items → AreAlive cs t w → AreSeen cs t w p
 alive-seen cs t w p e alive = record { bounded = omega arith; each = λ i c at. inl (alive i c at) }
 
--- the one clause that wasn't seen was visited
+-- the one clause that wasn't seen is visited
 pub one-seen : (n : ℕ) (cs : List Clause) (t : Trail) (w : Watches) (d : Trail) (v : Watches) (one p : ℕ) → p ≡ length t.lits.items → AreAliveBut cs t w one → MovesOn n cs t w d v → HasVisited cs d v one false → AreSeen cs d v p
 one-seen n cs t w d v one p e h k visited = record {
   bounded = let x = k.goes_on.longer in omega arith;
@@ -416,7 +416,7 @@ one-seen n cs t w d v one p e h k visited = record {
       (cases_eq i one);
 }
 
--- a literal is decided on where all are alive
+-- a decision, where all clauses are alive
 module _ (n : ℕ) (cs : List Clause) (old new : Trail) (w : Watches) (l : Lit) (sound : HoldsTrail n cs old) (free : cell_of old.cells.items l ≡ Free) (in_range : InCells n l)
     (alive : AreAlive cs old w) (h : IsWellWatched n cs old w) (sound' : HoldsTrail n cs new) (cells : new.cells.items ≡ set old.cells.items l.atom (Decided l.negated (length old.lits.items)))
     (lits : new.lits.items ≡ old.lits.items ++ l ∷ []) (levels : new.levels.items ≡ old.levels.items ++ length old.lits.items ∷ []) where

@@ -1,4 +1,4 @@
--- What a change of what clauses watch keeps: they are listed for it, and alive.
+-- A change of watched literals keeps clauses listed and alive.
 use Rattle.std.proofs.Common.{◌≡◌, ◌≢◌, ◌⊎◌, inl, inr, ⊎_elim, ℕ, ◌+◌, ◌<◌, ◌≤◌, List, [], ◌∷◌, ◌++◌, Bool, length, get_or, refl, sym, ap, ◌∙◌, subst, arith, Option, Some, None, Vec, Global}
 use Rattle.std.specs.List.{Contains}
 use Rattle.std.proofs.Math.ListN.{length-set, get_or-append}
@@ -23,7 +23,7 @@ use Rattle.sc_watches.specs.declared.lists.Lists.{Lists}
 use Rattle.sc_watches.specs.declared.watches.Watch.{Watch}
 use Rattle.sc_watches.specs.declared.watches.Watches.{Watches}
 
--- ---- pairs
+-- ---- the watched literals of a clause
 
 pub same-clause : (cs : List Clause) (i : ℕ) (c d : Clause) → At cs i c → At cs i d → c ≡ d
 same-clause cs i c d (lt, e) (lt', f) = sym e ∙ get_or_default cs i c d lt ∙ f
@@ -39,7 +39,7 @@ module _ (n : ℕ) (cs : List Clause) (pairs : List (Option Watch)) (o : Lists) 
   pub rewatched-other : (i : ℕ) → i ≢ place → watch_of new i ≡ watch_in pairs i
   rewatched-other i ne = set-watch-other pairs new.pairs.items place i watch ne k.pairs_set
 
-  -- of a clause's own literals
+  -- they are the clause's own
   own : (l : Lit) → IsWatched (Some watch) l → Contains c l
   own l (inl e) = subst (λ (m : Lit). Contains c m) (sym e) has_first
   own l (inr e) = subst (λ (m : Lit). Contains c m) (sym e) has_second
@@ -73,12 +73,12 @@ module _ (n : ℕ) (cs : List Clause) (pairs : List (Option Watch)) (o : Lists) 
         (cases_eq i place);
   }
 
--- ---- a clause more
+-- ---- one more clause
 
 at-last : (cs : List Clause) (C : Clause) (i : ℕ) → i ≡ length cs → At (cs ++ C ∷ []) i C
 at-last cs C i e = subst (λ (j : ℕ). At (cs ++ C ∷ []) j C) (sym e) (let k : length (cs ++ C ∷ []) ≡ length cs + 1 = length-append cs (C ∷ []) in omega arith, get_or-append_seam cs C [] C)
 
--- a place of the longer list is of the shorter one, or the last
+-- a place of the longer list is one of the shorter, or the last
 pub at-cases : (cs : List Clause) (C : Clause) (i : ℕ) (c : Clause) → At (cs ++ C ∷ []) i c → At cs i c ⊎ ((i ≡ length cs) × (c ≡ C))
 at-cases cs C i c (lt, is) =
     let len : length (cs ++ C ∷ []) ≡ length cs + 1 = length-append cs (C ∷ []) in
@@ -122,7 +122,7 @@ added-listed n cs C (Some watch) old new h k own =
     rewatched-listed n (cs ++ C ∷ []) (old.pairs.items ++ None ∷ []) old.lists new (length old.pairs.items) watch C (longer-listed n cs C old.pairs.items old.lists h) k (at-last cs C (length old.pairs.items) h.paired)
     (own watch.first (inl refl)) (own watch.second (inr refl))
 
--- ---- what is alive
+-- ---- clauses that are alive
 
 pub open-quiet : (T : Lit → Bool) (o : Option Watch) (c : Clause) → ((l : Lit) → IsWatched o l → Contains c l) → AreOpen T o → IsQuiet T c
 open-quiet T None c own h = absurd h
@@ -139,7 +139,7 @@ all-quiet n cs w T h alive c (i, lt, is) = alive-quiet T (watch_of w i) c (λ l.
 pub two-open : (cells : List Cell) (q : ℕ) (c : Clause) (w : Watch) → AreTwoOpen cells c w → AreOpen (true_before cells q) (Some w)
 two-open cells q c w h = (h.2, free-before cells q w.first h.3, free-before cells q w.second h.4)
 
--- nothing is watched of clauses that weren't visited
+-- an unvisited clause watches nothing
 pub unset-watching : (n : ℕ) (cs : List Clause) (w : Watches) → AreUnset n (length cs) w → IsWatching n cs w
 unset-watching n cs w h = record {
   sized = h.empty.sized;
@@ -149,14 +149,14 @@ unset-watching n cs w h = record {
   members = λ i c l at k. absurd (subst (λ (p : Option Watch). IsWatched p l) (h.unset i) k);
 }
 
--- what a clause watches is of atoms that have cells
+-- the watched literals of a clause have cells
 pub watched-in-cells : (n : ℕ) (cs : List Clause) (w : Watches) (place : ℕ) → AreInCells n cs → IsWatching n cs w → place < length cs → (l : Lit) → IsWatched (watch_of w place) l → l.atom < n
 watched-in-cells n cs w place in_cells h lt l watched =
     let c : Clause = get_or cs place [] in
     let at : At cs place c = (lt, get_or_default cs place c [] lt) in
     (in_cells c (place, at.0, at.1) l (h.members place c l at watched)).1
 
--- ---- a place is sifted out
+-- ---- the place of a clause leaves a list
 
 pub sifted-watching : (n : ℕ) (cs : List Clause) (lit : Lit) (at : ℕ) (old new : Watches) (next : ℕ) → at < length (places_of old.lists lit) → IsWatching n cs old → IsSifted lit at old new next → IsWatching n cs new
 sifted-watching n cs lit at old new next lt h (inl (is, pairs, lists)) =

@@ -1,4 +1,4 @@
--- What is read from the trail: of a literal, of a clause, of all clauses.
+-- What the trail says of a literal, of a clause and of all clauses.
 use Rattle.std.specs.Prelude.{◌≡◌, ◌≢◌, ℕ, List, Bool, true, false, Option, Some, None}
 use Rattle.std.specs.List.{Contains}
 use Rattle.sc_clauses.specs.declared.lit.Lit.{Lit}
@@ -27,14 +27,14 @@ HasTruth cells p l truth.True = true_before cells p l ≡ true
 HasTruth cells p l truth.False = true_before cells p (negation l) ≡ true
 HasTruth cells p l truth.Open = cell_of cells l ≡ Free
 
--- a literal of an atom that has no value
+-- a literal of a free atom
 abbrev pub IsOpen : List Cell → Lit → Type 0
 IsOpen cells l = cell_of cells l ≡ Free
 
 abbrev pub AreFalse : List Cell → ℕ → Clause → Type 0
 AreFalse cells p c = (m : Lit) → Contains c m → true_before cells p (negation m) ≡ true
 
--- one literal is open, the others are false
+-- one literal is open, and the others are false
 abbrev pub IsUnitAt : List Cell → ℕ → Clause → Lit → Type 0
 IsUnitAt cells p c l = (Contains c l) × (cell_of cells l ≡ Free) × ((m : Lit) → Contains c m → m ≢ l → true_before cells p (negation m) ≡ true)
 
@@ -48,7 +48,7 @@ HasStatus cells p c (status.Open w) = AreTwoOpen cells c w
 HasStatus cells p c (status.Unit l) = IsUnitAt cells p c l
 HasStatus cells p c status.Falsified = AreFalse cells p c
 
--- of the literals so far one at most is open, the others are false
+-- of the literals that were read at most one is open, and the others are false
 abbrev pub IsSoFar : List Cell → ℕ → Clause → Option Lit → Type 0
 IsSoFar cells p c None = AreFalse cells p c
 IsSoFar cells p c (Some l) = IsUnitAt cells p c l

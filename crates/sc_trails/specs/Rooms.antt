@@ -1,4 +1,4 @@
--- The value of a cell, and how many levels a clause leaves.
+-- The value of a cell, and the levels that a new clause leaves.
 use Rattle.std.specs.Prelude.{◌<◌, ◌≤◌, ℕ, List, Bool, not, Option, Some, None}
 use Rattle.std.specs.List.{Contains, slice_index_or}
 use Rattle.sc_clauses.specs.declared.lit.Lit.{Lit}
@@ -22,7 +22,7 @@ pub record IsOpenPair (cells : List Cell) (place : ℕ) (c : Clause) (w : Watch)
   pub second : Contains c w.second
   pub neither_false : AreOpen (true_before cells place) (Some w)
 
--- at most so many levels, each of which begins with two literals of the clause that aren't false
+-- at most `most` levels, where each begins with two literals of the clause that aren't false
 pub record IsRoom (cells : List Cell) (levels : List ℕ) (c : Clause) (most : ℕ) (r : Room) : Type 0 where
   pub within : r.level ≤ most
   pub members : (l : Lit) → IsWatched r.watch l → Contains c l

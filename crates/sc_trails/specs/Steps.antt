@@ -16,7 +16,7 @@ At xs k x = (k < length xs) × (slice_index_or xs k x ≡ x)
 abbrev pub IsNumbered : List Clause → ℕ → Clause → Type 0
 IsNumbered clauses n c = (0 < n) × At clauses (n - 1) c
 
--- the literal is of one of the first atoms
+-- the literal's atom is listed: one of the first ones, counted from 1
 abbrev pub IsListed : ℕ → Lit → Type 0
 IsListed atoms l = (0 < l.atom) × (l.atom ≤ atoms)
 
@@ -27,8 +27,8 @@ AreListed atoms c = (l : Lit) → Contains c l → IsListed atoms l
 abbrev pub IsClause : ℕ → Clause → Type 0
 IsClause atoms c = (l : Lit) → Contains c l → IsListed atoms l × ¬ Contains c (negation l)
 
--- Where some literals are known to be true, each hint in turn is the number of a clause that has all literals false but
--- one, which is known from then on; the last has all literals false.
+-- Reverse unit propagation: where some literals are true, each hint in turn names a clause that is false but for one
+-- literal, which is true from then on; the last one is false as a whole.
 pub data Refutes (clauses : List Clause) : List Lit → List ℕ → Type 0 where
   conflict : (known : List Lit) (h : ℕ) (c : Clause) → IsNumbered clauses h c → ((m : Lit) → Contains c m → Contains known (negation m)) → Refutes clauses known (h ∷ [])
   one_left : (known : List Lit) (h : ℕ) (hints : List ℕ) (c : Clause) (l : Lit) → IsNumbered clauses h c → Contains c l → ¬ Contains known (negation l)
@@ -38,7 +38,7 @@ pub data Refutes (clauses : List Clause) : List Lit → List ℕ → Type 0 wher
 abbrev pub IsNumber : ℕ → Type 0
 IsNumber n = (0 < n) × (n < 10 ^ 18)
 
--- the hints refute the negations of the clause's literals
+-- the hints show the clause: they refute the negations of its literals
 pub record IsShown (atoms : ℕ) (clauses : List Clause) (s : learned.Learned) : Type 0 where
   pub is_clause : IsClause atoms s.clause
   pub refutes : Refutes clauses (map negation s.clause) s.hints
@@ -55,7 +55,7 @@ added clause_of (Learned s) = s.clause
 abbrev pub after : (instance.Instance → Clause) → List Clause → List Step → List Clause
 after clause_of clauses steps = clauses ++ map (added clause_of) steps
 
--- an accepted instance whose literals are of listed atoms, or a clause that hints show
+-- an instance that the rules have, of listed atoms; or a clause that its hints show
 abbrev pub IsLawful : ℕ → (instance.Instance → Type 0) → (instance.Instance → Clause) → List Clause → Step → Type 0
 IsLawful atoms has_instance clause_of clauses (Instance i) = has_instance i × IsClause atoms (clause_of i)
 IsLawful atoms has_instance clause_of clauses (Learned s) = IsShown atoms clauses s

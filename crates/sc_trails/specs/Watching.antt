@@ -1,4 +1,4 @@
--- Which clauses are listed for what they watch, and which are alive by it.
+-- Which clauses are listed for their watched literals, and which these keep alive.
 use Rattle.std.specs.Prelude.{◌≡◌, ◌≢◌, ◌⊎◌, ◌<◌, ℕ, List, Bool, true, false, length, Option, Some, None}
 use Rattle.std.specs.List.{Contains, slice_index_or}
 use Rattle.sc_clauses.specs.declared.lit.Lit.{Lit}
@@ -24,11 +24,11 @@ IsAlive T o c = ((y : Lit) × Contains c y × (T y ≡ true)) ⊎ AreOpen T o
 abbrev pub AreAliveBy : (Lit → Bool) → List (Option Watch) → List Clause → Type 0
 AreAliveBy T pairs clauses = (i : ℕ) (c : Clause) → At clauses i c → IsAlive T (watch_in pairs i) c
 
--- each of the clauses is alive where each level begins
+-- each clause is alive where each level begins
 abbrev pub AreAliveAtLevels : List Cell → List ℕ → List (Option Watch) → List Clause → Type 0
 AreAliveAtLevels cells levels pairs clauses = (k : ℕ) → k < length levels → AreAliveBy (true_before cells (slice_index_or levels k 0)) pairs clauses
 
--- Of n cells and these clauses: each clause is listed for the literals that it watches, which are its own.
+-- Each clause stands in the lists of its watched literals, which are its own.
 pub record AreListedBy (n : ℕ) (clauses : List Clause) (pairs : List (Option Watch)) (o : Lists) : Type 0 where
   pub sized : (sign : Bool) → length (lists_of o sign) ≡ n
   pub paired : length pairs ≡ length clauses

@@ -1,5 +1,5 @@
-//! Conflict analysis: the clause that a conflict shows, by resolving back along the trail until one literal of the level
-//! alone is met there, a unique implication point.
+//! Conflict analysis: the clause to learn from a conflict, by resolution back along the trail until one literal of
+//! the conflict's level is left, the first unique implication point.
 ghost use Rattle.std.specs.Prelude.{false, replicate, ◌≡◌, ◌⊎◌, ◌+◌, ◌-◌, ◌<◌, ◌≤◌, ◌++◌, [], ◌∷◌, length, map, slice_set, slice_index_or, IfOk, IsTrue, List, ℕ, true};
 ghost use Rattle.std.specs.List.{Contains};
 ghost use Rattle.sc_clauses.specs.Clauses.{negation};
@@ -19,26 +19,27 @@ use sc_refutations::{Arena, lit_of};
 use std::alloc::{AllocError, Global};
 use std::mem;
 
-/// What an analysis has met so far. It is kept from conflict to conflict, since it has as many marks as there are cells.
+/// What an analysis has met. It is kept from conflict to conflict, since it has a mark for each cell.
 #[derive(Drop)]
 pub struct Analysis {
-    /// Which atoms, by their numbers.
+    /// Which atoms were met, by their numbers.
     pub met: Marks,
-    /// The same atoms in a list, of which nothing is promised.
+    /// The same atoms as a list. Nothing is promised of it.
     pub atoms: Vec<usize>,
-    /// The literals that were false before the level. Those that were so before any decision come last, since a clause is
-    /// read from its first literal on.
+    /// The literals of the learned clause that were false before the conflict's level. Those that were false before
+    /// any decision come last, since a look at the clause begins with its first literal.
     pub lower: Vec<Lit>,
-    /// How many come first.
+    /// The number of the others, which come first.
     pub open: usize,
-    /// How many of the level are still to be resolved. It only says when it is worth to look whether one is left.
+    /// About how many met literals of the conflict's level are still to be resolved: it only says when it is worth to
+    /// look whether one is left.
     pub left: usize,
-    /// The numbers of the clauses, the last to be followed first.
+    /// The hints, in reverse order: the numbers of the clauses that were resolved with.
     pub hints: Vec<u64>,
 }
 
 impl Analysis {
-    /// An analysis over so many cells that has met nothing.
+    /// An analysis over this many cells that has met nothing.
     pub fn new(alloc: Global, cells: usize) -> Result<Analysis, AllocError>
         ensures met { IfOk result (λ w. w.met ≡ replicate cells false) }
         ensures lower { IfOk result (λ w. w.lower.items ≡ []) }
@@ -54,7 +55,7 @@ impl Analysis {
         })
     }
 
-    /// Goes back to where nothing is met.
+    /// Forgets what was met.
     fn clear(&mut self)
         ensures met { self.new.met ≡ replicate (length self.old.met) false }
         ensures lower { self.new.lower.items ≡ [] }
@@ -69,28 +70,28 @@ impl Analysis {
     }
 }
 
-/// What a conflict shows: a literal of `lower` is true, or `uip` is false.
+/// What a conflict shows: the clause of `lower` and the negation of `uip`.
 #[derive(Drop)]
 pub struct Resolvent {
-    /// Literals that were false before the level.
+    /// Literals that were false before the conflict's level.
     pub lower: Vec<Lit>,
-    /// The literal of the level, which is true.
+    /// The first unique implication point: a true literal of the conflict's level.
     pub uip: Lit,
-    /// The numbers of the clauses that show it, in the order in which they are followed.
+    /// The numbers of the clauses along which unit propagation shows it, in their order.
     pub hints: Vec<u64>,
 }
 
-/// The number of the clause at a place.
+/// The number of the clause at a place, counted from 1.
 fn number_of(clauses: &Arena, place: usize) -> u64
     requires { place < length clauses.now }
     ensures { result ≡ place + 1 }
 {
-    // There are fewer than 2^64 clauses, which `len` tells.
+    // There are fewer than 2^64 clauses, as `len` promises.
     let _count = clauses.len();
     place as u64 + 1
 }
 
-/// Puts a literal at a place, and what stood there at the end.
+/// Inserts a literal at a place; what stood there goes to the end.
 fn put_at(lits: &mut Vec<Lit>, place: usize, lit: Lit) -> Result<(), AllocError>
     ensures { IfOk result (λ _. HaveSame lits.new.items (lits.old.items ++ lit ∷ [])) }
 {
@@ -105,7 +106,7 @@ fn put_at(lits: &mut Vec<Lit>, place: usize, lit: Lit) -> Result<(), AllocError>
 }
 
 impl Trail {
-    /// Whether a literal that is false was so before any decision.
+    /// Whether a false literal was false before any decision.
     fn is_ground(&self, lit: Lit) -> bool
         requires { lit.atom < length self.now.cells.items }
     {
@@ -115,7 +116,8 @@ impl Trail {
         }
     }
 
-    /// Meets a literal that is false.
+    /// Meets a false literal: it goes into the learned clause, or is to be resolved, by the level in which it became
+    /// false.
     fn meet(&self, analysis: &mut Analysis, first: usize, lit: Lit) -> Result<(), AllocError>
         requires in_cells { lit.atom < length self.now.cells.items }
         requires may_be_met { IsMet analysis.old.met lit
@@ -146,7 +148,7 @@ impl Trail {
         Ok(())
     }
 
-    /// Meets the literals of a clause, which are false, by their numbers.
+    /// Meets the literals of a clause, by their numbers; they are false.
     fn meet_all(
         &self,
         analysis: &mut Analysis,
@@ -170,7 +172,7 @@ impl Trail {
         Ok(())
     }
 
-    /// The place of the clause that gave the literal at a place of the trail.
+    /// The place of the clause that implied the literal at a place of the trail.
     fn reason(&self, clauses: &Arena, i: usize) -> usize
         requires trail { HoldsTrail (length self.now.cells.items) clauses.now self.now }
         requires within { i < length self.now.lits.items }
@@ -231,7 +233,8 @@ impl Trail {
         true
     }
 
-    /// Whether no literal of the level before a place was met. It is looked for only where one was left.
+    /// Whether no literal of the level before a place was met, so that the one at the place is left alone. It is
+    /// looked for only where about one is left.
     fn is_alone(&self, analysis: &Analysis, first: usize, i: usize) -> bool
         requires sized { length analysis.now.met ≡ length self.now.cells.items }
         requires agree { Agree self.now.cells.items self.now.lits.items }
@@ -247,7 +250,7 @@ impl Trail {
         self.none_met(&analysis.met, first, i)
     }
 
-    /// Resolves back until one literal of the level alone is met there: its place.
+    /// Resolves back along the trail until one met literal of the level is left: its place.
     fn walk(
         &self,
         clauses: &Arena,
@@ -302,7 +305,8 @@ impl Trail {
         Ok(())
     }
 
-    /// What the falsified clause at a place shows, where there is a decision; `first` is where its level begins.
+    /// What the falsified clause at a place shows, where there is a decision; `first` is where the conflict's level
+    /// begins.
     pub fn analyse(
         &self,
         alloc: Global,
@@ -330,7 +334,7 @@ impl Trail {
         })
     }
 
-    /// The hints that refute the clauses, where one is falsified and there is no decision.
+    /// The hints that refute all clauses, where one is falsified and there is no decision.
     pub fn refute(
         &self,
         alloc: Global,

@@ -7,14 +7,14 @@ ghost use Rattle.sc_trails.specs.Rooms.{cell_value};
 /// What is known of an atom, and from which place of the trail on.
 #[derive(Clone, Copy)]
 pub enum Cell {
-    /// Nothing.
+    /// It is free.
     Free,
-    /// A value that was tried.
+    /// It was decided on.
     Decided {
         negated: bool,
         place: usize,
     },
-    /// A value that a clause gave: the one at `reason`, whose other literals were false.
+    /// It was implied by the clause at `reason`, whose other literals were false.
     Implied {
         negated: bool,
         place: usize,
@@ -22,7 +22,7 @@ pub enum Cell {
     },
 }
 
-/// What is known of a literal.
+/// The truth of a literal.
 #[derive(Clone, Copy)]
 pub enum Truth {
     True,
@@ -30,7 +30,7 @@ pub enum Truth {
     Open,
 }
 
-/// What a cell says of its atom's literal, or of the negation of that.
+/// The truth of an atom, or of its negation, by the atom's cell.
 pub fn truth_of(cell: Cell, negated: bool) -> Truth
     ensures { result ≡ truth_of cell negated }
 {
@@ -81,7 +81,7 @@ pub fn is_free(cell: Cell) -> bool
     }
 }
 
-/// The value of a cell's atom, where it has one.
+/// The value of a cell's atom, if it has one.
 pub fn value_of(cell: Cell) -> Option<bool>
     ensures { result ≡ cell_value cell }
 {

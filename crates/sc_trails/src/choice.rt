@@ -1,4 +1,4 @@
-//! The atom that is decided on: the first of an order that has no value.
+//! The atom to decide on.
 ghost use Rattle.std.specs.Prelude.{◌≡◌, ◌↔◌, ℕ, MatchOption, IfSome, IsTrue};
 ghost use Rattle.sc_trails.specs.Trails.{IsChoice, AreAllSet};
 
@@ -19,7 +19,8 @@ impl Trail {
         is_free(self.cells[atom])
     }
 
-    /// The first of the order's atoms that is free.
+    /// The first free atom that the order gives. For each true literal it gives at most two parts of its definition,
+    /// and each atom once more: so it is asked at most three times for each cell.
     fn first_of_order(&self, order: &mut Order) -> Option<usize>
         ensures { IfSome result (IsChoice self.now.cells.items) }
     {
@@ -36,7 +37,7 @@ impl Trail {
         None
     }
 
-    /// The first free atom.
+    /// The free atom with the least number.
     fn first_choice(&self) -> Option<usize>
         ensures { MatchOption result ((a : ℕ) → ¬ IsChoice self.now.cells.items a) (IsChoice self.now.cells.items) }
     {
@@ -48,7 +49,7 @@ impl Trail {
         None
     }
 
-    /// The free atom that comes first in an order, if an atom is free.
+    /// A free atom, the first one by the order if that gives one; none exactly where no atom is free.
     pub fn choose(&self, order: &mut Order) -> Option<usize>
         ensures { MatchOption result (AreAllSet self.now.cells.items) (IsChoice self.now.cells.items) }
     {

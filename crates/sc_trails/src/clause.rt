@@ -5,7 +5,7 @@ ghost use Rattle.sc_trails.specs.Steps.{At};
 
 use sc_refutations::Arena;
 
-/// The numbers of the clause at a place, counted from 0.
+/// The numbers of the literals of the clause at a place, counted from 0.
 pub fn clause_at(clauses: &Arena, place: usize) -> &[u32]
     requires { place < length clauses.now }
     ensures { At clauses.now place (map lit_of result.now) }

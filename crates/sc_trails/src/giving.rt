@@ -1,4 +1,4 @@
-//! Clauses that give a literal.
+//! Clauses that would imply a literal.
 ghost use Rattle.std.specs.Prelude.{◌≡◌, length, map, IsTrue};
 ghost use Rattle.sc_refutations.specs.Arenas.{lit_of};
 ghost use Rattle.sc_trails.specs.Giving.{Gives, in_cells};
@@ -29,7 +29,7 @@ impl Trail {
         true
     }
 
-    /// Whether a clause, by the numbers of its literals, gives a literal that is of use.
+    /// Whether a clause, by the numbers of its literals, is false but for one open literal, and that is of use.
     pub fn gives(&self, order: &Order, clause: &[u32]) -> bool
         requires { Agree self.now.cells.items self.now.lits.items }
         ensures { IsTrue result → Gives self.now (map lit_of clause.now) }

@@ -1,5 +1,5 @@
-//! The trail of a search: an assignment in the order in which it was made, what clauses give by it, what a falsified clause
-//! shows, and how far to go back for a new one.
+//! The trail of a search: the assignment in the order in which it was made, with unit propagation, conflict analysis,
+//! the level to jump back to, and the choice of the next decision.
 #![tactic(auto)]
 
 mod analysis;

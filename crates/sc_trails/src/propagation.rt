@@ -1,4 +1,4 @@
-//! Unit propagation, by the clauses that watch what became false.
+//! Unit propagation with two watched literals.
 ghost use Rattle.std.specs.Prelude.{◌≡◌, ◌+◌, ◌<◌, length, map, Some, IfOk, IfSome, IsTrue, true};
 ghost use Rattle.std.specs.List.{Contains};
 ghost use Rattle.sc_clauses.specs.Clauses.{Clause};
@@ -18,32 +18,32 @@ use sc_refutations::{Arena, lit_of};
 use sc_watches::{Watch, Watches};
 use std::alloc::AllocError;
 
-/// What a clause says under the assignment.
+/// The status of a clause under the assignment.
 #[derive(Clone, Copy)]
 pub enum Status {
-    /// Nothing: this literal is true.
+    /// This literal of it is true.
     Satisfied(Lit),
-    /// Nothing: these two literals are open.
+    /// No literal is true, and these two are open.
     Open(Watch),
-    /// That this literal is true, since the others are false.
+    /// This literal is open and the others are false, so it is implied.
     Unit(Lit),
-    /// All its literals are false.
+    /// All its literals are false: a conflict.
     Falsified,
 }
 
-/// Which clauses are still to be visited. The others give nothing.
+/// Which clauses are still to be visited; the others imply nothing.
 #[derive(Clone, Copy)]
 pub enum Pending {
-    /// Each of them may be.
+    /// All of them.
     Each,
     /// The one at this place.
     One(usize),
-    /// Those that watch a literal which became false at this place of the trail or after it.
+    /// Those that watch a literal which became false at this place of the trail or later.
     From(usize),
 }
 
 impl Trail {
-    /// What a clause says, by the numbers of its literals.
+    /// The status of a clause, by the numbers of its literals.
     pub fn status(&self, clause: &[u32]) -> Status
         requires agree { Agree self.now.cells.items self.now.lits.items }
         requires in_cells { AllInCells (length self.now.cells.items) (map lit_of clause.now) }
@@ -100,7 +100,7 @@ impl Trail {
         self.is_true(watch.second)
     }
 
-    /// Whether a literal that the clause at a place watches is true.
+    /// Whether a watched literal of the clause at a place is true.
     fn is_satisfied(&self, watches: &Watches, place: usize) -> bool
         requires agree { Agree self.now.cells.items self.now.lits.items }
         requires in_cells { (l : Lit) → IsWatched (watch_of watches.now place) l → l.atom < length self.now.cells.items }
@@ -124,7 +124,7 @@ impl Trail {
         }
     }
 
-    /// Whether a literal was false at no level before the last one.
+    /// Whether a literal wasn't false before the last level.
     fn is_late(&self, lit: Lit) -> bool
         requires in_cells { lit.atom < length self.now.cells.items }
         requires levels { AreLevels self.now.cells.items self.now.levels.items (length self.now.lits.items) }
@@ -140,8 +140,9 @@ impl Trail {
         true
     }
 
-    /// A literal that the clause at a place watches and may watch beside one that is true: one that is open, if it's the
-    /// first, or else one that was false at no level before the last.
+    /// The watched literal of the clause at a place that stays watched beside a true one: an open one, if it is the
+    /// first, or else one that wasn't false before the last level. So jumping back never leaves the clause with two
+    /// false watched literals.
     fn kept_watched(&self, watches: &Watches, place: usize) -> Option<Lit>
         requires agree { Agree self.now.cells.items self.now.lits.items }
         requires levels { AreLevels self.now.cells.items self.now.levels.items (length self.now.lits.items) }
@@ -163,8 +164,8 @@ impl Trail {
         None
     }
 
-    /// Lets the clause at a place watch its literal that is true in place of one that it watched, if the other one is open
-    /// or became false in the last level: so it isn't read again as long as that literal is true.
+    /// Lets the clause at a place watch its true literal, beside a watched one that is open or became false in the
+    /// last level: as long as that literal is true, the clause isn't read again.
     fn watch_true(
         &self,
         clauses: &Arena,
@@ -195,8 +196,8 @@ impl Trail {
         Ok(())
     }
 
-    /// Reads the clause at a place. It then watches two literals that are open, or what it gives is made true. Whether
-    /// it's falsified.
+    /// Reads the clause at a place: it then watches two open literals, or the literal that it implies is made true.
+    /// The answer is whether it is falsified.
     #[inline(never)]
     fn read(
         &mut self,
@@ -230,7 +231,7 @@ impl Trail {
         }
     }
 
-    /// Reads the clause at a place unless a literal that it watches is true. Whether it's falsified.
+    /// Reads the clause at a place, unless a literal that it watches is true. The answer is whether it is falsified.
     fn visit(
         &mut self,
         clauses: &Arena,
@@ -252,7 +253,7 @@ impl Trail {
         self.read(clauses, watches, place)
     }
 
-    /// Visits each clause, until one is falsified (its place).
+    /// Visits every clause, until one is falsified: its place.
     fn visit_each(
         &mut self,
         clauses: &Arena,
@@ -273,8 +274,8 @@ impl Trail {
         Ok(None)
     }
 
-    /// Visits the clauses that watch the negation of the literal at a place of the trail, until one is falsified (its
-    /// place). Those that no longer watch it are taken out of its list.
+    /// Visits the clauses that watch the negation of the literal at a place of the trail, until one is falsified: its
+    /// place. A clause that no longer watches it leaves the literal's list.
     fn visit_watching(
         &mut self,
         clauses: &Arena,
@@ -301,7 +302,8 @@ impl Trail {
         Ok(None)
     }
 
-    /// Visits the clauses that watch a literal which is false from a place of the trail or a later one on.
+    /// Visits the clauses of which a watched literal became false at a place of the trail or later, those that became
+    /// so meanwhile included.
     fn follow(
         &mut self,
         clauses: &Arena,
@@ -326,7 +328,7 @@ impl Trail {
         Ok(None)
     }
 
-    /// Visits the clause at a place, and then those that watch what became false.
+    /// Visits the clause at a place, and then all that propagation leads to.
     fn visit_one(
         &mut self,
         clauses: &Arena,
@@ -348,7 +350,7 @@ impl Trail {
         self.follow(clauses, watches, place)
     }
 
-    /// Visits all clauses, and then those that watch what became false.
+    /// Visits all clauses, and then all that propagation leads to.
     fn visit_all(
         &mut self,
         clauses: &Arena,
@@ -368,7 +370,8 @@ impl Trail {
         self.follow(clauses, watches, place)
     }
 
-    /// Makes true what the clauses give, until one of them is falsified (its place) or none gives anything.
+    /// Propagates: makes true what the clauses imply, until one of them is falsified, whose place is the answer, or
+    /// none implies anything.
     pub fn propagate(
         &mut self,
         clauses: &Arena,

@@ -1,4 +1,4 @@
-//! How far to go back for a new clause.
+//! The level to jump back to for a new clause.
 ghost use Rattle.std.specs.Prelude.{◌≡◌, ◌-◌, ◌<◌, ◌≤◌, ℕ, length, map, slice_index_or, take, IfSome};
 ghost use Rattle.std.specs.List.{All};
 ghost use Rattle.sc_refutations.specs.Arenas.{lit_of};
@@ -12,16 +12,16 @@ use sc_decisions::Order;
 use sc_refutations::{Arena, lit_of};
 use sc_watches::Watch;
 
-/// How many levels a clause leaves, and what it may watch there.
+/// How many levels a new clause leaves, and the two literals that it may watch there.
 #[derive(Clone, Copy)]
 pub struct Room {
     pub level: usize,
-    /// Two literals that aren't false where any of these levels begins; none where there is no level.
+    /// Two literals of the clause that aren't false where any of these levels begins; none where no level is left.
     pub watch: Option<Watch>,
 }
 
 impl Trail {
-    /// Where the highest level begins.
+    /// The place of the trail at which the highest level begins.
     pub fn level_start(&self) -> usize
         requires some { 0 < length self.now.levels.items }
         requires levels { AreLevels self.now.cells.items self.now.levels.items (length self.now.lits.items) }
@@ -31,7 +31,7 @@ impl Trail {
         self.levels[self.levels.len() - 1]
     }
 
-    /// Two literals of a clause that weren't false before a place.
+    /// Two literals of a clause that aren't false before a place of the trail.
     #[tactic(auto, using(crate::proofs::NumberLaws::has_lit))]
     fn open_pair(&self, clause: &[u32], place: usize) -> Option<Watch>
         requires in_cells { All (λ m. m.atom < length self.now.cells.items) (map lit_of clause.now) }
@@ -57,7 +57,8 @@ impl Trail {
         None
     }
 
-    /// The highest level, up to one, below which each level begins with two literals of a clause that aren't false.
+    /// As many levels as can be left, at most `most`: each of them begins with two literals of the clause that aren't
+    /// false.
     pub fn room(&self, clause: &[u32], most: usize) -> Room
         requires in_cells { All (λ m. m.atom < length self.now.cells.items) (map lit_of clause.now) }
         requires levels { AreLevels self.now.cells.items self.now.levels.items (length self.now.lits.items) }
@@ -78,7 +79,7 @@ impl Trail {
         Room { level, watch: None }
     }
 
-    /// Takes back the levels from one on, if there are so many.
+    /// Jumps back so that this many levels are left; nothing is done where there are no more.
     pub fn go_back(&mut self, clauses: &Arena, order: &mut Order, level: usize)
         requires trail { HoldsTrail (length self.old.cells.items) clauses.now self.old }
         requires within { level ≤ length self.old.levels.items }

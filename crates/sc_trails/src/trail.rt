@@ -15,13 +15,13 @@ use std::alloc::{AllocError, Global};
 pub struct Trail {
     /// What is known of each atom, by its number; cell 0 is of no atom.
     pub cells: Vec<Cell>,
-    /// The literals that are true, in the order in which they became so.
+    /// The true literals, in the order in which they became true.
     pub lits: Vec<Lit>,
-    /// Where each level begins, with its decision.
+    /// The place at which each level begins, with its decision.
     pub levels: Vec<usize>,
 }
 
-/// Whether two literals are the same.
+/// Whether two literals are equal.
 pub fn is_same(a: Lit, b: Lit) -> bool
     ensures { IsTrue result ↔ a ≡ b }
 {
@@ -29,7 +29,7 @@ pub fn is_same(a: Lit, b: Lit) -> bool
 }
 
 impl Trail {
-    /// A trail on which nothing is known of any atom.
+    /// The empty trail over this many cells.
     pub fn new(alloc: Global, cells: usize) -> Result<Trail, AllocError>
         ensures cells { IfOk result (λ t. t.cells.items ≡ replicate cells Cell.Free) }
         ensures lits { IfOk result (λ t. t.lits.items ≡ []) }
@@ -51,7 +51,7 @@ impl Trail {
         truth_of(self.cells[lit.atom as usize], lit.negated)
     }
 
-    /// Whether a literal is true from a place before `end` on.
+    /// Whether a literal became true before the place `end`.
     pub fn is_true_before(&self, lit: Lit, end: usize) -> bool
         requires in_cells { lit.atom < length self.now.cells.items }
         ensures { result ≡ true_before self.now.cells.items end lit }
@@ -59,7 +59,7 @@ impl Trail {
         is_set_before(self.cells[lit.atom as usize], end, lit.negated)
     }
 
-    /// Makes a literal true that the clause at `reason` gives.
+    /// Makes a literal true that the clause at `reason` implies.
     pub fn imply(&mut self, lit: Lit, reason: usize) -> Result<(), AllocError>
         requires { lit.atom < length self.old.cells.items }
         ensures cells { self.new.cells.items ≡ slice_set self.old.cells.items lit.atom (Cell.Implied lit.negated
@@ -76,7 +76,7 @@ impl Trail {
         Ok(())
     }
 
-    /// Begins a level by making a literal true.
+    /// Decides on a literal, which begins a level.
     pub fn decide(&mut self, lit: Lit) -> Result<(), AllocError>
         requires { lit.atom < length self.old.cells.items }
         ensures cells { self.new.cells.items ≡ slice_set self.old.cells.items lit.atom (Cell.Decided lit.negated
@@ -94,7 +94,7 @@ impl Trail {
         Ok(())
     }
 
-    /// Takes back the last literal.
+    /// Takes the last literal back.
     fn pop(&mut self) -> Lit
         requires some { 0 < length self.old.lits.items }
         requires agree { Agree self.old.cells.items self.old.lits.items }
@@ -109,7 +109,7 @@ impl Trail {
         lit
     }
 
-    /// Takes back a level and those after it, and their atoms into the order.
+    /// Takes back the levels from one on, and gives their atoms back to the order.
     pub fn backtrack(&mut self, clauses: &Arena, order: &mut Order, level: usize)
         requires within { level < length self.old.levels.items }
         requires trail { HoldsTrail (length self.old.cells.items) clauses.now self.old }
