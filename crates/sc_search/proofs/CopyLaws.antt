@@ -1,4 +1,4 @@
--- Clauses that are taken over one after the other.
+-- Clauses that are copied one after the other.
 use Rattle.std.proofs.Common.{◌≡◌, ◌+◌, ◌<◌, ℕ, zero, suc, List, [], ◌∷◌, ◌++◌, take, length, slice_get, Some, None, refl, ap, arith}
 use Rattle.sc_laws.proofs.OptionLaws.{same_some}
 use Rattle.sc_clauses.specs.Clauses.{Clause}

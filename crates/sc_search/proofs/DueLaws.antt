@@ -1,4 +1,4 @@
--- What is on a trail was reached by decisions and unit propagation.
+-- The literals on a trail were reached by decisions and unit propagation.
 use Rattle.std.proofs.Common.{◌≡◌, inl, inr, ⊎_elim, ℕ, zero, suc, ◌+◌, ◌<◌, ◌≤◌, List, [], ◌∷◌, Bool, true, false, length, get_or, refl, sym, ◌∙◌, subst, true≢false, arith}
 use Rattle.std.specs.List.{Contains}
 use Rattle.std.proofs.lemmas.List.{get_or_default}
@@ -22,7 +22,7 @@ record Reaches (cs : List Clause) (cells : List Cell) (i : ℕ) : Type 0 where
   pub are_true : (m : Lit) → Contains known m → true_before cells i m ≡ true
   pub are_known : (m : Lit) → true_before cells i m ≡ true → Contains known m
 
--- a clause that is quiet by a set of literals is settled by their list
+-- a clause that is quiet under a set of literals is settled by their list
 settled : (T : Lit → Bool) (known : List Lit) → ((m : Lit) → Contains known m → T m ≡ true) → ((m : Lit) → T m ≡ true → Contains known m) → (c : Clause) → IsQuiet T c → IsSettledBy known c
 settled T known are_true are_known c (inl (y, cy, ty)) = inl (y, cy, are_known y ty)
 settled T known are_true are_known c (inr (y, z, cy, cz, ne, fy, fz)) =

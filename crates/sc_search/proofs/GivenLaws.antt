@@ -1,4 +1,4 @@
--- A clause that gives a literal where propagation is at rest is new, and a lawful step.
+-- A clause that implies a literal where propagation is at rest is new, and a lawful step.
 use Rattle.std.proofs.Common.{◌≡◌, ◌≢◌, ⊎_elim, ℕ, ◌+◌, ◌<◌, Bool, true, false, not, length, sym, ap, ◌∙◌, subst, true≢false, arith}
 use Rattle.std.specs.List.{Contains}
 use Rattle.sc_lists.proofs.ListLaws.{contains_nothing}
@@ -44,7 +44,7 @@ module _ (s : Solver) (rest : IsQuietNow s) (C : Clause) (g : Gives s.trail C) w
   pub given-new : IsNew s.clauses C
   given-new = (g.lit, new-by T single s.clauses rest.quiet C g.lit others g.is_unit.0 not-true)
 
-  -- the literal that is given isn't beside its negation
+  -- the implied literal doesn't stand with its negation
   given-apart : ¬ Contains C (negation g.lit)
   given-apart has = true≢false (sym (subst (λ (w : Lit). T w ≡ true) (negation_twice g.lit) (others (negation g.lit) has (λ e. not-itself g.lit e))) ∙ not-true)
 

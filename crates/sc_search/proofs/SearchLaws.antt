@@ -1,4 +1,4 @@
--- What the search's last state tells, and what a step more keeps.
+-- What the last state of a search says, and what one more step keeps.
 use Rattle.std.proofs.Common.{◌≡◌, ◌≢◌, inl, inr, ⊎_elim, ℕ, zero, suc, ◌+◌, ◌-◌, ◌<◌, ◌≤◌, List, [], ◌∷◌, ◌++◌, Bool, true, false, not, eqb, length, map, drop, get_or, slice_get, Option, None, Result, Ok, Err, IfOk, refl, sym, ap, ◌∙◌, subst, true≢false, arith}
 use Rattle.std.specs.Prelude.{option_and_then, IsSome}
 use Rattle.std.specs.List.{Contains}
@@ -120,7 +120,7 @@ module _ (has_instance : instance.Instance → Type 0) (clause_of : instance.Ins
 
   -- ---- steps
 
-  -- a clause that a quiet trail makes false is new, if it isn't empty
+  -- a clause that a quiet trail falsifies is new, if it isn't empty
   new-of-false : (s : Solver) → IsTotal s → (C : Clause) → ((l : Lit) → Contains C l → true_before s.trail.cells.items (length s.trail.lits.items) (negation l) ≡ true) → C ≢ [] → IsNew s.clauses C
   new-of-false s total [] all some = absurd (some refl)
   new-of-false s total (l ∷ C) all some =
@@ -169,7 +169,7 @@ module _ (has_instance : instance.Instance → Type 0) (clause_of : instance.Ins
   refuted-ended atoms cs ss s h = record { step = Learned h.step; is_lawful = h.is_shown atoms; is_empty = h.is_empty; steps_more = h.steps_more }
 
   module _ (atoms : ℕ) where
-    -- units go on at their end
+    -- units may be followed by more
     pub units-more : (cs : List Clause) (ss : List Step) (s : Step) → AreUnits atoms has_instance clause_of cs ss → IsUnit atoms has_instance clause_of (after clause_of cs ss) s → AreUnits atoms has_instance clause_of cs (ss ++ s ∷ [])
     units-more cs _ s (no_step _) unit =
         first_step cs s [] (subst (λ (ds : List Clause). IsUnit atoms has_instance clause_of ds s) (append-nil cs) unit) (no_step (cs ++ added clause_of s ∷ []))
@@ -181,7 +181,7 @@ module _ (has_instance : instance.Instance → Type 0) (clause_of : instance.Ins
     after-more cs ss s = ap (λ (ds : List Clause). cs ++ ds) (map-append (added clause_of) ss (s ∷ [])) ∙ sym (append_assoc cs (map (added clause_of) ss) (added clause_of s ∷ []))
 
     module _ (given : List Clause) (budget : ℕ) (old new : Solver) (h : IsSearching atoms has_instance clause_of given budget old) where
-      -- a unit more
+      -- one more unit
       pub searching-more : HasAdded atoms has_instance clause_of old.clauses old.steps.items new → length old.steps.items ≢ budget → IsSearching atoms has_instance clause_of given budget new
       searching-more more ne =
           let le = h.within in
@@ -198,7 +198,7 @@ module _ (has_instance : instance.Instance → Type 0) (clause_of : instance.Ins
       pub count-more : HasAdded atoms has_instance clause_of old.clauses old.steps.items new → length new.steps.items ≡ length old.steps.items + 1
       count-more more = ap length more.steps_more ∙ length-append old.steps.items (more.step ∷ [])
 
-      -- the empty clause at last
+      -- the empty clause at the end
       pub refutation : HasEnded atoms has_instance clause_of old.clauses old.steps.items new → length old.steps.items ≢ budget → IsRefutation atoms has_instance clause_of given budget new.steps.items
       refutation end ne =
           let le = h.within in
@@ -220,7 +220,7 @@ module _ (has_instance : instance.Instance → Type 0) (clause_of : instance.Ins
         due = subst (λ (ss : List Step). IsDue has_instance clause_of (after clause_of given ss)) (sym e) (subst (λ (cs : List Clause). IsDue has_instance clause_of cs) h.clauses_are due);
       }
 
-      -- what falsifies none of all clauses falsifies none of those given
+      -- an assignment that falsifies no clause at all falsifies none of those given
       pub consistent-given : (m : Assignment) → IsConsistent atoms has_instance clause_of old.clauses m → IsConsistent atoms has_instance clause_of given m
       consistent-given m k = record {
         count = k.count;
@@ -229,7 +229,7 @@ module _ (has_instance : instance.Instance → Type 0) (clause_of : instance.Ins
         keeps_instances = k.keeps_instances;
       }
 
--- what a settled conflict is to a turn of the search
+-- a settled conflict ends a turn
 pub settled-turn : (has_instance : instance.Instance → Type 0) (clause_of : instance.Instance → Clause) (n atoms : ℕ) (cs cs' : List Clause) (ss ss' : List Step) (budget : ℕ) (s : Solver) (t : Turn) → n ≡ atoms + 1 → cs' ≡ cs → ss' ≡ ss
     → HasSettled n cs' ss' budget s t → IsTurn atoms has_instance clause_of cs ss budget s t
 settled-turn has_instance clause_of n atoms cs cs' ss ss' budget s t e same_cs same_ss h = by t (subst (λ (ds : List Clause). HasSettled n ds ss budget s t) same_cs (subst (λ (xs : List Step). HasSettled n cs' xs budget s t) same_ss h)) where
@@ -264,6 +264,6 @@ searching-begins has_instance clause_of atoms given budget s listed watched hold
   within = let none : length s.steps.items ≡ 0 = ap length steps in omega arith;
 }
 
--- how many clauses there are
+-- the number of clauses
 pub count-after : (clause_of : instance.Instance → Clause) (given : List Clause) (ss : List Step) → length (after clause_of given ss) ≡ length given + length ss
 count-after clause_of given ss = length-append given (map (added clause_of) ss) ∙ ap (λ (k : ℕ). length given + k) (simp length-map)

@@ -1,4 +1,4 @@
--- Which instances give a literal.
+-- Instances whose clauses imply a literal.
 use Rattle.std.specs.Prelude.{◌≡◌}
 use Rattle.sc_clauses.specs.declared.step.Instance as instance
 use Rattle.sc_clauses.specs.Clauses.{Clause}
@@ -6,7 +6,7 @@ use Rattle.sc_search.specs.declared.giving.Given.{Given}
 use Rattle.sc_trails.specs.Giving.{Gives}
 use Rattle.sc_trails.specs.declared.trail.Trail.{Trail}
 
--- an instance with its clause, which gives a literal
+-- an instance of the source with its clause, which implies a literal
 pub record IsGiven (has_instance : instance.Instance → Type 0) (clause_of : instance.Instance → Clause) (t : Trail) (g : Given) : Type 0 where
   pub accepted : has_instance g.instance
   pub clause_is : g.clause ≡ clause_of g.instance

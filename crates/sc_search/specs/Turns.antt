@@ -1,4 +1,4 @@
--- What a turn of the search does.
+-- What one turn of the search does.
 use Rattle.std.specs.Prelude.{◌≡◌, ◌≢◌, ◌+◌, ◌-◌, ◌≤◌, ◌++◌, ℕ, List, [], ◌∷◌, length, Option, Some, None}
 use Rattle.sc_clauses.specs.declared.step.Instance as instance
 use Rattle.sc_clauses.specs.declared.step.Learned as learned
@@ -15,7 +15,7 @@ use Rattle.sc_trails.specs.Trails.{true_before, AreQuiet, HoldsTrail, AreInCells
 use Rattle.sc_trails.specs.Readings.{IsFalsified}
 use Rattle.sc_trails.specs.Visits.{AreAlive, AreSeenBut, IsWellWatched}
 
--- the solver's clauses, what they watch and the trail fit; it has n cells, the first of no atom, and as many marks
+-- the state between turns: clauses, watched literals and trail fit together, over n cells and as many marks
 pub record IsReady (n : ℕ) (s : Solver) : Type 0 where
   pub in_cells : AreInCells n s.clauses
   pub watched : IsWellWatched n s.clauses s.trail s.watches
@@ -23,33 +23,33 @@ pub record IsReady (n : ℕ) (s : Solver) : Type 0 where
   pub seen : AreSeenBut s.clauses s.trail s.watches s.pending
   pub marks : length s.analysis.met ≡ n
 
--- the clauses and steps are as they were
+-- the clauses and the steps are unchanged
 pub record IsKept (clauses : List Clause) (steps : List Step) (s : Solver) : Type 0 where
   pub clauses_kept : s.clauses ≡ clauses
   pub steps_kept : s.steps.items ≡ steps
 
--- each atom has a value, and no clause gives a literal or is falsified
+-- each atom has a value, and no clause is falsified
 pub record IsTotal (s : Solver) : Type 0 where
   pub quiet : AreQuiet (true_before s.trail.cells.items (length s.trail.lits.items)) s.clauses
   pub alive : AreAlive s.clauses s.trail s.watches
   pub full : AreAllSet s.trail.cells.items
 
--- no clause gives a literal or is falsified
+-- propagation is at rest: no clause implies a literal or is falsified
 pub record IsQuietNow (s : Solver) : Type 0 where
   pub quiet : AreQuiet (true_before s.trail.cells.items (length s.trail.lits.items)) s.clauses
   pub alive : AreAlive s.clauses s.trail s.watches
 
--- a falsified clause, or nothing that a clause gives
+-- a falsified clause, or propagation at rest
 abbrev pub IsCalm : Solver → Option ℕ → Type 0
 IsCalm s None = IsQuietNow s
 IsCalm s (Some i) = IsFalsified s.clauses s.trail.cells.items (length s.trail.lits.items) i
 
--- a falsified clause, or values of all atoms
+-- a falsified clause, or a value for each atom
 abbrev pub IsAtRest : Solver → Option ℕ → Type 0
 IsAtRest s None = IsTotal s
 IsAtRest s (Some i) = IsFalsified s.clauses s.trail.cells.items (length s.trail.lits.items) i
 
--- one learned clause more, with its step
+-- one more learned clause, with its step
 pub record HasLearned (n : ℕ) (clauses : List Clause) (steps : List Step) (s : Solver) : Type 0 where
   pub ready : IsReady n s
   pub step : learned.Learned
@@ -71,7 +71,7 @@ HasSettled n clauses steps budget s turn.Refuted = HasRefuted clauses steps s ×
 HasSettled n clauses steps budget s (turn.Consistent m) = ⊥
 HasSettled n clauses steps budget s turn.Spent = (s.steps.items ≡ steps) × (length steps ≡ budget) × HasConflict clauses
 
--- one unit more
+-- one more unit
 pub record HasAdded (atoms : ℕ) (has_instance : instance.Instance → Type 0) (clause_of : instance.Instance → Clause) (clauses : List Clause) (steps : List Step) (s : Solver) : Type 0 where
   pub step : Step
   pub is_unit : IsUnit atoms has_instance clause_of clauses step
@@ -79,7 +79,7 @@ pub record HasAdded (atoms : ℕ) (has_instance : instance.Instance → Type 0) 
   pub steps_more : s.steps.items ≡ steps ++ step ∷ []
   pub ready : IsReady (atoms + 1) s
 
--- one lawful step more, whose clause is empty
+-- one more lawful step, with the empty clause
 pub record HasEnded (atoms : ℕ) (has_instance : instance.Instance → Type 0) (clause_of : instance.Instance → Clause) (clauses : List Clause) (steps : List Step) (s : Solver) : Type 0 where
   pub step : Step
   pub is_lawful : IsLawful atoms has_instance clause_of clauses step
@@ -92,12 +92,12 @@ IsTurn atoms has_instance clause_of clauses steps budget s turn.Refuted = HasEnd
 IsTurn atoms has_instance clause_of clauses steps budget s (turn.Consistent m) = IsConsistent atoms has_instance clause_of clauses m
 IsTurn atoms has_instance clause_of clauses steps budget s turn.Spent = (s.steps.items ≡ steps) × (length steps ≡ budget) × IsDue has_instance clause_of clauses
 
--- what a turn begins with: nothing that is logged, or the turn
+-- the part of a turn before any decision: nothing is logged, or the turn is over
 abbrev pub HasBegun : ℕ → (instance.Instance → Type 0) → (instance.Instance → Clause) → List Clause → List Step → ℕ → Solver → Option Turn → Type 0
 HasBegun n has_instance clause_of clauses steps budget s None = IsReady n s × IsKept clauses steps s
 HasBegun n has_instance clause_of clauses steps budget s (Some t) = IsTurn (n - 1) has_instance clause_of clauses steps budget s t
 
--- the search so far: units after the clauses given, as many as the budget at most
+-- the state of the search: behind the clauses given stand units, at most as many as the budget
 pub record IsSearching (atoms : ℕ) (has_instance : instance.Instance → Type 0) (clause_of : instance.Instance → Clause) (clauses : List Clause) (budget : ℕ) (s : Solver) : Type 0 where
   pub ready : IsReady (atoms + 1) s
   pub clauses_are : s.clauses ≡ after clause_of clauses s.steps.items

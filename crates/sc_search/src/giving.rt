@@ -1,4 +1,4 @@
-//! Instances that give a literal.
+//! Suggested instances whose clauses imply a literal.
 ghost use Rattle.std.specs.Prelude.{◌≡◌, IfOk, IfSome};
 ghost use Rattle.sc_search.specs.Given.{IsGiven};
 ghost use Rattle.sc_trails.specs.Trails.{Agree};
@@ -10,14 +10,14 @@ use sc_refutations::codes_of;
 use sc_trails::Trail;
 use std::alloc::{AllocError, Global};
 
-/// An instance that gives a literal, and its clause.
+/// An instance whose clause implies a literal, with the clause.
 #[derive(Drop)]
 pub(crate) struct Given {
     pub instance: Instance,
     pub clause: Clause,
 }
 
-/// An instance with its clause, if that gives a literal.
+/// The instance with its clause, if the source has it and the clause implies a literal.
 fn if_given<S: Source>(
     alloc: Global,
     trail: &Trail,
@@ -39,7 +39,7 @@ fn if_given<S: Source>(
     Ok(Some(Given { instance, clause }))
 }
 
-/// The next suggestion that gives a literal, if there is one.
+/// The next suggested instance whose clause implies a literal, if one is left.
 pub(crate) fn next_given<S: Source>(
     alloc: Global,
     trail: &Trail,

@@ -1,8 +1,8 @@
-//! A search with clause learning: an assignment of all atoms that falsifies no clause of a list and none that a source
-//! has besides, or a refutation of them, or as many units as it may spend.
+//! Conflict-driven clause learning over a list of clauses and a source of more: an assignment of all atoms that
+//! falsifies none of them, or a refutation, or as many units as the budget.
 //!
-//! It decides, propagates to rest, learns a clause from each conflict, and jumps back. Each step that it logs is new to
-//! unit propagation over the clauses before it, so none is spent on what was known.
+//! It propagates to rest and decides, learns a clause from each conflict, and jumps back. The clause of each step
+//! that it logs is new to unit propagation over the clauses before it, so no step is spent on what was known.
 #![tactic(auto)]
 
 mod giving;

@@ -15,20 +15,20 @@ use sc_clauses::{Assignment, Clauses, Instance, Step};
 use sc_lists::Seq;
 use std::alloc::{AllocError, Global};
 
-/// What a search finds.
+/// The outcome of a search.
 #[derive(Drop)]
 pub enum Found {
-    /// Steps of which the last has the empty clause.
+    /// A refutation: the last step has the empty clause.
     Refuted(Seq<Step>),
-    /// An assignment of all atoms that falsifies nothing.
+    /// An assignment of all atoms that falsifies no clause.
     Consistent(Assignment),
-    /// As many units as the budget, where one more step is due.
+    /// As many units as the budget, after which one more step is due.
     Spent(Seq<Step>),
 }
 
-/// Looks for an assignment of the atoms from 1 to `atoms` that falsifies none of these clauses and none of the source's,
-/// or for a refutation of them, and logs `budget` steps at most. Want of memory is its one fault: it has no room for a
-/// clause of an atom from 2^31 on, nor for clauses of 2^32 literals or more in all.
+/// Looks for an assignment of the atoms 1 to `atoms` that falsifies none of these clauses and none of the source's,
+/// or for a refutation, which it logs, in at most `budget` steps. Want of memory is its one fault: it has no room for
+/// a clause of an atom from 2^31 on, nor for clauses of 2^32 literals or more in all.
 pub fn search<S: Source>(
     alloc: Global,
     source: &S,
@@ -46,7 +46,7 @@ pub fn search<S: Source>(
     // The assignment is total, and falsifies neither a clause given nor one of the source.
     ensures consistent { IfOk result (λ f. IfConsistent (IsConsistent atoms (S.has_instance source.now)
         (S.clause_of source.now) clauses.now) f) }
-    // The steps are as many units as the budget, and one more is due: the search has made all literals of a clause false.
+    // The steps are as many units as the budget, and one more is due: propagation has come to a conflict.
     ensures spent { IfOk result (λ f. IfSpent (IsSpent atoms (S.has_instance source.now)
         (S.clause_of source.now) clauses.now budget) f) }
 {
@@ -55,7 +55,7 @@ pub fn search<S: Source>(
 }
 
 impl Solver {
-    /// Goes on to the end, from its first turn.
+    /// Takes turns until the search is over.
     fn find<S: Source>(
         &mut self,
         alloc: Global,
@@ -84,7 +84,7 @@ impl Solver {
         }
     }
 
-    /// Goes on to the next step, or to the end.
+    /// One turn: up to the next step, or to the end of the search.
     fn turn<S: Source>(
         &mut self,
         alloc: Global,
@@ -104,8 +104,8 @@ impl Solver {
         }
     }
 
-    /// Where nothing is decided: logs an instance that gives a literal, or settles a conflict. None where neither is known,
-    /// or the budget is spent.
+    /// Where no decision stands: logs a suggested instance that implies a literal, or settles a conflict. None where
+    /// there is neither, or the budget is spent.
     fn begin<S: Source>(
         &mut self,
         alloc: Global,
@@ -144,7 +144,7 @@ impl Solver {
         }
     }
 
-    /// Goes on to the next step, or to the end, by decisions.
+    /// Decides and propagates up to the next step, or to the end of the search.
     fn go_on<S: Source>(
         &mut self,
         alloc: Global,
@@ -168,7 +168,7 @@ impl Solver {
         }
     }
 
-    /// Logs an instance whose clause the assignment falsifies, if the budget isn't spent.
+    /// Logs an instance of the source that the assignment falsifies, if the budget isn't spent.
     fn tell<S: Source>(
         &mut self,
         alloc: Global,

@@ -16,20 +16,20 @@ use sc_watches::Watches;
 use std::alloc::{AllocError, Global};
 use std::mem;
 
-/// What a turn of the search ends with.
+/// The outcome of one turn of the search.
 #[derive(Drop)]
 pub(crate) enum Turn {
     /// A step was logged.
     Added,
     /// A step was logged, and its clause is empty.
     Refuted,
-    /// Nothing is falsified.
+    /// Propagation is at rest: no clause is falsified, and none implies anything.
     Consistent(Assignment),
     /// A step is due, and the budget is spent.
     Spent,
 }
 
-/// The clauses given and those of the steps, the steps, and the assignment.
+/// The clauses given and learned, the log of steps, and the trail.
 #[derive(Drop)]
 pub(crate) struct Solver {
     pub clauses: Arena,
@@ -43,7 +43,7 @@ pub(crate) struct Solver {
     pub analysis: Analysis,
 }
 
-/// The values that cells tell.
+/// The values of the atoms, by their cells, cell 0 included.
 fn values_of(alloc: Global, cells: &[Cell]) -> Result<Seq<Option<bool>>, AllocError>
     ensures { IfOk result (λ values. values ≡ map cell_value cells.now) }
 {
@@ -54,7 +54,7 @@ fn values_of(alloc: Global, cells: &[Cell]) -> Result<Seq<Option<bool>>, AllocEr
     Ok(values)
 }
 
-/// The values that the cells after the first tell.
+/// The values of the atoms, by the cells behind cell 0.
 fn later_values(alloc: Global, cells: &[Cell]) -> Result<Seq<Option<bool>>, AllocError>
     ensures { IfOk result (λ values. values ≡ map cell_value (drop 1 cells.now)) }
 {
@@ -64,11 +64,11 @@ fn later_values(alloc: Global, cells: &[Cell]) -> Result<Seq<Option<bool>>, Allo
     }
 }
 
-/// The same clauses, each by the numbers of its literals.
+/// The clauses as an array of the numbers of their literals.
 fn arena_of(alloc: Global, given: &Clauses) -> Result<Arena, AllocError>
     ensures { IfOk result (λ clauses. clauses ≡ given.now) }
 {
-    // There are fewer than 2^64 clauses, which `len` tells.
+    // There are fewer than 2^64 clauses, as `len` promises.
     let _count = given.len();
     let mut clauses = Arena::new(alloc);
     let mut codes = Vec::new(alloc);
@@ -83,7 +83,7 @@ fn arena_of(alloc: Global, given: &Clauses) -> Result<Arena, AllocError>
 }
 
 impl Solver {
-    /// The search over these clauses, before its first turn.
+    /// A search over these clauses, before its first turn.
     pub fn new(alloc: Global, atoms: u64, given: &Clauses) -> Result<Solver, AllocError>
         requires few_atoms { atoms < 10 ^ 18 }
         requires in_cells { AreInCells (atoms + 1) given.now }
@@ -114,14 +114,14 @@ impl Solver {
         })
     }
 
-    /// The steps, which the solver gives up.
+    /// Takes the steps out, which leaves none.
     pub fn take_steps(&mut self, alloc: Global) -> Seq<Step>
         ensures { result ≡ self.old.steps.items }
     {
         Seq::from_vec(mem::replace(&mut self.steps, Vec::new(alloc)))
     }
 
-    /// The values of all atoms.
+    /// The assignment of all atoms.
     pub fn assignment(&self, alloc: Global) -> Result<Assignment, AllocError>
         ensures { IfOk result (λ m. m ≡ map cell_value (drop 1 self.now.trail.cells.items)) }
     {
@@ -129,7 +129,7 @@ impl Solver {
         Ok(Assignment::from_values(values))
     }
 
-    /// Propagates until a clause is falsified (its place) or none gives anything.
+    /// Propagates until a clause is falsified, whose place is the answer, or propagation is at rest.
     pub fn come_to_rest(&mut self) -> Result<Option<usize>, AllocError>
         requires { IsReady (length self.old.trail.cells.items) self.old }
         ensures ready { IfOk result (λ _. IsReady (length self.old.trail.cells.items) self.new) }
@@ -148,7 +148,7 @@ impl Solver {
         Ok(None)
     }
 
-    /// Propagates and decides until a clause is falsified (its place) or each atom has a value.
+    /// Propagates and decides until a clause is falsified, whose place is the answer, or each atom has a value.
     pub fn rest(&mut self) -> Result<Option<usize>, AllocError>
         requires { IsReady (length self.old.trail.cells.items) self.old }
         ensures ready { IfOk result (λ _. IsReady (length self.old.trail.cells.items) self.new) }
@@ -176,7 +176,7 @@ impl Solver {
         }
     }
 
-    /// Logs an instance, of which this is the clause.
+    /// Logs an instance with this clause.
     pub fn log(
         &mut self,
         alloc: Global,
@@ -196,14 +196,14 @@ impl Solver {
         Ok(())
     }
 
-    /// Whether as many steps were logged.
+    /// Whether as many steps were logged as the budget allows.
     pub fn is_spent(&self, budget: u64) -> bool
         ensures { IsTrue result ↔ length self.now.steps.items ≡ budget }
     {
         self.steps.len() as u64 == budget
     }
 
-    /// Logs the clause that a falsified one shows, and goes back.
+    /// Learns the clause that a conflict shows, logs it, and jumps back.
     fn learn(&mut self, alloc: Global, conflict: usize) -> Result<(), AllocError>
         requires ready { IsReady (length self.old.trail.cells.items) self.old }
         requires falsified { IsFalsified self.old.clauses self.old.trail.cells.items
@@ -220,7 +220,7 @@ impl Solver {
             .analyse(alloc, &self.clauses, &mut self.analysis, conflict, first)?;
         self.order.raise(&self.analysis.atoms);
         let mut lits = lower;
-        // It is what the clause gives where the search goes on, so a look at the clause meets it first.
+        // The clause implies this literal where the search goes on, so a look at the clause meets it first.
         lits.insert(0, negation(uip))?;
         let most = self.restarts.most_levels(self.trail.levels.len() - 1);
         self.attach(alloc, &lits, most)?;
@@ -231,7 +231,7 @@ impl Solver {
         Ok(())
     }
 
-    /// Logs the empty clause, which a falsified one shows.
+    /// Logs the empty clause, which a conflict without decisions shows.
     fn refute(&mut self, alloc: Global, conflict: usize) -> Result<(), AllocError>
         requires ready { IsReady (length self.old.trail.cells.items) self.old }
         requires falsified { IsFalsified self.old.clauses self.old.trail.cells.items
@@ -250,7 +250,7 @@ impl Solver {
         Ok(())
     }
 
-    /// Logs what a falsified clause shows, if the budget isn't spent.
+    /// Logs what a conflict shows, if the budget isn't spent.
     pub fn settle(
         &mut self,
         alloc: Global,
@@ -276,7 +276,8 @@ impl Solver {
         Ok(Turn::Added)
     }
 
-    /// Adds a clause, and leaves as many levels as it has room for, up to so many.
+    /// Adds a clause, and jumps back until it has two literals that aren't false, or no level is left; a restart may
+    /// ask for fewer levels.
     pub fn attach(&mut self, alloc: Global, clause: &[Lit], most: usize) -> Result<(), AllocError>
         requires ready { IsReady (length self.old.trail.cells.items) self.old }
         requires in_cells { AllInCells (length self.old.trail.cells.items) clause.now }

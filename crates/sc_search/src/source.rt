@@ -1,4 +1,4 @@
-//! Where clauses come from besides those of a list.
+//! Where clauses come from besides the list.
 ghost use Rattle.std.specs.Prelude.{◌≡◌, true, false, None, IfOk, IfSome};
 ghost use Rattle.sc_clauses.specs.Assignments.{falsifies};
 ghost use Rattle.sc_clauses.specs.Clauses.{Clause};
@@ -7,8 +7,8 @@ ghost use Rattle.sc_clauses.specs.declared.step.Instance.{Instance};
 use sc_clauses::{Assignment, Clause, Instance, Lit};
 use std::alloc::AllocError;
 
-/// A source of clauses that are true besides those given, each with the instance that tells it. There may be far too
-/// many of them to list, so a search asks for one that an assignment falsifies.
+/// A source of clauses that are true besides those given, each by an instance. There may be far too many to list, so
+/// a search asks for one that an assignment falsifies.
 pub trait Source {
     /// Which instances it has.
     ghost has_instance: { Self → Instance → Type 0 };
@@ -28,11 +28,11 @@ pub trait Source {
         requires { has_instance self.now instance.now }
         ensures { IfOk result (λ c. c ≡ clause_of self.now instance.now) };
 
-    /// Instances that may give a literal where these literals are all that are true, the first `seen` of which it was told
-    /// before. Nothing is promised of them. Want of memory is its one fault.
+    /// Instances whose clauses may imply a literal, where these literals are all that are true and the first `seen`
+    /// of them were shown before. Nothing is promised of them. Want of memory is its one fault.
     fn suggested(&self, lits: &[Lit], seen: usize) -> Result<Vec<Instance>, AllocError>;
 
-    /// The clause of an instance, if it has that. Want of memory is its one fault.
+    /// The clause of an instance, if the source has the instance. Want of memory is its one fault.
     fn told(&self, instance: &Instance) -> Result<Option<Clause>, AllocError>
         ensures accepted { IfOk result (λ o. IfSome o (λ c. has_instance self.now instance.now)) }
         ensures clause { IfOk result (λ o. IfSome o (λ c. c ≡ clause_of self.now instance.now)) };
