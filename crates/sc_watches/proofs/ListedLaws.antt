@@ -1,4 +1,4 @@
--- What a change of one literal's list changes.
+-- What changes with one literal's list.
 use Rattle.std.proofs.Common.{◌≡◌, ◌≢◌, ◌⊎◌, inl, inr, ⊎_elim, ℕ, zero, suc, ◌<◌, ◌≤◌, List, [], ◌∷◌, Bool, true, false, not, length, get_or, refl, sym, ap, ◌∙◌, subst, arith, get_or-set_same, get_or-set_other, replicate, Result, Ok, Err, IfOk, Vec, Global, Option, Some, None, slice_get}
 use Rattle.std.proofs.Math.ListN.{set, length-set}
 use Rattle.std.proofs.lemmas.List.{length-replicate}
@@ -70,7 +70,7 @@ lists-empty n o e f = record {
   empty = λ l. ap (λ (ls : List (List ℕ)). get_or ls l.atom []) (empty-by n o e f l.negated) ∙ all_the_same n l.atom [];
 }
 
--- what stands at a place
+-- the element at a place
 pub place-at : (ps : List ℕ) (at : ℕ) (r : Option ℕ) → r ≡ slice_get ps at → IsPlaceAt ps at r
 place-at [] at None e = omega arith
 place-at [] at (Some i) e = absurd cc

@@ -1,4 +1,4 @@
--- Two literals are one, or not.
+-- Equality of literals is decided.
 use Rattle.std.proofs.Common.{◌≡◌, ◌≢◌, ◌⊎◌, inl, inr, ⊎_elim, ℕ, Bool, true, false, not, refl, ap}
 use Rattle.std.proofs.lemmas.Bool.{cases_eq}
 use Rattle.sc_clauses.specs.declared.lit.Lit.{Lit}

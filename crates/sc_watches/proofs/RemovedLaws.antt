@@ -1,4 +1,4 @@
--- What stands in a list when one is taken out.
+-- Which elements a list has once one is taken out.
 use Rattle.std.proofs.Common.{◌≡◌, ◌≢◌, ◌⊎◌, ⊎_elim, ℕ, ◌+◌, ◌-◌, ◌<◌, ◌≤◌, List, length, get_or, sym, ap, ◌∙◌, subst, arith, get_or-set_same, get_or-set_other}
 use Rattle.std.specs.List.{Contains, swap_remove}
 use Rattle.std.proofs.Math.ListN.{set, length-set}
@@ -21,7 +21,7 @@ module _ (xs : List ℕ) (at : ℕ) (lt : at < length xs) where
   removed-at : (j : ℕ) → j < length xs - 1 → get_or (swap_remove xs at 0) j 0 ≡ get_or (set xs at (get_or xs (length xs - 1) 0)) j 0
   removed-at j less = get_or-take (length xs - 1) (set xs at (get_or xs (length xs - 1) 0)) j 0 less
 
-  -- each that stands elsewhere still stands, and not before
+  -- an element behind the place is still there, at the place or behind it
   pub removed-kept : (j i : ℕ) → at ≤ j → j ≢ at → j < length xs → get_or xs j 0 ≡ i → (k : ℕ) × (at ≤ k) × (k < length (swap_remove xs at 0)) × (get_or (swap_remove xs at 0) k 0 ≡ i)
   removed-kept j i le ne less is =
       let size = removed-length in
@@ -34,7 +34,7 @@ module _ (xs : List ℕ) (at : ℕ) (lt : at < length xs) where
       (j, le, omega arith, removed-at j low ∙ get_or-set_other xs at j (get_or xs (length xs - 1) 0) 0 ne ∙ is))
       (cases_eq j (length xs - 1))
 
-  -- each that stands anywhere but there still stands
+  -- each element but the one taken out is still in the list
   pub removed-has : (i : ℕ) → Contains xs i → i ≢ get_or xs at 0 → Contains (swap_remove xs at 0) i
   removed-has i (j, less, is) ne =
       let size = removed-length in
@@ -49,7 +49,7 @@ module _ (xs : List ℕ) (at : ℕ) (lt : at < length xs) where
       stands (swap_remove xs at 0) j i (omega arith) (removed-at j low ∙ get_or-set_other xs at j (get_or xs (length xs - 1) 0) 0 apart ∙ same))
       (cases_eq j (length xs - 1))
 
-  -- and nothing else stands
+  -- and there is no new one
   pub removed-only : (i : ℕ) → Contains (swap_remove xs at 0) i → Contains xs i
   removed-only i (j, less, is) =
       let size = removed-length in

@@ -1,4 +1,4 @@
--- What a change of what clauses watch keeps.
+-- A change of watched literals keeps clauses listed.
 use Rattle.std.proofs.Common.{◌≡◌, ◌≢◌, ◌⊎◌, inl, inr, ⊎_elim, ℕ, ◌+◌, ◌-◌, ◌<◌, ◌≤◌, List, [], ◌∷◌, ◌++◌, length, refl, sym, ap, ◌∙◌, subst, arith, get_or-set_same, get_or-set_other, Option, Some, None, replicate}
 use Rattle.std.specs.List.{Contains, swap_remove}
 use Rattle.std.proofs.Math.ListN.{set, get_or-append, get_or-eq_default}

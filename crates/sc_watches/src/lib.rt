@@ -1,5 +1,5 @@
-//! Two-watched-literal lists: which two literals of each clause are watched, and, for each literal, the clauses that watch
-//! it. They tell nothing of what is true: a clause that watches two literals is looked at where one of them becomes false.
+//! The two watched literals of each clause, and for each literal the clauses that watch it. Nothing here knows which
+//! literals are true: a clause is to be looked at where one of its watched literals becomes false.
 #![tactic(auto)]
 
 mod lists;

@@ -1,4 +1,5 @@
-//! Lists of places by literals, so that a literal that becomes true leads to the clauses that watch its negation.
+//! A list of clauses for each literal, so that a literal which becomes true leads to the clauses that watch its
+//! negation.
 ghost use Rattle.std.specs.Prelude.{◌≡◌, ◌<◌, ◌++◌, [], ◌∷◌, Bool, length, replicate, slice_get, slice_set, slice_index_or, IfOk};
 ghost use Rattle.std.specs.List.{swap_remove};
 ghost use Rattle.sc_watches.specs.Lists.{AreEmpty, IsListSet, lists_of, places_of};
@@ -7,16 +8,16 @@ use crate::places::Places;
 use sc_clauses::Lit;
 use std::alloc::{AllocError, Global};
 
-/// Places of clauses, for each literal.
+/// The places of clauses, for each literal.
 #[derive(Drop)]
 pub struct Lists {
-    /// Those of the atoms, by their numbers.
+    /// The lists of the atoms, by their numbers.
     pub atoms: Vec<Places>,
-    /// Those of the atoms' negations, by the atoms' numbers.
+    /// The lists of the atoms' negations, by the atoms' numbers.
     pub negations: Vec<Places>,
 }
 
-/// As many empty lists.
+/// This many empty lists.
 fn empty_lists(alloc: Global, count: usize) -> Result<Vec<Places>, AllocError>
     ensures { IfOk result (λ v. v.items ≡ replicate count []) }
 {
@@ -27,7 +28,7 @@ fn empty_lists(alloc: Global, count: usize) -> Result<Vec<Places>, AllocError>
     Ok(lists)
 }
 
-/// Puts a place at the end of one of the lists.
+/// Appends a place to one of the lists.
 fn list_at(lists: &mut Vec<Places>, atom: usize, place: usize) -> Result<(), AllocError>
     requires { atom < length lists.old.items }
     ensures { IfOk result (λ _. lists.new.items
@@ -37,7 +38,7 @@ fn list_at(lists: &mut Vec<Places>, atom: usize, place: usize) -> Result<(), All
     Ok(())
 }
 
-/// Takes what stands somewhere out of one of the lists.
+/// Takes the element at a place out of one of the lists.
 fn unlist_at(lists: &mut Vec<Places>, atom: usize, at: usize)
     requires atom { atom < length lists.old.items }
     requires at { at < length (slice_index_or lists.old.items atom []) }
@@ -48,7 +49,7 @@ fn unlist_at(lists: &mut Vec<Places>, atom: usize, at: usize)
 }
 
 impl Lists {
-    /// Empty lists.
+    /// An empty list for each literal of this many atoms, atom 0 included.
     pub fn new(alloc: Global, cells: usize) -> Result<Lists, AllocError>
         ensures { IfOk result (λ o. AreEmpty cells o) }
     {
@@ -58,7 +59,7 @@ impl Lists {
         })
     }
 
-    /// The places that are listed for a literal.
+    /// The list of a literal.
     pub fn places_of(&self, lit: Lit) -> &[usize]
         requires { (sign : Bool) → lit.atom < length (lists_of self.now sign) }
         ensures { result.now ≡ places_of self.now lit }
@@ -69,7 +70,7 @@ impl Lists {
         self.atoms[lit.atom as usize].as_slice()
     }
 
-    /// What stands somewhere in the list of a literal.
+    /// The element at a place of a literal's list.
     pub fn place_at(&self, lit: Lit, at: usize) -> Option<usize>
         requires { (sign : Bool) → lit.atom < length (lists_of self.now sign) }
         ensures { result ≡ slice_get (places_of self.now lit) at }
@@ -80,7 +81,7 @@ impl Lists {
         self.atoms[lit.atom as usize].at(at)
     }
 
-    /// Lists a place for a literal.
+    /// Appends a place to a literal's list.
     pub fn list(&mut self, lit: Lit, place: usize) -> Result<(), AllocError>
         requires { (sign : Bool) → lit.atom < length (lists_of self.old sign) }
         ensures { IfOk result (λ _. IsListSet lit (places_of self.old lit ++ place ∷ []) self.old self.new) }
@@ -91,7 +92,7 @@ impl Lists {
         list_at(&mut self.atoms, lit.atom as usize, place)
     }
 
-    /// Takes what stands somewhere out of the list of a literal.
+    /// Takes the element at a place out of a literal's list.
     pub fn unlist(&mut self, lit: Lit, at: usize)
         requires atom { (sign : Bool) → lit.atom < length (lists_of self.old sign) }
         requires at { at < length (places_of self.old lit) }

@@ -1,4 +1,4 @@
-//! Lists of places that grow and shrink.
+//! Lists of places, without an order.
 ghost use Rattle.std.specs.Prelude.{◌≡◌, ◌<◌, ◌++◌, [], ◌∷◌, length, slice_get, IfOk};
 ghost use Rattle.std.specs.List.{swap_remove};
 
@@ -20,7 +20,7 @@ impl Model for Places {
 }
 
 impl Places {
-    /// No place.
+    /// The empty list.
     pub fn new(alloc: Global) -> Places
         ensures { result ≡ [] }
     {
@@ -36,7 +36,7 @@ impl Places {
         self.items.as_slice()
     }
 
-    /// What stands somewhere, counted from 0.
+    /// The element at a place of the list, counted from 0.
     pub fn at(&self, at: usize) -> Option<usize>
         ensures { result ≡ slice_get self.now at }
     {
@@ -46,7 +46,7 @@ impl Places {
         }
     }
 
-    /// Puts a place at the end.
+    /// Appends a place.
     pub fn push(&mut self, place: usize) -> Result<(), AllocError>
         ensures { IfOk result (λ _. self.new ≡ self.old ++ place ∷ []) }
     {
@@ -54,7 +54,7 @@ impl Places {
         Ok(())
     }
 
-    /// Takes out what stands somewhere, and puts the last place there.
+    /// Takes the element at a place out, and moves the last one there.
     pub fn remove(&mut self, at: usize)
         requires { at < length self.old }
         ensures { self.new ≡ swap_remove self.old at 0 }

@@ -1,4 +1,5 @@
-//! Which two literals of each clause are watched: while neither is false, or a literal is true, the clause gives nothing.
+//! The watched literals of each clause: while neither of the two is false, or a literal of the clause is true, the
+//! clause implies nothing.
 ghost use Rattle.std.specs.Prelude.{◌≡◌, ◌↔◌, ◌<◌, Bool, length, replicate, slice_index_or, slice_set, None, Some, IfOk, IsTrue};
 ghost use Rattle.sc_clauses.specs.declared.lit.Lit.{Lit};
 ghost use Rattle.sc_watches.specs.Lists.{lists_of, places_of};
@@ -15,16 +16,17 @@ pub struct Watch {
     pub second: Lit,
 }
 
-/// What is watched.
+/// The watched literals of all clauses, and the clauses by them.
 #[derive(Drop)]
 pub struct Watches {
-    /// The two literals of each clause, by its place; none of one that wasn't visited, or has one literal only.
+    /// The two watched literals of each clause, by its place; none of a clause that wasn't visited, or has one
+    /// literal only.
     pub pairs: Vec<Option<Watch>>,
-    /// The places of the clauses that watch a literal, and of others that did.
+    /// For each literal the clauses that watch it, and some that did.
     pub lists: Lists,
 }
 
-/// Whether a literal is one of two.
+/// Whether a literal is one of the two.
 fn is_of(watch: Watch, lit: Lit) -> bool
     ensures { IsTrue result ↔ IsWatched (Some watch) lit }
 {
@@ -34,7 +36,7 @@ fn is_of(watch: Watch, lit: Lit) -> bool
     lit == watch.second
 }
 
-/// As many times nothing.
+/// This many clauses that watch nothing.
 fn no_pairs(alloc: Global, count: usize) -> Result<Vec<Option<Watch>>, AllocError>
     ensures { IfOk result (λ v. v.items ≡ replicate count None) }
 {
@@ -45,7 +47,7 @@ fn no_pairs(alloc: Global, count: usize) -> Result<Vec<Option<Watch>>, AllocErro
     Ok(pairs)
 }
 
-/// Puts two literals at a place.
+/// Sets the watched literals of the clause at a place.
 fn set_pair(pairs: &mut Vec<Option<Watch>>, place: usize, watch: Watch)
     requires { place < length pairs.old.items }
     ensures { pairs.new.items ≡ slice_set pairs.old.items place (Some watch) }
@@ -54,7 +56,7 @@ fn set_pair(pairs: &mut Vec<Option<Watch>>, place: usize, watch: Watch)
 }
 
 impl Watches {
-    /// Nothing is watched of as many clauses.
+    /// This many clauses that watch nothing, over this many atoms.
     pub fn new(alloc: Global, cells: usize, count: usize) -> Result<Watches, AllocError>
         ensures { IfOk result (λ w. AreUnset cells count w) }
     {
@@ -64,7 +66,7 @@ impl Watches {
         })
     }
 
-    /// The two literals of the clause at a place.
+    /// The watched literals of the clause at a place.
     pub fn pair(&self, place: usize) -> Option<Watch>
         ensures { result ≡ watch_of self.now place }
     {
@@ -84,7 +86,7 @@ impl Watches {
         }
     }
 
-    /// Lists the clause at a place for a literal, unless it watches that, and so is listed.
+    /// Lists the clause at a place for a literal, unless it watches that literal and so is listed.
     fn list(&mut self, place: usize, lit: Lit) -> Result<(), AllocError>
         requires { (sign : Bool) → lit.atom < length (lists_of self.old.lists sign) }
         ensures pairs { IfOk result (λ _. self.new.pairs ≡ self.old.pairs) }
@@ -97,7 +99,7 @@ impl Watches {
         Ok(())
     }
 
-    /// Lets the clause at a place watch these two.
+    /// Lets the clause at a place watch these two literals.
     pub fn watch(&mut self, place: usize, watch: Watch) -> Result<(), AllocError>
         requires within { place < length self.old.pairs.items }
         requires first { (sign : Bool) → watch.first.atom < length (lists_of self.old.lists sign) }
@@ -110,7 +112,7 @@ impl Watches {
         Ok(())
     }
 
-    /// Adds a clause at the end, which watches these.
+    /// Appends a clause that watches these two literals, or nothing.
     pub fn add(&mut self, pair: Option<Watch>) -> Result<(), AllocError>
         requires { (l : Lit) (sign : Bool) → IsWatched pair l → l.atom < length (lists_of self.old.lists sign) }
         ensures { IfOk result (λ _. IsAdded pair self.old self.new) }
@@ -123,7 +125,7 @@ impl Watches {
         }
     }
 
-    /// What stands at a place of the list of a literal, if the list is so long.
+    /// The element at a place of a literal's list; none behind the list's end.
     pub fn place_at(&self, lit: Lit, at: usize) -> Option<usize>
         requires { (sign : Bool) → lit.atom < length (lists_of self.now.lists sign) }
         ensures { IsPlaceAt (places_of self.now.lists lit) at result }
@@ -131,15 +133,15 @@ impl Watches {
         self.lists.place_at(lit, at)
     }
 
-    /// Takes the clause at a place, which stands somewhere in the list of a literal, out of that if it no longer watches
-    /// the literal. Where to go on in the list.
+    /// Takes a clause, which stands at a place of a literal's list, out of the list if it doesn't watch the literal.
+    /// The answer is the place at which to go on in the list.
     pub fn sift(&mut self, lit: Lit, at: usize, place: usize) -> usize
         requires atom { (sign : Bool) → lit.atom < length (lists_of self.old.lists sign) }
         requires at { at < length (places_of self.old.lists lit) }
         requires place { slice_index_or (places_of self.old.lists lit) at 0 ≡ place }
         ensures { IsSifted lit at self.old self.new result }
     {
-        // The list is no longer than a `usize` tells.
+        // The list's length is a `usize`.
         let _count = self.lists.places_of(lit).len();
         if self.is_watched(place, lit) {
             return at + 1;
