@@ -1,5 +1,5 @@
 -- What an instance says at closed terms that are given by their numbers.
-use Rattle.std.proofs.Common.{◌≡◌, ◌<◌, ◌++◌, ℕ, true, List, [], ◌∷◌, Option, Some, None, IsSomeAnd, refl, sym, ap, ◌∙◌, subst}
+use Rattle.std.proofs.Common.{◌≡◌, ◌<◌, ◌++◌, ℕ, true, List, [], ◌∷◌, Option, Some, None, IsSomeAnd, sym, ap, ◌∙◌, subst}
 use Rattle.sc_clauses.specs.declared.lit.Lit.{Lit}
 use Rattle.sc_clauses.specs.Clauses.{positive}
 use Rattle.sc_footprint.specs.Problems.{Posed, term_of}
@@ -10,7 +10,7 @@ use Rattle.sc_instances.specs.Instances.{entity_said}
 use Rattle.sc_instances.specs.declared.given.Closed.{Closed}
 use Rattle.sc_instances.specs.declared.rule.EntityRule.TheVariants.{En1, En3}
 use Rattle.sc_instances.specs.Saying.{count_of, literal_of}
-use Rattle.sc_rules.specs.Entities.{en1, en1_of, en3, en3_of}
+use Rattle.sc_rules.specs.Entities.{en1, en3}
 use Rattle.sc_rules.specs.Places.{half, under}
 use Rattle.sc_rules.specs.Signed.{Signed, Said}
 use Rattle.sc_entity_rows.specs.declared.alike.Alike.{Alike}

@@ -1,23 +1,20 @@
 -- What two terms are places of, as their numbers in the table tell it.
-use Rattle.std.proofs.Common.{◌≡◌, ◌≢◌, ◌<◌, ◌∙◌, ℕ, Bool, true, false, cond, List, [], ◌∷◌, length, Option, Some, None, refl, sym, ap, subst}
+use Rattle.std.proofs.Common.{◌≡◌, ◌<◌, ◌∙◌, ℕ, Bool, true, false, cond, List, [], ◌∷◌, length, Option, Some, None, refl, sym, ap, subst}
 use Rattle.sc_laws.proofs.OptionLaws.{same_some}
-use Rattle.sc_sorts.specs.declared.sort.Sort.{Sort}
 use Rattle.sc_sorts.specs.contracts.sort.SortPartialEq.TheImpl.{ghosts as sorts}
-use Rattle.sc_nodes.specs.declared.node.Leaf.TheVariants.{Literal}
 use Rattle.sc_nodes.specs.declared.node.Node.{Node}
 use Rattle.sc_nodes.specs.declared.node.Node.TheVariants as node
-use Rattle.sc_nodes.specs.declared.node.UnaryOp.{UnaryOp}
 use Rattle.sc_nodes.specs.declared.node.UnaryOp.TheVariants as unary
 use Rattle.sc_nodes.specs.declared.node.BinaryOp.TheVariants as binary
 use Rattle.sc_terms.specs.Trees.{Tree, leaf, one, two, choice, many}
 use Rattle.sc_terms.specs.Tables.{tree, node_tree, PartsAreBelow}
-use Rattle.sc_terms.specs.Folds.{equal_term, literal_of}
+use Rattle.sc_terms.specs.Folds.{literal_of}
 use Rattle.sc_footprint.specs.Problems.{Posed}
 use Rattle.sc_rules.specs.Entities.{en1_of, en3_of}
 use Rattle.sc_rules.specs.Places.{roots, same_step, under}
-use Rattle.sc_rules.specs.Signed.{Signed, Said}
+use Rattle.sc_rules.specs.Signed.{Said}
 use Rattle.sc_entity_rows.specs.Alike.{IsNoLiteral}
-use Rattle.sc_entity_rows.specs.Roots.{AreEntities, AreEntitiesIf, AreRoots, AreTags, AreTagsIf, IsPairIn, attributes_pair, node_step, tag_pairs, pair_on, tags_on, unless_equal}
+use Rattle.sc_entity_rows.specs.Roots.{AreEntitiesIf, AreRoots, AreTagsIf, IsPairIn, attributes_pair, node_step, tag_pairs, pair_on, tags_on, unless_equal}
 use Rattle.sc_entity_rows.specs.declared.places.Pair.{Pair}
 use Rattle.sc_entity_rows.specs.declared.places.TagPairs.{TagPairs}
 

@@ -1,7 +1,6 @@
 //! What terms are places of: the attributes of two entities, or the tags of two entities under two keys.
 ghost use Rattle.std.specs.Prelude.{◌≡◌, ◌<◌, Some, None, length, if◌then◌else◌};
 ghost use Rattle.sc_rules.specs.Places.{same_step};
-ghost use Rattle.sc_terms.specs.Tables.{tree};
 ghost use Rattle.sc_entity_rows.specs.Roots.{AreEntitiesIf, AreRoots, AreTagsIf, attributes_pair, node_step, pair_on, tag_pairs, tags_on};
 
 use sc_footprint::Problem;

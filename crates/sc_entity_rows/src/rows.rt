@@ -1,5 +1,5 @@
 //! What each rule says of closed terms, literal by literal.
-ghost use Rattle.std.specs.Prelude.{◌≡◌, ◌<◌, ◌+◌, ◌^◌, ◌==◌, length, not, Some, None, IsSomeAnd, true, if◌then◌else◌};
+ghost use Rattle.std.specs.Prelude.{◌≡◌, ◌<◌, ◌+◌, ◌^◌, ◌==◌, length, Some, None, IsSomeAnd, true, if◌then◌else◌};
 ghost use Rattle.sc_instances.specs.Saying.{count_of, literal_of};
 ghost use Rattle.sc_footprint.specs.Problems.{literal_in};
 ghost use Rattle.sc_rules.specs.Entities.{en2, en4, en5, en6, en7, en8};
