@@ -20,7 +20,7 @@ use Rattle.sc_footprint.specs.declared.kind.Kind.TheVariants as kind
 use Rattle.sc_footprint.specs.Problems.{Posed, IsPosed, closed_terms, numbered}
 use Rattle.sc_footprint.specs.Shelves.{shelf, is_of_kind, has_key_like, key_of}
 use Rattle.sc_rules.specs.Terms.{above}
-use Rattle.sc_instances.specs.Lookups.{IsClosedFound, IsFoundAmong, IsNumberAmong, is_above}
+use Rattle.sc_instances.specs.Lookups.{IsClosedFound, IsNumberAmong, is_above}
 use Rattle.sc_instances.proofs.LiteralLaws.{not_in_table}
 
 -- ---- the first that passes a test

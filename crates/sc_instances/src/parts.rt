@@ -1,8 +1,8 @@
 //! The terms that rules speak of, by their numbers in the table, found without memory.
-ghost use Rattle.std.specs.Prelude.{◌≡◌, ◌<◌, ◌+◌, Some, length, find, map, option_map, IfSome};
+ghost use Rattle.std.specs.Prelude.{◌≡◌, ◌<◌, ◌+◌, Some, length, find, map, option_map};
 ghost use Rattle.std.specs.List.{AllByRecursion};
 ghost use Rattle.std.specs.Option.{option_copied};
-ghost use Rattle.sc_footprint.specs.Problems.{closed_terms, numbered, term_of};
+ghost use Rattle.sc_footprint.specs.Problems.{closed_terms, numbered};
 ghost use Rattle.sc_terms.specs.Tables.{tree};
 ghost use Rattle.sc_instances.specs.EntityLiterals.{is_entity_literal};
 ghost use Rattle.sc_instances.specs.Lookups.{IsClosedFound, IsFoundAmong, IsMembers, IsNumberAmong, is_above as above_test};
