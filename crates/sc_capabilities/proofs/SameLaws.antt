@@ -2,7 +2,7 @@
 use Rattle.std.proofs.Common.{◌≡◌, ◌&&◌, ℕ, List, [], ◌∷◌, map, Bool, true, false, refl, sym, ap, subst, ◌∙◌, rules}
 use Rattle.std.specs.Cmp.{unsigned_Decides, signed_Decides}
 use Rattle.std.specs.Cmp.Lexicographic.{pointwise, same_text}
-use Rattle.std.proofs.lemmas.Bool.{and_parts}
+use Rattle.std.proofs.lemmas.Bool.{and_parts, false≢true}
 use Rattle.sc_ast.specs.declared.expr.Expr.{Expr, Expr-F, out-Expr, roll-Expr, out-roll-Expr, roll-out-Expr, map-Expr, ind-Expr}
 use Rattle.sc_ast.specs.declared.expr.Expr.TheOpen as e
 use Rattle.sc_ast.specs.declared.expr.TypeName.{TypeName}
@@ -35,9 +35,6 @@ use Rattle.sc_pattern.specs.contracts.part.PartPartialEq.TheImpl.{ghosts as part
 use Rattle.sc_capabilities.proofs.LayerLaws.{texts, alike, told_by_layers}
 use denote.Enum.Bare.{same_true}
 
-never : (Q : Type 0) → false ≡ true → Q
-never Q h = absurd cc
-
 -- ---- what expressions are made of
 
 one_place : (p q : Place) → places.eq p q ≡ true → p ≡ q
@@ -57,8 +54,8 @@ one_text xs ys h = same_text xs ys (sym h)
 
 one_bool : (a b : Bool) → literals.eq (literal.Bool a) (literal.Bool b) ≡ true → a ≡ b
 one_bool true true h = refl
-one_bool true false h = never _ h
-one_bool false true h = never _ h
+one_bool true false h = absurd (false≢true h)
+one_bool false true h = absurd (false≢true h)
 one_bool false false h = refl
 
 one_uid : (u v : Uid) → (texts u.type_name v.type_name && texts u.id v.id) ≡ true → u ≡ v
@@ -73,22 +70,22 @@ one_literal (literal.Bool a) (literal.Bool b) h = ap literal.Bool (one_bool a b 
 one_literal (literal.Long a) (literal.Long b) h = ap literal.Long ((signed_Decides a b).0 h)
 one_literal (literal.String a) (literal.String b) h = ap literal.String (one_text a b h)
 one_literal (literal.Entity a) (literal.Entity b) h = ap literal.Entity (one_uid a b h)
-one_literal (literal.Bool a) _ h = never _ h
-one_literal (literal.Long a) _ h = never _ h
-one_literal (literal.String a) _ h = never _ h
-one_literal (literal.Entity a) _ h = never _ h
+one_literal (literal.Bool a) _ h = absurd (false≢true h)
+one_literal (literal.Long a) _ h = absurd (false≢true h)
+one_literal (literal.String a) _ h = absurd (false≢true h)
+one_literal (literal.Entity a) _ h = absurd (false≢true h)
 
 one_part : (a b : Part) → parts.eq a b ≡ true → a ≡ b
 one_part part.Star part.Star h = refl
-one_part part.Star (part.Char d) h = never _ h
-one_part (part.Char c) part.Star h = never _ h
+one_part part.Star (part.Char d) h = absurd (false≢true h)
+one_part (part.Char c) part.Star h = absurd (false≢true h)
 one_part (part.Char c) (part.Char d) h = ap part.Char ((unsigned_Decides c d).0 h)
 
 -- lists whose elements are one by one the same
 one_list : {X : Type 0} (eq : X → X → Bool) → ((x y : X) → eq x y ≡ true → x ≡ y) → (xs ys : List X) → pointwise eq xs ys ≡ true → xs ≡ ys
 one_list eq one [] [] h = refl
-one_list eq one [] (y ∷ ys) h = never _ h
-one_list eq one (x ∷ xs) [] h = never _ h
+one_list eq one [] (y ∷ ys) h = absurd (false≢true h)
+one_list eq one (x ∷ xs) [] h = absurd (false≢true h)
 one_list eq one (x ∷ xs) (y ∷ ys) h =
     let p = and_parts (eq x y) (pointwise eq xs ys) h in
     let first = one x y p.0 in
@@ -118,8 +115,8 @@ forget = map-Expr Known Expr (λ k. k.0)
 
 one_set : (ks : List Known) (ys : List Expr) → pointwise exprs.eq (map (λ (k : Known). k.0) ks) ys ≡ true → map (λ (k : Known). k.0) ks ≡ ys
 one_set [] [] h = refl
-one_set [] (y ∷ ys) h = never _ h
-one_set (k ∷ ks) [] h = never _ h
+one_set [] (y ∷ ys) h = absurd (false≢true h)
+one_set (k ∷ ks) [] h = absurd (false≢true h)
 one_set (k ∷ ks) (y ∷ ys) h =
     let p = and_parts (exprs.eq k.0 y) (pointwise exprs.eq (map (λ (k : Known). k.0) ks) ys) h in
     let first : k.0 ≡ y = k.1 y p.0 in
@@ -134,8 +131,8 @@ same_field f g = texts f.0 g.0 && exprs.eq f.1 g.1
 
 one_record : (ks : List (List ℕ × Known)) (ys : List (List ℕ × Expr)) → pointwise same_field (fields ks) ys ≡ true → fields ks ≡ ys
 one_record [] [] h = refl
-one_record [] (y ∷ ys) h = never _ h
-one_record (k ∷ ks) [] h = never _ h
+one_record [] (y ∷ ys) h = absurd (false≢true h)
+one_record (k ∷ ks) [] h = absurd (false≢true h)
 one_record (k ∷ ks) (y ∷ ys) h =
     let p = and_parts (same_field (k.0, k.1.0) y) (pointwise same_field (fields ks) ys) h in
     let q = and_parts (texts k.0 y.0) (exprs.eq k.1.0 y.1) p.0 in
@@ -243,20 +240,20 @@ row (e.Record p ks) (e.Record q ys) h =
     let place = one_place p q s.0 in
     let inside = one_record ks ys s.1 in
     λ i. e.Record (place i) (inside i)
-row (e.If p c a b) _ h = never _ h
-row (e.Or p a b) _ h = never _ h
-row (e.And p a b) _ h = never _ h
-row (e.Binary p o a b) _ h = never _ h
-row (e.Has p a ns) _ h = never _ h
-row (e.Like p a ps) _ h = never _ h
-row (e.Is p a m) _ h = never _ h
-row (e.IsIn p a m k b) _ h = never _ h
-row (e.Unary p o a) _ h = never _ h
-row (e.Access p a m) _ h = never _ h
-row (e.Literal p l) _ h = never _ h
-row (e.Variable p x) _ h = never _ h
-row (e.Set p ks) _ h = never _ h
-row (e.Record p ks) _ h = never _ h
+row (e.If p c a b) _ h = absurd (false≢true h)
+row (e.Or p a b) _ h = absurd (false≢true h)
+row (e.And p a b) _ h = absurd (false≢true h)
+row (e.Binary p o a b) _ h = absurd (false≢true h)
+row (e.Has p a ns) _ h = absurd (false≢true h)
+row (e.Like p a ps) _ h = absurd (false≢true h)
+row (e.Is p a m) _ h = absurd (false≢true h)
+row (e.IsIn p a m k b) _ h = absurd (false≢true h)
+row (e.Unary p o a) _ h = absurd (false≢true h)
+row (e.Access p a m) _ h = absurd (false≢true h)
+row (e.Literal p l) _ h = absurd (false≢true h)
+row (e.Variable p x) _ h = absurd (false≢true h)
+row (e.Set p ks) _ h = absurd (false≢true h)
+row (e.Record p ks) _ h = absurd (false≢true h)
 
 by_row : (x : Expr-F Known) (a b : Expr) → out-Expr a ≡ forget x → exprs.eq a b ≡ true → forget x ≡ out-Expr b
 by_row x a b at h = row x (out-Expr b) (ap (λ (z : Expr-F Expr). alike z (out-Expr b)) (sym at) ∙ sym (told_by_layers a b) ∙ h)
@@ -271,8 +268,8 @@ same_expr = ind-Expr IsOne (λ x y at. subst (λ z. IsOne (roll-Expr z)) at (inn
 
 one_key : (k l : Key) → keys.eq k l ≡ true → k ≡ l
 one_key (Attribute a) (Attribute b) h = ap Attribute (one_text a b h)
-one_key (Attribute a) (Tag y) h = never _ h
-one_key (Tag x) (Attribute b) h = never _ h
+one_key (Attribute a) (Tag y) h = absurd (false≢true h)
+one_key (Tag x) (Attribute b) h = absurd (false≢true h)
 one_key (Tag x) (Tag y) h = ap Tag (same_expr x y h)
 
 pub same_is : (c d : Capability) → same c d ≡ true → c ≡ d

@@ -1,5 +1,6 @@
 -- Equations of literals of two values.
 use Rattle.std.proofs.Common.{◌≡◌, ◌⊎◌, inl, inr, ⊎_elim, ℕ, ◌+◌, ◌<◌, ◌≤◌, Bool, true, false, not, ◌&&◌, ◌||◌, List, [], ◌∷◌, ◌++◌, flat_map, take, get_or, length, Option, Some, None, refl, sym, ap, ◌∙◌, subst, append-nil}
+use Rattle.std.proofs.lemmas.Bool.{false≢true}
 use Rattle.std.proofs.lemmas.Grind.{flat_map-append}
 use Rattle.std.proofs.lemmas.List.{take_more, take_all}
 use Rattle.std.specs.List.{AllByRecursion, list_any}
@@ -23,12 +24,9 @@ use Rattle.sc_closure.specs.declared.roles.Meeting.TheVariants.{Equation}
 use Rattle.sc_closure.specs.Following.{truth_value, value_in, apart, apart_from, told_of, met_terms, met_in, met_among, IsGroupWithin, IsDivided, Equates}
 use Rattle.sc_closure.proofs.GroupLaws.{group_at, in_stays}
 
-never : (Q : Type 0) → false ≡ true → Q
-never Q h = absurd cc
-
 -- a literal that is no truth value has none
 no_constant : (t : Tree) (l : AnyLiteral) → literal_of t ≡ Some l → truth_value l ≡ false → constant t ≡ None
-no_constant (leaf (Literal (literal.Bool b))) l e h = let f : literal.Bool b ≡ l = cc in never _ (sym h ∙ sym (ap truth_value f))
+no_constant (leaf (Literal (literal.Bool b))) l e h = let f : literal.Bool b ≡ l = cc in absurd (false≢true (sym h ∙ sym (ap truth_value f)))
 no_constant (leaf (Literal _)) l e h = refl
 no_constant _ l e h = absurd cc
 
@@ -38,15 +36,15 @@ falls a b e f g h = rw (e, f, g, h) refl
 
 -- the equation of two literals of two values is `false`
 apart_falls : (a b : Tree) (one : Bool) (o p : Option AnyLiteral) → tree_eq a b ≡ one → literal_of a ≡ o → literal_of b ≡ p → apart one o p ≡ true → equal_term a b ≡ truth_term false
-apart_falls a b true o p e f g h = never _ h
-apart_falls a b false None p e f g h = never _ h
-apart_falls a b false (Some l) None e f g h = never _ h
+apart_falls a b true o p e f g h = absurd (false≢true h)
+apart_falls a b false None p e f g h = absurd (false≢true h)
+apart_falls a b false (Some l) None e f g h = absurd (false≢true h)
 apart_falls a b false (Some l) (Some m) e f g h = by (truth_value l) (truth_value m) (same_entity l m) refl refl refl h
   where
     by : (x y z : Bool) → truth_value l ≡ x → truth_value m ≡ y → same_entity l m ≡ z → (not x && (not y && not z)) ≡ true → equal_term a b ≡ truth_term false
-    by true y z i j k n = never _ n
-    by false true z i j k n = never _ n
-    by false false true i j k n = never _ n
+    by true y z i j k n = absurd (false≢true n)
+    by false true z i j k n = absurd (false≢true n)
+    by false false true i j k n = absurd (false≢true n)
     by false false false i j k n = falls a b (no_constant a l f i) (no_constant b m g j) e (ap (λ u. literals_same u (literal_of b)) f ∙ ap (literals_same (Some l)) g ∙ ap Some k)
 
 -- so the number of `false` stands for it
@@ -63,16 +61,16 @@ holds a b e f g h = rw (e, f, g, h) refl
 
 -- the equation of two values that aren't apart is `true`
 together_holds : (a b : Tree) (one : Bool) (o p : Option AnyLiteral) → tree_eq a b ≡ one → literal_of a ≡ o → literal_of b ≡ p → value_in o ≡ true → value_in p ≡ true → apart one o p ≡ false → equal_term a b ≡ truth_term true
-together_holds a b one None p e f g v w h = never _ v
-together_holds a b one (Some l) None e f g v w h = never _ w
+together_holds a b one None p e f g v w h = absurd (false≢true v)
+together_holds a b one (Some l) None e f g v w h = absurd (false≢true w)
 together_holds a b one (Some l) (Some m) e f g v w h = by one (truth_value l) (truth_value m) (same_entity l m) e refl refl refl v w h
   where
     by : (s x y z : Bool) → tree_eq a b ≡ s → truth_value l ≡ x → truth_value m ≡ y → same_entity l m ≡ z → not x ≡ true → not y ≡ true → apart s (Some l) (Some m) ≡ false → equal_term a b ≡ truth_term true
-    by s true y z i j k n v w h = never _ v
-    by s false true z i j k n v w h = never _ w
+    by s true y z i j k n v w h = absurd (false≢true v)
+    by s false true z i j k n v w h = absurd (false≢true w)
     by true false false z i j k n v w h = always a b (no_constant a l f j) (no_constant b m g k) i
     by false false false true i j k n v w h = holds a b (no_constant a l f j) (no_constant b m g k) i (ap (λ u. literals_same u (literal_of b)) f ∙ ap (literals_same (Some l)) g ∙ ap Some n)
-    by false false false false i j k n v w h = never _ (sym h ∙ ap (λ u. not u && (not (truth_value m) && not (same_entity l m))) j ∙ ap (λ u. not u && not (same_entity l m)) k ∙ ap not n)
+    by false false false false i j k n v w h = absurd (false≢true (sym h ∙ ap (λ u. not u && (not (truth_value m) && not (same_entity l m))) j ∙ ap (λ u. not u && not (same_entity l m)) k ∙ ap not n))
 
 -- so it is that of the second with itself
 pub together : (a b : Tree) → value_in (literal_of a) ≡ true → value_in (literal_of b) ≡ true → apart (tree_eq a b) (literal_of a) (literal_of b) ≡ false → equal_term b b ≡ equal_term a b
@@ -102,7 +100,7 @@ told_own false x = inl refl
 
 told_false : (b : Bool) (x : Tree) → b ≡ true → Has (told_of b x) (truth_term false)
 told_false true x e = inr (inl refl)
-told_false false x e = never _ e
+told_false false x e = absurd (false≢true e)
 
 told_only : (b : Bool) (x z : Tree) → Has (told_of b x) z → (equal_term x x ≡ z) ⊎ ((b ≡ true) × (truth_term false ≡ z))
 told_only true x z (inl e) = inl e
@@ -112,7 +110,7 @@ told_only false x z (inl e) = inl e
 told_only false x z (inr h) = absurd h
 
 any_has : (p : ℕ → Bool) (ns : List ℕ) → list_any p ns ≡ true → (n : ℕ) × Has ns n × (p n ≡ true)
-any_has p [] h = never _ h
+any_has p [] h = absurd (false≢true h)
 any_has p (m ∷ ms) h = by (p m) refl (any_has p ms)
   where
     by : (b : Bool) → p m ≡ b → (list_any p ms ≡ true → (n : ℕ) × Has ms n × (p n ≡ true)) → (n : ℕ) × Has (m ∷ ms) n × (p n ≡ true)
