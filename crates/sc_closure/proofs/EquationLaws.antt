@@ -1,6 +1,6 @@
 -- Equations of literals of two values.
 use Rattle.std.proofs.Common.{◌≡◌, ◌⊎◌, inl, inr, ⊎_elim, ℕ, ◌+◌, ◌<◌, ◌≤◌, Bool, true, false, not, ◌&&◌, ◌||◌, List, [], ◌∷◌, ◌++◌, flat_map, take, get_or, length, Option, Some, None, refl, sym, ap, ◌∙◌, subst, append-nil}
-use Rattle.std.proofs.lemmas.Bool.{false≢true}
+use Rattle.std.proofs.lemmas.Bool.{false≢true, or_right}
 use Rattle.std.proofs.lemmas.Grind.{flat_map-append}
 use Rattle.std.proofs.lemmas.List.{take_more, take_all}
 use Rattle.std.specs.List.{AllByRecursion, list_any}
@@ -117,14 +117,10 @@ any_has p (m ∷ ms) h = by (p m) refl (any_has p ms)
     by true e later = (m, inl refl, e)
     by false e later = let q = later (sym (ap (λ u. u || list_any p ms) e) ∙ h) in (q.0, inr q.1, q.2)
 
-or_true : (b c : Bool) → c ≡ true → (b || c) ≡ true
-or_true true c e = refl
-or_true false c e = e
-
 has_any : (p : ℕ → Bool) (ns : List ℕ) (n : ℕ) → Has ns n → p n ≡ true → list_any p ns ≡ true
 has_any p [] n h e = absurd h
 has_any p (m ∷ ms) n (inl f) e = ap (λ u. u || list_any p ms) (ap p f ∙ e)
-has_any p (m ∷ ms) n (inr h) e = or_true (p m) (list_any p ms) (has_any p ms n h e)
+has_any p (m ∷ ms) n (inr h) e = or_right (p m) (list_any p ms) (has_any p ms n h e)
 
 module _ (xs : List Node) (g : Group) (x : Tree) (divided : IsDivided xs g) (value : value_in (literal_of x) ≡ true) where
   abbrev met : List ℕ → List Tree

@@ -11,7 +11,3 @@ any_by p x xs false e h later = let there = later h in (there.0, contains_rest x
 pub any_found : {X : Type 0} (p : X → Bool) (xs : List X) → list_any p xs ≡ true → (x : X) × Contains xs x × (p x ≡ true)
 any_found p [] h = absurd cc
 any_found p (x ∷ xs) h = any_by p x xs (p x) refl h (any_found p xs)
-
-or_late : (a b : Bool) → b ≡ true → (a || b) ≡ true
-or_late true b h = refl
-or_late false b h = h
