@@ -1,7 +1,7 @@
 -- The JSON of a value nests at most one level deeper than the types of the value do, since an entity and the value of a
 -- function, whose types have one level, are objects in objects.
 use Rattle.std.proofs.Common.{◌≡◌, ◌≤◌, ◌+◌, ℕ, List, [], ◌∷◌, map, Bool, true, false, Some, bytes_eq, ◌||◌, IsTrue, refl, sym, ap, ◌∙◌, subst, arith}
-use Rattle.std.proofs.lemmas.Bool.{and_parts}
+use Rattle.std.proofs.lemmas.Bool.{and_parts, false≢true}
 use Rattle.std.proofs.lemmas.Slice.Eq.{bytes_eq-Decides}
 use Rattle.std.specs.List.{AllByRecursion, list_all}
 use Rattle.serde_json.specs.Data.{depth, items_depth, members_depth}
@@ -21,7 +21,7 @@ use Rattle.sc_world.proofs.DeclaredLaws.{Gets, gets_itself}
 use Rattle.sc_world_json.specs.Text.{value_data, fields_data}
 use Rattle.sc_world_json.proofs.ProperLaws.{proper_members, proper_fields, ascending_fields}
 use Rattle.sc_world_json.proofs.TextLaws.{Field}
-use Rattle.sc_world_json.proofs.TypedLaws.{layer_data, data_at, fails, AllPass, is_declared}
+use Rattle.sc_world_json.proofs.TypedLaws.{layer_data, data_at, AllPass, is_declared}
 use Rattle.sc_world.proofs.ConformsLaws.{truth_is_bool}
 
 -- proper values that pass the test nest at most so deep
@@ -40,30 +40,30 @@ from_layers test n layers x p h =
 
 bool-nests : LayersNest is_bool 2
 bool-nests (v.Bool c) p h = omega arith
-bool-nests _ p h = absurd (fails h)
+bool-nests _ p h = absurd (false≢true h)
 
 truth-nests : (c : Bool) → LayersNest (is_truth c) 2
 truth-nests c a p h = bool-nests a p (truth_is_bool c a h)
 
 long-nests : LayersNest is_long 2
 long-nests (v.Long n) p h = omega arith
-long-nests _ p h = absurd (fails h)
+long-nests _ p h = absurd (false≢true h)
 
 string-nests : LayersNest is_string 2
 string-nests (v.String text) p h = omega arith
-string-nests _ p h = absurd (fails h)
+string-nests _ p h = absurd (false≢true h)
 
 decimal-nests : LayersNest is_decimal 2
 decimal-nests (v.Decimal n) p h = omega arith
-decimal-nests _ p h = absurd (fails h)
+decimal-nests _ p h = absurd (false≢true h)
 
 ip-nests : LayersNest is_ip 2
 ip-nests (v.Ip ip) p h = omega arith
-ip-nests _ p h = absurd (fails h)
+ip-nests _ p h = absurd (false≢true h)
 
 entity-nests : (name : List ℕ) → LayersNest (is_entity_of name) 2
 entity-nests name (v.Entity u) p h = omega arith
-entity-nests name _ p h = absurd (fails h)
+entity-nests name _ p h = absurd (false≢true h)
 
 -- ---- sets
 
@@ -75,7 +75,7 @@ members-nest test n nests (x ∷ xs) p h =
 
 set-nests : (test : Test) (n : ℕ) → Nests test n → LayersNest (is_set_of test) (n + 1)
 set-nests test n nests (v.Set xs) p h = omega (arith, members-nest test n nests xs (proper_members xs (subst IsProper (rolls-Set xs) p)) h)
-set-nests test n nests _ p h = absurd (fails h)
+set-nests test n nests _ p h = absurd (false≢true h)
 
 -- ---- records
 
@@ -124,7 +124,7 @@ record-nests ks (v.Record fs) p h =
     fields-nest ks fs parts.0 fs (gets_itself fs (ascending_fields fs proper)) parts.1 (proper_fields fs proper)
     in
     omega (arith, inside)
-record-nests ks _ p h = absurd (fails h)
+record-nests ks _ p h = absurd (false≢true h)
 
 -- ---- all types
 

@@ -1,8 +1,8 @@
 -- A proper value of a type is determined by its JSON.
-use Rattle.std.proofs.Common.{◌≡◌, ℕ, List, [], ◌∷◌, map, Bool, true, false, true≢false, Some, bytes_eq, ◌||◌, IsTrue, ℤ, pos, negsuc, refl, sym, ap, ◌∙◌, subst}
+use Rattle.std.proofs.Common.{◌≡◌, ℕ, List, [], ◌∷◌, map, Bool, true, false, Some, bytes_eq, ◌||◌, IsTrue, ℤ, pos, negsuc, refl, sym, ap, ◌∙◌, subst}
 use Rattle.std.proofs.lemmas.Slice.Eq.{bytes_eq-Decides}
 use Rattle.std.specs.List.{AllByRecursion, list_all, list_any}
-use Rattle.std.proofs.lemmas.Bool.{and_parts}
+use Rattle.std.proofs.lemmas.Bool.{and_parts, false≢true}
 use Rattle.serde_json.specs.Data.{Data}
 use Rattle.serde_json.specs.Find.{of_integer}
 use Rattle.serde_json.specs.View.{items_of}
@@ -71,48 +71,44 @@ from_layers test layers x y p q h k e =
 
 -- ---- kinds that hold no values
 
--- no layer of another kind passes
-pub fails : IsTrue false → ⊥
-fails is = true≢false (sym is)
-
 bool-same : LayersDetermined is_bool
 bool-same (v.Bool c) (v.Bool d) p q h k e = let s : c ≡ d = cc in ap v.Bool s
-bool-same (v.Bool c) _ p q h k e = absurd (fails k)
-bool-same _ b p q h k e = absurd (fails h)
+bool-same (v.Bool c) _ p q h k e = absurd (false≢true k)
+bool-same _ b p q h k e = absurd (false≢true h)
 
 truth-same : (c : Bool) → LayersDetermined (is_truth c)
 truth-same c a b p q h k e = bool-same a b p q (truth_is_bool c a h) (truth_is_bool c b k) e
 
 long-same : LayersDetermined is_long
 long-same (v.Long m) (v.Long n) p q h k e = let s : of_integer m ≡ of_integer n = cc in ap v.Long (integer-same m n s)
-long-same (v.Long m) _ p q h k e = absurd (fails k)
-long-same _ b p q h k e = absurd (fails h)
+long-same (v.Long m) _ p q h k e = absurd (false≢true k)
+long-same _ b p q h k e = absurd (false≢true h)
 
 string-same : LayersDetermined is_string
 string-same (v.String m) (v.String n) p q h k e = let s : m ≡ n = cc in ap v.String s
-string-same (v.String m) _ p q h k e = absurd (fails k)
-string-same _ b p q h k e = absurd (fails h)
+string-same (v.String m) _ p q h k e = absurd (false≢true k)
+string-same _ b p q h k e = absurd (false≢true h)
 
 decimal-same : LayersDetermined is_decimal
 decimal-same (v.Decimal m) (v.Decimal n) p q h k e =
     let texts : decimal_text m ≡ decimal_text n = cc in
     let reads = λ (z : ℤ) (r : IsProper (roll-Value (v.Decimal z))). text_reads z (held (v.Decimal z) r).0 in
     ap v.Decimal (decimal_only (decimal_text n) m n (subst (λ text. IsDecimalText text m) texts (reads m p)) (reads n q))
-decimal-same (v.Decimal m) _ p q h k e = absurd (fails k)
-decimal-same _ b p q h k e = absurd (fails h)
+decimal-same (v.Decimal m) _ p q h k e = absurd (false≢true k)
+decimal-same _ b p q h k e = absurd (false≢true h)
 
 ip-same : LayersDetermined is_ip
 ip-same (v.Ip m) (v.Ip n) p q h k e =
     let texts : ip_text m ≡ ip_text n = cc in
     let reads = λ (a : Ip) (r : IsProper (roll-Value (v.Ip a))). ip_text_reads a (held (v.Ip a) r).0 in
     ap v.Ip (ip_only (ip_text n) m n (subst (λ text. IsIpText text m) texts (reads m p)) (reads n q))
-ip-same (v.Ip m) _ p q h k e = absurd (fails k)
-ip-same _ b p q h k e = absurd (fails h)
+ip-same (v.Ip m) _ p q h k e = absurd (false≢true k)
+ip-same _ b p q h k e = absurd (false≢true h)
 
 entity-same : (name : List ℕ) → LayersDetermined (is_entity_of name)
 entity-same name (v.Entity u) (v.Entity w) p q h k e = let s : uid_data u ≡ uid_data w = cc in ap v.Entity (uid-same u w s)
-entity-same name (v.Entity u) _ p q h k e = absurd (fails k)
-entity-same name _ b p q h k e = absurd (fails h)
+entity-same name (v.Entity u) _ p q h k e = absurd (false≢true k)
+entity-same name _ b p q h k e = absurd (false≢true h)
 
 -- ---- sets
 
@@ -132,8 +128,8 @@ set-same : (test : Test) → Determined test → LayersDetermined (is_set_of tes
 set-same test d (v.Set xs) (v.Set ys) p q h k e =
     let proper = λ (zs : List Value) (r : IsProper (roll-Value (v.Set zs))). proper_members zs (subst IsProper (rolls-Set zs) r) in
     ap v.Set (members-same test d xs ys (proper xs p) (proper ys q) h k cc)
-set-same test d (v.Set xs) _ p q h k e = absurd (fails k)
-set-same test d _ b p q h k e = absurd (fails h)
+set-same test d (v.Set xs) _ p q h k e = absurd (false≢true k)
+set-same test d _ b p q h k e = absurd (false≢true h)
 
 -- ---- records
 
@@ -187,8 +183,8 @@ record-same ks (v.Record fs) (v.Record gs) p q h k e =
     let there = and_parts _ _ k in
     ap v.Record (fields-same ks fs gs here.0 there.0 fs gs (gets_itself fs (ascending_fields fs (proper fs p))) (gets_itself gs (ascending_fields gs (proper gs q)))
     here.1 (proper_fields fs (proper fs p)) (proper_fields gs (proper gs q)) cc)
-record-same ks (v.Record fs) _ p q h k e = absurd (fails k)
-record-same ks _ b p q h k e = absurd (fails h)
+record-same ks (v.Record fs) _ p q h k e = absurd (false≢true k)
+record-same ks _ b p q h k e = absurd (false≢true h)
 
 -- ---- all types
 
