@@ -28,10 +28,8 @@ use Rattle.sc_typed.specs.declared.capability.Key.{Key}
 use Rattle.sc_typed.specs.declared.capability.Key.TheVariants.{Attribute, Tag}
 use Rattle.sc_typed.specs.contracts.capability.KeyPartialEq.TheImpl.{ghosts as keys}
 use Rattle.sc_typed.specs.Capabilities.{same}
-use Rattle.sc_pattern.specs.declared.part.Part.{Part}
-use Rattle.sc_pattern.specs.declared.part.Part.TheVariants as part
 use Rattle.sc_pattern.specs.contracts.pattern.PatternPartialEq.TheImpl.{ghosts as patterns}
-use Rattle.sc_pattern.specs.contracts.part.PartPartialEq.TheImpl.{ghosts as parts}
+use Rattle.sc_pattern.proofs.SameLaws.{pattern_same}
 use Rattle.sc_capabilities.proofs.LayerLaws.{texts, alike, told_by_layers}
 use denote.Enum.Bare.{same_true}
 
@@ -75,12 +73,6 @@ one_literal (literal.Long a) _ h = absurd (false≢true h)
 one_literal (literal.String a) _ h = absurd (false≢true h)
 one_literal (literal.Entity a) _ h = absurd (false≢true h)
 
-one_part : (a b : Part) → parts.eq a b ≡ true → a ≡ b
-one_part part.Star part.Star h = refl
-one_part part.Star (part.Char d) h = absurd (false≢true h)
-one_part (part.Char c) part.Star h = absurd (false≢true h)
-one_part (part.Char c) (part.Char d) h = ap part.Char ((unsigned_Decides c d).0 h)
-
 -- lists whose elements are one by one the same
 one_list : {X : Type 0} (eq : X → X → Bool) → ((x y : X) → eq x y ≡ true → x ≡ y) → (xs ys : List X) → pointwise eq xs ys ≡ true → xs ≡ ys
 one_list eq one [] [] h = refl
@@ -91,9 +83,6 @@ one_list eq one (x ∷ xs) (y ∷ ys) h =
     let first = one x y p.0 in
     let rest = one_list eq one xs ys p.1 in
     λ i. first i ∷ rest i
-
-one_pattern : (s t : List Part) → patterns.eq s t ≡ true → s ≡ t
-one_pattern s t h = one_list parts.eq one_part s t h
 
 one_type_name : (s t : TypeName) → type_names.eq s t ≡ true → s ≡ t
 one_type_name s t h =
@@ -186,7 +175,7 @@ row (e.Like p a ps) (e.Like q f qs) h =
     let t = and_parts (exprs.eq a.0 f) (patterns.eq ps qs) s.1 in
     let place = one_place p q s.0 in
     let first : a.0 ≡ f = a.1 f t.0 in
-    let pattern = one_pattern ps qs t.1 in
+    let pattern = pattern_same ps qs t.1 in
     λ i. e.Like (place i) (first i) (pattern i)
 row (e.Is p a m) (e.Is q f n) h =
     let s = and_parts (places.eq p q) (exprs.eq a.0 f && type_names.eq m n) h in

@@ -1,40 +1,16 @@
 -- The patterns of a problem: each that a closed term asks is one of them, and there are no more than closed terms.
 use Rattle.std.proofs.Common.{◌≡◌, ◌≤◌, ◌+◌, ℕ, zero, suc, Bool, true, false, inl, inr, List, [], ◌∷◌, ◌++◌, length, slice_get, Option, Some, None, cond, refl, sym, ap, ◌∙◌, subst, arith}
-use Rattle.std.proofs.lemmas.Bool.{and_parts}
 use Rattle.std.proofs.lemmas.List.{length-append}
-use Rattle.std.specs.Cmp.{unsigned_Decides}
-use Rattle.std.specs.Cmp.Lexicographic.{pointwise}
 use Rattle.std.specs.List.{list_any}
-use Rattle.sc_laws.proofs.BoolLaws.{never}
 use Rattle.sc_lists.proofs.MemberLaws.{Has-left, Has-last, Has-from_Contains}
 use Rattle.sc_lists.specs.Members.{Has}
-use Rattle.sc_pattern.specs.contracts.part.PartPartialEq.TheImpl.{ghosts as parts}
 use Rattle.sc_pattern.specs.contracts.pattern.PatternPartialEq.TheImpl.{ghosts as same}
-use Rattle.sc_pattern.specs.declared.part.Part.{Part}
-use Rattle.sc_pattern.specs.declared.part.Part.TheVariants as part
+use Rattle.sc_pattern.proofs.SameLaws.{pattern_same}
 use Rattle.sc_term_laws.proofs.MemberLaws.{any_found}
 use Rattle.sc_terms.specs.Trees.{Tree}
 use Rattle.sc_footprint.specs.Problems.{Posed, closed_terms}
 use Rattle.sc_rules.specs.Strings.{Pattern, asked_of}
 use Rattle.sc_string_rows.specs.Patterns.{with_new, with_asked, patterns}
-
--- ---- what the comparison of patterns says is one is one
-
-part_same : (a b : Part) → parts.eq a b ≡ true → a ≡ b
-part_same part.Star part.Star h = refl
-part_same part.Star (part.Char d) h = never _ (sym h)
-part_same (part.Char c) part.Star h = never _ (sym h)
-part_same (part.Char c) (part.Char d) h = ap part.Char ((unsigned_Decides c d).0 h)
-
-pub pattern_same : (q r : Pattern) → same.eq q r ≡ true → q ≡ r
-pattern_same [] [] h = refl
-pattern_same [] (b ∷ r) h = never _ (sym h)
-pattern_same (a ∷ q) [] h = never _ (sym h)
-pattern_same (a ∷ q) (b ∷ r) h =
-    let both = and_parts (parts.eq a b) (pointwise parts.eq q r) h in
-    let first = part_same a b both.0 in
-    let rest = pattern_same q r both.1 in
-    λ i. first i ∷ rest i
 
 -- ---- patterns that are asked
 

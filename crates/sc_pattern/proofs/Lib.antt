@@ -1,2 +1,3 @@
 pub mod MatchLaws
+pub mod SameLaws
 pub mod TestLaws
