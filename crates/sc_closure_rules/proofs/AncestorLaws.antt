@@ -13,8 +13,8 @@ use Rattle.sc_terms.specs.Trees.{Tree}
 use Rattle.sc_terms.specs.TreeSorts.{tree_sort}
 use Rattle.sc_terms.specs.Tables.{tree, node_tree, Keeps, StandsFor}
 use Rattle.sc_terms.specs.Folds.{literal_of}
-use Rattle.sc_definitions.specs.Making.{Puts}
-use Rattle.sc_definitions.proofs.MakingLaws.{puts_one, puts_then, puts_same, puts_nothing}
+use Rattle.sc_term_definitions.specs.Making.{Puts}
+use Rattle.sc_term_definitions.proofs.MakingLaws.{puts_one, puts_then, puts_same, puts_nothing}
 use Rattle.sc_closure_rules.specs.Closure.{uid_term, ancestors_of, choices, choices_by, unless_literal, declared_members, declared_ancestors, ancestors_by, beside}
 use Rattle.sc_closure_rules.specs.Beside.{is_literal, own_in, choices_in, members_of_sort, IsAncestorsOf}
 

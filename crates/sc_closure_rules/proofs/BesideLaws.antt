@@ -35,8 +35,8 @@ use Rattle.sc_term_laws.proofs.DefaultMade.{default_made, held_made}
 use Rattle.sc_term_laws.proofs.JudgingLaws.{sort_is}
 use Rattle.sc_term_laws.proofs.SortsLawful.{lawful_action, tags_lawful, type_lawful}
 use Rattle.sc_term_laws.proofs.TestLaws.{at_level}
-use Rattle.sc_definitions.specs.Definitions.{definition, inputs_of, chosen_of, over_leaf}
-use Rattle.sc_definitions.specs.Truths.{InputsAreTerms}
+use Rattle.sc_term_definitions.specs.Definitions.{definition, inputs_of, chosen_of, over_leaf}
+use Rattle.sc_term_definitions.specs.Truths.{InputsAreTerms}
 use Rattle.sc_closure_rules.specs.Closure.{uid_term, branches, equations, ancestors_of, declared_members, declared_ancestors, ancestors_by, beside}
 use Rattle.sc_closure_rules.proofs.PartLaws.{own}
 use Rattle.sc_closure_rules.proofs.MadeLaws.{at, equated, uid_at, field_of}

@@ -12,8 +12,8 @@ use Rattle.sc_terms.specs.Trees.{Tree}
 use Rattle.sc_terms.specs.Folds.{truth_term}
 use Rattle.sc_term_laws.specs.Judging.{IsTerm}
 use Rattle.sc_term_laws.specs.Judging as judged
-use Rattle.sc_definitions.specs.Definitions.{inputs_of}
-use Rattle.sc_definitions.specs.Truths.{InputsAreTerms}
+use Rattle.sc_term_definitions.specs.Definitions.{inputs_of}
+use Rattle.sc_term_definitions.specs.Truths.{InputsAreTerms}
 use Rattle.sc_closure_rules.specs.Closure.{principal_term, resource_term, inside, choices, beside, parts, follow, half, follow_pair, Closed, of_true, of_goal, of_principal, of_resource, next, pair}
 use Rattle.sc_closure_rules.specs.Goals.{IsGoal}
 use Rattle.sc_closure_rules.proofs.BesideLaws.{inputs_made, beside_made}

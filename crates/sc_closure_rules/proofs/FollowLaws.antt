@@ -11,9 +11,9 @@ use Rattle.sc_terms.specs.Trees.{Tree, two}
 use Rattle.sc_terms.proofs.TableLaws.{keeps_itself}
 use Rattle.sc_terms.specs.TreeSorts.{tree_sort}
 use Rattle.sc_terms.specs.Tables.{Places, tree, node_parts, node_tree, AreBelow, PartsAreBelow, Keeps, StandsFor}
-use Rattle.sc_definitions.specs.Definitions.{inputs_of}
-use Rattle.sc_definitions.specs.Making.{Puts, stood}
-use Rattle.sc_definitions.proofs.MakingLaws.{puts_then, puts_same}
+use Rattle.sc_term_definitions.specs.Definitions.{inputs_of}
+use Rattle.sc_term_definitions.specs.Making.{Puts, stood}
+use Rattle.sc_term_definitions.proofs.MakingLaws.{puts_then, puts_same}
 use Rattle.sc_closure_rules.specs.Closure.{branches, inside, choices, beside, parts, trees_in, follow}
 use Rattle.sc_closure_rules.specs.declared.following.Beside.{Beside}
 use Rattle.sc_closure_rules.specs.Beside.{IsBesideOf, rule}

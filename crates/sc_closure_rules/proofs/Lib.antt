@@ -1,5 +1,5 @@
-pub use Rattle.sc_definitions.proofs.MakingLaws
-pub use Rattle.sc_definitions.proofs.MemberLaws
+pub use Rattle.sc_term_definitions.proofs.MakingLaws
+pub use Rattle.sc_term_definitions.proofs.MemberLaws
 pub use Rattle.sc_term_laws.proofs.FitLaws
 pub use Rattle.sc_term_laws.proofs.FitVals
 pub use Rattle.sc_term_laws.proofs.JudgingLaws

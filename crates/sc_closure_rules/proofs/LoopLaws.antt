@@ -7,8 +7,8 @@ use Rattle.std.proofs.lemmas.List.Elements.{filter-append}
 use Rattle.sc_nodes.specs.declared.node.Node.{Node}
 use Rattle.sc_terms.specs.Trees.{Tree}
 use Rattle.sc_terms.specs.Tables.{Keeps, StandsFor}
-use Rattle.sc_definitions.specs.Making.{Puts}
-use Rattle.sc_definitions.proofs.MakingLaws.{puts_one, puts_then, puts_same}
+use Rattle.sc_term_definitions.specs.Making.{Puts}
+use Rattle.sc_term_definitions.proofs.MakingLaws.{puts_one, puts_then, puts_same}
 
 -- ---- a term for each
 

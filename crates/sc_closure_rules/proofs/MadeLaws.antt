@@ -25,7 +25,7 @@ use Rattle.sc_term_laws.proofs.ChoicesLaws.{chosen}
 use Rattle.sc_term_laws.proofs.DefaultMade.{default_made, held_made}
 use Rattle.sc_term_laws.proofs.MadeLaws.{bit_made, equal_made, field_made, present_made}
 use Rattle.sc_term_laws.proofs.TestLaws.{at_level}
-use Rattle.sc_definitions.specs.Definitions.{counted}
+use Rattle.sc_term_definitions.specs.Definitions.{counted}
 use Rattle.sc_closure_rules.specs.Closure.{bit_terms, inside, inside_by, uid_term, choices, choices_by, unless_literal}
 use Rattle.sc_closure_rules.proofs.PartLaws.{own}
 use Rattle.sc_closure_rules.proofs.SortLaws.{found, names_ascend, held_lawful, choices_are}

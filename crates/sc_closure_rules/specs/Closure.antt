@@ -17,7 +17,7 @@ use Rattle.sc_nodes.specs.declared.node.ManyOp.TheVariants as manys
 use Rattle.sc_terms.specs.Trees.{Tree, leaf, one, two, choice, many, Trees, no_part, part}
 use Rattle.sc_terms.specs.TreeSorts.{tree_sort}
 use Rattle.sc_terms.specs.Folds.{truth_term, literal_term, literal_of, equal_term, field_term, present_term, held_term, default_term, bit_term, like_term}
-use Rattle.sc_definitions.specs.Definitions.{counted, bits_in, inputs_of}
+use Rattle.sc_term_definitions.specs.Definitions.{counted, bits_in, inputs_of}
 
 -- ---- the request's entities
 

@@ -9,7 +9,7 @@ ghost use Rattle.sc_nodes.specs.declared.node.BinaryOp.TheVariants as binary;
 ghost use Rattle.sc_terms.specs.Folds.{literal_of};
 ghost use Rattle.sc_terms.specs.Trees.{two};
 ghost use Rattle.sc_terms.specs.Tables.{tree, Keeps, StandsFor};
-ghost use Rattle.sc_definitions.specs.Making.{Puts};
+ghost use Rattle.sc_term_definitions.specs.Making.{Puts};
 ghost use Rattle.sc_closure_rules.specs.Closure as closing;
 ghost use Rattle.sc_closure_rules.specs.Beside.{choices_in, members_of_sort, is_literal as literal_node, own_in, IsAncestorsOf};
 

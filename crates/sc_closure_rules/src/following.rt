@@ -11,17 +11,17 @@ ghost use Rattle.sc_terms.specs.Trees.{one, two};
 ghost use Rattle.sc_terms.specs.TreeSorts.{tree_sort};
 ghost use Rattle.sc_terms.specs.Tables.{tree, node_parts, AreBelow, Keeps, StandsFor};
 ghost use Rattle.sc_terms.specs.Folds.{equal_term, field_term, present_term, held_term, default_term, bit_term};
-ghost use Rattle.sc_definitions.specs.Definitions.{bit_count as count_of};
-ghost use Rattle.sc_definitions.specs.Making.{IsSomeTerm, Puts, stood};
+ghost use Rattle.sc_term_definitions.specs.Definitions.{bit_count as count_of};
+ghost use Rattle.sc_term_definitions.specs.Making.{IsSomeTerm, Puts, stood};
 ghost use Rattle.sc_closure_rules.specs.Closure as closing;
 ghost use Rattle.sc_closure_rules.specs.Beside.{IsBesideOf, rule, held_option, held_terms, equated_by};
 
 use crate::ancestors::{put_ancestors, put_choices};
-use sc_definitions::{bit_count, put_inputs};
 use sc_lists::{Seq, Text};
 use sc_nodes::{BinaryOp, Node, UnaryOp};
 use sc_schema::Schema;
 use sc_sorts::{Sort, try_clone};
+use sc_term_definitions::{bit_count, put_inputs};
 use sc_terms::Terms;
 use std::alloc::{AllocError, Global};
 
@@ -169,7 +169,7 @@ fn is_default(terms: &mut Terms, n: u64, sort: &Sort) -> Result<u64, AllocError>
 }
 
 /// Puts whether an option holds a value, what it holds, and whether that is the default.
-#[tactic(auto, using(sc_definitions::proofs::MakingLaws::puts_three))]
+#[tactic(auto, using(sc_term_definitions::proofs::MakingLaws::puts_three))]
 fn put_option(
     terms: &mut Terms,
     n: u64,
@@ -190,7 +190,7 @@ fn put_option(
 }
 
 /// The number of a bit of a term.
-#[tactic(auto, using(sc_definitions::proofs::PlaceLaws::place_in))]
+#[tactic(auto, using(sc_term_definitions::proofs::PlaceLaws::place_in))]
 fn bit(terms: &mut Terms, n: u64, place: u64) -> Result<u64, AllocError>
     requires within { n < length terms.old }
     requires place { place < count_of (tree_sort (tree terms.old n)) }
@@ -216,7 +216,7 @@ fn put_bits(terms: &mut Terms, n: u64, count: u64, numbers: &mut Vec<u64>) -> Re
 }
 
 /// Puts what tells an option of a sort, if there is one.
-#[tactic(auto, using(sc_definitions::proofs::MakingLaws::puts_nothing))]
+#[tactic(auto, using(sc_term_definitions::proofs::MakingLaws::puts_nothing))]
 fn put_option_if(
     terms: &mut Terms,
     n: u64,
@@ -413,7 +413,7 @@ fn put_equations(
 }
 
 /// Puts the equation of what two options hold.
-#[tactic(auto, using(sc_definitions::proofs::MakingLaws::puts_one))]
+#[tactic(auto, using(sc_term_definitions::proofs::MakingLaws::puts_one))]
 fn put_equal_held(
     terms: &mut Terms,
     a: u64,
@@ -467,7 +467,7 @@ fn is_own_default(alloc: Global, terms: &mut Terms, n: u64) -> Result<u64, Alloc
 }
 
 /// Puts what goes with a tag: the keys, whether its key is one, and whether it is the default.
-#[tactic(auto, using(sc_definitions::proofs::MakingLaws::puts_three))]
+#[tactic(auto, using(sc_term_definitions::proofs::MakingLaws::puts_three))]
 fn put_tag(
     alloc: Global,
     terms: &mut Terms,
@@ -534,7 +534,7 @@ fn rule_at(terms: &Terms, n: u64) -> Beside
 }
 
 /// Puts the member that tells that a set isn't within another.
-#[tactic(auto, using(sc_definitions::proofs::MakingLaws::puts_one))]
+#[tactic(auto, using(sc_term_definitions::proofs::MakingLaws::puts_one))]
 fn put_difference(
     terms: &mut Terms,
     a: u64,
@@ -553,7 +553,7 @@ fn put_difference(
 }
 
 /// Puts the member that tells that two sets have one in common.
-#[tactic(auto, using(sc_definitions::proofs::MakingLaws::puts_one))]
+#[tactic(auto, using(sc_term_definitions::proofs::MakingLaws::puts_one))]
 fn put_intersection(
     terms: &mut Terms,
     a: u64,

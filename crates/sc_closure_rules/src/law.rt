@@ -10,7 +10,7 @@ ghost use Rattle.sc_term_laws.specs.Judging.{IsTermOf};
 ghost use Rattle.sc_closure_rules.specs.Closure.{Closed};
 ghost use Rattle.sc_closure_rules.specs.Goals.{IsGoal};
 
-use sc_definitions::definition_laws;
+use sc_term_definitions::definition_laws;
 
 /// Of a goal of a lawful schema each closed term is a term of its sort.
 pub fn closed_laws()

@@ -8,5 +8,5 @@ mod law;
 
 pub use following::put_following;
 pub use law::closed_laws;
-pub use sc_definitions::{Shape, definition_laws, input_count, shape_at};
+pub use sc_term_definitions::{Shape, definition_laws, input_count, shape_at};
 pub use sc_term_laws::{order_laws, terms_fit};

@@ -12,16 +12,16 @@ use Rattle.sc_terms.specs.Folds.{equal_term}
 use Rattle.sc_terms.specs.Tables.{tree}
 use Rattle.sc_terms.specs.Trees.{Tree}
 use Rattle.sc_footprint.specs.Problems.{Posed, IsPosed, literal_in, numbered, term_of}
-use Rattle.sc_instances.proofs.FalseLaws.{false_known, known_false, false_negation, known_negation, true_isnt_false}
-use Rattle.sc_instances.proofs.KnownLaws.{few_is}
-use Rattle.sc_instances.specs.Clauses.{is_asked}
-use Rattle.sc_instances.specs.declared.rule.EqualRule.TheVariants.{Eq1}
-use Rattle.sc_instances.specs.Instances.{equal_said, on_three}
-use Rattle.sc_instances.specs.Known.{few_items, known, known_equal, is_falsified, named_at, truth_of}
-use Rattle.sc_rules.specs.Equal.{eq1}
-use Rattle.sc_rules.specs.Signed.{so, unless, given}
-use Rattle.sc_rules.specs.Terms.{is_named}
-use Rattle.sc_violated.specs.Truths.{IsIntransitive, NoneIntransitive}
+use Rattle.sc_rule_instances.proofs.FalseLaws.{false_known, known_false, false_negation, known_negation, true_isnt_false}
+use Rattle.sc_rule_instances.proofs.KnownLaws.{few_is}
+use Rattle.sc_rule_instances.specs.Clauses.{is_asked}
+use Rattle.sc_rule_instances.specs.declared.rule.EqualRule.TheVariants.{Eq1}
+use Rattle.sc_rule_instances.specs.Instances.{equal_said, on_three}
+use Rattle.sc_rule_instances.specs.Known.{few_items, known, known_equal, is_falsified, named_at, truth_of}
+use Rattle.sc_rule_laws.specs.Equal.{eq1}
+use Rattle.sc_rule_laws.specs.Signed.{so, unless, given}
+use Rattle.sc_rule_laws.specs.Terms.{is_named}
+use Rattle.sc_falsified.specs.Truths.{IsIntransitive, NoneIntransitive}
 use Rattle.sc_equal_chains.specs.Naming.{IsNamed, AreNamed, IsChainFree}
 
 -- ---- places of lists

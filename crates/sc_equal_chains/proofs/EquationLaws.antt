@@ -21,11 +21,11 @@ use Rattle.sc_terms.specs.Folds.{literal_of, literals_same, literal_term, truth_
 use Rattle.sc_terms.proofs.OrderLaws.{tree_cmp_level, tree_eq-exact}
 use Rattle.sc_footprint.specs.Problems.{Posed, IsPosed, atoms, numbered, atom_number, literal, literal_in}
 use Rattle.sc_footprint.proofs.NumberingLaws.{numbered_back}
-use Rattle.sc_instances.specs.Known.{only_true, seen_value, known}
-use Rattle.sc_instances.proofs.FalseLaws.{known_atom}
-use Rattle.sc_instances.proofs.LiteralLaws.{literal_truth, number_there}
-use Rattle.sc_rules.specs.Terms.{is_named}
-use Rattle.sc_rules.proofs.NamedLaws.{named_plain}
+use Rattle.sc_rule_instances.specs.Known.{only_true, seen_value, known}
+use Rattle.sc_rule_instances.proofs.FalseLaws.{known_atom}
+use Rattle.sc_rule_instances.proofs.LiteralLaws.{literal_truth, number_there}
+use Rattle.sc_rule_laws.specs.Terms.{is_named}
+use Rattle.sc_rule_laws.proofs.NamedLaws.{named_plain}
 use Rattle.sc_equal_chains.specs.Joining.{has_choices}
 
 -- ---- one entity twice

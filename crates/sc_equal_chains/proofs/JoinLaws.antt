@@ -10,9 +10,9 @@ use Rattle.sc_terms.specs.Trees.{Tree, two}
 use Rattle.sc_terms.specs.Tables.{tree, IsTable}
 use Rattle.sc_footprint.specs.Problems.{Posed, IsPosed, atoms, numbered}
 use Rattle.sc_footprint.proofs.NumberingLaws.{within_count}
-use Rattle.sc_instances.proofs.KnownLaws.{truth_turned}
-use Rattle.sc_instances.specs.Known.{few_items, named_at, truth_of}
-use Rattle.sc_violated.specs.Classes.{AreLabels}
+use Rattle.sc_rule_instances.proofs.KnownLaws.{truth_turned}
+use Rattle.sc_rule_instances.specs.Known.{few_items, named_at, truth_of}
+use Rattle.sc_falsified.specs.Classes.{AreLabels}
 use Rattle.sc_equal_chains.specs.Naming.{AreNamed}
 use Rattle.sc_equal_chains.specs.Classes.{IsAlong, IsSame, IsCoarser}
 use Rattle.sc_equal_chains.specs.Equations.{AreSides}

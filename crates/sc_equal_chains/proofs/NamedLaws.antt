@@ -10,7 +10,7 @@ use Rattle.sc_terms.specs.Tables.{tree}
 use Rattle.sc_terms.specs.Trees.{Tree}
 use Rattle.sc_footprint.specs.Problems.{Posed, closed_terms, numbered, term_of}
 use Rattle.sc_footprint.proofs.NumberingLaws.{numbered_map, within_count}
-use Rattle.sc_rules.specs.Terms.{is_named}
+use Rattle.sc_rule_laws.specs.Terms.{is_named}
 use Rattle.sc_equal_chains.specs.Naming.{IsNamed, AreNamed, AreNamedUpTo}
 
 module _ (p : Posed) where

@@ -8,7 +8,7 @@ use Rattle.sc_nodes.specs.declared.node.Literal.TheVariants.{Entity}
 use Rattle.sc_terms.specs.Trees.{Tree, leaf, two}
 use Rattle.sc_terms.specs.Tables.{tree}
 use Rattle.sc_footprint.specs.Problems.{Posed, atoms, numbered}
-use Rattle.sc_instances.specs.Known.{few_items, named_at, truth_of}
+use Rattle.sc_rule_instances.specs.Known.{few_items, named_at, truth_of}
 use Rattle.sc_equal_chains.specs.Classes.{IsSame}
 
 -- the sides of an equation are in one class

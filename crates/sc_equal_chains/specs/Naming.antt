@@ -5,10 +5,10 @@ use Rattle.sc_lists.specs.Members.{Has}
 use Rattle.sc_clauses.specs.Assignments.{Assignment}
 use Rattle.sc_terms.specs.Trees.{Tree}
 use Rattle.sc_footprint.specs.Problems.{Posed, term_of}
-use Rattle.sc_instances.specs.declared.rule.EqualRule.TheVariants.{Eq1}
-use Rattle.sc_instances.specs.Instances.{equal_said}
-use Rattle.sc_instances.specs.Known.{is_falsified}
-use Rattle.sc_rules.specs.Terms.{is_named}
+use Rattle.sc_rule_instances.specs.declared.rule.EqualRule.TheVariants.{Eq1}
+use Rattle.sc_rule_instances.specs.Instances.{equal_said}
+use Rattle.sc_rule_instances.specs.Known.{is_falsified}
+use Rattle.sc_rule_laws.specs.Terms.{is_named}
 
 -- the closed term of a number is a string or an entity
 pub record IsNamed (p : Posed) (n : ℕ) : Type 0 where

@@ -1,15 +1,15 @@
 //! EQ1 by what is known of each two strings and entities.
 ghost use Rattle.std.specs.Prelude.{◌≡◌, ◌<◌, length, get_or, IfOk, IfSome, IfNone, true};
-ghost use Rattle.sc_instances.specs.Instances.{equal_said};
-ghost use Rattle.sc_instances.specs.Known.{is_falsified};
+ghost use Rattle.sc_rule_instances.specs.Instances.{equal_said};
+ghost use Rattle.sc_rule_instances.specs.Known.{is_falsified};
 ghost use Rattle.sc_equal_chains.specs.Naming.{IsChainFree};
 
 use crate::joining::item_labels;
 use crate::named::{Named, named_numbers};
 use sc_clauses::Assignment;
+use sc_falsified::intransitive_among;
 use sc_footprint::Problem;
-use sc_instances::EqualRule;
-use sc_violated::intransitive_among;
+use sc_rule_instances::EqualRule;
 use std::alloc::{AllocError, Global};
 
 /// The number at a place.

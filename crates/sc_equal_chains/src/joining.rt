@@ -3,8 +3,8 @@
 ghost use Rattle.std.specs.Prelude.{◌≡◌, ◌<◌, ◌↔◌, length, true, IfOk, IsTrue, Some};
 ghost use Rattle.sc_terms.specs.Tables.{tree};
 ghost use Rattle.sc_footprint.specs.Problems.{atoms};
-ghost use Rattle.sc_instances.specs.Known.{few_items, named_at, truth_of};
-ghost use Rattle.sc_violated.specs.Classes.{AreLabels};
+ghost use Rattle.sc_rule_instances.specs.Known.{few_items, named_at, truth_of};
+ghost use Rattle.sc_falsified.specs.Classes.{AreLabels};
 ghost use Rattle.sc_equal_chains.specs.Naming.{AreNamed};
 ghost use Rattle.sc_equal_chains.specs.Classes.{AreParents, IsCoarser};
 ghost use Rattle.sc_equal_chains.specs.Joining.{AreSidesJoined, IsAtomJoined, AreAtomsJoined, IsPairJoined, IsRowJoined, IsItemJoined, AreRowsJoined, IsLabelAt, AreFirstLabels, has_choices as choices_test};
@@ -13,9 +13,9 @@ use crate::classes::{alone, join, labels};
 use crate::equations::sides;
 use crate::named::Named;
 use sc_clauses::Assignment;
+use sc_falsified::Equalities;
 use sc_footprint::Problem;
 use sc_nodes::{Leaf, Literal, Node};
-use sc_violated::Equalities;
 use std::alloc::{AllocError, Global};
 
 /// Makes the classes of a term's sides one, if it is an equation.

@@ -1,12 +1,12 @@
 //! The strings and entities among the closed terms, and what an assignment knows of each two.
 ghost use Rattle.std.specs.Prelude.{◌≡◌, ◌<◌, ◌≤◌, ◌+◌, length, IfOk, IfSome, OnOk};
-ghost use Rattle.sc_instances.specs.Known.{few_items, named_at};
+ghost use Rattle.sc_rule_instances.specs.Known.{few_items, named_at};
 ghost use Rattle.sc_equal_chains.specs.Naming.{AreNamed, AreNamedUpTo};
 
 use sc_clauses::Assignment;
+use sc_falsified::Equalities;
 use sc_footprint::Problem;
-use sc_instances::{closed_at, equal, is_sort_named, known_literal};
-use sc_violated::Equalities;
+use sc_rule_instances::{closed_at, equal, is_sort_named, known_literal};
 use std::alloc::{AllocError, Global};
 
 /// The strings and entities among the closed terms, by their numbers from 1 on, under an assignment.
@@ -39,8 +39,8 @@ fn few_numbers(count: usize) -> usize
 
 impl<'a, 'b> Equalities for Named<'a, 'b> {
     ghost use Rattle.std.specs.Prelude.{length};
-    ghost use Rattle.sc_instances.specs.Known.{few_items, truth_of};
-    ghost use Rattle.sc_instances.proofs.KnownLaws.{truth_turned, truth_itself};
+    ghost use Rattle.sc_rule_instances.specs.Known.{few_items, truth_of};
+    ghost use Rattle.sc_rule_instances.proofs.KnownLaws.{truth_turned, truth_itself};
 
     ghost size = { λ s. few_items (length s.numbers.items) };
 

@@ -3,9 +3,9 @@ use Rattle.std.proofs.Common.{◌≡◌, ◌<◌, ℕ, Option, None, IsSomeAnd, 
 use Rattle.sc_clauses.specs.declared.lit.Lit.{Lit}
 use Rattle.sc_clauses.specs.Clauses.{positive}
 use Rattle.sc_footprint.specs.Problems.{Posed}
-use Rattle.sc_instances.specs.Clauses.{said_clause}
-use Rattle.sc_instances.specs.Saying.{count_of, literal_of}
-use Rattle.sc_rules.specs.Signed.{Said}
+use Rattle.sc_rule_instances.specs.Clauses.{said_clause}
+use Rattle.sc_rule_instances.specs.Saying.{count_of, literal_of}
+use Rattle.sc_rule_laws.specs.Signed.{Said}
 use Rattle.sc_equal_rows.specs.declared.row.Row.{Row}
 use Rattle.sc_equal_rows.specs.Rows.{IsRow, row_said}
 

@@ -12,13 +12,13 @@ use Rattle.sc_terms.specs.Folds.{equal_term, field_term, present_term, held_term
 use Rattle.sc_footprint.specs.Atoms.{is_bool_in}
 use Rattle.sc_footprint.specs.Closure.{follow, inside, inside_by, field_terms}
 use Rattle.sc_footprint.specs.Problems.{Posed, companion}
-use Rattle.sc_rules.specs.Equal.{are_options, field_at}
-use Rattle.sc_rules.specs.Terms.{fields_of, fields_level, is_option, one_sort}
-use Rattle.sc_rules.proofs.EqualSound.{one_sort_is}
+use Rattle.sc_rule_laws.specs.Equal.{are_options, field_at}
+use Rattle.sc_rule_laws.specs.Terms.{fields_of, fields_level, is_option, one_sort}
+use Rattle.sc_rule_laws.proofs.EqualSound.{one_sort_is}
 use Rattle.sc_sorts.specs.Defaults.{is_option_level}
-use Rattle.sc_instances.proofs.FollowLaws.{follows, field_place}
-use Rattle.sc_instances.specs.declared.given.Closed.{Closed}
-use Rattle.sc_instances.specs.Given.{IsClosed, term_at}
+use Rattle.sc_rule_instances.proofs.FollowLaws.{follows, field_place}
+use Rattle.sc_rule_instances.specs.declared.given.Closed.{Closed}
+use Rattle.sc_rule_instances.specs.Given.{IsClosed, term_at}
 use Rattle.sc_equal_rows.specs.Rows.{IsThere}
 
 -- ---- records and options are no truth values

@@ -8,11 +8,11 @@ use Rattle.sc_terms.specs.Trees.{Tree, choice}
 use Rattle.sc_terms.specs.Tables.{tree}
 use Rattle.sc_terms.specs.Folds.{equal_term, held_term, present_term}
 use Rattle.sc_footprint.specs.Problems.{Posed, literal_in}
-use Rattle.sc_instances.specs.Clauses.{literal_for, clause_for, said_clause}
-use Rattle.sc_instances.specs.Saying.{count_of, literal_of}
-use Rattle.sc_rules.specs.Signed.{Signed, so, unless, given}
-use Rattle.sc_rules.specs.Equal.{are_options, eq2, eq3, eq3_of, eq4, eq4_of, eq7, field_at, field_equal}
-use Rattle.sc_rules.specs.Terms.{fields_of, one_sort}
+use Rattle.sc_rule_instances.specs.Clauses.{literal_for, clause_for, said_clause}
+use Rattle.sc_rule_instances.specs.Saying.{count_of, literal_of}
+use Rattle.sc_rule_laws.specs.Signed.{Signed, so, unless, given}
+use Rattle.sc_rule_laws.specs.Equal.{are_options, eq2, eq3, eq3_of, eq4, eq4_of, eq7, field_at, field_equal}
+use Rattle.sc_rule_laws.specs.Terms.{fields_of, one_sort}
 use Rattle.sc_equal_rows.specs.Rows.{IsChoice, IsFieldLiteral}
 
 module _ (p : Posed) where

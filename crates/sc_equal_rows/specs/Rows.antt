@@ -5,10 +5,10 @@ use Rattle.sc_sorts.specs.Inside.{SortField, SortFields}
 use Rattle.sc_terms.specs.Trees.{Tree, choice}
 use Rattle.sc_terms.specs.Tables.{tree}
 use Rattle.sc_footprint.specs.Problems.{Posed, literal_in}
-use Rattle.sc_instances.specs.Given.{IsClosed, term_at}
-use Rattle.sc_rules.specs.Equal.{eq1, eq2, eq3, eq4, eq5, eq6, eq7, eq8, field_at, field_equal}
-use Rattle.sc_rules.specs.Signed.{Said}
-use Rattle.sc_rules.specs.Terms.{fields_of, one_sort}
+use Rattle.sc_rule_instances.specs.Given.{IsClosed, term_at}
+use Rattle.sc_rule_laws.specs.Equal.{eq1, eq2, eq3, eq4, eq5, eq6, eq7, eq8, field_at, field_equal}
+use Rattle.sc_rule_laws.specs.Signed.{Said}
+use Rattle.sc_rule_laws.specs.Terms.{fields_of, one_sort}
 use Rattle.sc_equal_rows.specs.declared.row.Row.{Row}
 use Rattle.sc_equal_rows.specs.declared.row.Row.TheVariants.{Chain, Choice, Field, Fields, Presence, Held, Options, Default}
 

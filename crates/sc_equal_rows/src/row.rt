@@ -1,6 +1,6 @@
 //! Instances at closed terms.
 
-use sc_instances::Closed;
+use sc_rule_instances::Closed;
 
 /// An instance of a rule on equations, by its closed terms.
 #[derive(Clone, Copy, Debug)]

@@ -1,25 +1,25 @@
 //! What each rule says of closed terms, literal by literal.
 ghost use Rattle.std.specs.Prelude.{◌≡◌, ◌<◌, ◌&&◌, ◌==◌, length, true, Some, None, IsSomeAnd, if◌then◌else◌};
 ghost use Rattle.sc_footprint.specs.Problems.{literal_in};
-ghost use Rattle.sc_instances.specs.Clauses.{literal_for};
-ghost use Rattle.sc_instances.specs.Saying.{count_of, literal_of};
-ghost use Rattle.sc_rules.specs.Equal.{are_options as options, eq1, eq2, eq3, eq4, eq5, eq6, eq7, eq8};
-ghost use Rattle.sc_rules.specs.Terms.{fields_of, is_named, is_option, one_sort};
+ghost use Rattle.sc_rule_instances.specs.Clauses.{literal_for};
+ghost use Rattle.sc_rule_instances.specs.Saying.{count_of, literal_of};
+ghost use Rattle.sc_rule_laws.specs.Equal.{are_options as options, eq1, eq2, eq3, eq4, eq5, eq6, eq7, eq8};
+ghost use Rattle.sc_rule_laws.specs.Terms.{fields_of, is_named, is_option, one_sort};
 ghost use Rattle.sc_terms.specs.Folds.{default_term, equal_term, held_term, present_term};
 ghost use Rattle.sc_terms.specs.Tables.{tree};
 ghost use Rattle.sc_sorts.specs.Inside.{held_sort};
 ghost use Rattle.sc_terms.specs.TreeSorts.{tree_sort};
-ghost use Rattle.sc_instances.specs.Given.{IsClosed, term_at};
+ghost use Rattle.sc_rule_instances.specs.Given.{IsClosed, term_at};
 ghost use Rattle.sc_equal_rows.specs.Rows.{AreClosed, IsChoiceIf, IsFieldLiteral, IsThere, count_if, row_said};
 
 use crate::row::Row;
 use sc_clauses::Lit;
 use sc_footprint::Problem;
-use sc_instances::{
+use sc_nodes::Node;
+use sc_rule_instances::{
     Closed, NOWHERE, equal, field_count, is_one_sort, is_sort_named, is_sort_option, negated_if,
     present,
 };
-use sc_nodes::Node;
 
 /// So many literals, where a test passes.
 fn counted(test: bool, count: u128) -> Option<u128>

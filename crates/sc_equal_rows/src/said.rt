@@ -1,15 +1,15 @@
 //! What an instance says.
 ghost use Rattle.std.specs.Prelude.{◌≡◌, ◌<◌, IsSomeAnd};
-ghost use Rattle.sc_instances.specs.declared.rule.EqualRule.TheVariants.{Eq1, Eq2, Eq3, Eq4, Eq5, Eq6, Eq7, Eq8};
-ghost use Rattle.sc_instances.specs.Instances.{equal_said};
-ghost use Rattle.sc_instances.specs.Saying.{count_of, literal_of};
+ghost use Rattle.sc_rule_instances.specs.declared.rule.EqualRule.TheVariants.{Eq1, Eq2, Eq3, Eq4, Eq5, Eq6, Eq7, Eq8};
+ghost use Rattle.sc_rule_instances.specs.Instances.{equal_said};
+ghost use Rattle.sc_rule_instances.specs.Saying.{count_of, literal_of};
 ghost use Rattle.sc_equal_rows.specs.Rows.{IsRowIf};
 
 use crate::row::Row;
 use crate::rows::{count, literal};
 use sc_clauses::Lit;
 use sc_footprint::Problem;
-use sc_instances::{EqualRule, NOWHERE, Saying, both, closed_of};
+use sc_rule_instances::{EqualRule, NOWHERE, Saying, both, closed_of};
 
 /// An instance of a rule on equations of a problem.
 #[derive(Drop)]
@@ -132,7 +132,7 @@ fn rule_literal(problem: &Problem<'_>, rule: EqualRule, place: u128) -> Lit
 }
 
 impl<'a, 'b> Saying for Said<'a, 'b> {
-    ghost use Rattle.sc_instances.specs.Instances.{equal_said};
+    ghost use Rattle.sc_rule_instances.specs.Instances.{equal_said};
 
     ghost posed = { λ s. s.problem.now };
 

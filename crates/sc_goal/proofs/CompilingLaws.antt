@@ -7,14 +7,14 @@ use Rattle.sc_ast.specs.declared.policy.Effect.{Effect}
 use Rattle.sc_nodes.specs.declared.node.Node.{Node}
 use Rattle.sc_terms.specs.Trees.{Tree}
 use Rattle.sc_terms.specs.Tables.{tree, Keeps}
-use Rattle.sc_codes.specs.Code.{Code}
-use Rattle.sc_codes.specs.Numbers.{StandsAs}
-use Rattle.sc_codes.specs.declared.opt.Opt.{Opt}
+use Rattle.sc_constructs.specs.Code.{Code}
+use Rattle.sc_constructs.specs.Numbers.{StandsAs}
+use Rattle.sc_constructs.specs.declared.opt.Opt.{Opt}
 use Rattle.sc_symauth.specs.declared.compiled.CompiledPolicy.{CompiledPolicy}
 use Rattle.sc_symauth.specs.Standings.{Compiled}
 use Rattle.sc_goal.specs.Goals.{with_effect, all_by}
 use Rattle.sc_goal.specs.Selections.{selected}
-use Rattle.sc_codes.specs.Numbers.{IsCode, code_at}
+use Rattle.sc_constructs.specs.Numbers.{IsCode, code_at}
 use Rattle.sc_symauth.specs.Numbers.{AreCodes, compiled_at}
 use Rattle.sc_symauth.proofs.NumbersLaws.{codes_later, compiled_same}
 

@@ -22,7 +22,7 @@ use Rattle.sc_question.specs.declared.question.Question.TheVariants.{NeverErrors
 use Rattle.sc_terms.specs.Trees.{Tree}
 use Rattle.sc_terms.specs.Folds.{not_term, equal_term}
 use Rattle.sc_terms.specs.Values.{val, yes, truth}
-use Rattle.sc_codes.specs.Code.{Code}
+use Rattle.sc_constructs.specs.Code.{Code}
 use Rattle.sc_symeval.specs.Compiling.{policy_code}
 use Rattle.sc_symeval.specs.Agreement.{Agrees}
 use Rattle.sc_symauth.specs.Standings.{Compiled, allow, any_error}

@@ -12,9 +12,9 @@ use Rattle.sc_question.specs.declared.question.Question.TheVariants.{NeverErrors
 use Rattle.sc_terms.specs.Trees.{Tree}
 use Rattle.sc_terms.specs.Folds.{not_term, equal_term}
 use Rattle.sc_term_laws.specs.Judging.{IsTermOf}
-use Rattle.sc_codes.specs.Code.{Code}
+use Rattle.sc_constructs.specs.Code.{Code}
 use Rattle.sc_symeval.specs.Compiling.{policy_code}
-use Rattle.sc_symlaws.specs.Written.{IsSetting, IsWritten}
+use Rattle.sc_symeval_laws.specs.Written.{IsSetting, IsWritten}
 use Rattle.sc_symauth.specs.Standings.{Compiled, allow, any_error}
 use Rattle.sc_symauth.specs.Agreement.{AreTerms}
 use Rattle.sc_symauth.proofs.TermsLaws.{NotMade, AndMade}

@@ -12,7 +12,7 @@ use Rattle.sc_symeval.specs.Compiling.{policy_code}
 use Rattle.sc_symauth.specs.Standings.{Compiled, allow, any_error}
 use Rattle.sc_symauth.specs.Standings as standing
 use Rattle.sc_ast.specs.declared.policy.Effect.{Effect}
-use Rattle.sc_codes.specs.Code.{Code}
+use Rattle.sc_constructs.specs.Code.{Code}
 
 -- of compiled policies
 abbrev pub goal_of : Question → List Compiled → List Compiled → Tree

@@ -1,7 +1,7 @@
 //! Policies that are typed again and compiled.
 ghost use Rattle.std.specs.Prelude.{◌≡◌, Some, length, map, IfOk, IfSome, IsSome};
 ghost use Rattle.sc_terms.specs.Tables.{Keeps};
-ghost use Rattle.sc_codes.specs.Numbers.{StandsAs};
+ghost use Rattle.sc_constructs.specs.Numbers.{StandsAs};
 ghost use Rattle.sc_symeval.specs.Compiling.{policy_code};
 ghost use Rattle.sc_symeval.specs.Settings.{IsReady};
 ghost use Rattle.sc_symauth.specs.Numbers.{AreCodes, compiled_at};

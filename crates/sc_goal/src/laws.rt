@@ -14,7 +14,7 @@ ghost use Rattle.sc_eval.specs.Eval.{eval};
 ghost use Rattle.sc_auth.specs.Decisions.{allows};
 ghost use Rattle.sc_typing.specs.Checking.{type_fault};
 ghost use Rattle.sc_sorts.specs.declared.sort.Sort.TheVariants as sorts;
-ghost use Rattle.sc_symlaws.specs.Written.{IsSetting, IsWritten};
+ghost use Rattle.sc_symeval_laws.specs.Written.{IsSetting, IsWritten};
 ghost use Rattle.sc_term_laws.specs.Judging.{IsTermOf};
 ghost use Rattle.sc_terms.specs.Trees.{Tree};
 ghost use Rattle.sc_terms.specs.Values.{val, truth};
@@ -24,7 +24,7 @@ ghost use Rattle.sc_question.specs.declared.question.Question.{Question as AnyQu
 ghost use Rattle.sc_question.specs.declared.question.Question.TheVariants.{NeverErrors, AlwaysAllows, AlwaysDenies, Implies, Equivalent, Disjoint};
 
 use sc_symauth::{standing_laws, standing_terms};
-use sc_symlaws::compile_laws;
+use sc_symeval_laws::compile_laws;
 use sc_term_laws::{made_laws, value_laws};
 
 /// Which worlds have the property that a question asks about, of policy sets `a` and `b`.

@@ -19,7 +19,7 @@ use Rattle.sc_nodes.specs.declared.node.Node.{Node}
 use Rattle.sc_terms.specs.Tables.{StandsFor}
 use Rattle.sc_terms.specs.Trees.{Tree}
 use Rattle.sc_closure_rules.specs.Goals.{IsGoal}
-use Rattle.sc_symlaws.specs.Written.{IsSetting, IsWritten}
+use Rattle.sc_symeval_laws.specs.Written.{IsSetting, IsWritten}
 use Rattle.sc_goal.specs.Goals.{goal_term}
 use Rattle.sc_goal.specs.Queries.{Asked, IsAsked, second}
 use Rattle.sc_question.specs.declared.question.Question.{Question}

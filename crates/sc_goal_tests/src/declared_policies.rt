@@ -10,9 +10,9 @@ ghost use Rattle.sc_goal_tests.specs.Checked.{IsChecked};
 
 use sc_ast::PolicySet;
 use sc_parser::read_policies;
+use sc_parser_laws::constant_laws;
 use sc_schema::Schema;
 use sc_schema_json::read_schema;
-use sc_spelled_constants::constant_laws;
 use sc_typing::{check_names, check_types};
 use std::alloc::{AllocError, Global};
 

@@ -10,7 +10,7 @@ use sc_ast::PolicySet;
 use sc_declared::declared_laws;
 use sc_footprint::{Problem, close};
 use sc_goal::{Query, Question, goal, goal_laws, query};
-use sc_posed_goals::posed_goals;
+use sc_goal_laws::posed_goals;
 use sc_question::takes_two;
 use sc_schema::{Env, Schema, environments};
 use sc_terms::Terms;

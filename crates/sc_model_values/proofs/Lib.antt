@@ -1,8 +1,8 @@
-pub mod ConformingLaws
-pub mod ClosureLaws
-pub mod SortedVals
-pub mod FittingLaws
-pub mod DefaultLaws
-pub mod LinkLaws
-pub mod EntityLaws
-pub mod ActionLaws
+pub use Rattle.sc_model_value_laws.proofs.SortedVals
+mod TruthLaws
+mod PlaceLaws
+mod InsideLaws
+mod BitLaws
+pub mod AssignedLaws
+mod ValueLaws
+mod NameLaws

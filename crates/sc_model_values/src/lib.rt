@@ -1,7 +1,14 @@
-//! The values that a model gives closed terms are values of their sorts, and equal entities have the same attributes,
-//! ancestors, keys and tags.
+//! The value of a closed term under an assignment of a problem's atoms, with names for its strings
+//! and entities, as `sc_models` says what an assignment tells.
 #![tactic(auto)]
 
-mod law;
+mod bits;
+mod members;
+mod names;
+mod parts;
+mod truth;
+mod values;
 
-pub use law::model_value_laws;
+pub use members::assigned_of;
+pub use names::{name_at, uid_of};
+pub use values::value_of;

@@ -10,8 +10,8 @@ use Rattle.sc_clauses.specs.Clauses.{Clause, bool_eq, lit_eq, positive, holds, c
 use Rattle.sc_clauses.proofs.LitLaws.{lit_eq-true}
 use Rattle.sc_footprint.specs.Theories.{IsListed}
 use Rattle.sc_footprint.proofs.TruthLaws.{holds_positive}
-use Rattle.sc_instances.specs.Clauses.{is_asked}
-use Rattle.sc_instances.specs.Known.{is_broken}
+use Rattle.sc_rule_instances.specs.Clauses.{is_asked}
+use Rattle.sc_rule_instances.specs.Known.{is_broken}
 
 -- the truth of each atom
 abbrev pub atom_truth : Assignment → ℕ → Bool

@@ -27,20 +27,20 @@ use Rattle.sc_terms.specs.TreeSorts.{tree_sort}
 use Rattle.sc_terms.specs.Folds.{truth_term, literal_term, literal_of, bit_term}
 use Rattle.sc_term_laws.specs.Judging.{IsTermOf}
 use Rattle.sc_term_laws.specs.Judging as judged
-use Rattle.sc_definitions.specs.declared.function.Shape.{Shape}
-use Rattle.sc_definitions.specs.declared.function.Shape.TheVariants.{Free}
-use Rattle.sc_definitions.specs.Definitions.{counted, definition, shape_of, inputs_of}
-use Rattle.sc_definitions.specs.Truths.{defined}
+use Rattle.sc_term_definitions.specs.declared.function.Shape.{Shape}
+use Rattle.sc_term_definitions.specs.declared.function.Shape.TheVariants.{Free}
+use Rattle.sc_term_definitions.specs.Definitions.{counted, definition, shape_of, inputs_of}
+use Rattle.sc_term_definitions.specs.Truths.{defined}
 use Rattle.sc_footprint.specs.Atoms.{is_atom, is_opposite}
 use Rattle.sc_footprint.specs.Closure.{of_true}
-use Rattle.sc_rules.proofs.MemberLaws.{filter_kept}
+use Rattle.sc_rule_laws.proofs.MemberLaws.{filter_kept}
 use Rattle.sc_footprint.specs.Problems.{Posed, IsPosed, closed_terms, goal_term, goal_literal, atoms, literal_in}
 use Rattle.sc_footprint.specs.Definitions.{clauses_by, definition_clauses, mask_clause, short_clauses, address_clauses, is_address, is_address_in, is_other, defining}
 use Rattle.sc_footprint.specs.Theories.{TermsHold}
 use Rattle.sc_footprint.proofs.KindLaws.{bool_is}
 use Rattle.sc_footprint.proofs.TruthLaws.{atom_is, holds_positive}
-use Rattle.sc_instances.proofs.LiteralLaws.{literal_truth}
-use Rattle.sc_rebuilding.specs.Assignments.{lit}
+use Rattle.sc_rule_instances.proofs.LiteralLaws.{literal_truth}
+use Rattle.sc_model_laws.specs.Assignments.{lit}
 use Rattle.th_defs.specs.ClauseLaws.{IsAs}
 use Rattle.th_defs.specs.Laws.{has_laws, clause_lawful}
 use Rattle.sc_models.specs.Models.{truth_in}

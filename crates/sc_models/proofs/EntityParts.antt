@@ -30,14 +30,14 @@ use Rattle.sc_term_laws.proofs.TestLaws.{same_sorts}
 use Rattle.sc_term_laws.proofs.UnaryJudged.{unary_kept}
 use Rattle.sc_footprint.specs.Atoms.{is_bool, is_bool_in}
 use Rattle.sc_footprint.proofs.SortLaws.{sort_lawful}
-use Rattle.sc_rules.specs.Signed.{Said, so, unless}
-use Rattle.sc_rules.specs.Terms.{member, above, keys, entity, choices_level, choices_in}
-use Rattle.sc_rules.specs.Places.{roots, half}
-use Rattle.sc_rules.specs.Entities.{en1_of, en1, same_sets, en2, en3_of, en3, en4, en5, en6, is_literal_of, en7_by, en7, en8}
+use Rattle.sc_rule_laws.specs.Signed.{Said, so, unless}
+use Rattle.sc_rule_laws.specs.Terms.{member, above, keys, entity, choices_level, choices_in}
+use Rattle.sc_rule_laws.specs.Places.{roots, half}
+use Rattle.sc_rule_laws.specs.Entities.{en1_of, en1, same_sets, en2, en3_of, en3, en4, en5, en6, is_literal_of, en7_by, en7, en8}
 use Rattle.sc_models.proofs.PartSorts.{plain, plain_at, entity_plain, plain_equal, member_bool, same_equal, AreTruths, IsOfTruths, given_truths, mapped_truths}
 use Rattle.sc_models.proofs.SetParts.{of_member}
 use Rattle.sc_models.proofs.PlaceParts.{half_truths, under_truths}
-use Rattle.sc_rules.proofs.PlaceLaws.{places_sorted}
+use Rattle.sc_rule_laws.proofs.PlaceLaws.{places_sorted}
 
 string_at : (k : Sort-F Sort) → string_level k ≡ true → is_bool_in k ≡ false
 string_at s.String h = refl

@@ -26,10 +26,10 @@ use Rattle.sc_term_laws.proofs.TestLaws.{at_level, option_sort, same_sorts}
 use Rattle.sc_term_laws.proofs.UnaryJudged.{of_sort}
 use Rattle.sc_footprint.specs.Atoms.{is_bool}
 use Rattle.sc_footprint.proofs.SortLaws.{found, names_ascend, held_lawful}
-use Rattle.sc_rules.specs.Signed.{Said, unless}
-use Rattle.sc_rules.specs.Terms.{one_sort, is_named, is_option, fields_level}
-use Rattle.sc_rules.proofs.NamedLaws.{named_plain}
-use Rattle.sc_rules.specs.Equal.{field_equal, eq1, eq2, eq3_of, field_at, eq3, eq4_of, eq4, are_options, eq5, eq6, eq7, eq8}
+use Rattle.sc_rule_laws.specs.Signed.{Said, unless}
+use Rattle.sc_rule_laws.specs.Terms.{one_sort, is_named, is_option, fields_level}
+use Rattle.sc_rule_laws.proofs.NamedLaws.{named_plain}
+use Rattle.sc_rule_laws.specs.Equal.{field_equal, eq1, eq2, eq3_of, field_at, eq3, eq4_of, eq4, are_options, eq5, eq6, eq7, eq8}
 use Rattle.sc_models.proofs.PartSorts.{plain_equal, bool_of, same_equal, IsOfTruths, given_truths, mapped_truths}
 
 module _ (d : Declarations) (env : Env) (written : List Uid) where

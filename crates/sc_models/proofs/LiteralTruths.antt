@@ -9,10 +9,10 @@ use Rattle.sc_nodes.specs.declared.node.UnaryOp.TheVariants.{Not}
 use Rattle.sc_terms.specs.Trees.{Tree, leaf, one}
 use Rattle.sc_footprint.specs.Problems.{Posed, IsPosed, atom_number, literal, literal_in}
 use Rattle.sc_footprint.proofs.TruthLaws.{holds_positive}
-use Rattle.sc_rules.specs.Signed.{Signed}
-use Rattle.sc_rebuilding.specs.Assignments.{lit, holds_under, some_hold}
-use Rattle.sc_instances.specs.Clauses.{literal_for, clause_for}
-use Rattle.sc_instances.proofs.LiteralLaws.{literal_truth}
+use Rattle.sc_rule_laws.specs.Signed.{Signed}
+use Rattle.sc_model_laws.specs.Assignments.{lit, holds_under, some_hold}
+use Rattle.sc_rule_instances.specs.Clauses.{literal_for, clause_for}
+use Rattle.sc_rule_instances.proofs.LiteralLaws.{literal_truth}
 use Rattle.sc_models.specs.Models.{truth_in}
 use Rattle.sc_models.proofs.ClauseTruths.{atom_truth}
 

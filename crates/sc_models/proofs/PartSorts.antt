@@ -25,8 +25,8 @@ use Rattle.sc_term_laws.proofs.MadeLaws.{equal_made}
 use Rattle.sc_footprint.specs.Atoms.{is_bool, is_bool_in}
 use Rattle.sc_footprint.proofs.KindLaws.{bool_is}
 use Rattle.sc_footprint.proofs.TruthLaws.{truth_sort}
-use Rattle.sc_rules.specs.Signed.{Signed, Said, given}
-use Rattle.sc_rules.specs.Terms.{member, subset, common}
+use Rattle.sc_rule_laws.specs.Signed.{Signed, Said, given}
+use Rattle.sc_rule_laws.specs.Terms.{member, subset, common}
 
 -- ---- terms that are no truth values
 

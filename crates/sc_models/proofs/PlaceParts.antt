@@ -14,9 +14,9 @@ use Rattle.sc_terms.specs.TreeSorts.{tree_sort}
 use Rattle.sc_terms.specs.Folds.{absent, present_by, present_term, literal_of, bit_by, bit_term, equal_term}
 use Rattle.sc_footprint.specs.Atoms.{is_bool, is_bool_in}
 use Rattle.sc_footprint.proofs.TruthLaws.{truth_sort}
-use Rattle.sc_rules.specs.Signed.{Signed, Said, so, unless, given}
-use Rattle.sc_rules.specs.Terms.{member}
-use Rattle.sc_rules.specs.Places.{same_step, roots, half_by, half, under}
+use Rattle.sc_rule_laws.specs.Signed.{Signed, Said, so, unless, given}
+use Rattle.sc_rule_laws.specs.Terms.{member}
+use Rattle.sc_rule_laws.specs.Places.{same_step, roots, half_by, half, under}
 use Rattle.sc_models.proofs.PartSorts.{plain_at, plain_equal, member_bool, AreTruths, IsOfTruths}
 
 bit_bool : (x : Tree) (i : ℕ) → is_bool (bit_term x i) ≡ true

@@ -25,28 +25,28 @@ use Rattle.sc_footprint.specs.Problems.{Posed, IsPosed, closed_terms, goal_term,
 use Rattle.sc_footprint.specs.Theories.{IsListed, TermsHold}
 use Rattle.sc_footprint.proofs.NumberingLaws.{numbered_map, numbered_back}
 use Rattle.sc_footprint.proofs.ProblemLaws.{literal_listed}
-use Rattle.sc_rules.specs.Signed.{Signed, Said, unless}
-use Rattle.sc_rules.specs.Equal.{eq1, eq2, eq3, eq4, eq5, eq6, eq7, eq8}
-use Rattle.sc_rules.specs.Sets.{se1, se2, se3, se4, se5, se6, se7, se8}
-use Rattle.sc_rules.specs.Places.{roots, half_by, half, under}
-use Rattle.sc_rules.specs.Entities.{en1_of, en1, en2, en3_of, en3, en4, en5, en6, en7, en8}
-use Rattle.sc_rules.specs.Strings.{Pattern, Signs, AreFew, st1, st3}
-use Rattle.sc_instances.specs.declared.rule.EqualRule.TheVariants.{Eq1, Eq2, Eq3, Eq4, Eq5, Eq6, Eq7, Eq8}
-use Rattle.sc_instances.specs.declared.rule.SetRule.TheVariants.{Se1, Se2, Se3, Se4, Se5, Se6, Se7, Se8}
-use Rattle.sc_instances.specs.declared.rule.EntityRule.TheVariants.{En1, En2, En3, En4, En5, En6, En7, En8}
-use Rattle.sc_instances.specs.Clauses.{literal_for, clause_for}
-use Rattle.sc_instances.specs.Instances.{on_one, on_two, on_three, on_four}
-use Rattle.sc_instances.specs.Known.{is_falsified}
-use Rattle.sc_rebuilding.specs.Assignments.{some_hold}
-use Rattle.sc_rebuilding.specs.Consistent as rule
-use Rattle.sc_rebuilding.specs.Consistent.{IsRuleAt}
+use Rattle.sc_rule_laws.specs.Signed.{Signed, Said, unless}
+use Rattle.sc_rule_laws.specs.Equal.{eq1, eq2, eq3, eq4, eq5, eq6, eq7, eq8}
+use Rattle.sc_rule_laws.specs.Sets.{se1, se2, se3, se4, se5, se6, se7, se8}
+use Rattle.sc_rule_laws.specs.Places.{roots, half_by, half, under}
+use Rattle.sc_rule_laws.specs.Entities.{en1_of, en1, en2, en3_of, en3, en4, en5, en6, en7, en8}
+use Rattle.sc_rule_laws.specs.Strings.{Pattern, Signs, AreFew, st1, st3}
+use Rattle.sc_rule_instances.specs.declared.rule.EqualRule.TheVariants.{Eq1, Eq2, Eq3, Eq4, Eq5, Eq6, Eq7, Eq8}
+use Rattle.sc_rule_instances.specs.declared.rule.SetRule.TheVariants.{Se1, Se2, Se3, Se4, Se5, Se6, Se7, Se8}
+use Rattle.sc_rule_instances.specs.declared.rule.EntityRule.TheVariants.{En1, En2, En3, En4, En5, En6, En7, En8}
+use Rattle.sc_rule_instances.specs.Clauses.{literal_for, clause_for}
+use Rattle.sc_rule_instances.specs.Instances.{on_one, on_two, on_three, on_four}
+use Rattle.sc_rule_instances.specs.Known.{is_falsified}
+use Rattle.sc_model_laws.specs.Assignments.{some_hold}
+use Rattle.sc_model_laws.specs.Consistent as rule
+use Rattle.sc_model_laws.specs.Consistent.{IsRuleAt}
 use Rattle.sc_models.specs.Models.{truth_in}
 use Rattle.sc_models.specs.Laws.{IsClosed, AreClosed, FalsifiesNothing}
 use Rattle.sc_models.proofs.ClauseTruths.{atom_truth, unbroken_true}
 use Rattle.sc_models.proofs.LiteralTruths.{clause_told}
 use Rattle.sc_models.proofs.PartSorts.{AreTruths, IsOfTruths}
 use Rattle.sc_models.proofs.PlaceParts.{is_set_in, half_place, first_root, second_root}
-use Rattle.sc_rebuilding.proofs.ClosedLaws.{of_part}
+use Rattle.sc_model_laws.proofs.ClosedLaws.{of_part}
 use Rattle.sc_models.proofs.EqualParts.{eq1_truths, eq2_truths, eq3_truths, eq4_truths, eq5_truths, eq6_truths, eq7_truths, eq8_truths}
 use Rattle.sc_models.proofs.SetParts.{se1_truths, se2_truths, se3_truths, se4_truths, se5_truths, se6_truths, se7_truths, se8_truths}
 use Rattle.sc_models.proofs.EntityParts.{en1_truths, en2_truths, en3_truths, en4_truths, en5_truths, en6_truths, en7_truths, en8_truths}

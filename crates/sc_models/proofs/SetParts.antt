@@ -25,9 +25,9 @@ use Rattle.sc_term_laws.proofs.JudgingLaws.{member_of}
 use Rattle.sc_term_laws.proofs.TestLaws.{same_sorts, set_sort}
 use Rattle.sc_term_laws.proofs.UnaryJudged.{of_sort}
 use Rattle.sc_footprint.specs.Atoms.{is_bool, is_bool_in}
-use Rattle.sc_rules.specs.Signed.{Said, so}
-use Rattle.sc_rules.specs.Terms.{is_set, member, subset, missing, shared, members}
-use Rattle.sc_rules.specs.Sets.{se1, se2, se3_of, se3, se4, se5, se6, se7, se8}
+use Rattle.sc_rule_laws.specs.Signed.{Said, so}
+use Rattle.sc_rule_laws.specs.Terms.{is_set, member, subset, missing, shared, members}
+use Rattle.sc_rule_laws.specs.Sets.{se1, se2, se3_of, se3, se4, se5, se6, se7, se8}
 use Rattle.sc_models.proofs.PartSorts.{plain, plain_equal, member_bool, subset_bool, common_bool, same_equal, IsOfTruths, given_truths, mapped_truths}
 
 set_at : (k : Sort-F Sort) → set_level k ≡ true → is_bool_in k ≡ false

@@ -10,13 +10,13 @@ use Rattle.sc_clauses.specs.declared.lit.Lit.{Lit}
 use Rattle.sc_clauses.specs.Clauses.{Clause, lit_eq, negation, is_in, holds, clause_holds}
 use Rattle.sc_clauses.proofs.LitLaws.{lit_eq-true, holds_negation}
 use Rattle.sc_term_laws.proofs.MemberLaws.{any_found}
-use Rattle.sc_definitions.specs.declared.function.Function.{Function}
-use Rattle.sc_definitions.specs.declared.function.Shape.{Shape}
-use Rattle.sc_definitions.specs.declared.function.Shape.TheVariants.{Table, All, NotAll, Fixed, Free}
-use Rattle.sc_definitions.specs.Functions.{value_of, rows}
-use Rattle.sc_definitions.specs.Truths.{defined}
-use Rattle.sc_definitions.specs.Truths as truths
-use Rattle.sc_rules.proofs.MemberLaws.{filter_kept}
+use Rattle.sc_term_definitions.specs.declared.function.Function.{Function}
+use Rattle.sc_term_definitions.specs.declared.function.Shape.{Shape}
+use Rattle.sc_term_definitions.specs.declared.function.Shape.TheVariants.{Table, All, NotAll, Fixed, Free}
+use Rattle.sc_term_definitions.specs.Functions.{value_of, rows}
+use Rattle.sc_term_definitions.specs.Truths.{defined}
+use Rattle.sc_term_definitions.specs.Truths as truths
+use Rattle.sc_rule_laws.proofs.MemberLaws.{filter_kept}
 use Rattle.sc_footprint.specs.Definitions.{is_tautology, kept, differs, has_value, differ_all, row, table, conjunction, turned, clauses_by}
 use Rattle.th_defs.specs.ClauseLaws.{IsAs}
 

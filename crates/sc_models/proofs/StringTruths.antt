@@ -26,14 +26,14 @@ use Rattle.sc_footprint.specs.Atoms.{is_atom}
 use Rattle.sc_footprint.specs.Problems.{Posed, IsPosed, closed_terms, goal_term, atoms}
 use Rattle.sc_footprint.specs.Theories.{TermsHold}
 use Rattle.sc_footprint.proofs.KindLaws.{bool_is, negated_is}
-use Rattle.sc_instances.proofs.LiteralLaws.{number_none}
-use Rattle.sc_rules.specs.Signed.{Signed, so, unless, given}
-use Rattle.sc_rules.specs.Terms.{is_string}
-use Rattle.sc_rules.specs.Strings.{Pattern, Signs, HasSigns, AreFew, st1_of, other_signs, some_equal, crowd}
-use Rattle.sc_rules.proofs.MemberLaws.{all_has, filter_passes}
-use Rattle.sc_rebuilding.specs.Assignments.{lit, some_hold}
-use Rattle.sc_rebuilding.specs.Names.{zeros}
-use Rattle.sc_rebuilding.proofs.ClassLaws.{length_zeros}
+use Rattle.sc_rule_instances.proofs.LiteralLaws.{number_none}
+use Rattle.sc_rule_laws.specs.Signed.{Signed, so, unless, given}
+use Rattle.sc_rule_laws.specs.Terms.{is_string}
+use Rattle.sc_rule_laws.specs.Strings.{Pattern, Signs, HasSigns, AreFew, st1_of, other_signs, some_equal, crowd}
+use Rattle.sc_rule_laws.proofs.MemberLaws.{all_has, filter_passes}
+use Rattle.sc_model_laws.specs.Assignments.{lit, some_hold}
+use Rattle.sc_model_laws.specs.Names.{zeros}
+use Rattle.sc_model_laws.proofs.ClassLaws.{length_zeros}
 use Rattle.sc_models.specs.Models.{truth_in, without_atom}
 use Rattle.sc_models.specs.Laws.{IsClosed, AreClosed, StringsHold}
 use Rattle.sc_models.proofs.WrittenStrings.{IsWritten, literal_at, text_bool, literal_written, written_crowd}

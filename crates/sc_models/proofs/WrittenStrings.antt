@@ -27,12 +27,12 @@ use Rattle.sc_term_laws.specs.Judging.{IsTermOf, IsTerm}
 use Rattle.sc_term_laws.specs.Judging as judged
 use Rattle.sc_term_laws.specs.Tests.{string_level}
 use Rattle.sc_footprint.specs.Atoms.{is_bool, is_bool_in}
-use Rattle.sc_rules.specs.Signed.{Signed, so, is_true, some_holds, Holds, given}
-use Rattle.sc_rules.specs.Terms.{is_string}
-use Rattle.sc_rules.specs.Strings.{Pattern, Signs, AreFew, other_signs, some_equal, crowd}
-use Rattle.sc_rules.proofs.SortValues.{IsAString}
-use Rattle.sc_rules.proofs.StringSound.{st3_holds}
-use Rattle.sc_rebuilding.specs.Assignments.{lit, some_hold}
+use Rattle.sc_rule_laws.specs.Signed.{Signed, so, is_true, some_holds, Holds, given}
+use Rattle.sc_rule_laws.specs.Terms.{is_string}
+use Rattle.sc_rule_laws.specs.Strings.{Pattern, Signs, AreFew, other_signs, some_equal, crowd}
+use Rattle.sc_rule_laws.proofs.SortValues.{IsAString}
+use Rattle.sc_rule_laws.proofs.StringSound.{st3_holds}
+use Rattle.sc_model_laws.specs.Assignments.{lit, some_hold}
 
 -- ---- terms that are constants
 

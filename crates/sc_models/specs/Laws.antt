@@ -6,15 +6,15 @@ use Rattle.sc_clauses.specs.Assignments.{Assignment, value_of, falsifies}
 use Rattle.sc_clauses.specs.Clauses.{Clause}
 use Rattle.sc_footprint.specs.Definitions.{defining}
 use Rattle.sc_footprint.specs.Problems.{Posed, IsPosed, atoms, goal_term}
-use Rattle.sc_instances.specs.Instances.{equal_said, set_said, entity_said}
-use Rattle.sc_instances.specs.Known.{NoneFalsified}
+use Rattle.sc_rule_instances.specs.Instances.{equal_said, set_said, entity_said}
+use Rattle.sc_rule_instances.specs.Known.{NoneFalsified}
 use Rattle.sc_nodes.specs.declared.node.UnaryOp.TheVariants.{Like}
 use Rattle.sc_terms.specs.Trees.{Tree, one}
-use Rattle.sc_rules.specs.Signed.{Signed}
-use Rattle.sc_rules.specs.Strings.{Pattern, Signs, AreFew, st1, st3}
+use Rattle.sc_rule_laws.specs.Signed.{Signed}
+use Rattle.sc_rule_laws.specs.Strings.{Pattern, Signs, AreFew, st1, st3}
 use Rattle.sc_footprint.specs.Closure.{Closed}
-use Rattle.sc_rebuilding.specs.Assignments.{some_hold}
-use Rattle.sc_rebuilding.specs.Consistent.{IsConsistent}
+use Rattle.sc_model_laws.specs.Assignments.{some_hold}
+use Rattle.sc_model_laws.specs.Consistent.{IsConsistent}
 use Rattle.sc_models.specs.Models.{truth_in}
 
 abbrev pub IsClosed : Posed → Tree → Type 0

@@ -6,7 +6,7 @@ use Rattle.sc_terms.specs.Trees.{Tree}
 use Rattle.sc_terms.specs.TreeSorts.{tree_sort}
 use Rattle.sc_term_laws.specs.Tests.{name_of}
 use Rattle.sc_footprint.specs.Problems.{Posed, closed_terms, numbered, number_among, atom_number}
-use Rattle.sc_rebuilding.specs.Vals.{Model}
+use Rattle.sc_model_laws.specs.Vals.{Model}
 
 -- the truth of a term's atom, and `false` where it has none
 abbrev pub truth_in : Posed → Assignment → Tree → Bool

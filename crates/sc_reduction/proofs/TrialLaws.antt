@@ -6,7 +6,7 @@ use Rattle.sc_laws.proofs.BoolLaws.{not_true}
 use Rattle.sc_ast.specs.declared.policy.Policy.{Policy}
 use Rattle.sc_ast.specs.Literals.{literals}
 use Rattle.sc_clauses.specs.declared.step.Step.{Step}
-use Rattle.sc_definitions.specs.Truths.{is_true}
+use Rattle.sc_term_definitions.specs.Truths.{is_true}
 use Rattle.sc_footprint.specs.Atoms.{IsOverLimit}
 use Rattle.sc_footprint.specs.Goals as closing
 use Rattle.sc_footprint.specs.Problems.{Posed, IsPosed, IsProblemOf}
@@ -19,14 +19,14 @@ use Rattle.sc_goal.specs.Queries.{Asked as Query, IsAsked, second as second_of}
 use Rattle.sc_goal.specs.Selections.{selected}
 use Rattle.sc_names.specs.declared.uid.Uid.{Uid}
 use Rattle.sc_nodes.specs.declared.node.Node.{Node}
-use Rattle.sc_posed_goals.proofs.WrittenLaws.{declared_passes, set_written}
+use Rattle.sc_goal_laws.proofs.WrittenLaws.{declared_passes, set_written}
 use Rattle.sc_question.specs.declared.question.Question.{Question}
 use Rattle.sc_question.specs.declared.question.Question.TheVariants.{Equivalent}
 use Rattle.sc_schema.specs.declared.declarations.Env.{Env}
 use Rattle.sc_schema.specs.Declarations.{Declarations, environments}
 use Rattle.sc_schema.specs.Lawful.{IsLawful}
 use Rattle.sc_solver.specs.Solutions.{IsSpent}
-use Rattle.sc_symlaws.specs.Written.{IsSetting, IsWritten}
+use Rattle.sc_symeval_laws.specs.Written.{IsSetting, IsWritten}
 use Rattle.sc_terms.specs.Tables.{StandsFor}
 use Rattle.sc_terms.specs.Trees.{Tree}
 use Rattle.sc_terms.specs.Values.{val, truth}

@@ -12,7 +12,7 @@ use Rattle.sc_clauses.specs.declared.step.Step.{Step}
 use Rattle.sc_footprint.specs.Atoms.{IsOverLimit}
 use Rattle.sc_footprint.specs.Problems.{Posed, IsPosed, IsProblemOf}
 use Rattle.sc_footprint.specs.Problems as problem
-use Rattle.sc_definitions.specs.Truths.{is_true}
+use Rattle.sc_term_definitions.specs.Truths.{is_true}
 use Rattle.sc_footprint.specs.Truths.{Satisfies, IsUnsatisfiable}
 use Rattle.sc_goal.specs.Goals.{all_compiled, goal_term}
 use Rattle.sc_goal.specs.Properties.{has}

@@ -9,11 +9,11 @@ use Rattle.sc_schema.specs.Declarations.{Declarations, environments}
 use Rattle.sc_schema.specs.Lawful.{IsLawful}
 use Rattle.sc_world.specs.Named.{IsDeclared}
 use Rattle.sc_terms.specs.Trees.{Tree}
-use Rattle.sc_symlaws.specs.Written.{IsSetting, IsWritten}
+use Rattle.sc_symeval_laws.specs.Written.{IsSetting, IsWritten}
 use Rattle.sc_footprint.specs.Goals.{IsGoal}
 use Rattle.sc_goal.specs.Goals as compiled
 use Rattle.sc_goal.specs.Queries.{Asked as Query, IsAsked, second}
-use Rattle.sc_posed_goals.proofs.WrittenLaws.{declared_passes, set_written}
+use Rattle.sc_goal_laws.proofs.WrittenLaws.{declared_passes, set_written}
 use Rattle.sc_question.specs.declared.question.Question.{Question}
 use Rattle.sc_reports.specs.Analyses.{HaveProper}
 

@@ -3,8 +3,8 @@ use Rattle.std.proofs.Common.{◌≡◌, arith, [], ◌∷◌, Some, None, true,
 use lib.Utf8.{encode}
 use Rattle.serde_json.specs.Data.{Data, boolean, string, array, object, no_items, no_members, member}
 use Rattle.serde_json.proofs.OnLiterals.{serde_json_on_literals}
-use Rattle.sc_json_views.specs.Steps.{to_member, to_item, pointer, first_member}
-use Rattle.sc_json_views.specs.Trees.{no_tree, in_tree}
+use Rattle.sc_json.specs.Steps.{to_member, to_item, pointer, first_member}
+use Rattle.sc_json.specs.Trees.{no_tree, in_tree}
 use Rattle.sc_names.specs.Paths.{parts}
 use Rattle.sc_schema_syntax.specs.declared.fault.SchemaFault.TheVariants.{NotJson, BadShape, BadName}
 use Rattle.sc_schema_syntax.specs.declared.written_schema.WrittenSchema.{WrittenSchema}

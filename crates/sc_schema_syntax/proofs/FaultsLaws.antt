@@ -2,7 +2,7 @@
 use Rattle.std.proofs.Common.{◌≡◌, List, ℕ, Option, Some, None, refl}
 use Rattle.std.specs.Prelude.{option_map}
 use Rattle.std.specs.Option.{option_or}
-use Rattle.sc_json_views.proofs.WalkLaws.{IsItemsWalk, IsMembersWalk}
+use Rattle.sc_json.proofs.WalkLaws.{IsItemsWalk, IsMembersWalk}
 use Rattle.sc_schema_syntax.specs.declared.fault.SchemaFault.{SchemaFault}
 use Rattle.sc_schema_syntax.specs.declared.form.Form.{Form}
 use Rattle.sc_schema_syntax.specs.declared.level.Level.{Level}

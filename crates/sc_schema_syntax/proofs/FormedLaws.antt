@@ -3,7 +3,7 @@ use Rattle.std.proofs.Common.{◌≡◌, ℕ, ◌+◌, List, [], Bool, true, fal
 use Rattle.std.specs.Option.{option_map_or}
 use Rattle.std.specs.Prelude.{is_some}
 use Rattle.serde_json.specs.Data.{Data, null, boolean, number, string, array, object, Items, no_items, item, Members, no_members, member}
-use Rattle.sc_json_views.specs.Steps.{Step, HasMember, first_member, later_member, HasItem, first_item, later_item}
+use Rattle.sc_json.specs.Steps.{Step, HasMember, first_member, later_member, HasItem, first_item, later_item}
 use Rattle.sc_laws.proofs.OptionLaws.{same_some}
 use Rattle.sc_schema_syntax.specs.declared.form.Form.{Form}
 use Rattle.sc_schema_syntax.specs.declared.level.Level.{Level}

@@ -14,10 +14,10 @@ use Rattle.std.proofs.lemmas.Cmp.{nat_list_cmp_total}
 use Rattle.std.proofs.lemmas.Map.Keys.{sorted_head, sorted_tail}
 use Rattle.std.proofs.lemmas.Map.Text.{is_eq-slice_cmp}
 use Rattle.serde_json.specs.Data.{Num, Data, null, boolean, number, string, array, object, Items, no_items, item, Members, no_members, member}
-use Rattle.sc_json_views.specs.Steps.{Step, to_member, to_item, word, pointer, HasMember, first_member, later_member, HasItem, first_item, later_item, LeadsTo, itself, by_member, by_item}
-use Rattle.sc_json_views.specs.Trees.{HasTree, no_tree, in_tree, keys, IsTidy, AreTidyItems, AreTidyMembers}
-use Rattle.sc_json_views.proofs.TidyTreeLaws.{tree_tidy}
-use Rattle.sc_json_views.proofs.TreesLaws.{one_tree}
+use Rattle.sc_json.specs.Steps.{Step, to_member, to_item, word, pointer, HasMember, first_member, later_member, HasItem, first_item, later_item, LeadsTo, itself, by_member, by_item}
+use Rattle.sc_json.specs.Trees.{HasTree, no_tree, in_tree, keys, IsTidy, AreTidyItems, AreTidyMembers}
+use Rattle.sc_json.proofs.TidyTreeLaws.{tree_tidy}
+use Rattle.sc_json.proofs.TreesLaws.{one_tree}
 use Rattle.sc_laws.proofs.OptionLaws.{same_some}
 use Rattle.sc_lists.proofs.TextLaws.{bytes_eq_true}
 use Rattle.sc_names.specs.Uids.{text_cmp}

@@ -1,6 +1,6 @@
 -- A file spells just one schema or has just one fault, and not both.
 use Rattle.std.proofs.Common.{ℕ, List}
-use Rattle.sc_json_views.proofs.TreesLaws.{one_value, one_fault, not_both, either}
+use Rattle.sc_json.proofs.TreesLaws.{one_value, one_fault, not_both, either}
 use Rattle.sc_schema_syntax.specs.declared.fault.SchemaFault.TheVariants.{NotJson}
 use Rattle.sc_schema_syntax.specs.Faults.{first_fault}
 use Rattle.sc_schema_syntax.specs.Written.{schema_of}

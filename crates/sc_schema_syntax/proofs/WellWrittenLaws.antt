@@ -32,8 +32,8 @@ use Rattle.sc_schema_syntax.specs.WellWritten.{AreNames, attribute_names, IsWrit
 use Rattle.sc_schema_syntax.proofs.FaultsLaws.{no_fault_either, no_fault_under}
 use Rattle.sc_schema_syntax.proofs.WrittenLaws.{get_member-first}
 use Rattle.sc_schema_syntax.proofs.EveryWrittenLaws.{Attributes, every_Boolean, every_Long, every_String, every_Set, every_Record, every_Entity, every_Extension, every_EntityOrCommon, every_Common}
-use Rattle.sc_json_views.specs.Trees.{keys, IsTidyObject, IsTidy, AreTidyMembers}
-use Rattle.sc_json_views.proofs.TidyTreeLaws.{tree_tidy}
+use Rattle.sc_json.specs.Trees.{keys, IsTidyObject, IsTidy, AreTidyMembers}
+use Rattle.sc_json.proofs.TidyTreeLaws.{tree_tidy}
 
 -- ---- names of members that may have any name
 

@@ -1,7 +1,7 @@
 -- Which trees are of the form of a schema file: at each place stands what may stand there.
 use Rattle.std.specs.Prelude.{◌≡◌, ℕ, List, Bool, true, Some, None}
 use Rattle.serde_json.specs.Data.{Data, boolean, string, array, object, Items, Members}
-use Rattle.sc_json_views.specs.Steps.{HasMember, HasItem}
+use Rattle.sc_json.specs.Steps.{HasMember, HasItem}
 use Rattle.sc_schema_syntax.specs.declared.form.Form.{Form}
 use Rattle.sc_schema_syntax.specs.declared.form.Form.TheVariants.{Object}
 use Rattle.sc_schema_syntax.specs.declared.level.Level.{Level}

@@ -3,8 +3,8 @@ use Rattle.std.specs.Prelude.{◌≡◌, ◌↔◌, ℕ, ◌<◌, List, [], ◌�
 use Rattle.std.specs.Option.{option_map_or}
 use Rattle.std.specs.declared.cmp.Ordering.TheVariants.{Less}
 use Rattle.serde_json.specs.Data.{Data, null, boolean, number, string, array, object, Items, Members}
-use Rattle.sc_json_views.specs.Steps.{Step, to_member, to_item, pointer, HasMember, HasItem, LeadsTo}
-use Rattle.sc_json_views.specs.Trees.{HasTree}
+use Rattle.sc_json.specs.Steps.{Step, to_member, to_item, pointer, HasMember, HasItem, LeadsTo}
+use Rattle.sc_json.specs.Trees.{HasTree}
 use Rattle.sc_names.specs.Uids.{text_cmp}
 use Rattle.sc_schema_syntax.specs.declared.fault.SchemaFault.{SchemaFault}
 use Rattle.sc_schema_syntax.specs.declared.fault.SchemaFault.TheVariants.{NotJson, BadShape, BadName}

@@ -1,6 +1,6 @@
 -- Which bytes spell which schema, and which fault they have.
 use Rattle.std.specs.Prelude.{◌≡◌, ◌⊎◌, ℕ, List, ⊤}
-use Rattle.sc_json_views.specs.Trees.{Says, Fails}
+use Rattle.sc_json.specs.Trees.{Says, Fails}
 use Rattle.sc_lists.specs.declared.fault.Fault.{Fault}
 use Rattle.sc_lists.specs.declared.fault.Fault.TheVariants.{Told, NoMemory}
 use Rattle.sc_schema_syntax.specs.declared.fault.SchemaFault.{SchemaFault}

@@ -1,7 +1,7 @@
 //! Reads the syntax of a schema file.
 ghost use Rattle.std.specs.Prelude.{ℕ, List, IfOk, IfErr};
 ghost use Rattle.serde_json.specs.View.{view};
-ghost use Rattle.sc_json_views.specs.Trees.{HasTree};
+ghost use Rattle.sc_json.specs.Trees.{HasTree};
 ghost use Rattle.sc_schema_syntax.specs.Syntax.{Spells, Refuses};
 
 use crate::building::schema_of;

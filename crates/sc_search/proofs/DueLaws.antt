@@ -5,15 +5,15 @@ use Rattle.std.proofs.lemmas.List.{get_or_default}
 use Rattle.sc_lists.proofs.ListLaws.{contains_nothing, contains_first}
 use Rattle.sc_clauses.specs.Clauses.{negation, Clause}
 use Rattle.sc_clauses.specs.declared.lit.Lit.{Lit}
-use Rattle.sc_trails.specs.Propagation.{IsSettledBy, IsReached, at_first, implied, decided, FallsBy, HasConflict}
-use Rattle.sc_trails.specs.Readings.{IsFalsified}
-use Rattle.sc_trails.specs.Steps.{At}
-use Rattle.sc_trails.specs.Trails.{true_before, cell_of, IsQuiet, AreQuiet, IsTrail}
-use Rattle.sc_trails.specs.declared.cell.Cell.{Cell}
-use Rattle.sc_trails.specs.declared.cell.Cell.TheVariants.{Free, Decided, Implied}
-use Rattle.sc_trails.proofs.AnalysisLaws.{before-cases, trail-at, not-free, reason-at, decision-at}
-use Rattle.sc_trails.proofs.CellLaws.{consistent, before-more, at-before, before-at}
-use Rattle.sc_trails.proofs.LitLaws.{cons-cases, tail-has}
+use Rattle.sc_propagation.specs.Propagation.{IsSettledBy, IsReached, at_first, implied, decided, FallsBy, HasConflict}
+use Rattle.sc_propagation.specs.Readings.{IsFalsified}
+use Rattle.sc_propagation.specs.Steps.{At}
+use Rattle.sc_propagation.specs.Trails.{true_before, cell_of, IsQuiet, AreQuiet, IsTrail}
+use Rattle.sc_propagation.specs.declared.cell.Cell.{Cell}
+use Rattle.sc_propagation.specs.declared.cell.Cell.TheVariants.{Free, Decided, Implied}
+use Rattle.sc_propagation.proofs.AnalysisLaws.{before-cases, trail-at, not-free, reason-at, decision-at}
+use Rattle.sc_propagation.proofs.CellLaws.{consistent, before-more, at-before, before-at}
+use Rattle.sc_propagation.proofs.LitLaws.{cons-cases, tail-has}
 
 -- the literals that are true before a place were reached
 record Reaches (cs : List Clause) (cells : List Cell) (i : ℕ) : Type 0 where

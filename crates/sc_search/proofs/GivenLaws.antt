@@ -8,15 +8,15 @@ use Rattle.sc_clauses.specs.declared.lit.Lit.{Lit}
 use Rattle.sc_clauses.specs.declared.step.Instance as instance
 use Rattle.sc_clauses.specs.declared.step.Step.TheVariants.{Instance}
 use Rattle.sc_watches.proofs.LitLaws.{lit-cases}
-use Rattle.sc_trails.proofs.CellLaws.{consistent}
-use Rattle.sc_trails.proofs.NewnessLaws.{new-by, uncovered}
-use Rattle.sc_trails.proofs.ReadingLaws.{free-before}
+use Rattle.sc_propagation.proofs.CellLaws.{consistent}
+use Rattle.sc_propagation.proofs.NewnessLaws.{new-by, uncovered}
+use Rattle.sc_propagation.proofs.ReadingLaws.{free-before}
 use Rattle.sc_search.specs.Findings.{IsUnit}
-use Rattle.sc_trails.specs.Giving.{Gives}
+use Rattle.sc_propagation.specs.Giving.{Gives}
 use Rattle.sc_search.specs.Given.{IsGiven}
-use Rattle.sc_trails.specs.Propagation.{IsNew}
-use Rattle.sc_trails.specs.Steps.{IsClause}
-use Rattle.sc_trails.specs.Trails.{true_before}
+use Rattle.sc_propagation.specs.Propagation.{IsNew}
+use Rattle.sc_propagation.specs.Steps.{IsClause}
+use Rattle.sc_propagation.specs.Trails.{true_before}
 use Rattle.sc_search.specs.Turns.{IsQuietNow}
 use Rattle.sc_search.specs.declared.giving.Given.{Given}
 use Rattle.sc_search.specs.declared.solver.Solver.{Solver}

@@ -14,24 +14,24 @@ use Rattle.sc_clauses.specs.declared.step.Instance as instance
 use Rattle.sc_clauses.specs.declared.step.Step.{Step}
 use Rattle.sc_clauses.specs.declared.step.Step.TheVariants.{Instance, Learned}
 use Rattle.sc_search.specs.Findings.{IsUnit, AreUnits, no_step, first_step, IsRefutation, IsSpent, IsConsistent, IsDue}
-use Rattle.sc_trails.specs.Propagation.{IsNew}
-use Rattle.sc_trails.specs.Steps.{AreListed, IsLawful, added, after}
-use Rattle.sc_trails.specs.Trails.{true_before, cell_of, set_at, Agree, AreQuiet, AreAllSet, AreInCells, AllInCells, HoldsTrail}
+use Rattle.sc_propagation.specs.Propagation.{IsNew}
+use Rattle.sc_propagation.specs.Steps.{AreListed, IsLawful, added, after}
+use Rattle.sc_propagation.specs.Trails.{true_before, cell_of, set_at, Agree, AreQuiet, AreAllSet, AreInCells, AllInCells, HoldsTrail}
 use Rattle.sc_search.specs.Turns.{IsReady, IsTotal, HasLearned, HasRefuted, HasAdded, HasEnded, HasSettled, IsTurn, IsSearching}
-use Rattle.sc_trails.specs.Rooms.{cell_value}
-use Rattle.sc_trails.specs.Visits.{AreSeenBut, IsWellWatched}
-use Rattle.sc_trails.specs.declared.cell.Cell.{Cell}
-use Rattle.sc_trails.specs.declared.cell.Cell.TheVariants.{Free, Decided, Implied}
+use Rattle.sc_propagation.specs.Rooms.{cell_value}
+use Rattle.sc_propagation.specs.Visits.{AreSeenBut, IsWellWatched}
+use Rattle.sc_propagation.specs.declared.cell.Cell.{Cell}
+use Rattle.sc_propagation.specs.declared.cell.Cell.TheVariants.{Free, Decided, Implied}
 use Rattle.sc_search.specs.declared.solver.Solver.{Solver}
 use Rattle.sc_search.specs.declared.solver.Turn.{Turn}
 use Rattle.sc_search.specs.declared.solver.Turn.TheVariants as turn
-use Rattle.sc_trails.proofs.RoomLaws.{in-cells-of-false, clause-of-false}
-use Rattle.sc_trails.proofs.CellLaws.{consistent}
+use Rattle.sc_propagation.proofs.RoomLaws.{in-cells-of-false, clause-of-false}
+use Rattle.sc_propagation.proofs.CellLaws.{consistent}
 use Rattle.sc_search.proofs.DueLaws.{falls}
 use Rattle.sc_clauses.proofs.LitLaws.{bool_eq-true, negation_twice}
-use Rattle.sc_trails.proofs.LitLaws.{cons-cases, nil-of}
-use Rattle.sc_trails.proofs.NewnessLaws.{new-by, ok-conflict, uncovered}
-use Rattle.sc_trails.proofs.ReadingLaws.{at-end}
+use Rattle.sc_propagation.proofs.LitLaws.{cons-cases, nil-of}
+use Rattle.sc_propagation.proofs.NewnessLaws.{new-by, ok-conflict, uncovered}
+use Rattle.sc_propagation.proofs.ReadingLaws.{at-end}
 
 -- ---- the assignment of a trail's cells
 

@@ -7,8 +7,8 @@ use Rattle.sc_clauses.specs.Assignments.{Assignment, value_of, falsifies}
 use Rattle.sc_clauses.specs.Clauses.{Clause, contained}
 use Rattle.sc_search.specs.declared.searching.Found.{Found}
 use Rattle.sc_search.specs.declared.searching.Found.TheVariants.{Refuted, Consistent, Spent}
-use Rattle.sc_trails.specs.Propagation.{IsNew, FallsBy, HasConflict}
-use Rattle.sc_trails.specs.Steps.{added, after, IsLawful}
+use Rattle.sc_propagation.specs.Propagation.{IsNew, FallsBy, HasConflict}
+use Rattle.sc_propagation.specs.Steps.{added, after, IsLawful}
 
 -- A unit: a lawful step whose clause isn't empty, contains no clause before it, and is new to unit propagation.
 pub record IsUnit (atoms : ℕ) (has_instance : Instance → Type 0) (clause_of : Instance → Clause) (clauses : List Clause) (s : Step) : Type 0 where

@@ -8,12 +8,12 @@ use Rattle.sc_clauses.specs.Clauses.{Clause}
 use Rattle.sc_search.specs.declared.solver.Solver.{Solver}
 use Rattle.sc_search.specs.declared.solver.Turn.{Turn}
 use Rattle.sc_search.specs.declared.solver.Turn.TheVariants as turn
-use Rattle.sc_trails.specs.Propagation.{IsNew, HasConflict}
-use Rattle.sc_trails.specs.Steps.{IsShown, IsLawful, after, added}
+use Rattle.sc_propagation.specs.Propagation.{IsNew, HasConflict}
+use Rattle.sc_propagation.specs.Steps.{IsShown, IsLawful, after, added}
 use Rattle.sc_search.specs.Findings.{IsUnit, AreUnits, IsConsistent, IsDue}
-use Rattle.sc_trails.specs.Trails.{true_before, AreQuiet, HoldsTrail, AreInCells, AreAllSet}
-use Rattle.sc_trails.specs.Readings.{IsFalsified}
-use Rattle.sc_trails.specs.Visits.{AreAlive, AreSeenBut, IsWellWatched}
+use Rattle.sc_propagation.specs.Trails.{true_before, AreQuiet, HoldsTrail, AreInCells, AreAllSet}
+use Rattle.sc_propagation.specs.Readings.{IsFalsified}
+use Rattle.sc_propagation.specs.Visits.{AreAlive, AreSeenBut, IsWellWatched}
 
 -- the state between turns: clauses, watched literals and trail fit together, over n cells and as many marks
 pub record IsReady (n : ℕ) (s : Solver) : Type 0 where

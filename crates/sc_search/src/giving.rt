@@ -1,13 +1,13 @@
 //! Suggested instances whose clauses imply a literal.
 ghost use Rattle.std.specs.Prelude.{◌≡◌, IfOk, IfSome};
 ghost use Rattle.sc_search.specs.Given.{IsGiven};
-ghost use Rattle.sc_trails.specs.Trails.{Agree};
+ghost use Rattle.sc_propagation.specs.Trails.{Agree};
 
 use crate::source::Source;
 use sc_clauses::{Clause, Instance};
 use sc_decisions::{Order, Suggestions};
+use sc_propagation::Trail;
 use sc_refutations::codes_of;
-use sc_trails::Trail;
 use std::alloc::{AllocError, Global};
 
 /// An instance whose clause implies a literal, with the clause.

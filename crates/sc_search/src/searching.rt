@@ -4,9 +4,9 @@ ghost use Rattle.std.specs.List.{Contains};
 ghost use Rattle.sc_clauses.specs.Assignments.{falsifies};
 ghost use Rattle.sc_clauses.specs.Clauses.{Clause};
 ghost use Rattle.sc_search.specs.Findings.{IsRefutation, IsConsistent, IsSpent, IfRefuted, IfConsistent, IfSpent};
-ghost use Rattle.sc_trails.specs.Steps.{AreListed};
+ghost use Rattle.sc_propagation.specs.Steps.{AreListed};
 ghost use Rattle.sc_search.specs.Turns.{HasBegun, IsReady, IsSearching, IsTotal, IsTurn};
-ghost use Rattle.sc_trails.specs.Rooms.{cell_value};
+ghost use Rattle.sc_propagation.specs.Rooms.{cell_value};
 
 use crate::giving::{Given, next_given};
 use crate::solver::{Solver, Turn};

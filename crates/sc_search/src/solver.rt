@@ -1,17 +1,17 @@
 //! The state of a search, and the steps that it logs.
 ghost use Rattle.std.specs.Prelude.{◌≡◌, ◌≢◌, ◌↔◌, ◌+◌, ◌-◌, ◌^◌, ◌<◌, ◌≤◌, ◌++◌, [], ◌∷◌, ℕ, length, map, drop, slice_index_or, IfOk, IsTrue};
 ghost use Rattle.sc_clauses.specs.declared.step.Step.TheVariants as step;
-ghost use Rattle.sc_trails.specs.Readings.{IsFalsified};
-ghost use Rattle.sc_trails.specs.Trails.{AllInCells, AreInCells, HoldsTrail};
-ghost use Rattle.sc_trails.specs.Visits.{AreAlive, AreSeenBut, IsWellWatched};
+ghost use Rattle.sc_propagation.specs.Readings.{IsFalsified};
+ghost use Rattle.sc_propagation.specs.Trails.{AllInCells, AreInCells, HoldsTrail};
+ghost use Rattle.sc_propagation.specs.Visits.{AreAlive, AreSeenBut, IsWellWatched};
 ghost use Rattle.sc_search.specs.Turns.{IsReady, IsKept, IsCalm, IsAtRest, HasLearned, HasRefuted, HasSettled};
-ghost use Rattle.sc_trails.specs.Rooms.{cell_value};
+ghost use Rattle.sc_propagation.specs.Rooms.{cell_value};
 
 use sc_clauses::{Assignment, Clauses, Instance, Learned, Lit, Step, negation};
 use sc_decisions::{Order, Restarts, Suggestions};
 use sc_lists::Seq;
+use sc_propagation::{Analysis, Cell, Pending, Resolvent, Trail, value_of};
 use sc_refutations::{Arena, codes_of, put_codes};
-use sc_trails::{Analysis, Cell, Pending, Resolvent, Trail, value_of};
 use sc_watches::Watches;
 use std::alloc::{AllocError, Global};
 use std::mem;

@@ -13,16 +13,16 @@ use Rattle.sc_nodes.specs.declared.node.Literal.TheVariants.{Bool as bool}
 use Rattle.sc_nodes.specs.declared.node.UnaryOp.TheVariants.{Not}
 use Rattle.sc_terms.specs.Trees.{Tree, leaf, one}
 use Rattle.sc_terms.specs.Folds.{truth_term}
-use Rattle.sc_definitions.specs.Definitions.{definition}
-use Rattle.sc_rules.proofs.MemberLaws.{filter_kept}
+use Rattle.sc_term_definitions.specs.Definitions.{definition}
+use Rattle.sc_rule_laws.proofs.MemberLaws.{filter_kept}
 use Rattle.sc_footprint.specs.Problems.{Posed, IsPosed, closed_terms, atoms, atom_number, literal, literal_in, goal_literal}
 use Rattle.sc_footprint.specs.Definitions.{is_tautology, definition_clauses, address_clauses, is_address, defining}
 use Rattle.sc_footprint.specs.Theories.{IsClauseOf}
 use Rattle.sc_footprint.proofs.TruthLaws.{holds_positive}
-use Rattle.sc_consistency.proofs.LiteralLaws.{literal_truth}
-use Rattle.sc_consistency.proofs.LiteralLaws as literals
-use Rattle.sc_rebuilding.specs.Assignments.{lit}
-use Rattle.sc_consistency.specs.Models.{truth_in}
+use Rattle.sc_model_consistency.proofs.LiteralLaws.{literal_truth}
+use Rattle.sc_model_consistency.proofs.LiteralLaws as literals
+use Rattle.sc_model_laws.specs.Assignments.{lit}
+use Rattle.sc_model_consistency.specs.Models.{truth_in}
 use Rattle.sc_solver.proofs.ClauseLaws.{clause_true}
 use Rattle.sc_solver.proofs.NumberLaws.{atom_there}
 

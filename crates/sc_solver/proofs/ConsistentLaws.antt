@@ -2,10 +2,10 @@
 use Rattle.std.proofs.Common.{ap, ◌∙◌}
 use Rattle.sc_clauses.specs.Assignments.{Assignment, falsifies}
 use Rattle.sc_footprint.specs.Problems.{Posed, IsPosed, goal_term}
-use Rattle.sc_consistency.specs.Laws.{HasSmallPlaces, FalsifiesNoInstance, InstancesSuffice}
-use Rattle.sc_consistency.specs.ModelLaws.{TruthsAreConsistent}
-use Rattle.sc_consistency.specs.Models.{truth_in}
-use Rattle.sc_rebuilding.specs.Consistent as assigned
+use Rattle.sc_model_consistency.specs.Laws.{HasSmallPlaces, FalsifiesNoInstance, InstancesSuffice}
+use Rattle.sc_model_consistency.specs.ModelLaws.{TruthsAreConsistent}
+use Rattle.sc_model_consistency.specs.Models.{truth_in}
+use Rattle.sc_model_laws.specs.Consistent as assigned
 use Rattle.sc_theories.specs.FamilyLaws.{equal_family, set_family, entity_family, string_family}
 use Rattle.sc_theories.specs.OtherLaws.{of_equal, of_set, of_entity, of_string}
 use Rattle.sc_solver.specs.Rebuilding.{IsConsistent}

@@ -9,7 +9,7 @@ use Rattle.sc_terms.specs.Trees.{Tree}
 use Rattle.sc_footprint.specs.Atoms.{is_atom}
 use Rattle.sc_footprint.proofs.NumberingLaws.{at_suc}
 use Rattle.sc_footprint.specs.Problems.{Posed, IsPosed, closed_terms, atoms, numbered, atom_number}
-use Rattle.sc_consistency.proofs.LiteralLaws.{number_at}
+use Rattle.sc_model_consistency.proofs.LiteralLaws.{number_at}
 
 module _ (p : Posed) where
   pub atom_there : (n : ℕ) (t : Tree) → numbered (atoms p) n ≡ Some t → Has (atoms p) t

@@ -27,25 +27,25 @@ use Rattle.sc_terms.specs.TreeSorts.{tree_sort}
 use Rattle.sc_terms.specs.Values.{truth}
 use Rattle.sc_terms.proofs.FoldValues.{truth_yes}
 use Rattle.sc_term_laws.proofs.JudgingLaws.{sort_is}
-use Rattle.sc_definitions.specs.Truths.{is_true}
+use Rattle.sc_term_definitions.specs.Truths.{is_true}
 use Rattle.sc_footprint.specs.Atoms.{is_atom, is_bool, is_opposite}
 use Rattle.sc_footprint.specs.Closure.{Closed, of_goal}
 use Rattle.sc_footprint.specs.Goals.{has_pick}
-use Rattle.sc_rules.proofs.MemberLaws.{filter_within, filter_passes}
+use Rattle.sc_rule_laws.proofs.MemberLaws.{filter_within, filter_passes}
 use Rattle.sc_footprint.specs.Definitions.{defining}
 use Rattle.sc_footprint.specs.Problems.{Posed, IsPosed, goal_term, closed_terms, atoms, atom_number, numbered, number_among, literal_in}
 use Rattle.sc_footprint.specs.Theories.{IsClauseOf}
 use Rattle.sc_footprint.specs.Truths.{is_true_at, truths, IsWorldOf, Satisfies}
 use Rattle.sc_footprint.proofs.NumberingLaws.{within_count}
 use Rattle.sc_footprint.proofs.TruthLaws.{bool_sort, holds_positive}
-use Rattle.sc_consistency.proofs.LiteralLaws.{IsLiteral, of_false, of_not, of_atom, literal_is}
-use Rattle.sc_rebuilding.specs.Assignments.{lit}
-use Rattle.sc_rebuilding.specs.Laws.{TruthsAreRight, PlainIsCovered}
-use Rattle.sc_rebuilding.specs.Models.{IsModel}
-use Rattle.sc_rebuilding.specs.Vals.{Model}
-use Rattle.sc_consistency.specs.Models.{truth_in, model}
-use Rattle.sc_rebuilt_worlds.specs.Laws.{AreTexts, CanBeRebuilt, RebuiltHoldsModel}
-use Rattle.sc_rebuilt_worlds.specs.Rebuilt.{request_of, given_of, IsRebuilt}
+use Rattle.sc_model_consistency.proofs.LiteralLaws.{IsLiteral, of_false, of_not, of_atom, literal_is}
+use Rattle.sc_model_laws.specs.Assignments.{lit}
+use Rattle.sc_model_laws.specs.Laws.{TruthsAreRight, PlainIsCovered}
+use Rattle.sc_model_laws.specs.Models.{IsModel}
+use Rattle.sc_model_laws.specs.Vals.{Model}
+use Rattle.sc_model_consistency.specs.Models.{truth_in, model}
+use Rattle.sc_model_world_laws.specs.Laws.{AreTexts, CanBeRebuilt, RebuiltHoldsModel}
+use Rattle.sc_model_world_laws.specs.Rebuilt.{request_of, given_of, IsRebuilt}
 use Rattle.sc_solver.specs.Rebuilding.{IsConsistent, HasTruths}
 use Rattle.sc_solver.proofs.AssignedLaws.{valued_in, valued, literal_told, goal_told}
 use Rattle.sc_solver.proofs.NumberLaws.{atom_there, number_is}

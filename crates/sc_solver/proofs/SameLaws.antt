@@ -13,25 +13,25 @@ use Rattle.sc_terms.specs.Trees.{Tree}
 use Rattle.sc_footprint.specs.Atoms.{atoms_among}
 use Rattle.sc_footprint.specs.Definitions.{defining, definition_clauses, address_clauses, is_address}
 use Rattle.sc_footprint.specs.Problems.{Posed, IsPosed, AreClosed, atoms, closed_terms, goal_term, literal, literal_in, number_among, numbered, term_of}
-use Rattle.sc_rules.specs.Signed.{Signed, Said}
-use Rattle.sc_rules.specs.Equal.{eq1, eq2, eq3, eq4, eq5, eq6, eq7, eq8}
-use Rattle.sc_rules.specs.Sets.{se1, se2, se3, se4, se5, se6, se7, se8}
-use Rattle.sc_rules.specs.Entities.{en1, en2, en3, en4, en5, en6, en7, en8}
-use Rattle.sc_rules.specs.Strings.{Pattern, st1, st2, st3}
-use Rattle.sc_instances.specs.Clauses.{clause_for, is_clause, is_instance, said_clause}
-use Rattle.sc_instances.specs.Instances.{on_one, on_two, on_three, on_four, equal_said, set_said, entity_said, said_by, equal_of, set_of, entity_of}
-use Rattle.sc_instances.specs.Names.{equal_rule, set_rule, entity_rule}
-use Rattle.sc_instances.specs.declared.rule.EqualRule.{EqualRule}
-use Rattle.sc_instances.specs.declared.rule.EqualRule.TheVariants.{Eq1, Eq2, Eq3, Eq4, Eq5, Eq6, Eq7, Eq8}
-use Rattle.sc_instances.specs.declared.rule.SetRule.{SetRule}
-use Rattle.sc_instances.specs.declared.rule.SetRule.TheVariants.{Se1, Se2, Se3, Se4, Se5, Se6, Se7, Se8}
-use Rattle.sc_instances.specs.declared.rule.EntityRule.{EntityRule}
-use Rattle.sc_instances.specs.declared.rule.EntityRule.TheVariants.{En1, En2, En3, En4, En5, En6, En7, En8}
-use Rattle.sc_string_rows.specs.Instances.{with_term, all_at, on_all, said_of, string_of, IsCrowded, IsInstanceOf}
-use Rattle.sc_string_rows.specs.Names.{string_rule}
-use Rattle.sc_string_rows.specs.Patterns.{patterns, with_asked}
-use Rattle.sc_string_rows.specs.declared.rule.StringRule.{StringRule}
-use Rattle.sc_string_rows.specs.declared.rule.StringRule.TheVariants.{St1, St2, St3}
+use Rattle.sc_rule_laws.specs.Signed.{Signed, Said}
+use Rattle.sc_rule_laws.specs.Equal.{eq1, eq2, eq3, eq4, eq5, eq6, eq7, eq8}
+use Rattle.sc_rule_laws.specs.Sets.{se1, se2, se3, se4, se5, se6, se7, se8}
+use Rattle.sc_rule_laws.specs.Entities.{en1, en2, en3, en4, en5, en6, en7, en8}
+use Rattle.sc_rule_laws.specs.Strings.{Pattern, st1, st2, st3}
+use Rattle.sc_rule_instances.specs.Clauses.{clause_for, is_clause, is_instance, said_clause}
+use Rattle.sc_rule_instances.specs.Instances.{on_one, on_two, on_three, on_four, equal_said, set_said, entity_said, said_by, equal_of, set_of, entity_of}
+use Rattle.sc_rule_instances.specs.Names.{equal_rule, set_rule, entity_rule}
+use Rattle.sc_rule_instances.specs.declared.rule.EqualRule.{EqualRule}
+use Rattle.sc_rule_instances.specs.declared.rule.EqualRule.TheVariants.{Eq1, Eq2, Eq3, Eq4, Eq5, Eq6, Eq7, Eq8}
+use Rattle.sc_rule_instances.specs.declared.rule.SetRule.{SetRule}
+use Rattle.sc_rule_instances.specs.declared.rule.SetRule.TheVariants.{Se1, Se2, Se3, Se4, Se5, Se6, Se7, Se8}
+use Rattle.sc_rule_instances.specs.declared.rule.EntityRule.{EntityRule}
+use Rattle.sc_rule_instances.specs.declared.rule.EntityRule.TheVariants.{En1, En2, En3, En4, En5, En6, En7, En8}
+use Rattle.th_strings_instances.specs.Instances.{with_term, all_at, on_all, said_of, string_of, IsCrowded, IsInstanceOf}
+use Rattle.th_strings_instances.specs.Names.{string_rule}
+use Rattle.th_strings_instances.specs.Patterns.{patterns, with_asked}
+use Rattle.th_strings_instances.specs.declared.rule.StringRule.{StringRule}
+use Rattle.th_strings_instances.specs.declared.rule.StringRule.TheVariants.{St1, St2, St3}
 use Rattle.th_defs.specs.Instances.{is_definition, is_before_last, number_in}
 use Rattle.sc_theories.specs.declared.family.Family.{Family}
 use Rattle.sc_theories.specs.declared.family.Family.TheVariants.{Definition, Equal, Set, Entity, String, Other}

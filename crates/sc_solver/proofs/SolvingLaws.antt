@@ -7,9 +7,9 @@ use Rattle.sc_footprint.specs.Problems.{Posed, atoms}
 use Rattle.sc_footprint.specs.Truths.{IsUnsatisfiable}
 use Rattle.sc_checker.specs.Verdicts.{Adds, IsAccepted}
 use Rattle.sc_checker.proofs.VerdictLaws.{adds_by_more}
-use Rattle.sc_finding.specs.Findings as found
-use Rattle.sc_finding.specs.declared.finding.Finding.{Finding}
-use Rattle.sc_finding.specs.declared.finding.Finding.TheVariants as finding
+use Rattle.sc_theory_search.specs.Findings as found
+use Rattle.sc_theory_search.specs.declared.finding.Finding.{Finding}
+use Rattle.sc_theory_search.specs.declared.finding.Finding.TheVariants as finding
 use Rattle.sc_clauses.specs.Assignments.{Assignment}
 use Rattle.sc_theories.specs.Theories.{HasRule, HasOtherRule, rule_clause}
 use Rattle.sc_theories.specs.RuleLaws.{other_is}

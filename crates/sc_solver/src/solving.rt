@@ -4,9 +4,9 @@ ghost use Rattle.sc_solver.specs.Solutions.{IsSolution};
 
 use crate::rebuilding::rebuild;
 use sc_checker::Log;
-use sc_finding::{Finding, find};
 use sc_footprint::Problem;
 use sc_theories::OtherRules;
+use sc_theory_search::{Finding, find};
 use sc_world::World;
 use std::alloc::{AllocError, Global};
 

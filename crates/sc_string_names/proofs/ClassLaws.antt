@@ -13,9 +13,9 @@ use Rattle.sc_terms.specs.Trees.{Tree, leaf}
 use Rattle.sc_terms.specs.TreeSorts.{tree_sort}
 use Rattle.sc_terms.proofs.OrderLaws.{tree_eq-itself}
 use Rattle.sc_term_laws.specs.Tests.{bool_level}
-use Rattle.sc_rules.proofs.MemberLaws.{any_first}
-use Rattle.sc_rebuilding.specs.Assignments.{Assignment, lit}
-use Rattle.sc_rebuilding.specs.Names.{are_equal}
+use Rattle.sc_rule_laws.proofs.MemberLaws.{any_first}
+use Rattle.sc_model_laws.specs.Assignments.{Assignment, lit}
+use Rattle.sc_model_laws.specs.Names.{are_equal}
 use Rattle.sc_string_names.specs.Classes.{put_class, classes}
 
 module _ (m : Assignment) where

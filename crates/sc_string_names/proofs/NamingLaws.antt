@@ -10,15 +10,15 @@ use Rattle.sc_sorts.proofs.OrderLaws.{sort_eq_decides}
 use Rattle.sc_terms.specs.Tables.{tree}
 use Rattle.sc_terms.specs.Trees.{Tree}
 use Rattle.sc_terms.specs.TreeSorts.{tree_sort}
-use Rattle.sc_rules.specs.Strings.{Pattern}
-use Rattle.sc_rules.proofs.MemberLaws.{filter_kept, filter_passes, filter_within}
+use Rattle.sc_rule_laws.specs.Strings.{Pattern}
+use Rattle.sc_rule_laws.proofs.MemberLaws.{filter_kept, filter_passes, filter_within}
 use Rattle.sc_footprint.specs.Closure.{Closed}
 use Rattle.sc_footprint.specs.Problems.{Posed, IsPosed, goal_term, closed_terms}
 use Rattle.sc_models.specs.Models.{truth_in}
-use Rattle.sc_rebuilding.specs.Consistent.{IsConsistent}
-use Rattle.sc_rebuilding.specs.Laws.{ClassesBound}
-use Rattle.sc_rebuilding.specs.Names.{of_sort, named, literal_entries, signs_of}
-use Rattle.sc_rebuilding.specs.Texts.{ArePatterns, IsString, AreOthers, AreTextsOf}
+use Rattle.sc_model_laws.specs.Consistent.{IsConsistent}
+use Rattle.sc_model_laws.specs.Laws.{ClassesBound}
+use Rattle.sc_model_laws.specs.Names.{of_sort, named, literal_entries, signs_of}
+use Rattle.sc_model_laws.specs.Texts.{ArePatterns, IsString, AreOthers, AreTextsOf}
 use Rattle.sc_string_names.specs.Classes.{classes}
 use Rattle.sc_string_names.specs.Naming.{AreStringNames}
 use Rattle.sc_string_names.specs.Numbers.{Entry, named_terms}

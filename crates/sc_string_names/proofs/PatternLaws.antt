@@ -12,10 +12,10 @@ use Rattle.sc_schema.specs.declared.declarations.Env.{Env}
 use Rattle.sc_schema.specs.Declarations.{Declarations}
 use Rattle.sc_nodes.specs.declared.node.UnaryOp.TheVariants.{Like}
 use Rattle.sc_terms.specs.Trees.{Tree, one}
-use Rattle.sc_rules.specs.Strings.{Pattern, asked_of}
-use Rattle.sc_rules.proofs.MemberLaws.{any_first}
+use Rattle.sc_rule_laws.specs.Strings.{Pattern, asked_of}
+use Rattle.sc_rule_laws.proofs.MemberLaws.{any_first}
 use Rattle.sc_footprint.specs.Closure.{Closed}
-use Rattle.sc_rebuilding.specs.Texts.{ArePatterns}
+use Rattle.sc_model_laws.specs.Texts.{ArePatterns}
 use Rattle.sc_string_names.specs.Patterns.{same_part, same_pattern, put_pattern, put_if, put_patterns}
 
 same_part_true : (a b : Part) → same_part a b ≡ true → a ≡ b

@@ -8,9 +8,9 @@ use Rattle.sc_laws.proofs.BoolLaws.{and_first, and_second}
 use Rattle.sc_lists.proofs.ListLaws.{all_append}
 use Rattle.sc_lists.specs.Members.{Has}
 use Rattle.sc_terms.specs.Trees.{Tree}
-use Rattle.sc_rules.specs.Strings.{Pattern}
-use Rattle.sc_rebuilding.specs.Assignments.{Assignment}
-use Rattle.sc_rebuilding.specs.Names.{Name, signs_of}
+use Rattle.sc_rule_laws.specs.Strings.{Pattern}
+use Rattle.sc_model_laws.specs.Assignments.{Assignment}
+use Rattle.sc_model_laws.specs.Names.{Name, signs_of}
 use Rattle.sc_string_names.specs.Tables.{Table, same_signs, texts_at, texts_in, AreFound, IsEntered, AreEntered}
 
 same_signs_true : (v w : List Bool) → same_signs v w ≡ true → v ≡ w

@@ -15,13 +15,13 @@ use Rattle.sc_terms.specs.Folds.{constant, truth_term}
 use Rattle.sc_terms.specs.Tables.{tree}
 use Rattle.sc_terms.specs.Trees.{Tree, leaf, one}
 use Rattle.sc_terms.proofs.OrderLaws.{tree_cmp_level}
-use Rattle.sc_rules.specs.Strings.{Pattern}
+use Rattle.sc_rule_laws.specs.Strings.{Pattern}
 use Rattle.sc_footprint.specs.Atoms.{is_opposite}
 use Rattle.sc_footprint.specs.Problems.{Posed, IsPosed, atoms, numbered, atom_number, literal, literal_in}
 use Rattle.sc_footprint.proofs.NumberingLaws.{numbered_back}
-use Rattle.sc_instances.proofs.LiteralLaws.{IsLiteral, of_false, of_not, of_atom, literal_is, number_there, not_in_table, not_listed, first, literal_truth as literal_of_truth}
+use Rattle.sc_rule_instances.proofs.LiteralLaws.{IsLiteral, of_false, of_not, of_atom, literal_is, number_there, not_in_table, not_listed, first, literal_truth as literal_of_truth}
 use Rattle.sc_models.specs.Models.{truth_in}
-use Rattle.sc_rebuilding.specs.Assignments.{lit}
+use Rattle.sc_model_laws.specs.Assignments.{lit}
 use Rattle.sc_string_names.specs.Truths.{literal_truth}
 
 -- a negation has the other truth

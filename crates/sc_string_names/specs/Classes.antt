@@ -2,8 +2,8 @@
 use Rattle.std.specs.Prelude.{◌≡◌, ◌++◌, List, [], ◌∷◌, if◌then◌else◌, refl}
 use Rattle.std.specs.List.{list_any}
 use Rattle.sc_terms.specs.Trees.{Tree}
-use Rattle.sc_rebuilding.specs.Assignments.{Assignment}
-use Rattle.sc_rebuilding.specs.Names.{are_equal}
+use Rattle.sc_model_laws.specs.Assignments.{Assignment}
+use Rattle.sc_model_laws.specs.Names.{are_equal}
 
 -- a term that equals none of those found goes last
 abbrev pub put_class : Assignment → List Tree → Tree → List Tree

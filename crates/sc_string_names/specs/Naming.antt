@@ -2,10 +2,10 @@
 use Rattle.std.specs.Prelude.{◌≡◌, List}
 use Rattle.sc_clauses.specs.Assignments.{Assignment}
 use Rattle.sc_footprint.specs.Problems.{Posed, goal_term, closed_terms}
-use Rattle.sc_rules.specs.Strings.{Pattern}
+use Rattle.sc_rule_laws.specs.Strings.{Pattern}
 use Rattle.sc_models.specs.Models.{truth_in}
-use Rattle.sc_rebuilding.specs.Names.{Texts, names_of}
-use Rattle.sc_rebuilding.specs.Texts.{ArePatterns, AreTextsOf}
+use Rattle.sc_model_laws.specs.Names.{Texts, names_of}
+use Rattle.sc_model_laws.specs.Texts.{ArePatterns, AreTextsOf}
 use Rattle.sc_string_names.specs.Numbers.{Entry, named_terms}
 
 -- strings by their numbers in the table, with their names: those of literals first, and then in the order of strings

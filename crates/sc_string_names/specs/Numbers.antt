@@ -4,7 +4,7 @@ use Rattle.std.specs.List.{AllByRecursion}
 use Rattle.sc_nodes.specs.declared.node.Node.{Node}
 use Rattle.sc_terms.specs.Trees.{Tree}
 use Rattle.sc_terms.specs.Tables.{tree}
-use Rattle.sc_rebuilding.specs.Names.{Name, Named}
+use Rattle.sc_model_laws.specs.Names.{Name, Named}
 
 -- each is a number of the table
 abbrev pub AreIn : List Node → List ℕ → Type 0

@@ -5,7 +5,7 @@ use Rattle.sc_pattern.specs.declared.part.Part.{Part}
 use Rattle.sc_pattern.specs.declared.part.Part.TheVariants.{Star, Char}
 use Rattle.sc_nodes.specs.declared.node.UnaryOp.TheVariants.{Like}
 use Rattle.sc_terms.specs.Trees.{Tree, one}
-use Rattle.sc_rules.specs.Strings.{Pattern, asked_of}
+use Rattle.sc_rule_laws.specs.Strings.{Pattern, asked_of}
 
 abbrev pub same_part : Part → Part → Bool
 same_part Star Star = true

@@ -7,9 +7,9 @@ use Rattle.sc_clauses.specs.Clauses.{bool_eq}
 use Rattle.sc_languages.specs.Strings.{AreStrings}
 use Rattle.sc_lists.specs.Members.{Has}
 use Rattle.sc_terms.specs.Trees.{Tree}
-use Rattle.sc_rules.specs.Strings.{Pattern}
-use Rattle.sc_rebuilding.specs.Assignments.{Assignment}
-use Rattle.sc_rebuilding.specs.Names.{Name, Texts, signs_of}
+use Rattle.sc_rule_laws.specs.Strings.{Pattern}
+use Rattle.sc_model_laws.specs.Assignments.{Assignment}
+use Rattle.sc_model_laws.specs.Names.{Name, Texts, signs_of}
 
 abbrev pub Table : Type 0
 Table = List (List Bool × List Name)

@@ -2,7 +2,7 @@
 ghost use Rattle.std.specs.Prelude.{◌≡◌, ◌<◌, [], length, map, IfOk};
 ghost use Rattle.std.specs.List.{list_any};
 ghost use Rattle.sc_models.specs.Models.{truth_in};
-ghost use Rattle.sc_rebuilding.specs.Names.{are_equal};
+ghost use Rattle.sc_model_laws.specs.Names.{are_equal};
 ghost use Rattle.sc_string_names.specs.Classes.{classes};
 ghost use Rattle.sc_string_names.specs.Numbers.{AreIn};
 ghost use Rattle.sc_terms.specs.Tables.{tree};

@@ -12,6 +12,6 @@ mod truth;
 
 pub use names::name_in;
 pub use numbers::closed_numbers;
-pub use sc_instances::is_one_sort;
+pub use sc_rule_instances::is_one_sort;
 pub use strings::string_names;
 pub use truth::is_equal;

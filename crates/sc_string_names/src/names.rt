@@ -4,7 +4,7 @@ ghost use Rattle.std.specs.List.{list_any};
 ghost use Rattle.std.specs.Option.{option_copied};
 ghost use Rattle.std.specs.Str.{bytes_eq};
 ghost use Rattle.sc_models.specs.Models.{truth_in};
-ghost use Rattle.sc_rebuilding.specs.Names.{are_equal, name_in as name_among, unused as first_unused};
+ghost use Rattle.sc_model_laws.specs.Names.{are_equal, name_in as name_among, unused as first_unused};
 ghost use Rattle.sc_string_names.specs.Numbers.{HaveTerms, named_terms};
 ghost use Rattle.sc_terms.specs.Tables.{tree};
 
@@ -15,7 +15,7 @@ use sc_lists::{Seq, Text};
 use std::alloc::{AllocError, Global};
 
 /// The name of a term that equals another, if one has a name.
-#[tactic(auto, unfolding(sc_rebuilding::specs::Names::name_in))]
+#[tactic(auto, unfolding(sc_model_laws::specs::Names::name_in))]
 pub fn name_in<'a>(
     problem: &Problem<'_>,
     m: &Assignment,
@@ -52,7 +52,7 @@ fn is_name(problem: &Problem<'_>, entries: &[(u64, Text)], text: &Text) -> bool
 }
 
 /// The first of some texts that is no name; the empty one where each is, or there are none.
-#[tactic(auto, unfolding(sc_rebuilding::specs::Names::unused))]
+#[tactic(auto, unfolding(sc_model_laws::specs::Names::unused))]
 pub(crate) fn unused(
     alloc: Global,
     problem: &Problem<'_>,
@@ -73,7 +73,7 @@ pub(crate) fn unused(
 }
 
 /// The same where there may be no texts.
-#[tactic(auto, unfolding(sc_rebuilding::specs::Names::unused))]
+#[tactic(auto, unfolding(sc_model_laws::specs::Names::unused))]
 pub(crate) fn unused_of(
     alloc: Global,
     problem: &Problem<'_>,

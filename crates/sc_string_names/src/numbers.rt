@@ -1,6 +1,6 @@
 //! The closed terms of a problem, and the strings among them, by their numbers in the table of terms.
 ghost use Rattle.std.specs.Prelude.{◌≡◌, ◌<◌, length, map, IfOk};
-ghost use Rattle.sc_rebuilding.specs.Names.{of_sort};
+ghost use Rattle.sc_model_laws.specs.Names.{of_sort};
 ghost use Rattle.sc_sorts.specs.declared.sort.Sort.TheVariants as sort;
 ghost use Rattle.sc_sorts.specs.contracts.sort.SortPartialEq.TheImpl.{ghosts as sorts};
 ghost use Rattle.sc_string_names.specs.Numbers.{AreIn};
@@ -8,8 +8,8 @@ ghost use Rattle.sc_terms.specs.Tables.{tree};
 ghost use Rattle.sc_terms.specs.TreeSorts.{tree_sort};
 
 use sc_footprint::Problem;
-use sc_instances::closed_at;
 use sc_lists::Seq;
+use sc_rule_instances::closed_at;
 use sc_sorts::Sort;
 use std::alloc::{AllocError, Global};
 
@@ -32,7 +32,7 @@ fn is_string(problem: &Problem<'_>, n: u64) -> bool
 }
 
 /// Those of some terms that are strings.
-#[tactic(auto, unfolding(sc_rebuilding::specs::Names::of_sort))]
+#[tactic(auto, unfolding(sc_model_laws::specs::Names::of_sort))]
 pub(crate) fn strings_among(
     alloc: Global,
     problem: &Problem<'_>,

@@ -6,9 +6,9 @@ ghost use Rattle.sc_string_names.specs.Patterns.{same_part as same_part_test, sa
 ghost use Rattle.sc_terms.specs.Tables.{tree};
 
 use sc_footprint::Problem;
-use sc_instances::asked_at;
 use sc_lists::Seq;
 use sc_pattern::{Part, Pattern};
+use sc_rule_instances::asked_at;
 use std::alloc::{AllocError, Global};
 
 fn same_part(a: &Part, b: &Part) -> bool

@@ -3,8 +3,8 @@ ghost use Rattle.std.specs.Prelude.{◌≡◌, ◌<◌, ◌++◌, length, map, I
 ghost use Rattle.std.specs.Option.{option_copied};
 ghost use Rattle.sc_footprint.specs.Problems.{goal_term};
 ghost use Rattle.sc_models.specs.Models.{truth_in};
-ghost use Rattle.sc_rebuilding.specs.Consistent.{IsConsistent};
-ghost use Rattle.sc_rebuilding.specs.Names.{literal_text, literal_entries, next_name as name_after, named, signs_of as signs_under, unused as first_unused};
+ghost use Rattle.sc_model_laws.specs.Consistent.{IsConsistent};
+ghost use Rattle.sc_model_laws.specs.Names.{literal_text, literal_entries, next_name as name_after, named, signs_of as signs_under, unused as first_unused};
 ghost use Rattle.sc_string_names.specs.Naming.{AreStringNames};
 ghost use Rattle.sc_string_names.specs.Numbers.{AreIn, HaveTerms, named_terms};
 ghost use Rattle.sc_string_names.specs.Tables.{texts_in};
@@ -18,9 +18,9 @@ use crate::table::{Entry, signs_of, table_of, texts_at};
 use sc_clauses::Assignment;
 use sc_footprint::Problem;
 use sc_lists::{Seq, Text};
+use sc_model_laws::model_laws;
 use sc_nodes::{Leaf, Literal, Node};
 use sc_pattern::Pattern;
-use sc_rebuilding::model_laws;
 use std::alloc::{AllocError, Global};
 
 /// What a literal says. None exactly of what is no literal of a string.
@@ -98,7 +98,7 @@ fn next_name(
 }
 
 /// Literals first, and then each string in its order.
-#[tactic(auto, unfolding(sc_rebuilding::specs::Names::named))]
+#[tactic(auto, unfolding(sc_model_laws::specs::Names::named))]
 fn name_strings(
     alloc: Global,
     problem: &Problem<'_>,

@@ -4,7 +4,7 @@ ghost use Rattle.std.specs.Option.{option_copied};
 ghost use Rattle.std.specs.Str.{chars};
 ghost use Rattle.sc_languages.specs.Strings.{AreStrings};
 ghost use Rattle.sc_models.specs.Models.{truth_in};
-ghost use Rattle.sc_rebuilding.specs.Names.{signs_of as signs_under};
+ghost use Rattle.sc_model_laws.specs.Names.{signs_of as signs_under};
 ghost use Rattle.sc_string_names.specs.Numbers.{AreIn};
 ghost use Rattle.sc_string_names.specs.Tables.{same_signs as same_signs_test, texts_at as texts_for, IsEntered, AreEntered};
 ghost use Rattle.sc_terms.specs.Tables.{tree};

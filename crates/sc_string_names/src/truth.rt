@@ -1,8 +1,8 @@
 //! The truth that an assignment gives to terms.
 ghost use Rattle.std.specs.Prelude.{◌≡◌, ◌<◌, length, IfOk};
 ghost use Rattle.sc_models.specs.Models.{truth_in};
-ghost use Rattle.sc_rebuilding.specs.Assignments.{lit as truth_of};
-ghost use Rattle.sc_rebuilding.specs.Names.{are_equal};
+ghost use Rattle.sc_model_laws.specs.Assignments.{lit as truth_of};
+ghost use Rattle.sc_model_laws.specs.Names.{are_equal};
 ghost use Rattle.sc_string_names.specs.Truths.{atom_truth as atom_truth_in, literal_truth as literal_truth_in};
 ghost use Rattle.sc_terms.specs.Folds.{like_term};
 ghost use Rattle.sc_terms.specs.Tables.{tree};
@@ -11,9 +11,9 @@ ghost use Rattle.sc_nodes.specs.declared.node.UnaryOp.TheVariants.{Like as like_
 
 use sc_clauses::{Assignment, Atom, Lit};
 use sc_footprint::Problem;
-use sc_instances::{equal, find, literal_if};
 use sc_nodes::{Node, UnaryOp, literal_like};
 use sc_pattern::Pattern;
+use sc_rule_instances::{equal, find, literal_if};
 use std::alloc::{AllocError, Global};
 
 /// The truth of an atom.
@@ -61,7 +61,7 @@ fn is_like_other(problem: &Problem<'_>, m: &Assignment, x: u64, pattern: Pattern
 }
 
 /// Whether a string matches a pattern under an assignment.
-#[tactic(auto, unfolding(sc_terms::specs::Folds::like_term, sc_rebuilding::specs::Assignments::lit))]
+#[tactic(auto, unfolding(sc_terms::specs::Folds::like_term, sc_model_laws::specs::Assignments::lit))]
 pub(crate) fn is_like(
     alloc: Global,
     problem: &Problem<'_>,

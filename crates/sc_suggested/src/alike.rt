@@ -6,12 +6,12 @@ ghost use Rattle.std.specs.Prelude.{◌<◌, length};
 use crate::known::{Known, tell_equation};
 use crate::places::{Place, Span, is_at_place, places, spans};
 use sc_clauses::{Instance, Lit};
-use sc_entity_rows::roots;
 use sc_footprint::Problem;
-use sc_instances::{EntityRule, equal, find, literal_if, member, present, write_entity};
 use sc_nodes::{BinaryOp, Node, UnaryOp};
+use sc_rule_instances::{EntityRule, equal, find, literal_if, member, present, write_entity};
 use sc_sorts::Sort;
 use std::alloc::{AllocError, Global};
+use th_entities_instances::roots;
 
 /// What is known, and the memberships among it in the order of their sets.
 #[derive(Clone, Copy)]

@@ -3,8 +3,8 @@
 use indexmap::IndexMap;
 use sc_clauses::{Instance, Lit};
 use sc_footprint::Problem;
-use sc_instances::{EntityRule, write_entity};
 use sc_nodes::{BinaryOp, Node, UnaryOp};
+use sc_rule_instances::{EntityRule, write_entity};
 use std::alloc::{AllocError, Global};
 
 /// That an entity is in another one, by the numbers of both and of the first one's ancestors.

@@ -3,8 +3,8 @@
 use sc_clauses::Lit;
 use sc_equal_chains::sides;
 use sc_footprint::Problem;
-use sc_instances::equal;
 use sc_nodes::{Leaf, Node};
+use sc_rule_instances::equal;
 use std::alloc::{AllocError, Global};
 
 /// What some literals tell.

@@ -1,10 +1,10 @@
 //! Closed places of attributes and of tags, in the order of their roots.
 ghost use Rattle.std.specs.Prelude.{◌<◌, length};
 
-use sc_entity_rows::roots;
 use sc_footprint::Problem;
 use sc_nodes::{BinaryOp, Node, UnaryOp};
 use std::alloc::{AllocError, Global};
+use th_entities_instances::roots;
 
 /// A place, with the attributes or the tag of which it is one, by the numbers of closed terms.
 #[derive(Clone, Copy)]

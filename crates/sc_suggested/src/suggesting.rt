@@ -5,7 +5,7 @@ use crate::climbing::put_climbs;
 use crate::known::{Known, equation, is_constant, tell_equation};
 use sc_clauses::{Instance, Lit};
 use sc_footprint::Problem;
-use sc_instances::{EqualRule, write_equal};
+use sc_rule_instances::{EqualRule, write_equal};
 use std::alloc::{AllocError, Global};
 
 /// The instance by which two terms are equal or not, since the first equals a third. Of terms that are equal one has to be a

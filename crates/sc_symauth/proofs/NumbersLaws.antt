@@ -13,13 +13,13 @@ use Rattle.sc_terms.specs.Trees.{Tree}
 use Rattle.sc_terms.specs.Tables.{tree, Keeps, StandsFor}
 use Rattle.sc_terms.specs.Folds.{not_term, and_term}
 use Rattle.sc_terms.specs.Joined.{any_of}
-use Rattle.sc_codes.specs.Code.{Code}
-use Rattle.sc_codes.proofs.NumbersLaws.{in_table, code_is, code_later, code_same, for_more}
-use Rattle.sc_codes.specs.declared.opt.Opt.{Opt}
+use Rattle.sc_constructs.specs.Code.{Code}
+use Rattle.sc_constructs.proofs.NumbersLaws.{in_table, code_is, code_later, code_same, for_more}
+use Rattle.sc_constructs.specs.declared.opt.Opt.{Opt}
 use Rattle.sc_symauth.specs.declared.compiled.CompiledPolicy.{CompiledPolicy}
 use Rattle.sc_symauth.specs.declared.typed.Typed.{Typed}
 use Rattle.sc_symauth.specs.Standings.{Compiled, satisfied, any_satisfied, allow, any_error, error, with_effect, compiled_typed, all_compiled}
-use Rattle.sc_codes.specs.Numbers.{IsCode, StandsAs, StandForAll, code_at}
+use Rattle.sc_constructs.specs.Numbers.{IsCode, StandsAs, StandForAll, code_at}
 use Rattle.sc_symauth.specs.Numbers.{AreCodes, AreCompiled, compiled_at}
 
 -- ---- in a later table

@@ -19,7 +19,7 @@ use Rattle.sc_eval.proofs.EvalLaws.{eval_And, eval_Literal}
 use Rattle.sc_auth.specs.Decisions.{true_in, is_true, satisfied as is_satisfied, errs, permits, allows}
 use Rattle.sc_terms.specs.Trees.{Tree}
 use Rattle.sc_terms.specs.Values.{Val, val, it, yes, truth, and_value}
-use Rattle.sc_codes.specs.Code.{Code}
+use Rattle.sc_constructs.specs.Code.{Code}
 use Rattle.sc_symeval.specs.Agreement.{Agrees}
 use Rattle.sc_symauth.specs.Standings.{Compiled, satisfied, error, any_satisfied, allow, any_error}
 use Rattle.sc_symauth.specs.Agreement.{IsTruth, Represents}

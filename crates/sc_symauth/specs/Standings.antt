@@ -7,7 +7,7 @@ use Rattle.sc_schema.specs.Declarations.{Declarations}
 use Rattle.sc_terms.specs.Trees.{Tree}
 use Rattle.sc_terms.specs.Folds.{not_term, and_term}
 use Rattle.sc_terms.specs.Joined.{any_of}
-use Rattle.sc_codes.specs.Code.{Code}
+use Rattle.sc_constructs.specs.Code.{Code}
 use Rattle.sc_symeval.specs.Codes.{code_of}
 use Rattle.sc_symauth.specs.declared.typed.Typed.{Typed}
 

@@ -1,10 +1,10 @@
 //! What a set of policies decides, as a term.
 ghost use Rattle.std.specs.Prelude.{◌≡◌, All, filter, map, IfOk};
-ghost use Rattle.sc_codes.specs.declared.opt.Opt.{Opt as AnyOpt};
+ghost use Rattle.sc_constructs.specs.declared.opt.Opt.{Opt as AnyOpt};
 ghost use Rattle.sc_terms.specs.Tables.{Keeps, StandsFor};
 ghost use Rattle.sc_symauth.specs.declared.compiled.CompiledPolicy.{CompiledPolicy as AnyCompiled};
 ghost use Rattle.sc_symauth.specs.Standings.{satisfied, error, allow, any_error, any_satisfied};
-ghost use Rattle.sc_codes.specs.Numbers.{IsCode, StandForAll, code_at};
+ghost use Rattle.sc_constructs.specs.Numbers.{IsCode, StandForAll, code_at};
 ghost use Rattle.sc_symauth.specs.Numbers.{AreCodes, compiled_at, has_effect};
 
 use crate::compiled::CompiledPolicy;

@@ -11,7 +11,7 @@ ghost use Rattle.sc_world.specs.declared.world.World.{World as AnyWorld};
 ghost use Rattle.sc_eval.specs.Outcomes.{Outcome};
 ghost use Rattle.sc_auth.specs.Decisions.{allows, errs, is_true};
 ghost use Rattle.sc_terms.specs.Values.{val, yes};
-ghost use Rattle.sc_codes.specs.Code.{Code};
+ghost use Rattle.sc_constructs.specs.Code.{Code};
 ghost use Rattle.sc_symeval.specs.Agreement.{Agrees};
 ghost use Rattle.sc_symauth.specs.Standings.{Compiled, satisfied, error, allow, any_error};
 ghost use Rattle.sc_symauth.specs.Agreement.{AreTerms, IsTruth, Represents};

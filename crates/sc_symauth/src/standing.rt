@@ -3,7 +3,7 @@ ghost use Rattle.std.specs.Prelude.{IfOk};
 ghost use Rattle.sc_terms.specs.Tables.{Keeps, StandsFor};
 ghost use Rattle.sc_symeval.specs.Codes.{code_of};
 ghost use Rattle.sc_symauth.specs.Standings.{satisfied, error};
-ghost use Rattle.sc_codes.specs.Numbers.{IsCode, code_at};
+ghost use Rattle.sc_constructs.specs.Numbers.{IsCode, code_at};
 
 use sc_schema::{Env, Schema};
 use sc_symeval::{Opt, compile};
@@ -13,7 +13,7 @@ use std::alloc::{AllocError, Global};
 
 /// Whether a condition has a value and is true. The condition is typed for an environment of the
 /// schema. Terms of the table keep their numbers, also where memory is wanted.
-#[tactic(auto, using(sc_codes::proofs::NumbersLaws::in_table, crate::proofs::NumbersLaws::satisfied_of))]
+#[tactic(auto, using(sc_constructs::proofs::NumbersLaws::in_table, crate::proofs::NumbersLaws::satisfied_of))]
 pub fn satisfied_term(
     alloc: Global,
     terms: &mut Terms,
@@ -31,7 +31,7 @@ pub fn satisfied_term(
 
 /// Whether a condition has no value. The condition is typed for an environment of the schema.
 /// Terms of the table keep their numbers, also where memory is wanted.
-#[tactic(auto, using(sc_codes::proofs::NumbersLaws::in_table, crate::proofs::NumbersLaws::error_of))]
+#[tactic(auto, using(sc_constructs::proofs::NumbersLaws::in_table, crate::proofs::NumbersLaws::error_of))]
 pub fn error_term(
     alloc: Global,
     terms: &mut Terms,

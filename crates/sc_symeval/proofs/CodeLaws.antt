@@ -18,8 +18,8 @@ use Rattle.sc_schema.specs.declared.declarations.Env.{Env}
 use Rattle.sc_schema.specs.Declarations.{Declarations}
 use Rattle.sc_typed.specs.Outcomes.{ty}
 use Rattle.sc_typed.specs.Types.{is_true}
-use Rattle.sc_codes.specs.Code.{CodeField, always, constant, like_code, is_code, set_code, record_code}
-use Rattle.sc_codes.specs.Objects.{access_code, path_code, written_term, variable_term}
+use Rattle.sc_constructs.specs.Code.{CodeField, always, constant, like_code, is_code, set_code, record_code}
+use Rattle.sc_constructs.specs.Objects.{access_code, path_code, written_term, variable_term}
 use Rattle.sc_symeval.specs.Codes.{Part, of_choice, of_either, of_both, binary_code, unary_code, is_in_code, code_step, whole, part_step, part, code_of}
 
 -- an expression, one level deep

@@ -15,11 +15,11 @@ use Rattle.sc_terms.specs.Tables.{Places, tree, node_parts, at_numbers, AreBelow
 use Rattle.sc_terms.specs.Folds.{set_term}
 use Rattle.sc_terms.proofs.TableLaws.{stands_later}
 use Rattle.sc_terms.specs.Joined.{all_of}
-use Rattle.sc_codes.specs.declared.opt.Opt.{Opt}
-use Rattle.sc_codes.specs.declared.setting.Setting.{Setting}
-use Rattle.sc_codes.specs.Code.{CodeField, vals, first_sort, set_code, with_part, in_order, record_code}
-use Rattle.sc_codes.specs.Numbers.{AreCodes, AreFields, StandsAs, StandAs, StandAsFields, OptField, codes_at, field_at}
-use Rattle.sc_codes.proofs.NumbersLaws as numbers
+use Rattle.sc_constructs.specs.declared.opt.Opt.{Opt}
+use Rattle.sc_constructs.specs.declared.setting.Setting.{Setting}
+use Rattle.sc_constructs.specs.Code.{CodeField, vals, first_sort, set_code, with_part, in_order, record_code}
+use Rattle.sc_constructs.specs.Numbers.{AreCodes, AreFields, StandsAs, StandAs, StandAsFields, OptField, codes_at, field_at}
+use Rattle.sc_constructs.proofs.NumbersLaws as numbers
 use Rattle.sc_symeval.specs.Settings.{code_in, codes_in, field_in}
 use Rattle.sc_symeval.specs.Parts.{with_number, numbers_in_order}
 use Rattle.sc_terms.proofs.DefaultLaws.{parts_listed}

@@ -18,16 +18,16 @@ use Rattle.sc_typed.specs.Outcomes.{ty}
 use Rattle.sc_typed.specs.Types.{is_true}
 use Rattle.sc_nodes.specs.declared.node.Node.{Node}
 use Rattle.sc_terms.specs.Tables.{Keeps}
-use Rattle.sc_codes.specs.declared.opt.Opt.{Opt}
-use Rattle.sc_codes.specs.Code.{Code, always, constant, choice_code, branch_code, or_code, and_code, like_code, is_code, set_code, record_code}
-use Rattle.sc_codes.specs.Objects.{access_code, path_code, in_code, written_term, variable_term}
-use Rattle.sc_codes.specs.Numbers.{IsCode, StandsAs, code_at}
-use Rattle.sc_codes.specs.declared.setting.Setting.{Setting}
-use Rattle.sc_codes.proofs.NumbersLaws.{as_later, in_table, code_is, ready_later}
+use Rattle.sc_constructs.specs.declared.opt.Opt.{Opt}
+use Rattle.sc_constructs.specs.Code.{Code, always, constant, choice_code, branch_code, or_code, and_code, like_code, is_code, set_code, record_code}
+use Rattle.sc_constructs.specs.Objects.{access_code, path_code, in_code, written_term, variable_term}
+use Rattle.sc_constructs.specs.Numbers.{IsCode, StandsAs, code_at}
+use Rattle.sc_constructs.specs.declared.setting.Setting.{Setting}
+use Rattle.sc_constructs.proofs.NumbersLaws.{as_later, in_table, code_is, ready_later}
 use Rattle.sc_symeval.specs.Settings.{IsReady}
 use Rattle.sc_symeval.specs.Codes.{Part, of_choice, of_either, of_both, binary_code, unary_code, among_code, is_in_code, code_of}
 use Rattle.sc_symeval.proofs.CodeLaws.{code_If, code_Or, code_And, code_Binary, code_Has, code_Like, code_Is, code_IsIn, code_Unary, code_Access, code_Literal, code_Variable, code_Set, code_Record, code_Skipped}
-use Rattle.sc_codes.proofs.AlongLaws.{code_later}
+use Rattle.sc_constructs.proofs.AlongLaws.{code_later}
 
 -- ---- numbers of operands in the table of the construct
 

@@ -3,7 +3,7 @@ use Rattle.std.specs.Prelude.{◌≡◌, true, false, Ok, Err}
 use Rattle.sc_eval.specs.Outcomes.{Outcome}
 use Rattle.sc_world.specs.declared.world.World.{World}
 use Rattle.sc_terms.specs.Values.{Val, val, it, yes}
-use Rattle.sc_codes.specs.Code.{Code}
+use Rattle.sc_constructs.specs.Code.{Code}
 
 -- where there is a value, the first is true and the second is that value; where there is an error, the first is false
 abbrev pub Meets : Val → Val → Outcome → Type 0

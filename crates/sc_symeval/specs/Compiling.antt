@@ -6,7 +6,7 @@ use Rattle.sc_schema.specs.Declarations.{Declarations}
 use Rattle.sc_typed.specs.declared.fault.TypeFault.{TypeFault}
 use Rattle.sc_typed.specs.declared.typed_expr.TypedExpr.{TypedExpr}
 use Rattle.sc_typing.specs.Policies.{typed_policy}
-use Rattle.sc_codes.specs.Code.{Code}
+use Rattle.sc_constructs.specs.Code.{Code}
 use Rattle.sc_symeval.specs.Codes.{code_of}
 
 abbrev pub code_typed : Declarations → Env → Result TypedExpr TypeFault → Option Code

@@ -3,7 +3,7 @@ use Rattle.std.specs.Prelude.{List, [], fold}
 use Rattle.std.specs.BTreeMap.{insert_entry}
 use Rattle.sc_names.specs.Uids.{text_cmp}
 use Rattle.sc_terms.specs.Tables.{Places}
-use Rattle.sc_codes.specs.Numbers.{OptField}
+use Rattle.sc_constructs.specs.Numbers.{OptField}
 
 -- in the order of names; of two fields of one name the last stays
 abbrev pub with_number : Places → OptField → Places

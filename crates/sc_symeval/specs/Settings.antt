@@ -2,10 +2,10 @@
 use Rattle.std.specs.Prelude.{ℕ, List, map}
 use Rattle.sc_nodes.specs.declared.node.Node.{Node}
 use Rattle.sc_typed.specs.declared.typed_expr.TypedExpr.{TypedExpr}
-use Rattle.sc_codes.specs.declared.setting.Setting.{Setting}
-use Rattle.sc_codes.specs.Code.{Code, CodeField}
+use Rattle.sc_constructs.specs.declared.setting.Setting.{Setting}
+use Rattle.sc_constructs.specs.Code.{Code, CodeField}
 use Rattle.sc_symeval.specs.Codes.{Part, code_of}
-use Rattle.sc_codes.specs.Numbers.{HasVariables}
+use Rattle.sc_constructs.specs.Numbers.{HasVariables}
 
 -- what an expression is compiled to in the setting
 abbrev pub code_in : Setting → TypedExpr → Code

@@ -1,12 +1,12 @@
 //! Sets and records that are written, of members that are compiled.
 ghost use Rattle.std.specs.Prelude.{◌≡◌, ◌<◌, ℕ, List, All, length, map, IfOk};
 ghost use Rattle.sc_terms.specs.Tables.{tree, Keeps};
-ghost use Rattle.sc_codes.specs.declared.opt.Opt.{Opt as AnyOpt};
-ghost use Rattle.sc_codes.specs.Code.{first_sort as sort_of_first, set_code, record_code};
-ghost use Rattle.sc_codes.specs.Numbers.{AreCodes, AreFields, StandsAs, codes_at, field_at};
+ghost use Rattle.sc_constructs.specs.declared.opt.Opt.{Opt as AnyOpt};
+ghost use Rattle.sc_constructs.specs.Code.{first_sort as sort_of_first, set_code, record_code};
+ghost use Rattle.sc_constructs.specs.Numbers.{AreCodes, AreFields, StandsAs, codes_at, field_at};
 ghost use Rattle.sc_symeval.specs.Parts.{numbers_in_order};
 
-use sc_codes::{Opt, Setting};
+use sc_constructs::{Opt, Setting};
 use sc_lists::{Seq, Text};
 use sc_nodes::Parts;
 use sc_sorts::{Sort, try_clone};

@@ -3,19 +3,19 @@ ghost use Rattle.std.specs.Prelude.{false, map, IfOk};
 ghost use Rattle.sc_typed.specs.Outcomes.{ty as type_in};
 ghost use Rattle.sc_typed.specs.Types.{is_true};
 ghost use Rattle.sc_terms.specs.Tables.{Keeps};
-ghost use Rattle.sc_codes.specs.Code.{branch_code, choice_code, like_code, is_code, set_code, record_code};
-ghost use Rattle.sc_codes.specs.Objects.{access_code, path_code};
+ghost use Rattle.sc_constructs.specs.Code.{branch_code, choice_code, like_code, is_code, set_code, record_code};
+ghost use Rattle.sc_constructs.specs.Objects.{access_code, path_code};
 ghost use Rattle.sc_symeval.specs.Codes.{of_choice, of_either, of_both, binary_code, unary_code, among_code, is_in_code, code_of};
-ghost use Rattle.sc_codes.specs.Numbers.{StandsAs, StandAs, StandAsFields};
+ghost use Rattle.sc_constructs.specs.Numbers.{StandsAs, StandAs, StandAsFields};
 ghost use Rattle.sc_symeval.specs.Settings.{IsReady, code_in, codes_in, field_in, seen};
 
 use crate::collections::{record_of, set_of};
 use crate::leaves::{literal, variable};
 use crate::operators::{among, apply, is_named, like, operate};
 use sc_ast::{BinaryOperator, TypeName, UnaryOperator};
-use sc_codes::logic::{and, branch, choose, constant, or, tell};
-use sc_codes::objects::{access, path};
-use sc_codes::{Opt, Setting, variables_of};
+use sc_constructs::logic::{and, branch, choose, constant, or, tell};
+use sc_constructs::objects::{access, path};
+use sc_constructs::{Opt, Setting, variables_of};
 use sc_lists::{Seq, Text};
 use sc_pattern::Pattern;
 use sc_schema::{Env, Schema, Ty};
@@ -216,7 +216,7 @@ fn operated(
 
 /// `a has b.c`.
 #[cycle(compile)]
-#[tactic(auto, using(sc_codes::proofs::NumbersLaws::in_table, crate::proofs::StandLaws::path_stands))]
+#[tactic(auto, using(sc_constructs::proofs::NumbersLaws::in_table, crate::proofs::StandLaws::path_stands))]
 fn having(
     setting: &Setting<'_>,
     terms: &mut Terms,
@@ -235,7 +235,7 @@ fn having(
 
 /// `a like "pattern"`.
 #[cycle(compile)]
-#[tactic(auto, using(sc_codes::proofs::NumbersLaws::in_table, crate::proofs::StandLaws::like_stands))]
+#[tactic(auto, using(sc_constructs::proofs::NumbersLaws::in_table, crate::proofs::StandLaws::like_stands))]
 fn matching(
     setting: &Setting<'_>,
     terms: &mut Terms,
@@ -253,7 +253,7 @@ fn matching(
 
 /// `a is T`, which typing decides.
 #[cycle(compile)]
-#[tactic(auto, using(sc_codes::proofs::NumbersLaws::in_table, crate::proofs::StandLaws::is_stands))]
+#[tactic(auto, using(sc_constructs::proofs::NumbersLaws::in_table, crate::proofs::StandLaws::is_stands))]
 fn tested(
     setting: &Setting<'_>,
     terms: &mut Terms,
@@ -314,7 +314,7 @@ fn tested_among(
 
 /// `a is T` where a isn't of the type T.
 #[cycle(compile)]
-#[tactic(auto, using(sc_codes::proofs::NumbersLaws::in_table, crate::proofs::StandLaws::is_stands))]
+#[tactic(auto, using(sc_constructs::proofs::NumbersLaws::in_table, crate::proofs::StandLaws::is_stands))]
 fn refused(setting: &Setting<'_>, terms: &mut Terms, a: &TypedExpr) -> Result<Opt, AllocError>
     requires { IsReady terms.old setting.now }
     ensures ok { IfOk result (λ o. StandsAs terms.new o (is_code false (code_in setting.now a.now))) }
@@ -327,7 +327,7 @@ fn refused(setting: &Setting<'_>, terms: &mut Terms, a: &TypedExpr) -> Result<Op
 
 /// A prefix, the call of a method without arguments, or the call of a function.
 #[cycle(compile)]
-#[tactic(auto, using(sc_codes::proofs::NumbersLaws::in_table, crate::proofs::StandLaws::unary_stands))]
+#[tactic(auto, using(sc_constructs::proofs::NumbersLaws::in_table, crate::proofs::StandLaws::unary_stands))]
 fn applied(
     setting: &Setting<'_>,
     terms: &mut Terms,
@@ -345,7 +345,7 @@ fn applied(
 
 /// `a.name`.
 #[cycle(compile)]
-#[tactic(auto, using(sc_codes::proofs::NumbersLaws::in_table, crate::proofs::StandLaws::access_stands))]
+#[tactic(auto, using(sc_constructs::proofs::NumbersLaws::in_table, crate::proofs::StandLaws::access_stands))]
 fn accessed(
     setting: &Setting<'_>,
     terms: &mut Terms,

@@ -8,4 +8,4 @@ mod leaves;
 mod operators;
 
 pub use compiling::{compile, compile_in};
-pub use sc_codes::{Opt, Setting, Variables, variables_of};
+pub use sc_constructs::{Opt, Setting, Variables, variables_of};

@@ -1,20 +1,20 @@
 //! Operators, of operands that are compiled, in the order of the grammar.
 ghost use Rattle.std.specs.Prelude.{◌≡◌, IfOk};
 ghost use Rattle.sc_terms.specs.Tables.{Keeps};
-ghost use Rattle.sc_codes.specs.Code.{like_code};
+ghost use Rattle.sc_constructs.specs.Code.{like_code};
 ghost use Rattle.sc_symeval.specs.Codes.{binary_code, unary_code, among_code, is_named as named_so};
-ghost use Rattle.sc_codes.specs.Numbers.{IsCode, StandsAs, code_at};
+ghost use Rattle.sc_constructs.specs.Numbers.{IsCode, StandsAs, code_at};
 
 use crate::leaves::{address, decimal};
 use sc_ast::{BinaryOperator, TypeName, UnaryOperator};
-use sc_codes::addresses::{in_range, is_loopback, is_multicast, is_version_4, is_version_6};
-use sc_codes::entities::{contained, get_tag, has_tag, name_of};
-use sc_codes::logic::{and, not, tell};
-use sc_codes::numbers::{
+use sc_constructs::addresses::{in_range, is_loopback, is_multicast, is_version_4, is_version_6};
+use sc_constructs::entities::{contained, get_tag, has_tag, name_of};
+use sc_constructs::logic::{and, not, tell};
+use sc_constructs::numbers::{
     difference, greater, greater_or_equal, less, less_or_equal, negative, product, sum,
 };
-use sc_codes::sets::{contains, contains_all, contains_any, equal, is_empty};
-use sc_codes::{Opt, Setting};
+use sc_constructs::sets::{contains, contains_all, contains_any, equal, is_empty};
+use sc_constructs::{Opt, Setting};
 use sc_pattern::Pattern;
 use sc_schema::Ty;
 use sc_terms::Terms;

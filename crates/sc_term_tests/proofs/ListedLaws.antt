@@ -5,7 +5,7 @@ use Rattle.std.proofs.lemmas.List.Elements.{All-contains}
 use Rattle.std.proofs.lemmas.List.Sums.{AllPass-from_list_all}
 use Rattle.sc_clauses.specs.declared.lit.Lit.{Lit}
 use Rattle.sc_clauses.specs.Clauses.{Clause}
-use Rattle.sc_trails.specs.Steps.{AreListed, IsListed}
+use Rattle.sc_propagation.specs.Steps.{AreListed, IsListed}
 use Rattle.sc_term_tests.specs.Listed.{is_listed, all_listed}
 
 passed : {X : Type 0} (test : X → Bool) (xs : List X) (x : X) → list_all test xs ≡ true → Contains xs x → test x ≡ true

@@ -4,7 +4,7 @@ use Rattle.std.proofs.lemmas.Bool.{cases_eq, cases_lt}
 use Rattle.sc_laws.proofs.BoolLaws.{never}
 use Rattle.sc_laws.proofs.NumberLaws.{eqb_false}
 use Rattle.sc_laws.proofs.OptionLaws.{same_some}
-use Rattle.sc_violated.specs.Crowds.{Signs, IsWithin}
+use Rattle.sc_falsified.specs.Crowds.{Signs, IsWithin}
 use Rattle.sc_term_tests.specs.Tables.{Row, is_of, told_either, equal_by, with_sign, are_few}
 
 or_turned : (a b : Bool) → (a || b) ≡ (b || a)

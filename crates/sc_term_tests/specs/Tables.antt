@@ -1,6 +1,6 @@
 -- Tables of what is known of two items, and of how many texts there are, for tests.
 use Rattle.std.specs.Prelude.{◌&&◌, ◌||◌, ◌==◌, ◌<◌, ◌+◌, ℕ, Bool, true, false, List, [], ◌∷◌, Option, Some, None, get_or, if◌then◌else◌}
-use Rattle.sc_violated.specs.Crowds.{Signs}
+use Rattle.sc_falsified.specs.Crowds.{Signs}
 
 -- two items, and a truth
 abbrev pub Row : Type 0

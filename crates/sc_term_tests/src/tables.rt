@@ -2,7 +2,7 @@
 ghost use Rattle.std.specs.Prelude.{◌≡◌, ◌<◌, ◌||◌, None, length, slice_get, slice_index_or};
 ghost use Rattle.sc_term_tests.specs.Tables.{is_of, told, told_either, with_sign, sign_in};
 
-use sc_violated::{Equalities, Paths, Texts, crowd_of, gap, intransitive_among, labels};
+use sc_falsified::{Equalities, Paths, Texts, crowd_of, gap, intransitive_among, labels};
 use std::alloc::{AllocError, Global};
 use std::test::Fail;
 

@@ -7,8 +7,8 @@ use Rattle.sc_clauses.specs.Clauses.{Clause}
 use Rattle.sc_clauses.specs.declared.step.Instance.{Instance}
 use Rattle.sc_footprint.specs.Problems.{Posed}
 use Rattle.th_defs.specs.Instances.{is_definition, definition_clause}
-use Rattle.sc_instances.specs.Instances.{HasEqual, HasSet, HasEntity, equal_clause, set_clause, entity_clause}
-use Rattle.sc_string_rows.specs.Instances.{HasString, string_clause}
+use Rattle.sc_rule_instances.specs.Instances.{HasEqual, HasSet, HasEntity, equal_clause, set_clause, entity_clause}
+use Rattle.th_strings_instances.specs.Instances.{HasString, string_clause}
 use Rattle.sc_theories.specs.Theories.{HasRule, HasOtherRule, rule_clause}
 use Rattle.sc_theories.specs.OtherLaws.{string_out, none_out}
 use Rattle.sc_theories.specs.RuleLaws.{other_is, none_falsified}

@@ -4,24 +4,24 @@ use Rattle.std.specs.List.{list_all}
 use Rattle.sc_lists.proofs.TextLaws.{bytes_eq_true}
 use Rattle.sc_clauses.specs.declared.step.Instance.{Instance}
 use Rattle.sc_footprint.specs.Problems.{Posed}
-use Rattle.sc_instances.specs.Clauses.{is_instance}
-use Rattle.sc_instances.specs.Instances.{HasEqual, HasSet, HasEntity, said_by, equal_said, set_said, entity_said}
-use Rattle.sc_instances.specs.Names.{is_named, numbers_of, equal_named, set_named, entity_named, equal_rule, set_rule, entity_rule}
-use Rattle.sc_instances.specs.declared.rule.EqualRule.{EqualRule}
-use Rattle.sc_instances.specs.declared.rule.EqualRule.TheVariants.{Eq1, Eq2, Eq3, Eq4, Eq5, Eq6, Eq7, Eq8}
-use Rattle.sc_instances.specs.declared.rule.SetRule.{SetRule}
-use Rattle.sc_instances.specs.declared.rule.SetRule.TheVariants.{Se1, Se2, Se3, Se4, Se5, Se6, Se7, Se8}
-use Rattle.sc_instances.specs.declared.rule.EntityRule.{EntityRule}
-use Rattle.sc_instances.specs.declared.rule.EntityRule.TheVariants.{En1, En2, En3, En4, En5, En6, En7, En8}
+use Rattle.sc_rule_instances.specs.Clauses.{is_instance}
+use Rattle.sc_rule_instances.specs.Instances.{HasEqual, HasSet, HasEntity, said_by, equal_said, set_said, entity_said}
+use Rattle.sc_rule_instances.specs.Names.{is_named, numbers_of, equal_named, set_named, entity_named, equal_rule, set_rule, entity_rule}
+use Rattle.sc_rule_instances.specs.declared.rule.EqualRule.{EqualRule}
+use Rattle.sc_rule_instances.specs.declared.rule.EqualRule.TheVariants.{Eq1, Eq2, Eq3, Eq4, Eq5, Eq6, Eq7, Eq8}
+use Rattle.sc_rule_instances.specs.declared.rule.SetRule.{SetRule}
+use Rattle.sc_rule_instances.specs.declared.rule.SetRule.TheVariants.{Se1, Se2, Se3, Se4, Se5, Se6, Se7, Se8}
+use Rattle.sc_rule_instances.specs.declared.rule.EntityRule.{EntityRule}
+use Rattle.sc_rule_instances.specs.declared.rule.EntityRule.TheVariants.{En1, En2, En3, En4, En5, En6, En7, En8}
 use Rattle.sc_clauses.specs.declared.step.Word.{Word}
 use Rattle.sc_clauses.specs.declared.step.Word.TheVariants.{Number, Signs as Signed}
 use Rattle.sc_footprint.specs.Written.{is_word}
-use Rattle.sc_rules.specs.Strings.{Signs}
-use Rattle.sc_string_rows.specs.Instances.{HasString, IsInstanceOf}
-use Rattle.sc_string_rows.specs.Names.{is_numeral, number_in, three_numbers, plain_named, counted_named, string_named, string_rule}
-use Rattle.sc_string_rows.specs.Patterns.{patterns}
-use Rattle.sc_string_rows.specs.declared.rule.StringRule.{StringRule}
-use Rattle.sc_string_rows.specs.declared.rule.StringRule.TheVariants.{St1, St2, St3}
+use Rattle.sc_rule_laws.specs.Strings.{Signs}
+use Rattle.th_strings_instances.specs.Instances.{HasString, IsInstanceOf}
+use Rattle.th_strings_instances.specs.Names.{is_numeral, number_in, three_numbers, plain_named, counted_named, string_named, string_rule}
+use Rattle.th_strings_instances.specs.Patterns.{patterns}
+use Rattle.th_strings_instances.specs.declared.rule.StringRule.{StringRule}
+use Rattle.th_strings_instances.specs.declared.rule.StringRule.TheVariants.{St1, St2, St3}
 use Rattle.sc_theories.specs.declared.family.Family.{Family}
 use Rattle.sc_theories.specs.declared.family.Family.TheVariants.{Equal, Set, Entity, String}
 use Rattle.sc_theories.specs.Families.{family}

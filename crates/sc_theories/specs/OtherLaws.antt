@@ -9,10 +9,10 @@ use Rattle.sc_footprint.specs.Problems.{Posed, IsPosed}
 use Rattle.sc_footprint.specs.Theories.{IsClauseOf, TermsHold}
 use Rattle.sc_footprint.specs.Truths.{IsWorldOf, IsTrueIn}
 use Rattle.sc_footprint.specs.Written.{is_instance as is_writable}
-use Rattle.sc_instances.specs.Instances.{HasEqual, HasSet, HasEntity, equal_clause, set_clause, entity_clause}
-use Rattle.sc_instances.proofs.InstanceLaws.{equal_sound, equal_lawful, equal_written, set_sound, set_lawful, set_written, entity_sound, entity_lawful, entity_written}
-use Rattle.sc_string_rows.specs.Instances.{HasString, string_clause}
-use Rattle.sc_string_rows.proofs.InstanceLaws.{string_sound, string_lawful, string_written}
+use Rattle.sc_rule_instances.specs.Instances.{HasEqual, HasSet, HasEntity, equal_clause, set_clause, entity_clause}
+use Rattle.sc_rule_instances.proofs.InstanceLaws.{equal_sound, equal_lawful, equal_written, set_sound, set_lawful, set_written, entity_sound, entity_lawful, entity_written}
+use Rattle.th_strings_instances.specs.Instances.{HasString, string_clause}
+use Rattle.th_strings_instances.proofs.InstanceLaws.{string_sound, string_lawful, string_written}
 use Rattle.sc_theories.specs.declared.family.Family.{Family}
 use Rattle.sc_theories.specs.declared.family.Family.TheVariants.{Definition, Equal, Set, Entity, String, Other}
 use Rattle.sc_theories.specs.Families.{family}

@@ -16,7 +16,7 @@ use Rattle.sc_world_json.specs.declared.form.Form.TheVariants.{Object}
 use Rattle.sc_world_json.specs.declared.level.Level.TheVariants.{Entity}
 use Rattle.sc_world_json.specs.Faults.{fault_unless, under, value_fault, entity_fault, entities_fault}
 use Rattle.sc_world_json.specs.Worlds.{uid_of}
-use Rattle.sc_json_views.proofs.WalkLaws.{items_next, items_end}
+use Rattle.sc_json.proofs.WalkLaws.{items_next, items_end}
 
 pub form_fault : (before : List Uid) (d : Data) (fault : WorldFault) → Some fault ≡ value_fault (Object Entity) d → Some fault ≡ entity_fault before d
 form_fault before d fault told = rw (← told) refl

@@ -1,6 +1,6 @@
 -- What a walk over items or members is.
 use Rattle.std.proofs.Common.{refl}
-use Rattle.sc_json_views.proofs.WalkLaws.{IsItemsWalk, IsMembersWalk}
+use Rattle.sc_json.proofs.WalkLaws.{IsItemsWalk, IsMembersWalk}
 use Rattle.sc_world_json.specs.declared.form.Form.{Form}
 use Rattle.sc_world_json.specs.declared.level.Level.{Level}
 use Rattle.sc_world_json.specs.Faults.{under, value_fault, items_fault, members_fault, member_fault}

@@ -1,6 +1,6 @@
 -- Bytes spell just one world or have just one fault, and not both.
 use Rattle.std.proofs.Common.{ℕ, List}
-use Rattle.sc_json_views.proofs.TreesLaws.{one_value, one_fault, not_both, either}
+use Rattle.sc_json.proofs.TreesLaws.{one_value, one_fault, not_both, either}
 use Rattle.sc_world_json.specs.declared.fault.WorldFault.TheVariants.{NotJson}
 use Rattle.sc_world_json.specs.Faults.{first_fault}
 use Rattle.sc_world_json.specs.Worlds.{world_of}

@@ -17,7 +17,7 @@ use Rattle.sc_world.specs.Stores.{Entities, with_entity, IsMap}
 use Rattle.sc_world.specs.WellFormed.{Entry, IsProperEntry}
 use Rattle.sc_world_json.specs.Reading.{SpellsWorld}
 use Rattle.sc_world_json.specs.Worlds.{elements, elements_of, entity_of, store_with}
-use Rattle.sc_json_views.proofs.WalkLaws.{items_next}
+use Rattle.sc_json.proofs.WalkLaws.{items_next}
 
 -- ---- one more entity
 

@@ -23,7 +23,7 @@ use Rattle.serde_json.specs.Read.{number_of, of_json, of_items, of_members, max_
 use Rattle.serde_json.specs.Written.{number_text, outline, items_outline, members_outline, comma_if, compact_text, items_text, members_text}
 use Rattle.serde_json.proofs.Texts.{print-outline}
 use Rattle.sc_names.specs.Uids.{text_cmp}
-use Rattle.sc_json_views.specs.Trees.{HasTree, keys}
+use Rattle.sc_json.specs.Trees.{HasTree, keys}
 use Rattle.sc_world_json.proofs.WholeLaws.{IsWholeNumber, IsWhole, AreWhole, HaveWhole, number_of-integer, numbers}
 
 abbrev mutual

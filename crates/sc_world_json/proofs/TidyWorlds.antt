@@ -23,7 +23,7 @@ use Rattle.sc_world_json.specs.Text.{value_step, value_data, fields_data, uid_da
 use Rattle.sc_world_json.proofs.AsciiLaws.{decimal_low, ip_low}
 use Rattle.sc_world_json.proofs.ProperLaws.{held, proper_members, proper_fields}
 use Rattle.sc_world_json.proofs.TextLaws.{Field, value_data-Record}
-use Rattle.sc_json_views.specs.Trees.{keys}
+use Rattle.sc_json.specs.Trees.{keys}
 use Rattle.sc_world_json.proofs.TidyLaws.{IsTidy, AreTidy, HaveTidy}
 
 -- ---- objects of fixed form

@@ -23,7 +23,7 @@ use Rattle.sc_world_json.specs.declared.mark.Mark.TheVariants.{Entity, Extension
 use Rattle.sc_world_json.specs.Marks.{mark_of}
 use Rattle.sc_world_json.specs.Worlds.{uid_of, in_order, extension_of, object_value, value_of, values_of, fields_of}
 use Rattle.sc_world_json.proofs.InOrderLaws.{ascending-in_order, all-in_order}
-use Rattle.sc_json_views.proofs.ViewLaws.{view_null, view_truth, view_number, view_text}
+use Rattle.sc_json.proofs.ViewLaws.{view_null, view_truth, view_number, view_text}
 
 -- ---- each kind
 

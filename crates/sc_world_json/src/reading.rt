@@ -2,7 +2,7 @@
 ghost use Rattle.std.specs.Prelude.{ℕ, List, IfOk, IfErr};
 ghost use Rattle.serde_json.specs.View.{view};
 ghost use Rattle.sc_world.specs.WellFormed.{IsProperWorld};
-ghost use Rattle.sc_json_views.specs.Trees.{HasTree};
+ghost use Rattle.sc_json.specs.Trees.{HasTree};
 ghost use Rattle.sc_world_json.specs.Reading.{SpellsWorld, RefusesWorld};
 
 use crate::building::world_of;

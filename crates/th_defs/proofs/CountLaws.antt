@@ -15,10 +15,10 @@ use Rattle.sc_terms.proofs.OrderLaws.{tree_cmp_level, tree_eq-exact}
 use Rattle.sc_terms.specs.Order.{tree_cmp, tree_eq}
 use Rattle.sc_terms.specs.Trees.{Tree, one}
 use Rattle.sc_terms.specs.Folds.{bit_term}
-use Rattle.sc_definitions.specs.declared.function.Shape.{Shape}
-use Rattle.sc_definitions.specs.declared.function.Shape.TheVariants.{Table, All, NotAll, Fixed, Free}
-use Rattle.sc_definitions.specs.Definitions.{shape_of, inputs_of}
-use Rattle.sc_definitions.specs.Functions.{rows}
+use Rattle.sc_term_definitions.specs.declared.function.Shape.{Shape}
+use Rattle.sc_term_definitions.specs.declared.function.Shape.TheVariants.{Table, All, NotAll, Fixed, Free}
+use Rattle.sc_term_definitions.specs.Definitions.{shape_of, inputs_of}
+use Rattle.sc_term_definitions.specs.Functions.{rows}
 use Rattle.sc_footprint.specs.Atoms.{is_atom}
 use Rattle.sc_footprint.proofs.NumberingLaws.{Has-filter}
 use Rattle.sc_footprint.proofs.OverLaws.{no_more}

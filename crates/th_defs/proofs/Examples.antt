@@ -1,6 +1,6 @@
 -- Places of clauses and literals at small cases.
 use Rattle.std.proofs.Common.{◌≡◌, true, false, [], get_or, refl}
-use Rattle.sc_definitions.specs.Functions.{rows}
+use Rattle.sc_term_definitions.specs.Functions.{rows}
 use Rattle.th_defs.specs.Items.{later_bit}
 
 -- row 5 of three inputs is 101

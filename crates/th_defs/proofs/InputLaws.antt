@@ -12,10 +12,10 @@ use Rattle.sc_nodes.specs.declared.node.BinaryOp.{BinaryOp}
 use Rattle.sc_nodes.specs.declared.node.BinaryOp.TheVariants as binary
 use Rattle.sc_terms.specs.Trees.{Tree, leaf, one, two, choice, many}
 use Rattle.sc_terms.specs.TreeSorts.{tree_sort}
-use Rattle.sc_definitions.proofs.MakingLaws.{counted_length}
-use Rattle.sc_definitions.specs.declared.function.Function.{Function}
-use Rattle.sc_definitions.specs.declared.function.Shape.TheVariants.{Table}
-use Rattle.sc_definitions.specs.Definitions.{Definition, definition, counted, upper_bits, agreements, carry_at, row_at, row_carry_at, low_at, equal_bits, equal_by_bits, equal_of, bit_over, carry_over, row_over, row_carry_over, over_one, over_two, over_leaf, chosen_of, shape_of, inputs_of}
+use Rattle.sc_term_definitions.proofs.MakingLaws.{counted_length}
+use Rattle.sc_term_definitions.specs.declared.function.Function.{Function}
+use Rattle.sc_term_definitions.specs.declared.function.Shape.TheVariants.{Table}
+use Rattle.sc_term_definitions.specs.Definitions.{Definition, definition, counted, upper_bits, agreements, carry_at, row_at, row_carry_at, low_at, equal_bits, equal_by_bits, equal_of, bit_over, carry_over, row_over, row_carry_over, over_one, over_two, over_leaf, chosen_of, shape_of, inputs_of}
 use Rattle.th_defs.specs.Items.{HasInputs}
 
 abbrev Fine : Definition → Type 0

@@ -4,7 +4,7 @@ use Rattle.std.proofs.Common.{append_assoc, length-append}
 use Rattle.sc_clauses.specs.declared.lit.Lit.{Lit}
 use Rattle.sc_clauses.specs.Clauses.{positive}
 use Rattle.sc_terms.specs.Trees.{Tree}
-use Rattle.sc_definitions.specs.Definitions.{counted, inputs_of}
+use Rattle.sc_term_definitions.specs.Definitions.{counted, inputs_of}
 use Rattle.sc_footprint.specs.Closure.{inside, choices, beside, parts, follow}
 use Rattle.sc_footprint.specs.Problems.{Posed, literal_in, term_of, companion}
 use Rattle.th_defs.specs.Items.{companion_or, companions_or}

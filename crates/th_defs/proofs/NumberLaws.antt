@@ -9,7 +9,7 @@ use Rattle.sc_lists.proofs.ListLaws.{all_append}
 use Rattle.sc_laws.proofs.NumberLaws.{nat_lt_true}
 use Rattle.sc_clauses.specs.Assignments.{Assignment, falsifies}
 use Rattle.sc_clauses.specs.Clauses.{Clause}
-use Rattle.sc_definitions.specs.Definitions.{counted}
+use Rattle.sc_term_definitions.specs.Definitions.{counted}
 use Rattle.sc_footprint.specs.Definitions.{defining}
 use Rattle.sc_footprint.specs.Problems.{Posed, goal_literal}
 use Rattle.th_defs.specs.declared.item.Item.{Item}

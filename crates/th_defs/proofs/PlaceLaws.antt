@@ -6,10 +6,10 @@ use Rattle.std.proofs.lemmas.List.{length-map, get_or-map, get_or_append_left}
 use Rattle.std.specs.List.{AllByRecursion}
 use Rattle.sc_clauses.specs.declared.lit.Lit.{Lit}
 use Rattle.sc_clauses.specs.Clauses.{Clause, negation}
-use Rattle.sc_definitions.specs.declared.function.Function.{Function}
-use Rattle.sc_definitions.specs.declared.function.Shape.TheVariants.{Table}
-use Rattle.sc_definitions.specs.Definitions.{counted}
-use Rattle.sc_definitions.specs.Functions.{value_of, rows, is_turned}
+use Rattle.sc_term_definitions.specs.declared.function.Function.{Function}
+use Rattle.sc_term_definitions.specs.declared.function.Shape.TheVariants.{Table}
+use Rattle.sc_term_definitions.specs.Definitions.{counted}
+use Rattle.sc_term_definitions.specs.Functions.{value_of, rows, is_turned}
 use Rattle.sc_footprint.specs.Definitions.{differs, has_value, differ_all, row, table, conjunction, turned}
 use Rattle.th_defs.specs.ClauseLaws.{rows_long}
 use Rattle.th_defs.specs.Items.{turned_if}

@@ -5,12 +5,12 @@ use Rattle.std.proofs.lemmas.List.{length-map, get_or-map, get_or-append-add, ge
 use Rattle.sc_laws.proofs.NumberLaws.{suc_isnt_zero, nat_lt_true, last_or_before}
 use Rattle.sc_clauses.specs.declared.lit.Lit.{Lit}
 use Rattle.sc_clauses.specs.Clauses.{Clause, positive, negation}
-use Rattle.sc_definitions.proofs.MakingLaws.{counted_length}
-use Rattle.sc_definitions.specs.declared.function.Function.{Function}
-use Rattle.sc_definitions.specs.declared.function.Shape.{Shape}
-use Rattle.sc_definitions.specs.declared.function.Shape.TheVariants.{Table, All, NotAll, Fixed, Free}
-use Rattle.sc_definitions.specs.Definitions.{counted}
-use Rattle.sc_definitions.specs.Functions.{value_of, rows}
+use Rattle.sc_term_definitions.proofs.MakingLaws.{counted_length}
+use Rattle.sc_term_definitions.specs.declared.function.Function.{Function}
+use Rattle.sc_term_definitions.specs.declared.function.Shape.{Shape}
+use Rattle.sc_term_definitions.specs.declared.function.Shape.TheVariants.{Table, All, NotAll, Fixed, Free}
+use Rattle.sc_term_definitions.specs.Definitions.{counted}
+use Rattle.sc_term_definitions.specs.Functions.{value_of, rows}
 use Rattle.sc_footprint.specs.Definitions.{has_value, conjunction, table, turned, clauses_by, mask_clause, short_clauses, address_by}
 use Rattle.sc_footprint.specs.Problems.{Posed}
 use Rattle.th_defs.specs.declared.item.Item.{Item}

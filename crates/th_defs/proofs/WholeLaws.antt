@@ -23,8 +23,8 @@ use Rattle.sc_terms.specs.Folds.{bit_term, literal_of}
 use Rattle.sc_terms.specs.Tables.{tree}
 use Rattle.sc_terms.specs.Trees.{Tree, leaf, one, two, choice, many}
 use Rattle.sc_terms.specs.TreeSorts.{tree_sort}
-use Rattle.sc_definitions.proofs.MakingLaws.{counted_next}
-use Rattle.sc_definitions.specs.Definitions.{counted, definition, chosen_of, shape_of, inputs_of}
+use Rattle.sc_term_definitions.proofs.MakingLaws.{counted_next}
+use Rattle.sc_term_definitions.specs.Definitions.{counted, definition, chosen_of, shape_of, inputs_of}
 use Rattle.sc_footprint.specs.Closure.{inside, inside_by, bit_terms, choices, beside, parts, follow}
 use Rattle.sc_footprint.proofs.NumberingLaws.{numbered_map, numbered_back}
 use Rattle.sc_footprint.specs.Definitions.{is_tautology, kept, clauses_by, definition_clauses, mask_clause, short_clauses, address_by, address_clauses, is_address, is_address_in, is_other}

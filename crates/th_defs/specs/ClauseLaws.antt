@@ -9,12 +9,12 @@ use Rattle.sc_lists.proofs.ListLaws.{all_append, contains_split, contains_nothin
 use Rattle.sc_clauses.proofs.LitLaws.{bool_eq-itself, lit_eq-itself, holds_negation}
 use Rattle.sc_clauses.specs.declared.lit.Lit.{Lit}
 use Rattle.sc_clauses.specs.Clauses.{Clause, bool_eq, lit_eq, negation, is_in, holds, clause_holds}
-use Rattle.sc_definitions.specs.declared.function.Function.{Function}
-use Rattle.sc_definitions.specs.declared.function.Shape.{Shape}
-use Rattle.sc_definitions.specs.declared.function.Shape.TheVariants.{Table, All, NotAll, Fixed, Free}
-use Rattle.sc_definitions.specs.Functions.{value_of, rows}
-use Rattle.sc_definitions.specs.Truths.{defined}
-use Rattle.sc_definitions.specs.Truths as truths
+use Rattle.sc_term_definitions.specs.declared.function.Function.{Function}
+use Rattle.sc_term_definitions.specs.declared.function.Shape.{Shape}
+use Rattle.sc_term_definitions.specs.declared.function.Shape.TheVariants.{Table, All, NotAll, Fixed, Free}
+use Rattle.sc_term_definitions.specs.Functions.{value_of, rows}
+use Rattle.sc_term_definitions.specs.Truths.{defined}
+use Rattle.sc_term_definitions.specs.Truths as truths
 use Rattle.sc_footprint.specs.Definitions.{is_tautology, kept, differs, has_value, differ_all, row, table, conjunction, turned, clauses_by}
 use Rattle.sc_footprint.specs.Theories.{IsListed}
 

@@ -16,8 +16,8 @@ use Rattle.sc_nodes.specs.declared.node.UnaryOp.TheVariants.{Bit}
 use Rattle.sc_terms.specs.Trees.{Tree, one}
 use Rattle.sc_terms.specs.TreeSorts.{tree_sort}
 use Rattle.sc_terms.specs.Folds.{bit_term, bit_by, literal_of}
-use Rattle.sc_definitions.specs.Definitions.{counted, shape_of, inputs_of}
-use Rattle.sc_definitions.specs.Truths.{is_true, truths_of, defined, IsAsDefined}
+use Rattle.sc_term_definitions.specs.Definitions.{counted, shape_of, inputs_of}
+use Rattle.sc_term_definitions.specs.Truths.{is_true, truths_of, defined, IsAsDefined}
 use Rattle.sc_footprint.specs.Atoms.{is_atom, is_bool, is_opposite}
 use Rattle.sc_footprint.specs.Problems.{Posed, closed_terms, atoms, atom_number, numbered, literal, literal_in}
 use Rattle.sc_footprint.specs.Definitions.{clauses_by, definition_clauses, mask_clause, short_clauses, address_clauses, is_address, is_address_in, is_other}

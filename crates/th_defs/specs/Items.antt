@@ -6,11 +6,11 @@ use Rattle.sc_nodes.specs.declared.node.Leaf.TheVariants as leafs
 use Rattle.sc_nodes.specs.declared.node.Node.{Node}
 use Rattle.sc_nodes.specs.declared.node.Node.TheVariants as node
 use Rattle.sc_terms.specs.Trees.{Tree}
-use Rattle.sc_definitions.specs.declared.function.Function.{Function}
-use Rattle.sc_definitions.specs.declared.function.Shape.{Shape}
-use Rattle.sc_definitions.specs.declared.function.Shape.TheVariants.{Table, All, NotAll, Fixed, Free}
-use Rattle.sc_definitions.specs.Functions.{value_of, rows, is_turned}
-use Rattle.sc_definitions.specs.Definitions.{counted, shape_of, inputs_of}
+use Rattle.sc_term_definitions.specs.declared.function.Function.{Function}
+use Rattle.sc_term_definitions.specs.declared.function.Shape.{Shape}
+use Rattle.sc_term_definitions.specs.declared.function.Shape.TheVariants.{Table, All, NotAll, Fixed, Free}
+use Rattle.sc_term_definitions.specs.Functions.{value_of, rows, is_turned}
+use Rattle.sc_term_definitions.specs.Definitions.{counted, shape_of, inputs_of}
 use Rattle.sc_footprint.specs.Problems.{Posed, closed_terms, atoms, companion, number_among, numbered, literal_in, term_of}
 use Rattle.sc_footprint.specs.Definitions.{kept, differs, has_value, clauses_by, address_by, is_address}
 use Rattle.th_defs.specs.declared.item.Item.{Item}

@@ -24,8 +24,8 @@ use Rattle.sc_terms.proofs.OrderLaws.{tree_cmp_total, tree_cmp_level}
 use Rattle.sc_terms.specs.Trees.{Tree, one}
 use Rattle.sc_terms.specs.TreeSorts.{tree_sort}
 use Rattle.sc_terms.specs.Folds.{bit_term, literal_of}
-use Rattle.sc_definitions.specs.Definitions.{counted, inputs_of}
-use Rattle.sc_definitions.specs.Truths.{is_true, IsAsDefined}
+use Rattle.sc_term_definitions.specs.Definitions.{counted, inputs_of}
+use Rattle.sc_term_definitions.specs.Truths.{is_true, IsAsDefined}
 use Rattle.sc_footprint.specs.Atoms.{is_atom, is_bool, is_bool_in}
 use Rattle.sc_footprint.specs.Closure.{inside, inside_by, bit_terms, choices, beside, parts, follow}
 use Rattle.sc_footprint.specs.Problems.{Posed, IsPosed, closed_terms, atoms, atom_number, numbered, literal_in, goal_term, goal_literal}

@@ -5,16 +5,16 @@ ghost use Rattle.std.specs.Prelude.{◌≡◌, ◌<◌, ◌≤◌, ◌^◌, leng
 ghost use Rattle.sc_clauses.specs.Clauses.{positive};
 ghost use Rattle.sc_sorts.specs.declared.sort.Sort.{out-Sort};
 ghost use Rattle.sc_terms.specs.Tables.{tree};
-ghost use Rattle.sc_definitions.specs.Functions.{rows, value_of};
+ghost use Rattle.sc_term_definitions.specs.Functions.{rows, value_of};
 ghost use Rattle.sc_footprint.specs.Definitions.{is_address as address, is_address_in as address_sort, differs as difference, has_value as agreement};
 ghost use Rattle.sc_footprint.specs.Problems.{Posed, closed_terms, number_among};
 ghost use Rattle.th_defs.specs.Items.{HasInputs, IsItem, address_of, is_unwritten as unwritten, clause_at, clauses_in, companion_or, conjunction_literals, definition_of, input_literal, item_at as the_item, item_clauses, item_count as count_of, later_bit as bit_of_later, literal_of_address, literal_of_conjunction, literal_of_definition, literal_of_row, literals_in};
 
 use sc_clauses::{Lit, negation};
-use sc_definitions::{Function, Shape};
 use sc_footprint::Problem;
 use sc_nodes::{Leaf, Node};
 use sc_sorts::Sort;
+use sc_term_definitions::{Function, Shape};
 
 /// What clauses come from.
 #[derive(Clone, Copy, Debug)]

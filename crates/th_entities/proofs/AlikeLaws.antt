@@ -17,15 +17,15 @@ use Rattle.sc_terms.specs.TreeSorts.{tree_sort}
 use Rattle.sc_terms.specs.Tables.{tree}
 use Rattle.sc_terms.specs.Folds.{bit_term, equal_term, present_term}
 use Rattle.sc_footprint.specs.Problems.{Posed, IsPosed, literal_in, term_of}
-use Rattle.sc_instances.specs.Clauses.{clause_for}
-use Rattle.sc_instances.specs.Instances.{entity_said, on_two}
-use Rattle.sc_instances.specs.Known.{is_broken, is_falsified}
-use Rattle.sc_instances.proofs.KnownLaws.{equal_itself}
-use Rattle.sc_instances.proofs.LiteralLaws.{literal_truth}
-use Rattle.sc_rules.specs.Signed.{Signed, Said, so, unless, given}
-use Rattle.sc_rules.specs.Places.{half, half_by, roots, under}
-use Rattle.sc_rules.specs.Entities.{en1, en1_of, en3, en3_of}
-use Rattle.sc_rules.specs.Terms.{member}
+use Rattle.sc_rule_instances.specs.Clauses.{clause_for}
+use Rattle.sc_rule_instances.specs.Instances.{entity_said, on_two}
+use Rattle.sc_rule_instances.specs.Known.{is_broken, is_falsified}
+use Rattle.sc_rule_instances.proofs.KnownLaws.{equal_itself}
+use Rattle.sc_rule_instances.proofs.LiteralLaws.{literal_truth}
+use Rattle.sc_rule_laws.specs.Signed.{Signed, Said, so, unless, given}
+use Rattle.sc_rule_laws.specs.Places.{half, half_by, roots, under}
+use Rattle.sc_rule_laws.specs.Entities.{en1, en1_of, en3, en3_of}
+use Rattle.sc_rule_laws.specs.Terms.{member}
 use Rattle.th_entities.specs.declared.memberships.Membership.{Membership}
 use Rattle.th_entities.specs.declared.places.Place.{Place}
 use Rattle.th_entities.specs.Alike.{IsAlikeFree, IsCandidateFree, IsFreeBeside, IsPairFree, alike_rule, are_like, guard_out, half_level, may_break, may_break_by}

@@ -17,13 +17,13 @@ use Rattle.sc_terms.specs.TreeSorts.{tree_sort}
 use Rattle.sc_terms.proofs.OrderLaws.{tree_cmp_level}
 use Rattle.sc_footprint.specs.Problems.{Posed, closed_terms, literal_in, numbered, term_of}
 use Rattle.sc_footprint.proofs.NumberingLaws.{numbered_map, numbered_back}
-use Rattle.sc_instances.specs.Instances.{on_four}
-use Rattle.sc_instances.specs.Known.{is_falsified}
-use Rattle.sc_instances.specs.Clauses.{literal_for}
-use Rattle.sc_instances.proofs.LiteralLaws.{number_there}
-use Rattle.sc_rules.specs.Signed.{Signed, so, unless, given}
-use Rattle.sc_rules.specs.Entities.{en5}
-use Rattle.sc_rules.specs.Terms.{above, member}
+use Rattle.sc_rule_instances.specs.Instances.{on_four}
+use Rattle.sc_rule_instances.specs.Known.{is_falsified}
+use Rattle.sc_rule_instances.specs.Clauses.{literal_for}
+use Rattle.sc_rule_instances.proofs.LiteralLaws.{number_there}
+use Rattle.sc_rule_laws.specs.Signed.{Signed, so, unless, given}
+use Rattle.sc_rule_laws.specs.Entities.{en5}
+use Rattle.sc_rule_laws.specs.Terms.{above, member}
 use Rattle.th_entities.specs.declared.memberships.Membership.{Membership}
 use Rattle.th_entities.specs.Free.{IsLifted, is_out}
 use Rattle.th_entities.specs.Memberships.{number_in, owner_in, is_above, is_true, IsHeld, AreOf}

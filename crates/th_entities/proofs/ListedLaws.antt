@@ -15,16 +15,16 @@ use Rattle.sc_terms.specs.TreeSorts.{tree_sort}
 use Rattle.sc_terms.proofs.OrderLaws.{tree_cmp_level, tree_eq-exact}
 use Rattle.sc_footprint.specs.Problems.{Posed, IsPosed, closed_terms, literal, literal_in, term_of}
 use Rattle.sc_footprint.proofs.NumberingLaws.{at_suc, numbered_map, numbered_back}
-use Rattle.sc_instances.specs.declared.rule.EntityRule.TheVariants.{En2, En4, En5}
-use Rattle.sc_instances.specs.Instances.{entity_said, on_one, on_three, on_four}
-use Rattle.sc_instances.specs.Known.{is_falsified}
-use Rattle.sc_instances.specs.Clauses.{literal_for}
-use Rattle.sc_instances.proofs.FalseLaws.{false_negation, known_atom}
-use Rattle.sc_instances.proofs.LiteralLaws.{number_at, number_closed}
-use Rattle.sc_rules.proofs.MemberLaws.{has_any}
-use Rattle.sc_rules.specs.Signed.{Signed, Said, so, unless, given}
-use Rattle.sc_rules.specs.Entities.{en2, en4, en5, same_sets}
-use Rattle.sc_rules.specs.Terms.{above, member}
+use Rattle.sc_rule_instances.specs.declared.rule.EntityRule.TheVariants.{En2, En4, En5}
+use Rattle.sc_rule_instances.specs.Instances.{entity_said, on_one, on_three, on_four}
+use Rattle.sc_rule_instances.specs.Known.{is_falsified}
+use Rattle.sc_rule_instances.specs.Clauses.{literal_for}
+use Rattle.sc_rule_instances.proofs.FalseLaws.{false_negation, known_atom}
+use Rattle.sc_rule_instances.proofs.LiteralLaws.{number_at, number_closed}
+use Rattle.sc_rule_laws.proofs.MemberLaws.{has_any}
+use Rattle.sc_rule_laws.specs.Signed.{Signed, Said, so, unless, given}
+use Rattle.sc_rule_laws.specs.Entities.{en2, en4, en5, same_sets}
+use Rattle.sc_rule_laws.specs.Terms.{above, member}
 use Rattle.th_entities.specs.declared.memberships.Membership.{Membership}
 use Rattle.th_entities.specs.Free.{IsFree, IsMovedFree, IsOwnFree, IsLifted, AreLifted, IsUnder, IsThroughFree, has_member, is_out}
 use Rattle.th_entities.specs.Memberships.{number_in, owner_in, membership_in, is_true, true_closed, IsAmong, AreMemberships}

@@ -12,7 +12,7 @@ use Rattle.sc_clauses.specs.Clauses.{negation}
 use Rattle.sc_nodes.specs.declared.node.BinaryOp.TheVariants as binary
 use Rattle.sc_terms.specs.Trees.{Tree, two}
 use Rattle.sc_footprint.specs.Problems.{Posed, literal_in, term_of}
-use Rattle.sc_rules.specs.Terms.{member}
+use Rattle.sc_rule_laws.specs.Terms.{member}
 use Rattle.th_entities.specs.declared.memberships.Membership.{Membership}
 use Rattle.th_entities.specs.Free.{AreFirst, is_out}
 use Rattle.th_entities.specs.Memberships.{number_in, owner_in, is_above, membership_at, membership_in, is_true, true_two, true_term, true_closed, IsAmong, IsHeld, AreMemberships, IsPut}

@@ -3,11 +3,11 @@ use Rattle.std.proofs.Common.{◌≡◌, ℕ, false, Option, Some, None, refl, a
 use Rattle.sc_clauses.specs.Assignments.{Assignment}
 use Rattle.sc_terms.specs.Trees.{Tree}
 use Rattle.sc_footprint.specs.Problems.{Posed, term_of}
-use Rattle.sc_instances.specs.declared.rule.EntityRule.TheVariants.{En2, En6, En7, En8}
-use Rattle.sc_instances.specs.Instances.{on_one, on_two, on_three}
-use Rattle.sc_instances.specs.Known.{is_falsified}
-use Rattle.sc_rules.specs.Signed.{Said}
-use Rattle.sc_rules.specs.Entities.{en2, en6, en7, en8}
+use Rattle.sc_rule_instances.specs.declared.rule.EntityRule.TheVariants.{En2, En6, En7, En8}
+use Rattle.sc_rule_instances.specs.Instances.{on_one, on_two, on_three}
+use Rattle.sc_rule_instances.specs.Known.{is_falsified}
+use Rattle.sc_rule_laws.specs.Signed.{Said}
+use Rattle.sc_rule_laws.specs.Entities.{en2, en6, en7, en8}
 use Rattle.th_entities.specs.Free.{IsFree}
 
 pub free_none : (p : Posed) (m : Assignment) (said : Said) → said ≡ None → is_falsified p m said ≡ false

@@ -17,7 +17,7 @@ use Rattle.sc_terms.specs.Trees.{Tree, leaf, one, two, choice, many}
 use Rattle.sc_terms.specs.Tables.{tree, node_tree, PartsAreBelow}
 use Rattle.sc_terms.specs.Folds.{literal_of}
 use Rattle.sc_footprint.specs.Problems.{Posed, numbered, term_of}
-use Rattle.sc_rules.specs.Places.{roots, same_step}
+use Rattle.sc_rule_laws.specs.Places.{roots, same_step}
 use Rattle.th_entities.specs.declared.places.Place.{Place}
 use Rattle.th_entities.specs.Free.{AreFirst}
 use Rattle.th_entities.specs.Memberships.{IsPut}

@@ -9,16 +9,16 @@ use Rattle.sc_nodes.specs.declared.node.UnaryOp.TheVariants as unary
 use Rattle.sc_terms.specs.Trees.{Tree, leaf, one, two, choice, many}
 use Rattle.sc_terms.specs.Folds.{equal_term}
 use Rattle.sc_footprint.specs.Problems.{Posed, literal_in, term_of}
-use Rattle.sc_instances.specs.declared.rule.EntityRule.TheVariants.{En2, En7}
-use Rattle.sc_instances.specs.Clauses.{clause_for, literal_for, said_clause}
-use Rattle.sc_instances.specs.Instances.{entity_said, on_two, on_three}
-use Rattle.sc_instances.proofs.FalseLaws.{false_known, false_negation}
-use Rattle.sc_instances.specs.Known.{is_broken, is_falsified, known}
-use Rattle.sc_instances.specs.Saying.{count_of, literal_of}
-use Rattle.sc_rules.specs.Signed.{Signed, Said, so, unless, given}
-use Rattle.sc_rules.specs.Entities.{en2, en7, en7_by, same_sets}
-use Rattle.sc_rules.specs.Terms.{above, member}
-use Rattle.sc_entity_rows.specs.Rows.{above_name, declared_in}
+use Rattle.sc_rule_instances.specs.declared.rule.EntityRule.TheVariants.{En2, En7}
+use Rattle.sc_rule_instances.specs.Clauses.{clause_for, literal_for, said_clause}
+use Rattle.sc_rule_instances.specs.Instances.{entity_said, on_two, on_three}
+use Rattle.sc_rule_instances.proofs.FalseLaws.{false_known, false_negation}
+use Rattle.sc_rule_instances.specs.Known.{is_broken, is_falsified, known}
+use Rattle.sc_rule_instances.specs.Saying.{count_of, literal_of}
+use Rattle.sc_rule_laws.specs.Signed.{Signed, Said, so, unless, given}
+use Rattle.sc_rule_laws.specs.Entities.{en2, en7, en7_by, same_sets}
+use Rattle.sc_rule_laws.specs.Terms.{above, member}
+use Rattle.th_entities_instances.specs.Rows.{above_name, declared_in}
 use Rattle.th_entities.specs.Free.{IsFree, is_head_out, is_out, is_stored}
 use Rattle.th_entities.proofs.PastLaws.{free_none}
 

@@ -3,13 +3,13 @@ use Rattle.std.proofs.Common.{◌≡◌, ◌↔◌, true, false, [], IsTrue, Opt
 use Rattle.sc_clauses.specs.Assignments.{Assignment, falsifies}
 use Rattle.sc_clauses.specs.declared.step.Instance.{Instance}
 use Rattle.sc_footprint.specs.Problems.{Posed}
-use Rattle.sc_rules.specs.Signed.{Said}
-use Rattle.sc_instances.specs.Clauses.{is_instance, said_clause}
-use Rattle.sc_instances.specs.Instances.{HasEntity, said_by, entity_clause, entity_said}
-use Rattle.sc_instances.specs.Known.{is_falsified, NoneFalsified}
-use Rattle.sc_instances.specs.Names.{entity_rule}
-use Rattle.sc_instances.specs.declared.rule.EntityRule.{EntityRule}
-use Rattle.sc_instances.proofs.FalseLaws.{falsified_instance, instance_free}
+use Rattle.sc_rule_laws.specs.Signed.{Said}
+use Rattle.sc_rule_instances.specs.Clauses.{is_instance, said_clause}
+use Rattle.sc_rule_instances.specs.Instances.{HasEntity, said_by, entity_clause, entity_said}
+use Rattle.sc_rule_instances.specs.Known.{is_falsified, NoneFalsified}
+use Rattle.sc_rule_instances.specs.Names.{entity_rule}
+use Rattle.sc_rule_instances.specs.declared.rule.EntityRule.{EntityRule}
+use Rattle.sc_rule_instances.proofs.FalseLaws.{falsified_instance, instance_free}
 
 module _ (p : Posed) where
   module _ (i : Instance) where

@@ -2,9 +2,9 @@
 use Rattle.std.proofs.Common.{ℕ, Bool, true, false}
 use Rattle.sc_clauses.specs.Assignments.{Assignment}
 use Rattle.sc_footprint.specs.Problems.{Posed}
-use Rattle.sc_instances.specs.declared.rule.EntityRule.TheVariants.{En1, En2, En3, En4, En5, En6, En7, En8}
-use Rattle.sc_instances.specs.Instances.{entity_said}
-use Rattle.sc_instances.specs.Known.{NoneFalsified}
+use Rattle.sc_rule_instances.specs.declared.rule.EntityRule.TheVariants.{En1, En2, En3, En4, En5, En6, En7, En8}
+use Rattle.sc_rule_instances.specs.Instances.{entity_said}
+use Rattle.sc_rule_instances.specs.Known.{NoneFalsified}
 use Rattle.th_entities.specs.Alike.{IsAlikeFree}
 use Rattle.th_entities.specs.Free.{IsFree}
 

@@ -11,9 +11,9 @@ use Rattle.sc_terms.specs.Trees.{Tree, one, two}
 use Rattle.sc_terms.specs.TreeSorts.{tree_sort}
 use Rattle.sc_terms.specs.Folds.{bit_term, equal_term}
 use Rattle.sc_footprint.specs.Problems.{Posed}
-use Rattle.sc_instances.specs.declared.rule.EntityRule.{EntityRule}
-use Rattle.sc_instances.specs.declared.rule.EntityRule.TheVariants.{En1, En3}
-use Rattle.sc_rules.specs.Places.{roots}
+use Rattle.sc_rule_instances.specs.declared.rule.EntityRule.{EntityRule}
+use Rattle.sc_rule_instances.specs.declared.rule.EntityRule.TheVariants.{En1, En3}
+use Rattle.sc_rule_laws.specs.Places.{roots}
 use Rattle.th_entities.specs.declared.memberships.Membership.{Membership}
 use Rattle.th_entities.specs.declared.places.Place.{Place}
 use Rattle.th_entities.specs.Free.{IsFree}

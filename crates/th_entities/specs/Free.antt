@@ -6,12 +6,12 @@ use Rattle.sc_clauses.specs.Assignments.{Assignment, is_false}
 use Rattle.sc_nodes.specs.declared.node.UnaryOp.TheVariants as unary
 use Rattle.sc_terms.specs.Trees.{Tree, one}
 use Rattle.sc_footprint.specs.Problems.{Posed}
-use Rattle.sc_instances.specs.declared.rule.EntityRule.{EntityRule}
-use Rattle.sc_instances.specs.declared.rule.EntityRule.TheVariants.{En2, En4, En5}
-use Rattle.sc_instances.specs.Clauses.{is_asked, literal_for}
-use Rattle.sc_instances.specs.Instances.{entity_said}
-use Rattle.sc_instances.specs.Known.{is_falsified}
-use Rattle.sc_rules.specs.Signed.{Said}
+use Rattle.sc_rule_instances.specs.declared.rule.EntityRule.{EntityRule}
+use Rattle.sc_rule_instances.specs.declared.rule.EntityRule.TheVariants.{En2, En4, En5}
+use Rattle.sc_rule_instances.specs.Clauses.{is_asked, literal_for}
+use Rattle.sc_rule_instances.specs.Instances.{entity_said}
+use Rattle.sc_rule_instances.specs.Known.{is_falsified}
+use Rattle.sc_rule_laws.specs.Signed.{Said}
 use Rattle.th_entities.specs.declared.memberships.Membership.{Membership}
 
 abbrev pub IsFree : Posed → Assignment → EntityRule → Type 0

@@ -10,9 +10,9 @@ use Rattle.sc_sorts.specs.contracts.sort.SortPartialEq.TheImpl.{ghosts as sorts}
 use Rattle.sc_terms.specs.Trees.{Tree, one, two}
 use Rattle.sc_terms.specs.TreeSorts.{tree_sort}
 use Rattle.sc_footprint.specs.Problems.{Posed, closed_terms, number_among, term_of}
-use Rattle.sc_instances.specs.Clauses.{literal_for}
-use Rattle.sc_rules.specs.Signed.{unless}
-use Rattle.sc_rules.specs.Terms.{member}
+use Rattle.sc_rule_instances.specs.Clauses.{literal_for}
+use Rattle.sc_rule_laws.specs.Signed.{unless}
+use Rattle.sc_rule_laws.specs.Terms.{member}
 use Rattle.th_entities.specs.declared.memberships.Membership.{Membership}
 use Rattle.th_entities.specs.Free.{is_out}
 

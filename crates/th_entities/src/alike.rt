@@ -3,8 +3,8 @@
 //! their places are laid side by side.
 ghost use Rattle.std.specs.Prelude.{◌≡◌, ◌<◌, Bool, true, None, Some, ℕ, IfSome, IfNone, length};
 ghost use Rattle.std.specs.List.{AllByRecursion};
-ghost use Rattle.sc_instances.specs.Instances.{entity_said};
-ghost use Rattle.sc_instances.specs.Known.{is_falsified as falsified_of};
+ghost use Rattle.sc_rule_instances.specs.Instances.{entity_said};
+ghost use Rattle.sc_rule_instances.specs.Known.{is_falsified as falsified_of};
 ghost use Rattle.sc_sorts.specs.declared.sort.Sort.{out-Sort};
 ghost use Rattle.sc_terms.specs.Folds.{bit_term, equal_term};
 ghost use Rattle.sc_terms.specs.Tables.{tree};
@@ -18,11 +18,11 @@ use crate::memberships::Membership;
 use crate::places::{Place, first_root, is_root, is_tag};
 use crate::testing::{if_falsified, is_out};
 use sc_clauses::{Assignment, negation};
-use sc_entity_rows::roots;
 use sc_footprint::Problem;
-use sc_instances::{EntityRule, bit, equal};
 use sc_nodes::{BinaryOp, Node, UnaryOp};
+use sc_rule_instances::{EntityRule, bit, equal};
 use sc_sorts::Sort;
+use th_entities_instances::roots;
 
 /// The instance of EN3 for places of tags, and of EN1 for others.
 fn alike(tags: bool, x: u64, y: u64, i: u64) -> EntityRule

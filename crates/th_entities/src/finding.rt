@@ -3,9 +3,9 @@
 //! that the assignment says are true are.
 ghost use Rattle.std.specs.Prelude.{◌≡◌, true, ℕ, IfSome, IfNone};
 ghost use Rattle.std.specs.List.{AllByRecursion};
-ghost use Rattle.sc_instances.specs.declared.rule.EntityRule.TheVariants.{En2, En4, En5, En6, En7, En8};
-ghost use Rattle.sc_instances.specs.Instances.{entity_said};
-ghost use Rattle.sc_instances.specs.Known.{NoneFalsified, is_falsified as falsified_of};
+ghost use Rattle.sc_rule_instances.specs.declared.rule.EntityRule.TheVariants.{En2, En4, En5, En6, En7, En8};
+ghost use Rattle.sc_rule_instances.specs.Instances.{entity_said};
+ghost use Rattle.sc_rule_instances.specs.Known.{NoneFalsified, is_falsified as falsified_of};
 ghost use Rattle.th_entities.specs.Free.{IsFree, IsMovedFree, IsOwnFree, IsLifted, AreLifted, IsUnder};
 ghost use Rattle.th_entities.specs.Memberships.{AreMemberships, AreOf, IsHeld};
 ghost use Rattle.th_entities.specs.Places.{ArePlaces};
@@ -17,7 +17,7 @@ use crate::runs::{first_run, has_member, is_lifted};
 use crate::testing::{if_falsified, is_head_out, is_said, is_stored};
 use sc_clauses::Assignment;
 use sc_footprint::Problem;
-use sc_instances::EntityRule;
+use sc_rule_instances::EntityRule;
 
 /// The instance of EN2 for two sets and a membership, if that is one of the first set.
 fn moved_member(

@@ -1,6 +1,6 @@
 //! The memberships that an assignment says are true.
 ghost use Rattle.std.specs.Prelude.{◌≡◌, ◌<◌, length, IfOk, OnOk};
-ghost use Rattle.sc_rules.specs.Terms.{member};
+ghost use Rattle.sc_rule_laws.specs.Terms.{member};
 ghost use Rattle.sc_terms.specs.Tables.{tree, node_tree, PartsAreBelow};
 ghost use Rattle.sc_footprint.specs.Problems.{term_of};
 ghost use Rattle.th_entities.specs.Memberships.{number_in, owner_in, is_above as above_test, membership_in, is_true as true_test, true_two, true_term, true_closed, AreMemberships, IsPut};

@@ -1,16 +1,16 @@
 //! Tests that are taken before many instances are looked at.
 ghost use Rattle.std.specs.Prelude.{◌≡◌, ◌&&◌, true, is_some, IfSome, IfNone};
 ghost use Rattle.sc_footprint.specs.Problems.{term_of};
-ghost use Rattle.sc_instances.specs.Instances.{entity_said};
-ghost use Rattle.sc_instances.specs.Known.{is_falsified as falsified_of};
-ghost use Rattle.sc_instances.specs.Saying.{count_of};
+ghost use Rattle.sc_rule_instances.specs.Instances.{entity_said};
+ghost use Rattle.sc_rule_instances.specs.Known.{is_falsified as falsified_of};
+ghost use Rattle.sc_rule_instances.specs.Saying.{count_of};
 ghost use Rattle.th_entities.specs.Free.{IsFree, is_head_out as head_test, is_out as out_test, is_stored as stored_test};
 
 use sc_clauses::{Assignment, Lit, is_false, is_same};
-use sc_entity_rows::Said;
 use sc_footprint::Problem;
-use sc_instances::{EntityRule, Saying, TRUE, is_falsified};
 use sc_nodes::{Node, UnaryOp};
+use sc_rule_instances::{EntityRule, Saying, TRUE, is_falsified};
+use th_entities_instances::Said;
 
 /// Whether a literal is asked and false.
 pub(crate) fn is_out(m: &Assignment, lit: Lit) -> bool

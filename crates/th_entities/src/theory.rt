@@ -1,25 +1,25 @@
 //! The theory.
 ghost use Rattle.std.specs.Prelude.{◌≡◌, ◌↔◌, true, IfOk, IfSome, IfNone, IsOk, IsTrue};
-ghost use Rattle.sc_instances.specs.Instances.{HasEntity, entity_said};
-ghost use Rattle.sc_instances.specs.Known.{is_falsified, NoneFalsified};
+ghost use Rattle.sc_rule_instances.specs.Instances.{HasEntity, entity_said};
+ghost use Rattle.sc_rule_instances.specs.Known.{is_falsified, NoneFalsified};
 
 use crate::finding::falsified_rule;
 use crate::memberships::true_memberships;
 use crate::places::all_places;
 use sc_clauses::{Assignment, Clause, Instance};
-use sc_entity_rows::Said;
 use sc_footprint::{Problem, Theory};
-use sc_instances::{EntityRule, clause_of, entity_rule, is_instance, write_entity};
 use sc_lists::Seq;
+use sc_rule_instances::{EntityRule, clause_of, entity_rule, is_instance, write_entity};
 use std::alloc::{AllocError, Global};
+use th_entities_instances::Said;
 
 /// The rules of what is stored of entities. An instance is named by the numbers of its closed terms.
 #[derive(Drop)]
 pub struct Entities;
 
 impl Theory for Entities {
-    ghost use Rattle.sc_instances.specs.Instances.{HasEntity, entity_clause};
-    ghost use Rattle.sc_instances.proofs.InstanceLaws.{entity_sound, entity_lawful, entity_written};
+    ghost use Rattle.sc_rule_instances.specs.Instances.{HasEntity, entity_clause};
+    ghost use Rattle.sc_rule_instances.proofs.InstanceLaws.{entity_sound, entity_lawful, entity_written};
 
     ghost has_instance = { λ t. HasEntity };
 

@@ -11,7 +11,7 @@ use Rattle.sc_nodes.specs.declared.node.Literal.TheVariants as literals
 use Rattle.sc_terms.specs.Trees.{Tree, leaf}
 use Rattle.sc_terms.specs.TreeSorts.{tree_sort}
 use Rattle.sc_terms.specs.Folds.{literal_of}
-use Rattle.sc_rules.specs.Terms.{fields_level}
+use Rattle.sc_rule_laws.specs.Terms.{fields_level}
 
 abbrev pub is_composite_level : Sort-F Sort → Bool
 is_composite_level (s.Record fields) = true

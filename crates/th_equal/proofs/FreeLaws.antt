@@ -11,13 +11,13 @@ use Rattle.sc_terms.specs.Trees.{Tree, leaf, one, two, choice, many}
 use Rattle.sc_terms.specs.Tables.{tree}
 use Rattle.sc_footprint.proofs.NumberingLaws.{at_suc, numbered_map}
 use Rattle.sc_footprint.specs.Problems.{Posed, closed_terms, numbered, term_of}
-use Rattle.sc_rules.specs.Equal.{are_options, eq2, eq3, eq3_of, eq4, eq4_of, eq5, eq6, eq7, eq8, field_at}
-use Rattle.sc_rules.specs.Signed.{Signed, Said, given}
-use Rattle.sc_rules.specs.Terms.{fields_of, is_option, one_sort}
-use Rattle.sc_instances.specs.declared.rule.EqualRule.{EqualRule}
-use Rattle.sc_instances.specs.declared.rule.EqualRule.TheVariants.{Eq3, Eq4, Eq8}
-use Rattle.sc_instances.specs.Instances.{on_one, on_two}
-use Rattle.sc_instances.specs.Known.{is_falsified}
+use Rattle.sc_rule_laws.specs.Equal.{are_options, eq2, eq3, eq3_of, eq4, eq4_of, eq5, eq6, eq7, eq8, field_at}
+use Rattle.sc_rule_laws.specs.Signed.{Signed, Said, given}
+use Rattle.sc_rule_laws.specs.Terms.{fields_of, is_option, one_sort}
+use Rattle.sc_rule_instances.specs.declared.rule.EqualRule.{EqualRule}
+use Rattle.sc_rule_instances.specs.declared.rule.EqualRule.TheVariants.{Eq3, Eq4, Eq8}
+use Rattle.sc_rule_instances.specs.Instances.{on_one, on_two}
+use Rattle.sc_rule_instances.specs.Known.{is_falsified}
 use Rattle.sc_equal_chains.specs.Equations.{AreSides}
 use Rattle.th_equal.specs.Equations.{is_choice}
 use Rattle.th_equal.specs.Free.{IsKept, IsFree, AreFieldsFree, AreRecordsFree, AreOptionsFree, IsPairFree, AreSidesFree, IsEquationFree, IsChoiceFree, IsTermFree, AreTermsFree, AreFirstFree}

@@ -11,7 +11,7 @@ use Rattle.sc_footprint.specs.Places.{place_among}
 use Rattle.sc_footprint.proofs.IndexLaws.{number_is_place}
 use Rattle.sc_footprint.proofs.NumberingLaws.{at_suc, numbered_map, numbered_back}
 use Rattle.sc_footprint.specs.Problems.{Posed, IsPosed, closed_terms, number_among, number_of, numbered, if_any, term_of}
-use Rattle.sc_instances.proofs.LiteralLaws.{number_there}
+use Rattle.sc_rule_instances.proofs.LiteralLaws.{number_there}
 use Rattle.th_equal.specs.Equations.{IsNumberIf}
 
 any_suc : (k : ℕ) → if_any (suc k) ≡ Some (suc k)

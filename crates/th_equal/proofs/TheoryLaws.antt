@@ -4,12 +4,12 @@ use Rattle.std.proofs.lemmas.Bool.{true≢false}
 use Rattle.sc_clauses.specs.Assignments.{Assignment, falsifies}
 use Rattle.sc_clauses.specs.declared.step.Instance.{Instance}
 use Rattle.sc_footprint.specs.Problems.{Posed, IsPosed}
-use Rattle.sc_instances.proofs.FalseLaws.{falsified_instance, instance_falsified}
-use Rattle.sc_instances.specs.Clauses.{is_instance}
-use Rattle.sc_instances.specs.Instances.{HasEqual, equal_said, equal_of, equal_clause, said_by}
-use Rattle.sc_instances.specs.Known.{is_falsified, NoneFalsified}
-use Rattle.sc_instances.specs.Names.{equal_rule}
-use Rattle.sc_instances.specs.declared.rule.EqualRule.{EqualRule}
+use Rattle.sc_rule_instances.proofs.FalseLaws.{falsified_instance, instance_falsified}
+use Rattle.sc_rule_instances.specs.Clauses.{is_instance}
+use Rattle.sc_rule_instances.specs.Instances.{HasEqual, equal_said, equal_of, equal_clause, said_by}
+use Rattle.sc_rule_instances.specs.Known.{is_falsified, NoneFalsified}
+use Rattle.sc_rule_instances.specs.Names.{equal_rule}
+use Rattle.sc_rule_instances.specs.declared.rule.EqualRule.{EqualRule}
 use Rattle.sc_equal_chains.specs.Naming.{IsChainFree}
 use Rattle.th_equal.specs.Free.{AreTermsFree}
 use Rattle.th_equal.proofs.WholeLaws as whole

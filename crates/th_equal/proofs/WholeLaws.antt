@@ -11,15 +11,15 @@ use Rattle.sc_terms.specs.Trees.{Tree, two}
 use Rattle.sc_terms.specs.TreeSorts.{tree_sort}
 use Rattle.sc_terms.specs.Folds.{equal_term, field_term, present_term, held_term}
 use Rattle.sc_footprint.specs.Problems.{Posed, IsPosed, closed_terms, literal_in, term_of}
-use Rattle.sc_rules.specs.Equal.{are_options, eq3, eq3_of, eq4, eq4_of, eq5, eq6, eq7, field_at, field_equal}
-use Rattle.sc_rules.specs.Signed.{Signed, Said, so, unless, given}
-use Rattle.sc_rules.specs.Terms.{fields_of, is_option, one_sort}
-use Rattle.sc_rules.proofs.EqualSound.{one_sort_is}
-use Rattle.sc_rules.proofs.EquationLaws.{no_constant}
-use Rattle.sc_instances.proofs.FalseLaws.{asked_equation, false_known, false_negation, true_isnt_false, known_atom}
-use Rattle.sc_instances.specs.declared.rule.EqualRule.TheVariants.{Eq1, Eq2, Eq3, Eq4, Eq5, Eq6, Eq7, Eq8}
-use Rattle.sc_instances.specs.Instances.{equal_said, on_two}
-use Rattle.sc_instances.specs.Known.{known, is_falsified, NoneFalsified}
+use Rattle.sc_rule_laws.specs.Equal.{are_options, eq3, eq3_of, eq4, eq4_of, eq5, eq6, eq7, field_at, field_equal}
+use Rattle.sc_rule_laws.specs.Signed.{Signed, Said, so, unless, given}
+use Rattle.sc_rule_laws.specs.Terms.{fields_of, is_option, one_sort}
+use Rattle.sc_rule_laws.proofs.EqualSound.{one_sort_is}
+use Rattle.sc_rule_laws.proofs.EquationLaws.{no_constant}
+use Rattle.sc_rule_instances.proofs.FalseLaws.{asked_equation, false_known, false_negation, true_isnt_false, known_atom}
+use Rattle.sc_rule_instances.specs.declared.rule.EqualRule.TheVariants.{Eq1, Eq2, Eq3, Eq4, Eq5, Eq6, Eq7, Eq8}
+use Rattle.sc_rule_instances.specs.Instances.{equal_said, on_two}
+use Rattle.sc_rule_instances.specs.Known.{known, is_falsified, NoneFalsified}
 use Rattle.sc_equal_chains.specs.Naming.{IsChainFree}
 use Rattle.th_equal.specs.Free.{IsKept, IsPairFree, AreTermsFree}
 use Rattle.th_equal.proofs.CompositeLaws.{is_composite, is_composite_level, record_composite, option_composite, no_literal}

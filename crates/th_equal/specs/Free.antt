@@ -5,12 +5,12 @@ use Rattle.sc_clauses.specs.Assignments.{Assignment}
 use Rattle.sc_nodes.specs.declared.node.BinaryOp.TheVariants.{Equal}
 use Rattle.sc_terms.specs.Trees.{Tree, two}
 use Rattle.sc_footprint.specs.Problems.{Posed, term_of}
-use Rattle.sc_rules.specs.Equal.{eq2, eq3, eq4, eq5, eq6, eq7, eq8}
-use Rattle.sc_rules.specs.Signed.{Said}
-use Rattle.sc_instances.specs.declared.rule.EqualRule.{EqualRule}
-use Rattle.sc_instances.specs.declared.rule.EqualRule.TheVariants.{Eq3}
-use Rattle.sc_instances.specs.Instances.{on_one, on_two, equal_said}
-use Rattle.sc_instances.specs.Known.{is_falsified}
+use Rattle.sc_rule_laws.specs.Equal.{eq2, eq3, eq4, eq5, eq6, eq7, eq8}
+use Rattle.sc_rule_laws.specs.Signed.{Said}
+use Rattle.sc_rule_instances.specs.declared.rule.EqualRule.{EqualRule}
+use Rattle.sc_rule_instances.specs.declared.rule.EqualRule.TheVariants.{Eq3}
+use Rattle.sc_rule_instances.specs.Instances.{on_one, on_two, equal_said}
+use Rattle.sc_rule_instances.specs.Known.{is_falsified}
 
 -- what is said isn't falsified
 abbrev pub IsKept : Posed → Assignment → Said → Type 0

@@ -2,9 +2,9 @@
 ghost use Rattle.std.specs.Prelude.{◌≡◌, ◌<◌, length, true, IfSome, IfNone, Some};
 ghost use Rattle.sc_terms.specs.Tables.{tree};
 ghost use Rattle.sc_footprint.specs.Problems.{term_of};
-ghost use Rattle.sc_instances.specs.Instances.{equal_said};
-ghost use Rattle.sc_instances.specs.Known.{is_falsified as falsified_of};
-ghost use Rattle.sc_instances.specs.declared.rule.EqualRule.TheVariants.{Eq8};
+ghost use Rattle.sc_rule_instances.specs.Instances.{equal_said};
+ghost use Rattle.sc_rule_instances.specs.Known.{is_falsified as falsified_of};
+ghost use Rattle.sc_rule_instances.specs.declared.rule.EqualRule.TheVariants.{Eq8};
 ghost use Rattle.th_equal.specs.Free.{IsFree, AreFieldsFree, AreRecordsFree, AreOptionsFree, IsPairFree, AreSidesFree, IsEquationFree, IsChoiceFree, IsTermFree, AreTermsFree};
 
 use crate::equations::{is_choice, number};
@@ -12,7 +12,7 @@ use sc_clauses::Assignment;
 use sc_equal_chains::sides;
 use sc_equal_rows::Said;
 use sc_footprint::Problem;
-use sc_instances::{EqualRule, field_count, is_falsified, is_sort_option};
+use sc_rule_instances::{EqualRule, field_count, is_falsified, is_sort_option};
 
 /// The instance, if an assignment falsifies it.
 fn if_falsified(problem: &Problem<'_>, m: &Assignment, rule: EqualRule) -> Option<EqualRule>

@@ -1,15 +1,15 @@
 //! The theory.
 ghost use Rattle.std.specs.Prelude.{◌≡◌, ◌↔◌, true, IfOk, IfSome, IfNone, IsOk, IsTrue};
-ghost use Rattle.sc_instances.specs.Instances.{HasEqual, equal_said};
-ghost use Rattle.sc_instances.specs.Known.{is_falsified, NoneFalsified};
+ghost use Rattle.sc_rule_instances.specs.Instances.{HasEqual, equal_said};
+ghost use Rattle.sc_rule_instances.specs.Known.{is_falsified, NoneFalsified};
 
 use crate::finding::falsified_row;
 use sc_clauses::{Assignment, Clause, Instance};
 use sc_equal_chains::broken_chain;
 use sc_equal_rows::Said;
 use sc_footprint::{Problem, Theory};
-use sc_instances::{EqualRule, clause_of, equal_rule, is_instance, write_equal};
 use sc_lists::Seq;
+use sc_rule_instances::{EqualRule, clause_of, equal_rule, is_instance, write_equal};
 use std::alloc::{AllocError, Global};
 
 /// The rules of equations. An instance is named by the numbers of its closed terms.
@@ -34,8 +34,8 @@ fn violated_rule(
 }
 
 impl Theory for Equal {
-    ghost use Rattle.sc_instances.specs.Instances.{HasEqual, equal_clause};
-    ghost use Rattle.sc_instances.proofs.InstanceLaws.{equal_sound, equal_lawful, equal_written};
+    ghost use Rattle.sc_rule_instances.specs.Instances.{HasEqual, equal_clause};
+    ghost use Rattle.sc_rule_instances.proofs.InstanceLaws.{equal_sound, equal_lawful, equal_written};
 
     ghost has_instance = { λ t. HasEqual };
 

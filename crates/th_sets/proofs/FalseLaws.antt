@@ -4,9 +4,9 @@ use Rattle.std.proofs.lemmas.Bool.{and_parts, and_from}
 use Rattle.sc_clauses.specs.declared.lit.Lit.{Lit}
 use Rattle.sc_clauses.specs.Assignments.{Assignment, is_false}
 use Rattle.sc_footprint.specs.Problems.{Posed}
-use Rattle.sc_rules.specs.Signed.{Signed, Said}
-use Rattle.sc_instances.specs.Clauses.{is_asked, literal_for}
-use Rattle.sc_instances.specs.Known.{is_falsified}
+use Rattle.sc_rule_laws.specs.Signed.{Signed, Said}
+use Rattle.sc_rule_instances.specs.Clauses.{is_asked, literal_for}
+use Rattle.sc_rule_instances.specs.Known.{is_falsified}
 
 -- ---- a literal that is asked and false
 

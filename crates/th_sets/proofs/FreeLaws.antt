@@ -6,17 +6,17 @@ use Rattle.std.proofs.lemmas.Option.{slice_get_past}
 use Rattle.sc_clauses.specs.Assignments.{Assignment}
 use Rattle.sc_nodes.specs.declared.node.ManyOp.TheVariants as manys
 use Rattle.sc_nodes.specs.declared.node.Node.{Node}
-use Rattle.sc_instances.specs.declared.rule.SetRule.{SetRule}
-use Rattle.sc_instances.specs.declared.rule.SetRule.TheVariants.{Se2, Se3}
+use Rattle.sc_rule_instances.specs.declared.rule.SetRule.{SetRule}
+use Rattle.sc_rule_instances.specs.declared.rule.SetRule.TheVariants.{Se2, Se3}
 use Rattle.sc_terms.specs.Trees.{Tree, leaf, one, two, choice, many}
 use Rattle.sc_terms.specs.Tables.{tree, Places}
 use Rattle.sc_footprint.specs.Problems.{Posed, closed_terms, numbered, term_of}
 use Rattle.sc_footprint.proofs.NumberingLaws.{at_suc, numbered_map}
-use Rattle.sc_rules.specs.Sets.{se3, se3_of}
-use Rattle.sc_rules.specs.Terms.{members}
-use Rattle.sc_instances.specs.Instances.{on_two}
-use Rattle.sc_instances.specs.Known.{is_falsified}
-use Rattle.sc_instances.specs.Lookups.{IsMembers}
+use Rattle.sc_rule_laws.specs.Sets.{se3, se3_of}
+use Rattle.sc_rule_laws.specs.Terms.{members}
+use Rattle.sc_rule_instances.specs.Instances.{on_two}
+use Rattle.sc_rule_instances.specs.Known.{is_falsified}
+use Rattle.sc_rule_instances.specs.Lookups.{IsMembers}
 use Rattle.th_sets.specs.declared.named.Named.{Named}
 use Rattle.th_sets.specs.declared.named.Named.TheVariants.{Other}
 use Rattle.th_sets.specs.Free.{IsFree, IsBesideFree, IsMemberFree, AreStanding, member_count}

@@ -9,19 +9,19 @@ use Rattle.sc_terms.specs.Trees.{Tree}
 use Rattle.sc_terms.specs.Folds.{equal_term}
 use Rattle.sc_terms.specs.Tables.{tree}
 use Rattle.sc_footprint.specs.Problems.{Posed, IsPosed, numbered, term_of, literal_in}
-use Rattle.sc_rules.specs.Signed.{so, unless}
-use Rattle.sc_rules.specs.Sets.{se1}
-use Rattle.sc_rules.specs.Terms.{member}
-use Rattle.sc_instances.specs.Instances.{on_three, set_said}
-use Rattle.sc_instances.specs.Known.{known, is_falsified}
-use Rattle.sc_instances.specs.declared.rule.SetRule.{SetRule}
-use Rattle.sc_instances.specs.declared.rule.SetRule.TheVariants.{Se1}
-use Rattle.sc_violated.specs.Paths.{IsGap, NoGap}
+use Rattle.sc_rule_laws.specs.Signed.{so, unless}
+use Rattle.sc_rule_laws.specs.Sets.{se1}
+use Rattle.sc_rule_laws.specs.Terms.{member}
+use Rattle.sc_rule_instances.specs.Instances.{on_three, set_said}
+use Rattle.sc_rule_instances.specs.Known.{known, is_falsified}
+use Rattle.sc_rule_instances.specs.declared.rule.SetRule.{SetRule}
+use Rattle.sc_rule_instances.specs.declared.rule.SetRule.TheVariants.{Se1}
+use Rattle.sc_falsified.specs.Paths.{IsGap, NoGap}
 use Rattle.th_sets.specs.declared.named.Named.{Named}
 use Rattle.th_sets.specs.declared.named.Named.TheVariants.{Member, Subset, Common, Other}
 use Rattle.th_sets.specs.Moves.{term_at, known_two, equal_known, member_known, IsAmong, IsPutBy, AreAmong, move_of, AreMovesFree}
 use Rattle.th_sets.specs.Named.{named_at, AreFirst}
-use Rattle.sc_instances.proofs.FalseLaws.{false_known, known_false, false_negation, known_negation}
+use Rattle.sc_rule_instances.proofs.FalseLaws.{false_known, known_false, false_negation, known_negation}
 use Rattle.th_sets.proofs.FalseLaws.{head_out, tail_out, more_out, all_out, free_if}
 use Rattle.th_sets.proofs.FreeLaws.{first_more, first_all}
 use Rattle.th_sets.proofs.WholeLaws.{Out, three_view, unless_there, so_there, member_named}

@@ -4,7 +4,7 @@ use Rattle.std.specs.List.{AllByRecursion}
 use Rattle.sc_lists.proofs.MemberLaws.{Has-left, Has-last, AllByRecursion-Has}
 use Rattle.sc_lists.specs.Members.{Has}
 use Rattle.sc_footprint.specs.Problems.{Posed}
-use Rattle.sc_rules.proofs.MemberLaws.{filter_kept}
+use Rattle.sc_rule_laws.proofs.MemberLaws.{filter_kept}
 use Rattle.th_sets.specs.declared.named.Named.{Named}
 use Rattle.th_sets.specs.declared.named.Named.TheVariants.{Member, Subset, Common, Other}
 use Rattle.th_sets.specs.Named.{named_at, IsNameAmong, AreNames, IsNamePut, AreFirst, is_of_sets, IsAmongSets, AreOfSets}

@@ -15,9 +15,9 @@ use Rattle.sc_closure_rules.specs.Closure.{follow, Closed, next}
 use Rattle.sc_footprint.proofs.KindLaws.{part_follows}
 use Rattle.sc_footprint.proofs.NumberingLaws.{at_suc, numbered_map, numbered_back}
 use Rattle.sc_footprint.specs.Problems.{Posed, IsPosed, goal_term, closed_terms, atoms, number_among, term_of, literal, literal_in}
-use Rattle.sc_rules.specs.Terms.{member}
-use Rattle.sc_rules.proofs.MemberLaws.{filter_within}
-use Rattle.sc_instances.proofs.LiteralLaws.{number_at, number_there}
+use Rattle.sc_rule_laws.specs.Terms.{member}
+use Rattle.sc_rule_laws.proofs.MemberLaws.{filter_within}
+use Rattle.sc_rule_instances.proofs.LiteralLaws.{number_at, number_there}
 use Rattle.th_sets.specs.Named.{number_in}
 
 -- ---- the number of a closed term

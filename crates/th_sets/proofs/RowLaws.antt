@@ -14,15 +14,15 @@ use Rattle.sc_terms.specs.TreeSorts.{tree_sort}
 use Rattle.sc_terms.specs.Folds.{equal_term}
 use Rattle.sc_terms.specs.Tables.{tree, node_tree, node_parts, Places}
 use Rattle.sc_footprint.specs.Problems.{Posed, numbered}
-use Rattle.sc_rules.specs.Signed.{Signed, Said, so, unless, given}
-use Rattle.sc_rules.specs.Sets.{se1, se2, se3, se3_of, se4, se5, se6, se7, se8}
-use Rattle.sc_rules.specs.Terms.{is_set, member, subset, members}
-use Rattle.sc_instances.specs.Clauses.{literal_for, said_clause}
-use Rattle.sc_instances.specs.Instances.{on_two, on_three, set_said, said_by}
-use Rattle.sc_instances.specs.Lookups.{IsMembers}
-use Rattle.sc_instances.specs.Saying.{count_of, literal_of}
-use Rattle.sc_instances.specs.declared.rule.SetRule.{SetRule}
-use Rattle.sc_instances.specs.declared.rule.SetRule.TheVariants.{Se1, Se2, Se3, Se4, Se5, Se6, Se7, Se8}
+use Rattle.sc_rule_laws.specs.Signed.{Signed, Said, so, unless, given}
+use Rattle.sc_rule_laws.specs.Sets.{se1, se2, se3, se3_of, se4, se5, se6, se7, se8}
+use Rattle.sc_rule_laws.specs.Terms.{is_set, member, subset, members}
+use Rattle.sc_rule_instances.specs.Clauses.{literal_for, said_clause}
+use Rattle.sc_rule_instances.specs.Instances.{on_two, on_three, set_said, said_by}
+use Rattle.sc_rule_instances.specs.Lookups.{IsMembers}
+use Rattle.sc_rule_instances.specs.Saying.{count_of, literal_of}
+use Rattle.sc_rule_instances.specs.declared.rule.SetRule.{SetRule}
+use Rattle.sc_rule_instances.specs.declared.rule.SetRule.TheVariants.{Se1, Se2, Se3, Se4, Se5, Se6, Se7, Se8}
 use Rattle.th_sets.specs.Rows.{two_of, three_of, placed, placed_said, is_set_node, is_set_over, equal_if, equal_at, side_count, row_count, of_two, of_three, listed_row, standing_row, row_literal, equal_lit, subset_lit, both_row}
 
 -- ---- set terms

@@ -10,14 +10,14 @@ use Rattle.sc_terms.specs.Trees.{Tree, leaf, one, two, choice, many}
 use Rattle.sc_terms.specs.TreeSorts.{tree_sort}
 use Rattle.sc_terms.specs.Folds.{equal_term}
 use Rattle.sc_footprint.specs.Problems.{Posed, IsPosed, term_of}
-use Rattle.sc_rules.specs.Signed.{Signed, Said, so, unless, given}
-use Rattle.sc_rules.specs.Sets.{se2, se3, se3_of, se4, se5, se6, se7, se8}
-use Rattle.sc_rules.specs.Terms.{is_set, member, subset, common, members}
-use Rattle.sc_instances.specs.Clauses.{literal_for}
-use Rattle.sc_instances.specs.Instances.{on_two, on_three, set_said}
-use Rattle.sc_instances.specs.Known.{is_falsified, NoneFalsified}
-use Rattle.sc_instances.specs.declared.rule.SetRule.TheVariants.{Se1, Se2, Se3, Se4, Se5, Se6, Se7, Se8}
-use Rattle.sc_instances.proofs.InstanceLaws.{asked_atom}
+use Rattle.sc_rule_laws.specs.Signed.{Signed, Said, so, unless, given}
+use Rattle.sc_rule_laws.specs.Sets.{se2, se3, se3_of, se4, se5, se6, se7, se8}
+use Rattle.sc_rule_laws.specs.Terms.{is_set, member, subset, common, members}
+use Rattle.sc_rule_instances.specs.Clauses.{literal_for}
+use Rattle.sc_rule_instances.specs.Instances.{on_two, on_three, set_said}
+use Rattle.sc_rule_instances.specs.Known.{is_falsified, NoneFalsified}
+use Rattle.sc_rule_instances.specs.declared.rule.SetRule.TheVariants.{Se1, Se2, Se3, Se4, Se5, Se6, Se7, Se8}
+use Rattle.sc_rule_instances.proofs.InstanceLaws.{asked_atom}
 use Rattle.th_sets.specs.declared.named.Named.{Named}
 use Rattle.th_sets.specs.declared.named.Named.TheVariants.{Member, Subset, Common}
 use Rattle.th_sets.specs.Free.{IsFree, IsBesideFree, IsMemberFree, IsNamedFree, AreNamedFree}

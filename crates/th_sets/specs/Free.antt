@@ -6,12 +6,12 @@ use Rattle.std.specs.List.{AllByRecursion}
 use Rattle.sc_clauses.specs.Assignments.{Assignment}
 use Rattle.sc_nodes.specs.declared.node.ManyOp.TheVariants as manys
 use Rattle.sc_terms.specs.Trees.{Tree, many}
-use Rattle.sc_rules.specs.Terms.{members}
+use Rattle.sc_rule_laws.specs.Terms.{members}
 use Rattle.sc_footprint.specs.Problems.{Posed}
-use Rattle.sc_instances.specs.declared.rule.SetRule.{SetRule}
-use Rattle.sc_instances.specs.declared.rule.SetRule.TheVariants.{Se2, Se3, Se4, Se5, Se6, Se7, Se8}
-use Rattle.sc_instances.specs.Instances.{set_said}
-use Rattle.sc_instances.specs.Known.{is_falsified}
+use Rattle.sc_rule_instances.specs.declared.rule.SetRule.{SetRule}
+use Rattle.sc_rule_instances.specs.declared.rule.SetRule.TheVariants.{Se2, Se3, Se4, Se5, Se6, Se7, Se8}
+use Rattle.sc_rule_instances.specs.Instances.{set_said}
+use Rattle.sc_rule_instances.specs.Known.{is_falsified}
 use Rattle.th_sets.specs.declared.named.Named.{Named}
 use Rattle.th_sets.specs.declared.named.Named.TheVariants.{Member, Subset, Common, Other}
 use Rattle.th_sets.specs.Named.{named_at}

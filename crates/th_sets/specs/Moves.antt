@@ -5,12 +5,12 @@ use Rattle.sc_lists.specs.Members.{Has}
 use Rattle.sc_terms.specs.Trees.{Tree}
 use Rattle.sc_terms.specs.Folds.{equal_term}
 use Rattle.sc_terms.specs.Tables.{tree}
-use Rattle.sc_rules.specs.Terms.{member}
+use Rattle.sc_rule_laws.specs.Terms.{member}
 use Rattle.sc_footprint.specs.Problems.{Posed, numbered, literal_in}
-use Rattle.sc_instances.specs.declared.rule.SetRule.{SetRule}
-use Rattle.sc_instances.specs.declared.rule.SetRule.TheVariants.{Se1}
-use Rattle.sc_instances.specs.Instances.{set_said}
-use Rattle.sc_instances.specs.Known.{known, is_falsified}
+use Rattle.sc_rule_instances.specs.declared.rule.SetRule.{SetRule}
+use Rattle.sc_rule_instances.specs.declared.rule.SetRule.TheVariants.{Se1}
+use Rattle.sc_rule_instances.specs.Instances.{set_said}
+use Rattle.sc_rule_instances.specs.Known.{known, is_falsified}
 use Rattle.sc_closure.specs.Following.{put_one}
 use Rattle.th_sets.specs.Named.{named_at}
 use Rattle.th_sets.specs.declared.named.Named.{Named}

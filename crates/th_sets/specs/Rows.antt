@@ -11,12 +11,12 @@ use Rattle.sc_terms.specs.Trees.{Tree, many}
 use Rattle.sc_terms.specs.Folds.{equal_term}
 use Rattle.sc_terms.specs.Tables.{tree, Places}
 use Rattle.sc_footprint.specs.Problems.{Posed, numbered, literal_in}
-use Rattle.sc_rules.specs.Signed.{Said}
-use Rattle.sc_rules.specs.Sets.{se1, se2, se3, se4, se5, se6, se7, se8}
-use Rattle.sc_rules.specs.Terms.{is_set, member, subset, common, missing, shared}
-use Rattle.sc_instances.specs.Saying.{count_of, literal_of}
-use Rattle.sc_instances.specs.declared.rule.SetRule.{SetRule}
-use Rattle.sc_instances.specs.declared.rule.SetRule.TheVariants.{Se1, Se2, Se3, Se4, Se5, Se6, Se7, Se8}
+use Rattle.sc_rule_laws.specs.Signed.{Said}
+use Rattle.sc_rule_laws.specs.Sets.{se1, se2, se3, se4, se5, se6, se7, se8}
+use Rattle.sc_rule_laws.specs.Terms.{is_set, member, subset, common, missing, shared}
+use Rattle.sc_rule_instances.specs.Saying.{count_of, literal_of}
+use Rattle.sc_rule_instances.specs.declared.rule.SetRule.{SetRule}
+use Rattle.sc_rule_instances.specs.declared.rule.SetRule.TheVariants.{Se1, Se2, Se3, Se4, Se5, Se6, Se7, Se8}
 
 -- ---- terms of the table in place of closed terms
 

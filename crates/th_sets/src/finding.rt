@@ -3,9 +3,9 @@ ghost use Rattle.std.specs.Prelude.{◌≡◌, ◌<◌, length, true, ℕ, Some,
 ghost use Rattle.std.specs.List.{AllByRecursion};
 ghost use Rattle.sc_terms.specs.Tables.{tree};
 ghost use Rattle.sc_footprint.specs.Problems.{term_of};
-ghost use Rattle.sc_instances.specs.declared.rule.SetRule.TheVariants.{Se3};
-ghost use Rattle.sc_instances.specs.Instances.{set_said};
-ghost use Rattle.sc_instances.specs.Known.{is_falsified as falsified_of};
+ghost use Rattle.sc_rule_instances.specs.declared.rule.SetRule.TheVariants.{Se3};
+ghost use Rattle.sc_rule_instances.specs.Instances.{set_said};
+ghost use Rattle.sc_rule_instances.specs.Known.{is_falsified as falsified_of};
 ghost use Rattle.th_sets.specs.Named.{named_at as named_of, AreNames, AreOfSets};
 ghost use Rattle.th_sets.specs.Free.{IsFree, IsBesideFree, IsMemberFree, IsNamedFree, AreNamedFree, by_subset, by_common, member_count as members_of};
 
@@ -13,7 +13,7 @@ use crate::named::{Named, names, names_of_sets};
 use crate::said::Said;
 use sc_clauses::Assignment;
 use sc_footprint::Problem;
-use sc_instances::{SetRule, is_falsified, members};
+use sc_rule_instances::{SetRule, is_falsified, members};
 use std::alloc::{AllocError, Global};
 
 /// The instance, if an assignment falsifies it.

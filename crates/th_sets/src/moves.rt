@@ -1,17 +1,17 @@
 //! SE1: a term that equals a member of a set and isn't one. Starts and middles are the first parts
 //! of the closed memberships, ends are the second.
 ghost use Rattle.std.specs.Prelude.{◌≡◌, ◌<◌, length, true, slice_get, IfOk, IfSome, IfNone, OnOk};
-ghost use Rattle.sc_instances.specs.Instances.{set_said};
-ghost use Rattle.sc_instances.specs.Known.{is_falsified};
+ghost use Rattle.sc_rule_instances.specs.Instances.{set_said};
+ghost use Rattle.sc_rule_instances.specs.Known.{is_falsified};
 ghost use Rattle.th_sets.specs.Moves.{equal_known, member_known, place_at as placed_at, AreAmong, IsPutBy, move_of as move_named, AreMovesFree};
 
 use crate::named::{Named, named_at};
 use indexmap::IndexSet;
 use sc_clauses::Assignment;
 use sc_closure::put;
+use sc_falsified::{Paths, gap};
 use sc_footprint::Problem;
-use sc_instances::{SetRule, equal, known_literal, member};
-use sc_violated::{Paths, gap};
+use sc_rule_instances::{SetRule, equal, known_literal, member};
 use std::alloc::{AllocError, Global};
 
 /// The parts of the closed memberships, under an assignment.

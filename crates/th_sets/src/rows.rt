@@ -3,16 +3,18 @@ ghost use Rattle.std.specs.Prelude.{◌≡◌, ◌<◌, ◌&&◌, length, None, 
 ghost use Rattle.sc_clauses.specs.Clauses.{positive, negation as negated};
 ghost use Rattle.sc_terms.specs.Tables.{tree, AreBelow};
 ghost use Rattle.sc_terms.specs.TreeSorts.{tree_sort};
-ghost use Rattle.sc_rules.specs.Sets.{se2, se3};
-ghost use Rattle.sc_rules.specs.Terms.{is_set};
-ghost use Rattle.sc_instances.specs.Saying.{count_of, literal_of};
+ghost use Rattle.sc_rule_laws.specs.Sets.{se2, se3};
+ghost use Rattle.sc_rule_laws.specs.Terms.{is_set};
+ghost use Rattle.sc_rule_instances.specs.Saying.{count_of, literal_of};
 ghost use Rattle.th_sets.specs.Rows.{IsPlaced, placed as placed_rule, two_at, three_at, is_set_node, is_set_over, equal_at as equal_at_place, side_count as side_counted, equal_count as equal_counted, row_count, row_literal, listed_row, standing_row, of_three, missing_lit, shared_lit, equal_lit, member_lit, subset_lit, common_lit, missing_row, shared_row, both_row, equal_row};
 
 use sc_clauses::{Lit, negation};
 use sc_footprint::Problem;
-use sc_instances::{NOWHERE, SetRule, common, equal, find, is_sort_set, member, members, subset};
 use sc_lists::Text;
 use sc_nodes::{BinaryOp, ManyOp, Node};
+use sc_rule_instances::{
+    NOWHERE, SetRule, common, equal, find, is_sort_set, member, members, subset,
+};
 use sc_sorts::Sort;
 
 // ---- terms of the table in place of closed terms

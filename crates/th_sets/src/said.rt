@@ -2,7 +2,7 @@
 use crate::rows::{count, literal, placed};
 use sc_clauses::Lit;
 use sc_footprint::Problem;
-use sc_instances::{NOWHERE, Saying, SetRule};
+use sc_rule_instances::{NOWHERE, Saying, SetRule};
 
 /// An instance of a rule on sets of a problem.
 #[derive(Drop)]
@@ -12,7 +12,7 @@ pub(crate) struct Said<'a, 'b> {
 }
 
 impl<'a, 'b> Saying for Said<'a, 'b> {
-    ghost use Rattle.sc_instances.specs.Instances.{set_said};
+    ghost use Rattle.sc_rule_instances.specs.Instances.{set_said};
 
     ghost posed = { λ s. s.problem.now };
 

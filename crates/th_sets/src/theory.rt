@@ -1,15 +1,15 @@
 //! The theory.
 ghost use Rattle.std.specs.Prelude.{◌≡◌, ◌↔◌, true, IfOk, IfSome, IfNone, IsOk, IsTrue};
-ghost use Rattle.sc_instances.specs.Instances.{HasSet, set_said};
-ghost use Rattle.sc_instances.specs.Known.{is_falsified, NoneFalsified};
+ghost use Rattle.sc_rule_instances.specs.Instances.{HasSet, set_said};
+ghost use Rattle.sc_rule_instances.specs.Known.{is_falsified, NoneFalsified};
 
 use crate::finding::falsified_row;
 use crate::moves::broken_move;
 use crate::said::Said;
 use sc_clauses::{Assignment, Clause, Instance};
 use sc_footprint::{Problem, Theory};
-use sc_instances::{SetRule, clause_of, is_instance, set_rule, write_set};
 use sc_lists::Seq;
+use sc_rule_instances::{SetRule, clause_of, is_instance, set_rule, write_set};
 use std::alloc::{AllocError, Global};
 
 /// The rules of sets. An instance is named by the numbers of its closed terms.
@@ -34,8 +34,8 @@ fn violated_rule(
 }
 
 impl Theory for Sets {
-    ghost use Rattle.sc_instances.specs.Instances.{HasSet, set_clause};
-    ghost use Rattle.sc_instances.proofs.InstanceLaws.{set_sound, set_lawful, set_written};
+    ghost use Rattle.sc_rule_instances.specs.Instances.{HasSet, set_clause};
+    ghost use Rattle.sc_rule_instances.proofs.InstanceLaws.{set_sound, set_lawful, set_written};
 
     ghost has_instance = { λ t. HasSet };
 

@@ -14,20 +14,20 @@ use Rattle.sc_clauses.specs.Assignments.{Assignment}
 use Rattle.sc_terms.specs.Tables.{tree}
 use Rattle.sc_terms.specs.Trees.{Tree}
 use Rattle.sc_footprint.specs.Problems.{Posed, IsPosed, term_of}
-use Rattle.sc_instances.proofs.FalseLaws.{true_isnt_false}
-use Rattle.sc_instances.proofs.KnownLaws.{few_is}
-use Rattle.sc_instances.specs.Known.{few_items, is_falsified, named_at, truth_of}
-use Rattle.sc_rules.specs.Signed.{given}
-use Rattle.sc_rules.specs.Strings.{Pattern, Signs, AreFew, crowd, st3}
-use Rattle.sc_rules.specs.Terms.{is_string}
-use Rattle.sc_rules.proofs.MemberLaws.{all_has}
-use Rattle.sc_string_rows.proofs.FewLaws.{few_greater, few_asked, distinct_within}
-use Rattle.sc_string_rows.specs.Instances.{all_at, on_all, with_term}
-use Rattle.sc_string_rows.specs.declared.rule.StringRule.{StringRule}
-use Rattle.sc_string_rows.specs.declared.rule.StringRule.TheVariants.{St3}
-use Rattle.sc_string_rows.proofs.RulesHold.{with_view}
-use Rattle.sc_violated.specs.declared.crowds.Crowd.{Crowd}
-use Rattle.sc_violated.specs.Crowds.{Fits, IsCrowd, IsWithin, NoneCrowded}
+use Rattle.sc_rule_instances.proofs.FalseLaws.{true_isnt_false}
+use Rattle.sc_rule_instances.proofs.KnownLaws.{few_is}
+use Rattle.sc_rule_instances.specs.Known.{few_items, is_falsified, named_at, truth_of}
+use Rattle.sc_rule_laws.specs.Signed.{given}
+use Rattle.sc_rule_laws.specs.Strings.{Pattern, Signs, AreFew, crowd, st3}
+use Rattle.sc_rule_laws.specs.Terms.{is_string}
+use Rattle.sc_rule_laws.proofs.MemberLaws.{all_has}
+use Rattle.th_strings_instances.proofs.FewLaws.{few_greater, few_asked, distinct_within}
+use Rattle.th_strings_instances.specs.Instances.{all_at, on_all, with_term}
+use Rattle.th_strings_instances.specs.declared.rule.StringRule.{StringRule}
+use Rattle.th_strings_instances.specs.declared.rule.StringRule.TheVariants.{St3}
+use Rattle.th_strings_instances.proofs.RulesHold.{with_view}
+use Rattle.sc_falsified.specs.declared.crowds.Crowd.{Crowd}
+use Rattle.sc_falsified.specs.Crowds.{Fits, IsCrowd, IsWithin, NoneCrowded}
 use Rattle.th_strings.specs.Known.{row_at, row_of, sign_of}
 use Rattle.th_strings.specs.Scarce.{AreScarce, IsScarce, IsScarceIf}
 use Rattle.th_strings.specs.Texts.{AreTexts}

@@ -23,16 +23,16 @@ use Rattle.sc_term_laws.specs.Tests as test
 use Rattle.sc_footprint.specs.Problems.{Posed, IsPosed, closed_terms, literal, literal_in, term_of}
 use Rattle.sc_footprint.specs.Theories.{TermsHold}
 use Rattle.sc_footprint.proofs.ProblemLaws.{term_judged}
-use Rattle.sc_instances.proofs.LiteralLaws.{number_closed}
-use Rattle.sc_instances.specs.Instances.{on_two}
-use Rattle.sc_instances.specs.Known.{known, is_falsified}
-use Rattle.sc_instances.proofs.FalseLaws.{false_known, known_false, false_negation, known_negation, known_atom}
-use Rattle.sc_rules.specs.Signed.{so, unless}
-use Rattle.sc_rules.specs.Strings.{Pattern, st1, st1_of}
-use Rattle.sc_rules.specs.Terms.{is_string}
-use Rattle.sc_string_rows.specs.declared.rule.StringRule.{StringRule}
-use Rattle.sc_string_rows.specs.declared.rule.StringRule.TheVariants.{St1}
-use Rattle.sc_violated.specs.Paths.{IsGap, NoGap}
+use Rattle.sc_rule_instances.proofs.LiteralLaws.{number_closed}
+use Rattle.sc_rule_instances.specs.Instances.{on_two}
+use Rattle.sc_rule_instances.specs.Known.{known, is_falsified}
+use Rattle.sc_rule_instances.proofs.FalseLaws.{false_known, known_false, false_negation, known_negation, known_atom}
+use Rattle.sc_rule_laws.specs.Signed.{so, unless}
+use Rattle.sc_rule_laws.specs.Strings.{Pattern, st1, st1_of}
+use Rattle.sc_rule_laws.specs.Terms.{is_string}
+use Rattle.th_strings_instances.specs.declared.rule.StringRule.{StringRule}
+use Rattle.th_strings_instances.specs.declared.rule.StringRule.TheVariants.{St1}
+use Rattle.sc_falsified.specs.Paths.{IsGap, NoGap}
 use Rattle.th_strings.specs.Known.{like_known, row_of, sign_of, turned_truth}
 use Rattle.th_strings.specs.Texts.{AreTexts, is_text}
 use Rattle.th_strings.specs.Violated.{IsViolated, AreMatchesFree}

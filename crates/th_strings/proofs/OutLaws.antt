@@ -9,12 +9,12 @@ use Rattle.sc_clauses.specs.Assignments.{Assignment, is_false}
 use Rattle.sc_terms.specs.Folds.{equal_term, like_term}
 use Rattle.sc_terms.specs.Trees.{Tree}
 use Rattle.sc_footprint.specs.Problems.{Posed, literal_in}
-use Rattle.sc_instances.proofs.FalseLaws.{false_known, known_false, false_negation, known_negation}
-use Rattle.sc_instances.specs.Clauses.{is_asked, literal_for, clause_for}
-use Rattle.sc_instances.specs.Known.{known, is_broken}
-use Rattle.sc_rules.specs.Signed.{Signed, so}
-use Rattle.sc_rules.specs.Strings.{Pattern, Signs, other_sign, other_signs, some_equal, crowd}
-use Rattle.sc_violated.specs.Crowds.{IsWithin}
+use Rattle.sc_rule_instances.proofs.FalseLaws.{false_known, known_false, false_negation, known_negation}
+use Rattle.sc_rule_instances.specs.Clauses.{is_asked, literal_for, clause_for}
+use Rattle.sc_rule_instances.specs.Known.{known, is_broken}
+use Rattle.sc_rule_laws.specs.Signed.{Signed, so}
+use Rattle.sc_rule_laws.specs.Strings.{Pattern, Signs, other_sign, other_signs, some_equal, crowd}
+use Rattle.sc_falsified.specs.Crowds.{IsWithin}
 use Rattle.th_strings.specs.Known.{like_known, row_at}
 
 module _ (p : Posed) (m : Assignment) where

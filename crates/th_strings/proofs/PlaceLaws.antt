@@ -8,8 +8,8 @@ use Rattle.sc_terms.specs.Folds.{equal_term}
 use Rattle.sc_terms.specs.Tables.{tree}
 use Rattle.sc_terms.specs.Trees.{Tree}
 use Rattle.sc_footprint.specs.Problems.{Posed, literal_in, numbered, term_of}
-use Rattle.sc_instances.specs.Known.{known, known_equal, named_at, truth_of}
-use Rattle.sc_rules.specs.Strings.{Pattern, Signs}
+use Rattle.sc_rule_instances.specs.Known.{known, known_equal, named_at, truth_of}
+use Rattle.sc_rule_laws.specs.Strings.{Pattern, Signs}
 use Rattle.th_strings.specs.Known.{like_known, row_at, row_of, sign_in, sign_by, sign_of}
 
 -- a sign of a row, read in two ways

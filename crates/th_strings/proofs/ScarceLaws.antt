@@ -6,7 +6,7 @@ use Rattle.sc_lists.proofs.MemberLaws.{Has-left, Has-last}
 use Rattle.sc_lists.specs.Members.{Has}
 use Rattle.sc_clauses.specs.Assignments.{Assignment}
 use Rattle.sc_footprint.specs.Problems.{Posed}
-use Rattle.sc_rules.specs.Strings.{Pattern}
+use Rattle.sc_rule_laws.specs.Strings.{Pattern}
 use Rattle.th_strings.specs.Scarce.{AreScarce, IsScarce}
 
 -- the scarce ones among the numbers that were read and those to come

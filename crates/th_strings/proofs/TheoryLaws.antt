@@ -5,17 +5,17 @@ use Rattle.sc_clauses.specs.Assignments.{Assignment, falsifies}
 use Rattle.sc_clauses.specs.declared.step.Instance.{Instance}
 use Rattle.sc_terms.specs.Trees.{Tree}
 use Rattle.sc_footprint.specs.Problems.{Posed, term_of}
-use Rattle.sc_instances.proofs.FalseLaws.{falsified_instance, instance_falsified}
-use Rattle.sc_instances.specs.Clauses.{said_clause}
-use Rattle.sc_instances.specs.Instances.{on_two, said_by}
-use Rattle.sc_instances.specs.Known.{is_falsified}
-use Rattle.sc_rules.specs.Strings.{Pattern, Signs, st1, st2, st3, is_asked_all}
-use Rattle.sc_string_rows.proofs.FewLaws.{never_few}
-use Rattle.sc_string_rows.specs.Instances.{all_at, on_all, string_said, IsInstanceOf, HasString, string_clause}
-use Rattle.sc_string_rows.specs.Names.{string_rule}
-use Rattle.sc_string_rows.specs.Patterns.{patterns}
-use Rattle.sc_string_rows.specs.declared.rule.StringRule.{StringRule}
-use Rattle.sc_string_rows.specs.declared.rule.StringRule.TheVariants.{St1, St2, St3}
+use Rattle.sc_rule_instances.proofs.FalseLaws.{falsified_instance, instance_falsified}
+use Rattle.sc_rule_instances.specs.Clauses.{said_clause}
+use Rattle.sc_rule_instances.specs.Instances.{on_two, said_by}
+use Rattle.sc_rule_instances.specs.Known.{is_falsified}
+use Rattle.sc_rule_laws.specs.Strings.{Pattern, Signs, st1, st2, st3, is_asked_all}
+use Rattle.th_strings_instances.proofs.FewLaws.{never_few}
+use Rattle.th_strings_instances.specs.Instances.{all_at, on_all, string_said, IsInstanceOf, HasString, string_clause}
+use Rattle.th_strings_instances.specs.Names.{string_rule}
+use Rattle.th_strings_instances.specs.Patterns.{patterns}
+use Rattle.th_strings_instances.specs.declared.rule.StringRule.{StringRule}
+use Rattle.th_strings_instances.specs.declared.rule.StringRule.TheVariants.{St1, St2, St3}
 use Rattle.th_strings.specs.Violated.{IsViolated, NoneViolated, AreMatchesFree, AreCrowdsFree, IsRuleOf}
 
 module _ (p : Posed) (m : Assignment) where

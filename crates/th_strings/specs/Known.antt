@@ -4,8 +4,8 @@ use Rattle.sc_clauses.specs.Assignments.{Assignment}
 use Rattle.sc_terms.specs.Folds.{like_term}
 use Rattle.sc_terms.specs.Trees.{Tree}
 use Rattle.sc_footprint.specs.Problems.{Posed, literal_in}
-use Rattle.sc_instances.specs.Known.{known, truth_of}
-use Rattle.sc_rules.specs.Strings.{Pattern, Signs}
+use Rattle.sc_rule_instances.specs.Known.{known, truth_of}
+use Rattle.sc_rule_laws.specs.Strings.{Pattern, Signs}
 
 -- whether two closed terms are equal, with the two exchanged
 abbrev pub turned_truth : Posed → Assignment → List ℕ → ℕ → ℕ → Option Bool

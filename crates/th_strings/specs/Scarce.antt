@@ -5,8 +5,8 @@ use Rattle.sc_lists.specs.Members.{Has}
 use Rattle.sc_clauses.specs.Assignments.{Assignment}
 use Rattle.sc_terms.specs.Trees.{Tree}
 use Rattle.sc_footprint.specs.Problems.{Posed, term_of}
-use Rattle.sc_rules.specs.Strings.{Pattern, AreFew}
-use Rattle.sc_rules.specs.Terms.{is_string}
+use Rattle.sc_rule_laws.specs.Strings.{Pattern, AreFew}
+use Rattle.sc_rule_laws.specs.Terms.{is_string}
 use Rattle.th_strings.specs.Known.{row_at}
 use Rattle.th_strings.specs.declared.scarce.Answer.{Answer}
 

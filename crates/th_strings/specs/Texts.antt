@@ -4,7 +4,7 @@ use Rattle.sc_lists.specs.Members.{Has}
 use Rattle.sc_terms.specs.Folds.{literal_of}
 use Rattle.sc_terms.specs.Trees.{Tree}
 use Rattle.sc_footprint.specs.Problems.{Posed, term_of}
-use Rattle.sc_rules.specs.Terms.{is_string}
+use Rattle.sc_rule_laws.specs.Terms.{is_string}
 
 abbrev pub is_text : Tree → Bool
 is_text t = is_string t || is_some (literal_of t)

@@ -2,11 +2,11 @@
 use Rattle.std.specs.Prelude.{◌≡◌, ℕ, true, List}
 use Rattle.sc_clauses.specs.Assignments.{Assignment}
 use Rattle.sc_footprint.specs.Problems.{Posed}
-use Rattle.sc_instances.specs.Known.{is_falsified}
-use Rattle.sc_rules.specs.Strings.{Pattern, Signs, is_asked_all}
-use Rattle.sc_string_rows.specs.declared.rule.StringRule.{StringRule}
-use Rattle.sc_string_rows.specs.declared.rule.StringRule.TheVariants.{St1, St2, St3}
-use Rattle.sc_string_rows.specs.Instances.{said_of, IsCrowded}
+use Rattle.sc_rule_instances.specs.Known.{is_falsified}
+use Rattle.sc_rule_laws.specs.Strings.{Pattern, Signs, is_asked_all}
+use Rattle.th_strings_instances.specs.declared.rule.StringRule.{StringRule}
+use Rattle.th_strings_instances.specs.declared.rule.StringRule.TheVariants.{St1, St2, St3}
+use Rattle.th_strings_instances.specs.Instances.{said_of, IsCrowded}
 
 -- what the rule says is falsified; of a counting rule, fewer texts have its signs than it has strings
 abbrev pub IsViolated : Posed → Assignment → List Pattern → StringRule → Type 0

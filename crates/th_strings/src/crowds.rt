@@ -9,12 +9,12 @@ use crate::matches::number_at;
 use crate::scarce::scarce_numbers;
 use crate::signs::rows;
 use sc_clauses::Assignment;
+use sc_falsified::{Crowd, crowd_of};
 use sc_footprint::Problem;
 use sc_lists::Seq;
 use sc_pattern::Pattern;
-use sc_string_rows::{StringRule, are_all_asked};
-use sc_violated::{Crowd, crowd_of};
 use std::alloc::{AllocError, Global};
+use th_strings_instances::{StringRule, are_all_asked};
 
 /// The numbers at several places of a list.
 fn numbers_at(alloc: Global, numbers: &[u64], places: &[usize]) -> Result<Seq<u64>, AllocError>

@@ -1,17 +1,17 @@
 //! Closed terms as items of the searches for gaps and crowds: what the assignment tells of each two, and of each and
 //! a pattern.
 ghost use Rattle.std.specs.Prelude.{◌≡◌};
-ghost use Rattle.sc_instances.specs.Known.{few_items, truth_of};
+ghost use Rattle.sc_rule_instances.specs.Known.{few_items, truth_of};
 
 use crate::signs::sign;
 use sc_clauses::Assignment;
+use sc_falsified::{Equalities, Paths, Texts};
 use sc_footprint::Problem;
-use sc_instances::{equal, known_literal};
 use sc_lists::Seq;
 use sc_pattern::Pattern;
-use sc_string_rows::are_few;
-use sc_violated::{Equalities, Paths, Texts};
+use sc_rule_instances::{equal, known_literal};
 use std::alloc::{AllocError, Global};
+use th_strings_instances::are_few;
 
 /// Some closed terms, under an assignment.
 #[derive(Clone, Copy)]
@@ -55,8 +55,8 @@ fn equated(
 
 impl<'a, 'b> Equalities for Group<'a, 'b> {
     ghost use Rattle.std.specs.Prelude.{length};
-    ghost use Rattle.sc_instances.specs.Known.{few_items, truth_of};
-    ghost use Rattle.sc_instances.proofs.KnownLaws.{truth_turned, truth_itself};
+    ghost use Rattle.sc_rule_instances.specs.Known.{few_items, truth_of};
+    ghost use Rattle.sc_rule_instances.proofs.KnownLaws.{truth_turned, truth_itself};
 
     ghost size = { λ s. few_items (length s.numbers.now) };
 
@@ -120,8 +120,8 @@ impl<'a, 'b> Paths for Group<'a, 'b> {
 
 impl<'a, 'b> Texts for Group<'a, 'b> {
     ghost use Rattle.std.specs.Prelude.{length};
-    ghost use Rattle.sc_rules.specs.Strings.{AreFew};
-    ghost use Rattle.sc_string_rows.proofs.FewLaws.{few_none, few_greater, few_asked, few_split};
+    ghost use Rattle.sc_rule_laws.specs.Strings.{AreFew};
+    ghost use Rattle.th_strings_instances.proofs.FewLaws.{few_none, few_greater, few_asked, few_split};
     ghost use Rattle.th_strings.specs.Known.{sign_of};
 
     ghost patterns = { λ s. length s.patterns.now };

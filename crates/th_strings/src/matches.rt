@@ -1,17 +1,17 @@
 //! ST1: equal strings of which one matches a pattern and the other doesn't.
 ghost use Rattle.std.specs.Prelude.{◌≡◌, ◌<◌, length, get_or, IfOk, IfSome, IfNone};
-ghost use Rattle.sc_string_rows.specs.declared.rule.StringRule.TheVariants.{St1};
+ghost use Rattle.th_strings_instances.specs.declared.rule.StringRule.TheVariants.{St1};
 ghost use Rattle.th_strings.specs.Texts.{AreTexts};
 ghost use Rattle.th_strings.specs.Violated.{IsViolated, AreMatchesFree};
 
 use crate::group::Group;
 use crate::signs::rows;
 use sc_clauses::Assignment;
+use sc_falsified::gap;
 use sc_footprint::{Problem, problem_laws};
 use sc_pattern::Pattern;
-use sc_string_rows::StringRule;
-use sc_violated::gap;
 use std::alloc::{AllocError, Global};
+use th_strings_instances::StringRule;
 
 /// The number at a place of a list.
 pub(crate) fn number_at(numbers: &[u64], place: usize) -> u64

@@ -2,7 +2,7 @@
 //! the search looks at these alone.
 ghost use Rattle.std.specs.Prelude.{◌≡◌, ◌↔◌, ◌<◌, length, IfOk, OnOk, IfSome, IsTrue};
 ghost use Rattle.std.specs.List.{AllByRecursion};
-ghost use Rattle.sc_rules.specs.Strings.{AreFew};
+ghost use Rattle.sc_rule_laws.specs.Strings.{AreFew};
 ghost use Rattle.sc_terms.specs.Tables.{tree};
 ghost use Rattle.th_strings.specs.Scarce.{AreScarce, IsScarce, IsScarceTerm, IsTold};
 
@@ -11,8 +11,8 @@ use sc_clauses::Assignment;
 use sc_footprint::Problem;
 use sc_lists::Seq;
 use sc_pattern::Pattern;
-use sc_string_rows::{are_few, copied_signs, is_sort_string};
 use std::alloc::{AllocError, Global};
+use th_strings_instances::{are_few, copied_signs, is_sort_string};
 
 /// Whether few texts have these signs: an answer that is kept, since counting texts takes long.
 #[derive(Drop)]

@@ -6,11 +6,11 @@ ghost use Rattle.th_strings.specs.Known.{row_at, row_of, sign_in, sign_of};
 
 use sc_clauses::Assignment;
 use sc_footprint::Problem;
-use sc_instances::known_literal;
 use sc_lists::Seq;
 use sc_pattern::Pattern;
-use sc_string_rows::like;
+use sc_rule_instances::known_literal;
 use std::alloc::{AllocError, Global};
+use th_strings_instances::like;
 
 /// The signs of a term of the table: for each pattern whether the term matches it, where that is known.
 pub(crate) fn row(

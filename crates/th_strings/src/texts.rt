@@ -5,9 +5,9 @@ ghost use Rattle.sc_terms.specs.Tables.{tree};
 ghost use Rattle.th_strings.specs.Texts.{AreTexts, AreTextsUpTo, is_text as text_test};
 
 use sc_footprint::Problem;
-use sc_instances::closed_at;
-use sc_string_rows::is_sort_string;
+use sc_rule_instances::closed_at;
 use std::alloc::{AllocError, Global};
+use th_strings_instances::is_sort_string;
 
 /// Whether a term is a constant.
 fn is_literal(problem: &Problem<'_>, n: u64) -> bool

@@ -1,6 +1,6 @@
 //! The theory of strings, as the search and the checker use it.
 ghost use Rattle.std.specs.Prelude.{◌≡◌, ◌↔◌, IfOk, IfSome, IfNone, IsTrue};
-ghost use Rattle.sc_string_rows.specs.Patterns.{patterns as patterns_in};
+ghost use Rattle.th_strings_instances.specs.Patterns.{patterns as patterns_in};
 ghost use Rattle.th_strings.specs.Violated.{IsViolated, NoneViolated};
 
 use crate::crowds::broken_crowd;
@@ -9,8 +9,8 @@ use crate::texts::text_numbers;
 use sc_clauses::{Assignment, Clause, Instance};
 use sc_footprint::{Problem, Theory};
 use sc_pattern::Pattern;
-use sc_string_rows::{StringRule, accepted, clause_of, patterns, write_string};
 use std::alloc::{AllocError, Global};
+use th_strings_instances::{StringRule, accepted, clause_of, patterns, write_string};
 
 /// The rules ST1 to ST3 on strings. An instance gives the numbers of its closed terms, and the place of a pattern or
 /// a sign for each. A problem without patterns has no instance.
@@ -52,8 +52,8 @@ fn violated_rule(
 }
 
 impl Theory for Strings {
-    ghost use Rattle.sc_string_rows.specs.Instances.{HasString, string_clause};
-    ghost use Rattle.sc_string_rows.proofs.InstanceLaws.{string_sound, string_lawful, string_written};
+    ghost use Rattle.th_strings_instances.specs.Instances.{HasString, string_clause};
+    ghost use Rattle.th_strings_instances.proofs.InstanceLaws.{string_sound, string_lawful, string_written};
 
     ghost has_instance = { λ t. HasString };
 

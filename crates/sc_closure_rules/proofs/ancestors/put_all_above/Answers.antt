@@ -1,4 +1,4 @@
-use Rattle.sc_definitions.proofs.MakingLaws.{puts_then}
+use Rattle.sc_term_definitions.proofs.MakingLaws.{puts_then}
 use Rattle.sc_closure_rules.proofs.ancestors.put_all_above.Goals as goal
 
 pub returns-clause-ok : goal.returns-clause-ok

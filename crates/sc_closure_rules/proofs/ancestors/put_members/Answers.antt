@@ -5,7 +5,7 @@ use Rattle.sc_names.specs.declared.uid.Uid.{Uid}
 use Rattle.sc_nodes.specs.declared.node.BinaryOp.TheVariants as binary
 use Rattle.sc_terms.specs.Trees.{Tree, two}
 use Rattle.sc_terms.specs.Tables.{tree}
-use Rattle.sc_definitions.proofs.MakingLaws.{stands_same, puts_nothing}
+use Rattle.sc_term_definitions.proofs.MakingLaws.{stands_same, puts_nothing}
 use Rattle.sc_closure_rules.specs.Closure.{uid_term}
 use Rattle.sc_closure_rules.proofs.LoopLaws.{passing_next, failing_next, passing_end}
 use Rattle.sc_closure_rules.proofs.ancestors.put_members.Goals as goal

@@ -4,7 +4,7 @@ use Rattle.sc_sorts.specs.Entities.{of_type_name}
 use Rattle.sc_nodes.specs.declared.node.BinaryOp.TheVariants as binary
 use Rattle.sc_terms.specs.Trees.{two}
 use Rattle.sc_terms.specs.Tables.{tree}
-use Rattle.sc_definitions.specs.Making.{Puts}
+use Rattle.sc_term_definitions.specs.Making.{Puts}
 use Rattle.sc_closure_rules.specs.Closure.{uid_term}
 use Rattle.sc_closure_rules.proofs.ancestors.put_members.Given as goal
 

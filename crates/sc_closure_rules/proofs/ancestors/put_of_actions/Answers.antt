@@ -1,7 +1,7 @@
 use Rattle.std.proofs.Common.{◌∷◌, arith, subst, ap, length, get_or, List, ◌<◌, ◌≡◌}
 use Rattle.sc_names.specs.declared.uid.Uid.{Uid}
 use Rattle.sc_sorts.specs.declared.sort.Sort.{out-Sort}
-use Rattle.sc_definitions.proofs.MakingLaws.{puts_nothing}
+use Rattle.sc_term_definitions.proofs.MakingLaws.{puts_nothing}
 use Rattle.sc_closure_rules.specs.Closure.{uid_term, ancestors_of, declared_members}
 use Rattle.sc_closure_rules.proofs.LoopLaws.{all_next, all_end}
 use Rattle.sc_closure_rules.proofs.ancestors.put_of_actions.Goals as goal

@@ -1,7 +1,7 @@
 use Rattle.std.proofs.Common.{◌∷◌, flat_map, take}
 use Rattle.sc_names.specs.declared.uid.Uid.{Uid}
 use Rattle.sc_sorts.specs.declared.sort.Sort.{out-Sort}
-use Rattle.sc_definitions.specs.Making.{Puts}
+use Rattle.sc_term_definitions.specs.Making.{Puts}
 use Rattle.sc_closure_rules.specs.Closure.{uid_term, ancestors_of, declared_members}
 use Rattle.sc_closure_rules.proofs.ancestors.put_of_actions.Given as goal
 

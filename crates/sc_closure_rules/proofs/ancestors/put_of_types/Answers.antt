@@ -3,7 +3,7 @@ use Rattle.sc_terms.specs.Trees.{Tree}
 use Rattle.sc_terms.specs.Tables.{tree}
 use Rattle.sc_sorts.specs.Entities.{entity_sort}
 use Rattle.sc_closure_rules.specs.Closure.{ancestors_of}
-use Rattle.sc_definitions.proofs.MakingLaws.{stands_same, puts_nothing}
+use Rattle.sc_term_definitions.proofs.MakingLaws.{stands_same, puts_nothing}
 use Rattle.sc_closure_rules.proofs.LoopLaws.{each_next, each_end}
 use Rattle.sc_closure_rules.proofs.ancestors.put_of_types.Goals as goal
 

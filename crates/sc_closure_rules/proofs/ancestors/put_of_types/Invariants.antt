@@ -2,7 +2,7 @@ use Rattle.std.proofs.Common.{ℕ, List, map, take}
 use Rattle.sc_terms.specs.Tables.{tree}
 use Rattle.sc_sorts.specs.Entities.{entity_sort}
 use Rattle.sc_closure_rules.specs.Closure.{ancestors_of}
-use Rattle.sc_definitions.specs.Making.{Puts}
+use Rattle.sc_term_definitions.specs.Making.{Puts}
 use Rattle.sc_closure_rules.proofs.ancestors.put_of_types.Given as goal
 
 abbrev pub invariant-loop-name : goal.invariant-loop-name

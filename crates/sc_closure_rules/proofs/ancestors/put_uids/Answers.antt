@@ -1,7 +1,7 @@
 use Rattle.std.proofs.Common.{List, arith, subst, ap, length, get_or, ◌<◌, ◌≡◌}
 use Rattle.sc_names.specs.declared.uid.Uid.{Uid}
 use Rattle.sc_closure_rules.specs.Closure.{uid_term}
-use Rattle.sc_definitions.proofs.MakingLaws.{puts_nothing}
+use Rattle.sc_term_definitions.proofs.MakingLaws.{puts_nothing}
 use Rattle.sc_closure_rules.proofs.LoopLaws.{each_next, each_end}
 use Rattle.sc_closure_rules.proofs.ancestors.put_uids.Goals as goal
 

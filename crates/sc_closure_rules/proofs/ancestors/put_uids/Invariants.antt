@@ -1,6 +1,6 @@
 use Rattle.std.proofs.Common.{map, take}
 use Rattle.sc_closure_rules.specs.Closure.{uid_term}
-use Rattle.sc_definitions.specs.Making.{Puts}
+use Rattle.sc_term_definitions.specs.Making.{Puts}
 use Rattle.sc_closure_rules.proofs.ancestors.put_uids.Given as goal
 
 abbrev pub invariant-loop-uid : goal.invariant-loop-uid

@@ -3,7 +3,7 @@ use Rattle.sc_terms.proofs.TableLaws.{keeps_itself}
 use Rattle.sc_terms.specs.Trees.{Tree}
 use Rattle.sc_terms.specs.Tables.{tree}
 use Rattle.sc_terms.specs.Folds.{bit_term}
-use Rattle.sc_definitions.proofs.MakingLaws.{stands_same, puts_start, puts_place, puts_end}
+use Rattle.sc_term_definitions.proofs.MakingLaws.{stands_same, puts_start, puts_place, puts_end}
 use Rattle.sc_closure_rules.proofs.following.put_bits.Goals as goal
 
 pub loop-place-init : goal.loop-place-init

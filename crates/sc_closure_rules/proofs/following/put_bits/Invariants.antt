@@ -1,8 +1,8 @@
 use Rattle.std.proofs.Common.{◌-◌, map}
 use Rattle.sc_terms.specs.Tables.{tree}
 use Rattle.sc_terms.specs.Folds.{bit_term}
-use Rattle.sc_definitions.specs.Definitions.{counted}
-use Rattle.sc_definitions.specs.Making.{Puts}
+use Rattle.sc_term_definitions.specs.Definitions.{counted}
+use Rattle.sc_term_definitions.specs.Making.{Puts}
 use Rattle.sc_closure_rules.proofs.following.put_bits.Given as goal
 
 abbrev pub invariant-loop-place : goal.invariant-loop-place

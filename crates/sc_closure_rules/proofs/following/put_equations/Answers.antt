@@ -1,6 +1,6 @@
 use Rattle.std.proofs.Common.{refl, ◌∙◌}
 use Rattle.std.proofs.lemmas.Result.{on_ok_weaker}
-use Rattle.sc_definitions.proofs.MakingLaws.{puts_nothing}
+use Rattle.sc_term_definitions.proofs.MakingLaws.{puts_nothing}
 use Rattle.sc_closure_rules.proofs.InsideLaws.{fields_equated, held_equated, inclusions_equated, nothing_equated}
 use Rattle.sc_closure_rules.proofs.following.put_equations.Goals as goal
 

@@ -2,7 +2,7 @@ use Rattle.std.proofs.Common.{ℕ, List, arith}
 use Rattle.sc_terms.specs.Trees.{Tree}
 use Rattle.sc_terms.specs.Tables.{tree}
 use Rattle.sc_terms.specs.Folds.{field_term}
-use Rattle.sc_definitions.proofs.MakingLaws.{stands_same, puts_nothing}
+use Rattle.sc_term_definitions.proofs.MakingLaws.{stands_same, puts_nothing}
 use Rattle.sc_closure_rules.proofs.LoopLaws.{each_next, each_end}
 use Rattle.sc_closure_rules.proofs.following.put_fields.Goals as goal
 

@@ -1,7 +1,7 @@
 use Rattle.std.proofs.Common.{ℕ, List, map, take}
 use Rattle.sc_terms.specs.Tables.{tree}
 use Rattle.sc_terms.specs.Folds.{field_term}
-use Rattle.sc_definitions.specs.Making.{Puts}
+use Rattle.sc_term_definitions.specs.Making.{Puts}
 use Rattle.sc_closure_rules.proofs.following.put_fields.Given as goal
 
 abbrev pub invariant-loop-name : goal.invariant-loop-name

@@ -2,7 +2,7 @@ use Rattle.std.proofs.Common.{◌∙◌, ap, subst, Option}
 use Rattle.std.proofs.lemmas.Result.{on_ok_weaker}
 use Rattle.sc_sorts.specs.declared.sort.Sort.{Sort, out-Sort}
 use Rattle.sc_terms.specs.Tables.{tree}
-use Rattle.sc_definitions.specs.Making.{Puts}
+use Rattle.sc_term_definitions.specs.Making.{Puts}
 use Rattle.sc_closure_rules.specs.Beside.{held_option, held_terms}
 use Rattle.sc_closure_rules.proofs.following.put_held.Goals as goal
 

@@ -3,7 +3,7 @@ use Rattle.std.specs.Map.{keys_of}
 use Rattle.sc_sorts.specs.Inside.{fields_in}
 use Rattle.sc_sorts.specs.declared.sort.Sort.{Sort, out-Sort}
 use Rattle.sc_terms.proofs.TableLaws.{keeps_then}
-use Rattle.sc_definitions.specs.Definitions.{bit_count}
+use Rattle.sc_term_definitions.specs.Definitions.{bit_count}
 use Rattle.sc_closure_rules.proofs.InsideLaws.{places_later, inside_put}
 use Rattle.sc_closure_rules.proofs.following.put_inside.Goals as goal
 

@@ -2,7 +2,7 @@ use Rattle.std.proofs.lemmas.Result.{on_ok_weaker}
 use Rattle.std.proofs.Common.{subst, List, ℕ, OnOk}
 use Rattle.sc_terms.specs.Tables.{node_parts}
 use Rattle.sc_closure_rules.specs.Closure.{trees_in}
-use Rattle.sc_definitions.specs.Making.{Puts}
+use Rattle.sc_term_definitions.specs.Making.{Puts}
 use Rattle.sc_closure_rules.proofs.FollowLaws.{parts_put}
 use Rattle.sc_closure_rules.proofs.following.put_parts.Goals as goal
 

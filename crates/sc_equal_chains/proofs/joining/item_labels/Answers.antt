@@ -1,6 +1,6 @@
 use Rattle.std.proofs.Common.{List, ℕ, length, subst}
 use Rattle.sc_terms.specs.Tables.{IsTable}
-use Rattle.sc_instances.specs.Known.{few_items}
+use Rattle.sc_rule_instances.specs.Known.{few_items}
 use Rattle.sc_equal_chains.specs.Classes.{IsAlong}
 use Rattle.sc_equal_chains.specs.Joining.{AreFirstLabels}
 use Rattle.sc_equal_chains.proofs.JoinLaws.{labels_are}

@@ -3,7 +3,7 @@ use Rattle.sc_terms.specs.Trees.{Tree}
 use Rattle.sc_terms.specs.Tables.{tree}
 use Rattle.sc_terms.specs.Folds.{equal_term, field_term}
 use Rattle.sc_footprint.specs.Problems.{literal_in}
-use Rattle.sc_instances.specs.Given.{term_at}
+use Rattle.sc_rule_instances.specs.Given.{term_at}
 use Rattle.sc_equal_rows.proofs.PartLaws.{field_there, other_field}
 use Rattle.sc_equal_rows.proofs.rows.field_literal.Goals as goal
 

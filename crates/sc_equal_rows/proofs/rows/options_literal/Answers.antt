@@ -1,5 +1,5 @@
 use Rattle.std.proofs.Common.{rules}
-use Rattle.sc_instances.specs.Given.{term_at}
+use Rattle.sc_rule_instances.specs.Given.{term_at}
 use Rattle.sc_equal_rows.proofs.RowLaws.{options_first, options_second, options_third, options_fourth}
 use Rattle.sc_equal_rows.proofs.rows.options_literal.Goals as goal
 

@@ -1,5 +1,5 @@
-use Rattle.sc_rules.specs.Equal.{eq1}
-use Rattle.sc_instances.proofs.GivenLaws.{three_none}
+use Rattle.sc_rule_laws.specs.Equal.{eq1}
+use Rattle.sc_rule_instances.proofs.GivenLaws.{three_none}
 use Rattle.sc_equal_rows.proofs.said.chain.Goals as goal
 
 pub returns-in_default : goal.returns-in_default

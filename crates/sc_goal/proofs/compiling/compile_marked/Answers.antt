@@ -1,6 +1,6 @@
 use Rattle.std.proofs.Common.{arith, refl}
 use Rattle.sc_symeval.specs.Compiling.{policy_code}
-use Rattle.sc_codes.proofs.NumbersLaws.{ready_later}
+use Rattle.sc_constructs.proofs.NumbersLaws.{ready_later}
 use Rattle.sc_terms.proofs.TableLaws.{keeps_then}
 use Rattle.sc_goal.proofs.CompilingLaws.{more_marked, none_marked}
 use Rattle.sc_goal.specs.Goals.{compiled}

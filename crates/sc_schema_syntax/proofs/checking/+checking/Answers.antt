@@ -4,9 +4,9 @@ use Rattle.sc_schema_syntax.specs.declared.fault.SchemaFault.{SchemaFault}
 use Rattle.sc_schema_syntax.specs.Pointers.{under}
 use Rattle.sc_schema_syntax.specs.Forms.{admits_text}
 use Rattle.sc_schema_syntax.specs.Faults.{shape_fault, value_fault, member_fault}
-use Rattle.sc_json_views.proofs.WalkLaws.{fault_of_item, no_fault_of_item, no_items_left, fault_of_member, no_fault_of_member}
+use Rattle.sc_json.proofs.WalkLaws.{fault_of_item, no_fault_of_item, no_items_left, fault_of_member, no_fault_of_member}
 use Rattle.sc_schema_syntax.proofs.FaultsLaws.{items_walk, members_walk}
-use Rattle.sc_json_views.proofs.ViewLaws.{view_null, view_truth, view_number, view_text}
+use Rattle.sc_json.proofs.ViewLaws.{view_null, view_truth, view_number, view_text}
 use Rattle.sc_schema_syntax.proofs.checking.+checking.Goals as goal
 
 pub value_fault-returns-in-Null : goal.value_fault-returns-in-Null

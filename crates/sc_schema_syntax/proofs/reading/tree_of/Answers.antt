@@ -1,6 +1,6 @@
 use Rattle.std.proofs.Common.{◌≡◌, Some, None, rules}
 use Rattle.serde_json.specs.Read.{read}
-use Rattle.sc_json_views.specs.Trees.{no_tree}
+use Rattle.sc_json.specs.Trees.{no_tree}
 use Rattle.sc_schema_syntax.proofs.reading.tree_of.Goals as goal
 
 pub returns-else-is_memory-clause-err : goal.returns-else-is_memory-clause-err

@@ -2,7 +2,7 @@ use Rattle.std.proofs.Common.{◌≡◌, ◌∙◌, ap, map, subst, Option, IfSo
 use Rattle.sc_clauses.specs.Clauses.{Clause}
 use Rattle.sc_refutations.specs.Arenas.{lit_of}
 use Rattle.sc_search.proofs.giving.if_given.Goals as goal
-use Rattle.sc_trails.specs.Giving.{Gives}
+use Rattle.sc_propagation.specs.Giving.{Gives}
 
 pub returns : goal.returns
 returns g c = record {

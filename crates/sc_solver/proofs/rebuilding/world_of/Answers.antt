@@ -1,4 +1,4 @@
-use Rattle.sc_consistency.specs.Models.{model}
+use Rattle.sc_model_consistency.specs.Models.{model}
 use Rattle.sc_solver.proofs.RebuiltLaws.{of_model, well_formed, has_truths, satisfies}
 use Rattle.sc_solver.proofs.rebuilding.world_of.Goals as goal
 

@@ -2,7 +2,7 @@ use Rattle.std.proofs.Common.{◌≡◌, length, map}
 use Rattle.std.specs.List.{list_any}
 use Rattle.sc_terms.specs.Tables.{tree}
 use Rattle.sc_models.specs.Models.{truth_in}
-use Rattle.sc_rebuilding.specs.Names.{are_equal}
+use Rattle.sc_model_laws.specs.Names.{are_equal}
 use Rattle.sc_string_names.specs.Numbers.{AreIn}
 use Rattle.sc_string_names.proofs.classes.equals_one.Given as goal
 

@@ -2,7 +2,7 @@ use Rattle.std.proofs.Common.{◌≡◌, length}
 use Rattle.std.specs.List.{list_any}
 use Rattle.std.specs.Str.{bytes_eq}
 use Rattle.sc_terms.specs.Trees.{Tree}
-use Rattle.sc_rebuilding.specs.Names.{Name}
+use Rattle.sc_model_laws.specs.Names.{Name}
 use Rattle.sc_string_names.specs.Numbers.{named_terms}
 use Rattle.sc_string_names.proofs.names.is_name.Given as goal
 

@@ -1,7 +1,7 @@
 use Rattle.std.proofs.Common.{◌≡◌, length}
 use Rattle.sc_terms.specs.Tables.{tree}
 use Rattle.sc_models.specs.Models.{truth_in}
-use Rattle.sc_rebuilding.specs.Names.{are_equal, name_in}
+use Rattle.sc_model_laws.specs.Names.{are_equal, name_in}
 use Rattle.sc_string_names.specs.Numbers.{HaveTerms, named_terms}
 use Rattle.sc_string_names.proofs.names.name_in.Given as goal
 

@@ -1,5 +1,5 @@
 use Rattle.std.proofs.Common.{◌≡◌, length}
-use Rattle.sc_rebuilding.specs.Names.{unused}
+use Rattle.sc_model_laws.specs.Names.{unused}
 use Rattle.sc_string_names.specs.Numbers.{named_terms}
 use Rattle.sc_string_names.proofs.names.unused.Given as goal
 

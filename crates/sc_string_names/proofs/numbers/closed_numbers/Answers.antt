@@ -1,5 +1,5 @@
 use Rattle.std.proofs.Common.{◌∙◌}
-use Rattle.sc_instances.proofs.PartLaws.{number_taken}
+use Rattle.sc_rule_instances.proofs.PartLaws.{number_taken}
 use Rattle.sc_string_names.proofs.numbers.closed_numbers.Goals as goal
 
 pub loop-place-preserved : goal.loop-place-preserved

@@ -1,7 +1,7 @@
 use Rattle.std.proofs.Common.{◌≡◌, ◌++◌, length, map}
 use Rattle.sc_sorts.specs.declared.sort.Sort.TheVariants as sort
 use Rattle.sc_terms.specs.Tables.{tree}
-use Rattle.sc_rebuilding.specs.Names.{of_sort}
+use Rattle.sc_model_laws.specs.Names.{of_sort}
 use Rattle.sc_string_names.specs.Numbers.{AreIn}
 use Rattle.sc_string_names.proofs.numbers.strings_among.Given as goal
 

@@ -1,6 +1,6 @@
 use Rattle.std.proofs.Common.{◌≡◌, ◌++◌, length, map}
 use Rattle.sc_terms.specs.Tables.{tree}
-use Rattle.sc_rebuilding.specs.Names.{literal_entries}
+use Rattle.sc_model_laws.specs.Names.{literal_entries}
 use Rattle.sc_string_names.specs.Numbers.{AreIn, HaveTerms, named_terms}
 use Rattle.sc_string_names.proofs.strings.literals_of.Given as goal
 

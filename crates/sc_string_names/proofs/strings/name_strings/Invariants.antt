@@ -1,7 +1,7 @@
 use Rattle.std.proofs.Common.{◌≡◌, length, map}
 use Rattle.sc_terms.specs.Tables.{tree}
 use Rattle.sc_models.specs.Models.{truth_in}
-use Rattle.sc_rebuilding.specs.Names.{named, literal_entries}
+use Rattle.sc_model_laws.specs.Names.{named, literal_entries}
 use Rattle.sc_string_names.specs.Numbers.{AreIn, HaveTerms, named_terms}
 use Rattle.sc_string_names.specs.Tables.{texts_in}
 use Rattle.sc_string_names.proofs.strings.name_strings.Given as goal

@@ -2,7 +2,7 @@ use Rattle.std.proofs.Common.{◌∙◌, ap, map}
 use Rattle.std.proofs.lemmas.Result.{IfOk-weaker}
 use Rattle.sc_terms.specs.Tables.{tree}
 use Rattle.sc_models.specs.Models.{truth_in}
-use Rattle.sc_rebuilding.specs.Names.{named, literal_entries}
+use Rattle.sc_model_laws.specs.Names.{named, literal_entries}
 use Rattle.sc_string_names.specs.Tables.{Table, texts_in}
 use Rattle.sc_string_names.proofs.NamingLaws.{strings_named}
 use Rattle.sc_string_names.proofs.strings.string_names.Goals as goal

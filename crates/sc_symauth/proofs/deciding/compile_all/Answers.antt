@@ -1,4 +1,4 @@
-use Rattle.sc_codes.proofs.NumbersLaws.{ready_later}
+use Rattle.sc_constructs.proofs.NumbersLaws.{ready_later}
 use Rattle.sc_terms.proofs.TableLaws.{keeps_then}
 use Rattle.sc_symauth.proofs.NumbersLaws.{compiled_more}
 use Rattle.sc_symauth.proofs.deciding.compile_all.Goals as goal

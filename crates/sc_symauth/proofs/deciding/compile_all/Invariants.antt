@@ -1,5 +1,5 @@
 use Rattle.std.proofs.Common.{take}
-use Rattle.sc_codes.specs.Numbers.{HasVariables}
+use Rattle.sc_constructs.specs.Numbers.{HasVariables}
 use Rattle.sc_terms.specs.Tables.{Keeps}
 use Rattle.sc_symauth.specs.Standings.{all_compiled}
 use Rattle.sc_symauth.specs.Numbers.{AreCompiled}

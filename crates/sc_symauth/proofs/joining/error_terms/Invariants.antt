@@ -2,7 +2,7 @@ use Rattle.std.proofs.Common.{map, take}
 use Rattle.sc_terms.specs.Tables.{Keeps}
 use Rattle.sc_symauth.specs.declared.compiled.CompiledPolicy.{CompiledPolicy}
 use Rattle.sc_symauth.specs.Standings.{error}
-use Rattle.sc_codes.specs.Numbers.{StandForAll, code_at}
+use Rattle.sc_constructs.specs.Numbers.{StandForAll, code_at}
 use Rattle.sc_symauth.proofs.joining.error_terms.Given as goal
 
 abbrev pub invariant-loop-policy : goal.invariant-loop-policy

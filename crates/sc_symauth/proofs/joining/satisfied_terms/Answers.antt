@@ -1,4 +1,4 @@
-use Rattle.sc_codes.specs.declared.opt.Opt.{Opt}
+use Rattle.sc_constructs.specs.declared.opt.Opt.{Opt}
 use Rattle.sc_symauth.specs.Standings.{satisfied}
 use Rattle.sc_symauth.proofs.NumbersLaws.{term_more}
 use Rattle.sc_symauth.proofs.joining.satisfied_terms.Goals as goal

@@ -1,5 +1,5 @@
 use Rattle.std.proofs.Common.{◌≡◌, map, take}
-use Rattle.sc_codes.specs.Numbers.{OptField}
+use Rattle.sc_constructs.specs.Numbers.{OptField}
 use Rattle.sc_symeval.proofs.collections.field_oks.Given as goal
 
 abbrev pub invariant-loop-field : goal.invariant-loop-field

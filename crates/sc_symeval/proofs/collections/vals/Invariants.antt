@@ -1,5 +1,5 @@
 use Rattle.std.proofs.Common.{◌≡◌, map, take}
-use Rattle.sc_codes.specs.declared.opt.Opt.{Opt}
+use Rattle.sc_constructs.specs.declared.opt.Opt.{Opt}
 use Rattle.sc_symeval.proofs.collections.vals.Given as goal
 
 abbrev pub invariant-loop-code : goal.invariant-loop-code

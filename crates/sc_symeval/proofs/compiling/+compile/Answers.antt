@@ -2,7 +2,7 @@ use Rattle.std.proofs.Common.{rules}
 use Rattle.sc_typed.specs.declared.typed_expr.TypedExpr.{the_lemmas}
 use Rattle.sc_symeval.proofs.StandLaws.{still_ready, binary_stands, among_stands, path_stands, unary_stands, access_stands, gives_If, gives_Or, gives_And, gives_Binary, gives_Has, gives_Like, gives_Is, gives_IsIn, gives_Unary, gives_Access, gives_Literal, gives_Variable, gives_Set, gives_Record, gives_Skipped}
 use Rattle.sc_terms.proofs.TableLaws.{keeps_then}
-use Rattle.sc_codes.proofs.NumbersLaws.{ready_later}
+use Rattle.sc_constructs.proofs.NumbersLaws.{ready_later}
 use Rattle.sc_symeval.proofs.CollectionLaws.{member_more, field_more}
 use Rattle.sc_symeval.proofs.compiling.+compile.Goals as goal
 

@@ -1,7 +1,7 @@
 use Rattle.std.proofs.Common.{◌+◌, ◌*◌, max, map, take}
 use Rattle.sc_typed.specs.declared.typed_expr.TypedExpr.{size-TypedExpr}
 use Rattle.sc_terms.specs.Tables.{Keeps}
-use Rattle.sc_codes.specs.Numbers.{StandAs, StandAsFields}
+use Rattle.sc_constructs.specs.Numbers.{StandAs, StandAsFields}
 use Rattle.sc_symeval.specs.Settings.{IsReady, codes_in, field_in}
 use Rattle.sc_symeval.proofs.compiling.+compile.Given as goal
 

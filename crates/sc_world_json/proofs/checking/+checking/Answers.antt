@@ -4,9 +4,9 @@ use Rattle.serde_json.specs.View.{view}
 use Rattle.sc_world_json.specs.declared.fault.WorldFault.{WorldFault}
 use Rattle.sc_world_json.specs.Forms.{admits_text}
 use Rattle.sc_world_json.specs.Faults.{fault_unless, under, value_fault, member_fault}
-use Rattle.sc_json_views.proofs.WalkLaws.{fault_of_item, no_fault_of_item, no_items_left, fault_of_member, no_fault_of_member}
+use Rattle.sc_json.proofs.WalkLaws.{fault_of_item, no_fault_of_item, no_items_left, fault_of_member, no_fault_of_member}
 use Rattle.sc_world_json.proofs.FaultsLaws.{items_walk, members_walk}
-use Rattle.sc_json_views.proofs.ViewLaws.{view_null, view_truth, view_number, view_text}
+use Rattle.sc_json.proofs.ViewLaws.{view_null, view_truth, view_number, view_text}
 use Rattle.sc_world_json.proofs.checking.+checking.Goals as goal
 
 pub value_fault-returns-in-Null : goal.value_fault-returns-in-Null

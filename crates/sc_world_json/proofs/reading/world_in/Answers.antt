@@ -1,6 +1,6 @@
 use Rattle.std.proofs.Common.{◌∙◌, sym}
 use Rattle.serde_json.specs.View.{view}
-use Rattle.sc_json_views.specs.Trees.{in_tree}
+use Rattle.sc_json.specs.Trees.{in_tree}
 use Rattle.sc_world_json.proofs.reading.world_in.Goals as goal
 
 pub returns-in-Some-clause-err : goal.returns-in-Some-clause-err

@@ -4,7 +4,7 @@ use Rattle.sc_values.specs.declared.value.Value.{Value}
 use Rattle.sc_values.specs.Proper.{IsProperLevel, IsProper}
 use Rattle.sc_values.proofs.LevelLaws.{in_Bool, in_String, in_Entity}
 use Rattle.sc_world_json.specs.Worlds.{values_of, fields_of}
-use Rattle.sc_json_views.proofs.WalkLaws.{items_next, items_end}
+use Rattle.sc_json.proofs.WalkLaws.{items_next, items_end}
 use Rattle.sc_world_json.proofs.WorldsLaws as said
 use Rattle.sc_world_json.proofs.value_building.+value_building.Goals as goal
 

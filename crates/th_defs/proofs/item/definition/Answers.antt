@@ -1,6 +1,6 @@
 use Rattle.std.proofs.Common.{sym, subst}
-use Rattle.sc_definitions.specs.declared.function.Shape.{Shape}
-use Rattle.sc_definitions.specs.Definitions.{shape_of}
+use Rattle.sc_term_definitions.specs.declared.function.Shape.{Shape}
+use Rattle.sc_term_definitions.specs.Definitions.{shape_of}
 use Rattle.sc_terms.specs.Tables.{tree}
 use Rattle.th_defs.specs.Items.{HasInputs}
 use Rattle.th_defs.proofs.InputLaws.{has_inputs}

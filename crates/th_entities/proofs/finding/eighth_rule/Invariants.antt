@@ -1,4 +1,4 @@
-use Rattle.sc_instances.specs.declared.rule.EntityRule.TheVariants.{En8}
+use Rattle.sc_rule_instances.specs.declared.rule.EntityRule.TheVariants.{En8}
 use Rattle.th_entities.specs.Free.{AreFirst, IsFree}
 use Rattle.th_entities.proofs.finding.eighth_rule.Given as goal
 

@@ -1,5 +1,5 @@
 use Rattle.std.proofs.Common.{ℕ, rules}
-use Rattle.sc_instances.specs.declared.rule.EntityRule.TheVariants.{En5}
+use Rattle.sc_rule_instances.specs.declared.rule.EntityRule.TheVariants.{En5}
 use Rattle.th_entities.specs.Free.{IsFree, IsThroughFree}
 use Rattle.th_entities.proofs.LeftLaws.{left_empty}
 use Rattle.th_entities.proofs.ListedLaws.{run_free, through_free}

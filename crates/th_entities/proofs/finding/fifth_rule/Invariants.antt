@@ -1,6 +1,6 @@
 use Rattle.std.proofs.Common.{ℕ, length}
 use Rattle.std.specs.List.{AllByRecursion}
-use Rattle.sc_instances.specs.declared.rule.EntityRule.TheVariants.{En5}
+use Rattle.sc_rule_instances.specs.declared.rule.EntityRule.TheVariants.{En5}
 use Rattle.th_entities.specs.Free.{IsFree, IsThroughFree}
 use Rattle.th_entities.specs.Memberships.{IsHeld}
 use Rattle.th_entities.proofs.LeftLaws.{IsLeft}

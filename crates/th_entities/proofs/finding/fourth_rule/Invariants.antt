@@ -1,5 +1,5 @@
 use Rattle.std.proofs.Common.{ℕ, length}
-use Rattle.sc_instances.specs.declared.rule.EntityRule.TheVariants.{En4}
+use Rattle.sc_rule_instances.specs.declared.rule.EntityRule.TheVariants.{En4}
 use Rattle.th_entities.specs.Free.{IsFree, IsOwnFree}
 use Rattle.th_entities.proofs.LeftLaws.{IsLeft}
 use Rattle.th_entities.proofs.finding.fourth_rule.Given as goal

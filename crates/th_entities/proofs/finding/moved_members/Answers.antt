@@ -1,5 +1,5 @@
 use Rattle.std.proofs.Common.{ℕ, rules}
-use Rattle.sc_instances.specs.declared.rule.EntityRule.TheVariants.{En2}
+use Rattle.sc_rule_instances.specs.declared.rule.EntityRule.TheVariants.{En2}
 use Rattle.th_entities.specs.Free.{IsFree, IsMovedFree}
 use Rattle.th_entities.proofs.LeftLaws.{left_less, left_none}
 use Rattle.th_entities.proofs.ListedLaws.{moved_free}

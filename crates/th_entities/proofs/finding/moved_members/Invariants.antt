@@ -1,5 +1,5 @@
 use Rattle.std.proofs.Common.{ℕ, length}
-use Rattle.sc_instances.specs.declared.rule.EntityRule.TheVariants.{En2}
+use Rattle.sc_rule_instances.specs.declared.rule.EntityRule.TheVariants.{En2}
 use Rattle.th_entities.specs.Free.{IsFree, IsMovedFree}
 use Rattle.th_entities.proofs.LeftLaws.{IsLeft}
 use Rattle.th_entities.proofs.finding.moved_members.Given as goal

@@ -1,5 +1,5 @@
 use Rattle.std.proofs.Common.{ℕ}
-use Rattle.sc_instances.specs.declared.rule.EntityRule.TheVariants.{En2}
+use Rattle.sc_rule_instances.specs.declared.rule.EntityRule.TheVariants.{En2}
 use Rattle.th_entities.specs.Free.{AreFirst, IsFree}
 use Rattle.th_entities.proofs.finding.other_sets.Given as goal
 

@@ -1,5 +1,5 @@
 use Rattle.std.proofs.Common.{ℕ, arith}
-use Rattle.sc_instances.specs.declared.rule.EntityRule.TheVariants.{En7}
+use Rattle.sc_rule_instances.specs.declared.rule.EntityRule.TheVariants.{En7}
 use Rattle.th_entities.specs.Free.{IsFree}
 use Rattle.th_entities.proofs.FreeLaws.{first_none, first_more, first_all}
 use Rattle.th_entities.proofs.PastLaws.{past7s}

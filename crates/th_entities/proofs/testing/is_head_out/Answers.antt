@@ -1,4 +1,4 @@
-use Rattle.sc_instances.specs.Instances.{entity_said}
+use Rattle.sc_rule_instances.specs.Instances.{entity_said}
 use Rattle.th_entities.proofs.PruneLaws.{head_of}
 use Rattle.th_entities.proofs.testing.is_head_out.Goals as goal
 

@@ -2,11 +2,11 @@ use Rattle.std.proofs.Common.{◌≡◌, ◌<◌, ◌≤◌, ◌++◌, ◌∷◌
 use Rattle.std.specs.List.{All, Contains}
 use Rattle.sc_clauses.specs.Clauses.{Clause}
 use Rattle.sc_refutations.specs.Arenas.{lit_of}
-use Rattle.sc_trails.proofs.RoomLaws.{all-of, attached-seen, attached-trail, attached-watched, in-cells-more}
+use Rattle.sc_propagation.proofs.RoomLaws.{all-of, attached-seen, attached-trail, attached-watched, in-cells-more}
 use Rattle.sc_search.proofs.solver.Solver.attach.Goals as goal
-use Rattle.sc_trails.specs.Rooms.{IsRoom}
-use Rattle.sc_trails.specs.Trails.{AreInCells, HoldsTrail}
-use Rattle.sc_trails.specs.Visits.{AreAliveBut, IsWellWatched}
+use Rattle.sc_propagation.specs.Rooms.{IsRoom}
+use Rattle.sc_propagation.specs.Trails.{AreInCells, HoldsTrail}
+use Rattle.sc_propagation.specs.Visits.{AreAliveBut, IsWellWatched}
 
 pub room-room-requires-clause-in_cells : goal.room-room-requires-clause-in_cells
 room-room-requires-clause-in_cells c =

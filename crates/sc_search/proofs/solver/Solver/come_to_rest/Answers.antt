@@ -1,9 +1,9 @@
 use Rattle.std.proofs.Common.{◌≡◌, ℕ, length, subst, Option, rules}
 use Rattle.sc_search.proofs.solver.Solver.come_to_rest.Goals as goal
-use Rattle.sc_trails.proofs.VisitLaws.{alive-seen}
-use Rattle.sc_trails.proofs.WatchingLaws.{all-quiet}
-use Rattle.sc_trails.specs.Trails.{true_before}
-use Rattle.sc_trails.specs.Visits.{AreAlive, HasPropagated}
+use Rattle.sc_propagation.proofs.VisitLaws.{alive-seen}
+use Rattle.sc_propagation.proofs.WatchingLaws.{all-quiet}
+use Rattle.sc_propagation.specs.Trails.{true_before}
+use Rattle.sc_propagation.specs.Visits.{AreAlive, HasPropagated}
 
 pub returns-in-Some-clause-ready : goal.returns-in-Some-clause-ready
 returns-in-Some-clause-ready c =

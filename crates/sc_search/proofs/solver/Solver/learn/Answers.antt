@@ -3,11 +3,11 @@ use Rattle.sc_clauses.specs.Clauses.{Clause, negation}
 use Rattle.sc_clauses.specs.declared.lit.Lit.{Lit}
 use Rattle.sc_clauses.specs.declared.step.Step.{Step}
 use Rattle.sc_clauses.specs.declared.step.Step.TheVariants.{Learned}
-use Rattle.sc_trails.proofs.RoomLaws.{learned-in-cells, learned-shown}
+use Rattle.sc_propagation.proofs.RoomLaws.{learned-in-cells, learned-shown}
 use Rattle.sc_search.proofs.solver.Solver.learn.Goals as goal
-use Rattle.sc_trails.specs.Analyses.{IsResolvent}
-use Rattle.sc_trails.specs.Propagation.{IsNew}
-use Rattle.sc_trails.specs.Trails.{AllInCells}
+use Rattle.sc_propagation.specs.Analyses.{IsResolvent}
+use Rattle.sc_propagation.specs.Propagation.{IsNew}
+use Rattle.sc_propagation.specs.Trails.{AllInCells}
 
 pub attach-requires-clause-ready : goal.attach-requires-clause-ready
 attach-requires-clause-ready c = let ready = c.requires.ready in record { in_cells = ready.in_cells; watched = ready.watched; trail = ready.trail; seen = ready.seen; marks = c.in_ok-lower.ensures.sized }

@@ -1,6 +1,6 @@
 use Rattle.std.proofs.Common.{◌≡◌, ◌+◌, ℕ, length, subst, ap, ◌∙◌, arith}
-use Rattle.sc_trails.proofs.TrailLaws.{trail-empty}
-use Rattle.sc_trails.proofs.WatchingLaws.{unset-watching}
+use Rattle.sc_propagation.proofs.TrailLaws.{trail-empty}
+use Rattle.sc_propagation.proofs.WatchingLaws.{unset-watching}
 use Rattle.sc_search.proofs.solver.Solver.new.Goals as goal
 use Rattle.sc_watches.specs.Watches.{AreUnset}
 

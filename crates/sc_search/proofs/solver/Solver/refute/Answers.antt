@@ -1,7 +1,7 @@
 use Rattle.std.proofs.Common.{[]}
-use Rattle.sc_trails.proofs.RoomLaws.{refuted-shown}
+use Rattle.sc_propagation.proofs.RoomLaws.{refuted-shown}
 use Rattle.sc_search.proofs.solver.Solver.refute.Goals as goal
-use Rattle.sc_trails.specs.Steps.{Refutes}
+use Rattle.sc_propagation.specs.Steps.{Refutes}
 
 pub returns : goal.returns
 returns c =

@@ -1,13 +1,13 @@
 use Rattle.std.proofs.Common.{◌≡◌, ◌+◌, ◌<◌, ◌≤◌, ℕ, length, subst, sym, ap, Option, refl, arith, rules}
 use Rattle.std.proofs.Math.ListN.{set}
 use Rattle.sc_clauses.specs.declared.lit.Lit.{Lit}
-use Rattle.sc_trails.proofs.TrailLaws.{trail-decide-to, free-set}
+use Rattle.sc_propagation.proofs.TrailLaws.{trail-decide-to, free-set}
 use Rattle.sc_search.proofs.solver.Solver.rest.Goals as goal
-use Rattle.sc_trails.proofs.VisitLaws.{alive-seen, decided-seen, decided-watched, moves-among}
-use Rattle.sc_trails.proofs.WatchingLaws.{all-quiet}
-use Rattle.sc_trails.specs.Trails.{AreInCells, AreQuiet, HoldsTrail, InCells, cell_of, free_count, true_before}
-use Rattle.sc_trails.specs.Visits.{AreAlive, HasPropagated, IsWellWatched, MovesOn}
-use Rattle.sc_trails.specs.declared.cell.Cell.TheVariants.{Free, Decided}
+use Rattle.sc_propagation.proofs.VisitLaws.{alive-seen, decided-seen, decided-watched, moves-among}
+use Rattle.sc_propagation.proofs.WatchingLaws.{all-quiet}
+use Rattle.sc_propagation.specs.Trails.{AreInCells, AreQuiet, HoldsTrail, InCells, cell_of, free_count, true_before}
+use Rattle.sc_propagation.specs.Visits.{AreAlive, HasPropagated, IsWellWatched, MovesOn}
+use Rattle.sc_propagation.specs.declared.cell.Cell.TheVariants.{Free, Decided}
 
 pub propagate-requires-clause-in_cells : goal.propagate-requires-clause-in_cells
 propagate-requires-clause-in_cells c =

@@ -1,5 +1,5 @@
 use Rattle.std.proofs.Common.{length}
-use Rattle.sc_trails.specs.Trails.{free_count}
+use Rattle.sc_propagation.specs.Trails.{free_count}
 use Rattle.sc_search.specs.Turns.{IsReady, IsKept}
 use Rattle.sc_search.proofs.solver.Solver.rest.Given as goal
 

@@ -3,10 +3,10 @@ use Rattle.std.proofs.lemmas.Bool.Decides.{Decides-eqb}
 use Rattle.sc_clauses.specs.Clauses.{Clause}
 use Rattle.sc_clauses.specs.declared.step.Step.{Step}
 use Rattle.sc_clauses.specs.declared.step.Step.TheVariants.{Instance}
-use Rattle.sc_trails.proofs.LitLaws.{nil-of}
+use Rattle.sc_propagation.proofs.LitLaws.{nil-of}
 use Rattle.sc_search.proofs.SearchLaws.{told-due, told-in-cells, told-lawful, told-unit}
 use Rattle.sc_search.proofs.solver.Solver.tell.Goals as goal
-use Rattle.sc_trails.specs.Trails.{AllInCells}
+use Rattle.sc_propagation.specs.Trails.{AllInCells}
 use Rattle.sc_search.specs.Turns.{IsReady}
 
 pub attach-requires-clause-in_cells : goal.attach-requires-clause-in_cells

@@ -1,8 +1,0 @@
-pub use Rattle.sc_model_values.proofs.SortedVals
-mod TruthLaws
-mod PlaceLaws
-mod InsideLaws
-mod BitLaws
-pub mod AssignedLaws
-mod ValueLaws
-mod NameLaws

@@ -1,6 +1,0 @@
-use Rattle.std.proofs.Common.{ap}
-use Rattle.sc_values.specs.declared.value.Value.TheVariants as value
-use Rattle.sc_assigned_values.proofs.values.entity_value.Goals as goal
-
-pub returns : goal.returns
-returns c m = ap value.Entity (c.in_ok-uid_of.ensures m)

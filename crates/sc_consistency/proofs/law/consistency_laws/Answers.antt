@@ -1,5 +1,0 @@
-use Rattle.sc_consistency.proofs.ConsistencyLaws.{instances_suffice}
-use Rattle.sc_consistency.proofs.law.consistency_laws.Goals as goal
-
-pub returns : goal.returns
-returns c = instances_suffice c.problem_laws.ensures.terms

@@ -1,7 +1,0 @@
-use Rattle.std.proofs.Common.{rules}
-use Rattle.sc_instances.specs.Given.{term_at}
-use Rattle.sc_entity_rows.proofs.RowLaws.{chosen_count}
-use Rattle.sc_entity_rows.proofs.rows.chosen_count.Goals as goal
-
-pub returns : goal.returns
-returns c = chosen_count c.args.problem.now.schema (term_at c.args.problem.now c.args.x) c.choices_of-uids.result.now _ c.choices_of-uids.ensures (search rules)

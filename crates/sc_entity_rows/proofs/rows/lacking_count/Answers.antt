@@ -1,7 +1,0 @@
-use Rattle.std.proofs.Common.{rules}
-use Rattle.sc_instances.specs.Given.{term_at}
-use Rattle.sc_entity_rows.proofs.RowLaws.{count_said, lacking_said}
-use Rattle.sc_entity_rows.proofs.rows.lacking_count.Goals as goal
-
-pub returns : goal.returns
-returns c = count_said _ _ _ _ (lacking_said (term_at c.args.problem.now c.args.a)) (search rules)

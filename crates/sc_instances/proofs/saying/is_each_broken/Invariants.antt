@@ -1,9 +1,0 @@
-use Rattle.std.proofs.Common.{◌≡◌, ◌&&◌, true, take}
-use Rattle.std.specs.List.{list_all}
-use Rattle.sc_clauses.specs.declared.lit.Lit.{Lit}
-use Rattle.sc_clauses.specs.Assignments.{is_false}
-use Rattle.sc_instances.specs.Clauses.{is_asked, said_clause}
-use Rattle.sc_instances.proofs.saying.is_each_broken.Given as goal
-
-abbrev pub invariant-loop-place : goal.invariant-loop-place
-invariant-loop-place g l = list_all (λ (m : Lit). is_asked m && is_false l.m m) (take l.place (said_clause (g.S.Saying.posed l.saying) (g.S.Saying.said l.saying))) ≡ true

@@ -1,0 +1,6 @@
+use Rattle.std.proofs.Common.{ap, ◌∙◌}
+use Rattle.sc_values.specs.declared.value.Value.TheVariants as value
+use Rattle.sc_model_values.proofs.values.string_value.Goals as goal
+
+pub returns : goal.returns
+returns c = ap value.String (c.in_ok-text.ensures ∙ c.name_at.ensures)

@@ -1,0 +1,14 @@
+use Rattle.std.proofs.Common.{◌≤◌, ◌<◌, ◌+◌, length}
+use Rattle.sc_propagation.specs.Analyses.{IsCollected, RefutesMet}
+use Rattle.sc_propagation.proofs.trail.Trail.walk.Given as goal
+
+abbrev pub invariant-back : goal.invariant-back
+invariant-back l = record {
+  from : l.first ≤ l.i;
+  within : l.i < length l.self.lits.items;
+  collected : IsCollected (length l.self.cells.items) l.self.cells.items l.first l.analysis.met l.analysis.lower.items;
+  refutes : RefutesMet l.clauses l.self.cells.items (length l.self.lits.items) (l.i + 1) l.analysis.met l.analysis.hints.items;
+}
+
+abbrev pub decreases-back : goal.decreases-back
+decreases-back l = l.i

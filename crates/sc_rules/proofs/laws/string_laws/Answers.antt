@@ -1,6 +1,0 @@
-use Rattle.sc_rules.proofs.StringSound.{st1_holds}
-use Rattle.sc_rules.proofs.TermsHold.{st2_true, st3_true}
-use Rattle.sc_rules.proofs.laws.string_laws.Goals as goal
-
-pub returns : goal.returns
-returns c = record { moved = st1_holds; counted = st2_true; crowded = st3_true }

@@ -1,7 +1,0 @@
-use Rattle.std.proofs.Common.{◌≡◌, map, drop}
-use Rattle.sc_terms.specs.Tables.{tree}
-use Rattle.sc_string_rows.specs.Patterns.{with_asked, patterns}
-use Rattle.sc_string_rows.proofs.asking.patterns.Given as goal
-
-abbrev pub invariant-loop-place : goal.invariant-loop-place
-invariant-loop-place l = with_asked l.patterns.items (map (tree l.problem.nodes) (drop l.place l.problem.closed)) ≡ patterns l.problem

@@ -1,9 +1,0 @@
-use Rattle.std.proofs.Common.{◌∙◌}
-use Rattle.sc_string_rows.proofs.ClauseLaws.{clause_some, clause_none}
-use Rattle.sc_string_rows.proofs.clauses.clause_by.Goals as goal
-
-pub returns-in-Some : goal.returns-in-Some
-returns-in-Some c = clause_some c.args.problem.now _ _ _ c.in_ok-clause.ensures c.in-Some.is
-
-pub returns-in-None : goal.returns-in-None
-returns-in-None c = c.new.ensures ∙ clause_none c.args.problem.now _ _ c.in_ok-clause.ensures c.in-None.is

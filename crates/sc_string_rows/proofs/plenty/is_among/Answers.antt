@@ -1,5 +1,0 @@
-use Rattle.sc_lists.proofs.MemberLaws.{list_any-Has}
-use Rattle.sc_string_rows.proofs.plenty.is_among.Goals as goal
-
-pub returns : goal.returns
-returns c = rw c.contains.ensures.value (list_any-Has c.args.letters.now c.args.c)

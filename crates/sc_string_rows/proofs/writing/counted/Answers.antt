@@ -1,6 +1,0 @@
-use Rattle.std.proofs.lemmas.Result.{IfOk-weaker}
-use Rattle.sc_string_rows.proofs.NameLaws.{counted_back}
-use Rattle.sc_string_rows.proofs.writing.counted.Goals as goal
-
-pub returns : goal.returns
-returns c = IfOk-weaker c.instance.result _ _ (λ i h. counted_back c.args.rule.now c.args.signs.now c.args.strings.now _ _ c.in_ok-words.ensures h) c.instance.ensures

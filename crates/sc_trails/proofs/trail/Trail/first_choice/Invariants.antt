@@ -1,6 +1,0 @@
-use Rattle.std.proofs.Common.{ℕ, ◌<◌}
-use Rattle.sc_trails.proofs.trail.Trail.first_choice.Given as goal
-use Rattle.sc_trails.specs.Trails.{IsChoice}
-
-abbrev pub invariant-loop-atom : goal.invariant-loop-atom
-invariant-loop-atom l = (a : ℕ) → a < l.atom → ¬ IsChoice l.self.cells.items a

@@ -1,5 +1,0 @@
-use Rattle.sc_trails.specs.Analyses.{NoneMet}
-use Rattle.sc_trails.proofs.trail.Trail.none_met.Given as goal
-
-abbrev pub invariant-loop-k : goal.invariant-loop-k
-invariant-loop-k l = NoneMet l.self.lits.items l.met l.initial.k l.k

@@ -1,5 +1,0 @@
-use Rattle.sc_violated.specs.Chains.{NoneBetween}
-use Rattle.sc_violated.proofs.chains.between.Given as goal
-
-abbrev pub invariant-loop-b : goal.invariant-loop-b
-invariant-loop-b g l = NoneBetween (g.E.Equalities.truth l.items) l.b l.a l.c

@@ -1,5 +1,0 @@
-use Rattle.sc_violated.specs.Chains.{NoneFrom}
-use Rattle.sc_violated.proofs.chains.from.Given as goal
-
-abbrev pub invariant-loop-c : goal.invariant-loop-c
-invariant-loop-c g l = NoneFrom (g.E.Equalities.truth l.items) (g.E.Equalities.size l.items) l.c l.a

@@ -1,5 +1,0 @@
-use Rattle.sc_violated.specs.Classes.{IsJoined}
-use Rattle.sc_violated.proofs.classes.labels.Given as goal
-
-abbrev pub invariant-loop-i : goal.invariant-loop-i
-invariant-loop-i g l = IsJoined (g.E.Equalities.truth l.items) (g.E.Equalities.size l.items) l.i 0 l.labels.items

@@ -1,5 +1,0 @@
-use Rattle.sc_violated.specs.Crowds.{IsPart}
-use Rattle.sc_violated.proofs.needs.few_signs.Given as goal
-
-abbrev pub invariant-loop-pattern : goal.invariant-loop-pattern
-invariant-loop-pattern g l = IsPart l.signs l.asked.items

@@ -1,0 +1,12 @@
+use Rattle.std.proofs.Common.{None, Some, ◌∙◌, ap}
+use Rattle.sc_footprint.specs.Problems.{literal_in}
+use Rattle.th_entities_instances.proofs.TagLaws.{default_there}
+use Rattle.th_entities_instances.proofs.rows.default_literal.Goals as goal
+
+pub returns-in_default : goal.returns-in_default
+returns-in_default c = absurd (default_there c.args.problem.now c.args.a _ None c.requires.closed c.requires.tag c.inner_count-count.ensures.value c.in_default.ensures.value c.in_default.ensures.within)
+
+pub returns : goal.returns
+returns c =
+    c.literal.ensures
+    ∙ ap (literal_in c.args.problem.now) (default_there c.args.problem.now c.args.a _ (Some c.in-Some.n) c.requires.closed c.requires.tag c.inner_count-count.ensures.value c.in-Some.ensures.value c.in-Some.ensures.within).1
