@@ -1,6 +1,6 @@
 //! Tests of pointers into JSON.
+use sc_json::below;
 use sc_lists::Text;
-use sc_pointers::below;
 use std::alloc::{AllocError, Global};
 use std::test::Fail;
 

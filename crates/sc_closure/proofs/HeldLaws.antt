@@ -7,9 +7,9 @@ use Rattle.sc_pattern.specs.declared.part.Part.{Part}
 use Rattle.sc_sorts.specs.declared.sort.Sort.{Sort, Sort-F}
 use Rattle.sc_sorts.specs.declared.sort.Sort.TheOpen as s
 use Rattle.sc_sorts.specs.contracts.sort.SortPartialEq.TheImpl.{ghosts as sorts}
-use Rattle.sc_sorts.proofs.OrderLaws.{sort_eq_decides}
-use Rattle.sc_nodes.specs.declared.node.BinaryOp.TheVariants as binary
-use Rattle.sc_nodes.specs.declared.node.Node.{Node}
+use Rattle.sc_sorts.specs.OrderLaws.{sort_eq_decides}
+use Rattle.sc_sorts.specs.declared.node.BinaryOp.TheVariants as binary
+use Rattle.sc_sorts.specs.declared.node.Node.{Node}
 use Rattle.sc_terms.specs.Order.{tree_cmp}
 use Rattle.sc_terms.specs.Trees.{Tree, two}
 use Rattle.sc_terms.specs.TreeSorts.{tree_sort}

@@ -7,7 +7,7 @@ use Rattle.sc_lists.proofs.MemberLaws.{Has-left, Has-right, Has-append, Has-last
 use Rattle.sc_lists.specs.Members.{Has}
 use Rattle.sc_pattern.specs.declared.part.Part.{Part}
 use Rattle.sc_sorts.specs.declared.sort.Sort.{out-Sort}
-use Rattle.sc_nodes.specs.declared.node.Node.{Node}
+use Rattle.sc_sorts.specs.declared.node.Node.{Node}
 use Rattle.sc_terms.specs.Order.{tree_cmp}
 use Rattle.sc_terms.specs.Trees.{Tree}
 use Rattle.sc_terms.specs.TreeSorts.{tree_sort}

@@ -2,7 +2,7 @@
 //! one, or too many of them are atoms.
 ghost use Rattle.std.specs.Prelude.{◌≡◌, ◌<◌, ◌≤◌, List, length, IfOk, IfErr};
 ghost use Rattle.std.specs.List.{AllByRecursion};
-ghost use Rattle.sc_nodes.specs.declared.node.Node.{Node as AnyNode};
+ghost use Rattle.sc_sorts.specs.declared.node.Node.{Node as AnyNode};
 ghost use Rattle.sc_terms.specs.Tables.{tree, Keeps};
 ghost use Rattle.sc_closure_rules.specs.Closure.{Role};
 ghost use Rattle.sc_closure_rules.specs.Making.{stood, IsSomeTerm};

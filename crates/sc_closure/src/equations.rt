@@ -10,7 +10,7 @@ ghost use Rattle.sc_closure.specs.declared.roles.Meeting.TheVariants.{Equation a
 ghost use Rattle.sc_closure.specs.Following.{IsGroupWithin, IsDivided, Equates, met_terms, met_in, met_among, truth_value, value_in, two_values, apart, apart_from, told_of};
 
 use crate::roles::{Group, Meeting, is_met};
-use sc_nodes::{Literal, same_entity};
+use sc_sorts::{Literal, same_entity};
 use sc_terms::Terms;
 use std::alloc::AllocError;
 

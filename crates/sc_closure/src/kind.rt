@@ -3,8 +3,7 @@ ghost use Rattle.std.specs.Prelude.{◌≡◌, ◌<◌, length};
 ghost use Rattle.sc_terms.specs.Tables.{tree};
 ghost use Rattle.sc_closure.specs.Atoms.{is_opposite as opposite, is_bool as truth_value, is_atom as atom};
 
-use sc_nodes::{Leaf, Literal, Node, UnaryOp};
-use sc_sorts::Sort;
+use sc_sorts::{Leaf, Literal, Node, Sort, UnaryOp};
 use sc_terms::Terms;
 
 /// Whether a term is `false` or a negation.

@@ -6,7 +6,7 @@ ghost use Rattle.std.specs.List.{AllByRecursion};
 ghost use Rattle.std.specs.Option.{option_copied};
 ghost use Rattle.sc_lists.specs.Members.{Has};
 ghost use Rattle.sc_sorts.specs.declared.sort.Sort.{out-Sort};
-ghost use Rattle.sc_nodes.specs.declared.node.Node.{Node as AnyNode};
+ghost use Rattle.sc_sorts.specs.declared.node.Node.{Node as AnyNode};
 ghost use Rattle.sc_terms.specs.Folds.{like_term};
 ghost use Rattle.sc_terms.specs.TreeSorts.{tree_sort};
 ghost use Rattle.sc_terms.specs.Tables.{tree, Keeps, StandsFor};
@@ -17,9 +17,8 @@ ghost use Rattle.sc_closure.specs.Following.{AreRoles, Held, IsGroupWithin, Join
 use crate::equations::is_value;
 use indexmap::IndexSet;
 use sc_lists::Seq;
-use sc_nodes::{Node, UnaryOp};
 use sc_pattern::{Pattern, pattern_of};
-use sc_sorts::Sort;
+use sc_sorts::{Node, Sort, UnaryOp};
 use sc_terms::Terms;
 use std::alloc::{AllocError, Global};
 

@@ -12,8 +12,7 @@ use crate::numbers::{place_in, put};
 use crate::roles::{Meeting, Roles, is_pattern_known, join, meet_groups, meet_patterns};
 use sc_closure_rules::order_laws;
 use sc_lists::Seq;
-use sc_nodes::{BinaryOp, ManyOp, Node, Parts, UnaryOp};
-use sc_sorts::Sort;
+use sc_sorts::{BinaryOp, ManyOp, Node, Parts, Sort, UnaryOp};
 use sc_terms::Terms;
 use std::alloc::{AllocError, Global};
 

@@ -9,11 +9,11 @@ use Rattle.sc_sorts.specs.declared.sort.Sort.{Sort, Sort-F, out-Sort}
 use Rattle.sc_sorts.specs.declared.sort.Sort.TheOpen as s
 use Rattle.sc_sorts.specs.contracts.sort.SortPartialEq.TheImpl.{ghosts as sorts}
 use Rattle.sc_sorts.specs.Entities.{entity_sort, of_type_name}
-use Rattle.sc_nodes.specs.declared.node.Leaf.TheVariants.{Principal, Resource}
-use Rattle.sc_nodes.specs.declared.node.Literal.TheVariants as literal
-use Rattle.sc_nodes.specs.declared.node.UnaryOp.TheVariants as unary
-use Rattle.sc_nodes.specs.declared.node.BinaryOp.TheVariants as binary
-use Rattle.sc_nodes.specs.declared.node.ManyOp.TheVariants as manys
+use Rattle.sc_sorts.specs.declared.node.Leaf.TheVariants.{Principal, Resource}
+use Rattle.sc_sorts.specs.declared.node.Literal.TheVariants as literal
+use Rattle.sc_sorts.specs.declared.node.UnaryOp.TheVariants as unary
+use Rattle.sc_sorts.specs.declared.node.BinaryOp.TheVariants as binary
+use Rattle.sc_sorts.specs.declared.node.ManyOp.TheVariants as manys
 use Rattle.sc_terms.specs.Trees.{Tree, leaf, one, two, choice, many, Trees, no_part, part}
 use Rattle.sc_terms.specs.TreeSorts.{tree_sort}
 use Rattle.sc_terms.specs.Folds.{truth_term, literal_term, literal_of, equal_term, field_term, present_term, held_term, default_term, bit_term, like_term}

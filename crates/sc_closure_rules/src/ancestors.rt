@@ -5,7 +5,7 @@ ghost use Rattle.sc_schema.specs.Declarations.{ancestor_types as types_above, ac
 ghost use Rattle.sc_sorts.specs.declared.sort.Sort.{out-Sort};
 ghost use Rattle.sc_sorts.specs.declared.sort.Sort.TheOpen as sorts;
 ghost use Rattle.sc_sorts.specs.Entities.{entity_sort as sort_of_type, of_type_name};
-ghost use Rattle.sc_nodes.specs.declared.node.BinaryOp.TheVariants as binary;
+ghost use Rattle.sc_sorts.specs.declared.node.BinaryOp.TheVariants as binary;
 ghost use Rattle.sc_terms.specs.Folds.{literal_of};
 ghost use Rattle.sc_terms.specs.Trees.{two};
 ghost use Rattle.sc_terms.specs.Tables.{tree, Keeps, StandsFor};
@@ -15,9 +15,8 @@ ghost use Rattle.sc_closure_rules.specs.Beside.{choices_in, members_of_sort, is_
 
 use sc_lists::Seq;
 use sc_names::{Name, Uid, clone_uids};
-use sc_nodes::{Leaf, Literal, Node, UnaryOp};
 use sc_schema::{Schema, action_ancestors, ancestor_types};
-use sc_sorts::{Sort, entity_sort, try_clone};
+use sc_sorts::{Leaf, Literal, Node, Sort, UnaryOp, entity_sort, try_clone};
 use sc_terms::Terms;
 use std::alloc::{AllocError, Global};
 

@@ -5,8 +5,8 @@ ghost use Rattle.std.specs.Map.{keys_of};
 ghost use Rattle.sc_sorts.specs.declared.sort.Sort.{out-Sort};
 ghost use Rattle.sc_sorts.specs.Inside.{fields_in};
 ghost use Rattle.sc_term_laws.specs.Tests.{is_bool as truth_sort};
-ghost use Rattle.sc_nodes.specs.declared.node.BinaryOp.TheVariants as binary;
-ghost use Rattle.sc_nodes.specs.declared.node.UnaryOp.TheVariants as unary;
+ghost use Rattle.sc_sorts.specs.declared.node.BinaryOp.TheVariants as binary;
+ghost use Rattle.sc_sorts.specs.declared.node.UnaryOp.TheVariants as unary;
 ghost use Rattle.sc_terms.specs.Trees.{one, two};
 ghost use Rattle.sc_terms.specs.TreeSorts.{tree_sort};
 ghost use Rattle.sc_terms.specs.Tables.{tree, node_parts, AreBelow, Keeps, StandsFor};
@@ -18,9 +18,8 @@ ghost use Rattle.sc_closure_rules.specs.Beside.{IsBesideOf, rule, held_option, h
 
 use crate::ancestors::{put_ancestors, put_choices};
 use sc_lists::{Seq, Text};
-use sc_nodes::{BinaryOp, Node, UnaryOp};
 use sc_schema::Schema;
-use sc_sorts::{Sort, try_clone};
+use sc_sorts::{BinaryOp, Node, Sort, UnaryOp, try_clone};
 use sc_term_definitions::{bit_count, put_inputs};
 use sc_terms::Terms;
 use std::alloc::{AllocError, Global};

@@ -2,7 +2,7 @@
 use Rattle.std.proofs.Common.{◌≡◌, List, ◌∷◌, ap, ◌∙◌}
 use Rattle.sc_schema.specs.Declarations.{Declarations}
 use Rattle.sc_typed.specs.declared.typed_expr.HasStep.{HasStep}
-use Rattle.sc_nodes.specs.declared.node.Node.{Node}
+use Rattle.sc_sorts.specs.declared.node.Node.{Node}
 use Rattle.sc_terms.specs.Tables.{Keeps}
 use Rattle.sc_constructs.specs.declared.opt.Opt.{Opt}
 use Rattle.sc_constructs.specs.Code.{Code, and_code}

@@ -1,6 +1,6 @@
 -- Rows of the table of compilation, worked out for operands that always have a value.
 use Rattle.std.proofs.Common.{◌≡◌, true, false, Some, [], ◌∷◌, refl}
-use Rattle.sc_nodes.specs.declared.node.BinaryOp.TheVariants as binary
+use Rattle.sc_sorts.specs.declared.node.BinaryOp.TheVariants as binary
 use Rattle.sc_schema.specs.declared.ty.Presence.TheVariants.{Optional}
 use Rattle.sc_terms.specs.Trees.{Tree, two}
 use Rattle.sc_terms.specs.Folds.{not_term, and_term, or_term, present_term, held_term}

@@ -25,10 +25,10 @@ use Rattle.sc_typed.specs.declared.typed_expr.TypedExpr.TheOpen as typed
 use Rattle.sc_typed.specs.Literals.{uid_in}
 use Rattle.sc_typed.specs.Outcomes.{ty}
 use Rattle.sc_typed.specs.Types.{Field, is_true, entity_name, attributes, attribute}
-use Rattle.sc_nodes.specs.declared.node.Leaf.TheVariants as leafs
-use Rattle.sc_nodes.specs.declared.node.Literal.TheVariants as literal
-use Rattle.sc_nodes.specs.declared.node.UnaryOp.TheVariants as unary
-use Rattle.sc_nodes.specs.declared.node.BinaryOp.TheVariants as binary
+use Rattle.sc_sorts.specs.declared.node.Leaf.TheVariants as leafs
+use Rattle.sc_sorts.specs.declared.node.Literal.TheVariants as literal
+use Rattle.sc_sorts.specs.declared.node.UnaryOp.TheVariants as unary
+use Rattle.sc_sorts.specs.declared.node.BinaryOp.TheVariants as binary
 use Rattle.sc_terms.specs.Trees.{Tree, leaf, one, two}
 use Rattle.sc_terms.specs.Folds.{literal_term, truth_term, and_term, or_term, equal_term, field_term, present_term, held_term}
 use Rattle.sc_constructs.specs.Code.{Code, code, constant, after, after_both, where_so, only_where, and_code}

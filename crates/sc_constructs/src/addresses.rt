@@ -6,7 +6,7 @@ ghost use Rattle.sc_constructs.specs.Numbers.{IsCode, StandsAs, code_at};
 
 use crate::opt::Opt;
 use sc_ip::Ip;
-use sc_nodes::Literal;
+use sc_sorts::Literal;
 use sc_terms::Terms;
 use std::alloc::AllocError;
 

@@ -9,7 +9,7 @@ ghost use Rattle.sc_typed.specs.declared.typed_expr.TypedExpr.{out-TypedExpr};
 ghost use Rattle.sc_constructs.specs.Code.{only_where, after_both};
 ghost use Rattle.sc_constructs.specs.Objects.{tag_type as tags_in, has_key as key_is, has_tag_code, get_tag_code, above as ancestors_above, may_be_above, in_one as one_in, in_some as some_in, in_type as type_holds, in_term as term_in, in_code, uid_at as uid_in_expr, is_declared_action, is_uid as uid_is, are_uids as uids_are, are_some_uids as some_uids_are, is_group_in, is_decided as typing_decides};
 ghost use Rattle.sc_constructs.specs.Numbers.{IsCode, StandsAs, code_at};
-ghost use Rattle.sc_nodes.specs.declared.node.BinaryOp.TheVariants as binary;
+ghost use Rattle.sc_sorts.specs.declared.node.BinaryOp.TheVariants as binary;
 ghost use Rattle.sc_terms.specs.Trees.{two};
 
 use crate::logic::{both_have, constant, tell_both};

@@ -11,7 +11,7 @@ use Rattle.sc_lists.proofs.MemberLaws.{Has-map, map-Has, Has-from_Contains, Cont
 use Rattle.sc_laws.proofs.OptionLaws.{same_some}
 use Rattle.sc_lists.specs.Members.{Has}
 use Rattle.sc_schema.specs.Declarations.{Declarations}
-use Rattle.sc_nodes.specs.declared.node.Node.{Node}
+use Rattle.sc_sorts.specs.declared.node.Node.{Node}
 use Rattle.sc_terms.proofs.TableLaws.{keeps_itself, keeps_then}
 use Rattle.sc_terms.specs.Trees.{Tree}
 use Rattle.sc_terms.specs.Tables.{tree, Keeps, IsTable}

@@ -1,7 +1,7 @@
 -- Clauses, literals and numbers at small cases.
 use Rattle.std.proofs.Common.{◌≡◌, ℕ, true, false, [], ◌∷◌, Some, None, refl}
 use Rattle.sc_clauses.specs.Clauses.{positive, negation}
-use Rattle.sc_nodes.specs.declared.node.UnaryOp.TheVariants.{Not}
+use Rattle.sc_sorts.specs.declared.node.UnaryOp.TheVariants.{Not}
 use Rattle.sc_terms.specs.Trees.{Tree, one, choice}
 use Rattle.sc_terms.specs.Folds.{truth_term}
 use Rattle.sc_closure.specs.DefinedFunction.TheVariants.{Both, Itself}

@@ -19,7 +19,7 @@ use Rattle.sc_schema.specs.declared.declarations.Env.{Env}
 use Rattle.sc_schema.specs.Declarations.{Declarations}
 use Rattle.sc_schema.specs.Lawful.{IsLawful}
 use Rattle.sc_values.proofs.AscendingLaws.{one_list}
-use Rattle.sc_nodes.specs.declared.node.Node.{Node}
+use Rattle.sc_sorts.specs.declared.node.Node.{Node}
 use Rattle.sc_terms.specs.Trees.{Tree}
 use Rattle.sc_terms.specs.Tables.{tree, Keeps}
 use Rattle.sc_terms.specs.Order.{tree_cmp}

@@ -6,7 +6,7 @@ use Rattle.sc_bits.specs.Blocks.{AreBlockBits}
 use Rattle.sc_world.specs.declared.world.World.{World}
 use Rattle.sc_sorts.specs.declared.sort.Sort.{Sort}
 use Rattle.sc_sorts.specs.declared.sort.Sort.TheVariants as sort
-use Rattle.sc_nodes.specs.declared.node.UnaryOp.TheVariants as unary
+use Rattle.sc_sorts.specs.declared.node.UnaryOp.TheVariants as unary
 use Rattle.sc_terms.proofs.OrderLaws.{tree_cmp_total, tree_cmp_level}
 use Rattle.sc_terms.specs.Folds.{bit_term}
 use Rattle.sc_terms.specs.Trees.{Tree, one}

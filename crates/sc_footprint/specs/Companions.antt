@@ -2,7 +2,7 @@
 use Rattle.std.specs.Prelude.{◌≡◌, ◌<◌, ◌≤◌, ◌-◌, ◌++◌, ℕ, List, take, drop, length}
 use Rattle.std.specs.List.{AllByRecursion, AllZip}
 use Rattle.sc_schema.specs.Declarations.{Declarations}
-use Rattle.sc_nodes.specs.declared.node.Node.{Node}
+use Rattle.sc_sorts.specs.declared.node.Node.{Node}
 use Rattle.sc_terms.specs.Tables.{tree, Keeps}
 use Rattle.sc_closure.specs.Making.{stood, IsSomeTerm}
 use Rattle.sc_closure.specs.Closure.{follow}

@@ -1,8 +1,8 @@
 -- The closed terms of one kind, by a sort: what rules go over.
 use Rattle.std.specs.Prelude.{◌&&◌, Bool, true, false, List, filter, Option, Some, None}
 use Rattle.std.specs.List.{list_any}
-use Rattle.sc_nodes.specs.declared.node.UnaryOp.TheVariants as unary
-use Rattle.sc_nodes.specs.declared.node.BinaryOp.TheVariants as binary
+use Rattle.sc_sorts.specs.declared.node.UnaryOp.TheVariants as unary
+use Rattle.sc_sorts.specs.declared.node.BinaryOp.TheVariants as binary
 use Rattle.sc_terms.specs.Trees.{Tree, one, two}
 use Rattle.sc_terms.specs.Order.{tree_eq}
 use Rattle.sc_closure.specs.Closure.{Role, candidate, roles_in, one_sort}

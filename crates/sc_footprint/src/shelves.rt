@@ -9,8 +9,7 @@ use crate::kind::Kind;
 use indexmap::IndexSet;
 use sc_closure::{place_in, put};
 use sc_lists::Text;
-use sc_nodes::{BinaryOp, ManyOp, Node, UnaryOp};
-use sc_sorts::sort_laws;
+use sc_sorts::{BinaryOp, ManyOp, Node, UnaryOp, sort_laws};
 use sc_terms::Terms;
 use std::alloc::{AllocError, Global};
 

@@ -4,7 +4,7 @@ use Rattle.std.specs.Option.{option_map, option_and_then}
 use Rattle.std.proofs.lemmas.List.{drop_more, drop_all, map-append, append-nil}
 use Rattle.std.proofs.lemmas.List.Elements.{All-push}
 use Rattle.sc_ast.specs.declared.policy.Effect.{Effect}
-use Rattle.sc_nodes.specs.declared.node.Node.{Node}
+use Rattle.sc_sorts.specs.declared.node.Node.{Node}
 use Rattle.sc_terms.specs.Trees.{Tree}
 use Rattle.sc_terms.specs.Tables.{tree, Keeps}
 use Rattle.sc_constructs.specs.Code.{Code}

@@ -3,7 +3,7 @@ use Rattle.std.proofs.Common.{◌≡◌, ℕ, true, false, List, map, Option, So
 use Rattle.std.specs.Option.{option_map, option_and_then}
 use Rattle.sc_terms.proofs.TableLaws.{stands_later}
 use Rattle.sc_question.specs.declared.question.Question.{Question}
-use Rattle.sc_nodes.specs.declared.node.Node.{Node}
+use Rattle.sc_sorts.specs.declared.node.Node.{Node}
 use Rattle.sc_terms.specs.Trees.{Tree}
 use Rattle.sc_terms.specs.Tables.{tree, Keeps, StandsFor}
 use Rattle.sc_terms.specs.Folds.{not_term}

@@ -13,7 +13,7 @@ use Rattle.sc_schema.specs.declared.declarations.Env.{Env}
 use Rattle.sc_schema.specs.Declarations.{Declarations, action_uids, environment, environments_for, environments}
 use Rattle.sc_world.specs.Named.{IsDeclared}
 use Rattle.sc_world.specs.declared.world.World.{World}
-use Rattle.sc_declared.proofs.DeclaredLaws.{declared_of}
+use Rattle.sc_typing_laws.proofs.DeclaredLaws.{declared_of}
 use Rattle.sc_eval.specs.Written.{constants}
 use Rattle.sc_question.specs.declared.question.Question.{Question}
 use Rattle.sc_question.specs.declared.question.Question.TheVariants.{NeverErrors, AlwaysAllows, AlwaysDenies, Implies, Equivalent, Disjoint}

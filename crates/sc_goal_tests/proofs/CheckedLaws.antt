@@ -15,7 +15,7 @@ use Rattle.sc_world.specs.Named.{IsDeclared}
 use Rattle.sc_eval.specs.Written.{HasProperConstants}
 use Rattle.sc_typing.specs.Checking.{fault_from}
 use Rattle.sc_typing.specs.Names.{name_fault}
-use Rattle.sc_nodes.specs.declared.node.Node.{Node}
+use Rattle.sc_sorts.specs.declared.node.Node.{Node}
 use Rattle.sc_terms.specs.Tables.{StandsFor}
 use Rattle.sc_terms.specs.Trees.{Tree}
 use Rattle.sc_closure_rules.specs.Goals.{IsGoal}

@@ -6,7 +6,7 @@ use Rattle.sc_ast.specs.Conditions.{condition}
 use Rattle.sc_closure_rules.specs.Goals.{IsGoal}
 use Rattle.sc_eval.specs.Written.{HasProperConstants}
 use Rattle.sc_names.specs.declared.uid.Uid.{Uid}
-use Rattle.sc_nodes.specs.declared.node.Node.{Node}
+use Rattle.sc_sorts.specs.declared.node.Node.{Node}
 use Rattle.sc_schema.specs.declared.declarations.Env.{Env}
 use Rattle.sc_schema.specs.Declarations.{Declarations}
 use Rattle.sc_terms.specs.Tables.{tree}

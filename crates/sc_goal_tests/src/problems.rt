@@ -7,13 +7,13 @@ ghost use Rattle.sc_goal_tests.specs.Checked.{IsChecked, IsGoalAt};
 
 use crate::declared_policies::{sample, schema};
 use sc_ast::PolicySet;
-use sc_declared::declared_laws;
 use sc_footprint::{Problem, close};
 use sc_goal::{Query, Question, goal, goal_laws, query};
 use sc_goal_laws::posed_goals;
 use sc_question::takes_two;
 use sc_schema::{Env, Schema, environments};
 use sc_terms::Terms;
+use sc_typing_laws::declared_laws;
 use std::alloc::{AllocError, Global};
 use std::test::Fail;
 use th_defs::defining;

@@ -1,3 +1,4 @@
+pub mod PointersLaws
 mod StringsLaws
 mod TokensLaws
 pub mod TidyTreeLaws

@@ -2,7 +2,7 @@
 use Rattle.std.specs.Prelude.{ℕ, ◌+◌, List, [], ◌∷◌}
 use Rattle.std.specs.Fmt.{decimal}
 use Rattle.serde_json.specs.Data.{Data, array, object, Items, item, Members, member}
-use Rattle.sc_pointers.specs.Pointers.{below}
+use Rattle.sc_json.specs.Pointers.{below}
 
 -- a step into a value: to a member of an object by its name, or to an item of a list by its number
 pub data Step : Type 0 where

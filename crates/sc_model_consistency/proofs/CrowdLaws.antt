@@ -5,7 +5,7 @@ use Rattle.sc_laws.proofs.BoolLaws.{never}
 use Rattle.sc_lists.proofs.MemberLaws.{Has-left, Has-right, Has-append, Has-flat_map, flat_map-Has, map-Has}
 use Rattle.sc_laws.proofs.OptionLaws.{same_some}
 use Rattle.sc_lists.specs.Members.{Has}
-use Rattle.sc_nodes.specs.declared.node.UnaryOp.TheVariants.{Like}
+use Rattle.sc_sorts.specs.declared.node.UnaryOp.TheVariants.{Like}
 use Rattle.sc_terms.specs.Folds.{truth_term, equal_term, like_term}
 use Rattle.sc_terms.specs.Order.{tree_eq}
 use Rattle.sc_terms.specs.Trees.{Tree, one}

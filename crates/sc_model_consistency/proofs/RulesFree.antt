@@ -7,9 +7,9 @@ use Rattle.sc_clauses.specs.Assignments.{Assignment}
 use Rattle.sc_clauses.specs.declared.step.Instance.{Instance}
 use Rattle.sc_clauses.specs.declared.step.Word.TheVariants.{Number}
 use Rattle.sc_sorts.specs.Inside.{SortField, SortFields}
-use Rattle.sc_nodes.specs.declared.node.ManyOp.TheVariants as manys
-use Rattle.sc_nodes.specs.declared.node.UnaryOp.TheVariants as unary
-use Rattle.sc_nodes.specs.declared.node.BinaryOp.TheVariants as binary
+use Rattle.sc_sorts.specs.declared.node.ManyOp.TheVariants as manys
+use Rattle.sc_sorts.specs.declared.node.UnaryOp.TheVariants as unary
+use Rattle.sc_sorts.specs.declared.node.BinaryOp.TheVariants as binary
 use Rattle.sc_sorts.specs.declared.sort.Sort.{Sort, Sort-F, out-Sort}
 use Rattle.sc_sorts.specs.declared.sort.Sort.TheOpen as s
 use Rattle.sc_sorts.specs.contracts.sort.SortPartialEq.TheImpl.{ghosts as sorts}

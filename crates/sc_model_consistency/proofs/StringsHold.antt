@@ -16,11 +16,11 @@ use Rattle.sc_clauses.specs.declared.step.Instance.{Instance}
 use Rattle.sc_sorts.specs.declared.sort.Sort.{Sort}
 use Rattle.sc_sorts.specs.declared.sort.Sort.TheVariants as sort
 use Rattle.sc_sorts.proofs.OutLaws.{out_Bool}
-use Rattle.sc_nodes.specs.Literals.{literal_like}
-use Rattle.sc_nodes.specs.declared.node.Leaf.TheVariants.{Literal}
-use Rattle.sc_nodes.specs.declared.node.Literal.{Literal as AnyLiteral}
-use Rattle.sc_nodes.specs.declared.node.Literal.TheVariants as literal
-use Rattle.sc_nodes.specs.declared.node.UnaryOp.TheVariants.{Not, Like}
+use Rattle.sc_sorts.specs.Literals.{literal_like}
+use Rattle.sc_sorts.specs.declared.node.Leaf.TheVariants.{Literal}
+use Rattle.sc_sorts.specs.declared.node.Literal.{Literal as AnyLiteral}
+use Rattle.sc_sorts.specs.declared.node.Literal.TheVariants as literal
+use Rattle.sc_sorts.specs.declared.node.UnaryOp.TheVariants.{Not, Like}
 use Rattle.sc_terms.specs.Folds.{literal_term, literal_of, other_equal, not_term, equal_term, like_by, like_term}
 use Rattle.sc_terms.specs.Order.{tree_eq}
 use Rattle.sc_terms.specs.Trees.{Tree, leaf, one}
@@ -43,9 +43,9 @@ use Rattle.sc_rule_laws.proofs.MemberLaws.{all_has}
 use Rattle.sc_rule_instances.specs.Known.{is_falsified}
 use Rattle.th_strings_instances.specs.Instances.{HasString, string_clause}
 use Rattle.th_strings_instances.specs.Patterns.{patterns}
-use Rattle.sc_models.specs.Laws.{IsClosed, AreClosed, StringsHold}
-use Rattle.sc_models.specs.Models.{truth_in}
-use Rattle.sc_models.proofs.WrittenStrings.{IsWritten, literal_at, literal_written, text_bool, written_crowd}
+use Rattle.sc_model_values.specs.Laws.{IsClosed, AreClosed, StringsHold}
+use Rattle.sc_model_values.specs.Models.{truth_in}
+use Rattle.sc_model_values.proofs.WrittenStrings.{IsWritten, literal_at, literal_written, text_bool, written_crowd}
 use Rattle.sc_model_consistency.proofs.CrowdLaws.{Asks, all_signs, sign_of, asks_value, sign_for, sign_asks, asks_sign, crowd_other, crowd_equal, crowd_all, equal_all}
 use Rattle.sc_model_consistency.proofs.PatternLaws.{pattern_there, place_of}
 use Rattle.sc_model_consistency.proofs.StringsFree.{match_free, crowd_free}

@@ -9,9 +9,9 @@ use Rattle.sc_clauses.specs.Assignments.{Assignment, value_of, is_false_at, is_f
 use Rattle.sc_clauses.specs.Clauses.{Clause, bool_eq, positive}
 use Rattle.sc_clauses.specs.declared.lit.Lit.{Lit}
 use Rattle.sc_sorts.proofs.OutLaws.{out_Bool}
-use Rattle.sc_nodes.specs.declared.node.Leaf.TheVariants.{Literal}
-use Rattle.sc_nodes.specs.declared.node.Literal.TheVariants.{Bool as bool}
-use Rattle.sc_nodes.specs.declared.node.UnaryOp.TheVariants.{Not}
+use Rattle.sc_sorts.specs.declared.node.Leaf.TheVariants.{Literal}
+use Rattle.sc_sorts.specs.declared.node.Literal.TheVariants.{Bool as bool}
+use Rattle.sc_sorts.specs.declared.node.UnaryOp.TheVariants.{Not}
 use Rattle.sc_terms.specs.Trees.{Tree, leaf, one}
 use Rattle.sc_terms.specs.TreeSorts.{tree_sort}
 use Rattle.sc_terms.specs.Folds.{truth_term}
@@ -33,8 +33,8 @@ use Rattle.sc_model_laws.specs.Assignments.{lit, holds_under, some_hold}
 use Rattle.sc_rule_laws.specs.Signed.{Signed}
 use Rattle.sc_rule_laws.proofs.MemberLaws.{filter_kept, filter_passes, has_any}
 use Rattle.sc_term_laws.proofs.MemberLaws.{any_found}
-use Rattle.sc_models.specs.Laws.{IsClosed}
-use Rattle.sc_models.specs.Models.{truth_in, without_atom}
+use Rattle.sc_model_values.specs.Laws.{IsClosed}
+use Rattle.sc_model_values.specs.Models.{truth_in, without_atom}
 
 -- ---- terms that are no truth values aren't true
 

@@ -8,7 +8,7 @@ use Rattle.sc_footprint.specs.Closure.{follow}
 use Rattle.sc_footprint.specs.Definitions.{defining}
 use Rattle.sc_footprint.specs.Problems.{Posed, IsPosed, atoms, closed_terms}
 use Rattle.sc_rule_instances.specs.Instances.{HasEqual, HasSet, HasEntity, equal_clause, set_clause, entity_clause}
-use Rattle.sc_models.specs.Laws.{FalsifiesNothing}
+use Rattle.sc_model_values.specs.Laws.{FalsifiesNothing}
 use Rattle.th_strings_instances.specs.Instances.{HasString, string_clause}
 use Rattle.sc_terms.specs.Trees.{Tree}
 

@@ -7,4 +7,4 @@ mod places;
 
 pub use law::consistency_laws;
 pub use places::are_places_small;
-pub use sc_models::model_laws;
+pub use sc_model_values::model_laws;

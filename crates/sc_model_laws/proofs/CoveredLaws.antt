@@ -2,8 +2,8 @@
 use Rattle.std.proofs.Common.{◌≡◌, ◌||◌, true, false, refl}
 use Rattle.std.specs.Cmp.Derive.{both_true}
 use Rattle.sc_laws.proofs.BoolLaws.{or_first, or_second}
-use Rattle.sc_nodes.specs.declared.node.BinaryOp.{BinaryOp}
-use Rattle.sc_nodes.specs.declared.node.BinaryOp.TheVariants as binary
+use Rattle.sc_sorts.specs.declared.node.BinaryOp.{BinaryOp}
+use Rattle.sc_sorts.specs.declared.node.BinaryOp.TheVariants as binary
 use Rattle.sc_terms.specs.Trees.{Tree, leaf, one, two, choice, many, Trees, no_part, part}
 use Rattle.sc_closure_rules.specs.Goals.{is_pick, has_pick, some_pick}
 use Rattle.sc_model_laws.specs.Rows.{covers_two, is_covered, are_covered}

@@ -4,10 +4,10 @@ use Rattle.std.specs.Str.{chars}
 use Rattle.sc_sorts.specs.declared.sort.Sort.{Sort}
 use Rattle.sc_pattern.specs.declared.part.Part.TheVariants.{Star, Char}
 use Rattle.sc_pattern.specs.Language.{is_match}
-use Rattle.sc_nodes.specs.declared.node.Leaf.TheVariants.{Principal}
-use Rattle.sc_nodes.specs.declared.node.Literal.TheVariants as literal
-use Rattle.sc_nodes.specs.declared.node.UnaryOp.TheVariants.{Like}
-use Rattle.sc_nodes.specs.declared.node.BinaryOp.TheVariants as binary
+use Rattle.sc_sorts.specs.declared.node.Leaf.TheVariants.{Principal}
+use Rattle.sc_sorts.specs.declared.node.Literal.TheVariants as literal
+use Rattle.sc_sorts.specs.declared.node.UnaryOp.TheVariants.{Like}
+use Rattle.sc_sorts.specs.declared.node.BinaryOp.TheVariants as binary
 use Rattle.sc_terms.specs.Trees.{Tree, leaf, one, two}
 use Rattle.sc_terms.specs.Folds.{literal_term, like_term}
 use Rattle.sc_rule_laws.specs.Strings.{Pattern}

@@ -26,3 +26,11 @@ mod TextNames
 mod TruthLaws
 pub mod RebuildLaws
 mod Examples
+pub mod ConformingLaws
+pub mod ClosureLaws
+pub mod SortedVals
+pub mod FittingLaws
+pub mod DefaultLaws
+pub mod LinkLaws
+pub mod EntityLaws
+pub mod ActionLaws

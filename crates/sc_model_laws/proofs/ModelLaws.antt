@@ -14,11 +14,11 @@ use Rattle.sc_sorts.specs.declared.sort.Sort.TheVariants as sort
 use Rattle.sc_sorts.specs.declared.sort.Sort.TheOpen as s
 use Rattle.sc_sorts.specs.contracts.sort.SortPartialEq.TheImpl.{ghosts as sorts}
 use Rattle.sc_sorts.specs.Inside.{name_in}
-use Rattle.sc_sorts.proofs.OrderLaws.{sort_eq_decides}
+use Rattle.sc_sorts.specs.OrderLaws.{sort_eq_decides}
 use Rattle.sc_sorts.proofs.OutLaws.{out_String, out_Entity}
-use Rattle.sc_nodes.specs.declared.node.Leaf.TheVariants as leafs
-use Rattle.sc_nodes.specs.declared.node.UnaryOp.TheVariants.{Like}
-use Rattle.sc_nodes.specs.declared.node.Literal.TheVariants as literals
+use Rattle.sc_sorts.specs.declared.node.Leaf.TheVariants as leafs
+use Rattle.sc_sorts.specs.declared.node.UnaryOp.TheVariants.{Like}
+use Rattle.sc_sorts.specs.declared.node.Literal.TheVariants as literals
 use Rattle.sc_terms.specs.Trees.{Tree, leaf, one, two, choice, many}
 use Rattle.sc_terms.specs.TreeSorts.{tree_sort}
 use Rattle.sc_terms.specs.Folds.{constant, literal_of, literal_term, equal_term, like_term}

@@ -14,7 +14,7 @@ use Rattle.sc_pattern.proofs.TestLaws.{is_match_decides}
 use Rattle.sc_schema.specs.declared.declarations.Env.{Env}
 use Rattle.sc_schema.specs.Declarations.{Declarations}
 use Rattle.sc_languages.specs.Strings.{Obeys, AreDistinct}
-use Rattle.sc_nodes.specs.declared.node.Literal.TheVariants as literals
+use Rattle.sc_sorts.specs.declared.node.Literal.TheVariants as literals
 use Rattle.sc_terms.specs.Trees.{Tree}
 use Rattle.sc_terms.specs.Folds.{literal_term, equal_term, like_term}
 use Rattle.sc_rule_laws.specs.Signed.{so, unless}

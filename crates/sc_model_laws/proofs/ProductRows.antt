@@ -10,8 +10,8 @@ use Rattle.sc_schema.specs.Declarations.{Declarations}
 use Rattle.sc_values.specs.declared.value.Value.TheVariants as value
 use Rattle.sc_world.specs.declared.world.World.{World}
 use Rattle.sc_sorts.specs.declared.sort.Sort.TheVariants as sort
-use Rattle.sc_nodes.specs.declared.node.UnaryOp.TheVariants as unary
-use Rattle.sc_nodes.specs.declared.node.BinaryOp.TheVariants as binary
+use Rattle.sc_sorts.specs.declared.node.UnaryOp.TheVariants as unary
+use Rattle.sc_sorts.specs.declared.node.BinaryOp.TheVariants as binary
 use Rattle.sc_bits.specs.Adders.{differ, odd, majority, leaves64}
 use Rattle.sc_bits.specs.Bits.{bit64, of_bits64}
 use Rattle.sc_bits.specs.Plain.{row_bit, row_carry}

@@ -11,7 +11,7 @@ use Rattle.sc_schema.specs.Declarations.{Declarations}
 use Rattle.sc_values.proofs.OutLaws as out
 use Rattle.sc_world.specs.declared.world.World.{World}
 use Rattle.sc_sorts.specs.declared.sort.Sort.TheVariants as sort
-use Rattle.sc_nodes.specs.declared.node.BinaryOp.TheVariants as binary
+use Rattle.sc_sorts.specs.declared.node.BinaryOp.TheVariants as binary
 use Rattle.sc_bits.specs.Adders.{differ}
 use Rattle.sc_bits.specs.Addresses.{ip_of}
 use Rattle.sc_bits.specs.Blocks.{AgreeInRange, AreBlockBits, agrees_at}

@@ -10,8 +10,8 @@ use Rattle.sc_values.proofs.OutLaws as out
 use Rattle.sc_world.specs.declared.world.World.{World}
 use Rattle.sc_sorts.specs.declared.sort.Sort.{Sort}
 use Rattle.sc_sorts.specs.declared.sort.Sort.TheVariants as sort
-use Rattle.sc_nodes.specs.declared.node.UnaryOp.TheVariants as unary
-use Rattle.sc_nodes.specs.declared.node.BinaryOp.TheVariants as binary
+use Rattle.sc_sorts.specs.declared.node.UnaryOp.TheVariants as unary
+use Rattle.sc_sorts.specs.declared.node.BinaryOp.TheVariants as binary
 use Rattle.sc_bits.specs.Adders.{complement, IsAdder, leaves64}
 use Rattle.sc_bits.specs.Bits.{of_bits64}
 use Rattle.sc_bits.specs.Orders.{IsLow}

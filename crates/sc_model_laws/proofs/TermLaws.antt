@@ -11,12 +11,12 @@ use Rattle.sc_sorts.specs.declared.sort.Sort.TheVariants as sort
 use Rattle.sc_sorts.specs.Inside.{SortFields}
 use Rattle.sc_sorts.specs.Entities.{entity_sort, choices_of}
 use Rattle.sc_sorts.specs.OfTypes.{sort_of}
-use Rattle.sc_nodes.specs.declared.node.Leaf.TheVariants as leafs
-use Rattle.sc_nodes.specs.declared.node.Literal.TheVariants as literal
-use Rattle.sc_nodes.specs.declared.node.UnaryOp.TheVariants as unary
-use Rattle.sc_nodes.specs.declared.node.BinaryOp.{BinaryOp}
-use Rattle.sc_nodes.specs.declared.node.BinaryOp.TheVariants as binary
-use Rattle.sc_nodes.specs.declared.node.ManyOp.TheVariants as manys
+use Rattle.sc_sorts.specs.declared.node.Leaf.TheVariants as leafs
+use Rattle.sc_sorts.specs.declared.node.Literal.TheVariants as literal
+use Rattle.sc_sorts.specs.declared.node.UnaryOp.TheVariants as unary
+use Rattle.sc_sorts.specs.declared.node.BinaryOp.{BinaryOp}
+use Rattle.sc_sorts.specs.declared.node.BinaryOp.TheVariants as binary
+use Rattle.sc_sorts.specs.declared.node.ManyOp.TheVariants as manys
 use Rattle.sc_sorts.specs.Defaults.{default_uid}
 use Rattle.sc_terms.specs.Trees.{Tree, one, two, choice, many, Trees}
 use Rattle.sc_terms.specs.TreeSorts.{tree_sort}

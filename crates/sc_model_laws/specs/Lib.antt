@@ -6,3 +6,4 @@ pub mod Names
 pub mod Texts
 pub mod Rows
 pub mod Laws
+pub mod ValueLaws

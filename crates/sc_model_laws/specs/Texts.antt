@@ -6,7 +6,7 @@ use Rattle.sc_lists.specs.Members.{Has}
 use Rattle.sc_schema.specs.declared.declarations.Env.{Env}
 use Rattle.sc_schema.specs.Declarations.{Declarations}
 use Rattle.sc_sorts.specs.declared.sort.Sort.TheVariants as sort
-use Rattle.sc_nodes.specs.declared.node.UnaryOp.TheVariants.{Like}
+use Rattle.sc_sorts.specs.declared.node.UnaryOp.TheVariants.{Like}
 use Rattle.sc_languages.specs.Strings.{AreStrings}
 use Rattle.sc_terms.specs.Trees.{Tree, one}
 use Rattle.sc_terms.specs.TreeSorts.{tree_sort}

@@ -4,7 +4,7 @@ use Rattle.sc_names.specs.declared.uid.Uid.{Uid}
 use Rattle.sc_values.specs.declared.value.Value.TheVariants as value
 use Rattle.sc_sorts.specs.declared.sort.Sort.{Sort, Sort-F, fold-Sort}
 use Rattle.sc_sorts.specs.declared.sort.Sort.TheOpen as s
-use Rattle.sc_nodes.specs.declared.node.BinaryOp.TheVariants.{Member}
+use Rattle.sc_sorts.specs.declared.node.BinaryOp.TheVariants.{Member}
 use Rattle.sc_bits.specs.Bits.{of_bits64}
 use Rattle.sc_bits.specs.Addresses.{ip_of}
 use Rattle.sc_terms.specs.Trees.{Tree, two}

@@ -12,7 +12,7 @@ use Rattle.sc_sorts.specs.declared.sort.Sort.TheVariants as sort
 use Rattle.sc_sorts.specs.declared.sort.Sort.TheVariants.{rolls-Entity}
 use Rattle.sc_sorts.specs.declared.sort.Sort.TheOpen as s
 use Rattle.sc_sorts.proofs.OutLaws.{out_String, out_Entity}
-use Rattle.sc_nodes.specs.declared.node.Literal.TheVariants as literals
+use Rattle.sc_sorts.specs.declared.node.Literal.TheVariants as literals
 use Rattle.sc_terms.specs.Folds.{literal_term}
 use Rattle.sc_terms.specs.Trees.{Tree}
 use Rattle.sc_terms.specs.TreeSorts.{tree_sort}
@@ -23,15 +23,15 @@ use Rattle.sc_rule_laws.proofs.MemberLaws.{filter_within, filter_passes, filter_
 use Rattle.sc_footprint.specs.Closure.{Closed}
 use Rattle.sc_footprint.specs.Problems.{Posed, IsPosed, goal_term, closed_terms, numbered, number_among}
 use Rattle.sc_footprint.proofs.NumberingLaws.{numbered_map, numbered_back}
-use Rattle.sc_string_names.specs.Models.{truth_in, name_in, model}
+use Rattle.sc_model_names.specs.Models.{truth_in, name_in, model}
 use Rattle.sc_model_laws.specs.Consistent.{IsConsistent}
 use Rattle.sc_model_laws.specs.Laws.{HasModel}
 use Rattle.sc_model_laws.specs.Models.{IsModel}
 use Rattle.sc_model_laws.specs.Names.{Name, Named, literal_id, are_equal, or_fresh, name_in as found_in, text_of, id_of, model_of}
 use Rattle.sc_model_laws.proofs.ModelLaws.{id_is}
-use Rattle.sc_string_names.specs.Naming.{AreStringNames}
-use Rattle.sc_string_names.specs.Numbers.{Entry, named_terms}
-use Rattle.sc_string_names.proofs.NamingLaws.{listed}
+use Rattle.sc_model_names.specs.Naming.{AreStringNames}
+use Rattle.sc_model_names.specs.Numbers.{Entry, named_terms}
+use Rattle.sc_model_names.proofs.NamingLaws.{listed}
 use Rattle.sc_model_names.specs.Ids.{entity_level, is_entity, entities, is_same, ids_of}
 use Rattle.sc_model_names.specs.Namings.{name_by, name_of_term}
 use Rattle.sc_model_names.proofs.IdLaws.{ids_told, literal_told}

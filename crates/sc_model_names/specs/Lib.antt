@@ -1,2 +1,9 @@
+pub use Rattle.sc_model_values.specs.Models
+pub mod Truths
+pub mod Numbers
+pub mod Patterns
+pub mod Classes
+pub mod Tables
+pub mod Naming
 pub mod Ids
 pub mod Namings

@@ -1,19 +1,19 @@
 //! The ids of entities.
 ghost use Rattle.std.specs.Prelude.{◌≡◌, ◌&&◌, ◌<◌, length, map, IfOk};
 ghost use Rattle.std.specs.Option.{option_copied};
-ghost use Rattle.sc_string_names.specs.Models.{truth_in};
+ghost use Rattle.sc_model_names.specs.Models.{truth_in};
 ghost use Rattle.sc_model_names.specs.Ids.{is_entity as is_entity_term, entities as entities_of, id_entries, is_same as is_same_term, next_id as id_after, identified, ids_of as entity_ids};
 ghost use Rattle.sc_model_laws.specs.Names.{literal_id, name_in};
-ghost use Rattle.sc_string_names.specs.Numbers.{AreIn, HaveTerms, named_terms};
+ghost use Rattle.sc_model_names.specs.Numbers.{AreIn, HaveTerms, named_terms};
 ghost use Rattle.sc_terms.specs.Tables.{tree};
 
 use crate::numerals::least_id;
+use crate::truth::is_equal;
 use sc_clauses::Assignment;
 use sc_footprint::Problem;
 use sc_lists::{Seq, Text};
-use sc_nodes::{Leaf, Literal, Node};
-use sc_sorts::Sort;
-use sc_string_names::{is_equal, is_one_sort};
+use sc_rule_instances::is_one_sort;
+use sc_sorts::{Leaf, Literal, Node, Sort};
 use std::alloc::{AllocError, Global};
 
 fn is_entity(problem: &Problem<'_>, n: u64) -> bool

@@ -4,22 +4,24 @@ ghost use Rattle.std.specs.List.{AllByRecursion};
 ghost use Rattle.std.specs.Option.{option_copied};
 ghost use Rattle.std.specs.Str.{IsUtf8};
 ghost use Rattle.sc_footprint.specs.Problems.{goal_term};
-ghost use Rattle.sc_string_names.specs.Models.{truth_in, model};
+ghost use Rattle.sc_model_names.specs.Models.{truth_in, model};
 ghost use Rattle.sc_model_names.specs.Ids.{is_same};
 ghost use Rattle.sc_model_names.specs.Namings.{name_of_term};
 ghost use Rattle.sc_model_laws.specs.Consistent.{IsConsistent};
 ghost use Rattle.sc_model_laws.specs.Models.{IsModel};
 ghost use Rattle.sc_model_laws.specs.Names.{or_fresh, name_in as name_among, are_equal};
-ghost use Rattle.sc_string_names.specs.Numbers.{AreIn, HaveTerms, named_terms};
+ghost use Rattle.sc_model_names.specs.Numbers.{AreIn, HaveTerms, named_terms};
 ghost use Rattle.sc_terms.specs.Tables.{tree};
 
 use crate::ids::{id_in, ids_of};
+use crate::names::name_in;
+use crate::numbers::closed_numbers;
+use crate::strings::string_names;
 use sc_clauses::Assignment;
 use sc_footprint::Problem;
 use sc_lists::{Seq, Text};
 use sc_model_laws::model_laws;
 use sc_sorts::Sort;
-use sc_string_names::{closed_numbers, name_in, string_names};
 use std::alloc::{AllocError, Global};
 
 /// A name, or else the empty text.

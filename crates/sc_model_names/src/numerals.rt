@@ -3,13 +3,13 @@ ghost use Rattle.std.specs.Prelude.{◌≡◌, ◌&&◌, ◌<◌, decimal, lengt
 ghost use Rattle.sc_model_names.specs.Ids.{is_id as is_id_of, least_id as least_id_of};
 ghost use Rattle.sc_rule_laws.specs.Terms.{one_sort};
 ghost use Rattle.std.specs.Str.{bytes_eq};
-ghost use Rattle.sc_string_names.specs.Numbers.{HaveTerms, named_terms};
+ghost use Rattle.sc_model_names.specs.Numbers.{HaveTerms, named_terms};
 ghost use Rattle.sc_terms.specs.Tables.{tree};
 
 use itoa::Buffer;
 use sc_footprint::Problem;
 use sc_lists::Text;
-use sc_string_names::is_one_sort;
+use sc_rule_instances::is_one_sort;
 use std::alloc::{AllocError, Global};
 
 /// A number in decimal.

@@ -9,7 +9,7 @@ use Rattle.sc_clauses.specs.Assignments as clauses
 use Rattle.sc_sorts.specs.declared.sort.Sort.{Sort}
 use Rattle.sc_sorts.specs.declared.sort.Sort.TheVariants as sort
 use Rattle.sc_sorts.specs.Inside.{member_sort}
-use Rattle.sc_nodes.specs.declared.node.BinaryOp.TheVariants as binary
+use Rattle.sc_sorts.specs.declared.node.BinaryOp.TheVariants as binary
 use Rattle.sc_terms.specs.Trees.{Tree, two}
 use Rattle.sc_terms.specs.TreeSorts.{tree_sort}
 use Rattle.sc_terms.specs.Tables.{tree, IsTable}
@@ -21,8 +21,8 @@ use Rattle.sc_term_laws.proofs.TestLaws.{set_sort}
 use Rattle.sc_footprint.specs.Closure.{Closed}
 use Rattle.sc_footprint.specs.Problems.{Posed, IsPosed, goal_term, closed_terms, numbered}
 use Rattle.sc_footprint.specs.Theories.{ClosedAreTerms}
-use Rattle.sc_models.specs.Models.{model, truth_in}
-use Rattle.sc_model_value_laws.proofs.ClosureLaws.{of_part}
+use Rattle.sc_model_values.specs.Models.{model, truth_in}
+use Rattle.sc_model_laws.proofs.ClosureLaws.{of_part}
 use Rattle.sc_model_laws.specs.Assignments.{Assignment, lit}
 use Rattle.sc_model_laws.specs.Vals.{assigned, member_in}
 use Rattle.sc_rule_instances.proofs.PartLaws.{drop_at, drop_end, number_suc}

@@ -1,4 +1,17 @@
-pub use Rattle.sc_model_value_laws.proofs.SortedVals
+pub use Rattle.sc_model_laws.proofs.SortedVals
+mod ClauseTruths
+mod LiteralTruths
+mod ShapeLaws
+mod DefinitionTruths
+mod PartSorts
+mod EqualParts
+mod SetParts
+mod PlaceParts
+mod EntityParts
+mod RuleTruths
+pub mod WrittenStrings
+mod StringTruths
+pub mod ConsistentLaws
 mod TruthLaws
 mod PlaceLaws
 mod InsideLaws

@@ -4,14 +4,14 @@ use Rattle.sc_laws.proofs.BoolLaws.{not_not}
 use Rattle.sc_clauses.specs.Assignments.{value_of}
 use Rattle.sc_clauses.specs.Assignments as assigned
 use Rattle.sc_clauses.specs.declared.lit.Lit.{Lit}
-use Rattle.sc_nodes.specs.declared.node.Leaf.TheVariants.{Literal}
-use Rattle.sc_nodes.specs.declared.node.Literal.TheVariants.{Bool as bool}
-use Rattle.sc_nodes.specs.declared.node.UnaryOp.TheVariants.{Not}
+use Rattle.sc_sorts.specs.declared.node.Leaf.TheVariants.{Literal}
+use Rattle.sc_sorts.specs.declared.node.Literal.TheVariants.{Bool as bool}
+use Rattle.sc_sorts.specs.declared.node.UnaryOp.TheVariants.{Not}
 use Rattle.sc_terms.specs.Trees.{Tree, leaf, one}
 use Rattle.sc_terms.specs.Folds.{constant, under_not}
 use Rattle.sc_footprint.specs.Problems.{Posed, atom_number, literal_in}
 use Rattle.sc_rule_instances.proofs.LiteralLaws.{IsLiteral, of_false, of_not, of_atom, literal_is}
-use Rattle.sc_models.specs.Models.{truth_in}
+use Rattle.sc_model_values.specs.Models.{truth_in}
 use Rattle.sc_model_laws.specs.Assignments.{Assignment, lit}
 
 -- turned round, where it is negated

@@ -23,8 +23,8 @@ use Rattle.sc_terms.specs.Trees.{Tree}
 use Rattle.sc_terms.specs.Folds.{bit_term, field_term, held_term, present_term}
 use Rattle.sc_terms.specs.Values.{Val, it, maybe, value_in, field_of, set_from}
 use Rattle.sc_footprint.specs.Problems.{Posed}
-use Rattle.sc_models.specs.Models.{model, name_in, truth_in}
-use Rattle.sc_model_value_laws.proofs.SortedVals.{val_at, record_val}
+use Rattle.sc_model_values.specs.Models.{model, name_in, truth_in}
+use Rattle.sc_model_laws.proofs.SortedVals.{val_at, record_val}
 use Rattle.sc_model_laws.specs.Assignments.{lit}
 use Rattle.sc_model_laws.specs.Vals.{assigned, val_of, val_step, held_by}
 use Rattle.sc_model_values.specs.Values.{shown}

@@ -4,7 +4,7 @@ ghost use Rattle.sc_model_values.specs.Parts.{IsOf};
 ghost use Rattle.sc_bits.specs.Addresses.{ip_of};
 ghost use Rattle.sc_bits.specs.Bits.{of_bits64};
 ghost use Rattle.sc_term_definitions.specs.Definitions.{bit_count, counted};
-ghost use Rattle.sc_models.specs.Models.{truth_in};
+ghost use Rattle.sc_model_values.specs.Models.{truth_in};
 ghost use Rattle.sc_model_laws.specs.Assignments.{lit};
 ghost use Rattle.sc_sorts.specs.declared.sort.Sort.TheVariants as sorts;
 ghost use Rattle.sc_terms.specs.Folds.{bit_term};

@@ -1,14 +1,16 @@
-//! The value of a closed term under an assignment of a problem's atoms, with names for its strings
-//! and entities, as `sc_models` says what an assignment tells.
+//! What an assignment of a problem's atoms says of its closed terms: their truths, which are consistent where it
+//! falsifies nothing, and with names for strings and entities the value of each.
 #![tactic(auto)]
 
 mod bits;
+mod law;
 mod members;
 mod names;
 mod parts;
 mod truth;
 mod values;
 
+pub use law::model_laws;
 pub use members::assigned_of;
 pub use names::{name_at, uid_of};
 pub use values::value_of;

@@ -1,7 +1,7 @@
 //! The members that an assignment gives to a set.
 ghost use Rattle.std.specs.Prelude.{◌≡◌, ◌++◌, ◌<◌, ℕ, List, length, map, IfOk, OnOk};
 ghost use Rattle.std.specs.List.{AllByRecursion};
-ghost use Rattle.sc_models.specs.Models.{model, truth_in};
+ghost use Rattle.sc_model_values.specs.Models.{model, truth_in};
 ghost use Rattle.sc_model_laws.specs.Vals.{assigned, member_in};
 ghost use Rattle.sc_terms.specs.Tables.{tree};
 
@@ -9,8 +9,8 @@ use crate::truth::truth;
 use sc_clauses::Assignment;
 use sc_footprint::Problem;
 use sc_lists::Seq;
-use sc_nodes::{BinaryOp, Node};
 use sc_rule_instances::closed_at;
+use sc_sorts::{BinaryOp, Node};
 use std::alloc::{AllocError, Global};
 
 /// Puts what a term says is a member of a set, if it says so and is true.

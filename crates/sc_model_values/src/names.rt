@@ -2,7 +2,7 @@
 ghost use Rattle.std.specs.Prelude.{◌≡◌, ◌<◌, [], length, unwrap_or, IfOk};
 ghost use Rattle.sc_clauses.specs.Assignments.{Assignment as AnyAssignment};
 ghost use Rattle.sc_footprint.specs.Problems.{closed_terms, number_among, numbered};
-ghost use Rattle.sc_models.specs.Models.{model, name_in};
+ghost use Rattle.sc_model_values.specs.Models.{model, name_in};
 ghost use Rattle.sc_term_laws.specs.Tests.{name_of};
 ghost use Rattle.sc_terms.specs.Tables.{tree};
 ghost use Rattle.sc_terms.specs.TreeSorts.{tree_sort};

@@ -1,7 +1,7 @@
 //! The truth that an assignment gives to terms.
 ghost use Rattle.std.specs.Prelude.{◌≡◌, ◌<◌, false, length, None, IfSome, option_map, unwrap_or};
 ghost use Rattle.sc_clauses.specs.Assignments.{value_of};
-ghost use Rattle.sc_models.specs.Models.{truth_in};
+ghost use Rattle.sc_model_values.specs.Models.{truth_in};
 ghost use Rattle.sc_model_laws.specs.Assignments.{lit};
 ghost use Rattle.sc_terms.specs.Folds.{under_not as inside_not};
 ghost use Rattle.sc_terms.specs.Tables.{tree};

@@ -6,7 +6,7 @@ ghost use Rattle.sc_model_values.specs.Values.{shown};
 ghost use Rattle.sc_bits.specs.Addresses.{ip_of};
 ghost use Rattle.sc_bits.specs.Bits.{of_bits64};
 ghost use Rattle.sc_clauses.specs.Assignments.{Assignment as AnyAssignment};
-ghost use Rattle.sc_models.specs.Models.{model, name_in, truth_in};
+ghost use Rattle.sc_model_values.specs.Models.{model, name_in, truth_in};
 ghost use Rattle.sc_model_laws.specs.Assignments.{lit};
 ghost use Rattle.sc_model_laws.specs.Vals.{assigned, val_of};
 ghost use Rattle.sc_sorts.specs.declared.sort.Sort.{Sort as AnySort};

@@ -35,9 +35,9 @@ use Rattle.sc_sorts.specs.Defaults.{is_option, default_of}
 use Rattle.sc_sorts.specs.Entities.{choices_of, entity_sort}
 use Rattle.sc_sorts.specs.Inside.{SortFields}
 use Rattle.sc_sorts.specs.OfTypes.{sort_of}
-use Rattle.sc_nodes.specs.declared.node.Leaf.TheVariants as leafs
-use Rattle.sc_nodes.specs.declared.node.UnaryOp.TheVariants as unary
-use Rattle.sc_nodes.specs.declared.node.BinaryOp.TheVariants as binary
+use Rattle.sc_sorts.specs.declared.node.Leaf.TheVariants as leafs
+use Rattle.sc_sorts.specs.declared.node.UnaryOp.TheVariants as unary
+use Rattle.sc_sorts.specs.declared.node.BinaryOp.TheVariants as binary
 use Rattle.sc_terms.specs.Trees.{Tree, leaf, one, two}
 use Rattle.sc_terms.specs.TreeSorts.{tree_sort}
 use Rattle.sc_terms.specs.Values.{fields_seen, value_in, record_in}
@@ -54,11 +54,11 @@ use Rattle.sc_closure_rules.specs.Closure.{Closed}
 use Rattle.sc_closure_rules.specs.Goals.{IsGoal}
 use Rattle.sc_model_laws.specs.Vals.{Model, assigned, val_of}
 use Rattle.sc_model_laws.specs.Models.{IsModel}
-use Rattle.sc_model_value_laws.specs.Laws.{AreNamesIn}
-use Rattle.sc_model_value_laws.proofs.ConformingLaws.{fits_conforms}
-use Rattle.sc_model_value_laws.proofs.DefaultLaws.{nothing}
-use Rattle.sc_model_value_laws.proofs.EntityLaws.{of_attributes, of_keys, of_tag, attributes_sort, ancestors_sort, keys_sort, tag_sort, named_type}
-use Rattle.sc_model_value_laws.proofs.FittingLaws.{AreMade, assigned_sorted, values_fit, uid_text}
+use Rattle.sc_model_laws.specs.ValueLaws.{AreNamesIn}
+use Rattle.sc_model_laws.proofs.ConformingLaws.{fits_conforms}
+use Rattle.sc_model_laws.proofs.DefaultLaws.{nothing}
+use Rattle.sc_model_laws.proofs.EntityLaws.{of_attributes, of_keys, of_tag, attributes_sort, ancestors_sort, keys_sort, tag_sort, named_type}
+use Rattle.sc_model_laws.proofs.FittingLaws.{AreMade, assigned_sorted, values_fit, uid_text}
 use Rattle.sc_model_world_laws.specs.Laws.{AreTexts}
 use Rattle.sc_model_world_laws.specs.Rebuilt.{first_said, attributes_said, ancestors_said, keys_said, tag_said, context_said, in_order, tag_default, tag_at, data_of, given_from}
 use Rattle.sc_model_world_laws.proofs.FirstLaws.{said_each}

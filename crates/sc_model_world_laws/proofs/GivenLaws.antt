@@ -28,7 +28,7 @@ use Rattle.sc_closure_rules.specs.Closure.{Closed}
 use Rattle.sc_closure_rules.specs.Goals.{IsGoal}
 use Rattle.sc_model_laws.specs.Vals.{Model}
 use Rattle.sc_model_laws.specs.Models.{IsModel}
-use Rattle.sc_model_value_laws.proofs.FittingLaws.{AreMade, lawful_at}
+use Rattle.sc_model_laws.proofs.FittingLaws.{AreMade, lawful_at}
 use Rattle.sc_model_world_laws.specs.Rebuilt.{entity_said, data_of, given_from, given_of}
 use Rattle.sc_model_world_laws.proofs.SaidLaws.{entity_told, says_entity}
 

@@ -12,14 +12,14 @@ use Rattle.sc_world.specs.Conforms.{conforms}
 use Rattle.sc_world.specs.Named.{IsRequestAmong}
 use Rattle.sc_sorts.specs.declared.sort.Sort.{Sort}
 use Rattle.sc_sorts.specs.Entities.{choices_of, entity_sort}
-use Rattle.sc_nodes.specs.declared.node.Leaf.TheVariants as leafs
+use Rattle.sc_sorts.specs.declared.node.Leaf.TheVariants as leafs
 use Rattle.sc_terms.specs.Trees.{Tree, leaf}
 use Rattle.sc_terms.specs.TreeSorts.{tree_sort}
 use Rattle.sc_closure_rules.specs.Closure.{principal_term, resource_term}
 use Rattle.sc_closure_rules.specs.Goals.{IsGoal}
 use Rattle.sc_model_laws.specs.Vals.{Model}
 use Rattle.sc_model_laws.specs.Models.{IsModel}
-use Rattle.sc_model_value_laws.proofs.FittingLaws.{AreMade}
+use Rattle.sc_model_laws.proofs.FittingLaws.{AreMade}
 use Rattle.sc_model_world_laws.specs.Laws.{AreTexts}
 use Rattle.sc_model_world_laws.specs.Rebuilt.{request_of}
 use Rattle.sc_model_world_laws.proofs.EntryLaws.{context_of_type}

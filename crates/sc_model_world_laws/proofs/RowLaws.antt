@@ -43,11 +43,11 @@ use Rattle.sc_sorts.specs.Inside.{SortFields, name_in}
 use Rattle.sc_sorts.specs.OfTypes.{sort_of}
 use Rattle.sc_sorts.proofs.DefaultLaws as plain
 use Rattle.sc_sorts.proofs.OutLaws.{out_String, out_Entity}
-use Rattle.sc_nodes.specs.declared.node.Leaf.{Leaf}
-use Rattle.sc_nodes.specs.declared.node.Leaf.TheVariants as leafs
-use Rattle.sc_nodes.specs.declared.node.UnaryOp.{UnaryOp}
-use Rattle.sc_nodes.specs.declared.node.UnaryOp.TheVariants as unary
-use Rattle.sc_nodes.specs.declared.node.BinaryOp.TheVariants as binary
+use Rattle.sc_sorts.specs.declared.node.Leaf.{Leaf}
+use Rattle.sc_sorts.specs.declared.node.Leaf.TheVariants as leafs
+use Rattle.sc_sorts.specs.declared.node.UnaryOp.{UnaryOp}
+use Rattle.sc_sorts.specs.declared.node.UnaryOp.TheVariants as unary
+use Rattle.sc_sorts.specs.declared.node.BinaryOp.TheVariants as binary
 use Rattle.sc_terms.specs.Trees.{Tree, leaf, one, two}
 use Rattle.sc_terms.specs.TreeSorts.{tree_sort}
 use Rattle.sc_terms.specs.Values.{Val, it, val, value_in, uid_in, uid_seen, text_in, text_seen, record_in, fields_seen, set_from, default_by, attributes_value, ancestors_value, keys_value, tag_value}
@@ -67,12 +67,12 @@ use Rattle.sc_model_laws.specs.Laws.{EquationsAgree}
 use Rattle.sc_model_laws.specs.Models.{IsModel}
 use Rattle.sc_model_laws.specs.Rows.{IsRight, HoldsModel, is_variable, is_stored}
 use Rattle.sc_model_laws.specs.Vals.{Model, assigned, val_of}
-use Rattle.sc_model_value_laws.proofs.ActionLaws.{named_choice, is_action, action_members}
-use Rattle.sc_model_value_laws.proofs.ClosureLaws.{of_part, tag_keys, tag_key}
-use Rattle.sc_model_value_laws.proofs.DefaultLaws.{AreAddresses}
-use Rattle.sc_model_value_laws.proofs.EntityLaws.{OfAncestors, of_attributes, of_ancestors, of_keys, of_tag, attributes_sort, ancestors_sort, keys_sort, tag_sort, true_member, named_type, ancestors_move, keys_move, text_key, one_attributes, one_tag, absent_tag}
-use Rattle.sc_model_value_laws.proofs.FittingLaws.{AreMade, assigned_sorted}
-use Rattle.sc_model_value_laws.proofs.SortedVals.{val_at, entity_val, set_val, record_val, fields_at}
+use Rattle.sc_model_laws.proofs.ActionLaws.{named_choice, is_action, action_members}
+use Rattle.sc_model_laws.proofs.ClosureLaws.{of_part, tag_keys, tag_key}
+use Rattle.sc_model_laws.proofs.DefaultLaws.{AreAddresses}
+use Rattle.sc_model_laws.proofs.EntityLaws.{OfAncestors, of_attributes, of_ancestors, of_keys, of_tag, attributes_sort, ancestors_sort, keys_sort, tag_sort, true_member, named_type, ancestors_move, keys_move, text_key, one_attributes, one_tag, absent_tag}
+use Rattle.sc_model_laws.proofs.FittingLaws.{AreMade, assigned_sorted}
+use Rattle.sc_model_laws.proofs.SortedVals.{val_at, entity_val, set_val, record_val, fields_at}
 use Rattle.sc_model_world_laws.specs.Rebuilt.{attributes_said, keys_said, tag_said, context_said, tag_default, tag_at, data_of, request_of, IsRebuilt}
 use Rattle.sc_model_world_laws.proofs.EntryLaws.{is_ancestor, ancestor_is, ancestors_ascend, keys_at, is_key, keys_ascend, context_of_term, context_sort}
 use Rattle.sc_model_world_laws.proofs.FirstLaws.{said_is}

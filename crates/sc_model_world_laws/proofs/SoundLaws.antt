@@ -26,15 +26,15 @@ use Rattle.sc_world.specs.Conforms.{conforms}
 use Rattle.sc_world.specs.Sound.{IsSoundEntry, AreSound}
 use Rattle.sc_world.specs.Stores.{stored}
 use Rattle.sc_world.specs.WellFormed.{Entry, IsProperEntry}
-use Rattle.sc_nodes.specs.declared.node.UnaryOp.TheVariants as unary
+use Rattle.sc_sorts.specs.declared.node.UnaryOp.TheVariants as unary
 use Rattle.sc_terms.specs.Trees.{Tree, one}
 use Rattle.sc_terms.specs.TreeSorts.{tree_sort}
 use Rattle.sc_closure_rules.specs.Goals.{IsGoal}
 use Rattle.sc_model_laws.specs.Laws.{EquationsAgree}
 use Rattle.sc_model_laws.specs.Vals.{Model}
 use Rattle.sc_model_laws.specs.Models.{IsModel}
-use Rattle.sc_model_value_laws.proofs.EntityLaws.{OfAncestors, of_ancestors, ancestors_sort, named_type, acyclic, transitive}
-use Rattle.sc_model_value_laws.proofs.FittingLaws.{AreMade, assigned_sorted}
+use Rattle.sc_model_laws.proofs.EntityLaws.{OfAncestors, of_ancestors, ancestors_sort, named_type, acyclic, transitive}
+use Rattle.sc_model_laws.proofs.FittingLaws.{AreMade, assigned_sorted}
 use Rattle.sc_model_world_laws.specs.Laws.{AreTexts}
 use Rattle.sc_model_world_laws.specs.Rebuilt.{entity_said, tag_at, data_of, given_of}
 use Rattle.sc_model_world_laws.proofs.EntryLaws.{IsAncestor, is_ancestor, ancestor_is, ancestors_ascend, keys_at, keys_ascend, tag_keys_are, no_keys, uid_is_text, entity_text, attributes_of_type, tags_of_type, key_text}

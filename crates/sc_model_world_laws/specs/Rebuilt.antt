@@ -19,9 +19,9 @@ use Rattle.sc_world.specs.Given.{AreAsGiven, StoresNamedWith}
 use Rattle.sc_world.specs.Stores.{Entities, IsMap, with_entity}
 use Rattle.sc_sorts.specs.declared.sort.Sort.{Sort, Sort-F, out-Sort}
 use Rattle.sc_sorts.specs.declared.sort.Sort.TheOpen as s
-use Rattle.sc_nodes.specs.declared.node.Leaf.TheVariants.{Context}
-use Rattle.sc_nodes.specs.declared.node.UnaryOp.TheVariants as unary
-use Rattle.sc_nodes.specs.declared.node.BinaryOp.TheVariants as binary
+use Rattle.sc_sorts.specs.declared.node.Leaf.TheVariants.{Context}
+use Rattle.sc_sorts.specs.declared.node.UnaryOp.TheVariants as unary
+use Rattle.sc_sorts.specs.declared.node.BinaryOp.TheVariants as binary
 use Rattle.sc_terms.specs.Trees.{Tree, leaf, one, two}
 use Rattle.sc_terms.specs.TreeSorts.{tree_sort}
 use Rattle.sc_terms.specs.Values.{value_in, record_in}

@@ -18,7 +18,7 @@ use Rattle.sc_terms.specs.Trees.{Tree}
 use Rattle.sc_terms.specs.TreeSorts.{tree_sort}
 use Rattle.sc_terms.specs.Tables.{tree}
 use Rattle.sc_footprint.specs.Problems.{Posed}
-use Rattle.sc_models.specs.Models.{model}
+use Rattle.sc_model_values.specs.Models.{model}
 use Rattle.sc_model_laws.specs.Vals.{Model}
 use Rattle.sc_model_world_laws.specs.Rebuilt.{first_said, attributes_said, ancestors_said, keys_said, in_order, data_of, entity_by, entity_said, given_from, given_of}
 use Rattle.sc_model_worlds.specs.Saying.{uid_in}

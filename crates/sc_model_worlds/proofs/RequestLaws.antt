@@ -9,7 +9,7 @@ use Rattle.sc_schema.specs.Declarations.{Declarations, context_of}
 use Rattle.sc_values.specs.Records.{Fields}
 use Rattle.sc_world.specs.Defaults.{default_fields}
 use Rattle.sc_sorts.specs.declared.sort.Sort.{Sort}
-use Rattle.sc_nodes.specs.declared.node.Leaf.TheVariants as leafs
+use Rattle.sc_sorts.specs.declared.node.Leaf.TheVariants as leafs
 use Rattle.sc_terms.specs.Trees.{Tree, leaf}
 use Rattle.sc_terms.specs.TreeSorts.{tree_sort}
 use Rattle.sc_terms.specs.Tables.{tree}
@@ -21,7 +21,7 @@ use Rattle.sc_footprint.specs.Problems.{Posed, IsPosed, goal_term, closed_terms}
 use Rattle.sc_footprint.specs.Theories.{ClosedAreTerms}
 use Rattle.sc_model_worlds.specs.declared.sought.Sought.{Sought}
 use Rattle.sc_model_worlds.specs.declared.sought.Sought.TheVariants.{Principal, Resource}
-use Rattle.sc_models.specs.Models.{model}
+use Rattle.sc_model_values.specs.Models.{model}
 use Rattle.sc_model_world_laws.specs.Rebuilt.{first_said, context_said, request_of}
 use Rattle.sc_model_worlds.specs.Listed.{IsListed}
 use Rattle.sc_model_worlds.specs.Saying.{says, first_saying, is_principal, is_resource, uid_in}

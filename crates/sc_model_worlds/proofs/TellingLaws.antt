@@ -5,10 +5,10 @@ use Rattle.sc_clauses.specs.Assignments.{Assignment}
 use Rattle.sc_names.specs.declared.uid.Uid.{Uid}
 use Rattle.sc_schema.specs.Declarations.{uid_eq}
 use Rattle.sc_sorts.specs.declared.sort.Sort.{Sort}
-use Rattle.sc_nodes.specs.declared.node.UnaryOp.TheVariants as unary
+use Rattle.sc_sorts.specs.declared.node.UnaryOp.TheVariants as unary
 use Rattle.sc_terms.specs.Trees.{Tree, one}
 use Rattle.sc_footprint.specs.Problems.{Posed}
-use Rattle.sc_models.specs.Models.{model, name_in}
+use Rattle.sc_model_values.specs.Models.{model, name_in}
 use Rattle.sc_model_laws.specs.Vals.{assigned}
 use Rattle.sc_model_world_laws.specs.Rebuilt.{ancestors_said, keys_said}
 use Rattle.sc_model_worlds.specs.Saying.{uid_in}

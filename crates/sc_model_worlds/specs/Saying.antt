@@ -4,15 +4,15 @@ use Rattle.std.specs.Str.{bytes_eq}
 use Rattle.sc_names.specs.declared.uid.Uid.{Uid}
 use Rattle.sc_schema.specs.Declarations.{uid_eq}
 use Rattle.sc_sorts.specs.declared.sort.Sort.{Sort}
-use Rattle.sc_nodes.specs.declared.node.Leaf.TheVariants as leafs
-use Rattle.sc_nodes.specs.declared.node.UnaryOp.TheVariants as unary
-use Rattle.sc_nodes.specs.declared.node.BinaryOp.TheVariants as binary
+use Rattle.sc_sorts.specs.declared.node.Leaf.TheVariants as leafs
+use Rattle.sc_sorts.specs.declared.node.UnaryOp.TheVariants as unary
+use Rattle.sc_sorts.specs.declared.node.BinaryOp.TheVariants as binary
 use Rattle.sc_terms.specs.Trees.{Tree, leaf, one, two}
 use Rattle.sc_terms.specs.TreeSorts.{tree_sort}
 use Rattle.sc_terms.specs.Tables.{tree}
 use Rattle.sc_term_laws.specs.Tests.{name_of}
 use Rattle.sc_footprint.specs.Problems.{Posed}
-use Rattle.sc_models.specs.Models.{name_in}
+use Rattle.sc_model_values.specs.Models.{name_in}
 use Rattle.sc_model_worlds.specs.declared.sought.Sought.{Sought}
 use Rattle.sc_model_worlds.specs.declared.sought.Sought.TheVariants.{Principal, Resource, Context, Attributes, Tag}
 

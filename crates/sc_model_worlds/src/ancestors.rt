@@ -3,7 +3,7 @@ ghost use Rattle.std.specs.Prelude.{◌≡◌, ◌++◌, ◌<◌, flat_map, leng
 ghost use Rattle.std.specs.List.{AllByRecursion};
 ghost use Rattle.sc_model_worlds.specs.Listed.{AreListed, IsListed};
 ghost use Rattle.sc_model_worlds.specs.Saying.{uid_in};
-ghost use Rattle.sc_models.specs.Models.{model};
+ghost use Rattle.sc_model_values.specs.Models.{model};
 ghost use Rattle.sc_names.specs.Uids.{uid_cmp};
 ghost use Rattle.sc_model_laws.specs.Vals.{assigned};
 ghost use Rattle.sc_model_world_laws.specs.Rebuilt.{ancestors_said, in_order as ordered};
@@ -17,7 +17,7 @@ use sc_footprint::Problem;
 use sc_lists::{Seq, Text};
 use sc_model_values::assigned_of;
 use sc_names::Uid;
-use sc_nodes::{Node, UnaryOp};
+use sc_sorts::{Node, UnaryOp};
 use std::alloc::{AllocError, Global};
 
 /// Puts the entities of terms at the end of a list.
@@ -56,7 +56,7 @@ fn put_assigned(
 }
 
 /// Puts the ancestors of an entity that a closed term tells.
-#[tactic(auto, unfolding(sc_models::specs::Models::model))]
+#[tactic(auto, unfolding(sc_model_values::specs::Models::model))]
 fn put_ancestors(
     alloc: Global,
     problem: &Problem<'_>,

@@ -3,7 +3,7 @@ ghost use Rattle.std.specs.Prelude.{◌≡◌, map, unwrap_or, IfOk, IfSome};
 ghost use Rattle.sc_model_worlds.specs.Listed.{AreListed, IsListed};
 ghost use Rattle.sc_model_worlds.specs.Saying.{first_saying};
 ghost use Rattle.sc_model_worlds.specs.declared.sought.Sought.TheVariants.{Attributes};
-ghost use Rattle.sc_models.specs.Models.{model};
+ghost use Rattle.sc_model_values.specs.Models.{model};
 ghost use Rattle.sc_model_world_laws.specs.Rebuilt.{attributes_said, first_said};
 ghost use Rattle.sc_terms.specs.Tables.{tree};
 ghost use Rattle.sc_world.specs.Defaults.{default_attrs};

@@ -1,7 +1,7 @@
 //! The context that closed terms tell.
 ghost use Rattle.std.specs.Prelude.{◌≡◌, map, unwrap_or, IfOk};
 ghost use Rattle.sc_model_worlds.specs.Listed.{AreListed};
-ghost use Rattle.sc_models.specs.Models.{model};
+ghost use Rattle.sc_model_values.specs.Models.{model};
 ghost use Rattle.sc_model_world_laws.specs.Rebuilt.{context_said, first_said};
 ghost use Rattle.sc_schema.specs.Declarations as declared;
 ghost use Rattle.sc_terms.specs.Tables.{tree};

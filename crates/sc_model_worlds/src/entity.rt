@@ -1,7 +1,7 @@
 //! What is stored of an entity.
 ghost use Rattle.std.specs.Prelude.{◌≡◌, IfOk};
 ghost use Rattle.sc_model_worlds.specs.Listed.{AreListed};
-ghost use Rattle.sc_models.specs.Models.{model};
+ghost use Rattle.sc_model_values.specs.Models.{model};
 ghost use Rattle.sc_model_world_laws.specs.Rebuilt.{data_of as data_said};
 
 use crate::ancestors::ancestors_of;

@@ -3,7 +3,7 @@ ghost use Rattle.std.specs.Prelude.{◌≡◌, ◌++◌, ◌<◌, flat_map, leng
 ghost use Rattle.sc_model_worlds.specs.Listed.{AreListed, IsListed};
 ghost use Rattle.sc_model_worlds.specs.Saying.{uid_in};
 ghost use Rattle.sc_model_worlds.specs.Telling.{given_sort};
-ghost use Rattle.sc_models.specs.Models.{model};
+ghost use Rattle.sc_model_values.specs.Models.{model};
 ghost use Rattle.sc_model_world_laws.specs.Rebuilt.{entity_by, entity_said, given_from, given_of as given_said};
 ghost use Rattle.sc_sorts.specs.declared.sort.Sort.{out-Sort};
 ghost use Rattle.sc_terms.specs.Tables.{tree};

@@ -3,7 +3,7 @@ ghost use Rattle.std.specs.Prelude.{◌≡◌, IfOk};
 ghost use Rattle.sc_model_worlds.specs.Listed.{AreListed};
 ghost use Rattle.sc_model_worlds.specs.Saying.{uid_in};
 ghost use Rattle.sc_footprint.specs.Closure.{principal_term, resource_term};
-ghost use Rattle.sc_models.specs.Models.{model};
+ghost use Rattle.sc_model_values.specs.Models.{model};
 ghost use Rattle.sc_model_world_laws.specs.Rebuilt.{request_of as request_said};
 
 use crate::context::context_of;

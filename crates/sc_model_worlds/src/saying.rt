@@ -12,8 +12,7 @@ use sc_footprint::Problem;
 use sc_lists::Text;
 use sc_model_values::name_at;
 use sc_names::Uid;
-use sc_nodes::{BinaryOp, Leaf, Node, UnaryOp};
-use sc_sorts::Sort;
+use sc_sorts::{BinaryOp, Leaf, Node, Sort, UnaryOp};
 
 /// The name of an entity's type; of another term the empty one.
 fn type_name<'a>(problem: &'a Problem<'_>, term: u64) -> &'a str

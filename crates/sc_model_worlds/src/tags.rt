@@ -5,7 +5,7 @@ ghost use Rattle.sc_model_worlds.specs.Listed.{AreListed, IsListed};
 ghost use Rattle.sc_model_worlds.specs.Saying.{first_saying};
 ghost use Rattle.sc_model_worlds.specs.Telling.{tag_told};
 ghost use Rattle.sc_model_worlds.specs.declared.sought.Sought.TheVariants.{Tag};
-ghost use Rattle.sc_models.specs.Models.{model, name_in};
+ghost use Rattle.sc_model_values.specs.Models.{model, name_in};
 ghost use Rattle.sc_names.specs.Uids.{text_cmp};
 ghost use Rattle.sc_model_laws.specs.Vals.{assigned};
 ghost use Rattle.sc_model_world_laws.specs.Rebuilt.{in_order as ordered, keys_said};
@@ -21,7 +21,7 @@ use sc_footprint::Problem;
 use sc_lists::{Seq, Text};
 use sc_model_values::{assigned_of, name_at};
 use sc_names::Uid;
-use sc_nodes::{Node, UnaryOp};
+use sc_sorts::{Node, UnaryOp};
 use sc_values::{Rec, Value};
 use std::alloc::{AllocError, Global};
 
@@ -61,7 +61,7 @@ fn put_assigned(
 }
 
 /// Puts the keys of an entity's tags that a closed term tells.
-#[tactic(auto, unfolding(sc_models::specs::Models::model))]
+#[tactic(auto, unfolding(sc_model_values::specs::Models::model))]
 fn put_keys(
     alloc: Global,
     problem: &Problem<'_>,

@@ -1,7 +1,7 @@
 //! Values and records of closed terms.
 ghost use Rattle.std.specs.Prelude.{◌≡◌, unwrap_or, IfOk, false};
 ghost use Rattle.sc_model_worlds.specs.Listed.{IsListed};
-ghost use Rattle.sc_models.specs.Models.{model};
+ghost use Rattle.sc_model_values.specs.Models.{model};
 ghost use Rattle.sc_model_laws.specs.Vals.{val_of};
 ghost use Rattle.sc_sorts.specs.Defaults.{is_option as option_sort};
 ghost use Rattle.sc_terms.specs.Tables.{tree};

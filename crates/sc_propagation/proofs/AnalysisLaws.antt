@@ -20,7 +20,7 @@ use Rattle.sc_propagation.specs.declared.cell.Cell.{Cell}
 use Rattle.sc_propagation.specs.declared.cell.Cell.TheVariants.{Free, Decided, Implied}
 use Rattle.sc_clauses.proofs.LitLaws.{negation_twice, bool_eq-true}
 use Rattle.sc_propagation.proofs.LitLaws.{tail-has, cons-cases}
-use Rattle.sc_watches.proofs.LitLaws.{lit-of, lit-cases}
+use Rattle.sc_propagation.proofs.WatchedLitLaws.{lit-of, lit-cases}
 
 -- a literal that is true before place i + 1 is the one at i, or is true before i
 pub before-cases : (cells : List Cell) (trail : List Lit) → Agree cells trail → (i : ℕ) (l m : Lit) → At trail i l → true_before cells (i + 1) m ≡ true → (l ≡ m) ⊎ (true_before cells i m ≡ true)

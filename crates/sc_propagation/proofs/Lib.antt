@@ -1,3 +1,8 @@
+pub mod WatchedLitLaws
+mod ListedLaws
+pub mod RemovedLaws
+pub mod WatchLaws
+mod MarkLaws
 mod PlaceLaws
 mod NumberLaws
 pub mod LitLaws

@@ -7,7 +7,7 @@ use Rattle.sc_laws.proofs.BoolLaws.{and_first, and_second}
 use Rattle.sc_clauses.specs.Clauses.{Clause, lit_eq, is_in, contained}
 use Rattle.sc_clauses.specs.declared.lit.Lit.{Lit}
 use Rattle.sc_clauses.proofs.LitLaws.{lit_eq-true}
-use Rattle.sc_watches.proofs.LitLaws.{lit-cases}
+use Rattle.sc_propagation.proofs.WatchedLitLaws.{lit-cases}
 
 pub tail-has : {X : Type 0} (x y : X) (xs : List X) → Contains xs y → Contains (x ∷ xs) y
 tail-has x y xs (k, lt, e) = (suc k, omega arith, e)

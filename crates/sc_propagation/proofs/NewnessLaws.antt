@@ -7,7 +7,7 @@ use Rattle.sc_clauses.specs.declared.lit.Lit.{Lit}
 use Rattle.sc_propagation.specs.Propagation.{Follows, assumed, unit, IsNewBy, IsNew}
 use Rattle.sc_propagation.specs.Trails.{IsSingle, IsQuiet, AreQuiet}
 use Rattle.sc_propagation.proofs.LitLaws.{contained-has, has-or-not}
-use Rattle.sc_watches.proofs.LitLaws.{lit-cases}
+use Rattle.sc_propagation.proofs.WatchedLitLaws.{lit-cases}
 
 clash : {P : Type 0} (T : Lit → Bool) (m : Lit) → T (negation m) ≡ true → T (negation m) ≡ false → P
 clash T m e f = absurd (true≢false (sym e ∙ f))

@@ -12,18 +12,18 @@ use Rattle.sc_propagation.proofs.CellLaws.{consistent, before-more, before-at}
 use Rattle.sc_propagation.proofs.LitLaws.{cons-cases}
 use Rattle.sc_propagation.proofs.TrailLaws.{trail-learn}
 use Rattle.sc_propagation.proofs.WatchingLaws.{added-listed, at-cases, open-quiet}
-use Rattle.sc_watches.proofs.WatchLaws.{added-below, added-last}
+use Rattle.sc_propagation.proofs.WatchLaws.{added-below, added-last}
 use Rattle.sc_propagation.specs.Analyses.{IsHighest, IsResolvent}
 use Rattle.sc_propagation.specs.Steps.{At, IsClause, IsShown, Refutes}
 use Rattle.sc_propagation.specs.Trails.{InCells, AreInCells, AllInCells, AreLevels, HoldsTrail, true_before, HasPlace, set_at, Agree, IsTrail}
 use Rattle.sc_propagation.specs.Rooms.{IsOpenPair, IsRoom}
 use Rattle.sc_propagation.specs.Visits.{AreAlive, AreAliveBut, IsWellWatched}
 use Rattle.sc_propagation.specs.Watching.{AreOpen, IsAlive}
-use Rattle.sc_watches.specs.Watches.{IsAdded, watch_of}
+use Rattle.sc_propagation.specs.Watches.{IsAdded, watch_of}
 use Rattle.sc_propagation.specs.declared.room.Room.{Room}
 use Rattle.sc_propagation.specs.declared.trail.Trail.{Trail}
-use Rattle.sc_watches.specs.declared.watches.Watch.{Watch}
-use Rattle.sc_watches.specs.declared.watches.Watches.{Watches}
+use Rattle.sc_propagation.specs.declared.watches.Watch.{Watch}
+use Rattle.sc_propagation.specs.declared.watches.Watches.{Watches}
 use Rattle.sc_propagation.specs.declared.cell.Cell.{Cell}
 use Rattle.sc_propagation.specs.declared.cell.Cell.TheVariants.{Free}
 use Rattle.sc_clauses.proofs.LitLaws.{negation_twice}

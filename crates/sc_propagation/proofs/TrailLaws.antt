@@ -15,7 +15,7 @@ use Rattle.sc_propagation.specs.Steps.{At}
 use Rattle.sc_propagation.specs.Trails.{set_before, cell_of, true_before, set_at, HasPlace, IsQuiet, AreQuiet, IsReason, Agree, IsTrail, InCells, IsChoice, AreAllSet, one_if_free, free_count}
 use Rattle.sc_propagation.specs.declared.cell.Cell.{Cell}
 use Rattle.sc_propagation.specs.declared.cell.Cell.TheVariants.{Free, Decided, Implied}
-use Rattle.sc_watches.proofs.LitLaws.{lit-of}
+use Rattle.sc_propagation.proofs.WatchedLitLaws.{lit-of}
 use Rattle.std.proofs.lemmas.Bool.{cases_eq, cases_lt}
 
 -- the cell has the literal's sign from place p on, and not the other

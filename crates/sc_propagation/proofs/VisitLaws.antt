@@ -10,24 +10,24 @@ use Rattle.sc_clauses.specs.Clauses.{Clause, negation}
 use Rattle.sc_clauses.specs.declared.lit.Lit.{Lit}
 use Rattle.sc_propagation.proofs.AnalysisLaws.{not-lower, trail-in-cells}
 use Rattle.sc_propagation.proofs.CellLaws.{at-before, before-at, before-more, consistent}
-use Rattle.sc_watches.proofs.RemovedLaws.{removed-kept}
+use Rattle.sc_propagation.proofs.RemovedLaws.{removed-kept}
 use Rattle.sc_propagation.proofs.ReadingLaws.{at-end, free-before}
 use Rattle.sc_propagation.proofs.TrailLaws.{before-kept, decided-holds, free-set, implied-holds, trail-imply-to}
 use Rattle.sc_propagation.proofs.WatchingLaws.{rewatched-here, rewatched-listed, rewatched-other, same-clause, sifted-watching, two-open}
-use Rattle.sc_watches.proofs.WatchLaws.{sifted-pairs}
-use Rattle.sc_watches.specs.Lists.{places_of}
+use Rattle.sc_propagation.proofs.WatchLaws.{sifted-pairs}
+use Rattle.sc_propagation.specs.Lists.{places_of}
 use Rattle.sc_propagation.specs.Readings.{AreTwoOpen}
 use Rattle.sc_propagation.specs.Steps.{At}
 use Rattle.sc_propagation.specs.Trails.{Agree, HasPlace, HoldsTrail, InCells, IsReason, cell_of, free_count, true_before}
 use Rattle.sc_propagation.specs.Visits.{AreAlive, AreAliveBut, AreSeen, GoesOn, HasVisited, HasVisitedEach, IsLate, IsSeen, IsSeenBy, IsWaiting, IsWellWatched, KeepsOthers, MayWatch, MovesOn}
 use Rattle.sc_propagation.specs.Watching.{AreAliveAtLevels, AreAliveBy, IsAlive, IsWatching}
-use Rattle.sc_watches.specs.Watches.{IsRewatched, IsSifted, IsWatched, watch_in, watch_of}
+use Rattle.sc_propagation.specs.Watches.{IsRewatched, IsSifted, IsWatched, watch_in, watch_of}
 use Rattle.sc_propagation.specs.declared.cell.Cell.{Cell}
 use Rattle.sc_propagation.specs.declared.cell.Cell.TheVariants.{Free, Decided, Implied}
-use Rattle.sc_watches.specs.declared.lists.Lists.{Lists}
+use Rattle.sc_propagation.specs.declared.lists.Lists.{Lists}
 use Rattle.sc_propagation.specs.declared.trail.Trail.{Trail}
-use Rattle.sc_watches.specs.declared.watches.Watch.{Watch}
-use Rattle.sc_watches.specs.declared.watches.Watches.{Watches}
+use Rattle.sc_propagation.specs.declared.watches.Watch.{Watch}
+use Rattle.sc_propagation.specs.declared.watches.Watches.{Watches}
 
 -- a literal is appended to the trail
 module _ (cells after : List Cell) (trail : List Lit) (l : Lit) (agree : Agree after (trail ++ l ∷ [])) (kept : true_before after (length trail) ≡ true_before cells (length trail)) where

@@ -14,14 +14,14 @@ use Rattle.sc_propagation.specs.Steps.{At}
 use Rattle.sc_propagation.specs.Trails.{AreInCells, AreQuiet, IsQuiet, true_before}
 use Rattle.sc_propagation.specs.Watching.{AreAliveBy, AreListedBy, AreOpen, IsAlive, IsWatching}
 use Rattle.sc_propagation.specs.declared.cell.Cell.{Cell}
-use Rattle.sc_watches.proofs.LitLaws.{lit-cases}
-use Rattle.sc_watches.proofs.RemovedLaws.{removed-has, removed-only}
-use Rattle.sc_watches.proofs.WatchLaws.{longer-below, longer-beyond, set-watch-here, set-watch-other}
-use Rattle.sc_watches.specs.Lists.{places_of}
-use Rattle.sc_watches.specs.Watches.{AreUnset, IsAdded, IsRewatched, IsSifted, IsWatched, watch_in, watch_of}
-use Rattle.sc_watches.specs.declared.lists.Lists.{Lists}
-use Rattle.sc_watches.specs.declared.watches.Watch.{Watch}
-use Rattle.sc_watches.specs.declared.watches.Watches.{Watches}
+use Rattle.sc_propagation.proofs.WatchedLitLaws.{lit-cases}
+use Rattle.sc_propagation.proofs.RemovedLaws.{removed-has, removed-only}
+use Rattle.sc_propagation.proofs.WatchLaws.{longer-below, longer-beyond, set-watch-here, set-watch-other}
+use Rattle.sc_propagation.specs.Lists.{places_of}
+use Rattle.sc_propagation.specs.Watches.{AreUnset, IsAdded, IsRewatched, IsSifted, IsWatched, watch_in, watch_of}
+use Rattle.sc_propagation.specs.declared.lists.Lists.{Lists}
+use Rattle.sc_propagation.specs.declared.watches.Watch.{Watch}
+use Rattle.sc_propagation.specs.declared.watches.Watches.{Watches}
 
 -- ---- the watched literals of a clause
 

@@ -1,3 +1,6 @@
+pub mod Lists
+pub mod Watches
+pub mod Stamps
 pub mod Propagation
 pub mod Steps
 pub mod Trails

@@ -9,7 +9,7 @@ use Rattle.sc_propagation.specs.declared.cell.Truth.{Truth}
 use Rattle.sc_propagation.specs.declared.cell.Truth.TheVariants as truth
 use Rattle.sc_propagation.specs.declared.propagation.Status.{Status}
 use Rattle.sc_propagation.specs.declared.propagation.Status.TheVariants as status
-use Rattle.sc_watches.specs.declared.watches.Watch.{Watch}
+use Rattle.sc_propagation.specs.declared.watches.Watch.{Watch}
 use Rattle.sc_propagation.specs.Steps.{At}
 use Rattle.sc_propagation.specs.Trails.{true_before, cell_of}
 

@@ -8,8 +8,8 @@ use Rattle.sc_propagation.specs.declared.cell.Cell.TheVariants.{Free, Decided, I
 use Rattle.sc_propagation.specs.declared.room.Room.{Room}
 use Rattle.sc_propagation.specs.Trails.{true_before}
 use Rattle.sc_propagation.specs.Watching.{AreOpen}
-use Rattle.sc_watches.specs.Watches.{IsWatched}
-use Rattle.sc_watches.specs.declared.watches.Watch.{Watch}
+use Rattle.sc_propagation.specs.Watches.{IsWatched}
+use Rattle.sc_propagation.specs.declared.watches.Watch.{Watch}
 
 abbrev pub cell_value : Cell → Option Bool
 cell_value Free = None

@@ -7,14 +7,14 @@ use Rattle.sc_propagation.specs.declared.cell.Cell.{Cell}
 use Rattle.sc_propagation.specs.declared.propagation.Pending.{Pending}
 use Rattle.sc_propagation.specs.declared.propagation.Pending.TheVariants.{Each, One, From}
 use Rattle.sc_propagation.specs.declared.trail.Trail.{Trail}
-use Rattle.sc_watches.specs.declared.watches.Watch.{Watch}
-use Rattle.sc_watches.specs.declared.watches.Watches.{Watches}
-use Rattle.sc_watches.specs.Lists.{places_of}
+use Rattle.sc_propagation.specs.declared.watches.Watch.{Watch}
+use Rattle.sc_propagation.specs.declared.watches.Watches.{Watches}
+use Rattle.sc_propagation.specs.Lists.{places_of}
 use Rattle.sc_propagation.specs.Readings.{IsFalsified}
 use Rattle.sc_propagation.specs.Steps.{At}
 use Rattle.sc_propagation.specs.Trails.{true_before, HoldsTrail, free_count}
 use Rattle.sc_propagation.specs.Watching.{IsAlive, AreAliveBy, AreAliveAtLevels, IsWatching}
-use Rattle.sc_watches.specs.Watches.{watch_of, IsWatched}
+use Rattle.sc_propagation.specs.Watches.{watch_of, IsWatched}
 
 -- a watched literal became false at place p of the trail or later
 abbrev pub IsTouched : List Lit → ℕ → Option Watch → Type 0

@@ -6,11 +6,11 @@ use Rattle.sc_clauses.specs.Clauses.{Clause, negation}
 use Rattle.sc_propagation.specs.declared.cell.Cell.{Cell}
 use Rattle.sc_propagation.specs.Steps.{At}
 use Rattle.sc_propagation.specs.Trails.{true_before}
-use Rattle.sc_watches.specs.declared.lists.Lists.{Lists}
-use Rattle.sc_watches.specs.declared.watches.Watch.{Watch}
-use Rattle.sc_watches.specs.declared.watches.Watches.{Watches}
-use Rattle.sc_watches.specs.Lists.{lists_of, places_of}
-use Rattle.sc_watches.specs.Watches.{watch_in, IsWatched}
+use Rattle.sc_propagation.specs.declared.lists.Lists.{Lists}
+use Rattle.sc_propagation.specs.declared.watches.Watch.{Watch}
+use Rattle.sc_propagation.specs.declared.watches.Watches.{Watches}
+use Rattle.sc_propagation.specs.Lists.{lists_of, places_of}
+use Rattle.sc_propagation.specs.Watches.{watch_in, IsWatched}
 
 -- two literals are watched, and neither is false
 abbrev pub AreOpen : (Lit → Bool) → Option Watch → Type 0

@@ -12,9 +12,9 @@ ghost use Rattle.sc_propagation.specs.Trails.{Agree, HoldsTrail, AllInCells, Are
 
 use crate::cell::Cell;
 use crate::clause::clause_at;
+use crate::marks::Marks;
 use crate::trail::Trail;
 use sc_clauses::{Lit, negation};
-use sc_marks::Marks;
 use sc_refutations::{Arena, lit_of};
 use std::alloc::{AllocError, Global};
 use std::mem;

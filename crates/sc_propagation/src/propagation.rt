@@ -8,14 +8,14 @@ ghost use Rattle.sc_propagation.specs.Readings.{HasStatus, IsOpen};
 ghost use Rattle.sc_propagation.specs.Steps.{At};
 ghost use Rattle.sc_propagation.specs.Trails.{Agree, AreLevels, HoldsTrail, AllInCells, AreInCells, true_before};
 ghost use Rattle.sc_propagation.specs.Visits.{AreAliveBut, AreSeen, AreSeenBut, HasFollowed, HasPropagated, HasVisited, HasVisitedEach, IsLate, IsWellWatched, KeepsOthers, MovesOn};
-ghost use Rattle.sc_watches.specs.Watches.{IsWatched, watch_of};
+ghost use Rattle.sc_propagation.specs.Watches.{IsWatched, watch_of};
 
 use crate::cell::Truth;
 use crate::clause::clause_at;
 use crate::trail::{Trail, is_same};
+use crate::watches::{Watch, Watches};
 use sc_clauses::{Lit, negation};
 use sc_refutations::{Arena, lit_of};
-use sc_watches::{Watch, Watches};
 use std::alloc::AllocError;
 
 /// The status of a clause under the assignment.

@@ -7,10 +7,10 @@ ghost use Rattle.sc_propagation.specs.Trails.{AreLevels, HoldsTrail, true_before
 ghost use Rattle.sc_propagation.specs.Rooms.{IsOpenPair, IsRoom};
 
 use crate::trail::{Trail, is_same};
+use crate::watches::Watch;
 use sc_clauses::{Lit, negation};
 use sc_decisions::Order;
 use sc_refutations::{Arena, lit_of};
-use sc_watches::Watch;
 
 /// How many levels a new clause leaves, and the two literals that it may watch there.
 #[derive(Clone, Copy)]

@@ -18,7 +18,7 @@ use Rattle.sc_goal.specs.Properties.{has}
 use Rattle.sc_goal.specs.Queries.{Asked as Query, IsAsked, second as second_of}
 use Rattle.sc_goal.specs.Selections.{selected}
 use Rattle.sc_names.specs.declared.uid.Uid.{Uid}
-use Rattle.sc_nodes.specs.declared.node.Node.{Node}
+use Rattle.sc_sorts.specs.declared.node.Node.{Node}
 use Rattle.sc_goal_laws.proofs.WrittenLaws.{declared_passes, set_written}
 use Rattle.sc_question.specs.declared.question.Question.{Question}
 use Rattle.sc_question.specs.declared.question.Question.TheVariants.{Equivalent}

@@ -9,7 +9,6 @@ ghost use Rattle.sc_reduction.specs.Reductions.{MayBeReduced};
 ghost use Rattle.sc_reduction.specs.Trials.{IsFinding, IsGoal, IsProblem};
 
 use sc_checker::Log;
-use sc_declared::{declared_laws, literal_laws};
 use sc_footprint::{OverLimit, Problem, close};
 use sc_goal::{Query, goal_laws, goal_of};
 use sc_goal_laws::posed_goals;
@@ -17,6 +16,7 @@ use sc_lists::Fault;
 use sc_schema::{Env, Schema};
 use sc_solver::{Solved, solve};
 use sc_terms::Terms;
+use sc_typing_laws::{declared_laws, literal_laws};
 use sc_world::World;
 use std::alloc::{AllocError, Global};
 

@@ -1,59 +1,84 @@
--- What keeps a world from being well-formed depends on which uids policies write, and not on how often or in which order.
-use Rattle.std.proofs.Common.{◌≡◌, ◌↔◌, List, [], ◌∷◌, ◌++◌, Option, Contains, inl, inr, subst}
+-- A world has one first break at most, and none exactly where it is well-formed for an environment of the schema.
+use Rattle.std.proofs.Common.{◌≡◌, ◌≢◌, ◌↔◌, List, Option, Some, None, IsSome, Contains, refl, ap, subst}
 use Rattle.std.specs.List.{AllByRecursion}
-use Rattle.std.proofs.lemmas.List.Elements.{All-contains, All-from_recursion, Contains-append_left, Contains-append_right, Contains-append_cases}
-use Rattle.std.specs.Prelude.{flat_map}
-use Rattle.sc_lists.proofs.ListLaws.{contains_rest, contains_first}
-use Rattle.sc_ast.specs.declared.policy.Policy.{Policy}
-use Rattle.sc_ast.specs.Literals.{literals}
+use Rattle.std.specs.Ordering.{ordering_reverse}
+use Rattle.std.specs.declared.cmp.Ordering.{Ordering}
+use Rattle.std.specs.declared.cmp.Ordering.TheVariants.{Less, Equal, Greater}
+use Rattle.sc_lists.proofs.ListLaws.{all_element}
 use Rattle.sc_names.specs.declared.uid.Uid.{Uid}
-use Rattle.sc_schema.specs.Declarations.{Declarations, action_uids}
+use Rattle.sc_names.specs.Uids.{uid_cmp}
+use Rattle.sc_names.proofs.UidLaws.{uid_cmp_total, uid_cmp_level}
+use Rattle.sc_schema.specs.declared.declarations.Env.{Env}
+use Rattle.sc_schema.specs.Declarations.{Declarations, environments}
+use Rattle.sc_world.specs.declared.entity.EntityData.{EntityData}
 use Rattle.sc_world.specs.declared.world.World.{World}
-use Rattle.sc_world.specs.Least.{wanted}
-use Rattle.sc_world.specs.Named.{request_uids, uids_in_entry}
-use Rattle.sc_world.specs.WellFormed.{IsStored}
-use Rattle.sc_world_breaks.specs.declared.breaks.Break.{Break}
-use Rattle.sc_world_breaks.specs.Breaks.{IsFirstBreak, in_request, in_entity, missing, nowhere}
+use Rattle.sc_world.specs.Least.{IsBroken, wanted, IsMissing, IsLeast}
+use Rattle.sc_world.specs.Sound.{IsSoundEntry, AreSound}
+use Rattle.sc_world.specs.Stores.{Entities, IsMap, stored}
+use Rattle.sc_world.specs.WellFormed.{IsStored, IsWellFormed}
+use Rattle.sc_world.proofs.PartLaws.{by_parts}
+use Rattle.sc_replay.specs.declared.breaks.Break.{Break}
+use Rattle.sc_replay.specs.declared.breaks.Break.TheVariants as break
+use Rattle.sc_replay.specs.Breaks.{IsFirstBreak, in_request, in_entity, missing, nowhere}
 
-each_of : (P : Uid → Type 0) (us : List Uid) → ((u : Uid) → Contains us u → P u) → AllByRecursion P us
-each_of P [] f = tt
-each_of P (u ∷ us) f = (f u (contains_first u us), each_of P us (λ v has. f v (contains_rest u us v has)))
+-- ---- one at most
 
-abbrev IsWithin : List Uid → List Uid → Type 0
-IsWithin xs ys = (u : Uid) → Contains xs u → Contains ys u
+tied_of : (o : Ordering) → o ≢ Greater → ordering_reverse o ≢ Greater → o ≡ Equal
+tied_of Less h k = absurd (k refl)
+tied_of Equal h k = refl
+tied_of Greater h k = absurd (h refl)
 
-widened : (a b l m c : List Uid) → IsWithin l m → IsWithin (a ++ (b ++ (l ++ c))) (a ++ (b ++ (m ++ c)))
-widened a b l m c more u has = elim (Contains-append_cases a (b ++ (l ++ c)) u has) [
-  | inl x ↦ Contains-append_left a (b ++ (m ++ c)) u x
-  | inr x ↦ Contains-append_right a (b ++ (m ++ c)) u (elim (Contains-append_cases b (l ++ c) u x) [
-    | inl y ↦ Contains-append_left b (m ++ c) u y
-    | inr y ↦ Contains-append_right b (m ++ c) u (elim (Contains-append_cases l c u y) [
-      | inl z ↦ Contains-append_left m c u (more u z)
-      | inr z ↦ Contains-append_right m c u z
-    ])
-  ])
-]
+one_least : (P : Uid → Type 0) (u v : Uid) → IsLeast P u → IsLeast P v → u ≡ v
+one_least P u v a b =
+    let turned = subst (λ (o : Ordering). o ≢ Greater) (uid_cmp_total.antisymm v u) (b.least u a.here) in
+    uid_cmp_level u v (tied_of (uid_cmp u v) (a.least v b.here) turned)
 
-wanted_too : (s : Declarations) (l m : List Uid) (w : World) → IsWithin l m → IsWithin (wanted s l w) (wanted s m w)
-wanted_too s l m w more = widened (request_uids w.request) (flat_map uids_in_entry w.store) l m (action_uids s) more
+is_sound : (s : Declarations) (es : Entities) (u : Uid) → AreSound s es → ¬ IsBroken s es u
+is_sound s es u all broken = broken.2 (all_element (IsSoundEntry s es) es (u, broken.0) all broken.1)
 
-same_uids : (s : Declarations) (l m : List Uid) (w : World) {found : Option Break} → ((u : Uid) → Contains l u ↔ Contains m u)
-    → IsFirstBreak s l w found → IsFirstBreak s m w found
-same_uids s l m w same (in_request h) = in_request h
-same_uids s l m w same (in_entity u sound least) = in_entity u sound least
-same_uids s l m w same (missing u sound each least) =
-    missing u sound each
-    (record {
-      here = (wanted_too s l m w (λ v. (same v).0) u least.here.0, least.here.1);
-      least = λ v h. least.least v (wanted_too s m l w (λ x. (same x).1) v h.0, h.1);
-    })
-same_uids s l m w same (nowhere sound each all) =
-    nowhere sound each
-    (each_of (IsStored w.store) (wanted s m w) (λ u has.
-    let stored = All-from_recursion (IsStored w.store) (wanted s l w) all in
-    All-contains (IsStored w.store) (wanted s l w) u stored (wanted_too s m l w (λ v. (same v).1) u has)))
+found_none : (o : Option EntityData) → IsSome o → o ≡ None → ⊥
+found_none None h is = absurd cc
+found_none (Some e) h is = cc
 
--- of a set of the uids that policies write
-pub as_written : (s : Declarations) (given policies : List Policy) (l : List Uid) (w : World) {found : Option Break} → given ≡ policies
-    → ((u : Uid) → Contains l u ↔ Contains (literals given) u) → IsFirstBreak s l w found → IsFirstBreak s (literals policies) w found
-as_written s given policies l w {found = found} are same h = subst (λ (ps : List Policy). IsFirstBreak s (literals ps) w found) are (same_uids s l (literals given) w same h)
+is_stored : (s : Declarations) (literals : List Uid) (w : World) (u : Uid) → AllByRecursion (IsStored w.store) (wanted s literals w) → ¬ IsMissing s literals w u
+is_stored s literals w u all lost =
+    found_none (stored u w.store) (all_element (IsStored w.store) (wanted s literals w) u all lost.0) lost.1
+
+pub one_break : (s : Declarations) (literals : List Uid) (w : World) (a b : Option Break) → IsFirstBreak s literals w a → IsFirstBreak s literals w b → a ≡ b
+one_break s literals w a b (in_request h) (in_request k) = refl
+one_break s literals w a b (in_request h) (in_entity v r k) = absurd (h r)
+one_break s literals w a b (in_request h) (missing v r e k) = absurd (h r)
+one_break s literals w a b (in_request h) (nowhere r e k) = absurd (h r)
+one_break s literals w a b (in_entity u r h) (in_request k) = absurd (k r)
+one_break s literals w a b (in_entity u r h) (in_entity v q k) = ap (λ (x : Uid). Some (break.Entity x)) (one_least (IsBroken s w.store) u v h k)
+one_break s literals w a b (in_entity u r h) (missing v q e k) = absurd (is_sound s w.store u e h.here)
+one_break s literals w a b (in_entity u r h) (nowhere q e k) = absurd (is_sound s w.store u e h.here)
+one_break s literals w a b (missing u r e h) (in_request k) = absurd (k r)
+one_break s literals w a b (missing u r e h) (in_entity v q k) = absurd (is_sound s w.store v e k.here)
+one_break s literals w a b (missing u r e h) (missing v q f k) = ap (λ (x : Uid). Some (break.Missing x)) (one_least (IsMissing s literals w) u v h k)
+one_break s literals w a b (missing u r e h) (nowhere q f k) = absurd (is_stored s literals w u k h.here)
+one_break s literals w a b (nowhere r e h) (in_request k) = absurd (k r)
+one_break s literals w a b (nowhere r e h) (in_entity v q k) = absurd (is_sound s w.store v e k.here)
+one_break s literals w a b (nowhere r e h) (missing v q f k) = absurd (is_stored s literals w v h k.here)
+one_break s literals w a b (nowhere r e h) (nowhere q f k) = refl
+
+-- ---- none exactly where the world is well-formed
+
+-- a well-formed world, for some environment
+abbrev Fits : Declarations → List Uid → World → Type 0
+Fits s literals w = (env : Env) × Contains (environments s) env × IsWellFormed s env literals w
+
+to_fits : (s : Declarations) (literals : List Uid) (w : World) (b : Option Break) → IsMap w.store → b ≡ None → IsFirstBreak s literals w b → Fits s literals w
+to_fits s literals w b ascending none (in_request h) = absurd cc
+to_fits s literals w b ascending none (in_entity u r h) = absurd cc
+to_fits s literals w b ascending none (missing u r e h) = absurd cc
+to_fits s literals w b ascending none (nowhere r e h) =
+    (r.env, r.listed, (by_parts s r.env literals w).0 (record { proper = r.proper; request = r.fits; store = ascending; sound = e; stored = h }))
+
+from_fits : (s : Declarations) (literals : List Uid) (w : World) → Fits s literals w → IsFirstBreak s literals w None
+from_fits s literals w h =
+    let parts = (by_parts s h.0 literals w).1 h.2 in
+    nowhere (record { proper = parts.proper; env = h.0; listed = h.1; fits = parts.request }) parts.sound parts.stored
+
+pub no_break : (s : Declarations) (literals : List Uid) (w : World) → IsMap w.store → IsFirstBreak s literals w None ↔ ((env : Env) × Contains (environments s) env × IsWellFormed s env literals w)
+no_break s literals w ascending = (λ h. to_fits s literals w None ascending refl h, from_fits s literals w)

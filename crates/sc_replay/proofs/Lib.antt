@@ -1,2 +1,4 @@
 mod BreakLaws
+mod SoundLaws
+mod BreakLineLaws
 pub mod LineLaws

@@ -1,2 +1,4 @@
+pub mod Breaks
+pub mod Tests
 pub mod Reports
 pub mod Lines

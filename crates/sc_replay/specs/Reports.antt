@@ -4,8 +4,8 @@ use Rattle.std.specs.Fmt.{decimal}
 use Rattle.sc_names.specs.Escapes.{uid_text}
 use Rattle.sc_values.specs.declared.value.Value.{out-Value}
 use Rattle.sc_world.specs.declared.world.World.{World}
-use Rattle.sc_world_breaks.specs.declared.breaks.Break.{Break}
-use Rattle.sc_world_breaks.specs.declared.breaks.Break.TheVariants as break
+use Rattle.sc_replay.specs.declared.breaks.Break.{Break}
+use Rattle.sc_replay.specs.declared.breaks.Break.TheVariants as break
 use Rattle.sc_ast.specs.declared.policy.Policy.{Policy}
 use Rattle.sc_ast.specs.Conditions.{condition}
 use Rattle.sc_eval.specs.declared.error.EvalError.{EvalError}

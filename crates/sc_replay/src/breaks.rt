@@ -1,42 +1,75 @@
-//! The line of a world: whether it is well-formed, or what keeps it from being so.
-ghost use Rattle.std.specs.Prelude.{◌≡◌, ◌++◌, string_bytes, IfOk, OnOk};
-ghost use Rattle.sc_names.specs.Escapes.{uid_text};
-ghost use Rattle.sc_replay.specs.Reports.{break_text, world_line};
+//! What keeps a world from being well-formed.
+ghost use Rattle.std.specs.Prelude.{◌≡◌, ◌↔◌, List, Option, None, Contains, IfOk};
+ghost use Rattle.sc_names.specs.declared.uid.Uid.{Uid as AnyUid};
+ghost use Rattle.sc_schema.specs.declared.declarations.Env.{Env};
+ghost use Rattle.sc_schema.specs.Declarations.{Declarations, environments};
+ghost use Rattle.sc_world.specs.declared.world.World.{World as AnyWorld};
+ghost use Rattle.sc_world.specs.Sound.{AreSound};
+ghost use Rattle.sc_world.specs.Stores.{IsMap};
+ghost use Rattle.sc_world.specs.WellFormed.{IsWellFormed};
+ghost use Rattle.sc_replay.specs.declared.breaks.Break.{Break as AnyBreak};
+ghost use Rattle.sc_replay.specs.Breaks.{IsSoundRequest, IsFirstBreak};
 
-use sc_lists::Text;
-use sc_names::{Uid, put_uid};
-use sc_world_breaks::Break;
+use crate::sound::is_sound_request;
+use sc_names::{Lits, Uid};
+use sc_schema::Schema;
+use sc_world::{World, first_broken, first_missing};
 use std::alloc::{AllocError, Global};
 
-/// Puts a word and a uid at the end of a line.
-fn put_named(line: &mut String, word: &str, uid: &Uid) -> Result<(), AllocError>
-    ensures { OnOk result (string_bytes line.new ≡ string_bytes line.old ++ (word.now ++ uid_text uid.now)) }
-{
-    line.push_str(word)?;
-    put_uid(line, uid)
+/// What keeps a world from being well-formed.
+#[derive(Debug, PartialEq, Eq, Drop)]
+pub enum Break {
+    /// No environment fits the request, or its context doesn't conform.
+    Request,
+    /// What is stored of this entity isn't as its type, its ancestors or its kind have it.
+    Entity(Uid),
+    /// This entity isn't stored and has to be: it is named, or a declared action.
+    Missing(Uid),
 }
 
-/// Puts what keeps a world from being well-formed at the end of a line.
-fn put_break(line: &mut String, found: &Break) -> Result<(), AllocError>
-    ensures { OnOk result (string_bytes line.new ≡ string_bytes line.old ++ break_text found.now) }
+/// The first of what keeps a world from being well-formed: its request, or else the least stored
+/// entity that isn't as it has to be, or else the least entity that has to be stored and isn't.
+/// `None` exactly where some environment of the schema fits the request and the world is well-formed
+/// for it and the uids that policies write.
+pub fn first_break(
+    alloc: Global,
+    s: &Schema,
+    w: &World,
+    lits: &Lits,
+) -> Result<Option<Break>, AllocError>
+    ensures { IfOk result (λ found. IsFirstBreak s.now lits.now w.now found) }
 {
-    match found {
-        Break::Request => line.push_str("request"),
-        Break::Entity(uid) => put_named(line, "entity ", uid),
-        Break::Missing(uid) => put_named(line, "missing ", uid),
+    if !is_sound_request(s, &w.request) {
+        return Ok(Some(Break::Request));
+    }
+    match first_broken(s, &w.store) {
+        Some(uid) => Ok(Some(Break::Entity(uid.try_clone(alloc)?))),
+        None => missing_break(alloc, s, w, lits),
     }
 }
 
-/// The line of a world, with its newline.
-#[tactic(auto, unfolding(crate::specs::Reports::world_line))]
-pub(crate) fn world_line(alloc: Global, found: &Option<Break>) -> Result<Text, AllocError>
-    ensures { IfOk result (λ line. line ≡ world_line found.now) }
+/// The least entity that has to be stored and isn't, if there is one.
+fn missing_break(
+    alloc: Global,
+    s: &Schema,
+    w: &World,
+    lits: &Lits,
+) -> Result<Option<Break>, AllocError>
+    ensures { IfOk result (λ found. IsSoundRequest s.now w.now.request → AreSound s.now w.now.store
+        → IsFirstBreak s.now lits.now w.now found) }
 {
-    let Some(found) = found else {
-        return Text::from_str(alloc, "world well-formed\n");
-    };
-    let mut line = String::from_str(alloc, "world not well-formed: ")?;
-    put_break(&mut line, found)?;
-    line.push_str("\n")?;
-    Text::from_string(line)
+    match first_missing(s, w, lits) {
+        Some(uid) => Ok(Some(Break::Missing(uid.try_clone(alloc)?))),
+        None => Ok(None),
+    }
 }
+
+/// A world has one first break at most, and none exactly where it is well-formed for an environment of
+/// the schema.
+pub fn break_laws()
+    ensures one { (s : Declarations) (literals : List AnyUid) (w : AnyWorld) (a b : Option AnyBreak)
+        → IsFirstBreak s literals w a → IsFirstBreak s literals w b → a ≡ b }
+    ensures nowhere { (s : Declarations) (literals : List AnyUid) (w : AnyWorld) → IsMap w.store
+        → IsFirstBreak s literals w None
+        ↔ ((env : Env) × Contains (environments s) env × IsWellFormed s env literals w) }
+{}

@@ -1,18 +1,18 @@
 //! What a world does.
 ghost use Rattle.std.specs.Prelude.{◌≡◌, IfOk};
 ghost use Rattle.sc_ast.specs.Literals.{literals};
-ghost use Rattle.sc_world_breaks.specs.Breaks.{IsFirstBreak};
+ghost use Rattle.sc_replay.specs.Breaks.{IsFirstBreak};
 ghost use Rattle.sc_replay.specs.Reports.{report_lines, status_of};
 
 use crate::answers::put_policies;
-use crate::breaks::world_line;
+use crate::break_lines::world_line;
+use crate::breaks::{Break, first_break};
 use crate::decisions::decision_line;
 use sc_ast::{PolicySet, literals};
 use sc_auth::authorise;
 use sc_lists::{Seq, Text};
 use sc_schema::Schema;
 use sc_world::World;
-use sc_world_breaks::{Break, first_break};
 use std::alloc::{AllocError, Global};
 
 /// What a world does.

@@ -8,7 +8,7 @@ use Rattle.sc_checker.proofs.StreamLaws.{after_joined, nothing_is, nothing_read}
 use Rattle.sc_footprint.specs.Problems.{Posed}
 use Rattle.sc_inputs.specs.Refusals.{Content, Refusal, RefusesLog, log_limit, log_long, log_unread}
 use Rattle.sc_solver.specs.Theories.{HasRule, rule_clause}
-use Rattle.sc_solver.specs.AllRules.{Rules as AllRules}
+use Rattle.sc_solver.specs.declared.rules.Rules.{Rules as AllRules}
 use Rattle.sc_reports.specs.LogReading.{ComesTo, HasRead, HasReadAll, Held, IsOnTheWay, LeadsOn, RefusesPiece, SameProblem, piece_long, piece_unread}
 use Rattle.sc_reports.specs.Claims.{IsChecked}
 

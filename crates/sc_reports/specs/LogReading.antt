@@ -4,7 +4,7 @@ use Rattle.sc_outside.specs.Pieces.{Left}
 use Rattle.sc_checker.specs.Streams.{Checker, Checking, After}
 use Rattle.sc_inputs.specs.Refusals.{Refusal, log_file, log_limit, read_fault, too_long}
 use Rattle.sc_solver.specs.Theories.{HasRule, rule_clause}
-use Rattle.sc_solver.specs.AllRules.{Rules}
+use Rattle.sc_solver.specs.declared.rules.Rules.{Rules}
 
 -- a piece of a log isn't read: the count rose, or more is left than may be
 pub data RefusesPiece (left : Left) (room : ℕ) (rose : Type 0) : Refusal → Type 0 where

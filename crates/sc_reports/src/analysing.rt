@@ -8,7 +8,6 @@ ghost use Rattle.sc_reports.specs.Analyses.{asked_of, HaveProper, IsAnswer, IsFo
 ghost use Rattle.sc_reports.specs.Reports.{IsProblem};
 
 use sc_checker::Log;
-use sc_declared::{declared_laws, literal_laws};
 use sc_footprint::{OverLimit, Problem, close};
 use sc_goal::{Query, goal, goal_laws};
 use sc_goal_laws::posed_goals;
@@ -16,6 +15,7 @@ use sc_lists::Fault;
 use sc_schema::{Env, Schema};
 use sc_solver::{Solved, solve};
 use sc_terms::Terms;
+use sc_typing_laws::{declared_laws, literal_laws};
 use sc_world::World;
 use std::alloc::{AllocError, Global};
 

@@ -15,7 +15,6 @@ use crate::environment::environment_at;
 use crate::log_reading::read_log;
 use crate::reporting::query_of;
 use sc_checker::{LogChecker, Reason, Verdict, stream_laws};
-use sc_declared::literal_laws;
 use sc_footprint::Problem;
 use sc_goal::{Query, goal_laws};
 use sc_inputs::{Claim, Refusal};
@@ -23,6 +22,7 @@ use sc_lists::Fault;
 use sc_outside::Files;
 use sc_schema::{Env, Schema};
 use sc_solver::Rules;
+use sc_typing_laws::literal_laws;
 use std::alloc::Global;
 
 /// What is said of a log.

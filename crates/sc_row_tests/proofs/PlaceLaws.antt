@@ -1,10 +1,10 @@
 -- Every literal that has bits has these places.
 use Rattle.std.proofs.Common.{◌<◌, arith, ℕ}
-use Rattle.sc_nodes.specs.declared.node.Leaf.TheVariants.{Literal}
-use Rattle.sc_nodes.specs.declared.node.Leaf.TheVariants as leafs
-use Rattle.sc_nodes.specs.declared.node.Literal.{Literal as AnyLiteral}
-use Rattle.sc_nodes.specs.declared.node.Literal.TheVariants as literal
-use Rattle.sc_nodes.specs.Literals.{IsPlaceOf}
+use Rattle.sc_sorts.specs.declared.node.Leaf.TheVariants.{Literal}
+use Rattle.sc_sorts.specs.declared.node.Leaf.TheVariants as leafs
+use Rattle.sc_sorts.specs.declared.node.Literal.{Literal as AnyLiteral}
+use Rattle.sc_sorts.specs.declared.node.Literal.TheVariants as literal
+use Rattle.sc_sorts.specs.Literals.{IsPlaceOf}
 use Rattle.sc_terms.specs.Trees.{Tree, leaf, one, two, choice, many}
 use Rattle.sc_terms.specs.Folds.{IsPlaceIn}
 

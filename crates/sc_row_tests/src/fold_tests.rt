@@ -11,8 +11,8 @@ use crate::words::Two::{
 };
 use crate::words::Word::{self, Choice, Leaf, One, Two};
 use crate::words::{are_one, number_of};
-use sc_nodes::row;
 use sc_pattern::Part::{Char, Star};
+use sc_sorts::row;
 use sc_terms::Terms;
 use std::alloc::{AllocError, Global};
 

@@ -13,9 +13,8 @@ use crate::words::Two::{
 };
 use crate::words::Word::{self, Choice, Leaf, One, Two};
 use crate::words::{number_of, orders};
-use sc_nodes::row;
 use sc_pattern::Part::{Char, Star};
-use sc_sorts::Sort;
+use sc_sorts::{Sort, row};
 use sc_terms::Terms;
 use std::alloc::{AllocError, Global};
 

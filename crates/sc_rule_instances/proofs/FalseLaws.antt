@@ -9,7 +9,7 @@ use Rattle.sc_terms.specs.Trees.{Tree, two}
 use Rattle.sc_terms.specs.Order.{tree_cmp, tree_eq}
 use Rattle.sc_terms.specs.Folds.{constant, literal_of, equation, other_equal, equal_term}
 use Rattle.sc_terms.proofs.OrderLaws.{tree_eq-exact}
-use Rattle.sc_nodes.specs.declared.node.BinaryOp.TheVariants.{Equal}
+use Rattle.sc_sorts.specs.declared.node.BinaryOp.TheVariants.{Equal}
 use Rattle.sc_footprint.specs.Problems.{Posed, IsPosed, closed_terms, literal, literal_in}
 use Rattle.sc_footprint.specs.Definitions.{is_tautology}
 use Rattle.sc_rule_laws.proofs.MemberLaws.{all_has}

@@ -16,9 +16,9 @@ use Rattle.sc_clauses.specs.Clauses.{bool_eq, holds, positive, negation}
 use Rattle.sc_clauses.proofs.LitLaws.{holds_negation, negation_twice}
 use Rattle.sc_world.specs.declared.world.World.{World}
 use Rattle.sc_sorts.proofs.OutLaws.{out_Bool}
-use Rattle.sc_nodes.specs.declared.node.Leaf.TheVariants.{Literal}
-use Rattle.sc_nodes.specs.declared.node.Literal.TheVariants as literals
-use Rattle.sc_nodes.specs.declared.node.UnaryOp.TheVariants.{Not}
+use Rattle.sc_sorts.specs.declared.node.Leaf.TheVariants.{Literal}
+use Rattle.sc_sorts.specs.declared.node.Literal.TheVariants as literals
+use Rattle.sc_sorts.specs.declared.node.UnaryOp.TheVariants.{Not}
 use Rattle.sc_terms.specs.Trees.{Tree, leaf, one}
 use Rattle.sc_terms.specs.TreeSorts.{tree_sort}
 use Rattle.sc_terms.specs.Tables.{tree}

@@ -2,9 +2,9 @@
 use Rattle.std.proofs.Common.{◌≡◌, ℕ, true, false, Option, Some, None, IfSome, is_some, refl, sym, ap, ◌∙◌}
 use Rattle.sc_clauses.specs.declared.lit.Lit.{Lit}
 use Rattle.sc_clauses.specs.Clauses.{positive, negation}
-use Rattle.sc_nodes.specs.declared.node.Literal.{Literal}
-use Rattle.sc_nodes.specs.declared.node.UnaryOp.TheVariants.{Bit, Present}
-use Rattle.sc_nodes.specs.declared.node.BinaryOp.{BinaryOp}
+use Rattle.sc_sorts.specs.declared.node.Literal.{Literal}
+use Rattle.sc_sorts.specs.declared.node.UnaryOp.TheVariants.{Bit, Present}
+use Rattle.sc_sorts.specs.declared.node.BinaryOp.{BinaryOp}
 use Rattle.sc_terms.specs.Trees.{Tree, one, two}
 use Rattle.sc_terms.specs.Tables.{tree}
 use Rattle.sc_sorts.specs.declared.sort.Sort.{Sort}

@@ -7,8 +7,8 @@ use Rattle.sc_lists.specs.Members.{Has}
 use Rattle.sc_laws.proofs.NumberLaws.{suc_isnt_zero}
 use Rattle.sc_sorts.specs.declared.sort.Sort.{Sort}
 use Rattle.sc_sorts.specs.contracts.sort.SortPartialEq.TheImpl.{ghosts as sorts}
-use Rattle.sc_sorts.proofs.OrderLaws.{sort_eq_decides}
-use Rattle.sc_nodes.specs.declared.node.UnaryOp.TheVariants as unary
+use Rattle.sc_sorts.specs.OrderLaws.{sort_eq_decides}
+use Rattle.sc_sorts.specs.declared.node.UnaryOp.TheVariants as unary
 use Rattle.sc_terms.specs.Finding.{IsFound}
 use Rattle.sc_terms.specs.Order.{tree_eq}
 use Rattle.sc_terms.specs.Tables.{tree}

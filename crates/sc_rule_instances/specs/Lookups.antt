@@ -2,9 +2,9 @@
 use Rattle.std.specs.Prelude.{◌≡◌, ◌≢◌, ◌&&◌, ⊤, ℕ, Bool, false, List, Option, Some, None, length, Contains}
 use Rattle.sc_sorts.specs.declared.sort.Sort.{Sort}
 use Rattle.sc_sorts.specs.contracts.sort.SortPartialEq.TheImpl.{ghosts as sorts}
-use Rattle.sc_nodes.specs.declared.node.ManyOp.TheVariants.{Set}
-use Rattle.sc_nodes.specs.declared.node.Node.{Node}
-use Rattle.sc_nodes.specs.declared.node.UnaryOp.TheVariants.{Ancestors}
+use Rattle.sc_sorts.specs.declared.node.ManyOp.TheVariants.{Set}
+use Rattle.sc_sorts.specs.declared.node.Node.{Node}
+use Rattle.sc_sorts.specs.declared.node.UnaryOp.TheVariants.{Ancestors}
 use Rattle.sc_terms.specs.Order.{tree_eq}
 use Rattle.sc_terms.specs.Trees.{Tree, one, many, Trees}
 use Rattle.sc_terms.specs.Tables.{Places, node_parts, AreBelow, StandsFor}

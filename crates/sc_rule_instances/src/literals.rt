@@ -13,7 +13,7 @@ ghost use Rattle.sc_rule_laws.specs.Terms as term;
 
 use sc_clauses::{Lit, negation};
 use sc_footprint::Problem;
-use sc_nodes::{BinaryOp, Node, UnaryOp, same_entity};
+use sc_sorts::{BinaryOp, Node, UnaryOp, same_entity};
 
 /// The literal `true`.
 pub const TRUE: Lit = Lit {

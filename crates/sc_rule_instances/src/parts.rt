@@ -13,9 +13,8 @@ use crate::literals::find as find_number;
 use sc_footprint::{Kind, Problem};
 use sc_lists::Text;
 use sc_names::Uid;
-use sc_nodes::{Leaf, Literal, ManyOp, Node, UnaryOp};
 use sc_pattern::Pattern;
-use sc_sorts::Sort;
+use sc_sorts::{Leaf, Literal, ManyOp, Node, Sort, UnaryOp};
 
 // ---- sorts
 

@@ -2,7 +2,7 @@
 use Rattle.std.proofs.Common.{◌≡◌, Bool, true, false, Option, Some, None, refl, sym, ap, ◌∙◌, subst}
 use Rattle.sc_values.specs.declared.value.Value.{Value}
 use Rattle.sc_world.specs.declared.world.World.{World}
-use Rattle.sc_nodes.specs.declared.node.Leaf.TheVariants as leafs
+use Rattle.sc_sorts.specs.declared.node.Leaf.TheVariants as leafs
 use Rattle.sc_terms.specs.Trees.{Tree, leaf}
 use Rattle.sc_terms.specs.Folds.{constant, equal_term, literal_of}
 use Rattle.sc_terms.specs.Values.{Val, yes, val, seen, truth, not_seen, not_value, option_eq, val_eq, equal_seen, equal_value}

@@ -13,7 +13,7 @@ use Rattle.sc_values.proofs.OutLaws.{out_Set}
 use Rattle.sc_world.specs.declared.world.World.{World}
 use Rattle.sc_sorts.specs.declared.sort.Sort.{Sort}
 use Rattle.sc_sorts.specs.contracts.sort.SortPartialEq.TheImpl.{ghosts as sorts}
-use Rattle.sc_nodes.specs.declared.node.ManyOp.TheVariants as manys
+use Rattle.sc_sorts.specs.declared.node.ManyOp.TheVariants as manys
 use Rattle.sc_terms.specs.Trees.{Tree, leaf, one, two, choice, many, Trees}
 use Rattle.sc_terms.specs.TreeSorts.{tree_sort}
 use Rattle.sc_terms.specs.Folds.{equal_term}

@@ -35,12 +35,12 @@ use Rattle.sc_sorts.specs.Defaults.{is_option, default_uid}
 use Rattle.sc_sorts.specs.Entities.{choices_of}
 use Rattle.sc_sorts.specs.Inside.{SortField, SortFields, field_sort, member_sort}
 use Rattle.sc_sorts.proofs.EveryLaws.{in_Entity}
-use Rattle.sc_sorts.proofs.OrderLaws.{sort_eq_decides}
-use Rattle.sc_nodes.specs.declared.node.Leaf.TheVariants as leafs
-use Rattle.sc_nodes.specs.declared.node.Literal.TheVariants as literal
-use Rattle.sc_nodes.specs.declared.node.UnaryOp.TheVariants as unary
-use Rattle.sc_nodes.specs.declared.node.BinaryOp.TheVariants as binary
-use Rattle.sc_nodes.specs.declared.node.ManyOp.TheVariants as manys
+use Rattle.sc_sorts.specs.OrderLaws.{sort_eq_decides}
+use Rattle.sc_sorts.specs.declared.node.Leaf.TheVariants as leafs
+use Rattle.sc_sorts.specs.declared.node.Literal.TheVariants as literal
+use Rattle.sc_sorts.specs.declared.node.UnaryOp.TheVariants as unary
+use Rattle.sc_sorts.specs.declared.node.BinaryOp.TheVariants as binary
+use Rattle.sc_sorts.specs.declared.node.ManyOp.TheVariants as manys
 use Rattle.sc_terms.specs.Trees.{Tree, leaf, one, two, many, Trees}
 use Rattle.sc_terms.specs.TreeSorts.{tree_sort}
 use Rattle.sc_terms.specs.Folds.{field_term}

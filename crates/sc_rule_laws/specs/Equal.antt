@@ -3,7 +3,7 @@ use Rattle.std.proofs.Common.{refl, ap}
 use Rattle.std.specs.Prelude.{◌≡◌, ◌&&◌, ℕ, zero, suc, Bool, true, List, [], ◌∷◌, map, Option, Some, None, slice_get}
 use Rattle.sc_sorts.specs.declared.sort.Sort.{Sort}
 use Rattle.sc_sorts.specs.Inside.{SortField, SortFields, held_sort}
-use Rattle.sc_nodes.specs.declared.node.UnaryOp.{UnaryOp}
+use Rattle.sc_sorts.specs.declared.node.UnaryOp.{UnaryOp}
 use Rattle.sc_terms.specs.Trees.{Tree, one, choice}
 use Rattle.sc_terms.specs.TreeSorts.{tree_sort}
 use Rattle.sc_terms.specs.Folds.{equal_term, field_term, present_term, held_term, default_term}

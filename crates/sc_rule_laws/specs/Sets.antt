@@ -2,7 +2,7 @@
 use Rattle.std.specs.Prelude.{◌≡◌, ◌&&◌, ℕ, zero, suc, [], ◌∷◌, map, Option, Some, None, slice_get, refl}
 use Rattle.sc_sorts.specs.contracts.sort.SortPartialEq.TheImpl.{ghosts as sorts}
 use Rattle.sc_sorts.specs.declared.sort.Sort.{Sort}
-use Rattle.sc_nodes.specs.declared.node.ManyOp.TheVariants as manys
+use Rattle.sc_sorts.specs.declared.node.ManyOp.TheVariants as manys
 use Rattle.sc_terms.specs.Trees.{Tree, many, no_part, part}
 use Rattle.sc_terms.specs.TreeSorts.{tree_sort}
 use Rattle.sc_terms.specs.Folds.{equal_term}

@@ -4,7 +4,7 @@ use Rattle.std.specs.List.{AllByRecursion, flat_map, list_all}
 use Rattle.sc_pattern.specs.declared.part.Part.{Part}
 use Rattle.sc_pattern.specs.Language.{IsMatch}
 use Rattle.sc_languages.specs.Strings.{IsText, AreDistinct}
-use Rattle.sc_nodes.specs.declared.node.UnaryOp.TheVariants.{Like}
+use Rattle.sc_sorts.specs.declared.node.UnaryOp.TheVariants.{Like}
 use Rattle.sc_terms.specs.Trees.{Tree, one}
 use Rattle.sc_terms.specs.Folds.{equal_term, like_term}
 use Rattle.sc_rule_laws.specs.Signed.{Signed, Said, so, unless, given}

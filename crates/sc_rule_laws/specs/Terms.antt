@@ -8,9 +8,9 @@ use Rattle.sc_sorts.specs.contracts.sort.SortPartialEq.TheImpl.{ghosts as sorts}
 use Rattle.sc_sorts.specs.Defaults.{is_option as option_sort}
 use Rattle.sc_sorts.specs.Entities.{choices_of}
 use Rattle.sc_sorts.specs.Inside.{SortFields}
-use Rattle.sc_nodes.specs.declared.node.Literal.TheVariants as literal
-use Rattle.sc_nodes.specs.declared.node.UnaryOp.TheVariants as unary
-use Rattle.sc_nodes.specs.declared.node.BinaryOp.TheVariants as binary
+use Rattle.sc_sorts.specs.declared.node.Literal.TheVariants as literal
+use Rattle.sc_sorts.specs.declared.node.UnaryOp.TheVariants as unary
+use Rattle.sc_sorts.specs.declared.node.BinaryOp.TheVariants as binary
 use Rattle.sc_terms.specs.Trees.{Tree, one, two, Trees, listed, Labelled}
 use Rattle.sc_terms.specs.TreeSorts.{tree_sort}
 use Rattle.sc_terms.specs.Folds.{literal_term}

@@ -2,7 +2,7 @@
 use Rattle.std.proofs.Common.{◌≡◌, ℕ, List, Option, ap, ◌∙◌}
 use Rattle.sc_outside.specs.Writes.{appended}
 use Rattle.sc_replay.specs.Reports.{status_of}
-use Rattle.sc_world_breaks.specs.declared.breaks.Break.{Break}
+use Rattle.sc_replay.specs.declared.breaks.Break.{Break}
 use Rattle.sc_reports.specs.Lines.{CutLines, FirstLines, text_of}
 use Rattle.sc_run.specs.Replays.{Finds, Replayed, told_whole, told_front, told_first, lines_of}
 use Rattle.sc_inputs.specs.declared.inputs.Scene.{Scene}

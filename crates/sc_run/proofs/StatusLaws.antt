@@ -16,8 +16,8 @@ use Rattle.sc_question.specs.declared.question.Question.{Question}
 use Rattle.sc_world.specs.declared.world.World.{World}
 use Rattle.sc_world.specs.Stores.{IsMap}
 use Rattle.sc_world.specs.WellFormed.{IsWellFormed}
-use Rattle.sc_world_breaks.specs.Breaks.{IsFirstBreak}
-use Rattle.sc_world_breaks.specs.declared.breaks.Break.{Break}
+use Rattle.sc_replay.specs.Breaks.{IsFirstBreak}
+use Rattle.sc_replay.specs.declared.breaks.Break.{Break}
 use Rattle.sc_world_json.specs.Reading as world
 use Rattle.sc_inputs.specs.Serving.{Aim, Command, Serves, checking, logging, reducing, reporting}
 use Rattle.sc_inputs.proofs.ReadingLaws.{log_rises}

@@ -3,8 +3,8 @@ use Rattle.std.specs.Prelude.{◌≡◌, ℕ, List, ◌∷◌, ◌++◌, take, O
 use Rattle.sc_outside.specs.Writes.{appended}
 use Rattle.sc_ast.specs.Literals.{literals}
 use Rattle.sc_replay.specs.Reports.{report_lines, status_of}
-use Rattle.sc_world_breaks.specs.declared.breaks.Break.{Break}
-use Rattle.sc_world_breaks.specs.Breaks.{IsFirstBreak}
+use Rattle.sc_replay.specs.declared.breaks.Break.{Break}
+use Rattle.sc_replay.specs.Breaks.{IsFirstBreak}
 use Rattle.sc_inputs.specs.declared.inputs.Scene.{Scene}
 use Rattle.sc_reports.specs.Lines.{text_of}
 

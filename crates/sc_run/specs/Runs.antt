@@ -23,7 +23,7 @@ use Rattle.sc_typing.specs.declared.name_fault.NameFault.{NameFault}
 use Rattle.sc_typing.specs.Names.{name_fault}
 use Rattle.sc_world.specs.declared.world.World.{World}
 use Rattle.sc_world.specs.WellFormed.{IsWellFormed}
-use Rattle.sc_world_breaks.specs.declared.breaks.Break.{Break}
+use Rattle.sc_replay.specs.declared.breaks.Break.{Break}
 use Rattle.sc_world_json.specs.declared.fault.WorldFault.{WorldFault}
 use Rattle.sc_world_json.specs.Reading as world_file
 use Rattle.sc_inputs.specs.Serving.{Aim, Command, Serves, asking, checking, logging, place_in, reducing, replaying, reporting}

@@ -14,9 +14,9 @@ use sc_inputs::{Claim, Inputs, Refusal, code, inputs_of, text_of};
 use sc_lists::Fault;
 use sc_outside::{Files, Sink, SinkFault};
 use sc_parser_laws::constant_laws;
+use sc_replay::break_laws;
 use sc_reports::{Status, check_claim, put_said, report, report_log, verdict_law};
 use sc_schema_json::spelling_laws;
-use sc_world_breaks::break_laws;
 use sc_world_json::reading_laws;
 use std::alloc::Global;
 

@@ -3,3 +3,5 @@ pub mod Declarations
 pub mod Indices
 pub mod Lawful
 pub mod Sizes
+pub mod Expanded
+pub mod Resolved

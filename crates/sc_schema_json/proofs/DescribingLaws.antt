@@ -5,13 +5,13 @@ use Rattle.sc_lists.specs.declared.fault.Fault.{Fault}
 use Rattle.sc_lists.specs.declared.fault.Fault.TheVariants.{Told, NoMemory}
 use Rattle.sc_names.specs.declared.uid.Uid.{Uid}
 use Rattle.sc_schema_syntax.specs.declared.fault.SchemaFault.{SchemaFault}
-use Rattle.sc_schema_resolved.specs.declared.schema.ResolvedSchema.{ResolvedSchema}
-use Rattle.sc_schema_resolved.specs.declared.expanded.ExpandedSchema.{ExpandedSchema}
+use Rattle.sc_schema.specs.declared.resolved_schema.ResolvedSchema.{ResolvedSchema}
+use Rattle.sc_schema.specs.declared.expanded.ExpandedSchema.{ExpandedSchema}
 use Rattle.sc_schema_types.specs.References.{Names}
 use Rattle.sc_schema_types.specs.Orders.{IsOrder, RefusesOrder}
 use Rattle.sc_schema_types.specs.Types as types
-use Rattle.sc_schema_hierarchy.specs.Above.{Links, NoCycle}
-use Rattle.sc_schema_hierarchy.specs.Schemas.{action_links}
+use Rattle.sc_schema_json.specs.Above.{Links, NoCycle}
+use Rattle.sc_schema_json.specs.Schemas.{action_links}
 use Rattle.sc_schema_json.specs.Spelling.{links_of, IsOrdered, IsAcyclic, of_common_types, of_types, RefusesOf}
 
 pub refuses_order : (r : ResolvedSchema) (fault : Fault SchemaFault) → RefusesOrder r fault → RefusesOf r fault

@@ -9,15 +9,15 @@ use Rattle.sc_schema_syntax.specs.declared.fault.SchemaFault.{SchemaFault}
 use Rattle.sc_schema_syntax.specs.declared.fault.SchemaFault.TheVariants.{TypeCycle, ActionCycle, TooManyEnvironments}
 use Rattle.sc_schema_syntax.specs.declared.written_schema.WrittenSchema.{WrittenSchema}
 use Rattle.sc_schema_names.specs.Resolves as names
-use Rattle.sc_schema_resolved.specs.Expanded.{IsExpanded}
-use Rattle.sc_schema_resolved.specs.Resolved.{IsResolved}
-use Rattle.sc_schema_resolved.specs.declared.expanded.ExpandedSchema.{ExpandedSchema}
-use Rattle.sc_schema_resolved.specs.declared.schema.ResolvedSchema.{ResolvedSchema}
+use Rattle.sc_schema.specs.Expanded.{IsExpanded}
+use Rattle.sc_schema.specs.Resolved.{IsResolved}
+use Rattle.sc_schema.specs.declared.expanded.ExpandedSchema.{ExpandedSchema}
+use Rattle.sc_schema.specs.declared.resolved_schema.ResolvedSchema.{ResolvedSchema}
 use Rattle.sc_schema_types.specs.References.{Names}
 use Rattle.sc_schema_types.specs.Orders.{IsOrder, IsTypeCycle, cycle}
 use Rattle.sc_schema_types.specs.Types as types
-use Rattle.sc_schema_hierarchy.specs.Above.{NoCycle, IsLeastCycle}
-use Rattle.sc_schema_hierarchy.specs.Schemas.{IsSchemaOf}
+use Rattle.sc_schema_json.specs.Above.{NoCycle, IsLeastCycle}
+use Rattle.sc_schema_json.specs.Schemas.{IsSchemaOf}
 use Rattle.sc_schema_json.specs.Spelling.{max_environments, links_of, IsOrdered, IsAcyclic, Means, Describes, HasFaultOf, of_common_types, of_actions, of_types, of_environments, Declares, Spells, HasFault, of_form, of_names, of_schema}
 use Rattle.sc_schema_json.proofs.MadeLaws.{made_schema, action_cycle_or_none}
 

@@ -1,78 +1,69 @@
--- Of links: what stands above a key, in ascending order, and the least key that stands above itself, or that there is none.
-use Rattle.std.proofs.Common.{◌≡◌, ◌⊎◌, List, [], map, Bool, true, false, cond, Contains, inl, inr, refl, sym, subst}
-use Rattle.std.specs.Bool.{Decides}
-use Rattle.std.specs.Cmp.{IsTotalOrder}
-use Rattle.std.specs.List.{flat_map, list_any}
-use Rattle.std.specs.List.Sorted.{IsStrictlySortedBy}
+-- What stands above what, by any list of the same links.
+use Rattle.std.proofs.Common.{◌≡◌, List, [], ◌∷◌, map, refl, sym, ap, subst, Contains, IsPermutation}
+use Rattle.std.specs.List.{AllByRecursion}
+use Rattle.std.specs.Map.{keys_of}
 use Rattle.std.specs.declared.cmp.Ordering.{Ordering}
-use Rattle.std.specs.declared.cmp.Ordering.TheVariants.{Equal}
-use Rattle.sc_lists.proofs.ListLaws.{contains_nothing, contains_map, map_itself, contains_joined, joined_from}
+use Rattle.std.proofs.lemmas.List.Sorted.{Contains-permutation, IsPermutation-map, IsPermutation-sym}
+use Rattle.sc_lists.proofs.ListLaws.{all_element, all_of_elements, contains_from_map}
 use Rattle.sc_graphs.specs.Reaching.{step, on}
-use Rattle.sc_schema_hierarchy.specs.Above.{Links, IsParent, IsAbove, AreAbove, NoCycle, IsLeastCycle}
-use Rattle.sc_schema_json.proofs.AscendingLaws.{Ascends}
-use Rattle.sc_schema_json.proofs.LeadingLaws.{Leads, next, onwards}
-use Rattle.sc_schema_json.proofs.GraphLaws.{any_decided, led_to, IsLeastRound, round_or_none}
+use Rattle.sc_schema_json.specs.Above.{Links, IsParent, IsAbove, AreAbove, NamesKeys}
 
-module _ {K : Type 0} {R : K → K → Ordering} (o : IsTotalOrder R) (level : (x y : K) → R x y ≡ Equal → x ≡ y)
-    (eq : K → K → Bool) (decides : (a b : K) → Decides (eq a b) (a ≡ b)) (links : Links K) where
-  abbrev parents_of : K → K × List K → List K
-  parents_of a l = cond (eq a l.0) l.1 []
+-- ---- elements of lists
 
-  abbrev graph : K → List K
-  graph a = flat_map (parents_of a) links
+-- ---- the same links, the same above
 
-  parents : (a b : K) → IsParent links a b → Contains (graph a) b
-  parents a b p =
-      contains_joined (parents_of a) links (a, p.above) b p.listed
-      (subst (λ (t : Bool). Contains (cond t p.above []) b) (sym ((decides a a).1 refl)) p.parent)
+pub above_within : {K : Type 0} (links others : Links K) → ((l : K × List K) → Contains links l → Contains others l) → {a b : K} → IsAbove links a b → IsAbove others a b
+above_within links others has (step a b p) = step a b (record { above = p.above; listed = has (a, p.above) p.listed; parent = p.parent })
+above_within links others has (on a b c p r) = on a b c (record { above = p.above; listed = has (a, p.above) p.listed; parent = p.parent }) (above_within links others has r)
 
-  parent_from : (a b : K) → Contains (graph a) b → IsParent links a b
-  parent_from a b has = from (joined_from (parents_of a) links b has) where
-    at : (l : K × List K) → Contains links l → (t : Bool) → eq a l.0 ≡ t → Contains (cond t l.1 []) b → IsParent links a b
-    at l listed true same inside =
-        record { above = l.1; listed = subst (λ (k : K). Contains links (k, l.1)) (sym ((decides a l.0).0 same)) listed; parent = inside }
-    at l listed false other inside = absurd (contains_nothing b inside)
+pub are_above_permuted : {K : Type 0} (R : K → K → Ordering) (links others : Links K) (a : K) (ks : List K) → IsPermutation links others → AreAbove R others a ks → AreAbove R links a ks
+are_above_permuted R links others a ks permutation above =
+    record {
+      ascending = above.ascending;
+      members = λ b. (
+        λ has. above_within others links (λ l. Contains-permutation others links l (IsPermutation-sym links others permutation)) ((above.members b).0 has),
+        λ is. (above.members b).1 (above_within links others (λ l. Contains-permutation links others l permutation) is),
+      );
+    }
 
-    from : (l : K × List K) × Contains links l × Contains (parents_of a l) b → IsParent links a b
-    from found = at found.0 found.1 (eq a found.0.0) refl found.2
+pub named_permuted : {K : Type 0} (links others : Links K) → IsPermutation links others → NamesKeys links → NamesKeys others
+named_permuted {K} links others permutation named =
+    all_of_elements (λ (l : K × List K). AllByRecursion (Contains (keys_of others)) l.1) others (λ l has.
+    all_of_elements (Contains (keys_of others)) l.1 (λ k above.
+    Contains-permutation (keys_of links) (keys_of others) k (IsPermutation-map (λ (m : K × List K). m.0) links others permutation)
+    (all_element (Contains (keys_of links)) l.1 k (all_element (λ (m : K × List K). AllByRecursion (Contains (keys_of links)) m.1) links l named (Contains-permutation others links l (IsPermutation-sym links others permutation) has)) above)))
 
-  leads_above : {a b : K} → Leads graph a b → IsAbove links a b
-  leads_above (next a b h) = step a b (parent_from a b h)
-  leads_above (onwards a m b h r) = on a m b (parent_from a m h) (leads_above r)
+-- ---- chains
 
-  above_leads : {a b : K} → IsAbove links a b → Leads graph a b
-  above_leads (step a b p) = next a b (parents a b p)
-  above_leads (on a m b p r) = onwards a m b (parents a m p) (above_leads r)
+pub above_above : {K : Type 0} {links : Links K} {a b : K} (c : K) → IsAbove links a b → IsAbove links b c → IsAbove links a c
+above_above c (step a b p) r = on a b c p r
+above_above c (on a b d p q) r = on a b c p (above_above c q r)
 
-  abbrev keys : List K
-  keys = map (λ (l : K × List K). l.0) links
+-- what stands above a key, and what something stands above, is a key
 
-  keyed : (a b : K) → Contains (graph a) b → Contains keys a
-  keyed a b has =
-      let p = parent_from a b has in
-      contains_map (λ (l : K × List K). l.0) links (a, p.above) p.listed
+parent_key : {K : Type 0} {links : Links K} {a b : K} → NamesKeys links → IsParent links a b → Contains (keys_of links) b
+parent_key {K} {links} {a} {b} named p =
+    all_element (Contains (keys_of links)) p.above b (all_element (λ (l : K × List K). AllByRecursion (Contains (keys_of links)) l.1) links (a, p.above) named p.listed) p.parent
 
-  names : K → K → Bool
-  names a b = list_any (eq b) (graph a)
+pub above_key : {K : Type 0} {links : Links K} {a b : K} → NamesKeys links → IsAbove links a b → Contains (keys_of links) b
+above_key named (step a b p) = parent_key named p
+above_key named (on a b c p r) = above_key named r
 
-  named : (a b : K) → Decides (names a b) (Contains (graph a) b)
-  unfolding names
-  named a b = any_decided eq decides (graph a) b
+pub below_link : {K : Type 0} {links : Links K} {a b : K} → IsAbove links a b → (above : List K) × Contains links (a, above)
+below_link (step a b p) = (p.above, p.listed)
+below_link (on a b c p r) = (p.above, p.listed)
 
-  pub are_above : (a : K) → (ks : List K) × AreAbove R links a ks
-  are_above a = of (led_to o level graph names named keys keyed a) where
-    of : Ascends R (λ (k : K). k) (Leads graph a) → (ks : List K) × AreAbove R links a ks
-    of all = (
-      all.list,
-      record {
-        ascending = subst (IsStrictlySortedBy R) (map_itself all.list) all.ascending;
-        members = λ b. (λ has. leads_above ((all.members b).0 has), λ is. (all.members b).1 (above_leads is));
-      },
-    )
+-- ---- the links of declarations
 
-  pub cycle_or_none : ((k : K) × IsLeastCycle R links k) ⊎ NoCycle links
-  cycle_or_none = of (round_or_none o level graph names named keys keyed) where
-    of : ((k : K) × IsLeastRound o level graph names named keys keyed k) ⊎ ((k : K) → Leads graph k k → ⊥) → ((k : K) × IsLeastCycle R links k) ⊎ NoCycle links
-    of (inl found) =
-        inl (found.0, record { cycle = leads_above found.1.round; least = λ other is. found.1.least other (above_leads is) })
-    of (inr none) = inr (λ k is. none k (above_leads is))
+pub keys_of_links : {K D : Type 0} (key : D → K) (above : D → List K) (ds : List D) → keys_of (map (λ (d : D). (key d, above d)) ds) ≡ map key ds
+keys_of_links key above [] = refl
+keys_of_links {K} key above (d ∷ ds) = ap (λ (ks : List K). key d ∷ ks) (keys_of_links key above ds)
+
+pub links_named : {K D : Type 0} (key : D → K) (above : D → List K) (ds : List D) → ((d : D) → Contains ds d → AllByRecursion (Contains (map key ds)) (above d)) → NamesKeys (map (λ (d : D). (key d, above d)) ds)
+links_named {K} {D} key above ds each =
+    all_of_elements (λ (l : K × List K). AllByRecursion (Contains (keys_of (map (λ (d : D). (key d, above d)) ds))) l.1) (map (λ (d : D). (key d, above d)) ds)
+    (λ l has. one l (contains_from_map (λ (d : D). (key d, above d)) ds l has)) where
+      one : (l : K × List K) → (d : D) × Contains ds d × ((key d, above d) ≡ l) → AllByRecursion (Contains (keys_of (map (λ (d : D). (key d, above d)) ds))) l.1
+      one l found =
+          subst (λ (m : K × List K). AllByRecursion (Contains (keys_of (map (λ (d : D). (key d, above d)) ds))) m.1) found.2
+          (subst (λ (ks : List K). AllByRecursion (Contains ks) (above found.0)) (sym (keys_of_links key above ds)) (each found.0 found.1))

@@ -21,14 +21,14 @@ use Rattle.sc_schema.specs.Declarations.{Declarations, uid_eq}
 use Rattle.sc_schema.specs.declared.declarations.Action.{Action}
 use Rattle.sc_schema.specs.declared.declarations.EntityType.{EntityType}
 use Rattle.sc_schema.proofs.PlaceLaws.{uid_eq-Decides}
-use Rattle.sc_schema_resolved.specs.Expanded.{IsExpanded}
-use Rattle.sc_schema_resolved.specs.declared.expanded.ExpandedAction.{ExpandedAction}
-use Rattle.sc_schema_resolved.specs.declared.expanded.ExpandedEntityType.{ExpandedEntityType}
-use Rattle.sc_schema_resolved.specs.declared.expanded.ExpandedSchema.{ExpandedSchema}
-use Rattle.sc_schema_hierarchy.specs.Above.{Links, AreAbove, NoCycle, IsLeastCycle}
-use Rattle.sc_schema_hierarchy.specs.Schemas.{AreInOrder, IsEntityTypeOf, IsActionOf, AreTypesOf, AreActionsOf, IsSchemaOf, type_links, action_links}
+use Rattle.sc_schema.specs.Expanded.{IsExpanded}
+use Rattle.sc_schema.specs.declared.expanded.ExpandedAction.{ExpandedAction}
+use Rattle.sc_schema.specs.declared.expanded.ExpandedEntityType.{ExpandedEntityType}
+use Rattle.sc_schema.specs.declared.expanded.ExpandedSchema.{ExpandedSchema}
+use Rattle.sc_schema_json.specs.Above.{Links, AreAbove, NoCycle, IsLeastCycle}
+use Rattle.sc_schema_json.specs.Schemas.{AreInOrder, IsEntityTypeOf, IsActionOf, AreTypesOf, AreActionsOf, IsSchemaOf, type_links, action_links}
 use Rattle.sc_schema_json.proofs.AscendingLaws.{Ascends, ascending_of}
-use Rattle.sc_schema_json.proofs.LinksLaws.{are_above, cycle_or_none}
+use Rattle.sc_schema_json.proofs.SpelledLinksLaws.{are_above, cycle_or_none}
 
 pub text_level : (a b : List ℕ) → text_cmp a b ≡ Equal → a ≡ b
 text_level a b is = bytes_eq_true a b (sym (is_eq-slice_cmp a b) ∙ ap is_eq is)

@@ -6,7 +6,7 @@ use Rattle.sc_schema_syntax.specs.declared.fault.SchemaFault.{SchemaFault}
 use Rattle.sc_schema_syntax.specs.declared.written_schema.WrittenSchema.{WrittenSchema}
 use Rattle.sc_schema_syntax.specs.Syntax as syntax
 use Rattle.sc_schema_names.specs.Resolves as names
-use Rattle.sc_schema_resolved.specs.declared.schema.ResolvedSchema.{ResolvedSchema}
+use Rattle.sc_schema.specs.declared.resolved_schema.ResolvedSchema.{ResolvedSchema}
 use Rattle.sc_schema_json.specs.Spelling.{of_form, of_names, of_schema, Declares, Refuses, RefusesOf}
 
 pub refuses_form : (bytes : List ℕ) (fault : Fault SchemaFault) → syntax.Refuses bytes fault → Refuses bytes fault

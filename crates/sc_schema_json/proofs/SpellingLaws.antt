@@ -13,13 +13,13 @@ use Rattle.sc_schema_syntax.specs.declared.written_schema.WrittenSchema.{Written
 use Rattle.sc_schema_syntax.specs.Syntax as syntax
 use Rattle.sc_schema_syntax.specs.WellWritten.{IsWritten}
 use Rattle.sc_schema_names.specs.Resolves as names
-use Rattle.sc_schema_resolved.specs.declared.schema.ResolvedSchema.{ResolvedSchema}
-use Rattle.sc_schema_resolved.specs.declared.expanded.ExpandedSchema.{ExpandedSchema}
-use Rattle.sc_schema_resolved.specs.Resolved.{IsResolved}
+use Rattle.sc_schema.specs.declared.resolved_schema.ResolvedSchema.{ResolvedSchema}
+use Rattle.sc_schema.specs.declared.expanded.ExpandedSchema.{ExpandedSchema}
+use Rattle.sc_schema.specs.Resolved.{IsResolved}
 use Rattle.sc_schema_types.specs.Orders.{HasTypeCycle, cycle}
 use Rattle.sc_schema_types.specs.Types as types
-use Rattle.sc_schema_hierarchy.specs.Above.{Links, IsLeastCycle}
-use Rattle.sc_schema_hierarchy.specs.Schemas.{IsSchemaOf}
+use Rattle.sc_schema_json.specs.Above.{Links, IsLeastCycle}
+use Rattle.sc_schema_json.specs.Schemas.{IsSchemaOf}
 use Rattle.sc_schema_json.specs.Spelling.{links_of, IsOrdered, IsAcyclic, Means, Describes, HasFaultOf, of_common_types, of_actions, of_types, of_environments, Declares, Spells, HasFault, of_form, of_names, of_schema, IsSettled}
 use Rattle.sc_schema_json.proofs.EitherLaws.{AreTypesExpanded, schema_or_fault}
 

@@ -1,1 +1,4 @@
+pub mod Above
+pub mod Graphs
+pub mod Schemas
 pub mod Spelling

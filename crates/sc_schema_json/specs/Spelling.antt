@@ -10,14 +10,14 @@ use Rattle.sc_schema_syntax.specs.declared.fault.SchemaFault.TheVariants.{Action
 use Rattle.sc_schema_syntax.specs.declared.written_schema.WrittenSchema.{WrittenSchema}
 use Rattle.sc_schema_syntax.specs.Syntax as syntax
 use Rattle.sc_schema_names.specs.Resolves.{Resolves, HasUnknown}
-use Rattle.sc_schema_resolved.specs.declared.schema.ResolvedSchema.{ResolvedSchema}
-use Rattle.sc_schema_resolved.specs.declared.expanded.ExpandedSchema.{ExpandedSchema}
-use Rattle.sc_schema_resolved.specs.Resolved.{actions}
+use Rattle.sc_schema.specs.declared.resolved_schema.ResolvedSchema.{ResolvedSchema}
+use Rattle.sc_schema.specs.declared.expanded.ExpandedSchema.{ExpandedSchema}
+use Rattle.sc_schema.specs.Resolved.{actions}
 use Rattle.sc_schema_types.specs.References.{Names}
 use Rattle.sc_schema_types.specs.Orders.{IsOrder, HasTypeCycle}
 use Rattle.sc_schema_types.specs.Types.{IsExpansion, HasTypeFault}
-use Rattle.sc_schema_hierarchy.specs.Above.{Links, NoCycle, IsLeastCycle}
-use Rattle.sc_schema_hierarchy.specs.Schemas.{resolved_links, IsSchemaOf}
+use Rattle.sc_schema_json.specs.Above.{Links, NoCycle, IsLeastCycle}
+use Rattle.sc_schema_json.specs.Schemas.{resolved_links, IsSchemaOf}
 
 -- how many environments a schema may have
 abbrev pub max_environments : ℕ

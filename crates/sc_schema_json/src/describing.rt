@@ -1,18 +1,19 @@
 //! The schema that declarations describe, each name in them being known.
 ghost use Rattle.std.specs.Prelude.{IfOk, IfErr};
-ghost use Rattle.sc_schema_resolved.specs.Resolved.{IsResolved};
+ghost use Rattle.sc_schema.specs.Resolved.{IsResolved};
 ghost use Rattle.sc_schema_types.specs.Orders.{IsOrder};
 ghost use Rattle.sc_schema_types.specs.Types.{IsExpansion};
-ghost use Rattle.sc_schema_hierarchy.specs.Above.{NoCycle};
+ghost use Rattle.sc_schema_json.specs.Above.{NoCycle};
 ghost use Rattle.sc_schema_json.specs.Spelling.{links_of, IsAcyclic, Describes, RefusesOf};
 
+use crate::building::declarations_of;
+use crate::counting::has_more_environments;
+use crate::cycle::least_cycle;
+use crate::declared::Declared;
+use crate::hierarchy_law::schema_laws;
 use sc_lists::{Fault, Seq};
 use sc_names::Name;
-use sc_schema::Schema;
-use sc_schema_hierarchy::{
-    Declared, declarations_of, has_more_environments, least_cycle, schema_laws,
-};
-use sc_schema_resolved::{ExpandedSchema, ResolvedSchema};
+use sc_schema::{ExpandedSchema, ResolvedSchema, Schema};
 use sc_schema_syntax::SchemaFault;
 use sc_schema_types::{expand, order_types, type_laws};
 use std::alloc::Global;

@@ -2,7 +2,7 @@
 ghost use Rattle.std.specs.Prelude.{ℕ, List};
 ghost use Rattle.sc_schema_json.specs.Spelling.{IsSettled};
 
-use sc_schema_hierarchy::schema_laws;
+use crate::hierarchy_law::schema_laws;
 use sc_schema_names::resolution_laws;
 use sc_schema_syntax::syntax_laws;
 use sc_schema_types::type_laws;

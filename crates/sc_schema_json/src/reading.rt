@@ -1,13 +1,12 @@
 //! Reads the schema that a file spells.
 ghost use Rattle.std.specs.Prelude.{IfOk, IfErr};
-ghost use Rattle.sc_schema_resolved.specs.Resolved.{IsResolved};
+ghost use Rattle.sc_schema.specs.Resolved.{IsResolved};
 ghost use Rattle.sc_schema_json.specs.Spelling.{Declares, Spells, Refuses};
 
 use crate::describing::described;
 use sc_lists::Fault;
-use sc_schema::Schema;
+use sc_schema::{ResolvedSchema, Schema};
 use sc_schema_names::{resolution_laws, resolve};
-use sc_schema_resolved::ResolvedSchema;
 use sc_schema_syntax::{SchemaFault, read_syntax, syntax_laws};
 use std::alloc::Global;
 

@@ -2,10 +2,10 @@
 use Rattle.std.proofs.Common.{◌≡◌, ℕ, List, [], ◌∷◌, map, refl, sym, ap, subst}
 use Rattle.std.specs.List.{AllByRecursion}
 use Rattle.sc_schema.specs.declared.ty.Presence.{Presence}
-use Rattle.sc_schema_resolved.specs.declared.resolved_type.ResolvedType.{ResolvedType, ResolvedType-F, roll-ResolvedType, map-ResolvedType, every-ResolvedType, every_made-ResolvedType}
-use Rattle.sc_schema_resolved.specs.declared.resolved_type.ResolvedType.TheVariants as type
-use Rattle.sc_schema_resolved.specs.declared.resolved_type.ResolvedType.TheVariants.{rolls-Boolean, rolls-Long, rolls-String, rolls-Decimal, rolls-Ip, rolls-Entity, rolls-Set, rolls-Record, rolls-Common}
-use Rattle.sc_schema_resolved.specs.declared.resolved_type.ResolvedType.TheOpen as t
+use Rattle.sc_schema.specs.declared.resolved_type.ResolvedType.{ResolvedType, ResolvedType-F, roll-ResolvedType, map-ResolvedType, every-ResolvedType, every_made-ResolvedType}
+use Rattle.sc_schema.specs.declared.resolved_type.ResolvedType.TheVariants as type
+use Rattle.sc_schema.specs.declared.resolved_type.ResolvedType.TheVariants.{rolls-Boolean, rolls-Long, rolls-String, rolls-Decimal, rolls-Ip, rolls-Entity, rolls-Set, rolls-Record, rolls-Common}
+use Rattle.sc_schema.specs.declared.resolved_type.ResolvedType.TheOpen as t
 
 abbrev pub Fields : Type 0
 Fields = List (List ℕ × Presence × ResolvedType)

@@ -20,10 +20,10 @@ use Rattle.sc_schema_syntax.specs.declared.written_schema.WrittenSchema.{Written
 use Rattle.sc_schema_syntax.specs.TypeWords.{is_reserved}
 use Rattle.sc_schema_syntax.specs.WellWritten.{IsWrittenNamespace}
 use Rattle.sc_schema_syntax.proofs.FaultsLaws.{no_fault_either, no_fault_under}
-use Rattle.sc_schema_resolved.specs.declared.action.ResolvedAction.{ResolvedAction}
-use Rattle.sc_schema_resolved.specs.declared.common_type.ResolvedCommonType.{ResolvedCommonType}
-use Rattle.sc_schema_resolved.specs.declared.entity_type.ResolvedEntityType.{ResolvedEntityType}
-use Rattle.sc_schema_resolved.specs.declared.namespace.ResolvedNamespace.{ResolvedNamespace}
+use Rattle.sc_schema.specs.declared.resolved_action.ResolvedAction.{ResolvedAction}
+use Rattle.sc_schema.specs.declared.resolved_common_type.ResolvedCommonType.{ResolvedCommonType}
+use Rattle.sc_schema.specs.declared.resolved_entity_type.ResolvedEntityType.{ResolvedEntityType}
+use Rattle.sc_schema.specs.declared.resolved_namespace.ResolvedNamespace.{ResolvedNamespace}
 use Rattle.sc_schema_names.specs.Names.{Known, known_in, full, action_type, action_uid, entity_types_of, common_types_of, actions_of}
 use Rattle.sc_schema_names.specs.Resolution.{resolved_action, resolved_common_type, resolved_entity_type, resolved_namespace, resolved}
 use Rattle.sc_schema_names.specs.Unknown.{inside, first_member, namespace_fault}

@@ -8,8 +8,8 @@ use Rattle.sc_schema_syntax.specs.declared.written_type.WrittenType.{WrittenType
 use Rattle.sc_schema_syntax.specs.declared.written_type.WrittenType.TheVariants as written
 use Rattle.sc_schema_syntax.specs.declared.written_type.WrittenType.TheVariants.{rolls-Record}
 use Rattle.sc_schema_syntax.specs.declared.written_type.WrittenType.TheOpen as t
-use Rattle.sc_schema_resolved.specs.declared.resolved_type.ResolvedType.{ResolvedType}
-use Rattle.sc_schema_resolved.specs.declared.resolved_type.ResolvedType.TheVariants as type
+use Rattle.sc_schema.specs.declared.resolved_type.ResolvedType.{ResolvedType}
+use Rattle.sc_schema.specs.declared.resolved_type.ResolvedType.TheVariants as type
 use Rattle.sc_schema_names.specs.Names.{Known}
 use Rattle.sc_schema_names.specs.Resolution.{presence_of, resolved_step, resolved_type, resolved_attribute}
 use Rattle.sc_schema_names.specs.Unknown.{inside, first_member, type_fault_step, type_fault}

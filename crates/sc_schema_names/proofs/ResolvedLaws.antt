@@ -17,10 +17,10 @@ use Rattle.sc_schema_syntax.specs.declared.written_namespace.WrittenNamespace.{W
 use Rattle.sc_schema_syntax.specs.declared.written_schema.WrittenSchema.{WrittenSchema}
 use Rattle.sc_schema_syntax.specs.WellWritten.{IsWrittenType, IsWrittenEntityType, IsWritten}
 use Rattle.sc_schema_syntax.proofs.FaultsLaws.{no_fault_either, no_fault_under}
-use Rattle.sc_schema_resolved.specs.declared.common_type.ResolvedCommonType.{ResolvedCommonType}
-use Rattle.sc_schema_resolved.specs.declared.namespace.ResolvedNamespace.{ResolvedNamespace}
-use Rattle.sc_schema_resolved.specs.declared.schema.ResolvedSchema.{ResolvedSchema}
-use Rattle.sc_schema_resolved.specs.Resolved.{entity_names, IsResolvedType, IsResolvedEntityType, IsResolvedAction, IsResolved}
+use Rattle.sc_schema.specs.declared.resolved_common_type.ResolvedCommonType.{ResolvedCommonType}
+use Rattle.sc_schema.specs.declared.resolved_namespace.ResolvedNamespace.{ResolvedNamespace}
+use Rattle.sc_schema.specs.declared.resolved_schema.ResolvedSchema.{ResolvedSchema}
+use Rattle.sc_schema.specs.Resolved.{entity_names, IsResolvedType, IsResolvedEntityType, IsResolvedAction, IsResolved}
 use Rattle.sc_schema_names.specs.Names.{Known, known_in, full, action_type, actions}
 use Rattle.sc_schema_names.specs.Resolution.{resolved_action, resolved_common_type, resolved_entity_type, resolved_namespace, resolved}
 use Rattle.sc_schema_names.specs.Unknown.{inside, first_member, first_item, parent_fault, entity_types_fault, any_type_fault, applies_to_fault, action_fault, common_type_fault, declared_entity_type_fault, first_unknown}

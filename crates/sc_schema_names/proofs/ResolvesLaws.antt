@@ -2,7 +2,7 @@
 use Rattle.std.proofs.Common.{◌≡◌, ◌⊎◌, ◌∙◌, refl, sym, inl, inr, Option, Some, None}
 use Rattle.sc_schema_syntax.specs.declared.fault.SchemaFault.{SchemaFault}
 use Rattle.sc_schema_syntax.specs.declared.written_schema.WrittenSchema.{WrittenSchema}
-use Rattle.sc_schema_resolved.specs.declared.schema.ResolvedSchema.{ResolvedSchema}
+use Rattle.sc_schema.specs.declared.resolved_schema.ResolvedSchema.{ResolvedSchema}
 use Rattle.sc_schema_names.specs.Resolution.{resolved}
 use Rattle.sc_schema_names.specs.Unknown.{first_unknown}
 use Rattle.sc_schema_names.specs.Resolves.{Resolves, HasUnknown, IsSettled}

@@ -21,10 +21,10 @@ use Rattle.sc_schema_syntax.specs.declared.written_schema.WrittenSchema.{Written
 use Rattle.sc_schema_syntax.specs.WellWritten.{attribute_names, IsWrittenLevel, IsWrittenType}
 use Rattle.sc_schema_syntax.proofs.FaultsLaws.{no_fault_either, no_fault_under}
 use Rattle.sc_schema_syntax.proofs.EveryWrittenLaws.{every_level, every_element, every_attributes}
-use Rattle.sc_schema_resolved.specs.declared.resolved_type.ResolvedType.{ResolvedType}
-use Rattle.sc_schema_resolved.specs.declared.resolved_type.ResolvedType.TheVariants as type
-use Rattle.sc_schema_resolved.specs.declared.schema.ResolvedSchema.{ResolvedSchema}
-use Rattle.sc_schema_resolved.specs.Resolved.{common_names, entity_names, action_uids, field_names, AreDeclared, IsResolvedLevel, IsResolvedType}
+use Rattle.sc_schema.specs.declared.resolved_type.ResolvedType.{ResolvedType}
+use Rattle.sc_schema.specs.declared.resolved_type.ResolvedType.TheVariants as type
+use Rattle.sc_schema.specs.declared.resolved_schema.ResolvedSchema.{ResolvedSchema}
+use Rattle.sc_schema.specs.Resolved.{common_names, entity_names, action_uids, field_names, AreDeclared, IsResolvedLevel, IsResolvedType}
 use Rattle.sc_schema_names.specs.Names.{Known, known_in, entity_types, common_types, actions, candidates, entity_type_named, common_type_named, action_named}
 use Rattle.sc_schema_names.specs.Resolution.{is_either, builtin, declared_type, type_named, entity_type_of, common_type_of, any_type_of, extension_type, presence_of, resolved_step, resolved_type, resolved_parent}
 use Rattle.sc_schema_names.specs.Unknown.{inside, first_member, first_item, no_type, no_action, entity_type_fault, parent_fault, type_fault_step, type_fault, any_type_fault}

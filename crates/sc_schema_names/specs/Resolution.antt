@@ -17,13 +17,13 @@ use Rattle.sc_schema_syntax.specs.declared.written_common_type.WrittenCommonType
 use Rattle.sc_schema_syntax.specs.declared.written_entity_type.WrittenEntityType.{WrittenEntityType}
 use Rattle.sc_schema_syntax.specs.declared.written_namespace.WrittenNamespace.{WrittenNamespace}
 use Rattle.sc_schema_syntax.specs.declared.written_schema.WrittenSchema.{WrittenSchema}
-use Rattle.sc_schema_resolved.specs.declared.resolved_type.ResolvedType.{ResolvedType}
-use Rattle.sc_schema_resolved.specs.declared.resolved_type.ResolvedType.TheVariants as type
-use Rattle.sc_schema_resolved.specs.declared.action.ResolvedAction.{ResolvedAction}
-use Rattle.sc_schema_resolved.specs.declared.common_type.ResolvedCommonType.{ResolvedCommonType}
-use Rattle.sc_schema_resolved.specs.declared.entity_type.ResolvedEntityType.{ResolvedEntityType}
-use Rattle.sc_schema_resolved.specs.declared.namespace.ResolvedNamespace.{ResolvedNamespace}
-use Rattle.sc_schema_resolved.specs.declared.schema.ResolvedSchema.{ResolvedSchema}
+use Rattle.sc_schema.specs.declared.resolved_type.ResolvedType.{ResolvedType}
+use Rattle.sc_schema.specs.declared.resolved_type.ResolvedType.TheVariants as type
+use Rattle.sc_schema.specs.declared.resolved_action.ResolvedAction.{ResolvedAction}
+use Rattle.sc_schema.specs.declared.resolved_common_type.ResolvedCommonType.{ResolvedCommonType}
+use Rattle.sc_schema.specs.declared.resolved_entity_type.ResolvedEntityType.{ResolvedEntityType}
+use Rattle.sc_schema.specs.declared.resolved_namespace.ResolvedNamespace.{ResolvedNamespace}
+use Rattle.sc_schema.specs.declared.resolved_schema.ResolvedSchema.{ResolvedSchema}
 use Rattle.sc_schema_names.specs.Names.{Known, known_in, full, uid_of, action_uid, candidates, entity_type_named, common_type_named, action_named}
 
 -- ---- types

@@ -2,7 +2,7 @@
 ghost use Rattle.std.specs.Prelude.{◌≡◌};
 ghost use Rattle.sc_schema_names.specs.Resolution.{is_either, builtin};
 
-use sc_schema_resolved::ResolvedType;
+use sc_schema::ResolvedType;
 
 /// The primitive or extension type that a word means where nothing is declared by it.
 pub(crate) fn builtin(text: &str) -> Option<ResolvedType>

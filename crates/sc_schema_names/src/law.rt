@@ -2,8 +2,8 @@
 ghost use Rattle.sc_schema_syntax.specs.declared.written_schema.WrittenSchema.{WrittenSchema as AnySchema};
 ghost use Rattle.sc_schema_syntax.specs.declared.fault.SchemaFault.{SchemaFault as AnyFault};
 ghost use Rattle.sc_schema_syntax.specs.WellWritten.{IsWritten};
-ghost use Rattle.sc_schema_resolved.specs.declared.schema.ResolvedSchema.{ResolvedSchema as AnyResolved};
-ghost use Rattle.sc_schema_resolved.specs.Resolved.{IsResolved};
+ghost use Rattle.sc_schema.specs.declared.resolved_schema.ResolvedSchema.{ResolvedSchema as AnyResolved};
+ghost use Rattle.sc_schema.specs.Resolved.{IsResolved};
 ghost use Rattle.sc_schema_names.specs.Resolves.{Resolves, HasUnknown, IsSettled, IsOfName};
 
 /// What is written resolves to just one schema or has just one fault, and not both; a fault is that

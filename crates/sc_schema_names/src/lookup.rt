@@ -10,7 +10,7 @@ use crate::declared::Declared;
 use crate::full::{candidates, parent_candidates};
 use sc_lists::Seq;
 use sc_names::{Name, Uid};
-use sc_schema_resolved::ResolvedType;
+use sc_schema::ResolvedType;
 use sc_schema_syntax::WrittenParent;
 use std::alloc::{AllocError, Global};
 

@@ -8,8 +8,7 @@ use crate::full::name_of;
 use crate::lookup::{common_type_named, entity_type_named, type_named};
 use sc_lists::{Boxed, Seq, Text};
 use sc_names::Name;
-use sc_schema::Presence;
-use sc_schema_resolved::{ResolvedAttributes, ResolvedType};
+use sc_schema::{Presence, ResolvedAttributes, ResolvedType};
 use sc_schema_syntax::{ExtensionKind, WrittenAttributes, WrittenPresence, WrittenType};
 use std::alloc::{AllocError, Global};
 

@@ -9,7 +9,7 @@ use crate::declared::Declared;
 use crate::declaring::declared_of;
 use crate::translating::resolved_by;
 use sc_lists::Fault;
-use sc_schema_resolved::ResolvedSchema;
+use sc_schema::ResolvedSchema;
 use sc_schema_syntax::{SchemaFault, WrittenSchema};
 use std::alloc::Global;
 

@@ -10,7 +10,7 @@ use crate::lookup::action_named;
 use crate::resolved_types::{entity_type_of, resolved_type};
 use sc_lists::{Seq, Text};
 use sc_names::{Name, Uid};
-use sc_schema_resolved::{
+use sc_schema::{
     ResolvedAction, ResolvedCommonType, ResolvedEntityType, ResolvedNamespace, ResolvedSchema,
     ResolvedType,
 };

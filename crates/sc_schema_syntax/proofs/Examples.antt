@@ -9,7 +9,7 @@ use Rattle.sc_names.specs.Paths.{parts}
 use Rattle.sc_schema_syntax.specs.declared.fault.SchemaFault.TheVariants.{NotJson, BadShape, BadName}
 use Rattle.sc_schema_syntax.specs.declared.written_schema.WrittenSchema.{WrittenSchema}
 use Rattle.sc_schema_syntax.specs.declared.written_type.WrittenType.TheVariants as type
-use Rattle.sc_pointers.specs.Pointers.{escaped}
+use Rattle.sc_json.specs.Pointers.{escaped}
 use Rattle.sc_schema_syntax.specs.Faults.{value_fault}
 use Rattle.sc_schema_syntax.specs.declared.form.Form.TheVariants.{Object}
 use Rattle.sc_schema_syntax.specs.declared.level.Level.TheVariants.{Schema}

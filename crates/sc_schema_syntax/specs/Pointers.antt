@@ -1,6 +1,6 @@
 -- Where in a file a fault stands: a JSON pointer (RFC 6901).
 use Rattle.std.specs.Prelude.{ℕ, List}
-use Rattle.sc_pointers.specs.Pointers.{below}
+use Rattle.sc_json.specs.Pointers.{below}
 use Rattle.sc_schema_syntax.specs.declared.fault.SchemaFault.{SchemaFault}
 use Rattle.sc_schema_syntax.specs.declared.fault.SchemaFault.TheVariants.{NotJson, BadShape, BadName, UnknownType, UnknownAction, TypeCycle, ActionCycle, NotRecord, TypeTooLarge, TooManyEnvironments}
 

@@ -1,12 +1,12 @@
 //! The paths of faults: JSON pointers (RFC 6901).
 ghost use Rattle.std.specs.Prelude.{◌≡◌, IfOk};
 ghost use Rattle.std.specs.Fmt.{decimal};
-ghost use Rattle.sc_pointers.specs.Pointers.{below};
+ghost use Rattle.sc_json.specs.Pointers.{below};
 ghost use Rattle.sc_schema_syntax.specs.Pointers.{under};
 
 use crate::fault::SchemaFault;
+use sc_json::below;
 use sc_lists::{Boxed, Text};
-use sc_pointers::below;
 use std::alloc::{AllocError, Global};
 
 /// The path of a value, as that of the value whose member or item it is.

@@ -1,10 +1,10 @@
 //! What schema files declare, by their texts.
 ghost use Rattle.std.specs.Prelude.{IfSome};
-ghost use Rattle.sc_schema_resolved.specs.Resolved.{IsResolved};
+ghost use Rattle.sc_schema.specs.Resolved.{IsResolved};
 ghost use Rattle.sc_schema_syntax.specs.WellWritten.{IsWritten};
 
+use sc_schema::ResolvedSchema;
 use sc_schema_names::{resolution_laws, resolve};
-use sc_schema_resolved::ResolvedSchema;
 use sc_schema_syntax::{WrittenSchema, read_syntax, syntax_laws};
 use std::alloc::Global;
 

@@ -1,11 +1,11 @@
 //! Actions that stand above themselves.
-ghost use Rattle.sc_schema_resolved.specs.Resolved.{IsResolved};
+ghost use Rattle.sc_schema.specs.Resolved.{IsResolved};
 
 use crate::declared::declared;
 use crate::texts::is_text;
 use sc_names::uid_text;
-use sc_schema_hierarchy::least_cycle;
-use sc_schema_resolved::ResolvedSchema;
+use sc_schema::ResolvedSchema;
+use sc_schema_json::least_cycle;
 use std::alloc::{AllocError, Global};
 
 /// The text of the least action of a schema that is in itself, and `none` where none is.

@@ -2,10 +2,10 @@
 use crate::declared::declared;
 use crate::texts::{fault_text, is_text};
 use sc_names::{Name, Uid, put_uid};
-use sc_schema_names::{resolution_laws, resolve};
-use sc_schema_resolved::{
+use sc_schema::{
     ResolvedAction, ResolvedEntityType, ResolvedNamespace, ResolvedSchema, ResolvedType,
 };
+use sc_schema_names::{resolution_laws, resolve};
 use sc_schema_syntax::{WrittenSchema, read_syntax};
 use std::alloc::{AllocError, Global};
 

@@ -2,7 +2,7 @@
 use crate::declared::declared;
 use crate::texts::{fault_text, is_text};
 use sc_lists::Fault;
-use sc_schema_resolved::{ExpandedSchema, ResolvedSchema};
+use sc_schema::{ExpandedSchema, ResolvedSchema};
 use sc_schema_syntax::SchemaFault;
 use sc_schema_types::{expand, order_types, type_laws};
 use std::alloc::{AllocError, Global};

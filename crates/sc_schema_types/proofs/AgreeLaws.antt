@@ -6,8 +6,8 @@ use Rattle.sc_lists.proofs.ListLaws.{contains_first}
 use Rattle.sc_schema.specs.declared.ty.Presence.{Presence}
 use Rattle.sc_schema.specs.declared.ty.Ty.{Ty}
 use Rattle.sc_schema.specs.declared.ty.Ty.TheVariants as ty
-use Rattle.sc_schema_resolved.specs.declared.resolved_type.ResolvedType.{ResolvedType, ResolvedType-F, roll-ResolvedType, map-ResolvedType, ind-ResolvedType, fold-roll-ResolvedType}
-use Rattle.sc_schema_resolved.specs.declared.resolved_type.ResolvedType.TheOpen as r
+use Rattle.sc_schema.specs.declared.resolved_type.ResolvedType.{ResolvedType, ResolvedType-F, roll-ResolvedType, map-ResolvedType, ind-ResolvedType, fold-roll-ResolvedType}
+use Rattle.sc_schema.specs.declared.resolved_type.ResolvedType.TheOpen as r
 use Rattle.sc_schema_types.specs.References.{Names, names_in, names_step}
 use Rattle.sc_schema_types.specs.Expansions.{Meaning, expanded, expand_step}
 use Rattle.sc_schema_types.proofs.NamesLaws.{Attribute}

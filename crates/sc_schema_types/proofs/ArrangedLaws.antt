@@ -14,10 +14,10 @@ use Rattle.sc_names.specs.Uids.{text_cmp}
 use Rattle.sc_graphs.specs.Reaching as reaching
 use Rattle.sc_graphs.proofs.KeyLaws.{place_of}
 use Rattle.sc_graphs.proofs.OrderLaws.{IsArranged, ordered_or_cyclic}
-use Rattle.sc_schema_resolved.specs.declared.common_type.ResolvedCommonType.{ResolvedCommonType}
-use Rattle.sc_schema_resolved.specs.declared.resolved_type.ResolvedType.{ResolvedType}
-use Rattle.sc_schema_resolved.specs.declared.schema.ResolvedSchema.{ResolvedSchema}
-use Rattle.sc_schema_resolved.specs.Resolved.{common_types, common_names, IsResolved}
+use Rattle.sc_schema.specs.declared.resolved_common_type.ResolvedCommonType.{ResolvedCommonType}
+use Rattle.sc_schema.specs.declared.resolved_type.ResolvedType.{ResolvedType}
+use Rattle.sc_schema.specs.declared.resolved_schema.ResolvedSchema.{ResolvedSchema}
+use Rattle.sc_schema.specs.Resolved.{common_types, common_names, IsResolved}
 use Rattle.sc_schema_types.specs.References.{Names, Graph, LeadsTo, names_in, references, body_of}
 use Rattle.sc_schema_types.specs.Orders.{IsOrder, IsLeastCycle, IsTypeCycle}
 use Rattle.sc_schema_types.proofs.CyclesLaws.{has_body}

@@ -13,7 +13,7 @@ use Rattle.sc_graphs.specs.Graphs.{Follows}
 use Rattle.sc_graphs.specs.Keys.{HasPlaces, IsOfKeys}
 use Rattle.sc_graphs.proofs.GraphLaws.{reached_within, of_places}
 use Rattle.sc_graphs.proofs.KeyLaws.{least_key, no_key_cycle}
-use Rattle.sc_schema_resolved.specs.declared.resolved_type.ResolvedType.{ResolvedType}
+use Rattle.sc_schema.specs.declared.resolved_type.ResolvedType.{ResolvedType}
 use Rattle.sc_schema_types.specs.References.{Names, Bodies, LeadsTo, Reaches, references, names_in}
 use Rattle.sc_schema_types.specs.Orders.{IsLeastCycle}
 use Rattle.sc_schema_types.specs.Places.{named_at}

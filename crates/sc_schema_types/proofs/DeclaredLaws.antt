@@ -6,11 +6,11 @@ use Rattle.std.proofs.lemmas.List.Elements.{Contains-append_cases}
 use Rattle.sc_lists.proofs.TextLaws.{bytes_eq_true}
 use Rattle.sc_lists.proofs.ListLaws.{contains_nothing, contains_split}
 use Rattle.sc_schema.specs.declared.ty.Presence.{Presence}
-use Rattle.sc_schema_resolved.specs.declared.common_type.ResolvedCommonType.{ResolvedCommonType}
-use Rattle.sc_schema_resolved.specs.declared.resolved_type.ResolvedType.{ResolvedType, ResolvedType-F, roll-ResolvedType, map-ResolvedType, ind-ResolvedType}
-use Rattle.sc_schema_resolved.specs.declared.resolved_type.ResolvedType.TheOpen as r
-use Rattle.sc_schema_resolved.specs.declared.schema.ResolvedSchema.{ResolvedSchema}
-use Rattle.sc_schema_resolved.specs.Resolved.{common_types, common_names, IsResolvedLevel, IsResolvedType, IsResolved}
+use Rattle.sc_schema.specs.declared.resolved_common_type.ResolvedCommonType.{ResolvedCommonType}
+use Rattle.sc_schema.specs.declared.resolved_type.ResolvedType.{ResolvedType, ResolvedType-F, roll-ResolvedType, map-ResolvedType, ind-ResolvedType}
+use Rattle.sc_schema.specs.declared.resolved_type.ResolvedType.TheOpen as r
+use Rattle.sc_schema.specs.declared.resolved_schema.ResolvedSchema.{ResolvedSchema}
+use Rattle.sc_schema.specs.Resolved.{common_types, common_names, IsResolvedLevel, IsResolvedType, IsResolved}
 use Rattle.sc_schema_types.specs.References.{Names, names_in, names_step, body_among, body_of}
 use Rattle.sc_schema_types.specs.Orders.{IsOrder}
 use Rattle.sc_schema_types.proofs.AgreeLaws.{names-roll}

@@ -1,8 +1,8 @@
 -- What tables of outlines and of types say of a schema.
 use Rattle.std.proofs.Common.{◌≡◌, ℕ, List, Option, Some, None, sym, ap, ◌∙◌}
 use Rattle.std.proofs.Math.Path.{fun_ext}
-use Rattle.sc_schema_resolved.specs.declared.expanded.ExpandedSchema.{ExpandedSchema}
-use Rattle.sc_schema_resolved.specs.declared.schema.ResolvedSchema.{ResolvedSchema}
+use Rattle.sc_schema.specs.declared.expanded.ExpandedSchema.{ExpandedSchema}
+use Rattle.sc_schema.specs.declared.resolved_schema.ResolvedSchema.{ResolvedSchema}
 use Rattle.sc_schema_syntax.specs.declared.fault.SchemaFault.{SchemaFault}
 use Rattle.sc_schema_types.specs.declared.outline.Outline.{Outline}
 use Rattle.sc_schema_types.specs.References.{Names, Bodies, body_of}

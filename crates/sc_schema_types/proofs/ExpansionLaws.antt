@@ -3,10 +3,10 @@ use Rattle.std.proofs.Common.{◌≡◌, ℕ, List, map, ap, sym, ◌∙◌}
 use Rattle.sc_schema.specs.declared.ty.Presence.{Presence}
 use Rattle.sc_schema.specs.declared.ty.Ty.{Ty}
 use Rattle.sc_schema.specs.declared.ty.Ty.TheVariants as ty
-use Rattle.sc_schema_resolved.specs.declared.resolved_type.ResolvedType.{ResolvedType, fold-roll-ResolvedType}
-use Rattle.sc_schema_resolved.specs.declared.resolved_type.ResolvedType.TheVariants as type
-use Rattle.sc_schema_resolved.specs.declared.resolved_type.ResolvedType.TheVariants.{rolls-Set, rolls-Record, rolls-Common}
-use Rattle.sc_schema_resolved.specs.declared.resolved_type.ResolvedType.TheOpen as r
+use Rattle.sc_schema.specs.declared.resolved_type.ResolvedType.{ResolvedType, fold-roll-ResolvedType}
+use Rattle.sc_schema.specs.declared.resolved_type.ResolvedType.TheVariants as type
+use Rattle.sc_schema.specs.declared.resolved_type.ResolvedType.TheVariants.{rolls-Set, rolls-Record, rolls-Common}
+use Rattle.sc_schema.specs.declared.resolved_type.ResolvedType.TheOpen as r
 use Rattle.sc_schema_types.specs.Expansions.{Meaning, expanded, expand_step}
 use Rattle.sc_schema_types.proofs.NamesLaws.{Attribute}
 

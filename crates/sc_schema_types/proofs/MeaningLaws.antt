@@ -9,7 +9,7 @@ use Rattle.sc_lists.proofs.ListLaws.{contains_nothing}
 use Rattle.sc_names.specs.Uids.{text_cmp}
 use Rattle.sc_schema.specs.declared.ty.Ty.{Ty}
 use Rattle.sc_schema.specs.declared.ty.Ty.TheVariants as ty
-use Rattle.sc_schema_resolved.specs.declared.resolved_type.ResolvedType.{ResolvedType}
+use Rattle.sc_schema.specs.declared.resolved_type.ResolvedType.{ResolvedType}
 use Rattle.sc_schema_types.specs.References.{Names, Bodies, Graph, references, names_in}
 use Rattle.sc_schema_types.specs.Orders.{LeadsBack}
 use Rattle.sc_schema_types.specs.Expansions.{Meaning, expanded}

@@ -2,10 +2,10 @@
 use Rattle.std.proofs.Common.{◌≡◌, ℕ, List, [], ◌∷◌, ◌++◌, map, refl, ap, sym, ◌∙◌}
 use Rattle.std.specs.List.{flat_map}
 use Rattle.sc_schema.specs.declared.ty.Presence.{Presence}
-use Rattle.sc_schema_resolved.specs.declared.resolved_type.ResolvedType.{ResolvedType, fold-roll-ResolvedType}
-use Rattle.sc_schema_resolved.specs.declared.resolved_type.ResolvedType.TheVariants as type
-use Rattle.sc_schema_resolved.specs.declared.resolved_type.ResolvedType.TheVariants.{rolls-Set, rolls-Record, rolls-Common}
-use Rattle.sc_schema_resolved.specs.declared.resolved_type.ResolvedType.TheOpen as r
+use Rattle.sc_schema.specs.declared.resolved_type.ResolvedType.{ResolvedType, fold-roll-ResolvedType}
+use Rattle.sc_schema.specs.declared.resolved_type.ResolvedType.TheVariants as type
+use Rattle.sc_schema.specs.declared.resolved_type.ResolvedType.TheVariants.{rolls-Set, rolls-Record, rolls-Common}
+use Rattle.sc_schema.specs.declared.resolved_type.ResolvedType.TheOpen as r
 use Rattle.sc_schema_types.specs.References.{Names, names_in, names_step}
 
 abbrev pub Attribute : Type 0

@@ -10,10 +10,10 @@ use Rattle.std.specs.Option.{is_some}
 use Rattle.std.proofs.lemmas.List.Elements.{All-contains}
 use Rattle.sc_lists.proofs.ListLaws.{contains_rest, contains_first}
 use Rattle.sc_names.specs.Uids.{text_cmp}
-use Rattle.sc_schema_resolved.specs.declared.common_type.ResolvedCommonType.{ResolvedCommonType}
-use Rattle.sc_schema_resolved.specs.declared.resolved_type.ResolvedType.{ResolvedType}
-use Rattle.sc_schema_resolved.specs.declared.schema.ResolvedSchema.{ResolvedSchema}
-use Rattle.sc_schema_resolved.specs.Resolved.{common_types}
+use Rattle.sc_schema.specs.declared.resolved_common_type.ResolvedCommonType.{ResolvedCommonType}
+use Rattle.sc_schema.specs.declared.resolved_type.ResolvedType.{ResolvedType}
+use Rattle.sc_schema.specs.declared.resolved_schema.ResolvedSchema.{ResolvedSchema}
+use Rattle.sc_schema.specs.Resolved.{common_types}
 use Rattle.sc_schema_syntax.specs.declared.fault.SchemaFault.TheVariants.{TypeCycle}
 use Rattle.sc_schema_types.specs.References.{Names, Bodies, references, body_of}
 use Rattle.sc_schema_types.specs.Orders.{LeadsBack, IsOrder, IsLeastCycle, HasTypeCycle, cycle}

@@ -8,11 +8,11 @@ use Rattle.sc_schema.proofs.EveryTypeLaws.{every_Bool, every_Long, every_String,
 use Rattle.sc_schema.specs.declared.ty.Presence.{Presence}
 use Rattle.sc_schema.specs.declared.ty.Ty.{Ty}
 use Rattle.sc_schema.specs.Lawful.{AreAscending, names_of_fields, IsLevelOver}
-use Rattle.sc_schema_resolved.specs.declared.resolved_type.ResolvedType.{ResolvedType, ResolvedType-F, roll-ResolvedType, map-ResolvedType, ind-ResolvedType}
-use Rattle.sc_schema_resolved.specs.declared.resolved_type.ResolvedType.TheOpen as r
-use Rattle.sc_schema_resolved.specs.declared.schema.ResolvedSchema.{ResolvedSchema}
-use Rattle.sc_schema_resolved.specs.Resolved.{entity_names, field_names, IsResolvedLevel, IsResolvedType}
-use Rattle.sc_schema_resolved.specs.Expanded.{IsTypeAmong}
+use Rattle.sc_schema.specs.declared.resolved_type.ResolvedType.{ResolvedType, ResolvedType-F, roll-ResolvedType, map-ResolvedType, ind-ResolvedType}
+use Rattle.sc_schema.specs.declared.resolved_type.ResolvedType.TheOpen as r
+use Rattle.sc_schema.specs.declared.resolved_schema.ResolvedSchema.{ResolvedSchema}
+use Rattle.sc_schema.specs.Resolved.{entity_names, field_names, IsResolvedLevel, IsResolvedType}
+use Rattle.sc_schema.specs.Expanded.{IsTypeAmong}
 use Rattle.sc_schema_types.specs.References.{Names, names_in, names_step}
 use Rattle.sc_schema_types.specs.Expansions.{Meaning, expanded, expand_step}
 use Rattle.sc_schema_types.proofs.AgreeLaws.{names-roll, expanded-roll}

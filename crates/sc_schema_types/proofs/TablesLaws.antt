@@ -4,7 +4,7 @@ use Rattle.std.proofs.Math.Path.{fun_ext}
 use Rattle.std.specs.BTreeMap.{is_at}
 use Rattle.std.specs.Map.{lookup}
 use Rattle.sc_names.specs.Uids.{text_cmp}
-use Rattle.sc_schema_resolved.specs.declared.resolved_type.ResolvedType.{ResolvedType}
+use Rattle.sc_schema.specs.declared.resolved_type.ResolvedType.{ResolvedType}
 use Rattle.sc_schema_types.specs.References.{Bodies}
 use Rattle.sc_schema_types.specs.Tables.{changed, with_body}
 

@@ -13,16 +13,16 @@ use Rattle.sc_schema.proofs.SizesLaws.{no_fields_small}
 use Rattle.sc_schema.specs.Declarations.{uid_eq}
 use Rattle.sc_schema.specs.Sizes.{IsSmall}
 use Rattle.sc_schema.specs.declared.ty.Ty.{Ty}
-use Rattle.sc_schema_resolved.specs.declared.action.ResolvedAction.{ResolvedAction}
-use Rattle.sc_schema_resolved.specs.declared.entity_type.ResolvedEntityType.{ResolvedEntityType}
-use Rattle.sc_schema_resolved.specs.declared.expanded.ExpandedAction.{ExpandedAction}
-use Rattle.sc_schema_resolved.specs.declared.expanded.ExpandedEntityType.{ExpandedEntityType}
-use Rattle.sc_schema_resolved.specs.declared.expanded.ExpandedSchema.{ExpandedSchema}
-use Rattle.sc_schema_resolved.specs.declared.namespace.ResolvedNamespace.{ResolvedNamespace}
-use Rattle.sc_schema_resolved.specs.declared.resolved_type.ResolvedType.{ResolvedType}
-use Rattle.sc_schema_resolved.specs.declared.schema.ResolvedSchema.{ResolvedSchema}
-use Rattle.sc_schema_resolved.specs.Expanded.{expanded_names, expanded_uids, IsTypeAmong, IsRecordTypeAmong, IsExpandedEntityType, IsExpandedAction, IsExpanded}
-use Rattle.sc_schema_resolved.specs.Resolved.{entity_types, actions, entity_names, action_uids, AreDeclared, IsResolvedType, IsResolvedEntityType, IsResolvedAction, IsResolved}
+use Rattle.sc_schema.specs.declared.resolved_action.ResolvedAction.{ResolvedAction}
+use Rattle.sc_schema.specs.declared.resolved_entity_type.ResolvedEntityType.{ResolvedEntityType}
+use Rattle.sc_schema.specs.declared.expanded.ExpandedAction.{ExpandedAction}
+use Rattle.sc_schema.specs.declared.expanded.ExpandedEntityType.{ExpandedEntityType}
+use Rattle.sc_schema.specs.declared.expanded.ExpandedSchema.{ExpandedSchema}
+use Rattle.sc_schema.specs.declared.resolved_namespace.ResolvedNamespace.{ResolvedNamespace}
+use Rattle.sc_schema.specs.declared.resolved_type.ResolvedType.{ResolvedType}
+use Rattle.sc_schema.specs.declared.resolved_schema.ResolvedSchema.{ResolvedSchema}
+use Rattle.sc_schema.specs.Expanded.{expanded_names, expanded_uids, IsTypeAmong, IsRecordTypeAmong, IsExpandedEntityType, IsExpandedAction, IsExpanded}
+use Rattle.sc_schema.specs.Resolved.{entity_types, actions, entity_names, action_uids, AreDeclared, IsResolvedType, IsResolvedEntityType, IsResolvedAction, IsResolved}
 use Rattle.sc_schema_syntax.specs.declared.fault.SchemaFault.{SchemaFault}
 use Rattle.sc_schema_types.specs.declared.wanted.Wanted.TheVariants.{AnyType, RecordType}
 use Rattle.sc_schema_types.specs.References.{Names, references, body_of, Reaches}

@@ -1,9 +1,9 @@
 -- With an order common types have one meaning, by which each type of a resolved schema stands for a proper one.
 use Rattle.std.proofs.Common.{◌≡◌, ℕ, List, Some, Contains, sym, ◌∙◌, subst}
-use Rattle.sc_schema_resolved.specs.declared.resolved_type.ResolvedType.{ResolvedType}
-use Rattle.sc_schema_resolved.specs.declared.schema.ResolvedSchema.{ResolvedSchema}
-use Rattle.sc_schema_resolved.specs.Resolved.{common_types, common_names, entity_names, IsResolvedType, IsResolved}
-use Rattle.sc_schema_resolved.specs.Expanded.{IsTypeAmong}
+use Rattle.sc_schema.specs.declared.resolved_type.ResolvedType.{ResolvedType}
+use Rattle.sc_schema.specs.declared.resolved_schema.ResolvedSchema.{ResolvedSchema}
+use Rattle.sc_schema.specs.Resolved.{common_types, common_names, entity_names, IsResolvedType, IsResolved}
+use Rattle.sc_schema.specs.Expanded.{IsTypeAmong}
 use Rattle.sc_schema_types.specs.References.{Names, body_of, references, names_in}
 use Rattle.sc_schema_types.specs.Orders.{IsOrder}
 use Rattle.sc_schema_types.specs.Expansions.{Meaning, expanded, IsMeaning}

@@ -2,8 +2,8 @@
 use Rattle.std.specs.Prelude.{◌≡◌, ℕ, List, Some}
 use Rattle.sc_schema.specs.declared.ty.Ty.{Ty}
 use Rattle.sc_schema.specs.declared.ty.Ty.TheVariants as ty
-use Rattle.sc_schema_resolved.specs.declared.resolved_type.ResolvedType.{ResolvedType, ResolvedType-F, fold-ResolvedType}
-use Rattle.sc_schema_resolved.specs.declared.resolved_type.ResolvedType.TheOpen as r
+use Rattle.sc_schema.specs.declared.resolved_type.ResolvedType.{ResolvedType, ResolvedType-F, fold-ResolvedType}
+use Rattle.sc_schema.specs.declared.resolved_type.ResolvedType.TheOpen as r
 use Rattle.sc_schema_types.specs.References.{Bodies}
 
 -- what the name of each common type stands for

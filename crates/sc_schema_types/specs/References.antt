@@ -3,11 +3,11 @@ use Rattle.std.specs.Prelude.{ℕ, List, [], ◌∷◌, Option, option_map, unwr
 use Rattle.std.specs.List.{flat_map}
 use Rattle.std.specs.Str.{bytes_eq}
 use Rattle.sc_schema.specs.declared.ty.Presence.{Presence}
-use Rattle.sc_schema_resolved.specs.declared.common_type.ResolvedCommonType.{ResolvedCommonType}
-use Rattle.sc_schema_resolved.specs.declared.resolved_type.ResolvedType.{ResolvedType, ResolvedType-F, fold-ResolvedType}
-use Rattle.sc_schema_resolved.specs.declared.resolved_type.ResolvedType.TheOpen as r
-use Rattle.sc_schema_resolved.specs.declared.schema.ResolvedSchema.{ResolvedSchema}
-use Rattle.sc_schema_resolved.specs.Resolved.{common_types}
+use Rattle.sc_schema.specs.declared.resolved_common_type.ResolvedCommonType.{ResolvedCommonType}
+use Rattle.sc_schema.specs.declared.resolved_type.ResolvedType.{ResolvedType, ResolvedType-F, fold-ResolvedType}
+use Rattle.sc_schema.specs.declared.resolved_type.ResolvedType.TheOpen as r
+use Rattle.sc_schema.specs.declared.resolved_schema.ResolvedSchema.{ResolvedSchema}
+use Rattle.sc_schema.specs.Resolved.{common_types}
 use Rattle.sc_graphs.specs.Reaching as reaching
 
 abbrev pub Names : Type 0

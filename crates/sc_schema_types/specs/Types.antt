@@ -6,17 +6,17 @@ use Rattle.sc_lists.specs.declared.fault.Fault.TheVariants.{Told, NoMemory}
 use Rattle.sc_names.specs.declared.uid.Uid.{Uid}
 use Rattle.sc_schema.specs.declared.ty.Ty.{Ty}
 use Rattle.sc_schema.specs.declared.ty.Ty.TheVariants as ty
-use Rattle.sc_schema_resolved.specs.declared.action.ResolvedAction.{ResolvedAction}
-use Rattle.sc_schema_resolved.specs.declared.entity_type.ResolvedEntityType.{ResolvedEntityType}
-use Rattle.sc_schema_resolved.specs.declared.namespace.ResolvedNamespace.{ResolvedNamespace}
-use Rattle.sc_schema_resolved.specs.declared.resolved_type.ResolvedType.{ResolvedType}
-use Rattle.sc_schema_resolved.specs.declared.schema.ResolvedSchema.{ResolvedSchema}
+use Rattle.sc_schema.specs.declared.resolved_action.ResolvedAction.{ResolvedAction}
+use Rattle.sc_schema.specs.declared.resolved_entity_type.ResolvedEntityType.{ResolvedEntityType}
+use Rattle.sc_schema.specs.declared.resolved_namespace.ResolvedNamespace.{ResolvedNamespace}
+use Rattle.sc_schema.specs.declared.resolved_type.ResolvedType.{ResolvedType}
+use Rattle.sc_schema.specs.declared.resolved_schema.ResolvedSchema.{ResolvedSchema}
 use Rattle.sc_schema_syntax.specs.declared.fault.SchemaFault.{SchemaFault}
-use Rattle.sc_schema_resolved.specs.declared.expanded.ExpandedAction.{ExpandedAction}
-use Rattle.sc_schema_resolved.specs.declared.expanded.ExpandedEntityType.{ExpandedEntityType}
-use Rattle.sc_schema_resolved.specs.declared.expanded.ExpandedSchema.{ExpandedSchema}
-use Rattle.sc_schema_resolved.specs.Expanded.{expanded_names, expanded_uids}
-use Rattle.sc_schema_resolved.specs.Resolved.{entity_types, actions, entity_names, action_uids}
+use Rattle.sc_schema.specs.declared.expanded.ExpandedAction.{ExpandedAction}
+use Rattle.sc_schema.specs.declared.expanded.ExpandedEntityType.{ExpandedEntityType}
+use Rattle.sc_schema.specs.declared.expanded.ExpandedSchema.{ExpandedSchema}
+use Rattle.sc_schema.specs.Expanded.{expanded_names, expanded_uids}
+use Rattle.sc_schema.specs.Resolved.{entity_types, actions, entity_names, action_uids}
 use Rattle.sc_schema_types.specs.References.{Names, references, body_of, Reaches}
 use Rattle.sc_schema_types.specs.Orders.{IsOrder, IsTypeCycle}
 use Rattle.sc_schema_types.specs.Expansions.{Meaning, expanded, IsMeaning}

@@ -10,7 +10,7 @@ ghost use Rattle.sc_schema_types.specs.Tables.{body_in};
 use crate::names::names_in;
 use sc_lists::Seq;
 use sc_names::Name;
-use sc_schema_resolved::{ResolvedCommonType, ResolvedSchema, ResolvedType};
+use sc_schema::{ResolvedCommonType, ResolvedSchema, ResolvedType};
 use std::alloc::{AllocError, Global};
 use std::collections::BTreeMap;
 

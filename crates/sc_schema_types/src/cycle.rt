@@ -12,7 +12,7 @@ use crate::bodies::references;
 use sc_graphs::least_cycle as least_place;
 use sc_lists::Seq;
 use sc_names::Name;
-use sc_schema_resolved::ResolvedType;
+use sc_schema::ResolvedType;
 use std::alloc::{AllocError, Global};
 use std::collections::BTreeMap;
 

@@ -14,10 +14,9 @@ use crate::faults::first_fault;
 use crate::outline::{Outline, outlines_of};
 use sc_lists::{Boxed, Fault, Seq};
 use sc_names::{Name, clone_uids};
-use sc_schema::{Attributes, Ty};
-use sc_schema_resolved::{
-    ExpandedAction, ExpandedEntityType, ExpandedSchema, ResolvedAction, ResolvedEntityType,
-    ResolvedSchema, ResolvedType,
+use sc_schema::{
+    Attributes, ExpandedAction, ExpandedEntityType, ExpandedSchema, ResolvedAction,
+    ResolvedEntityType, ResolvedSchema, ResolvedType, Ty,
 };
 use sc_schema_syntax::SchemaFault;
 use std::alloc::{AllocError, Global};

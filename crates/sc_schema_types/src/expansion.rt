@@ -2,14 +2,13 @@
 ghost use Rattle.std.specs.Prelude.{◌≡◌, ℕ, List, map, IfOk, OnOk};
 ghost use Rattle.sc_schema.specs.declared.ty.Presence.{Presence as AnyPresence};
 ghost use Rattle.sc_schema.specs.declared.ty.Ty.{Ty as AnyTy};
-ghost use Rattle.sc_schema_resolved.specs.declared.resolved_type.ResolvedType.{ResolvedType as AnyType};
+ghost use Rattle.sc_schema.specs.declared.resolved_type.ResolvedType.{ResolvedType as AnyType};
 ghost use Rattle.sc_schema_types.specs.Expansions.{expanded};
 ghost use Rattle.sc_schema_types.specs.Tables.{body_in, type_in, with_body, meaning_by};
 
 use sc_lists::{Seq, Shared, Text};
 use sc_names::Name;
-use sc_schema::{Attributes, Presence, Ty};
-use sc_schema_resolved::ResolvedType;
+use sc_schema::{Attributes, Presence, ResolvedType, Ty};
 use std::alloc::{AllocError, Global};
 use std::collections::BTreeMap;
 

@@ -7,7 +7,7 @@ ghost use Rattle.sc_schema_types.specs.Tables.{outline_in, judged_by};
 use crate::outline::{Outline, outline_fault, outline_of};
 use crate::wanted::Wanted;
 use sc_names::Name;
-use sc_schema_resolved::{
+use sc_schema::{
     ResolvedAction, ResolvedCommonType, ResolvedEntityType, ResolvedNamespace, ResolvedSchema,
     ResolvedType,
 };

@@ -1,8 +1,8 @@
 //! Laws of orders, expansions and faults.
-ghost use Rattle.sc_schema_resolved.specs.declared.schema.ResolvedSchema.{ResolvedSchema as AnySchema};
-ghost use Rattle.sc_schema_resolved.specs.declared.expanded.ExpandedSchema.{ExpandedSchema as AnyExpansion};
-ghost use Rattle.sc_schema_resolved.specs.Expanded.{IsExpanded};
-ghost use Rattle.sc_schema_resolved.specs.Resolved.{IsResolved};
+ghost use Rattle.sc_schema.specs.declared.resolved_schema.ResolvedSchema.{ResolvedSchema as AnySchema};
+ghost use Rattle.sc_schema.specs.declared.expanded.ExpandedSchema.{ExpandedSchema as AnyExpansion};
+ghost use Rattle.sc_schema.specs.Expanded.{IsExpanded};
+ghost use Rattle.sc_schema.specs.Resolved.{IsResolved};
 ghost use Rattle.sc_schema_types.specs.Types.{IsExpansion, IsSettled, KeepsParents};
 
 /// The common types of a schema have an order, or one of them is the least that reaches itself. A

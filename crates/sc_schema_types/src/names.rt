@@ -2,13 +2,12 @@
 ghost use Rattle.std.specs.Prelude.{◌≡◌, ◌++◌, ℕ, List, IfOk, OnOk};
 ghost use Rattle.std.specs.List.{flat_map};
 ghost use Rattle.sc_schema.specs.declared.ty.Presence.{Presence as AnyPresence};
-ghost use Rattle.sc_schema_resolved.specs.declared.resolved_type.ResolvedType.{ResolvedType as AnyType};
+ghost use Rattle.sc_schema.specs.declared.resolved_type.ResolvedType.{ResolvedType as AnyType};
 ghost use Rattle.sc_schema_types.specs.References.{names_in};
 
 use sc_lists::{Seq, Text};
 use sc_names::Name;
-use sc_schema::Presence;
-use sc_schema_resolved::ResolvedType;
+use sc_schema::{Presence, ResolvedType};
 use std::alloc::{AllocError, Global};
 
 /// The common types that a type names, in order.

@@ -9,7 +9,7 @@ use crate::cycle::least_cycle;
 use crate::search::order_of;
 use sc_lists::{Fault, Seq};
 use sc_names::Name;
-use sc_schema_resolved::ResolvedSchema;
+use sc_schema::ResolvedSchema;
 use sc_schema_syntax::SchemaFault;
 use std::alloc::Global;
 

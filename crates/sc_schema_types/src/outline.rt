@@ -2,14 +2,13 @@
 ghost use Rattle.std.specs.Prelude.{◌≡◌, ℕ, List, IfOk, OnOk};
 ghost use Rattle.std.specs.List.{fold};
 ghost use Rattle.sc_schema.specs.declared.ty.Presence.{Presence as AnyPresence};
-ghost use Rattle.sc_schema_resolved.specs.declared.resolved_type.ResolvedType.{ResolvedType as AnyType};
+ghost use Rattle.sc_schema.specs.declared.resolved_type.ResolvedType.{ResolvedType as AnyType};
 ghost use Rattle.sc_schema_types.specs.Tables.{body_in, leaf, nothing, around, beside, outlined, outline_in, with_body, outlines_by, outline_fault};
 
 use crate::wanted::Wanted;
 use sc_lists::Text;
 use sc_names::Name;
-use sc_schema::Presence;
-use sc_schema_resolved::ResolvedType;
+use sc_schema::{Presence, ResolvedType};
 use sc_schema_syntax::SchemaFault;
 use std::alloc::{AllocError, Global};
 use std::collections::BTreeMap;

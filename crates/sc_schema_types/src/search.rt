@@ -11,7 +11,7 @@ ghost use Rattle.sc_schema_types.specs.Searches.{mark_in, marked_in, opened, IsS
 use crate::bodies::references;
 use sc_lists::Seq;
 use sc_names::Name;
-use sc_schema_resolved::ResolvedType;
+use sc_schema::ResolvedType;
 use std::alloc::{AllocError, Global};
 use std::collections::BTreeMap;
 

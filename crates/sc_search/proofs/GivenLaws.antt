@@ -7,7 +7,7 @@ use Rattle.sc_clauses.specs.Clauses.{Clause, negation}
 use Rattle.sc_clauses.specs.declared.lit.Lit.{Lit}
 use Rattle.sc_clauses.specs.declared.step.Instance as instance
 use Rattle.sc_clauses.specs.declared.step.Step.TheVariants.{Instance}
-use Rattle.sc_watches.proofs.LitLaws.{lit-cases}
+use Rattle.sc_propagation.proofs.WatchedLitLaws.{lit-cases}
 use Rattle.sc_propagation.proofs.CellLaws.{consistent}
 use Rattle.sc_propagation.proofs.NewnessLaws.{new-by, uncovered}
 use Rattle.sc_propagation.proofs.ReadingLaws.{free-before}

@@ -10,9 +10,8 @@ ghost use Rattle.sc_propagation.specs.Rooms.{cell_value};
 use sc_clauses::{Assignment, Clauses, Instance, Learned, Lit, Step, negation};
 use sc_decisions::{Order, Restarts, Suggestions};
 use sc_lists::Seq;
-use sc_propagation::{Analysis, Cell, Pending, Resolvent, Trail, value_of};
+use sc_propagation::{Analysis, Cell, Pending, Resolvent, Trail, Watches, value_of};
 use sc_refutations::{Arena, codes_of, put_codes};
-use sc_watches::Watches;
 use std::alloc::{AllocError, Global};
 use std::mem;
 

@@ -8,9 +8,9 @@ use Rattle.sc_clauses.specs.declared.lit.Lit.{Lit}
 use Rattle.sc_clauses.specs.Assignments.{Assignment, value_of, falsifies}
 use Rattle.sc_clauses.specs.Clauses.{Clause, bool_eq, positive, holds}
 use Rattle.sc_clauses.proofs.LitLaws.{holds_negation}
-use Rattle.sc_nodes.specs.declared.node.Leaf.TheVariants.{Literal}
-use Rattle.sc_nodes.specs.declared.node.Literal.TheVariants.{Bool as bool}
-use Rattle.sc_nodes.specs.declared.node.UnaryOp.TheVariants.{Not}
+use Rattle.sc_sorts.specs.declared.node.Leaf.TheVariants.{Literal}
+use Rattle.sc_sorts.specs.declared.node.Literal.TheVariants.{Bool as bool}
+use Rattle.sc_sorts.specs.declared.node.UnaryOp.TheVariants.{Not}
 use Rattle.sc_terms.specs.Trees.{Tree, leaf, one}
 use Rattle.sc_terms.specs.Folds.{truth_term}
 use Rattle.sc_term_definitions.specs.Definitions.{definition}

@@ -6,8 +6,8 @@ use Rattle.sc_model_consistency.specs.Laws.{HasSmallPlaces, FalsifiesNoInstance,
 use Rattle.sc_model_consistency.specs.ModelLaws.{TruthsAreConsistent}
 use Rattle.sc_model_consistency.specs.Models.{truth_in}
 use Rattle.sc_model_laws.specs.Consistent as assigned
-use Rattle.sc_theories.specs.FamilyLaws.{equal_family, set_family, entity_family, string_family}
-use Rattle.sc_theories.specs.OtherLaws.{of_equal, of_set, of_entity, of_string}
+use Rattle.sc_solver.specs.FamilyLaws.{equal_family, set_family, entity_family, string_family}
+use Rattle.sc_solver.specs.OtherLaws.{of_equal, of_set, of_entity, of_string}
 use Rattle.sc_solver.specs.Rebuilding.{IsConsistent}
 
 no_instance : (p : Posed) (m : Assignment) → IsConsistent p m → FalsifiesNoInstance p m

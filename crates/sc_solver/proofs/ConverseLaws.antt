@@ -6,8 +6,8 @@ use Rattle.sc_footprint.specs.Problems.{Posed, IsPosed}
 use Rattle.sc_footprint.specs.Definitions.{defining}
 use Rattle.sc_footprint.specs.Theories.{IsClauseOf, TermsHold}
 use Rattle.sc_footprint.specs.Truths.{truths, IsTrueIn, Satisfies}
-use Rattle.sc_theories.specs.Theories.{rule_clause}
-use Rattle.sc_theories.specs.OtherLaws.{other_sound, other_lawful}
+use Rattle.sc_solver.specs.Theories.{rule_clause}
+use Rattle.sc_solver.specs.OtherLaws.{other_sound, other_lawful}
 use Rattle.sc_solver.specs.Rebuilding.{TruthsAreConsistent}
 use Rattle.sc_solver.proofs.ClauseLaws.{unfalsified}
 

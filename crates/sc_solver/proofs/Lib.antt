@@ -1,3 +1,4 @@
+mod FoundLaws
 mod ClauseLaws
 mod NumberLaws
 mod AssignedLaws

@@ -33,10 +33,10 @@ use Rattle.th_strings_instances.specs.Patterns.{patterns, with_asked}
 use Rattle.th_strings_instances.specs.declared.rule.StringRule.{StringRule}
 use Rattle.th_strings_instances.specs.declared.rule.StringRule.TheVariants.{St1, St2, St3}
 use Rattle.th_defs.specs.Instances.{is_definition, is_before_last, number_in}
-use Rattle.sc_theories.specs.declared.family.Family.{Family}
-use Rattle.sc_theories.specs.declared.family.Family.TheVariants.{Definition, Equal, Set, Entity, String, Other}
-use Rattle.sc_theories.specs.Families.{family}
-use Rattle.sc_theories.specs.Theories.{has_of, clause_of, HasRule, rule_clause}
+use Rattle.sc_solver.specs.declared.family.Family.{Family}
+use Rattle.sc_solver.specs.declared.family.Family.TheVariants.{Definition, Equal, Set, Entity, String, Other}
+use Rattle.sc_solver.specs.Families.{family}
+use Rattle.sc_solver.specs.Theories.{has_of, clause_of, HasRule, rule_clause}
 use Rattle.sc_checker.specs.Streams.{IsAcceptedText}
 use Rattle.sc_checker.specs.Verdicts.{IsAdded, Adds, no_step, first_step}
 

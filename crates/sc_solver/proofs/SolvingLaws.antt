@@ -11,8 +11,8 @@ use Rattle.sc_theory_search.specs.Findings as found
 use Rattle.sc_theory_search.specs.declared.finding.Finding.{Finding}
 use Rattle.sc_theory_search.specs.declared.finding.Finding.TheVariants as finding
 use Rattle.sc_clauses.specs.Assignments.{Assignment}
-use Rattle.sc_theories.specs.Theories.{HasRule, HasOtherRule, rule_clause}
-use Rattle.sc_theories.specs.RuleLaws.{other_is}
+use Rattle.sc_solver.specs.Theories.{HasRule, HasOtherRule, rule_clause}
+use Rattle.sc_solver.specs.RuleLaws.{other_is}
 use Rattle.sc_solver.specs.Rebuilding.{IsConsistent}
 use Rattle.sc_solver.specs.Solutions.{IsSpent}
 

@@ -1,4 +1,7 @@
-pub use Rattle.sc_theories.specs.Theories
-pub use Rattle.sc_theories.specs.declared.rules.Rules as AllRules
+pub mod Families
+pub mod Theories
+pub mod FamilyLaws
+pub mod OtherLaws
+pub mod RuleLaws
 pub mod Rebuilding
 pub mod Solutions

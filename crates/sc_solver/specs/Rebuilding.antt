@@ -6,7 +6,7 @@ use Rattle.sc_footprint.specs.Goals.{has_pick}
 use Rattle.sc_footprint.specs.Problems.{Posed, IsPosed, atoms, numbered}
 use Rattle.sc_footprint.specs.Truths.{truths, Satisfies}
 use Rattle.sc_theory_search.specs.Findings as found
-use Rattle.sc_theories.specs.Theories.{HasOtherRule, rule_clause}
+use Rattle.sc_solver.specs.Theories.{HasOtherRule, rule_clause}
 
 -- each listed atom has a value, and neither a defining clause nor the clause of an instance of the rules is falsified
 abbrev pub IsConsistent : Posed → Assignment → Type 0

@@ -11,7 +11,7 @@ use Rattle.sc_footprint.specs.Theories.{IsClauseOf}
 use Rattle.sc_footprint.specs.Truths.{IsTrueIn, Satisfies, IsUnsatisfiable}
 use Rattle.sc_checker.specs.Verdicts.{Adds, IsAccepted}
 use Rattle.sc_theory_search.specs.Units.{AreUnits}
-use Rattle.sc_theories.specs.Theories.{HasRule, HasOtherRule, rule_clause}
+use Rattle.sc_solver.specs.Theories.{HasRule, HasOtherRule, rule_clause}
 use Rattle.sc_solver.specs.declared.solving.Solved.{Solved}
 use Rattle.sc_solver.specs.declared.solving.Solved.TheVariants.{Refuted, Violated, Spent}
 

@@ -3,12 +3,12 @@ ghost use Rattle.std.specs.Prelude.{◌≡◌, ◌<◌, ◌^◌, ℕ, List, leng
 ghost use Rattle.sc_clauses.specs.declared.step.Step.{Step as AnyStep};
 ghost use Rattle.sc_footprint.specs.Problems.{Posed, IsPosed, atoms, goal_term};
 ghost use Rattle.sc_checker.specs.Streams.{IsAcceptedText};
-ghost use Rattle.sc_theories.specs.Theories.{HasRule, rule_clause};
+ghost use Rattle.sc_solver.specs.Theories.{HasRule, rule_clause};
 ghost use Rattle.sc_solver.specs.Rebuilding.{TruthsAreConsistent};
 ghost use Rattle.sc_solver.specs.Solutions.{IsSpent};
 
 use sc_footprint::problem_laws;
-use sc_theories::defining_laws;
+use th_defs::defining_laws;
 
 /// The truths of the listed atoms in a well-formed world in which the goal is true are a consistent
 /// assignment.

@@ -16,9 +16,9 @@ use sc_model_laws::rebuilding_laws;
 use sc_model_names::names_of;
 use sc_model_world_laws::rebuilt_laws;
 use sc_model_worlds::{given_of, request_of};
-use sc_theories::defining_laws;
 use sc_world::{World, world_with};
 use std::alloc::{AllocError, Global};
+use th_defs::defining_laws;
 
 /// The world of an assignment with names for closed strings and entities.
 fn world_of(

@@ -2,10 +2,10 @@
 ghost use Rattle.std.specs.Prelude.{IfOk};
 ghost use Rattle.sc_solver.specs.Solutions.{IsSolution};
 
+use crate::others::OtherRules;
 use crate::rebuilding::rebuild;
 use sc_checker::Log;
 use sc_footprint::Problem;
-use sc_theories::OtherRules;
 use sc_theory_search::{Finding, find};
 use sc_world::World;
 use std::alloc::{AllocError, Global};

@@ -4,8 +4,8 @@ use Rattle.sc_schema.specs.declared.ty.Ty.{Ty}
 use Rattle.sc_sorts.specs.Plain.{Field, plain_fields}
 use Rattle.sc_sorts.specs.OfTypes.{sort_of}
 use Rattle.sc_sorts.specs.declared.sort.Sort.{Sort}
-use Rattle.sc_nodes.specs.declared.node.Leaf.TheVariants.{Context}
-use Rattle.sc_nodes.specs.declared.node.Node.{Node}
+use Rattle.sc_sorts.specs.declared.node.Leaf.TheVariants.{Context}
+use Rattle.sc_sorts.specs.declared.node.Node.{Node}
 use Rattle.sc_terms.specs.Trees.{Tree, leaf}
 use Rattle.sc_terms.specs.Tables.{tree, Keeps, StandsFor}
 use Rattle.sc_terms.specs.Folds.{truth_term, not_term, and_term, or_term, equal_term, field_term}
@@ -18,7 +18,7 @@ use Rattle.sc_names.specs.declared.uid.Uid.{Uid}
 use Rattle.sc_schema.specs.declared.declarations.Env.{Env}
 use Rattle.sc_schema.specs.Declarations.{Declarations, environments}
 use Rattle.sc_world.specs.Named.{IsDeclared}
-use Rattle.sc_nodes.specs.declared.node.BinaryOp.TheVariants as binary
+use Rattle.sc_sorts.specs.declared.node.BinaryOp.TheVariants as binary
 use Rattle.sc_term_laws.specs.Judging.{IsTerm, IsTermOf}
 use Rattle.sc_closure_rules.specs.Goals as closing
 use Rattle.sc_closure_rules.specs.Goals.{has_pick, uids_of}

@@ -1,7 +1,7 @@
 -- Numbers of a table that stand for goals.
 use Rattle.std.specs.Prelude.{◌<◌, ℕ, List, Some, length}
 use Rattle.sc_schema.specs.declared.ty.Ty.{Ty}
-use Rattle.sc_nodes.specs.declared.node.Node.{Node}
+use Rattle.sc_sorts.specs.declared.node.Node.{Node}
 use Rattle.sc_terms.specs.Tables.{tree}
 use Rattle.sc_term_laws.specs.Booleans.{IsBoolean}
 

@@ -4,3 +4,10 @@ pub mod OfTypes
 pub mod Defaults
 pub mod Order
 pub mod Plain
+pub mod Rows
+pub mod NodeSorts
+pub mod Literals
+pub mod Parts
+pub mod Same
+pub mod Hashing
+pub mod OrderLaws

@@ -35,10 +35,10 @@ use Rattle.sc_typed.specs.Outcomes.{ty}
 use Rattle.sc_typing_rules.specs.Rules.{all_joined, member_type, record_type}
 use Rattle.sc_typing_rules.specs.Rules as typing
 use Rattle.sc_typed.proofs.OutcomeLaws.{found, weaker}
-use Rattle.sc_sound_values.specs.Sound.{IsOf}
-use Rattle.sc_sound_values.proofs.ValueLaws.{conforms-roll}
-use Rattle.sc_sound_values.proofs.JoinLaws.{IsWithin, join-within}
-use Rattle.sc_sound_values.proofs.ListLaws.{all_true, each_weaker, contained, each_contained}
+use Rattle.sc_soundness_laws.specs.Sound.{IsOf}
+use Rattle.sc_soundness_laws.proofs.ValueLaws.{conforms-roll}
+use Rattle.sc_soundness_laws.proofs.JoinLaws.{IsWithin, join-within}
+use Rattle.sc_soundness_laws.proofs.ListLaws.{all_true, each_weaker, contained, each_contained}
 
 module _ (w : World) where
   -- ---- sets

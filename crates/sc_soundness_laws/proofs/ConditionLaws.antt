@@ -27,7 +27,7 @@ use Rattle.sc_ast.specs.Conditions as conditions
 use Rattle.sc_ast.specs.Literals.{uids_step, expr_uids, constraint_uids, action_uids, policy_uids}
 use Rattle.sc_names.specs.declared.uid.Uid.{Uid}
 use Rattle.sc_soundness_laws.proofs.ActingLaws.{uids_of}
-use Rattle.sc_sound_values.proofs.ListLaws.{split, joined}
+use Rattle.sc_soundness_laws.proofs.ListLaws.{split, joined}
 
 module _ (P : Uid → Type 0) where
   abbrev IsAll : Expr → Type 0

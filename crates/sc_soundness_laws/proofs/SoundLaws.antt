@@ -47,15 +47,15 @@ use Rattle.sc_typing.specs.Typing.{typing, part}
 use Rattle.sc_typed.proofs.OutcomeLaws.{through, checked, weaker}
 use Rattle.sc_typed.proofs.TypeOfLaws.{type_of_Literal, type_of_Variable, type_of_Set, type_of_Record}
 use Rattle.sc_typing.proofs.TypingLaws as construct
-use Rattle.sc_sound_values.specs.Sound.{IsOf, OrOverflows, AnswersOrOverflows, AllHold, IsSound, SoundAs, Sounds}
-use Rattle.sc_sound_values.proofs.ValueLaws.{truth_fits, boolean, of_Bool, of_Long, of_String, of_Entity, follows}
-use Rattle.sc_sound_values.proofs.ListLaws.{split, each_weaker, contained}
+use Rattle.sc_soundness_laws.specs.Sound.{IsOf, OrOverflows, AnswersOrOverflows, AllHold, IsSound, SoundAs, Sounds}
+use Rattle.sc_soundness_laws.proofs.ValueLaws.{truth_fits, boolean, of_Bool, of_Long, of_String, of_Entity, follows}
+use Rattle.sc_soundness_laws.proofs.ListLaws.{split, each_weaker, contained}
 use Rattle.sc_soundness_laws.proofs.ActingLaws.{uids_of, acting-eval, acting-uids}
 use Rattle.sc_soundness_laws.proofs.ConditionLaws.{condition-uids}
 use Rattle.sc_soundness_laws.proofs.CollectionLaws.{AreOf, AreFieldsOf, member_type_sound, record_of}
 use Rattle.sc_soundness_laws.proofs.CollectionLaws as collection
-use Rattle.sc_sound_rules.proofs.LogicLaws.{gives_as, choice_sound, either_sound, both_sound}
-use Rattle.sc_sound_rules.proofs.ConstructLaws.{matching_sound, tested_sound, applied_sound, operated_sound, tested_in_sound, accessed_sound, having_sound}
+use Rattle.sc_soundness_laws.proofs.LogicLaws.{gives_as, choice_sound, either_sound, both_sound}
+use Rattle.sc_soundness_laws.proofs.ConstructLaws.{matching_sound, tested_sound, applied_sound, operated_sound, tested_in_sound, accessed_sound, having_sound}
 
 module _ (s : Declarations) (env : Env) (literals : List Uid) (w : World) (lawful : IsLawful s) (well : IsWellFormed s env literals w) where
   abbrev AreStored : List Uid → Type 0

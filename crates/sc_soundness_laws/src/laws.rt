@@ -21,7 +21,7 @@ ghost use Rattle.sc_typed.specs.Capabilities.{Capabilities};
 ghost use Rattle.sc_typed.specs.Outcomes.{ty};
 ghost use Rattle.sc_typing.specs.Policies.{typed_policy};
 ghost use Rattle.sc_typing.specs.Typing.{typing};
-ghost use Rattle.sc_sound_values.specs.Sound.{IsOf, OrOverflows, AnswersOrOverflows, AllHold, IsSound};
+ghost use Rattle.sc_soundness_laws.specs.Sound.{IsOf, OrOverflows, AnswersOrOverflows, AllHold, IsSound};
 
 /// In each well-formed world of its environment, a policy that is typed errs only by Overflow, and its
 /// condition has a value of its type, which is true or false. The same holds of what `evaluate` answers.

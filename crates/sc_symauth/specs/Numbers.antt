@@ -2,7 +2,7 @@
 use Rattle.std.specs.Prelude.{◌≡◌, List, Bool, true, false, not, All, map}
 use Rattle.sc_ast.specs.declared.policy.Effect.{Effect}
 use Rattle.sc_auth.specs.Decisions.{permits}
-use Rattle.sc_nodes.specs.declared.node.Node.{Node}
+use Rattle.sc_sorts.specs.declared.node.Node.{Node}
 use Rattle.sc_constructs.specs.Numbers.{IsCode, code_at}
 use Rattle.sc_symauth.specs.declared.compiled.CompiledPolicy.{CompiledPolicy}
 use Rattle.sc_symauth.specs.Standings.{Compiled, with_effect}

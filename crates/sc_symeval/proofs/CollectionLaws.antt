@@ -8,8 +8,8 @@ use Rattle.std.proofs.lemmas.List.{take_more, map-append}
 use Rattle.sc_names.specs.Uids.{text_cmp}
 use Rattle.sc_sorts.specs.declared.sort.Sort.{Sort}
 use Rattle.sc_typed.specs.declared.typed_expr.TypedExpr.{TypedExpr}
-use Rattle.sc_nodes.specs.declared.node.ManyOp.TheVariants as manys
-use Rattle.sc_nodes.specs.declared.node.Node.{Node}
+use Rattle.sc_sorts.specs.declared.node.ManyOp.TheVariants as manys
+use Rattle.sc_sorts.specs.declared.node.Node.{Node}
 use Rattle.sc_terms.specs.Trees.{Labelled, many, parts_of}
 use Rattle.sc_terms.specs.Tables.{Places, tree, node_parts, at_numbers, AreBelow, Keeps, StandsFor}
 use Rattle.sc_terms.specs.Folds.{set_term}

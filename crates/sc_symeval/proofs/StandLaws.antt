@@ -16,7 +16,7 @@ use Rattle.sc_typed.specs.declared.typed_expr.TypedExpr.{TypedExpr}
 use Rattle.sc_typed.specs.declared.typed_expr.TypedExpr.TheVariants as typed
 use Rattle.sc_typed.specs.Outcomes.{ty}
 use Rattle.sc_typed.specs.Types.{is_true}
-use Rattle.sc_nodes.specs.declared.node.Node.{Node}
+use Rattle.sc_sorts.specs.declared.node.Node.{Node}
 use Rattle.sc_terms.specs.Tables.{Keeps}
 use Rattle.sc_constructs.specs.declared.opt.Opt.{Opt}
 use Rattle.sc_constructs.specs.Code.{Code, always, constant, choice_code, branch_code, or_code, and_code, like_code, is_code, set_code, record_code}

@@ -19,8 +19,8 @@ use Rattle.sc_typed.specs.declared.typed_expr.TypedExpr.{TypedExpr, TypedExpr-F,
 use Rattle.sc_typed.specs.declared.typed_expr.TypedExpr.TheOpen as t
 use Rattle.sc_typed.specs.Outcomes.{ty}
 use Rattle.sc_typed.specs.Types.{is_true, is_false, entity_name}
-use Rattle.sc_nodes.specs.declared.node.Literal.{Literal as Constant}
-use Rattle.sc_nodes.specs.declared.node.Literal.TheVariants as constants
+use Rattle.sc_sorts.specs.declared.node.Literal.{Literal as Constant}
+use Rattle.sc_sorts.specs.declared.node.Literal.TheVariants as constants
 use Rattle.sc_constructs.specs.Code.{Code, always, constant, choice_code, branch_code, or_code, and_code, not_code, less_code, less_or_equal_code, greater_code, greater_or_equal_code, sum_code, difference_code, product_code, negative_code, equal_code, contains_code, contains_all_code, contains_any_code, is_empty_code, is_version_4_code, is_version_6_code, in_range_code, is_loopback_code, is_multicast_code, like_code, spelled_code, is_code, set_code, record_code}
 use Rattle.sc_constructs.specs.Objects.{access_code, path_code, tag_type, has_tag_code, get_tag_code, in_code, written_term, variable_term}
 

@@ -1,6 +1,6 @@
 -- What private clauses speak of: expressions in a setting.
 use Rattle.std.specs.Prelude.{ℕ, List, map}
-use Rattle.sc_nodes.specs.declared.node.Node.{Node}
+use Rattle.sc_sorts.specs.declared.node.Node.{Node}
 use Rattle.sc_typed.specs.declared.typed_expr.TypedExpr.{TypedExpr}
 use Rattle.sc_constructs.specs.declared.setting.Setting.{Setting}
 use Rattle.sc_constructs.specs.Code.{Code, CodeField}

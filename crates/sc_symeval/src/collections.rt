@@ -8,8 +8,7 @@ ghost use Rattle.sc_symeval.specs.Parts.{numbers_in_order};
 
 use sc_constructs::{Opt, Setting};
 use sc_lists::{Seq, Text};
-use sc_nodes::Parts;
-use sc_sorts::{Sort, try_clone};
+use sc_sorts::{Parts, Sort, try_clone};
 use sc_terms::Terms;
 use std::alloc::{AllocError, Global};
 use std::collections::BTreeMap;

@@ -1,7 +1,7 @@
 //! Literals, variables, and what a literal text spells.
 ghost use Rattle.std.specs.Prelude.{◌≡◌, IfOk};
 ghost use Rattle.std.specs.Option.{option_copied, option_and_then};
-ghost use Rattle.sc_nodes.specs.declared.node.Literal.TheVariants as constants;
+ghost use Rattle.sc_sorts.specs.declared.node.Literal.TheVariants as constants;
 ghost use Rattle.sc_decimal.specs.DecimalValue.{decimal_of};
 ghost use Rattle.sc_ip.specs.IpValue.{ip_of};
 ghost use Rattle.sc_terms.specs.Folds.{literal_term};
@@ -20,8 +20,7 @@ use sc_decimal::{Decimal, read_decimal};
 use sc_ip::{Ip, read_ip};
 use sc_lists::Text;
 use sc_names::Uid;
-use sc_nodes::Literal;
-use sc_sorts::choices_of;
+use sc_sorts::{Literal, choices_of};
 use sc_terms::Terms;
 use sc_typed::TypedExpr;
 use std::alloc::AllocError;

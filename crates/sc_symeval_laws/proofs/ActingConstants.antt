@@ -12,7 +12,7 @@ use Rattle.sc_ast.specs.declared.literal.Literal.TheVariants as literal
 use Rattle.sc_ast.specs.declared.place.Place.{Place}
 use Rattle.sc_eval.specs.Written.{constants_step, constants}
 use Rattle.sc_names.specs.declared.uid.Uid.{Uid}
-use Rattle.sc_sound_values.proofs.ListLaws.{split}
+use Rattle.sc_soundness_laws.proofs.ListLaws.{split}
 use Rattle.sc_typing.specs.Policies.{acting_variable, acting_step, acting}
 use Rattle.sc_values.specs.declared.value.Value.{Value}
 use Rattle.sc_values.specs.declared.value.Value.TheVariants as value

@@ -50,11 +50,11 @@ use Rattle.sc_typing_rules.specs.Operators.{uids_of as uids_read, some_uids_of, 
 use Rattle.sc_typing_rules.specs.Rules.{literal_type, literal_typed, leaves, variable_type, subject, record_type}
 use Rattle.sc_typing.specs.Typing.{typing}
 use Rattle.sc_typing_laws.specs.Derivations.{in_type, Derives, of_if_true, of_if_false, of_if, of_or_true, of_or, of_and_false, of_and, of_binary, of_in_decided, of_in, of_has, of_like, of_is, of_is_in_other, of_is_in_decided, of_is_in, of_unary, of_access, of_literal, of_variable, of_set, of_record, DeriveAll, no_member, with_member, DeriveFields, no_field, with_field}
-use Rattle.sc_sound_values.specs.Sound.{IsOf, OrOverflows, AllHold, IsSound}
-use Rattle.sc_sound_values.proofs.ValueLaws.{boolean, fits-true, fits-false, string_of, entity_of, as_entity-is}
-use Rattle.sc_sound_values.proofs.HoldingLaws.{both-hold}
-use Rattle.sc_sound_values.proofs.ListLaws.{split}
-use Rattle.sc_sound_rules.proofs.EqualLaws.{literal-eval}
+use Rattle.sc_soundness_laws.specs.Sound.{IsOf, OrOverflows, AllHold, IsSound}
+use Rattle.sc_soundness_laws.proofs.ValueLaws.{boolean, fits-true, fits-false, string_of, entity_of, as_entity-is}
+use Rattle.sc_soundness_laws.proofs.HoldingLaws.{both-hold}
+use Rattle.sc_soundness_laws.proofs.ListLaws.{split}
+use Rattle.sc_soundness_laws.proofs.EqualLaws.{literal-eval}
 use Rattle.sc_soundness_laws.proofs.ActingLaws.{uids_of}
 use Rattle.sc_terms.specs.Folds.{not_term, or_term}
 use Rattle.sc_terms.specs.Values.{it, yes, val}

@@ -30,7 +30,7 @@ use Rattle.sc_typing_rules.specs.Rules.{literal_type, literal_typed, leaf_in, le
 use Rattle.sc_typing.specs.Typing.{typing}
 use Rattle.sc_typing.proofs.ErasureLaws.{typing-untyped}
 use Rattle.sc_typing_laws.specs.Derivations.{Derives}
-use Rattle.sc_nodes.specs.declared.node.Literal.{Literal as Constant}
+use Rattle.sc_sorts.specs.declared.node.Literal.{Literal as Constant}
 use Rattle.sc_symeval.specs.Codes.{text_at, spelled}
 use Rattle.sc_constructs.specs.Objects.{uid_at, is_declared_action, is_uid, are_uids, are_some_uids, is_group_in, is_decided}
 use Rattle.sc_laws.proofs.OptionLaws.{some_is}

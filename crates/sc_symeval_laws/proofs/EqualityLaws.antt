@@ -27,8 +27,8 @@ use Rattle.sc_terms.specs.Values.{it, yes, val, bool_seen, equal_value}
 use Rattle.sc_terms.proofs.FoldValues.{truth_is}
 use Rattle.sc_terms.proofs.EqualValues.{equal_is, equal_bools, equal_others}
 use Rattle.sc_term_laws.proofs.TestLaws.{same_sorts, same_told}
-use Rattle.sc_sound_values.specs.Sound.{IsOf, OrOverflows}
-use Rattle.sc_sound_values.proofs.ValueLaws.{boolean, fits, conforms-out}
+use Rattle.sc_soundness_laws.specs.Sound.{IsOf, OrOverflows}
+use Rattle.sc_soundness_laws.proofs.ValueLaws.{boolean, fits, conforms-out}
 use Rattle.sc_constructs.specs.Code.{Code, same_sort, only_where, equal_code}
 use Rattle.sc_symeval.specs.Agreement.{Agrees}
 use Rattle.sc_symeval_laws.specs.TypeSorts.{sort_in}

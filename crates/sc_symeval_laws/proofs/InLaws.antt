@@ -26,17 +26,17 @@ use Rattle.sc_eval.proofs.CollectionsLaws.{is_same-decides}
 use Rattle.sc_typed.specs.declared.typed_expr.TypedExpr.{TypedExpr}
 use Rattle.sc_typed.specs.Types.{is_true, entity_name, entity_name_in, member_in, group, group_in}
 use Rattle.sc_typed.specs.Outcomes.{ty}
-use Rattle.sc_sound_values.specs.Sound.{IsOf, OrOverflows}
-use Rattle.sc_sound_values.proofs.ValueLaws.{entity_of, as_entity-is, set_of}
-use Rattle.sc_sound_values.proofs.LiteralLaws.{same_uid-decides}
-use Rattle.sc_sound_values.proofs.ObjectLaws.{of_stored, data_of}
-use Rattle.sc_sound_rules.proofs.EqualLaws.{same_entity}
+use Rattle.sc_soundness_laws.specs.Sound.{IsOf, OrOverflows}
+use Rattle.sc_soundness_laws.proofs.ValueLaws.{entity_of, as_entity-is, set_of}
+use Rattle.sc_soundness_laws.proofs.LiteralLaws.{same_uid-decides}
+use Rattle.sc_soundness_laws.proofs.ObjectLaws.{of_stored, data_of}
+use Rattle.sc_soundness_laws.proofs.EqualLaws.{same_entity}
 use Rattle.sc_sorts.specs.declared.sort.Sort.{out-Sort}
 use Rattle.sc_sorts.specs.Entities.{choices_of, entity_sort}
 use Rattle.sc_sorts.specs.Inside.{name_in}
 use Rattle.sc_sorts.proofs.OutLaws as sorts
-use Rattle.sc_nodes.specs.declared.node.UnaryOp.TheVariants as unary
-use Rattle.sc_nodes.specs.declared.node.BinaryOp.TheVariants as binary
+use Rattle.sc_sorts.specs.declared.node.UnaryOp.TheVariants as unary
+use Rattle.sc_sorts.specs.declared.node.BinaryOp.TheVariants as binary
 use Rattle.sc_terms.specs.Trees.{Tree, two}
 use Rattle.sc_terms.specs.Folds.{equal_term}
 use Rattle.sc_terms.specs.Values.{Val, it, yes, val, seen, bool_seen, uid_seen, members_seen, members_in, value_in, entity_in, ancestors_value, has_member, equal_value}

@@ -32,7 +32,7 @@ use Rattle.sc_values.specs.declared.value.Value.TheVariants as value
 use Rattle.sc_values.specs.Proper.{IsProperLevel, IsProper}
 use Rattle.sc_values.proofs.EveryLaws.{every_Entity, every_level}
 use Rattle.sc_values.proofs.OutLaws.{out_Long, out_String}
-use Rattle.sc_nodes.specs.declared.node.Leaf.TheVariants as leafs
+use Rattle.sc_sorts.specs.declared.node.Leaf.TheVariants as leafs
 use Rattle.sc_typed.specs.declared.outcome.Typed.{Typed}
 use Rattle.sc_typed.specs.Capabilities.{Capabilities}
 use Rattle.sc_typed.specs.Outcomes.{ty}

@@ -58,11 +58,11 @@ use Rattle.sc_sorts.specs.Inside.{SortFields, member_sort}
 use Rattle.sc_sorts.specs.OfTypes.{with_presence, sort_of}
 use Rattle.sc_values.specs.declared.value.Value.{Value}
 use Rattle.sc_values.specs.declared.value.Value.TheVariants as value
-use Rattle.sc_nodes.specs.declared.node.Leaf.TheVariants as leafs
-use Rattle.sc_nodes.specs.declared.node.Literal.TheVariants as literal
-use Rattle.sc_nodes.specs.declared.node.UnaryOp.TheVariants as unary
-use Rattle.sc_nodes.specs.declared.node.BinaryOp.{BinaryOp}
-use Rattle.sc_nodes.specs.declared.node.BinaryOp.TheVariants as binary
+use Rattle.sc_sorts.specs.declared.node.Leaf.TheVariants as leafs
+use Rattle.sc_sorts.specs.declared.node.Literal.TheVariants as literal
+use Rattle.sc_sorts.specs.declared.node.UnaryOp.TheVariants as unary
+use Rattle.sc_sorts.specs.declared.node.BinaryOp.{BinaryOp}
+use Rattle.sc_sorts.specs.declared.node.BinaryOp.TheVariants as binary
 use Rattle.sc_typed.specs.declared.outcome.Typed.{Typed}
 use Rattle.sc_typed.specs.declared.fault.TypeFault.{TypeFault}
 use Rattle.sc_typed.specs.declared.fault.TypeRule.TheVariants.{NotObject, NoJoin}
@@ -99,7 +99,7 @@ use Rattle.sc_symeval.specs.Codes.{Part as Seen, of_choice, of_either, of_both, 
 use Rattle.sc_symeval.proofs.CodeLaws as coded
 use Rattle.sc_symeval_laws.specs.TypeSorts.{sort_in}
 use Rattle.sc_soundness_laws.proofs.ActingLaws.{uids_of}
-use Rattle.sc_sound_values.proofs.ListLaws.{split}
+use Rattle.sc_soundness_laws.proofs.ListLaws.{split}
 use Rattle.sc_symeval_laws.proofs.ActingConstants.{constants_of}
 use Rattle.sc_symeval_laws.proofs.DecidedLaws.{LiteralLaw, text_is, spelled_is, decided_told}
 use Rattle.sc_symeval_laws.proofs.SortedLaws.{AreFields, entity_plain}

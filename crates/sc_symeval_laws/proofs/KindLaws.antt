@@ -12,8 +12,8 @@ use Rattle.sc_world.specs.declared.world.World.{World}
 use Rattle.sc_eval.specs.Outcomes.{Outcome, ◌>>=◌, as_long, as_decimal, as_address, as_set, long_in, decimal_in, address_in, set_in}
 use Rattle.sc_eval.specs.Operators.{longs, decimals, addresses, sets}
 use Rattle.sc_typed.specs.Types.{is_long, is_long_in, is_decimal, is_decimal_in, is_ip, is_ip_in}
-use Rattle.sc_sound_values.specs.Sound.{IsOf}
-use Rattle.sc_sound_values.proofs.ValueLaws.{fits, conforms-out, decimal_value, ip_value, long_value}
+use Rattle.sc_soundness_laws.specs.Sound.{IsOf}
+use Rattle.sc_soundness_laws.proofs.ValueLaws.{fits, conforms-out, decimal_value, ip_value, long_value}
 
 -- ---- the number or the address that a value is
 

@@ -23,14 +23,14 @@ use Rattle.sc_eval.specs.Entities.{or_missing, attr_of, access_in, access, has_a
 use Rattle.sc_typed.specs.declared.typed_expr.HasStep.{HasStep}
 use Rattle.sc_typed.specs.Types.{Field, same_presence, entity_name_in, attributes, attributes_in, attribute}
 use Rattle.sc_typing_rules.specs.Paths.{step}
-use Rattle.sc_sound_values.specs.Sound.{IsOf}
-use Rattle.sc_sound_values.proofs.ValueLaws.{fits, conforms-out, entity_of}
-use Rattle.sc_sound_values.proofs.ObjectLaws.{data_of, none_undeclared, has_declared, value_declared}
+use Rattle.sc_soundness_laws.specs.Sound.{IsOf}
+use Rattle.sc_soundness_laws.proofs.ValueLaws.{fits, conforms-out, entity_of}
+use Rattle.sc_soundness_laws.proofs.ObjectLaws.{data_of, none_undeclared, has_declared, value_declared}
 use Rattle.sc_sorts.specs.declared.sort.Sort.{Sort}
 use Rattle.sc_sorts.specs.Defaults.{is_option, default_of}
 use Rattle.sc_sorts.specs.Inside.{field_sort, held_sort}
 use Rattle.sc_sorts.specs.OfTypes.{with_presence}
-use Rattle.sc_nodes.specs.declared.node.UnaryOp.TheVariants as unary
+use Rattle.sc_sorts.specs.declared.node.UnaryOp.TheVariants as unary
 use Rattle.sc_terms.specs.Trees.{Tree, one}
 use Rattle.sc_terms.specs.TreeSorts.{tree_sort}
 use Rattle.sc_terms.specs.Folds.{truth_term, not_term, and_term, or_term, present_term, held_term}

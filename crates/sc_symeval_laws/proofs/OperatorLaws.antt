@@ -30,12 +30,12 @@ use Rattle.sc_typed.specs.Literals.{literal_of}
 use Rattle.sc_typed.specs.Outcomes.{ty}
 use Rattle.sc_typed.specs.Types.{is_boolean, is_long, is_decimal, is_ip, member}
 use Rattle.sc_typing_laws.specs.Operations.{IsComparison, less, less_or_equal, greater, greater_or_equal, IsArithmetic, addition, subtraction, multiplication, IsSetTest, all, any, IsDecimalComparison, decimal_less, decimal_less_or_equal, decimal_greater, decimal_greater_or_equal, IsOperation, of_comparison, of_arithmetic, of_literals, of_equal, of_apart, of_contains, of_sets, of_has_tag, of_get_tag, of_decimals, of_ranges, IsAddressTest, version_4, version_6, loopback, multicast, IsApplication, of_not, of_negate, of_is_empty, of_address_test, of_decimal, of_ip}
-use Rattle.sc_sound_values.specs.Sound.{IsOf, OrOverflows}
-use Rattle.sc_sound_rules.proofs.EqualLaws.{same_value}
-use Rattle.sc_sound_values.proofs.ValueLaws.{boolean, entity_of, set_of}
+use Rattle.sc_soundness_laws.specs.Sound.{IsOf, OrOverflows}
+use Rattle.sc_soundness_laws.proofs.EqualLaws.{same_value}
+use Rattle.sc_soundness_laws.proofs.ValueLaws.{boolean, entity_of, set_of}
 use Rattle.sc_typing_rules.specs.Rules.{literal_typed}
-use Rattle.sc_nodes.specs.declared.node.Leaf.TheVariants as leafs
-use Rattle.sc_nodes.specs.declared.node.Literal.TheVariants as nodes
+use Rattle.sc_sorts.specs.declared.node.Leaf.TheVariants as leafs
+use Rattle.sc_sorts.specs.declared.node.Literal.TheVariants as nodes
 use Rattle.sc_terms.specs.TreeSorts.{tree_sort}
 use Rattle.sc_terms.specs.Folds.{literal_term}
 use Rattle.sc_terms.proofs.FoldValues.{leaf_is}

@@ -22,8 +22,8 @@ use Rattle.sc_typed.specs.Types.{is_boolean}
 use Rattle.sc_typed.proofs.OutcomeLaws.{through, checked}
 use Rattle.sc_typing.specs.Policies.{acting, asked, typed_policy}
 use Rattle.sc_typing.specs.Typing.{typing}
-use Rattle.sc_sound_values.specs.Sound.{AllHold}
-use Rattle.sc_sound_values.proofs.ListLaws.{each_weaker}
+use Rattle.sc_soundness_laws.specs.Sound.{AllHold}
+use Rattle.sc_soundness_laws.proofs.ListLaws.{each_weaker}
 use Rattle.sc_soundness_laws.proofs.ActingLaws.{acting-eval, acting-uids}
 use Rattle.sc_soundness_laws.proofs.ConditionLaws.{condition-uids}
 use Rattle.sc_constructs.specs.Code.{Code}

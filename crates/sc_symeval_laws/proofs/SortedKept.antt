@@ -13,10 +13,10 @@ use Rattle.sc_sorts.specs.Entities.{choices_of, entity_sort}
 use Rattle.sc_sorts.specs.OfTypes.{sort_of}
 use Rattle.sc_values.specs.declared.value.Value.{Value}
 use Rattle.sc_world.specs.declared.world.World.{World}
-use Rattle.sc_nodes.specs.declared.node.Literal.TheVariants as literal
-use Rattle.sc_nodes.specs.declared.node.UnaryOp.TheVariants as unary
-use Rattle.sc_nodes.specs.declared.node.BinaryOp.{BinaryOp}
-use Rattle.sc_nodes.specs.declared.node.BinaryOp.TheVariants as binary
+use Rattle.sc_sorts.specs.declared.node.Literal.TheVariants as literal
+use Rattle.sc_sorts.specs.declared.node.UnaryOp.TheVariants as unary
+use Rattle.sc_sorts.specs.declared.node.BinaryOp.{BinaryOp}
+use Rattle.sc_sorts.specs.declared.node.BinaryOp.TheVariants as binary
 use Rattle.sc_terms.specs.Trees.{Tree, two}
 use Rattle.sc_terms.specs.Values.{is_maybe}
 use Rattle.sc_terms.proofs.FoldValues.{one_is, two_is}

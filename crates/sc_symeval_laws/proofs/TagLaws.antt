@@ -26,15 +26,15 @@ use Rattle.sc_eval.specs.Entities.{has_tag, tag_of, tag_or_missing}
 use Rattle.sc_eval.specs.Operators.{tagged}
 use Rattle.sc_eval.proofs.CollectionsLaws.{is_same-decides}
 use Rattle.sc_typed.specs.Types.{is_string, entity_name}
-use Rattle.sc_nodes.specs.declared.node.UnaryOp.TheVariants as unary
-use Rattle.sc_nodes.specs.declared.node.BinaryOp.TheVariants as binary
+use Rattle.sc_sorts.specs.declared.node.UnaryOp.TheVariants as unary
+use Rattle.sc_sorts.specs.declared.node.BinaryOp.TheVariants as binary
 use Rattle.sc_terms.specs.Trees.{Tree, one, two}
 use Rattle.sc_terms.specs.Folds.{truth_term}
 use Rattle.sc_terms.specs.Values.{Val, it, yes, val, text_seen, uid_seen, members_seen, members_in, value_in, entity_in, keys_value, tag_value, text_in as key_in, has_member}
 use Rattle.sc_terms.proofs.FoldValues.{truth_is, one_is, two_is}
-use Rattle.sc_sound_values.specs.Sound.{IsOf, OrOverflows}
-use Rattle.sc_sound_values.proofs.ValueLaws.{entity_of, as_entity-is, string_of}
-use Rattle.sc_sound_values.proofs.ObjectLaws.{of_stored, data_of}
+use Rattle.sc_soundness_laws.specs.Sound.{IsOf, OrOverflows}
+use Rattle.sc_soundness_laws.proofs.ValueLaws.{entity_of, as_entity-is, string_of}
+use Rattle.sc_soundness_laws.proofs.ObjectLaws.{of_stored, data_of}
 use Rattle.sc_constructs.specs.Code.{Code}
 use Rattle.sc_constructs.specs.Objects.{tag_type, has_key, has_tag_code, get_tag_code}
 use Rattle.sc_sorts.specs.declared.sort.Sort.{Sort}

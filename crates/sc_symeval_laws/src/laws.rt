@@ -17,7 +17,7 @@ ghost use Rattle.sc_typed.specs.declared.outcome.Typed.{Typed as AnyTyped};
 ghost use Rattle.sc_typed.specs.Capabilities.{Capabilities};
 ghost use Rattle.sc_typed.specs.Outcomes.{ty};
 ghost use Rattle.sc_typing.specs.Typing.{typing};
-ghost use Rattle.sc_sound_values.specs.Sound.{AllHold};
+ghost use Rattle.sc_soundness_laws.specs.Sound.{AllHold};
 ghost use Rattle.sc_term_laws.specs.Judging.{IsTermOf};
 ghost use Rattle.sc_constructs.specs.Code.{Code as AnyCode};
 ghost use Rattle.sc_symeval.specs.Agreement.{Agrees};

@@ -19,7 +19,7 @@ use Rattle.std.specs.Int.{w64}
 use Rattle.sc_values.specs.declared.value.Value.{Value}
 use Rattle.sc_values.specs.declared.value.Value.TheVariants as value
 use Rattle.sc_world.specs.declared.world.World.{World}
-use Rattle.sc_nodes.specs.declared.node.BinaryOp.TheVariants as binary
+use Rattle.sc_sorts.specs.declared.node.BinaryOp.TheVariants as binary
 use Rattle.sc_terms.specs.Trees.{Tree, two}
 use Rattle.sc_terms.specs.Folds.{not_term, and_term, equal_term, bit_term}
 use Rattle.sc_terms.specs.Values.{Val, it, yes, val, truth, seen, level, number_in, ip_in, bit_seen, val_eq, not_value, equal_value}

@@ -1,8 +1,8 @@
 -- Places of bits that a term has are places of the literal that it may be.
 use Rattle.std.proofs.Common.{◌<◌, ℕ, ap, subst}
 use Rattle.sc_sorts.proofs.OutLaws.{out_Long, out_Decimal, out_Ip}
-use Rattle.sc_nodes.specs.declared.node.Leaf.TheVariants as leafs
-use Rattle.sc_nodes.specs.declared.node.Literal.TheVariants as literals
+use Rattle.sc_sorts.specs.declared.node.Leaf.TheVariants as leafs
+use Rattle.sc_sorts.specs.declared.node.Literal.TheVariants as literals
 use Rattle.sc_terms.specs.Trees.{Tree, leaf, one, two, choice, many}
 use Rattle.sc_terms.specs.TreeSorts.{tree_sort}
 use Rattle.sc_terms.specs.Folds.{IsPlaceIn}

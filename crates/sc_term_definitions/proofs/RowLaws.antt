@@ -15,8 +15,8 @@ use Rattle.sc_values.specs.declared.value.Value.{Value, Value-F}
 use Rattle.sc_values.specs.declared.value.Value.TheVariants as value
 use Rattle.sc_values.proofs.OutLaws.{out_Long}
 use Rattle.sc_world.specs.declared.world.World.{World}
-use Rattle.sc_nodes.specs.declared.node.UnaryOp.TheVariants as unary
-use Rattle.sc_nodes.specs.declared.node.BinaryOp.TheVariants as binary
+use Rattle.sc_sorts.specs.declared.node.UnaryOp.TheVariants as unary
+use Rattle.sc_sorts.specs.declared.node.BinaryOp.TheVariants as binary
 use Rattle.sc_terms.specs.Trees.{Tree, one, two}
 use Rattle.sc_terms.specs.Folds.{truth_term, and_term, bit_term}
 use Rattle.sc_terms.specs.Values.{it, yes, val, truth, level, number_in, bit_seen}

@@ -2,7 +2,7 @@
 use Rattle.std.proofs.Common.{◌≡◌, Bool, true, false, not, ◌&&◌, ◌||◌, cond, refl, ap, ◌∙◌}
 use Rattle.sc_bits.specs.Adders.{differ}
 use Rattle.sc_world.specs.declared.world.World.{World}
-use Rattle.sc_nodes.specs.declared.node.BinaryOp.TheVariants as binary
+use Rattle.sc_sorts.specs.declared.node.BinaryOp.TheVariants as binary
 use Rattle.sc_terms.specs.Trees.{Tree, two, choice}
 use Rattle.sc_terms.specs.Folds.{truth_term}
 use Rattle.sc_terms.specs.Values.{Val, yes, val, truth, equal_value}

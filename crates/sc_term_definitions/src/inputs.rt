@@ -1,7 +1,7 @@
 //! The terms that a definition names, by their numbers.
 ghost use Rattle.std.specs.Prelude.{◌≡◌, ◌<◌, ◌≤◌, ◌++◌, [], ◌∷◌, length, min, nat_le, if◌then◌else◌, IfOk, OnOk};
-ghost use Rattle.sc_nodes.specs.declared.node.UnaryOp.TheVariants as unary;
-ghost use Rattle.sc_nodes.specs.declared.node.BinaryOp.TheVariants as binary;
+ghost use Rattle.sc_sorts.specs.declared.node.UnaryOp.TheVariants as unary;
+ghost use Rattle.sc_sorts.specs.declared.node.BinaryOp.TheVariants as binary;
 ghost use Rattle.sc_terms.specs.Trees.{one, two};
 ghost use Rattle.sc_terms.specs.TreeSorts.{tree_sort};
 ghost use Rattle.sc_terms.specs.Tables.{tree, Keeps, StandsFor};

@@ -8,8 +8,7 @@ ghost use Rattle.sc_term_definitions.specs.Rows as rows;
 
 use crate::function::Function;
 use crate::row::Row;
-use sc_nodes::{BinaryOp, Leaf, Literal, Node, UnaryOp};
-use sc_sorts::Sort;
+use sc_sorts::{BinaryOp, Leaf, Literal, Node, Sort, UnaryOp};
 use sc_terms::Terms;
 
 /// How many bits the values of a sort have.

@@ -11,9 +11,9 @@ use Rattle.sc_sorts.specs.contracts.sort.SortPartialEq.TheImpl.{ghosts as sorts}
 use Rattle.sc_sorts.specs.Entities.{entity_sort}
 use Rattle.sc_sorts.specs.Inside.{member_sort}
 use Rattle.sc_sorts.specs.OfTypes.{sort_of}
-use Rattle.sc_nodes.specs.declared.node.BinaryOp.{BinaryOp}
-use Rattle.sc_nodes.specs.declared.node.BinaryOp.TheVariants as binary
-use Rattle.sc_nodes.specs.Sorts.{binary_sort}
+use Rattle.sc_sorts.specs.declared.node.BinaryOp.{BinaryOp}
+use Rattle.sc_sorts.specs.declared.node.BinaryOp.TheVariants as binary
+use Rattle.sc_sorts.specs.NodeSorts.{binary_sort}
 use Rattle.sc_terms.specs.Trees.{Tree, two, choice}
 use Rattle.sc_terms.specs.TreeSorts.{tree_sort}
 use Rattle.sc_term_laws.specs.Judging.{IsTermOf, IsArithmetic, IsOverflow, IsNumberSort, IsTestOfSets, IsPick}

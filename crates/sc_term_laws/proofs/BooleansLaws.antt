@@ -4,9 +4,9 @@ use Rattle.std.specs.Ordering.{is_gt}
 use Rattle.sc_schema.specs.declared.ty.Ty.{Ty}
 use Rattle.sc_sorts.specs.declared.sort.Sort.{Sort}
 use Rattle.sc_sorts.specs.OfTypes.{sort_of}
-use Rattle.sc_nodes.specs.declared.node.Leaf.TheVariants.{Context}
-use Rattle.sc_nodes.specs.declared.node.BinaryOp.TheVariants.{And, Or, Equal}
-use Rattle.sc_nodes.specs.declared.node.Node.{Node}
+use Rattle.sc_sorts.specs.declared.node.Leaf.TheVariants.{Context}
+use Rattle.sc_sorts.specs.declared.node.BinaryOp.TheVariants.{And, Or, Equal}
+use Rattle.sc_sorts.specs.declared.node.Node.{Node}
 use Rattle.sc_terms.specs.Trees.{Tree, leaf, two}
 use Rattle.sc_terms.specs.Tables.{tree, StandsFor}
 use Rattle.sc_terms.specs.Order.{tree_cmp, tree_eq}

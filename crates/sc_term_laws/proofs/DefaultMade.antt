@@ -17,7 +17,7 @@ use Rattle.sc_sorts.specs.Inside.{SortField, held_in}
 use Rattle.sc_sorts.proofs.OutLaws.{out_Option}
 use Rattle.sc_sorts.proofs.EveryLaws.{in_Entity, in_Set, in_Record, in_Option}
 use Rattle.sc_terms.specs.Trees.{Tree, parts_of}
-use Rattle.sc_nodes.specs.declared.node.Literal.TheVariants as literal
+use Rattle.sc_sorts.specs.declared.node.Literal.TheVariants as literal
 use Rattle.sc_terms.specs.Folds.{literal_term, default_term, absent, held_by, held_term}
 use Rattle.sc_terms.proofs.DefaultLaws.{with_default, default_Bool, default_Long, default_String, default_Decimal, default_Ip, default_Entity, default_Set, default_Record, default_Option}
 use Rattle.sc_term_laws.specs.Judging.{IsTermOf, HaveFields}

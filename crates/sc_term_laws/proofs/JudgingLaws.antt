@@ -8,10 +8,10 @@ use Rattle.sc_schema.specs.Declarations.{Declarations}
 use Rattle.sc_sorts.specs.declared.sort.Sort.{Sort, Sort-F}
 use Rattle.sc_sorts.specs.declared.sort.Sort.TheVariants as sort
 use Rattle.sc_sorts.proofs.OutLaws.{out_Set, out_Record, out_Option}
-use Rattle.sc_nodes.specs.declared.node.BinaryOp.{BinaryOp}
+use Rattle.sc_sorts.specs.declared.node.BinaryOp.{BinaryOp}
 use Rattle.sc_terms.specs.Trees.{Tree, Trees}
 use Rattle.sc_sorts.specs.Inside.{SortFields, fields_in, held_in, member_in, field_sort, held_sort, member_sort}
-use Rattle.sc_nodes.specs.Sorts.{binary_sort}
+use Rattle.sc_sorts.specs.NodeSorts.{binary_sort}
 use Rattle.sc_terms.specs.TreeSorts.{tree_sort, sorts_of}
 use Rattle.sc_term_laws.specs.Judging.{IsTermOf, HaveFields, IsArithmetic, IsOverflow, IsTestOfSets, IsPick}
 use Rattle.sc_term_laws.specs.Judging as judged

@@ -9,12 +9,12 @@ use Rattle.sc_sorts.specs.declared.sort.Sort.TheVariants as sort
 use Rattle.sc_sorts.specs.contracts.sort.SortPartialEq.TheImpl.{ghosts as sorts}
 use Rattle.sc_sorts.specs.Defaults.{default_uid}
 use Rattle.sc_sorts.specs.Entities.{choices_of, entity_sort}
-use Rattle.sc_sorts.proofs.OrderLaws.{sort_eq_decides}
-use Rattle.sc_nodes.specs.declared.node.Leaf.{Leaf}
-use Rattle.sc_nodes.specs.declared.node.Leaf.TheVariants as leafs
-use Rattle.sc_nodes.specs.declared.node.Literal.{Literal}
-use Rattle.sc_nodes.specs.declared.node.Literal.TheVariants as literal
-use Rattle.sc_nodes.specs.Sorts.{leaf_sort, literal_sort}
+use Rattle.sc_sorts.specs.OrderLaws.{sort_eq_decides}
+use Rattle.sc_sorts.specs.declared.node.Leaf.{Leaf}
+use Rattle.sc_sorts.specs.declared.node.Leaf.TheVariants as leafs
+use Rattle.sc_sorts.specs.declared.node.Literal.{Literal}
+use Rattle.sc_sorts.specs.declared.node.Literal.TheVariants as literal
+use Rattle.sc_sorts.specs.NodeSorts.{leaf_sort, literal_sort}
 use Rattle.sc_terms.specs.Trees.{leaf}
 use Rattle.sc_terms.specs.Folds.{literal_term}
 use Rattle.sc_term_laws.specs.Judged.{IsWritten, IsNameless, IsLiteralOf}

@@ -9,14 +9,14 @@ use Rattle.sc_sorts.specs.declared.sort.Sort.{Sort}
 use Rattle.sc_names.specs.declared.uid.Uid.{Uid}
 use Rattle.sc_schema.specs.declared.declarations.Env.{Env}
 use Rattle.sc_schema.specs.Declarations.{Declarations}
-use Rattle.sc_nodes.specs.declared.node.Leaf.{Leaf}
-use Rattle.sc_nodes.specs.declared.node.UnaryOp.{UnaryOp}
-use Rattle.sc_nodes.specs.declared.node.BinaryOp.{BinaryOp}
-use Rattle.sc_nodes.specs.declared.node.ManyOp.{ManyOp}
-use Rattle.sc_nodes.specs.declared.node.ManyOp.TheVariants as manys
-use Rattle.sc_nodes.specs.declared.node.Node.{Node}
-use Rattle.sc_nodes.specs.declared.node.Node.TheVariants as node
-use Rattle.sc_nodes.specs.Sorts.{leaf_sort}
+use Rattle.sc_sorts.specs.declared.node.Leaf.{Leaf}
+use Rattle.sc_sorts.specs.declared.node.UnaryOp.{UnaryOp}
+use Rattle.sc_sorts.specs.declared.node.BinaryOp.{BinaryOp}
+use Rattle.sc_sorts.specs.declared.node.ManyOp.{ManyOp}
+use Rattle.sc_sorts.specs.declared.node.ManyOp.TheVariants as manys
+use Rattle.sc_sorts.specs.declared.node.Node.{Node}
+use Rattle.sc_sorts.specs.declared.node.Node.TheVariants as node
+use Rattle.sc_sorts.specs.NodeSorts.{leaf_sort}
 use Rattle.sc_terms.specs.Trees.{Tree, leaf, one, two, choice}
 use Rattle.sc_terms.specs.Tables.{Places, tree, node_tree, at_numbers, AreBelow, PartsAreBelow}
 use Rattle.sc_terms.specs.TreeSorts.{tree_sort}

@@ -36,8 +36,8 @@ use Rattle.sc_world.specs.declared.world.World.{World}
 use Rattle.sc_world.specs.Conforms.{is_entity_of}
 use Rattle.sc_world.specs.Stores.{stored}
 use Rattle.sc_world.specs.WellFormed.{IsStored, IsWellFormed}
-use Rattle.sc_nodes.specs.declared.node.BinaryOp.{BinaryOp}
-use Rattle.sc_nodes.specs.declared.node.ManyOp.TheVariants as manys
+use Rattle.sc_sorts.specs.declared.node.BinaryOp.{BinaryOp}
+use Rattle.sc_sorts.specs.declared.node.ManyOp.TheVariants as manys
 use Rattle.sc_terms.specs.Trees.{Tree, leaf, one, two, choice, many, Trees, listed}
 use Rattle.sc_terms.specs.TreeSorts.{tree_sort}
 use Rattle.sc_terms.specs.Values.{Val, it, value_in, uid_in, text_in, uid_seen, record_in, fields_seen, option_in, field_seen, field_value, held_value, two_value, val, vals, is_maybe, HaveKinds, HasKinds}

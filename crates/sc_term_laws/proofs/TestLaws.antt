@@ -20,9 +20,9 @@ use Rattle.sc_sorts.specs.Entities.{choices_of, entity_sort}
 use Rattle.sc_sorts.specs.Inside.{SortField, SortFields, name_in, fields_in, held_in, member_in, held_sort, member_sort}
 use Rattle.sc_sorts.specs.OfTypes.{sort_of}
 use Rattle.sc_sorts.proofs.OutLaws.{out_Bool, out_Long, out_String, out_Decimal, out_Ip, out_Entity, out_Set, out_Record, out_Option}
-use Rattle.sc_sorts.proofs.OrderLaws.{sort_eq_decides}
-use Rattle.sc_nodes.specs.declared.node.BinaryOp.{BinaryOp}
-use Rattle.sc_nodes.specs.declared.node.BinaryOp.TheVariants as binary
+use Rattle.sc_sorts.specs.OrderLaws.{sort_eq_decides}
+use Rattle.sc_sorts.specs.declared.node.BinaryOp.{BinaryOp}
+use Rattle.sc_sorts.specs.declared.node.BinaryOp.TheVariants as binary
 use Rattle.sc_terms.specs.Trees.{Tree, two}
 use Rattle.sc_term_laws.specs.Judging.{HasPlace, IsNumberSort, IsSum}
 use Rattle.sc_term_laws.specs.Judging as judged

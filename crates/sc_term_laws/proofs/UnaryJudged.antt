@@ -11,11 +11,11 @@ use Rattle.sc_sorts.specs.Defaults.{is_option}
 use Rattle.sc_sorts.specs.Entities.{entity_sort}
 use Rattle.sc_sorts.specs.Inside.{field_sort, held_sort}
 use Rattle.sc_sorts.specs.OfTypes.{sort_of}
-use Rattle.sc_nodes.specs.declared.node.BinaryOp.{BinaryOp}
-use Rattle.sc_nodes.specs.declared.node.BinaryOp.TheVariants as binary
-use Rattle.sc_nodes.specs.declared.node.UnaryOp.{UnaryOp}
-use Rattle.sc_nodes.specs.declared.node.UnaryOp.TheVariants as unary
-use Rattle.sc_nodes.specs.Sorts.{unary_sort}
+use Rattle.sc_sorts.specs.declared.node.BinaryOp.{BinaryOp}
+use Rattle.sc_sorts.specs.declared.node.BinaryOp.TheVariants as binary
+use Rattle.sc_sorts.specs.declared.node.UnaryOp.{UnaryOp}
+use Rattle.sc_sorts.specs.declared.node.UnaryOp.TheVariants as unary
+use Rattle.sc_sorts.specs.NodeSorts.{unary_sort}
 use Rattle.sc_terms.specs.Trees.{Tree, one, two}
 use Rattle.sc_terms.specs.TreeSorts.{tree_sort}
 use Rattle.sc_term_laws.specs.Judging.{IsTermOf, IsSum}

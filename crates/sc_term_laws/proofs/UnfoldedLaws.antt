@@ -3,9 +3,9 @@ use Rattle.std.proofs.Common.{◌≡◌, ℕ, List, true, false, ◌||◌, Optio
 use Rattle.std.specs.Ordering.{is_gt}
 use Rattle.sc_laws.proofs.BoolLaws.{and_first, and_second, not_is_true}
 use Rattle.sc_pattern.specs.declared.part.Part.{Part}
-use Rattle.sc_nodes.specs.declared.node.Literal.{Literal}
-use Rattle.sc_nodes.specs.declared.node.UnaryOp.TheVariants as unary
-use Rattle.sc_nodes.specs.declared.node.BinaryOp.TheVariants as binary
+use Rattle.sc_sorts.specs.declared.node.Literal.{Literal}
+use Rattle.sc_sorts.specs.declared.node.UnaryOp.TheVariants as unary
+use Rattle.sc_sorts.specs.declared.node.BinaryOp.TheVariants as binary
 use Rattle.sc_terms.specs.Trees.{Tree, one, two, choice}
 use Rattle.sc_terms.specs.Order.{tree_cmp, tree_eq}
 use Rattle.sc_terms.specs.Folds.{constant, under_not, literal_of, literals_same, component, absent, not_term, and_term, or_term, choice_term, equal_term, field_term, present_term, held_term, bit_term, like_term}

@@ -5,10 +5,10 @@ use Rattle.std.specs.List.{Contains}
 use Rattle.sc_schema.specs.declared.ty.Ty.{Ty}
 use Rattle.sc_sorts.specs.OfTypes.{sort_of}
 use Rattle.sc_sorts.specs.Plain.{Field, plain_fields}
-use Rattle.sc_nodes.specs.declared.node.Leaf.TheVariants.{Context}
-use Rattle.sc_nodes.specs.declared.node.UnaryOp.TheVariants.{Not}
-use Rattle.sc_nodes.specs.declared.node.BinaryOp.{BinaryOp}
-use Rattle.sc_nodes.specs.declared.node.BinaryOp.TheVariants as binary
+use Rattle.sc_sorts.specs.declared.node.Leaf.TheVariants.{Context}
+use Rattle.sc_sorts.specs.declared.node.UnaryOp.TheVariants.{Not}
+use Rattle.sc_sorts.specs.declared.node.BinaryOp.{BinaryOp}
+use Rattle.sc_sorts.specs.declared.node.BinaryOp.TheVariants as binary
 use Rattle.sc_terms.specs.Trees.{Tree, leaf, one, two}
 use Rattle.sc_terms.specs.Folds.{truth_term, field_term}
 

@@ -11,10 +11,10 @@ use Rattle.sc_sorts.specs.Defaults.{is_option}
 use Rattle.sc_sorts.specs.Entities.{entity_sort}
 use Rattle.sc_sorts.specs.Inside.{SortField, name_in, fields_in}
 use Rattle.sc_sorts.specs.OfTypes.{sort_of}
-use Rattle.sc_nodes.specs.declared.node.UnaryOp.{UnaryOp}
-use Rattle.sc_nodes.specs.declared.node.UnaryOp.TheVariants as unary
-use Rattle.sc_nodes.specs.declared.node.BinaryOp.{BinaryOp}
-use Rattle.sc_nodes.specs.declared.node.BinaryOp.TheVariants as binary
+use Rattle.sc_sorts.specs.declared.node.UnaryOp.{UnaryOp}
+use Rattle.sc_sorts.specs.declared.node.UnaryOp.TheVariants as unary
+use Rattle.sc_sorts.specs.declared.node.BinaryOp.{BinaryOp}
+use Rattle.sc_sorts.specs.declared.node.BinaryOp.TheVariants as binary
 use Rattle.sc_terms.specs.Trees.{Tree, two, Labelled}
 use Rattle.sc_terms.specs.TreeSorts.{tree_sort}
 use Rattle.sc_term_laws.specs.Unfolded.{stays_not, stays_two, stays_choice, stays_equal, stays_field, stays_option, stays_literal}

@@ -7,9 +7,8 @@ ghost use Rattle.sc_term_laws.specs.Tests as tests;
 use crate::schema_sorts::tag_test;
 use crate::sort_tests::{both_long, both_sets, is_bool, is_ip, is_number, is_set_of};
 use crate::stays::{stays_choice, stays_equal, stays_two};
-use sc_nodes::BinaryOp;
 use sc_schema::Schema;
-use sc_sorts::Sort;
+use sc_sorts::{BinaryOp, Sort};
 use sc_terms::Terms;
 use std::alloc::{AllocError, Global};
 

@@ -12,8 +12,8 @@ use crate::names::are_names;
 use crate::unary::unary_test;
 use sc_lists::{Seq, Text};
 use sc_names::Lits;
-use sc_nodes::{BinaryOp, ManyOp, Node, Parts, UnaryOp};
 use sc_schema::{Env, Schema};
+use sc_sorts::{BinaryOp, ManyOp, Node, Parts, UnaryOp};
 use sc_terms::Terms;
 use std::alloc::{AllocError, Global};
 

@@ -2,7 +2,7 @@
 ghost use Rattle.std.specs.Prelude.{◌≡◌, ◌↔◌, ◌⊎◌, [], IsTrue, IfOk, Contains, FitsSigned};
 ghost use Rattle.std.specs.Int.{w64};
 ghost use Rattle.sc_ip.specs.Addresses.{IsIp};
-ghost use Rattle.sc_nodes.specs.Sorts.{leaf_sort};
+ghost use Rattle.sc_sorts.specs.NodeSorts.{leaf_sort};
 ghost use Rattle.sc_schema.specs.Declarations.{action_uids};
 ghost use Rattle.sc_schema.specs.Lawful.{IsEntityType};
 ghost use Rattle.sc_sorts.specs.Entities.{choices_of as choices_are, entity_sort as sort_of_entities};
@@ -18,9 +18,8 @@ use sc_decimal::Decimal;
 use sc_ip::Ip;
 use sc_lists::Seq;
 use sc_names::{Lits, Name, Uid};
-use sc_nodes::{Leaf, Literal};
 use sc_schema::{Env, Schema, action_ancestors, attrs_of, context_of, is_action_type};
-use sc_sorts::{Sort, choices_of, entity_sort};
+use sc_sorts::{Leaf, Literal, Sort, choices_of, entity_sort};
 use std::alloc::{AllocError, Global};
 
 /// Whether a leaf is a term, in an environment of a schema and with the entities that policies

@@ -11,9 +11,8 @@ use crate::schema_sorts::{ancestors_test, attributes_test, keys_test};
 use crate::sort_tests::{has_place, is_bool, is_option, is_string};
 use crate::stays::{stays_field, stays_literal, stays_not, stays_option};
 use sc_lists::Text;
-use sc_nodes::{BinaryOp, Node, UnaryOp};
 use sc_schema::Schema;
-use sc_sorts::Sort;
+use sc_sorts::{BinaryOp, Node, Sort, UnaryOp};
 use sc_terms::Terms;
 use std::alloc::{AllocError, Global};
 

@@ -5,11 +5,11 @@ use Rattle.std.specs.declared.cmp.Ordering.TheVariants.{Less, Equal, Greater}
 use Rattle.std.specs.Ordering.{nat_cmp, ordering_then, is_eq}
 use Rattle.std.specs.Cmp.{Equal-is}
 use Rattle.sc_names.specs.Uids.{text_cmp}
-use Rattle.sc_nodes.specs.declared.node.Node.{Node}
-use Rattle.sc_nodes.specs.declared.node.Node.TheVariants as node
+use Rattle.sc_sorts.specs.declared.node.Node.{Node}
+use Rattle.sc_sorts.specs.declared.node.Node.TheVariants as node
 use Rattle.sc_terms.specs.Trees.{Tree}
 use Rattle.sc_terms.specs.Tables.{Places, node_tree, node_parts, tree}
-use Rattle.sc_nodes.specs.Rows.{node_row}
+use Rattle.sc_sorts.specs.Rows.{node_row}
 use Rattle.sc_terms.specs.Order.{tree_cmp, trees_cmp, tree_eq, parts_cmp}
 
 -- parts that are one term tell nothing of the order, and parts that differ tell it

@@ -13,8 +13,8 @@ use Rattle.sc_sorts.specs.Defaults.{is_option_level, is_option, default_field, d
 use Rattle.sc_sorts.specs.Inside.{held_in}
 use Rattle.sc_sorts.proofs.OutLaws.{out_Bool, out_Long, out_String, out_Decimal, out_Ip, out_Entity, out_Set, out_Record, out_Option}
 use Rattle.sc_sorts.proofs.DefaultLaws as plain
-use Rattle.sc_nodes.specs.declared.node.Leaf.TheVariants as leafs
-use Rattle.sc_nodes.specs.declared.node.UnaryOp.TheVariants as unary
+use Rattle.sc_sorts.specs.declared.node.Leaf.TheVariants as leafs
+use Rattle.sc_sorts.specs.declared.node.UnaryOp.TheVariants as unary
 use Rattle.sc_terms.specs.Trees.{Tree, leaf, one, two, choice, many, parts_of}
 use Rattle.sc_terms.specs.TreeSorts.{tree_sort}
 use Rattle.sc_terms.specs.Folds.{default_term, default_parts, absent, held_by, held_term}

@@ -6,10 +6,10 @@ use Rattle.std.specs.declared.cmp.Ordering.{Ordering}
 use Rattle.std.specs.declared.cmp.Ordering.TheVariants.{Less, Equal, Greater}
 use Rattle.sc_names.specs.Uids.{uid_cmp}
 use Rattle.sc_names.proofs.UidLaws.{uid_cmp_total}
-use Rattle.sc_nodes.specs.Literals.{same_entity}
-use Rattle.sc_nodes.specs.declared.node.Leaf.TheVariants as leafs
-use Rattle.sc_nodes.specs.declared.node.Literal.{Literal}
-use Rattle.sc_nodes.specs.declared.node.Literal.TheVariants as literals
+use Rattle.sc_sorts.specs.Literals.{same_entity}
+use Rattle.sc_sorts.specs.declared.node.Leaf.TheVariants as leafs
+use Rattle.sc_sorts.specs.declared.node.Literal.{Literal}
+use Rattle.sc_sorts.specs.declared.node.Literal.TheVariants as literals
 use Rattle.sc_terms.specs.Trees.{Tree, leaf, one, two, choice, many}
 use Rattle.sc_terms.specs.Order.{tree_cmp, tree_eq}
 use Rattle.sc_terms.specs.Folds.{constant, truth_term, literal_of, literals_same, not_term, equal_by, equal_term, other_equal, equation}

@@ -12,12 +12,12 @@ use Rattle.sc_values.specs.Order.{value_cmp}
 use Rattle.sc_values.proofs.OrderLaws.{value_cmp_total, value_cmp_exact}
 use Rattle.sc_values.proofs.OutLaws.{out_Bool, out_Long, out_String, out_Decimal, out_Ip, out_Entity}
 use Rattle.sc_world.specs.declared.world.World.{World}
-use Rattle.sc_nodes.specs.declared.node.Leaf.TheVariants as leafs
-use Rattle.sc_nodes.specs.declared.node.Literal.{Literal}
-use Rattle.sc_nodes.specs.declared.node.Literal.TheVariants as literal
+use Rattle.sc_sorts.specs.declared.node.Leaf.TheVariants as leafs
+use Rattle.sc_sorts.specs.declared.node.Literal.{Literal}
+use Rattle.sc_sorts.specs.declared.node.Literal.TheVariants as literal
 use Rattle.sc_terms.specs.Trees.{Tree, leaf, one, two, choice, many}
 use Rattle.sc_terms.specs.Order.{tree_eq, tree_cmp}
-use Rattle.sc_nodes.specs.Literals.{same_entity}
+use Rattle.sc_sorts.specs.Literals.{same_entity}
 use Rattle.sc_terms.specs.Folds.{constant, literal_of, literals_same, equation, other_equal, equal_by, equal_term}
 use Rattle.sc_terms.specs.Values.{Val, it, maybe, yes, val, value_eq, option_eq, val_eq, seen, bool_seen, literal_value, not_value, equal_seen, equal_value}
 use Rattle.sc_terms.proofs.OrderLaws.{tree_eq-itself}

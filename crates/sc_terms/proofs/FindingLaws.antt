@@ -4,10 +4,10 @@ use Rattle.std.proofs.lemmas.List.Quantifiers.{position-Some}
 use Rattle.std.specs.List.{list_any, position}
 use Rattle.std.proofs.lemmas.Option.{slice_get-get_or}
 use Rattle.indexmap.specs.IndexSet.{insert_key}
-use Rattle.sc_nodes.specs.declared.node.Node.{Node}
-use Rattle.sc_nodes.specs.contracts.node.NodePartialEq.TheImpl.{ghosts as node_eq}
-use Rattle.sc_nodes.specs.contracts.node.NodeEq.TheImpl.Laws.{laws-law}
-use Rattle.sc_nodes.specs.Same.{same_node}
+use Rattle.sc_sorts.specs.declared.node.Node.{Node}
+use Rattle.sc_sorts.specs.contracts.node.NodePartialEq.TheImpl.{ghosts as node_eq}
+use Rattle.sc_sorts.specs.contracts.node.NodeEq.TheImpl.Laws.{laws-law}
+use Rattle.sc_sorts.specs.Same.{same_node}
 use Rattle.sc_terms.proofs.TableLaws.{slice_get-end, tree_is, keeps_append, table_insert, stands_insert}
 use Rattle.sc_terms.specs.Tables.{tree, node_tree, PartsAreBelow, IsTable, StandsFor}
 

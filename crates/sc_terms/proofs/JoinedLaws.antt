@@ -6,7 +6,7 @@ use Rattle.std.proofs.lemmas.List.Folds.{list_all-append, list_any-append}
 use Rattle.sc_laws.proofs.BoolLaws.{or_false}
 use Rattle.std.proofs.lemmas.List.{length-take-le, length-map, take-map, drop-map, take_all}
 use Rattle.sc_world.specs.declared.world.World.{World}
-use Rattle.sc_nodes.specs.declared.node.Node.{Node}
+use Rattle.sc_sorts.specs.declared.node.Node.{Node}
 use Rattle.sc_terms.specs.Trees.{Tree}
 use Rattle.sc_terms.specs.Tables.{tree, Keeps, StandsFor}
 use Rattle.sc_terms.specs.Folds.{truth_term, and_term, or_term}

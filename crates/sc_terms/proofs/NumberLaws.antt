@@ -3,7 +3,7 @@ use Rattle.std.proofs.Common.{◌≡◌, ℕ, ◌<◌, true, List, length, nat_e
 use Rattle.std.proofs.lemmas.Bool.Decides.{nat_tests}
 use Rattle.std.specs.Cmp.{both_ways}
 use Rattle.sc_laws.proofs.NumberLaws.{nat_eq_true}
-use Rattle.sc_nodes.specs.declared.node.Node.{Node}
+use Rattle.sc_sorts.specs.declared.node.Node.{Node}
 use Rattle.sc_terms.specs.Tables.{tree, IsTable}
 use Rattle.sc_terms.specs.Order.{tree_eq}
 use Rattle.sc_terms.proofs.OrderLaws.{tree_eq-exact, tree_eq-itself}

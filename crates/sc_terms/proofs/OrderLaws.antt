@@ -7,30 +7,30 @@ use Rattle.std.specs.declared.cmp.Ordering.TheVariants.{Less, Equal, Greater}
 use Rattle.std.specs.Ordering.{nat_cmp, ordering_then, ordering_reverse, is_eq}
 use Rattle.std.specs.Cmp.{nat_cmp_total, IsTotalOrder, Equal-is, tied_itself}
 use Rattle.sc_lists.proofs.OrderingLaws.{ordering_then_equal}
-use Rattle.sc_nodes.specs.declared.node.Leaf.{Leaf}
-use Rattle.sc_nodes.specs.declared.node.Leaf.TheVariants as leafs
-use Rattle.sc_nodes.specs.declared.node.Literal.TheVariants as literal
-use Rattle.sc_nodes.specs.declared.node.UnaryOp.{UnaryOp}
-use Rattle.sc_nodes.specs.declared.node.UnaryOp.TheVariants as unary
-use Rattle.sc_nodes.specs.declared.node.BinaryOp.{BinaryOp}
-use Rattle.sc_nodes.specs.declared.node.BinaryOp.TheVariants as binary
-use Rattle.sc_nodes.specs.contracts.node.LeafOrd.TheImpl.{ghosts as leaf_ord}
-use Rattle.sc_nodes.specs.contracts.node.UnaryOpOrd.TheImpl.{ghosts as unary_ord}
-use Rattle.sc_nodes.specs.contracts.node.BinaryOpOrd.TheImpl.{ghosts as binary_ord}
-use Rattle.sc_nodes.specs.contracts.node.LeafOrd.TheImpl.Laws.{matches_eq-law as leaf_level, total-law as leaf_total}
-use Rattle.sc_nodes.specs.contracts.node.UnaryOpOrd.TheImpl.Laws.{matches_eq-law as unary_level, total-law as unary_total}
-use Rattle.sc_nodes.specs.contracts.node.BinaryOpOrd.TheImpl.Laws.{matches_eq-law as binary_level, total-law as binary_total}
-use Rattle.sc_nodes.specs.declared.node.ManyOp.{ManyOp}
-use Rattle.sc_nodes.specs.declared.node.ManyOp.TheVariants as manys
-use Rattle.sc_nodes.specs.contracts.node.ManyOpOrd.TheImpl.{ghosts as many_ord}
-use Rattle.sc_nodes.specs.contracts.node.ManyOpOrd.TheImpl.Laws.{matches_eq-law as many_level, total-law as many_total}
+use Rattle.sc_sorts.specs.declared.node.Leaf.{Leaf}
+use Rattle.sc_sorts.specs.declared.node.Leaf.TheVariants as leafs
+use Rattle.sc_sorts.specs.declared.node.Literal.TheVariants as literal
+use Rattle.sc_sorts.specs.declared.node.UnaryOp.{UnaryOp}
+use Rattle.sc_sorts.specs.declared.node.UnaryOp.TheVariants as unary
+use Rattle.sc_sorts.specs.declared.node.BinaryOp.{BinaryOp}
+use Rattle.sc_sorts.specs.declared.node.BinaryOp.TheVariants as binary
+use Rattle.sc_sorts.specs.contracts.node.LeafOrd.TheImpl.{ghosts as leaf_ord}
+use Rattle.sc_sorts.specs.contracts.node.UnaryOpOrd.TheImpl.{ghosts as unary_ord}
+use Rattle.sc_sorts.specs.contracts.node.BinaryOpOrd.TheImpl.{ghosts as binary_ord}
+use Rattle.sc_sorts.specs.contracts.node.LeafOrd.TheImpl.Laws.{matches_eq-law as leaf_level, total-law as leaf_total}
+use Rattle.sc_sorts.specs.contracts.node.UnaryOpOrd.TheImpl.Laws.{matches_eq-law as unary_level, total-law as unary_total}
+use Rattle.sc_sorts.specs.contracts.node.BinaryOpOrd.TheImpl.Laws.{matches_eq-law as binary_level, total-law as binary_total}
+use Rattle.sc_sorts.specs.declared.node.ManyOp.{ManyOp}
+use Rattle.sc_sorts.specs.declared.node.ManyOp.TheVariants as manys
+use Rattle.sc_sorts.specs.contracts.node.ManyOpOrd.TheImpl.{ghosts as many_ord}
+use Rattle.sc_sorts.specs.contracts.node.ManyOpOrd.TheImpl.Laws.{matches_eq-law as many_level, total-law as many_total}
 use Rattle.std.proofs.lemmas.Map.Lookups.{exact_bytes}
 use Rattle.sc_names.proofs.UidLaws.{text_total}
 use Rattle.sc_names.specs.Uids.{text_cmp}
 use Rattle.sc_terms.specs.Trees.{Tree, leaf, one, two, choice, many, Trees, no_part, part}
-use Rattle.sc_nodes.specs.Rows.{leaf_row, unary_row, binary_row, many_row}
+use Rattle.sc_sorts.specs.Rows.{leaf_row, unary_row, binary_row, many_row}
 use Rattle.sc_terms.specs.Order.{row, tree_cmp, trees_cmp, tree_eq}
-use Rattle.sc_nodes.specs.Same.{same_leaf, same_unary, same_binary, same_many}
+use Rattle.sc_sorts.specs.Same.{same_leaf, same_unary, same_binary, same_many}
 
 -- ---- how many parts the terms of a row have: 4 for any number
 

@@ -1,9 +1,9 @@
 -- The parts of a set, which have no labels.
 use Rattle.std.proofs.Common.{◌≡◌, ◌<◌, ℕ, suc, List, [], ◌∷◌, All, map, Result, Ok, Err, IfOk, refl, ap, ◌∙◌, arith}
 use Rattle.sc_sorts.specs.declared.sort.Sort.{Sort}
-use Rattle.sc_nodes.specs.declared.node.ManyOp.TheVariants.{Set}
-use Rattle.sc_nodes.specs.declared.node.Node.{Node}
-use Rattle.sc_nodes.specs.Parts.{no_label}
+use Rattle.sc_sorts.specs.declared.node.ManyOp.TheVariants.{Set}
+use Rattle.sc_sorts.specs.declared.node.Node.{Node}
+use Rattle.sc_sorts.specs.Parts.{no_label}
 use Rattle.sc_terms.specs.Trees.{many, part, parts_of}
 use Rattle.sc_terms.specs.Tables.{Places, tree, node_parts, AreBelow, StandsFor}
 use Rattle.sc_terms.specs.Folds.{set_term, without_label}

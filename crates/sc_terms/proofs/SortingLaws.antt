@@ -7,9 +7,9 @@ use Rattle.std.specs.List.{list_any}
 use Rattle.indexmap.specs.IndexSet.{insert_key}
 use Rattle.sc_sorts.specs.declared.sort.Sort.{Sort}
 use Rattle.sc_sorts.specs.declared.sort.Sort.TheVariants as sort
-use Rattle.sc_nodes.specs.declared.node.Node.{Node}
-use Rattle.sc_nodes.specs.contracts.node.NodePartialEq.TheImpl.{ghosts as node_eq}
-use Rattle.sc_nodes.specs.contracts.node.NodeEq.TheImpl.Laws.{laws-law}
+use Rattle.sc_sorts.specs.declared.node.Node.{Node}
+use Rattle.sc_sorts.specs.contracts.node.NodePartialEq.TheImpl.{ghosts as node_eq}
+use Rattle.sc_sorts.specs.contracts.node.NodeEq.TheImpl.Laws.{laws-law}
 use Rattle.sc_terms.specs.Tables.{Places, node_parts, tree, node_tree, sort_at, PartsAreBelow, IsTable, IsSorted, Keeps, StandsFor}
 use Rattle.sc_sorts.specs.Inside.{SortFields}
 use Rattle.sc_terms.specs.TreeSorts.{tree_sort, sorts_of}

@@ -8,13 +8,13 @@ use Rattle.std.specs.List.{list_any}
 use Rattle.indexmap.specs.IndexSet.{insert_key}
 use Rattle.sc_lists.proofs.ListLaws.{all_weaker}
 use Rattle.sc_laws.proofs.OptionLaws.{same_some}
-use Rattle.sc_nodes.specs.declared.node.Leaf.TheVariants.{Literal}
-use Rattle.sc_nodes.specs.declared.node.Literal.TheVariants.{Bool as bool}
-use Rattle.sc_nodes.specs.declared.node.Node.{Node}
-use Rattle.sc_nodes.specs.declared.node.Node.TheVariants as node
-use Rattle.sc_nodes.specs.contracts.node.NodePartialEq.TheImpl.{ghosts as node_eq}
-use Rattle.sc_nodes.specs.contracts.node.NodeEq.TheImpl.Laws.{laws-law}
-use Rattle.sc_nodes.specs.Same.{same_node}
+use Rattle.sc_sorts.specs.declared.node.Leaf.TheVariants.{Literal}
+use Rattle.sc_sorts.specs.declared.node.Literal.TheVariants.{Bool as bool}
+use Rattle.sc_sorts.specs.declared.node.Node.{Node}
+use Rattle.sc_sorts.specs.declared.node.Node.TheVariants as node
+use Rattle.sc_sorts.specs.contracts.node.NodePartialEq.TheImpl.{ghosts as node_eq}
+use Rattle.sc_sorts.specs.contracts.node.NodeEq.TheImpl.Laws.{laws-law}
+use Rattle.sc_sorts.specs.Same.{same_node}
 use Rattle.sc_terms.specs.Trees.{Tree, leaf, one, many, part}
 use Rattle.sc_terms.specs.Tables.{Places, AreBelow, planted_parts, node_parts, among, planted, grown, trees, tree, node_tree, PartsAreBelow, IsTable, Keeps, StandsFor}
 

@@ -1,8 +1,8 @@
 -- The number of a term in a table.
 use Rattle.std.specs.Prelude.{◌≡◌, ◌≢◌, ◌<◌, ℕ, List, Option, Some, None, false, length, ⊤}
 use Rattle.std.specs.List.{list_any}
-use Rattle.sc_nodes.specs.contracts.node.NodePartialEq.TheImpl.{ghosts as node_eq}
-use Rattle.sc_nodes.specs.declared.node.Node.{Node}
+use Rattle.sc_sorts.specs.contracts.node.NodePartialEq.TheImpl.{ghosts as node_eq}
+use Rattle.sc_sorts.specs.declared.node.Node.{Node}
 use Rattle.sc_terms.specs.Trees.{Tree}
 use Rattle.sc_terms.specs.Tables.{tree, StandsFor}
 

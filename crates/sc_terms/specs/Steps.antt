@@ -1,7 +1,7 @@
 -- What a step of a comparison comes to.
 use Rattle.std.specs.Prelude.{ℕ, ◌<◌, List, length, ⊤}
 use Rattle.std.specs.declared.cmp.Ordering.{Ordering}
-use Rattle.sc_nodes.specs.declared.node.Node.{Node}
+use Rattle.sc_sorts.specs.declared.node.Node.{Node}
 use Rattle.sc_terms.specs.declared.step.Step.{Step}
 use Rattle.sc_terms.specs.declared.step.Step.TheVariants.{Told, Parts}
 use Rattle.sc_terms.specs.Tables.{tree}

@@ -2,7 +2,7 @@
 use Rattle.std.specs.Prelude.{[], ◌∷◌}
 use Rattle.sc_sorts.specs.declared.sort.Sort.{Sort}
 use Rattle.sc_sorts.specs.Inside.{SortFields}
-use Rattle.sc_nodes.specs.Sorts.{leaf_sort, unary_sort, binary_sort, many_sort}
+use Rattle.sc_sorts.specs.NodeSorts.{leaf_sort, unary_sort, binary_sort, many_sort}
 use Rattle.sc_terms.specs.Trees.{Tree, leaf, one, two, choice, many, Trees, no_part, part}
 
 unfoldable mutual

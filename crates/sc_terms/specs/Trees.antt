@@ -1,9 +1,9 @@
 -- Terms as trees, by how many parts they have.
 use Rattle.std.specs.Prelude.{ℕ, List, [], ◌∷◌}
-use Rattle.sc_nodes.specs.declared.node.Leaf.{Leaf}
-use Rattle.sc_nodes.specs.declared.node.UnaryOp.{UnaryOp}
-use Rattle.sc_nodes.specs.declared.node.BinaryOp.{BinaryOp}
-use Rattle.sc_nodes.specs.declared.node.ManyOp.{ManyOp}
+use Rattle.sc_sorts.specs.declared.node.Leaf.{Leaf}
+use Rattle.sc_sorts.specs.declared.node.UnaryOp.{UnaryOp}
+use Rattle.sc_sorts.specs.declared.node.BinaryOp.{BinaryOp}
+use Rattle.sc_sorts.specs.declared.node.ManyOp.{ManyOp}
 
 mutual
   pub data Tree : Type 0 where

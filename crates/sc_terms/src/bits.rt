@@ -6,11 +6,11 @@ ghost use Rattle.sc_terms.specs.Trees.{one, two};
 ghost use Rattle.sc_terms.specs.Tables.{tree, Keeps, StandsFor};
 ghost use Rattle.sc_terms.specs.Values.{yes, val, operands, HasValue, carry_value, row_value, product_carry_value, number_in, ip_in, level, bit_seen};
 ghost use Rattle.sc_terms.specs.Folds.{bit_term, IsPlaceIn};
-ghost use Rattle.sc_nodes.specs.declared.node.UnaryOp.TheVariants as unary;
-ghost use Rattle.sc_nodes.specs.declared.node.BinaryOp.TheVariants as binary;
+ghost use Rattle.sc_sorts.specs.declared.node.UnaryOp.TheVariants as unary;
+ghost use Rattle.sc_sorts.specs.declared.node.BinaryOp.TheVariants as binary;
 
 use crate::terms::Terms;
-use sc_nodes::{BinaryOp, Node, UnaryOp, literal_bit};
+use sc_sorts::{BinaryOp, Node, UnaryOp, literal_bit};
 use std::alloc::AllocError;
 
 impl Terms {

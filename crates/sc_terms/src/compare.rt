@@ -3,14 +3,14 @@
 //! deep the terms are.
 ghost use Rattle.std.specs.Prelude.{◌≡◌, ◌<◌, length};
 ghost use Rattle.std.specs.Ordering.{ordering_then};
-ghost use Rattle.sc_nodes.specs.contracts.node.ManyOpOrd.TheImpl.{ghosts as many_ord};
+ghost use Rattle.sc_sorts.specs.contracts.node.ManyOpOrd.TheImpl.{ghosts as many_ord};
 ghost use Rattle.sc_terms.specs.Tables.{node_tree, node_parts, tree, PartsAreBelow, AreBelow};
 ghost use Rattle.sc_terms.specs.Steps.{step_order, IsStepBelow};
 ghost use Rattle.sc_terms.specs.Order as order;
 
 use crate::step::Step;
 use crate::terms::Terms;
-use sc_nodes::{ManyOp, Node, Parts, row};
+use sc_sorts::{ManyOp, Node, Parts, row};
 use std::cmp::Ordering;
 
 impl Terms {

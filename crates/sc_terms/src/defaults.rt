@@ -9,8 +9,7 @@ use sc_decimal::Decimal;
 use sc_ip::Ip;
 use sc_lists::{Seq, Text};
 use sc_names::clone_uids;
-use sc_nodes::{Leaf, Literal, ManyOp, Node, Parts};
-use sc_sorts::{Sort, default_uid, try_clone};
+use sc_sorts::{Leaf, Literal, ManyOp, Node, Parts, Sort, default_uid, try_clone};
 use std::alloc::AllocError;
 
 impl Terms {

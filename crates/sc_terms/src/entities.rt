@@ -5,12 +5,11 @@ ghost use Rattle.sc_sorts.specs.Inside.{name_in};
 ghost use Rattle.sc_terms.specs.Trees.{one, two};
 ghost use Rattle.sc_terms.specs.Tables.{tree, Keeps, StandsFor};
 ghost use Rattle.sc_terms.specs.Values.{it, val, HasValue, entity_in, attributes_value, ancestors_value, keys_value, tag_value, text_in};
-ghost use Rattle.sc_nodes.specs.declared.node.UnaryOp.TheVariants as unary;
-ghost use Rattle.sc_nodes.specs.declared.node.BinaryOp.TheVariants as binary;
+ghost use Rattle.sc_sorts.specs.declared.node.UnaryOp.TheVariants as unary;
+ghost use Rattle.sc_sorts.specs.declared.node.BinaryOp.TheVariants as binary;
 
 use crate::terms::Terms;
-use sc_nodes::{BinaryOp, Node, UnaryOp};
-use sc_sorts::Sort;
+use sc_sorts::{BinaryOp, Node, Sort, UnaryOp};
 use std::alloc::AllocError;
 
 impl Terms {

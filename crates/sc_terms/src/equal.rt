@@ -6,7 +6,7 @@ ghost use Rattle.sc_terms.specs.Order.{tree_eq, tree_cmp};
 ghost use Rattle.sc_terms.specs.Folds.{literal_of, equal_term, other_equal, equation, literals_same};
 
 use crate::terms::Terms;
-use sc_nodes::{BinaryOp, Node, same_entity};
+use sc_sorts::{BinaryOp, Node, same_entity};
 use std::alloc::AllocError;
 
 impl Terms {

@@ -4,7 +4,7 @@ ghost use Rattle.sc_terms.specs.Tables.{tree, Keeps, StandsFor};
 ghost use Rattle.sc_terms.specs.Folds.{not_term, and_term, or_term, choice_term};
 
 use crate::terms::Terms;
-use sc_nodes::{BinaryOp, Node, UnaryOp};
+use sc_sorts::{BinaryOp, Node, UnaryOp};
 use std::alloc::AllocError;
 
 impl Terms {

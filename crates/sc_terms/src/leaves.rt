@@ -4,12 +4,11 @@ ghost use Rattle.sc_terms.specs.Trees.{leaf};
 ghost use Rattle.sc_terms.specs.Tables.{Keeps, StandsFor};
 ghost use Rattle.sc_terms.specs.Values.{it, maybe, yes, HasValue, literal_value};
 ghost use Rattle.sc_terms.specs.Folds.{truth_term};
-ghost use Rattle.sc_nodes.specs.declared.node.Leaf.TheVariants as leafs;
+ghost use Rattle.sc_sorts.specs.declared.node.Leaf.TheVariants as leafs;
 ghost use Rattle.sc_values.specs.declared.value.Value.TheVariants.{Entity, Record};
 
 use crate::terms::Terms;
-use sc_nodes::{Leaf, Literal, Node};
-use sc_sorts::Sort;
+use sc_sorts::{Leaf, Literal, Node, Sort};
 use std::alloc::AllocError;
 
 impl Terms {

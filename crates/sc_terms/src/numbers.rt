@@ -5,11 +5,11 @@ ghost use Rattle.sc_bits.specs.Adders.{leaves64};
 ghost use Rattle.sc_terms.specs.Trees.{two};
 ghost use Rattle.sc_terms.specs.Tables.{tree, Keeps, StandsFor};
 ghost use Rattle.sc_terms.specs.Values.{it, yes, val, HasValue, number_in};
-ghost use Rattle.sc_nodes.specs.declared.node.BinaryOp.TheVariants as binary;
+ghost use Rattle.sc_sorts.specs.declared.node.BinaryOp.TheVariants as binary;
 ghost use Rattle.sc_values.specs.declared.value.Value.TheVariants.{Long};
 
 use crate::terms::Terms;
-use sc_nodes::{BinaryOp, Node};
+use sc_sorts::{BinaryOp, Node};
 use std::alloc::AllocError;
 
 impl Terms {

@@ -7,8 +7,7 @@ ghost use Rattle.sc_terms.specs.Values.{yes, val, HasValue, option_in, held_valu
 ghost use Rattle.sc_terms.specs.Folds.{present_term, held_term};
 
 use crate::terms::Terms;
-use sc_nodes::{Node, UnaryOp};
-use sc_sorts::try_clone;
+use sc_sorts::{Node, UnaryOp, try_clone};
 use std::alloc::AllocError;
 
 impl Terms {

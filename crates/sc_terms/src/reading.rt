@@ -6,8 +6,7 @@ ghost use Rattle.sc_terms.specs.Folds.{literal_of, among_parts, constant as cons
 
 use crate::terms::Terms;
 use sc_lists::Text;
-use sc_nodes::{Leaf, Literal, ManyOp, Node, UnaryOp};
-use sc_sorts::Sort;
+use sc_sorts::{Leaf, Literal, ManyOp, Node, Sort, UnaryOp};
 
 impl Terms {
     /// The truth value that a term is, if it is one.

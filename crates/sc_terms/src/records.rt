@@ -7,11 +7,11 @@ ghost use Rattle.sc_terms.specs.Tables.{tree, node_parts, AreBelow, Keeps, Stand
 ghost use Rattle.sc_terms.specs.Values.{it, val, vals, HasValue, HasValueWhere, HasKinds, field_value, field_of};
 ghost use Rattle.sc_terms.specs.Folds.{field_term};
 ghost use Rattle.sc_values.specs.declared.value.Value.TheVariants.{Record};
-ghost use Rattle.sc_nodes.specs.declared.node.ManyOp.TheVariants as manys;
+ghost use Rattle.sc_sorts.specs.declared.node.ManyOp.TheVariants as manys;
 
 use crate::terms::Terms;
 use sc_lists::Text;
-use sc_nodes::{ManyOp, Node, Parts, UnaryOp};
+use sc_sorts::{ManyOp, Node, Parts, UnaryOp};
 use std::alloc::AllocError;
 
 impl Terms {

@@ -7,14 +7,13 @@ ghost use Rattle.sc_terms.specs.TreeSorts.{tree_sort};
 ghost use Rattle.sc_terms.specs.Tables.{tree, node_parts, AreBelow, Keeps, StandsFor};
 ghost use Rattle.sc_terms.specs.Values.{it, yes, val, HasValue, members_in, value_in, has_member, least, set_from};
 ghost use Rattle.sc_terms.specs.Folds.{set_term};
-ghost use Rattle.sc_nodes.specs.declared.node.BinaryOp.TheVariants as binary;
+ghost use Rattle.sc_sorts.specs.declared.node.BinaryOp.TheVariants as binary;
 ghost use Rattle.sc_values.specs.declared.value.Value.{Value as AnyValue};
 ghost use Rattle.sc_values.specs.declared.value.Value.TheVariants.{Set};
-ghost use Rattle.sc_nodes.specs.declared.node.ManyOp.TheVariants as manys;
+ghost use Rattle.sc_sorts.specs.declared.node.ManyOp.TheVariants as manys;
 
 use crate::terms::Terms;
-use sc_nodes::{BinaryOp, ManyOp, Node, Parts, unlabelled};
-use sc_sorts::Sort;
+use sc_sorts::{BinaryOp, ManyOp, Node, Parts, Sort, unlabelled};
 use std::alloc::AllocError;
 
 impl Terms {

@@ -1,9 +1,9 @@
 //! Tables of terms.
 ghost use Rattle.std.specs.Prelude.{List, ◌≡◌, ◌<◌, ◌≤◌, ◌+◌, ◌++◌, ◌∷◌, true, false, [], length, IfOk, OnErr, OnOk};
-ghost use Rattle.sc_nodes.specs.declared.node.Node.{Node as AnyNode};
+ghost use Rattle.sc_sorts.specs.declared.node.Node.{Node as AnyNode};
 ghost use Rattle.std.specs.List.{list_any};
 ghost use Rattle.indexmap.specs.IndexSet.{insert_key};
-ghost use Rattle.sc_nodes.specs.contracts.node.NodePartialEq.TheImpl.{ghosts as node_equality};
+ghost use Rattle.sc_sorts.specs.contracts.node.NodePartialEq.TheImpl.{ghosts as node_equality};
 ghost use Rattle.sc_terms.specs.Tables.{node_tree, tree, PartsAreBelow, Keeps, StandsFor, IsTable};
 ghost use Rattle.sc_terms.specs.TreeSorts.{tree_sort};
 ghost use Rattle.sc_terms.specs.Order.{tree_eq};
@@ -13,8 +13,7 @@ mod finding;
 mod sorting;
 
 use indexmap::IndexSet;
-use sc_nodes::Node;
-use sc_sorts::Sort;
+use sc_sorts::{Node, Sort};
 use std::alloc::{AllocError, Global};
 use std::marker::Model;
 
@@ -31,7 +30,7 @@ impl Model for Terms {
     ghost use Rattle.std.specs.Prelude.{List};
     ghost use Rattle.std.specs.Coded.{codes};
     ghost use Rattle.sc_sorts.specs.contracts.sort.Sort as sort;
-    ghost use Rattle.sc_nodes.specs.declared.node.Node.{Node};
+    ghost use Rattle.sc_sorts.specs.declared.node.Node.{Node};
     ghost use Rattle.sc_terms.specs.Tables.{IsSorted};
 
     ghost Value = { List Node };

@@ -5,8 +5,8 @@ ghost use Rattle.sc_terms.specs.Values.{yes, val, HasValue, level, like_seen};
 ghost use Rattle.sc_terms.specs.Folds.{like_term};
 
 use crate::terms::Terms;
-use sc_nodes::{Node, UnaryOp, literal_like};
 use sc_pattern::Pattern;
+use sc_sorts::{Node, UnaryOp, literal_like};
 use std::alloc::AllocError;
 
 impl Terms {

@@ -10,11 +10,11 @@ use Rattle.sc_world.specs.Named.{IsDeclared}
 use Rattle.sc_sorts.specs.declared.sort.Sort.{Sort, Sort-F, out-Sort}
 use Rattle.sc_sorts.specs.declared.sort.Sort.TheOpen as s
 use Rattle.sc_sorts.specs.declared.sort.Sort.TheVariants as sort
-use Rattle.sc_nodes.specs.declared.node.BinaryOp.{BinaryOp}
-use Rattle.sc_nodes.specs.declared.node.Leaf.TheVariants.{Context, Principal}
-use Rattle.sc_nodes.specs.declared.node.Literal.{Literal}
-use Rattle.sc_nodes.specs.declared.node.Node.{Node}
-use Rattle.sc_nodes.specs.declared.node.UnaryOp.TheVariants.{Ancestors}
+use Rattle.sc_sorts.specs.declared.node.BinaryOp.{BinaryOp}
+use Rattle.sc_sorts.specs.declared.node.Leaf.TheVariants.{Context, Principal}
+use Rattle.sc_sorts.specs.declared.node.Literal.{Literal}
+use Rattle.sc_sorts.specs.declared.node.Node.{Node}
+use Rattle.sc_sorts.specs.declared.node.UnaryOp.TheVariants.{Ancestors}
 use Rattle.sc_terms.specs.Trees.{Tree, leaf, one, two}
 use Rattle.sc_terms.specs.TreeSorts.{tree_sort}
 use Rattle.sc_terms.specs.Tables.{tree, Keeps, StandsFor}

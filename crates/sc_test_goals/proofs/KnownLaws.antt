@@ -7,12 +7,12 @@ use Rattle.sc_names.specs.declared.uid.Uid.{Uid}
 use Rattle.sc_schema.specs.declared.declarations.Env.{Env}
 use Rattle.sc_schema.specs.Declarations.{Declarations, environments}
 use Rattle.sc_world.specs.Named.{IsDeclared}
-use Rattle.sc_nodes.specs.declared.node.BinaryOp.{BinaryOp}
-use Rattle.sc_nodes.specs.declared.node.BinaryOp.TheVariants as binary
-use Rattle.sc_nodes.specs.declared.node.Leaf.TheVariants as leafs
-use Rattle.sc_nodes.specs.declared.node.Literal.TheVariants as literal
-use Rattle.sc_nodes.specs.declared.node.Node.{Node}
-use Rattle.sc_nodes.specs.declared.node.Node.TheVariants as node
+use Rattle.sc_sorts.specs.declared.node.BinaryOp.{BinaryOp}
+use Rattle.sc_sorts.specs.declared.node.BinaryOp.TheVariants as binary
+use Rattle.sc_sorts.specs.declared.node.Leaf.TheVariants as leafs
+use Rattle.sc_sorts.specs.declared.node.Literal.TheVariants as literal
+use Rattle.sc_sorts.specs.declared.node.Node.{Node}
+use Rattle.sc_sorts.specs.declared.node.Node.TheVariants as node
 use Rattle.sc_terms.specs.TreeSorts.{tree_sort}
 use Rattle.sc_terms.specs.Tables.{tree, node_tree, node_parts, Places, AreBelow, PartsAreBelow}
 use Rattle.sc_term_laws.specs.Judging.{IsTermOf}

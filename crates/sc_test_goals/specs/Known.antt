@@ -3,11 +3,11 @@ use Rattle.std.specs.Prelude.{◌≡◌, ◌<◌, ℕ, Bool, true, false, List, 
 use Rattle.std.specs.List.{AllByRecursion}
 use Rattle.sc_names.specs.declared.uid.Uid.{Uid}
 use Rattle.sc_schema.specs.Declarations.{Declarations, action_ancestors}
-use Rattle.sc_nodes.specs.declared.node.BinaryOp.TheVariants as binary
-use Rattle.sc_nodes.specs.declared.node.Leaf.TheVariants as leafs
-use Rattle.sc_nodes.specs.declared.node.Literal.TheVariants as literal
-use Rattle.sc_nodes.specs.declared.node.Node.{Node}
-use Rattle.sc_nodes.specs.declared.node.Node.TheVariants as node
+use Rattle.sc_sorts.specs.declared.node.BinaryOp.TheVariants as binary
+use Rattle.sc_sorts.specs.declared.node.Leaf.TheVariants as leafs
+use Rattle.sc_sorts.specs.declared.node.Literal.TheVariants as literal
+use Rattle.sc_sorts.specs.declared.node.Node.{Node}
+use Rattle.sc_sorts.specs.declared.node.Node.TheVariants as node
 use Rattle.sc_terms.specs.Tables.{tree}
 use Rattle.sc_terms.specs.Trees.{Tree}
 use Rattle.sc_closure_rules.specs.Goals.{has_pick, uids_of}

@@ -1,6 +1,6 @@
 -- Numbers of a table that stand for terms in which no entity is written and no member is picked.
 use Rattle.std.specs.Prelude.{◌≡◌, ◌<◌, ℕ, false, List, [], length}
-use Rattle.sc_nodes.specs.declared.node.Node.{Node}
+use Rattle.sc_sorts.specs.declared.node.Node.{Node}
 use Rattle.sc_terms.specs.Tables.{tree}
 use Rattle.sc_closure_rules.specs.Goals.{has_pick, uids_of}
 

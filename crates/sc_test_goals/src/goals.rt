@@ -8,8 +8,8 @@ ghost use Rattle.sc_test_goals.specs.Known.{AreKnown, is_action as action_test, 
 
 use sc_closure::is_bool;
 use sc_names::{Lits, Uid};
-use sc_nodes::{BinaryOp, Leaf, Literal, Node};
 use sc_schema::{Env, Schema, action_ancestors};
+use sc_sorts::{BinaryOp, Leaf, Literal, Node};
 use sc_term_laws::is_term;
 use sc_terms::Terms;
 use std::alloc::{AllocError, Global};

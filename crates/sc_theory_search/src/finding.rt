@@ -4,11 +4,11 @@ ghost use Rattle.std.specs.Str.{bytes_eq};
 ghost use Rattle.sc_clauses.specs.declared.step.Instance.{Instance as AnyInstance};
 ghost use Rattle.sc_theory_search.specs.Findings.{IsFinding};
 
+use crate::source::RulesAt;
 use sc_checker::Log;
 use sc_clauses::Assignment;
 use sc_footprint::{Problem, Theory, problem_laws};
 use sc_search::{Found, search};
-use sc_sources::RulesAt;
 use std::alloc::{AllocError, Global};
 use th_defs::{defining, defining_laws};
 

@@ -4,3 +4,5 @@ pub mod TypeOfLaws
 pub mod UntypedLaws
 pub mod OutcomeLaws
 pub mod CapabilityLaws
+pub mod LayerLaws
+pub mod SameLaws

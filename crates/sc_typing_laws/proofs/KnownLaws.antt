@@ -19,7 +19,7 @@ use Rattle.sc_typed.specs.Capabilities.{Capabilities, nowhere, bare, attribute_o
 use Rattle.sc_typed.specs.Outcomes.{◌>>=◌, as_object}
 use Rattle.sc_typed.specs.Types.{Field, is_required, attribute}
 use Rattle.sc_typed.proofs.CapabilityLaws.{either_known}
-use Rattle.sc_capabilities.proofs.SameLaws.{same_is}
+use Rattle.sc_typed.proofs.SameLaws.{same_is}
 use Rattle.sc_typing_rules.specs.declared.path.Path.{Path}
 use Rattle.sc_typing_rules.specs.Operators.{has_tag}
 use Rattle.sc_typing_rules.specs.Paths.{Subject, attribute_in, ended, held, maybe_held, has_always, named, no_names, longer, along}

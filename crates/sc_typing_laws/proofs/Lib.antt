@@ -5,3 +5,9 @@ pub mod LiteralLaws
 pub mod WeightLaws
 pub mod KnownLaws
 pub mod PathLaws
+pub mod ShapeLaws
+pub mod RuleLaws
+pub mod MovedLaws
+pub mod AlikeLaws
+pub mod DeclaredLaws
+pub mod DeclaredLiteralLaws

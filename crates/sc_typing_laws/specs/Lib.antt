@@ -1,3 +1,4 @@
 pub mod Operations
 pub mod Derivations
 pub mod Paths
+pub mod Moved

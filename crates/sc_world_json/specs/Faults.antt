@@ -9,7 +9,7 @@ use Rattle.serde_json.specs.Find.{get, as_array, as_object}
 use Rattle.sc_lists.specs.Ordered.{is_in}
 use Rattle.sc_names.specs.declared.uid.Uid.{Uid}
 use Rattle.sc_names.specs.Uids.{uid_cmp}
-use Rattle.sc_pointers.specs.Pointers.{below}
+use Rattle.sc_json.specs.Pointers.{below}
 use Rattle.sc_world_json.specs.declared.fault.WorldFault.{WorldFault}
 use Rattle.sc_world_json.specs.declared.fault.WorldFault.TheVariants.{NotJson, BadWorld}
 use Rattle.sc_world_json.specs.declared.form.Form.{Form}

@@ -3,7 +3,7 @@ ghost use Rattle.std.specs.Prelude.{◌≡◌, IfOk};
 ghost use Rattle.sc_world_json.specs.Faults.{under};
 
 use crate::fault::WorldFault;
-use sc_pointers::below;
+use sc_json::below;
 use std::alloc::{AllocError, Global};
 
 /// The fault of a value, as one of the value whose member or item it is: its path goes there first.

@@ -1,10 +1,10 @@
 //! Values of types, well-formed worlds, and what keeps worlds from being so.
 use crate::samples::{CHANGES, DOC, Told, WRITTEN, changed_world, literal, schema};
 use sc_names::{Lits, Uid};
+use sc_replay::{Break, first_break};
 use sc_schema::{Schema, Ty, environments};
 use sc_values::Value;
 use sc_world::{World, conforms, well_formed};
-use sc_world_breaks::{Break, first_break};
 use std::alloc::Global;
 
 // ---- values of types

@@ -10,7 +10,7 @@ use Rattle.sc_lists.proofs.MemberLaws.{map-Has, Has-from_Contains, Contains-from
 use Rattle.sc_lists.specs.Members.{Has}
 use Rattle.sc_clauses.specs.declared.lit.Lit.{Lit}
 use Rattle.sc_clauses.specs.Clauses.{Clause, negation}
-use Rattle.sc_nodes.specs.declared.node.UnaryOp.TheVariants.{Bit}
+use Rattle.sc_sorts.specs.declared.node.UnaryOp.TheVariants.{Bit}
 use Rattle.sc_terms.proofs.OrderLaws.{tree_cmp_level, tree_eq-exact}
 use Rattle.sc_terms.specs.Order.{tree_cmp, tree_eq}
 use Rattle.sc_terms.specs.Trees.{Tree, one}

@@ -11,8 +11,8 @@ use Rattle.sc_clauses.proofs.LitLaws.{holds_negation}
 use Rattle.sc_clauses.specs.declared.lit.Lit.{Lit}
 use Rattle.sc_clauses.specs.Clauses.{Clause, negation, holds, clause_holds}
 use Rattle.sc_sorts.specs.declared.sort.Sort.{out-Sort}
-use Rattle.sc_nodes.specs.declared.node.Literal.{Literal}
-use Rattle.sc_nodes.specs.declared.node.UnaryOp.TheVariants.{Bit}
+use Rattle.sc_sorts.specs.declared.node.Literal.{Literal}
+use Rattle.sc_sorts.specs.declared.node.UnaryOp.TheVariants.{Bit}
 use Rattle.sc_terms.specs.Trees.{Tree, one}
 use Rattle.sc_terms.specs.TreeSorts.{tree_sort}
 use Rattle.sc_terms.specs.Folds.{bit_term, bit_by, literal_of}

@@ -2,9 +2,9 @@
 use Rattle.std.specs.Prelude.{◌<◌, ◌≤◌, ◌+◌, ◌-◌, ◌/◌, ◌%◌, ◌^◌, ◌==◌, ⊤, ℕ, Bool, true, false, List, [], map, length, get_or, nat_lt, Option, Some, None, option_map, unwrap_or, if◌then◌else◌}
 use Rattle.sc_clauses.specs.declared.lit.Lit.{Lit}
 use Rattle.sc_clauses.specs.Clauses.{Clause, positive, negation}
-use Rattle.sc_nodes.specs.declared.node.Leaf.TheVariants as leafs
-use Rattle.sc_nodes.specs.declared.node.Node.{Node}
-use Rattle.sc_nodes.specs.declared.node.Node.TheVariants as node
+use Rattle.sc_sorts.specs.declared.node.Leaf.TheVariants as leafs
+use Rattle.sc_sorts.specs.declared.node.Node.{Node}
+use Rattle.sc_sorts.specs.declared.node.Node.TheVariants as node
 use Rattle.sc_terms.specs.Trees.{Tree}
 use Rattle.sc_term_definitions.specs.declared.function.Function.{Function}
 use Rattle.sc_term_definitions.specs.declared.function.Shape.{Shape}

@@ -19,7 +19,7 @@ use Rattle.sc_sorts.specs.declared.sort.Sort.TheVariants as sort
 use Rattle.sc_sorts.specs.declared.sort.Sort.TheVariants.{rolls-Ip}
 use Rattle.sc_sorts.specs.declared.sort.Sort.TheOpen as s
 use Rattle.sc_sorts.proofs.OutLaws.{out_Bool}
-use Rattle.sc_nodes.specs.declared.node.UnaryOp.TheVariants.{Bit}
+use Rattle.sc_sorts.specs.declared.node.UnaryOp.TheVariants.{Bit}
 use Rattle.sc_terms.proofs.OrderLaws.{tree_cmp_total, tree_cmp_level}
 use Rattle.sc_terms.specs.Trees.{Tree, one}
 use Rattle.sc_terms.specs.TreeSorts.{tree_sort}

@@ -12,8 +12,7 @@ ghost use Rattle.th_defs.specs.Items.{HasInputs, IsItem, address_of, is_unwritte
 
 use sc_clauses::{Lit, negation};
 use sc_footprint::Problem;
-use sc_nodes::{Leaf, Node};
-use sc_sorts::Sort;
+use sc_sorts::{Leaf, Node, Sort};
 use sc_term_definitions::{Function, Shape};
 
 /// What clauses come from.

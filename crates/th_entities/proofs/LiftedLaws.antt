@@ -7,9 +7,9 @@ use Rattle.sc_laws.proofs.OptionLaws.{same_some}
 use Rattle.sc_lists.proofs.MemberLaws.{AllByRecursion-Has}
 use Rattle.sc_lists.specs.Members.{Has}
 use Rattle.sc_clauses.specs.Assignments.{Assignment}
-use Rattle.sc_nodes.specs.declared.node.UnaryOp.TheVariants as unary
+use Rattle.sc_sorts.specs.declared.node.UnaryOp.TheVariants as unary
 use Rattle.sc_sorts.specs.declared.sort.Sort.{Sort}
-use Rattle.sc_sorts.proofs.OrderLaws.{sort_eq_decides}
+use Rattle.sc_sorts.specs.OrderLaws.{sort_eq_decides}
 use Rattle.sc_terms.specs.Order.{tree_eq}
 use Rattle.sc_terms.specs.Tables.{tree}
 use Rattle.sc_terms.specs.Trees.{Tree, one}

@@ -9,7 +9,7 @@ use Rattle.sc_lists.proofs.MemberLaws.{AllByRecursion-Has, Contains-from_Has, Ha
 use Rattle.sc_clauses.specs.declared.lit.Lit.{Lit}
 use Rattle.sc_clauses.specs.Assignments.{Assignment}
 use Rattle.sc_clauses.specs.Clauses.{negation}
-use Rattle.sc_nodes.specs.declared.node.BinaryOp.TheVariants as binary
+use Rattle.sc_sorts.specs.declared.node.BinaryOp.TheVariants as binary
 use Rattle.sc_terms.specs.Trees.{Tree, two}
 use Rattle.sc_footprint.specs.Problems.{Posed, literal_in, term_of}
 use Rattle.sc_rule_laws.specs.Terms.{member}

@@ -8,11 +8,11 @@ use Rattle.sc_lists.proofs.ListLaws.{all_append}
 use Rattle.sc_lists.proofs.MemberLaws.{AllByRecursion-Has, Contains-from_Has, Has-AllByRecursion, Has-from_Contains, Has-last, Has-left}
 use Rattle.sc_lists.proofs.TextLaws.{bytes_eq_true}
 use Rattle.sc_lists.specs.Members.{Has}
-use Rattle.sc_nodes.specs.declared.node.Node.{Node}
-use Rattle.sc_nodes.specs.declared.node.Node.TheVariants as node
-use Rattle.sc_nodes.specs.declared.node.UnaryOp.{UnaryOp}
-use Rattle.sc_nodes.specs.declared.node.UnaryOp.TheVariants as unary
-use Rattle.sc_nodes.specs.declared.node.BinaryOp.TheVariants as binary
+use Rattle.sc_sorts.specs.declared.node.Node.{Node}
+use Rattle.sc_sorts.specs.declared.node.Node.TheVariants as node
+use Rattle.sc_sorts.specs.declared.node.UnaryOp.{UnaryOp}
+use Rattle.sc_sorts.specs.declared.node.UnaryOp.TheVariants as unary
+use Rattle.sc_sorts.specs.declared.node.BinaryOp.TheVariants as binary
 use Rattle.sc_terms.specs.Trees.{Tree, leaf, one, two, choice, many}
 use Rattle.sc_terms.specs.Tables.{tree, node_tree, PartsAreBelow}
 use Rattle.sc_terms.specs.Folds.{literal_of}

@@ -19,9 +19,8 @@ use crate::places::{Place, first_root, is_root, is_tag};
 use crate::testing::{if_falsified, is_out};
 use sc_clauses::{Assignment, negation};
 use sc_footprint::Problem;
-use sc_nodes::{BinaryOp, Node, UnaryOp};
 use sc_rule_instances::{EntityRule, bit, equal};
-use sc_sorts::Sort;
+use sc_sorts::{BinaryOp, Node, Sort, UnaryOp};
 use th_entities_instances::roots;
 
 /// The instance of EN3 for places of tags, and of EN1 for others.

@@ -9,7 +9,7 @@ use crate::runs::put_in_order;
 use crate::testing::is_out;
 use sc_clauses::{Assignment, negation};
 use sc_footprint::Problem;
-use sc_nodes::{BinaryOp, Node, UnaryOp};
+use sc_sorts::{BinaryOp, Node, UnaryOp};
 use std::alloc::{AllocError, Global};
 
 /// That a set has a member, by the numbers of closed terms; 0 is the number of none.

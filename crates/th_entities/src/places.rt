@@ -7,7 +7,7 @@ ghost use Rattle.th_entities.specs.Memberships.{IsFirstRun, IsPut};
 ghost use Rattle.th_entities.specs.Places.{ArePlaces, IsPlaceIf, IsRootOf, inner_part, is_root as root_test, is_tag as tag_test, root_of};
 
 use sc_footprint::Problem;
-use sc_nodes::{BinaryOp, Node, UnaryOp};
+use sc_sorts::{BinaryOp, Node, UnaryOp};
 use std::alloc::{AllocError, Global};
 
 /// A closed term that is a place of attributes or of a tag.

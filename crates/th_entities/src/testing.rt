@@ -8,8 +8,8 @@ ghost use Rattle.th_entities.specs.Free.{IsFree, is_head_out as head_test, is_ou
 
 use sc_clauses::{Assignment, Lit, is_false, is_same};
 use sc_footprint::Problem;
-use sc_nodes::{Node, UnaryOp};
 use sc_rule_instances::{EntityRule, Saying, TRUE, is_falsified};
+use sc_sorts::{Node, UnaryOp};
 use th_entities_instances::Said;
 
 /// Whether a literal is asked and false.

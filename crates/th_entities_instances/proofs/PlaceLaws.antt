@@ -2,10 +2,10 @@
 use Rattle.std.proofs.Common.{◌≡◌, ◌<◌, ◌∙◌, ℕ, Bool, true, false, cond, List, [], ◌∷◌, length, Option, Some, None, refl, sym, ap, subst}
 use Rattle.sc_laws.proofs.OptionLaws.{same_some}
 use Rattle.sc_sorts.specs.contracts.sort.SortPartialEq.TheImpl.{ghosts as sorts}
-use Rattle.sc_nodes.specs.declared.node.Node.{Node}
-use Rattle.sc_nodes.specs.declared.node.Node.TheVariants as node
-use Rattle.sc_nodes.specs.declared.node.UnaryOp.TheVariants as unary
-use Rattle.sc_nodes.specs.declared.node.BinaryOp.TheVariants as binary
+use Rattle.sc_sorts.specs.declared.node.Node.{Node}
+use Rattle.sc_sorts.specs.declared.node.Node.TheVariants as node
+use Rattle.sc_sorts.specs.declared.node.UnaryOp.TheVariants as unary
+use Rattle.sc_sorts.specs.declared.node.BinaryOp.TheVariants as binary
 use Rattle.sc_terms.specs.Trees.{Tree, leaf, one, two, choice, many}
 use Rattle.sc_terms.specs.Tables.{tree, node_tree, PartsAreBelow}
 use Rattle.sc_terms.specs.Folds.{literal_of}

@@ -13,10 +13,9 @@ ghost use Rattle.th_entities_instances.specs.Rows.{above_name as name_of, declar
 use sc_clauses::Lit;
 use sc_footprint::{Problem, problem_laws};
 use sc_names::Uid;
-use sc_nodes::{Leaf, Literal, Node, UnaryOp};
 use sc_rule_instances::{FALSE, NOWHERE, TRUE, entity, equal, negated_if};
 use sc_schema::action_ancestors;
-use sc_sorts::Sort;
+use sc_sorts::{Leaf, Literal, Node, Sort, UnaryOp};
 
 // ---- equations with an entity
 

@@ -4,7 +4,7 @@ ghost use Rattle.sc_rule_laws.specs.Places.{same_step};
 ghost use Rattle.th_entities_instances.specs.Roots.{AreEntitiesIf, AreRoots, AreTagsIf, attributes_pair, node_step, pair_on, tag_pairs, tags_on};
 
 use sc_footprint::Problem;
-use sc_nodes::{BinaryOp, Node, UnaryOp};
+use sc_sorts::{BinaryOp, Node, UnaryOp};
 
 /// Two terms, by their numbers in the table.
 #[derive(Clone, Copy, Debug)]

@@ -10,9 +10,8 @@ ghost use Rattle.th_entities_instances.specs.Rows.{are_ancestors_of as ancestors
 
 use sc_clauses::Lit;
 use sc_footprint::{Problem, problem_laws};
-use sc_nodes::{BinaryOp, Node, UnaryOp};
 use sc_rule_instances::{NOWHERE, above, equal, keys, member, negated_if};
-use sc_sorts::Sort;
+use sc_sorts::{BinaryOp, Node, Sort, UnaryOp};
 
 // ---- sets
 

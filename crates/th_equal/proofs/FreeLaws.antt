@@ -6,7 +6,7 @@ use Rattle.std.proofs.lemmas.Option.{slice_get_past}
 use Rattle.sc_laws.proofs.OptionLaws.{same_some}
 use Rattle.sc_clauses.specs.Assignments.{Assignment}
 use Rattle.sc_sorts.specs.Inside.{SortFields}
-use Rattle.sc_nodes.specs.declared.node.BinaryOp.TheVariants.{Equal}
+use Rattle.sc_sorts.specs.declared.node.BinaryOp.TheVariants.{Equal}
 use Rattle.sc_terms.specs.Trees.{Tree, leaf, one, two, choice, many}
 use Rattle.sc_terms.specs.Tables.{tree}
 use Rattle.sc_footprint.proofs.NumberingLaws.{at_suc, numbered_map}
@@ -18,7 +18,7 @@ use Rattle.sc_rule_instances.specs.declared.rule.EqualRule.{EqualRule}
 use Rattle.sc_rule_instances.specs.declared.rule.EqualRule.TheVariants.{Eq3, Eq4, Eq8}
 use Rattle.sc_rule_instances.specs.Instances.{on_one, on_two}
 use Rattle.sc_rule_instances.specs.Known.{is_falsified}
-use Rattle.sc_equal_chains.specs.Equations.{AreSides}
+use Rattle.th_equal.specs.Equated.{AreSides}
 use Rattle.th_equal.specs.Equations.{is_choice}
 use Rattle.th_equal.specs.Free.{IsKept, IsFree, AreFieldsFree, AreRecordsFree, AreOptionsFree, IsPairFree, AreSidesFree, IsEquationFree, IsChoiceFree, IsTermFree, AreTermsFree, AreFirstFree}
 

@@ -1,3 +1,11 @@
+mod RowLaws
+mod GivenLaws
+mod PartLaws
+mod NamedLaws
+mod ClassLaws
+mod EquationLaws
+mod ChainLaws
+mod JoinLaws
 mod NumberLaws
 mod FreeLaws
 mod CompositeLaws

@@ -10,7 +10,7 @@ use Rattle.sc_rule_instances.specs.Instances.{HasEqual, equal_said, equal_of, eq
 use Rattle.sc_rule_instances.specs.Known.{is_falsified, NoneFalsified}
 use Rattle.sc_rule_instances.specs.Names.{equal_rule}
 use Rattle.sc_rule_instances.specs.declared.rule.EqualRule.{EqualRule}
-use Rattle.sc_equal_chains.specs.Naming.{IsChainFree}
+use Rattle.th_equal.specs.Naming.{IsChainFree}
 use Rattle.th_equal.specs.Free.{AreTermsFree}
 use Rattle.th_equal.proofs.WholeLaws as whole
 

@@ -6,7 +6,7 @@ use Rattle.sc_laws.proofs.OptionLaws.{same_some}
 use Rattle.sc_clauses.specs.Assignments.{Assignment}
 use Rattle.sc_sorts.specs.declared.sort.Sort.{Sort, out-Sort}
 use Rattle.sc_sorts.specs.Inside.{SortField, SortFields}
-use Rattle.sc_nodes.specs.declared.node.BinaryOp.TheVariants.{Equal}
+use Rattle.sc_sorts.specs.declared.node.BinaryOp.TheVariants.{Equal}
 use Rattle.sc_terms.specs.Trees.{Tree, two}
 use Rattle.sc_terms.specs.TreeSorts.{tree_sort}
 use Rattle.sc_terms.specs.Folds.{equal_term, field_term, present_term, held_term}
@@ -20,7 +20,7 @@ use Rattle.sc_rule_instances.proofs.FalseLaws.{asked_equation, false_known, fals
 use Rattle.sc_rule_instances.specs.declared.rule.EqualRule.TheVariants.{Eq1, Eq2, Eq3, Eq4, Eq5, Eq6, Eq7, Eq8}
 use Rattle.sc_rule_instances.specs.Instances.{equal_said, on_two}
 use Rattle.sc_rule_instances.specs.Known.{known, is_falsified, NoneFalsified}
-use Rattle.sc_equal_chains.specs.Naming.{IsChainFree}
+use Rattle.th_equal.specs.Naming.{IsChainFree}
 use Rattle.th_equal.specs.Free.{IsKept, IsPairFree, AreTermsFree}
 use Rattle.th_equal.proofs.CompositeLaws.{is_composite, is_composite_level, record_composite, option_composite, no_literal}
 use Rattle.th_equal.proofs.FreeLaws.{nothing_kept}

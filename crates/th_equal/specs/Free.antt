@@ -2,7 +2,7 @@
 -- EQ3 to EQ7 by the equation of their two terms, which is closed where one of them is falsified.
 use Rattle.std.specs.Prelude.{◌≡◌, ◌+◌, ◌<◌, ℕ, false, Option, Some}
 use Rattle.sc_clauses.specs.Assignments.{Assignment}
-use Rattle.sc_nodes.specs.declared.node.BinaryOp.TheVariants.{Equal}
+use Rattle.sc_sorts.specs.declared.node.BinaryOp.TheVariants.{Equal}
 use Rattle.sc_terms.specs.Trees.{Tree, two}
 use Rattle.sc_footprint.specs.Problems.{Posed, term_of}
 use Rattle.sc_rule_laws.specs.Equal.{eq2, eq3, eq4, eq5, eq6, eq7, eq8}

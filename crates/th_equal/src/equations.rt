@@ -4,7 +4,7 @@ ghost use Rattle.sc_terms.specs.Tables.{tree};
 ghost use Rattle.th_equal.specs.Equations.{IsNumberIf, is_choice as choice_test};
 
 use sc_footprint::Problem;
-use sc_nodes::Node;
+use sc_sorts::Node;
 
 /// Whether a term is a choice.
 pub(crate) fn is_choice(problem: &Problem<'_>, at: u64) -> bool

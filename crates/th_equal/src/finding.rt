@@ -7,10 +7,10 @@ ghost use Rattle.sc_rule_instances.specs.Known.{is_falsified as falsified_of};
 ghost use Rattle.sc_rule_instances.specs.declared.rule.EqualRule.TheVariants.{Eq8};
 ghost use Rattle.th_equal.specs.Free.{IsFree, AreFieldsFree, AreRecordsFree, AreOptionsFree, IsPairFree, AreSidesFree, IsEquationFree, IsChoiceFree, IsTermFree, AreTermsFree};
 
+use crate::equated::sides;
 use crate::equations::{is_choice, number};
+use crate::said::Said;
 use sc_clauses::Assignment;
-use sc_equal_chains::sides;
-use sc_equal_rows::Said;
 use sc_footprint::Problem;
 use sc_rule_instances::{EqualRule, field_count, is_falsified, is_sort_option};
 

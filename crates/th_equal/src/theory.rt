@@ -3,10 +3,10 @@ ghost use Rattle.std.specs.Prelude.{◌≡◌, ◌↔◌, true, IfOk, IfSome, If
 ghost use Rattle.sc_rule_instances.specs.Instances.{HasEqual, equal_said};
 ghost use Rattle.sc_rule_instances.specs.Known.{is_falsified, NoneFalsified};
 
+use crate::chains::broken_chain;
 use crate::finding::falsified_row;
+use crate::said::Said;
 use sc_clauses::{Assignment, Clause, Instance};
-use sc_equal_chains::broken_chain;
-use sc_equal_rows::Said;
 use sc_footprint::{Problem, Theory};
 use sc_lists::Seq;
 use sc_rule_instances::{EqualRule, clause_of, equal_rule, is_instance, write_equal};

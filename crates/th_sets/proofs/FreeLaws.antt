@@ -4,8 +4,8 @@ use Rattle.std.proofs.lemmas.Bool.{cases_lt}
 use Rattle.std.proofs.lemmas.List.{length-map}
 use Rattle.std.proofs.lemmas.Option.{slice_get_past}
 use Rattle.sc_clauses.specs.Assignments.{Assignment}
-use Rattle.sc_nodes.specs.declared.node.ManyOp.TheVariants as manys
-use Rattle.sc_nodes.specs.declared.node.Node.{Node}
+use Rattle.sc_sorts.specs.declared.node.ManyOp.TheVariants as manys
+use Rattle.sc_sorts.specs.declared.node.Node.{Node}
 use Rattle.sc_rule_instances.specs.declared.rule.SetRule.{SetRule}
 use Rattle.sc_rule_instances.specs.declared.rule.SetRule.TheVariants.{Se2, Se3}
 use Rattle.sc_terms.specs.Trees.{Tree, leaf, one, two, choice, many}

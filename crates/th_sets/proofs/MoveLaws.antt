@@ -4,7 +4,7 @@ use Rattle.sc_clauses.specs.Assignments.{Assignment}
 use Rattle.sc_closure.proofs.PuttingLaws.{put_old, put_there}
 use Rattle.sc_closure.specs.Following.{put_one}
 use Rattle.sc_lists.specs.Members.{Has}
-use Rattle.sc_nodes.specs.declared.node.BinaryOp.TheVariants as binary
+use Rattle.sc_sorts.specs.declared.node.BinaryOp.TheVariants as binary
 use Rattle.sc_terms.specs.Trees.{Tree}
 use Rattle.sc_terms.specs.Folds.{equal_term}
 use Rattle.sc_terms.specs.Tables.{tree}

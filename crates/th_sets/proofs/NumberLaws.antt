@@ -5,7 +5,7 @@ use Rattle.sc_lists.proofs.MemberLaws.{Contains-from_Has}
 use Rattle.sc_lists.specs.Members.{Has}
 use Rattle.sc_clauses.specs.declared.lit.Lit.{Lit}
 use Rattle.sc_clauses.specs.Clauses.{positive}
-use Rattle.sc_nodes.specs.declared.node.BinaryOp.{BinaryOp}
+use Rattle.sc_sorts.specs.declared.node.BinaryOp.{BinaryOp}
 use Rattle.sc_terms.specs.Trees.{Tree, two}
 use Rattle.sc_terms.specs.Tables.{tree}
 use Rattle.sc_terms.specs.Finding.{IsFound}

@@ -6,9 +6,9 @@ use Rattle.sc_clauses.specs.declared.lit.Lit.{Lit}
 use Rattle.sc_clauses.specs.Clauses.{positive, negation}
 use Rattle.sc_sorts.specs.declared.sort.Sort.{Sort}
 use Rattle.sc_sorts.specs.contracts.sort.SortPartialEq.TheImpl.{ghosts as sorts}
-use Rattle.sc_nodes.specs.declared.node.ManyOp.TheVariants as manys
-use Rattle.sc_nodes.specs.declared.node.Node.{Node}
-use Rattle.sc_nodes.specs.declared.node.Node.TheVariants as node
+use Rattle.sc_sorts.specs.declared.node.ManyOp.TheVariants as manys
+use Rattle.sc_sorts.specs.declared.node.Node.{Node}
+use Rattle.sc_sorts.specs.declared.node.Node.TheVariants as node
 use Rattle.sc_terms.specs.Trees.{Tree, leaf, one, two, choice, many, Trees}
 use Rattle.sc_terms.specs.TreeSorts.{tree_sort}
 use Rattle.sc_terms.specs.Folds.{equal_term}

@@ -2,7 +2,7 @@
 -- terms; 0 is the number of none. No public promise speaks of it.
 use Rattle.std.specs.Prelude.{◌≡◌, ◌+◌, ◌++◌, ◌<◌, ⊤, ℕ, Bool, true, false, List, [], ◌∷◌, Option, Some, None}
 use Rattle.sc_lists.specs.Members.{Has}
-use Rattle.sc_nodes.specs.declared.node.BinaryOp.TheVariants as binary
+use Rattle.sc_sorts.specs.declared.node.BinaryOp.TheVariants as binary
 use Rattle.sc_terms.specs.Trees.{Tree, two}
 use Rattle.sc_footprint.specs.Problems.{Posed, closed_terms, number_among, term_of}
 use Rattle.th_sets.specs.declared.named.Named.{Named}

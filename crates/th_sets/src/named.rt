@@ -4,7 +4,7 @@ ghost use Rattle.sc_terms.specs.Tables.{tree, node_tree, PartsAreBelow};
 ghost use Rattle.th_sets.specs.Named.{number_in, named_in, named_at as named_of, AreNames, IsNamePut, is_of_sets as sets_test};
 
 use sc_footprint::Problem;
-use sc_nodes::{BinaryOp, Node};
+use sc_sorts::{BinaryOp, Node};
 use std::alloc::{AllocError, Global};
 
 /// What a closed term names, its parts by the numbers of closed terms.

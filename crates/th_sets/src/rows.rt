@@ -11,11 +11,10 @@ ghost use Rattle.th_sets.specs.Rows.{IsPlaced, placed as placed_rule, two_at, th
 use sc_clauses::{Lit, negation};
 use sc_footprint::Problem;
 use sc_lists::Text;
-use sc_nodes::{BinaryOp, ManyOp, Node};
 use sc_rule_instances::{
     NOWHERE, SetRule, common, equal, find, is_sort_set, member, members, subset,
 };
-use sc_sorts::Sort;
+use sc_sorts::{BinaryOp, ManyOp, Node, Sort};
 
 // ---- terms of the table in place of closed terms
 

@@ -11,8 +11,8 @@ use Rattle.sc_schema.specs.Declarations.{Declarations}
 use Rattle.sc_sorts.specs.declared.sort.Sort.{Sort}
 use Rattle.sc_sorts.specs.declared.sort.Sort.TheVariants as sort
 use Rattle.sc_sorts.proofs.OutLaws.{out_String}
-use Rattle.sc_nodes.specs.declared.node.Literal.{Literal}
-use Rattle.sc_nodes.specs.declared.node.UnaryOp.TheVariants.{Like}
+use Rattle.sc_sorts.specs.declared.node.Literal.{Literal}
+use Rattle.sc_sorts.specs.declared.node.UnaryOp.TheVariants.{Like}
 use Rattle.sc_terms.specs.Folds.{equal_term, like_term, literal_of}
 use Rattle.sc_terms.specs.Tables.{tree}
 use Rattle.sc_terms.specs.TreeSorts.{tree_sort}

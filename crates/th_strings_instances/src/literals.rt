@@ -2,7 +2,7 @@
 ghost use Rattle.std.specs.Prelude.{◌≡◌, ◌<◌, length, IfOk, if◌then◌else◌};
 ghost use Rattle.sc_clauses.specs.Clauses.{positive, negation as negated};
 ghost use Rattle.sc_footprint.specs.Problems.{literal_in};
-ghost use Rattle.sc_nodes.specs.declared.node.UnaryOp.TheVariants.{Like};
+ghost use Rattle.sc_sorts.specs.declared.node.UnaryOp.TheVariants.{Like};
 ghost use Rattle.sc_rule_laws.specs.Terms.{is_string};
 ghost use Rattle.sc_terms.specs.Folds.{like_term};
 ghost use Rattle.sc_terms.specs.Tables.{tree};
@@ -10,10 +10,9 @@ ghost use Rattle.sc_terms.specs.Trees.{one};
 
 use sc_clauses::Lit;
 use sc_footprint::Problem;
-use sc_nodes::{Node, UnaryOp, literal_like};
 use sc_pattern::Pattern;
 use sc_rule_instances::{FALSE, TRUE, find, literal_if};
-use sc_sorts::Sort;
+use sc_sorts::{Node, Sort, UnaryOp, literal_like};
 use std::alloc::{AllocError, Global};
 
 /// Whether a term is a string.

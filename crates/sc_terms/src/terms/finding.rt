@@ -1,12 +1,12 @@
 //! The number of a term that may be in a table.
 ghost use Rattle.std.specs.Prelude.{◌≡◌, false, length, IfOk};
 ghost use Rattle.std.specs.List.{list_any};
-ghost use Rattle.sc_nodes.specs.contracts.node.NodePartialEq.TheImpl.{ghosts as node_equality};
+ghost use Rattle.sc_sorts.specs.contracts.node.NodePartialEq.TheImpl.{ghosts as node_equality};
 ghost use Rattle.sc_terms.specs.Tables.{node_tree, PartsAreBelow};
 ghost use Rattle.sc_terms.specs.Finding.{IsFound, IsAbsent};
 
 use super::Terms;
-use sc_nodes::Node;
+use sc_sorts::Node;
 
 impl Terms {
     /// The number that stands for the term of a node, whose parts are numbers of the table. None

@@ -1,13 +1,12 @@
 //! The sort of a node, by those of its parts.
 ghost use Rattle.std.specs.Prelude.{◌≡◌, ◌<◌, length, IfOk, OnOk, ◌++◌, [], ◌∷◌};
 ghost use Rattle.sc_terms.specs.Tables.{node_tree, node_parts, tree, PartsAreBelow, AreBelow};
-ghost use Rattle.sc_nodes.specs.Sorts.{many_sort};
+ghost use Rattle.sc_sorts.specs.NodeSorts.{many_sort};
 ghost use Rattle.sc_terms.specs.TreeSorts as sorting;
 
 use super::Terms;
 use sc_lists::{Boxed, Seq, Text};
-use sc_nodes::{ManyOp, Node, binary_sort, leaf_sort, unary_sort};
-use sc_sorts::{Sort, try_clone};
+use sc_sorts::{ManyOp, Node, Sort, binary_sort, leaf_sort, try_clone, unary_sort};
 use std::alloc::AllocError;
 
 impl Terms {

@@ -4,9 +4,8 @@ ghost use Rattle.std.specs.Prelude.{◌<◌, ◌≤◌, length, IfOk};
 
 use sc_lists::Text;
 use sc_names::Uid;
-use sc_nodes::Literal;
 use sc_schema::{Env, Schema, actions, attrs_of, tags_of};
-use sc_sorts::{choices_of, entity_sort, sort_of};
+use sc_sorts::{Literal, choices_of, entity_sort, sort_of};
 use sc_terms::Terms;
 use std::alloc::{AllocError, Global};
 

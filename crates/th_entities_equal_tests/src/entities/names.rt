@@ -12,7 +12,7 @@ ghost use Rattle.std.specs.Prelude.{◌<◌, length, IfSome};
 
 use sc_clauses::Lit;
 use sc_footprint::Problem;
-use sc_nodes::{BinaryOp, Leaf, Literal, Node, UnaryOp};
+use sc_sorts::{BinaryOp, Leaf, Literal, Node, UnaryOp};
 
 // ---- terms
 

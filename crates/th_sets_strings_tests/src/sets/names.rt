@@ -11,7 +11,7 @@ ghost use Rattle.std.specs.Prelude.{◌<◌, length};
 
 use sc_clauses::Lit;
 use sc_footprint::Problem;
-use sc_nodes::{BinaryOp, Leaf, Literal, ManyOp, Node, UnaryOp};
+use sc_sorts::{BinaryOp, Leaf, Literal, ManyOp, Node, UnaryOp};
 
 // ---- terms
 

@@ -6,8 +6,8 @@ use sc_clauses::{Instance, Word};
 use sc_footprint::{Problem, Theory};
 use sc_lists::{Seq, Text};
 use sc_names::Lits;
-use sc_nodes::{Leaf, Node, UnaryOp};
 use sc_schema::{Schema, environments};
+use sc_sorts::{Leaf, Node, UnaryOp};
 use std::alloc::{AllocError, Global};
 use th_strings::Strings;
 

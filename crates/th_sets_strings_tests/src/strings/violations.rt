@@ -4,8 +4,8 @@ use sc_clauses::Assignment;
 use sc_footprint::{Problem, Theory};
 use sc_lists::Seq;
 use sc_names::Lits;
-use sc_nodes::{BinaryOp, Node, UnaryOp};
 use sc_schema::{Schema, environments};
+use sc_sorts::{BinaryOp, Node, UnaryOp};
 use std::alloc::{AllocError, Global};
 use th_strings::Strings;
 

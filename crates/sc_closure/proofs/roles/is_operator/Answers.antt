@@ -1,5 +1,5 @@
 use Rattle.std.proofs.Common.{Some, sym, ap, ◌∙◌}
-use Rattle.sc_nodes.specs.Same.{same_unary}
+use Rattle.sc_sorts.specs.Same.{same_unary}
 use Rattle.sc_closure.specs.Following.{operator_in}
 use Rattle.sc_closure.proofs.roles.is_operator.Goals as goal
 

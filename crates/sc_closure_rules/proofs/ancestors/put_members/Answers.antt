@@ -2,7 +2,7 @@ use Rattle.std.proofs.Common.{sym, ◌∙◌, arith}
 use Rattle.std.specs.Str.{bytes_eq}
 use Rattle.sc_closure_rules.proofs.ancestors.put_members.Goals.{then-is_of_type+in_ok-m+in_ok-push, else-is_of_type}
 use Rattle.sc_names.specs.declared.uid.Uid.{Uid}
-use Rattle.sc_nodes.specs.declared.node.BinaryOp.TheVariants as binary
+use Rattle.sc_sorts.specs.declared.node.BinaryOp.TheVariants as binary
 use Rattle.sc_terms.specs.Trees.{Tree, two}
 use Rattle.sc_terms.specs.Tables.{tree}
 use Rattle.sc_term_definitions.proofs.MakingLaws.{stands_same, puts_nothing}

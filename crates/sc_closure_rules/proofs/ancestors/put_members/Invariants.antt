@@ -1,7 +1,7 @@
 use Rattle.std.proofs.Common.{map, take}
 use Rattle.sc_names.specs.declared.uid.Uid.{Uid}
 use Rattle.sc_sorts.specs.Entities.{of_type_name}
-use Rattle.sc_nodes.specs.declared.node.BinaryOp.TheVariants as binary
+use Rattle.sc_sorts.specs.declared.node.BinaryOp.TheVariants as binary
 use Rattle.sc_terms.specs.Trees.{two}
 use Rattle.sc_terms.specs.Tables.{tree}
 use Rattle.sc_term_definitions.specs.Making.{Puts}

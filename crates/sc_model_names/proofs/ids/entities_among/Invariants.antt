@@ -1,6 +1,6 @@
 use Rattle.std.proofs.Common.{◌≡◌, ◌++◌, length, map}
 use Rattle.sc_terms.specs.Tables.{tree}
-use Rattle.sc_string_names.specs.Numbers.{AreIn}
+use Rattle.sc_model_names.specs.Numbers.{AreIn}
 use Rattle.sc_model_names.specs.Ids.{entities}
 use Rattle.sc_model_names.proofs.ids.entities_among.Given as goal
 

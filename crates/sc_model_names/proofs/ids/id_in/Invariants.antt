@@ -1,9 +1,9 @@
 use Rattle.std.proofs.Common.{◌≡◌, length}
 use Rattle.sc_terms.specs.Tables.{tree}
-use Rattle.sc_string_names.specs.Models.{truth_in}
+use Rattle.sc_model_names.specs.Models.{truth_in}
 use Rattle.sc_model_laws.specs.Names.{name_in}
 use Rattle.sc_model_names.specs.Ids.{is_same}
-use Rattle.sc_string_names.specs.Numbers.{HaveTerms, named_terms}
+use Rattle.sc_model_names.specs.Numbers.{HaveTerms, named_terms}
 use Rattle.sc_model_names.proofs.ids.id_in.Given as goal
 
 abbrev pub invariant-loop-entry : goal.invariant-loop-entry

@@ -1,8 +1,8 @@
 use Rattle.std.proofs.Common.{◌≡◌, length, map}
 use Rattle.sc_terms.specs.Tables.{tree}
-use Rattle.sc_string_names.specs.Models.{truth_in}
+use Rattle.sc_model_names.specs.Models.{truth_in}
 use Rattle.sc_model_names.specs.Ids.{id_entries, identified}
-use Rattle.sc_string_names.specs.Numbers.{AreIn, HaveTerms, named_terms}
+use Rattle.sc_model_names.specs.Numbers.{AreIn, HaveTerms, named_terms}
 use Rattle.sc_model_names.proofs.ids.identify.Given as goal
 
 abbrev pub invariant-loop-x : goal.invariant-loop-x

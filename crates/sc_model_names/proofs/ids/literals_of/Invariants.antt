@@ -1,7 +1,7 @@
 use Rattle.std.proofs.Common.{◌≡◌, ◌++◌, length, map}
 use Rattle.sc_terms.specs.Tables.{tree}
 use Rattle.sc_model_names.specs.Ids.{id_entries}
-use Rattle.sc_string_names.specs.Numbers.{AreIn, HaveTerms, named_terms}
+use Rattle.sc_model_names.specs.Numbers.{AreIn, HaveTerms, named_terms}
 use Rattle.sc_model_names.proofs.ids.literals_of.Given as goal
 
 abbrev pub invariant-loop-n : goal.invariant-loop-n

@@ -1,8 +1,8 @@
 use Rattle.std.proofs.Common.{List, ℕ, ◌∙◌, ap, map}
 use Rattle.std.proofs.lemmas.Result.{IfOk-weaker}
 use Rattle.sc_terms.specs.Tables.{tree}
-use Rattle.sc_string_names.specs.Models.{truth_in}
-use Rattle.sc_string_names.specs.Numbers.{named_terms}
+use Rattle.sc_model_names.specs.Models.{truth_in}
+use Rattle.sc_model_names.specs.Numbers.{named_terms}
 use Rattle.sc_model_names.specs.Ids.{ids_of}
 use Rattle.sc_model_names.specs.Namings.{name_of_term}
 use Rattle.sc_model_names.proofs.ModelLaws.{is_model}

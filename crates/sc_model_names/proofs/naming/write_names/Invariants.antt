@@ -2,9 +2,9 @@ use Rattle.std.proofs.Common.{◌≡◌, ◌++◌, length, map}
 use Rattle.std.specs.List.{AllByRecursion}
 use Rattle.std.specs.Str.{IsUtf8}
 use Rattle.sc_terms.specs.Tables.{tree}
-use Rattle.sc_string_names.specs.Models.{truth_in}
+use Rattle.sc_model_names.specs.Models.{truth_in}
 use Rattle.sc_model_names.specs.Namings.{name_of_term}
-use Rattle.sc_string_names.specs.Numbers.{AreIn, named_terms}
+use Rattle.sc_model_names.specs.Numbers.{AreIn, named_terms}
 use Rattle.sc_model_names.proofs.naming.write_names.Given as goal
 
 abbrev pub invariant-loop-n : goal.invariant-loop-n

@@ -1,6 +1,6 @@
 use Rattle.std.proofs.Common.{◌≡◌, length}
 use Rattle.sc_terms.specs.Tables.{tree}
-use Rattle.sc_string_names.specs.Numbers.{HaveTerms, named_terms}
+use Rattle.sc_model_names.specs.Numbers.{HaveTerms, named_terms}
 use Rattle.sc_model_names.specs.Ids.{is_id}
 use Rattle.sc_model_names.proofs.numerals.is_id.Given as goal
 

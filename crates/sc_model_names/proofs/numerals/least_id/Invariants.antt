@@ -1,6 +1,6 @@
 use Rattle.std.proofs.Common.{◌≡◌, drop}
 use Rattle.sc_terms.specs.Tables.{tree}
-use Rattle.sc_string_names.specs.Numbers.{named_terms}
+use Rattle.sc_model_names.specs.Numbers.{named_terms}
 use Rattle.sc_model_names.specs.Ids.{least_id}
 use Rattle.sc_model_names.proofs.numerals.least_id.Given as goal
 

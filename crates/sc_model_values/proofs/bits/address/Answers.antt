@@ -1,6 +1,6 @@
 use Rattle.std.proofs.Common.{ℕ, ap, sym, ◌∙◌}
 use Rattle.sc_term_definitions.specs.Definitions.{bits_in, bit_count}
-use Rattle.sc_models.specs.Models.{truth_in}
+use Rattle.sc_model_values.specs.Models.{truth_in}
 use Rattle.sc_model_laws.specs.Assignments.{lit}
 use Rattle.sc_sorts.proofs.OutLaws.{out_Ip}
 use Rattle.sc_terms.specs.Folds.{bit_term}

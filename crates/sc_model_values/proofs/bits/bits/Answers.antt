@@ -1,5 +1,5 @@
 use Rattle.std.proofs.Common.{ℕ}
-use Rattle.sc_models.specs.Models.{truth_in}
+use Rattle.sc_model_values.specs.Models.{truth_in}
 use Rattle.sc_model_laws.specs.Assignments.{lit}
 use Rattle.sc_terms.specs.Folds.{bit_term}
 use Rattle.sc_terms.specs.Tables.{tree}

@@ -1,6 +1,6 @@
 use Rattle.std.proofs.Common.{◌≡◌, map}
 use Rattle.sc_term_definitions.specs.Definitions.{counted}
-use Rattle.sc_models.specs.Models.{truth_in}
+use Rattle.sc_model_values.specs.Models.{truth_in}
 use Rattle.sc_model_laws.specs.Assignments.{lit}
 use Rattle.sc_terms.specs.Folds.{bit_term}
 use Rattle.sc_terms.specs.Tables.{tree}

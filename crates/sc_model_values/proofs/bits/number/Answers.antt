@@ -1,7 +1,7 @@
 use Rattle.std.proofs.Common.{◌≡◌, ℕ, w64, SFits, sym, subst, ◌∙◌}
 use Rattle.std.proofs.lemmas.Int.{to_z-of_z}
 use Rattle.sc_bits.specs.Bits.{of_bits64}
-use Rattle.sc_models.specs.Models.{truth_in}
+use Rattle.sc_model_values.specs.Models.{truth_in}
 use Rattle.sc_model_laws.specs.Assignments.{lit}
 use Rattle.sc_terms.specs.Folds.{bit_term}
 use Rattle.sc_terms.specs.Tables.{tree}

@@ -1,6 +1,6 @@
 use Rattle.std.proofs.Common.{rules, ◌≤◌, ◌∙◌, length, flat_map}
 use Rattle.sc_footprint.specs.Problems.{closed_terms}
-use Rattle.sc_models.specs.Models.{truth_in}
+use Rattle.sc_model_values.specs.Models.{truth_in}
 use Rattle.sc_model_laws.specs.Vals.{member_in}
 use Rattle.sc_terms.specs.Tables.{tree}
 use Rattle.sc_model_values.proofs.AssignedLaws.{one_more, no_more, assigned_by}

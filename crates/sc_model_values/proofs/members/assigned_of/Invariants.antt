@@ -1,7 +1,7 @@
 use Rattle.std.proofs.Common.{◌≡◌, ◌<◌, ◌++◌, map, flat_map, drop, length}
 use Rattle.std.specs.List.{AllByRecursion}
 use Rattle.sc_footprint.specs.Problems.{closed_terms}
-use Rattle.sc_models.specs.Models.{truth_in}
+use Rattle.sc_model_values.specs.Models.{truth_in}
 use Rattle.sc_model_laws.specs.Vals.{member_in}
 use Rattle.sc_terms.specs.Tables.{tree}
 use Rattle.sc_model_values.proofs.members.assigned_of.Given as goal

@@ -1,7 +1,7 @@
 use Rattle.std.proofs.Common.{◌≡◌, ◌∙◌, ℕ, List, Some, None, false, unwrap_or, sym, ap, subst}
 use Rattle.sc_clauses.specs.Assignments.{value_of}
-use Rattle.sc_models.specs.Models.{truth_in}
-use Rattle.sc_nodes.specs.declared.node.Node.{Node}
+use Rattle.sc_model_values.specs.Models.{truth_in}
+use Rattle.sc_sorts.specs.declared.node.Node.{Node}
 use Rattle.sc_terms.specs.Folds.{constant}
 use Rattle.sc_terms.specs.Tables.{tree}
 use Rattle.sc_model_values.proofs.TruthLaws.{of_constant, of_atom_number}

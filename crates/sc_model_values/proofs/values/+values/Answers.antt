@@ -2,7 +2,7 @@ use Rattle.std.proofs.Common.{rules, ◌≡◌, ◌<◌, ◌∙◌, Some, map, l
 use Rattle.std.proofs.lemmas.Option.{slice_get-get_or}
 use Rattle.std.specs.List.{AllByRecursion}
 use Rattle.std.proofs.lemmas.Result.{IfOk-weaker}
-use Rattle.sc_models.specs.Models.{model, truth_in}
+use Rattle.sc_model_values.specs.Models.{model, truth_in}
 use Rattle.sc_model_laws.specs.Assignments.{lit}
 use Rattle.sc_model_laws.specs.Vals.{assigned, val_of}
 use Rattle.sc_sorts.specs.Inside.{SortField, SortFields}

@@ -1,5 +1,5 @@
 use Rattle.std.proofs.Common.{◌≡◌, ◌+◌, ◌*◌, ℕ, List, map, flat_map, take}
-use Rattle.sc_models.specs.Models.{model}
+use Rattle.sc_model_values.specs.Models.{model}
 use Rattle.sc_model_laws.specs.Vals.{val_of}
 use Rattle.sc_sorts.specs.declared.sort.Sort.{Sort, size-Sort}
 use Rattle.sc_terms.specs.Folds.{field_term}

@@ -2,7 +2,7 @@ use Rattle.std.proofs.Common.{◌≡◌, ◌∙◌, List, IfOk, subst}
 use Rattle.sc_names.specs.declared.uid.Uid.{Uid}
 use Rattle.sc_names.specs.Uids.{uid_cmp}
 use Rattle.sc_model_world_laws.specs.Rebuilt.{ancestors_said, in_order}
-use Rattle.sc_models.specs.Models.{model}
+use Rattle.sc_model_values.specs.Models.{model}
 use Rattle.sc_terms.specs.Tables.{tree}
 use Rattle.sc_model_worlds.proofs.FoldLaws.{flat_trees}
 use Rattle.sc_model_worlds.proofs.ancestors.ancestors_of.Goals as goal

@@ -1,5 +1,5 @@
 use Rattle.std.proofs.Common.{◌≡◌, flat_map, take}
-use Rattle.sc_models.specs.Models.{model}
+use Rattle.sc_model_values.specs.Models.{model}
 use Rattle.sc_model_world_laws.specs.Rebuilt.{ancestors_said}
 use Rattle.sc_terms.specs.Tables.{tree}
 use Rattle.sc_model_worlds.proofs.ancestors.told_ancestors.Given as goal

@@ -1,5 +1,5 @@
 use Rattle.std.proofs.Common.{◌≡◌, ◌∙◌, IfOk, ap, subst}
-use Rattle.sc_models.specs.Models.{model}
+use Rattle.sc_model_values.specs.Models.{model}
 use Rattle.sc_model_world_laws.specs.Rebuilt.{attributes_said}
 use Rattle.sc_schema.specs.Declarations.{Declarations}
 use Rattle.sc_values.specs.Records.{Fields}

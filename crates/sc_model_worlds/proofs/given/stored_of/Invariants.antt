@@ -1,5 +1,5 @@
 use Rattle.std.proofs.Common.{◌≡◌, length}
-use Rattle.sc_models.specs.Models.{model}
+use Rattle.sc_model_values.specs.Models.{model}
 use Rattle.sc_model_world_laws.specs.Rebuilt.{given_from}
 use Rattle.sc_model_worlds.proofs.GivenLaws.{given_after}
 use Rattle.sc_model_worlds.proofs.given.stored_of.Given as goal

@@ -1,5 +1,5 @@
 use Rattle.std.proofs.Common.{◌≡◌, ◌++◌, ℕ, List, OnOk, subst}
-use Rattle.sc_models.specs.Models.{name_in}
+use Rattle.sc_model_values.specs.Models.{name_in}
 use Rattle.sc_terms.specs.Tables.{tree}
 use Rattle.sc_model_worlds.proofs.FoldLaws.{map_trees}
 use Rattle.sc_model_worlds.proofs.tags.put_assigned.Goals as goal

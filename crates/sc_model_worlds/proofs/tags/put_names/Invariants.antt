@@ -1,5 +1,5 @@
 use Rattle.std.proofs.Common.{◌≡◌, ◌++◌, map, take}
-use Rattle.sc_models.specs.Models.{name_in}
+use Rattle.sc_model_values.specs.Models.{name_in}
 use Rattle.sc_terms.specs.Tables.{tree}
 use Rattle.sc_model_worlds.proofs.tags.put_names.Given as goal
 

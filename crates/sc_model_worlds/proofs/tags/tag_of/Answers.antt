@@ -1,5 +1,5 @@
 use Rattle.std.proofs.Common.{◌≡◌, ◌∙◌, IfOk, ap, subst}
-use Rattle.sc_models.specs.Models.{model}
+use Rattle.sc_model_values.specs.Models.{model}
 use Rattle.sc_model_world_laws.specs.Rebuilt.{tag_said, tag_default}
 use Rattle.sc_schema.specs.Declarations.{Declarations, tags_of}
 use Rattle.sc_values.specs.declared.value.Value.{Value}

@@ -1,5 +1,5 @@
 use Rattle.std.proofs.Common.{◌≡◌, ◌∙◌, ℕ, List, IfOk, map, ap, subst}
-use Rattle.sc_models.specs.Models.{model}
+use Rattle.sc_model_values.specs.Models.{model}
 use Rattle.sc_names.specs.Uids.{text_cmp}
 use Rattle.sc_model_world_laws.specs.Rebuilt.{in_order, keys_said}
 use Rattle.sc_terms.specs.Tables.{tree}

@@ -1,5 +1,5 @@
 use Rattle.std.proofs.Common.{◌≡◌, map, take}
-use Rattle.sc_models.specs.Models.{model}
+use Rattle.sc_model_values.specs.Models.{model}
 use Rattle.sc_terms.specs.Tables.{tree}
 use Rattle.sc_model_worlds.specs.Telling.{tag_told}
 use Rattle.sc_model_worlds.proofs.tags.tags_under.Given as goal

@@ -1,6 +1,6 @@
 use Rattle.std.proofs.Common.{◌∙◌, List, ap}
-use Rattle.sc_models.specs.Models.{model}
-use Rattle.sc_nodes.specs.declared.node.Node.{Node}
+use Rattle.sc_model_values.specs.Models.{model}
+use Rattle.sc_sorts.specs.declared.node.Node.{Node}
 use Rattle.sc_sorts.specs.Defaults.{is_option}
 use Rattle.sc_terms.specs.Tables.{tree}
 use Rattle.sc_terms.specs.TreeSorts.{tree_sort}

@@ -1,4 +1,4 @@
-use Rattle.sc_replay.proofs.BreakLaws.{as_written}
+use Rattle.sc_replay.proofs.BreakLineLaws.{as_written}
 use Rattle.sc_replay.proofs.report.report_of.Goals as goal
 
 pub returns-clause-first : goal.returns-clause-first

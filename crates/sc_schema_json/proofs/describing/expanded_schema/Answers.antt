@@ -1,6 +1,6 @@
 use Rattle.std.proofs.Common.{◌<◌, length, rules}
 use Rattle.sc_schema.specs.Declarations.{environments}
-use Rattle.sc_schema_hierarchy.specs.Schemas.{declarations_view}
+use Rattle.sc_schema_json.specs.Schemas.{declarations_view}
 use Rattle.sc_schema_json.specs.Spelling.{max_environments, of_environments}
 use Rattle.sc_schema_json.proofs.DescribingLaws.{no_cycle_expanded}
 use Rattle.sc_schema_json.proofs.describing.expanded_schema.Goals as goal

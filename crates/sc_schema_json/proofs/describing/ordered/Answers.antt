@@ -1,6 +1,6 @@
 use Rattle.std.proofs.Common.{rules}
 use Rattle.sc_names.specs.Uids.{uid_cmp}
-use Rattle.sc_schema_hierarchy.specs.Above.{IsLeastCycle}
+use Rattle.sc_schema_json.specs.Above.{IsLeastCycle}
 use Rattle.sc_schema_json.specs.Spelling.{links_of, of_actions}
 use Rattle.sc_schema_json.proofs.DescribingLaws.{ordered_by}
 use Rattle.sc_schema_json.proofs.describing.ordered.Goals as goal

@@ -1,6 +1,6 @@
 use Rattle.std.proofs.Common.{◌≡◌, ℕ, List, take}
 use Rattle.std.specs.List.{flat_map}
-use Rattle.sc_schema_resolved.specs.declared.namespace.ResolvedNamespace.{ResolvedNamespace}
+use Rattle.sc_schema.specs.declared.resolved_namespace.ResolvedNamespace.{ResolvedNamespace}
 use Rattle.sc_schema_types.specs.References.{body_among}
 use Rattle.sc_schema_types.specs.Tables.{body_in}
 use Rattle.sc_schema_types.proofs.bodies.bodies_of.Given as goal

@@ -1,6 +1,6 @@
 use Rattle.std.proofs.Common.{◌≡◌, map, take}
 use Rattle.std.specs.List.{flat_map}
-use Rattle.sc_schema_resolved.specs.declared.namespace.ResolvedNamespace.{ResolvedNamespace}
+use Rattle.sc_schema.specs.declared.resolved_namespace.ResolvedNamespace.{ResolvedNamespace}
 use Rattle.sc_schema_types.specs.Tables.{type_in}
 use Rattle.sc_schema_types.specs.Types.{expanded_entity_type, expanded_action}
 use Rattle.sc_schema_types.proofs.expanding.expanded_schema.Given as goal

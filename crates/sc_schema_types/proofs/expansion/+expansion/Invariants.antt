@@ -1,5 +1,5 @@
 use Rattle.std.proofs.Common.{◌≡◌, ◌+◌, ◌*◌, take}
-use Rattle.sc_schema_resolved.specs.declared.resolved_type.ResolvedType.{size-ResolvedType}
+use Rattle.sc_schema.specs.declared.resolved_type.ResolvedType.{size-ResolvedType}
 use Rattle.sc_schema_types.specs.Tables.{type_in}
 use Rattle.sc_schema_types.proofs.ExpansionLaws.{fields_of}
 use Rattle.sc_schema_types.proofs.expansion.+expansion.Given as goal

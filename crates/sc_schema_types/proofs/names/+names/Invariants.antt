@@ -1,7 +1,7 @@
 use Rattle.std.proofs.Common.{◌≡◌, ◌++◌, ◌+◌, ◌*◌, ℕ, List, take}
 use Rattle.std.specs.List.{flat_map}
 use Rattle.sc_schema.specs.declared.ty.Presence.{Presence}
-use Rattle.sc_schema_resolved.specs.declared.resolved_type.ResolvedType.{ResolvedType, size-ResolvedType}
+use Rattle.sc_schema.specs.declared.resolved_type.ResolvedType.{ResolvedType, size-ResolvedType}
 use Rattle.sc_schema_types.specs.References.{names_in}
 use Rattle.sc_schema_types.proofs.names.+names.Given as goal
 

@@ -1,5 +1,5 @@
 use Rattle.std.proofs.Common.{◌≡◌, ◌+◌, ◌*◌, drop}
-use Rattle.sc_schema_resolved.specs.declared.resolved_type.ResolvedType.{size-ResolvedType}
+use Rattle.sc_schema.specs.declared.resolved_type.ResolvedType.{size-ResolvedType}
 use Rattle.sc_schema_types.specs.Tables.{nothing, outline_in}
 use Rattle.sc_schema_types.proofs.OutlineLaws.{outlined_all}
 use Rattle.sc_schema_types.proofs.outline.+outline.Given as goal

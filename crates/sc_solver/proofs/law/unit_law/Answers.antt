@@ -2,7 +2,7 @@ use Rattle.std.proofs.Common.{length}
 use Rattle.sc_footprint.specs.Definitions.{defining}
 use Rattle.sc_footprint.specs.Problems.{atoms}
 use Rattle.sc_theory_search.proofs.CountLaws.{few_spent}
-use Rattle.sc_theories.specs.Theories.{HasRule, rule_clause}
+use Rattle.sc_solver.specs.Theories.{HasRule, rule_clause}
 use Rattle.sc_solver.proofs.law.unit_law.Goals as goal
 
 pub returns : goal.returns

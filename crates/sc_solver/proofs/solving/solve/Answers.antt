@@ -1,4 +1,4 @@
-use Rattle.sc_theories.specs.OtherLaws.{other_word}
+use Rattle.sc_solver.specs.OtherLaws.{other_word}
 use Rattle.sc_solver.proofs.SolvingLaws.{consistent, refuted, spent}
 use Rattle.sc_solver.proofs.solving.solve.Goals as goal
 

@@ -1,6 +1,6 @@
 use Rattle.std.proofs.Common.{◌-◌, map}
 use Rattle.sc_terms.specs.Tables.{tree}
-use Rattle.sc_nodes.specs.declared.node.UnaryOp.TheVariants as unary
+use Rattle.sc_sorts.specs.declared.node.UnaryOp.TheVariants as unary
 use Rattle.sc_terms.specs.Trees.{one}
 use Rattle.sc_terms.specs.Folds.{equal_term}
 use Rattle.sc_term_definitions.specs.Definitions.{counted}

@@ -1,5 +1,5 @@
 use Rattle.std.proofs.Common.{◌≡◌, ◌∙◌, List, Some, sym, subst}
-use Rattle.sc_nodes.specs.declared.node.Node.{Node}
+use Rattle.sc_sorts.specs.declared.node.Node.{Node}
 use Rattle.sc_terms.specs.Folds.{literal_of}
 use Rattle.sc_terms.specs.Tables.{tree}
 use Rattle.th_entities_instances.proofs.EntityLaws.{entity_written}

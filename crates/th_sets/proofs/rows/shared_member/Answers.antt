@@ -1,4 +1,4 @@
-use Rattle.sc_nodes.specs.declared.node.BinaryOp.TheVariants as binary
+use Rattle.sc_sorts.specs.declared.node.BinaryOp.TheVariants as binary
 use Rattle.sc_terms.specs.Tables.{tree}
 use Rattle.th_sets.proofs.NumberLaws.{picked_literal}
 use Rattle.th_sets.proofs.rows.shared_member.Goals as goal

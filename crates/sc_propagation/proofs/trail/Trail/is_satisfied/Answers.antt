@@ -1,7 +1,7 @@
 use Rattle.std.proofs.Common.{Option, inl, inr, refl, true≢false, subst, sym, ◌∙◌}
 use Rattle.sc_propagation.proofs.trail.Trail.is_satisfied.Goals as goal
-use Rattle.sc_watches.specs.Watches.{IsWatched}
-use Rattle.sc_watches.specs.declared.watches.Watch.{Watch}
+use Rattle.sc_propagation.specs.Watches.{IsWatched}
+use Rattle.sc_propagation.specs.declared.watches.Watch.{Watch}
 
 pub is_one_true-requires-clause-first : goal.is_one_true-requires-clause-first
 is_one_true-requires-clause-first c =

@@ -1,8 +1,8 @@
 use Rattle.std.proofs.Common.{Option, get_or, inl, inr, refl, subst, sym, ◌∙◌}
 use Rattle.sc_propagation.proofs.ReadingLaws.{free-before}
 use Rattle.sc_propagation.proofs.trail.Trail.kept_watched.Goals as goal
-use Rattle.sc_watches.specs.Watches.{IsWatched}
-use Rattle.sc_watches.specs.declared.watches.Watch.{Watch}
+use Rattle.sc_propagation.specs.Watches.{IsWatched}
+use Rattle.sc_propagation.specs.declared.watches.Watch.{Watch}
 
 pub is_open-requires-clause-in_cells : goal.is_open-requires-clause-in_cells
 is_open-requires-clause-in_cells c =

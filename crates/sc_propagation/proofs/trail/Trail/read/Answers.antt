@@ -10,7 +10,7 @@ use Rattle.sc_propagation.specs.Readings.{AreTwoOpen, IsUnitAt}
 use Rattle.sc_propagation.specs.Trails.{InCells, IsReason, true_before}
 use Rattle.sc_propagation.specs.Visits.{GoesOn}
 use Rattle.sc_propagation.specs.Watching.{IsAlive}
-use Rattle.sc_watches.specs.Watches.{watch_of}
+use Rattle.sc_propagation.specs.Watches.{watch_of}
 
 pub status-requires-clause-in_cells : goal.status-requires-clause-in_cells
 status-requires-clause-in_cells c =

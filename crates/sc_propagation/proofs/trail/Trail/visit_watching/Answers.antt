@@ -1,9 +1,9 @@
 use Rattle.std.proofs.Common.{◌≡◌, ◌<◌, ◌+◌, ℕ, Bool, List, length, get_or, subst, sym, ap, ◌∙◌, arith, false}
 use Rattle.std.proofs.lemmas.List.{get_or_default}
 use Rattle.sc_propagation.proofs.VisitLaws.{moves-farther, moves-nowhere, placed-in-cells, sifted-moves, stays-false, waits-first, waits-last, waits-next}
-use Rattle.sc_watches.proofs.WatchLaws.{sifted-shorter}
+use Rattle.sc_propagation.proofs.WatchLaws.{sifted-shorter}
 use Rattle.sc_propagation.proofs.trail.Trail.visit_watching.Goals as goal
-use Rattle.sc_watches.specs.Lists.{places_of}
+use Rattle.sc_propagation.specs.Lists.{places_of}
 use Rattle.sc_propagation.specs.Trails.{AreInCells}
 use Rattle.sc_propagation.specs.Visits.{HasVisited, IsWellWatched, MovesOn}
 

@@ -1,6 +1,6 @@
 use Rattle.std.proofs.Common.{◌⊎◌, ℕ, ◌+◌, ◌-◌, length}
 use Rattle.sc_clauses.specs.Clauses.{Clause}
-use Rattle.sc_watches.specs.Lists.{places_of}
+use Rattle.sc_propagation.specs.Lists.{places_of}
 use Rattle.sc_propagation.specs.Steps.{At}
 use Rattle.sc_propagation.specs.Visits.{IsSeen, IsWaiting, MovesOn}
 use Rattle.sc_propagation.proofs.trail.Trail.visit_watching.Given as goal

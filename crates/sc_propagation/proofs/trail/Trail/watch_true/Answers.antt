@@ -2,7 +2,7 @@ use Rattle.std.proofs.Common.{◌≡◌, ◌<◌, ◌∙◌, sym, true≢false, 
 use Rattle.sc_propagation.proofs.VisitLaws.{keeps-others, moves-nowhere, rewatched-moves, rewatched-others, true-may}
 use Rattle.sc_propagation.proofs.WatchingLaws.{watched-in-cells}
 use Rattle.sc_propagation.proofs.trail.Trail.watch_true.Goals as goal
-use Rattle.sc_watches.specs.Watches.{watch_of}
+use Rattle.sc_propagation.specs.Watches.{watch_of}
 
 pub kept_watched-requires-clause-in_cells : goal.kept_watched-requires-clause-in_cells
 kept_watched-requires-clause-in_cells c =

@@ -2,7 +2,7 @@ use Rattle.std.proofs.Common.{◌≡◌, ◌+◌, ℕ, length, subst, ap, ◌∙
 use Rattle.sc_propagation.proofs.TrailLaws.{trail-empty}
 use Rattle.sc_propagation.proofs.WatchingLaws.{unset-watching}
 use Rattle.sc_search.proofs.solver.Solver.new.Goals as goal
-use Rattle.sc_watches.specs.Watches.{AreUnset}
+use Rattle.sc_propagation.specs.Watches.{AreUnset}
 
 pub returns-clause-watched : goal.returns-clause-watched
 returns-clause-watched c =

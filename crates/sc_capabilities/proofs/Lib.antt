@@ -1,2 +1,0 @@
-pub mod LayerLaws
-pub mod SameLaws

@@ -1,2 +1,0 @@
-pub mod DeclaredLaws
-pub mod LiteralLaws

@@ -1,5 +1,0 @@
-mod NamedLaws
-mod ClassLaws
-mod EquationLaws
-mod ChainLaws
-mod JoinLaws

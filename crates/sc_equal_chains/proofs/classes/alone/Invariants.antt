@@ -1,9 +1,0 @@
-use Rattle.std.proofs.Common.{◌≡◌, length}
-use Rattle.sc_equal_chains.specs.Classes.{AreParents}
-use Rattle.sc_equal_chains.proofs.classes.alone.Given as goal
-
-abbrev pub invariant-loop-item : goal.invariant-loop-item
-invariant-loop-item l = record {
-  sized : length l.parents.items ≡ l.item;
-  parents : AreParents l.parents.items;
-}

@@ -1,5 +1,0 @@
-use Rattle.sc_equal_chains.specs.Naming.{AreNamedUpTo}
-use Rattle.sc_equal_chains.proofs.named.named_numbers.Given as goal
-
-abbrev pub invariant-loop-place : goal.invariant-loop-place
-invariant-loop-place l = AreNamedUpTo l.problem l.place l.numbers.items

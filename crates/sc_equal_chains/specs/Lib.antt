@@ -1,4 +1,0 @@
-pub mod Naming
-pub mod Classes
-pub mod Equations
-pub mod Joining

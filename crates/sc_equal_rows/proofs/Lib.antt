@@ -1,3 +1,0 @@
-mod RowLaws
-mod GivenLaws
-mod PartLaws

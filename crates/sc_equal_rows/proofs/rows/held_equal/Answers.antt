@@ -1,5 +1,0 @@
-use Rattle.sc_equal_rows.proofs.PartLaws.{other_option}
-use Rattle.sc_equal_rows.proofs.rows.held_equal.Goals as goal
-
-pub held-requires-2-clause-option : goal.held-requires-2-clause-option
-held-requires-2-clause-option c = other_option _ _ c.requires.options

@@ -1,0 +1,16 @@
+use Rattle.std.proofs.Common.{◌≡◌, ◌++◌, length, map}
+use Rattle.sc_sorts.specs.declared.sort.Sort.TheVariants as sort
+use Rattle.sc_terms.specs.Tables.{tree}
+use Rattle.sc_model_laws.specs.Names.{of_sort}
+use Rattle.sc_model_names.specs.Numbers.{AreIn}
+use Rattle.sc_model_names.proofs.numbers.strings_among.Given as goal
+
+abbrev pub invariant-loop-n : goal.invariant-loop-n
+invariant-loop-n l = record {
+  within : AreIn l.problem.nodes l.rest;
+  kept : AreIn l.problem.nodes l.strings;
+  left : map (tree l.problem.nodes) l.strings ++ of_sort sort.String (map (tree l.problem.nodes) l.rest) ≡ of_sort sort.String (map (tree l.problem.nodes) l.fn.numbers);
+}
+
+abbrev pub decreases-loop-n : goal.decreases-loop-n
+decreases-loop-n l = length l.rest

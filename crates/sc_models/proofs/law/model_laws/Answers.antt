@@ -1,8 +1,0 @@
-use Rattle.sc_models.proofs.ConsistentLaws.{truths_are_consistent, strings_hold_without_patterns}
-use Rattle.sc_models.proofs.law.model_laws.Goals as goal
-
-pub returns-clause-consistent : goal.returns-clause-consistent
-returns-clause-consistent c = truths_are_consistent c.problem_laws.ensures.terms c.address_laws.ensures.clauses
-
-pub returns-clause-strings : goal.returns-clause-strings
-returns-clause-strings c = strings_hold_without_patterns c.problem_laws.ensures.terms

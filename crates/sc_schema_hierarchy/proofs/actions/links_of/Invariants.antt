@@ -1,6 +1,0 @@
-use Rattle.std.proofs.Common.{◌≡◌, take}
-use Rattle.sc_schema_hierarchy.specs.Schemas.{action_links}
-use Rattle.sc_schema_hierarchy.proofs.actions.links_of.Given as goal
-
-abbrev pub invariant-loop-action : goal.invariant-loop-action
-invariant-loop-action l = l.links ≡ action_links (take l.action-index l.declared)

@@ -1,8 +1,0 @@
-use Rattle.std.proofs.Common.{◌↔◌, sym, subst, Bool, Contains, IsTrue}
-use Rattle.sc_schema_hierarchy.proofs.PlaceLaws.{name_among}
-use Rattle.sc_schema_hierarchy.proofs.key.NameKey.is_in.Goals as goal
-
-pub returns : goal.returns
-returns c =
-    subst (λ (b : Bool). IsTrue b ↔ Contains c.args.keys.now c.args.key.now) (sym c.is_ok.ensures.value)
-    (name_among c.args.keys.now c.args.key.now c.place.result c.place.ensures.found c.place.ensures.absent)

@@ -1,9 +1,0 @@
-use Rattle.sc_schema_hierarchy.proofs.OneLaws.{schema_is_one}
-use Rattle.sc_schema_hierarchy.proofs.SchemaLaws.{schema_lawful}
-use Rattle.sc_schema_hierarchy.proofs.law.schema_laws.Goals as goal
-
-pub returns-clause-one : goal.returns-clause-one
-returns-clause-one c = schema_is_one
-
-pub returns-clause-lawful : goal.returns-clause-lawful
-returns-clause-lawful c = schema_lawful

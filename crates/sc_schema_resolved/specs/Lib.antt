@@ -1,2 +1,0 @@
-pub mod Expanded
-pub mod Resolved

@@ -1,5 +1,0 @@
-mod TruthLaws
-mod PatternLaws
-mod ClassLaws
-mod TableLaws
-pub mod NamingLaws

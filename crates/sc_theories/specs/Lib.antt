@@ -1,5 +1,0 @@
-pub mod Families
-pub mod Theories
-pub mod FamilyLaws
-pub mod OtherLaws
-pub mod RuleLaws

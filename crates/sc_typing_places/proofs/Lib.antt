@@ -1,4 +1,0 @@
-pub mod ShapeLaws
-pub mod RuleLaws
-pub mod MovedLaws
-pub mod AlikeLaws

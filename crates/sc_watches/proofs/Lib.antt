@@ -1,4 +1,0 @@
-pub mod LitLaws
-mod ListedLaws
-pub mod RemovedLaws
-pub mod WatchLaws

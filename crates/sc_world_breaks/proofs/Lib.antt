@@ -1,2 +1,0 @@
-mod BreakLaws
-mod SoundLaws

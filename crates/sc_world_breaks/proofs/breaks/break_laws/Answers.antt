@@ -1,8 +1,0 @@
-use Rattle.sc_world_breaks.proofs.BreakLaws.{one_break, no_break}
-use Rattle.sc_world_breaks.proofs.breaks.break_laws.Goals as goal
-
-pub returns-clause-one : goal.returns-clause-one
-returns-clause-one c = one_break
-
-pub returns-clause-nowhere : goal.returns-clause-nowhere
-returns-clause-nowhere c = no_break
