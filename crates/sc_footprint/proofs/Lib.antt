@@ -1,6 +1,4 @@
 pub use Rattle.sc_closure.proofs.SortLaws
-mod OrderingLaws
-mod ChainLaws
 pub mod NumberingLaws
 pub mod IndexLaws
 mod CompanionLaws

@@ -21,7 +21,7 @@ use Rattle.sc_terms.specs.Folds.{truth_term}
 use Rattle.sc_closure.specs.Atoms.{is_atom, atoms_among}
 use Rattle.sc_closure.specs.Places.{one_more}
 use Rattle.sc_footprint.specs.Problems.{numbered, number_among}
-use Rattle.sc_footprint.proofs.OrderingLaws.{after}
+use Rattle.sc_term_order.proofs.OrderingLaws.{after}
 
 -- ---- a term's number, and the term of a number
 

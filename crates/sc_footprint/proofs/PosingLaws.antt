@@ -32,7 +32,7 @@ use Rattle.sc_closure.specs.Atoms.{is_atom, atoms_among, most_atoms}
 use Rattle.sc_closure.specs.Closure.{Closed}
 use Rattle.sc_closure.specs.Following.{StandsForClosed, atoms_of}
 use Rattle.sc_closure.specs.Goals.{IsGoal}
-use Rattle.sc_footprint.proofs.OrderingLaws.{within_moved}
+use Rattle.sc_term_order.proofs.OrderingLaws.{within_moved}
 use Rattle.sc_footprint.specs.declared.companions.Span.{Span}
 use Rattle.sc_footprint.specs.declared.shelves.Shelf.{Shelf}
 use Rattle.sc_footprint.specs.Companions.{AreListed}

@@ -12,8 +12,6 @@ pub mod Companions
 pub mod Indices
 pub mod Shelving
 pub mod Definitions
-pub mod Sorting
-pub mod Chains
 pub mod Truths
 pub mod Written
 pub mod Theories

@@ -10,12 +10,12 @@ use crate::companions::{Span, companions_of};
 use crate::listing::atoms_among;
 use crate::problem::Problem;
 use crate::shelves::{Shelf, shelves_of};
-use crate::sorting::sort_by_term;
 use indexmap::IndexSet;
 use sc_closure::{OverLimit, closed_laws, closed_terms};
 use sc_lists::Fault;
 use sc_names::Lits;
 use sc_schema::{Env, Schema};
+use sc_term_order::sort_by_term;
 use sc_terms::Terms;
 use std::alloc::Global;
 

@@ -3,16 +3,13 @@
 //! such problems is.
 #![tactic(auto)]
 
-mod chains;
 mod closing;
 mod companions;
-mod estimates;
 mod kind;
 mod law;
 mod listing;
 mod problem;
 mod shelves;
-mod sorting;
 mod theory;
 
 pub use closing::close;

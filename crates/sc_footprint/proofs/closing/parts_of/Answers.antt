@@ -2,7 +2,7 @@ use Rattle.std.proofs.Common.{arith}
 use Rattle.sc_terms.proofs.TableLaws.{keeps_then}
 use Rattle.sc_closure.proofs.MemberLaws.{within_later}
 use Rattle.sc_footprint.proofs.CompanionLaws.{companions_many}
-use Rattle.sc_footprint.proofs.OrderingLaws.{within_moved}
+use Rattle.sc_term_order.proofs.OrderingLaws.{within_moved}
 use Rattle.sc_footprint.proofs.PosingLaws.{is_kept, some_moved}
 use Rattle.sc_footprint.proofs.closing.parts_of.Goals as goal
 
