@@ -1,5 +1,6 @@
 -- What a source of files tells of a file that is read in pieces.
 use Rattle.std.specs.Prelude.{◌≡◌, ◌≤◌, ◌++◌, ℕ, List, length, drop, Vec, string_bytes, Option, Some, None, IfSome, option_map, Result, Ok, Err}
+use Rattle.std.specs.Io.KnownBytes.{Consumes, IsAtEnd}
 use Rattle.std.specs.Global.{Global}
 use Rattle.sc_outside.specs.declared.faults.FileFault.{FileFault}
 use Rattle.sc_outside.specs.declared.started.Started.{Started}
@@ -39,3 +40,10 @@ left_in content started = option_map (λ s. option_map (λ bytes. drop s.taken b
 -- what is left of a file that is open, of which nothing is told
 abbrev pub untold_left : {X : Type 0} → Option X → Left
 untold_left file = option_map (λ _. None) file
+
+-- Bytes of an open file, of which these remained and those remain, where that is told: a front of what remained, of at most `max` bytes,
+-- and empty at the end alone; what follows it remains.
+pub record IsNextPiece (old new : Option (List ℕ)) (max : ℕ) (piece : List ℕ) : Type 0 where
+  pub front : Consumes old new piece
+  pub within : length piece ≤ max
+  pub ends : length piece ≡ 0 → 1 ≤ max → IsAtEnd new

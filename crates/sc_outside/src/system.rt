@@ -1,23 +1,16 @@
 //! The files and the standard output of the system. Nothing is told of their bytes.
-ghost use Rattle.std.specs.Prelude.{◌≡◌, ◌≢◌, ◌≤◌, ◌+◌, ◌↔◌, length, max, vec_capacity, Err, None, IfOk, OnErr};
-ghost use Rattle.std.specs.IoError.{error_kind};
+ghost use Rattle.std.specs.Prelude.{◌≡◌, ◌≤◌, length, Err, None, IfOk};
 ghost use Rattle.sc_outside.specs.Counts.{Counts, CountsFailure};
 ghost use Rattle.sc_outside.specs.Pieces.{untold_left};
 ghost use Rattle.sc_outside.specs.Writes.{Writes};
 
 use crate::count::FaultCount;
 use crate::faults::{FileFault, SinkFault};
+use crate::reading::{bytes_of, fault_of, piece_of};
 use crate::traits::{Files, Sink};
-use std::alloc::{AllocError, Global};
+use std::alloc::Global;
 use std::fs::File;
-use std::io::{ErrorKind, Read};
-use std::{io, rt};
-
-/// How many bytes are taken at a time, at most.
-const PIECE: usize = 8192;
-
-/// How many bytes a piece of a file may have, at most.
-const LONGEST: u64 = 65536;
+use std::rt;
 
 /// The files of the system.
 #[derive(Drop)]
@@ -57,7 +50,7 @@ impl<R: rt::Files> Files for RealFiles<'_, R> {
         ensures counts_failure { CountsFailure self.old.faults.count self.new.faults.count
             (result ≡ Err FileFault.Failed) }
     {
-        let read = bytes_of(self.rt, alloc, name, limit);
+        let read = whole_file(self.rt, alloc, name, limit);
         if matches!(&read, Err(FileFault::Failed)) {
             self.faults.raise();
         }
@@ -92,9 +85,8 @@ impl<R: rt::Files> Files for RealFiles<'_, R> {
     }
 }
 
-/// All bytes of a file. Of a file with more than `limit` bytes one more than these is taken, which
-/// tells that it is too long.
-fn bytes_of<R: rt::Files>(
+/// All bytes of the file of a name.
+fn whole_file<R: rt::Files>(
     rt: &R,
     alloc: Global,
     name: &str,
@@ -102,70 +94,9 @@ fn bytes_of<R: rt::Files>(
 ) -> Result<Vec<u8>, FileFault>
     ensures within { IfOk result (λ bytes. length bytes.items ≤ limit) }
 {
-    let mut file = match File::open(rt, name) {
-        Ok(file) => file,
-        Err(error) => return Err(fault_of(&error)),
-    };
-    let mut bytes = Vec::new(alloc);
-    let mut piece = [0u8; PIECE];
-    for _ in 0..u64::MAX {
-        let room = limit - bytes.len() as u64;
-        let most = room.saturating_add(1).min(PIECE as u64) as usize;
-        match file.read(&mut piece[..most]) {
-            Ok(0) => return Ok(bytes),
-            Ok(count) if count as u64 > room => return Err(FileFault::TooLong),
-            Ok(count) => {
-                make_room(&mut bytes, count, room as usize)?;
-                bytes.extend_from_slice(&piece[..count])?;
-            }
-            Err(error) if error.kind() == ErrorKind::Interrupted => {}
-            Err(error) => return Err(fault_of(&error)),
-        }
-    }
-    Err(FileFault::Failed)
-}
-
-/// The next bytes of an open file, as many as one read gives and at most `max` of them. A read that is
-/// interrupted is tried again. Room for the bytes is made before.
-pub fn piece_of<F: Read>(file: &mut F, alloc: Global, max: u64) -> Result<Vec<u8>, FileFault>
-    ensures within { IfOk result (λ piece. length piece.items ≤ max) }
-    ensures never_long { result ≢ Err FileFault.TooLong }
-{
-    let most = max.min(LONGEST) as usize;
-    let mut piece = vec![in alloc; 0u8; most]?;
-    for _ in 0..u64::MAX {
-        match file.read(&mut piece) {
-            Ok(count) => {
-                piece.truncate(count);
-                return Ok(piece);
-            }
-            Err(error) if error.kind() == ErrorKind::Interrupted => {}
-            Err(error) => return Err(fault_of(&error)),
-        }
-    }
-    Err(FileFault::Failed)
-}
-
-/// Makes room for `count` more bytes, and for at most `room`: the room grows as the bytes do.
-fn make_room(bytes: &mut Vec<u8>, count: usize, room: usize) -> Result<(), AllocError>
-    ensures items { bytes.new.items ≡ bytes.old.items }
-    ensures capacity { vec_capacity bytes.new ≤ max (vec_capacity bytes.old) (length bytes.old.items + room) }
-{
-    if bytes.capacity() - bytes.len() >= count {
-        return Ok(());
-    }
-    let more = count.max(bytes.len()).min(room);
-    bytes.reserve_exact(more)
-}
-
-/// The fault that an error of the system is. Its want of memory isn't a failure.
-fn fault_of(error: &io::Error) -> FileFault
-    ensures memory { (result ≡ FileFault.NoMemory) ↔ (error_kind error.now ≡ ErrorKind.OutOfMemory) }
-    ensures never_long { result ≢ FileFault.TooLong }
-{
-    match error.kind() {
-        ErrorKind::OutOfMemory => FileFault::NoMemory,
-        _ => FileFault::Failed,
+    match File::open(rt, name) {
+        Ok(mut file) => bytes_of(&mut file, alloc, limit),
+        Err(error) => Err(fault_of(&error)),
     }
 }
 

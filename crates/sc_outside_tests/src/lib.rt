@@ -4,6 +4,8 @@
 #[cfg(test)]
 mod files;
 #[cfg(test)]
+mod readers;
+#[cfg(test)]
 mod sinks;
 #[cfg(test)]
 mod system;

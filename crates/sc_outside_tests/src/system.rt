@@ -1,11 +1,11 @@
-//! Files of the system, which are read whole and in pieces, and reads that are interrupted.
+//! Files of the system, which are read whole and in pieces.
 use crate::files::{fails, fails_in_pieces, has_length, has_pieces, reads};
-use sc_outside::{FileFault, Files, RealFiles, piece_of};
+use sc_outside::{FileFault, Files, RealFiles};
 use std::alloc::{AllocError, Global};
-use std::io::{ErrorKind, Read, Result as IoResult};
+use std::io::Result as IoResult;
 use std::process::Abort;
 use std::test::Fail;
-use std::{env, fs, io, process, rt};
+use std::{env, fs, process, rt};
 
 /// The path of a file of a process's own in a folder.
 fn own_path(alloc: Global, folder: &str, name: &str, process: u32) -> Result<String, AllocError> {
@@ -38,6 +38,15 @@ fn is_read_within_its_length<F: Files>(
     }
 }
 
+/// So many bytes, each told by its place.
+fn varied(alloc: Global, len: usize) -> Result<Vec<u8>, AllocError> {
+    let mut bytes = Vec::new(alloc);
+    for place in 0..len {
+        bytes.push((place % 251) as u8)?;
+    }
+    Ok(bytes)
+}
+
 /// Asserts that a file of the system that has so many bytes is read as it is written.
 fn is_read_as_written<R: rt::Files + Abort, F: Files>(
     rt: &R,
@@ -46,14 +55,14 @@ fn is_read_as_written<R: rt::Files + Abort, F: Files>(
     path: &str,
     len: usize,
 ) -> IoResult<()> {
-    let bytes: Vec<u8> = vec![in alloc; b'x'; len]?;
+    let bytes = varied(alloc, len)?;
     fs::write(rt, path, bytes.as_slice())?;
     is_read_within_its_length(rt, alloc, files, path, bytes.as_slice());
     Ok(())
 }
 
 /// Lengths of files, some of them about that of the pieces in which a file is taken.
-const LENGTHS: &[usize] = &[0, 3, 8191, 8192, 8193, 20000];
+const LENGTHS: &[usize] = &[0, 3, 4097, 65535, 65536, 65537, 140000];
 
 #[test]
 fn reads_files_of_the_system(rt: HostRuntime) -> Result<(), Fail> {
@@ -97,42 +106,4 @@ fn reads_pieces_of_a_file_of_the_system(rt: HostRuntime) -> Result<(), Fail> {
     assert!(rt; fails_in_pieces(alloc, &mut files, path, 2), "no such file");
     assert!(rt; fails_in_pieces(alloc, &mut files, "/", 2), "a directory");
     Ok(())
-}
-
-/// A reader of which each second read is interrupted, and which has one byte.
-#[derive(Drop)]
-struct Interrupted {
-    reads: u8,
-}
-
-impl Read for Interrupted {
-    fn read(&mut self, buf: &mut [u8]) -> IoResult<usize> {
-        self.reads = self.reads.wrapping_add(1);
-        if self.reads % 2 == 1 {
-            return Err(io::Error::from(ErrorKind::Interrupted));
-        }
-        if self.reads > 2 {
-            return Ok(0);
-        }
-        if buf.is_empty() {
-            return Ok(0);
-        }
-        buf[0] = b'x';
-        Ok(1)
-    }
-}
-
-/// Whether this is the next piece of a reader.
-fn gives<R: Read>(alloc: Global, reader: &mut R, bytes: &[u8]) -> bool {
-    match piece_of(reader, alloc, 9) {
-        Ok(piece) => piece.as_slice() == bytes,
-        Err(_) => false,
-    }
-}
-
-#[test]
-fn an_interrupted_read_is_tried_again(rt: HostRuntime) {
-    let mut reader = Interrupted { reads: 0 };
-    assert!(rt; gives(rt.alloc(), &mut reader, b"x"));
-    assert!(rt; gives(rt.alloc(), &mut reader, b""));
 }
