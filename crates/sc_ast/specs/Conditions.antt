@@ -76,7 +76,8 @@ clause c = (c.place, required c.kind c.place c.body)
 -- what has to be true: the parts of the scope that aren't bare, then what each clause asks
 abbrev pub conjuncts : Policy → List Conjunct
 conjuncts p =
-    scope_part Principal p.principal ++ (action_part p.action ++ (scope_part Resource p.resource ++ map clause p.conditions))
+    scope_part Principal p.principal
+    ++ (action_part p.action ++ (scope_part Resource p.resource ++ map clause p.conditions))
 
 abbrev pub joined : Expr → Conjunct → Expr
 joined so_far c = expr.And c.0 so_far c.1

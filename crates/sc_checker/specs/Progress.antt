@@ -15,8 +15,8 @@ use Rattle.sc_checker.specs.declared.checking.Verdict.TheVariants.{Refuted, Reje
 use Rattle.sc_refutations.specs.Refutations.{is_nil, are_listed}
 use Rattle.sc_checker.specs.Verdicts.{IsAdded}
 
--- how many atoms are listed, how many steps there were, the defining clauses and those that the steps added, whether the last
--- step's clause is empty, and the least step at fault with its reason
+-- how many atoms are listed, how many steps there were, the defining clauses and those that the steps added, whether
+-- the last step's clause is empty, and the least step at fault with its reason
 pub record Progress : Type 0 where
   pub listed : ℕ
   pub steps : ℕ
@@ -30,15 +30,33 @@ start p = record { listed = length (atoms p); steps = 0; clauses = defining p; i
 
 -- the step of this number is at fault
 abbrev pub failed : ℕ → Reason → Progress → Progress
-failed number reason g = record { listed = g.listed; steps = g.steps; clauses = g.clauses; is_empty = g.is_empty; fault = Some (number, reason) }
+failed number reason g = record {
+  listed = g.listed;
+  steps = g.steps;
+  clauses = g.clauses;
+  is_empty = g.is_empty;
+  fault = Some (number, reason);
+}
 
 -- one step more
 abbrev pub counted : Progress → Progress
-counted g = record { listed = g.listed; steps = g.steps + 1; clauses = g.clauses; is_empty = g.is_empty; fault = g.fault }
+counted g = record {
+  listed = g.listed;
+  steps = g.steps + 1;
+  clauses = g.clauses;
+  is_empty = g.is_empty;
+  fault = g.fault;
+}
 
 -- the last step adds a clause
 abbrev pub grown : Clause → Progress → Progress
-grown c g = record { listed = g.listed; steps = g.steps; clauses = g.clauses ++ c ∷ []; is_empty = is_nil c; fault = g.fault }
+grown c g = record {
+  listed = g.listed;
+  steps = g.steps;
+  clauses = g.clauses ++ c ∷ [];
+  is_empty = is_nil c;
+  fault = g.fault;
+}
 
 -- after a step that adds a clause, or none for a reason
 abbrev pub taken : Result Clause Reason → Progress → Progress
@@ -52,7 +70,8 @@ pub record IsTaken (P : Result Clause Reason → Type 0) (g h : Progress) : Type
   pub leaves : h ≡ taken outcome g
 
 -- what a step leaves
-pub data AfterStep (has : Instance → Type 0) (clause_of : Instance → Clause) (g : Progress) (s : Step) (h : Progress) : Type 0 where
+pub data AfterStep (has : Instance → Type 0) (clause_of : Instance → Clause) (g : Progress) (s : Step)
+    (h : Progress) : Type 0 where
   is_past_fault : (fault : ℕ × Reason) → g.fault ≡ Some fault → h ≡ g → AfterStep has clause_of g s h
   is_taken : g.fault ≡ None → IsTaken (IsAdded has clause_of g.listed g.clauses s) g h → AfterStep has clause_of g s h
 
@@ -74,8 +93,8 @@ verdict_at None steps is_empty = if is_empty then Refuted else Rejected steps No
 abbrev pub verdict_of : Progress → Verdict
 verdict_of g = verdict_at g.fault g.steps g.is_empty
 
--- What is so of the steps on a problem: the clauses have literals of its listed atoms, more of them than there were steps, and are
--- true in each well-formed world in which its goal is; and the last step's is one of them.
+-- What is so of the steps on a problem: the clauses have literals of its listed atoms, more of them than there were
+-- steps, and are true in each well-formed world in which its goal is; and the last step's is one of them.
 pub record IsChecked (p : Posed) (g : Progress) : Type 0 where
   pub count : g.listed ≡ length (atoms p)
   pub fit : IsTrue (are_listed g.listed g.clauses)

@@ -16,8 +16,8 @@ use Rattle.sc_logs.specs.Readings.{AreWritable, IsText, StopsAt}
 use Rattle.sc_logs.specs.Texts.{first_line}
 use Rattle.sc_checker.specs.Verdicts.{Adds, IsAccepted, FailsAt, IsVerdictOn}
 
--- What a checker holds: whether the line `log 1` was read, the bytes of the line that isn't ended yet, and what it holds of the
--- steps of the lines before.
+-- What a checker holds: whether the line `log 1` was read, the bytes of the line that isn't ended yet, and what it
+-- holds of the steps of the lines before.
 pub record Checking : Type 0 where
   pub begun : Bool
   pub line : List ℕ
@@ -41,24 +41,32 @@ AfterReading has clause_of g (Some s) h = AfterStep has clause_of g s h
 -- what the first line leaves
 abbrev pub after_first : List ℕ → Progress → Checking
 after_first line g =
-    if bytes_eq line first_words then record { begun = true; line = []; progress = g } else record { begun = false; line = []; progress = failed 0 Malformed g }
+    if bytes_eq line first_words then record { begun = true; line = []; progress = g }
+    else record { begun = false; line = []; progress = failed 0 Malformed g }
 
 -- the first line, or a line after it
-pub data AfterLine (has : Instance → Type 0) (clause_of : Instance → Clause) (begun : Bool) (line : List ℕ) (g : Progress) (d : Checking) : Type 0 where
+pub data AfterLine (has : Instance → Type 0) (clause_of : Instance → Clause) (begun : Bool) (line : List ℕ)
+    (g : Progress) (d : Checking) : Type 0 where
   is_first : begun ≡ false → d ≡ after_first line g → AfterLine has clause_of begun line g d
-  is_later : begun ≡ true → (h : Progress) → AfterReading has clause_of g (step_of line) h → d ≡ record { begun = true; line = []; progress = h } → AfterLine has clause_of begun line g d
+  is_later : begun ≡ true → (h : Progress) → AfterReading has clause_of g (step_of line) h
+      → d ≡ record { begun = true; line = []; progress = h } → AfterLine has clause_of begun line g d
 
 -- ---- bytes
 
 -- a newline ends the line, and any other byte is one more of it; where a step was at fault, nothing is looked at
-pub data AfterByte (has : Instance → Type 0) (clause_of : Instance → Clause) (c : Checking) (byte : ℕ) (d : Checking) : Type 0 where
+pub data AfterByte (has : Instance → Type 0) (clause_of : Instance → Clause) (c : Checking) (byte : ℕ)
+    (d : Checking) : Type 0 where
   is_unread : (fault : ℕ × Reason) → c.progress.fault ≡ Some fault → d ≡ c → AfterByte has clause_of c byte d
-  ends_line : c.progress.fault ≡ None → byte ≡ 10 → AfterLine has clause_of c.begun c.line c.progress d → AfterByte has clause_of c byte d
-  is_in_line : c.progress.fault ≡ None → byte ≢ 10 → d ≡ record { begun = c.begun; line = c.line ++ byte ∷ []; progress = c.progress } → AfterByte has clause_of c byte d
+  ends_line : c.progress.fault ≡ None → byte ≡ 10 → AfterLine has clause_of c.begun c.line c.progress d
+      → AfterByte has clause_of c byte d
+  is_in_line : c.progress.fault ≡ None → byte ≢ 10
+      → d ≡ record { begun = c.begun; line = c.line ++ byte ∷ []; progress = c.progress }
+      → AfterByte has clause_of c byte d
 
 -- after bytes of the line that isn't ended
 abbrev pub lengthened : Checking → List ℕ → Checking
-lengthened c bytes = unless_at_fault c.progress.fault c (record { begun = c.begun; line = c.line ++ bytes; progress = c.progress })
+lengthened c bytes = unless_at_fault c.progress.fault c
+    (record { begun = c.begun; line = c.line ++ bytes; progress = c.progress })
 
 -- what is held after these bytes
 unfoldable pub After : (Instance → Type 0) → (Instance → Clause) → Checking → List ℕ → Checking → Type 0
@@ -80,18 +88,25 @@ line_verdict begun (b ∷ bs) g = Rejected (line_number begun g) Malformed
 abbrev pub ended : Checking → Verdict
 ended c = unless_at_fault c.progress.fault (verdict_of c.progress) (line_verdict c.begun c.line c.progress)
 
--- The verdict on bytes: that on the steps, where they are the text of a log. Else the first step at fault before the line that is no
--- line of a log, or else that line.
-pub data HasVerdict (has : Instance → Type 0) (clause_of : Instance → Clause) (p : Posed) (bytes : List ℕ) (v : Verdict) : Type 0 where
-  of_log : (steps : List Step) → AreWritable steps → IsText bytes steps → IsVerdictOn has clause_of p steps v → HasVerdict has clause_of p bytes v
-  of_no_log : bytes ≢ [] → ((rest : List ℕ) → ¬ (bytes ≡ first_line ++ rest)) → v ≡ Rejected 0 Malformed → HasVerdict has clause_of p bytes v
-  of_fault : (rest : List ℕ) (number k : ℕ) (reason : Reason) → bytes ≡ first_line ++ rest → (stop : StopsAt rest number) → FailsAt has clause_of p stop.before k reason
+-- The verdict on bytes: that on the steps, where they are the text of a log. Else the first step at fault before the
+-- line that is no line of a log, or else that line.
+pub data HasVerdict (has : Instance → Type 0) (clause_of : Instance → Clause) (p : Posed) (bytes : List ℕ)
+    (v : Verdict) : Type 0 where
+  of_log : (steps : List Step) → AreWritable steps → IsText bytes steps → IsVerdictOn has clause_of p steps v
+      → HasVerdict has clause_of p bytes v
+  of_no_log : bytes ≢ [] → ((rest : List ℕ) → ¬ (bytes ≡ first_line ++ rest)) → v ≡ Rejected 0 Malformed
+      → HasVerdict has clause_of p bytes v
+  of_fault : (rest : List ℕ) (number k : ℕ) (reason : Reason) → bytes ≡ first_line ++ rest
+      → (stop : StopsAt rest number) → FailsAt has clause_of p stop.before k reason
       → v ≡ Rejected k reason → HasVerdict has clause_of p bytes v
-  of_no_line : (rest : List ℕ) (number : ℕ) (clauses : List Clause) → bytes ≡ first_line ++ rest → (stop : StopsAt rest number)
-      → Adds has clause_of (length (atoms p)) (defining p) stop.before clauses → v ≡ Rejected number Malformed → HasVerdict has clause_of p bytes v
+  of_no_line : (rest : List ℕ) (number : ℕ) (clauses : List Clause) → bytes ≡ first_line ++ rest
+      → (stop : StopsAt rest number)
+      → Adds has clause_of (length (atoms p)) (defining p) stop.before clauses → v ≡ Rejected number Malformed
+      → HasVerdict has clause_of p bytes v
 
 -- the bytes are the text of a log that is accepted
-pub record IsAcceptedText (has : Instance → Type 0) (clause_of : Instance → Clause) (p : Posed) (bytes : List ℕ) : Type 0 where
+pub record IsAcceptedText (has : Instance → Type 0) (clause_of : Instance → Clause) (p : Posed)
+    (bytes : List ℕ) : Type 0 where
   pub steps : List Step
   pub writable : AreWritable steps
   pub text : IsText bytes steps

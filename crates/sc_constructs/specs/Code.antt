@@ -1,5 +1,5 @@
--- What an expression is compiled to, and what each construct makes of what its operands are compiled to, in the order of the
--- grammar. `ok` joins in the order in which operands are evaluated.
+-- What an expression is compiled to, and what each construct makes of what its operands are compiled to, in the order
+-- of the grammar. `ok` joins in the order in which operands are evaluated.
 use Rattle.std.specs.Prelude.{ℕ, List, [], ◌∷◌, map, fold, Bool, true, false, Option, Some, None, pos}
 use Rattle.std.specs.BTreeMap.{insert_entry}
 use Rattle.sc_ip.specs.declared.ip.Ip.{Ip}
@@ -89,7 +89,8 @@ abbrev pub sum_code : Code → Code → Code
 sum_code a b = where_so a b (not_term (two binary.AddOverflows a.val b.val)) (two binary.Add a.val b.val)
 
 abbrev pub difference_code : Code → Code → Code
-difference_code a b = where_so a b (not_term (two binary.SubtractOverflows a.val b.val)) (two binary.Subtract a.val b.val)
+difference_code a b = where_so a b (not_term (two binary.SubtractOverflows a.val b.val))
+    (two binary.Subtract a.val b.val)
 
 abbrev pub product_code : Code → Code → Code
 product_code a b = where_so a b (not_term (two binary.MultiplyOverflows a.val b.val)) (two binary.Multiply a.val b.val)

@@ -1,5 +1,5 @@
--- What constructs are compiled to that look at what a schema declares: attributes, tags, ancestors, entities that are written,
--- and variables.
+-- What constructs are compiled to that look at what a schema declares: attributes, tags, ancestors, entities that are
+-- written, and variables.
 use Rattle.std.specs.Prelude.{ℕ, List, [], ◌∷◌, Bool, true, false, ◌&&◌, if◌then◌else◌, Option, Some, None, option_map, unwrap_or, is_some}
 use Rattle.std.specs.List.{list_any}
 use Rattle.std.specs.Option.{option_and_then}
@@ -38,7 +38,8 @@ use Rattle.sc_constructs.specs.Code.{Code, code, constant, after, after_both, wh
 -- whether a record or an entity of a type may lack an attribute; none where it never has it
 abbrev pub presence_of : Declarations → Ty → List ℕ → Option Presence
 presence_of s type name =
-    option_and_then (λ (fields : List Field). option_map (λ (f : Field). f.1) (attribute name fields)) (attributes s type)
+    option_and_then (λ (fields : List Field). option_map (λ (f : Field). f.1) (attribute name fields))
+    (attributes s type)
 
 -- the sort of the attributes of a type's entities
 abbrev pub attributes_sort : Declarations → List ℕ → Sort
@@ -81,7 +82,8 @@ along_code s front a (step ∷ steps) =
 -- `a has b.c` is `a has b && a.b has c`
 abbrev pub path_code : Declarations → Code → List HasStep → Code
 path_code s a [] = after a (truth_term true)
-path_code s a (step ∷ steps) = along_code s (has_code s step.object step.name a) (access_code s step.object step.name a) steps
+path_code s a (step ∷ steps) =
+    along_code s (has_code s step.object step.name a) (access_code s step.object step.name a) steps
 
 -- ---- tags
 
@@ -113,12 +115,14 @@ may_be_above s n u = list_any (bytes_eq u) (unwrap_or (ancestor_types s n) [])
 
 -- an entity of type n is one of type u, or in it
 abbrev pub in_one : Declarations → List ℕ → List ℕ → Tree → Tree → Tree
-in_one s n u a b = or_term (only_where (bytes_eq n u) (equal_term a b)) (only_where (may_be_above s n u) (two binary.Member b (above s u a)))
+in_one s n u a b = or_term (only_where (bytes_eq n u) (equal_term a b))
+    (only_where (may_be_above s n u) (two binary.Member b (above s u a)))
 
 -- an entity of type n is a member of a set of entities of type u, or in one
 abbrev pub in_some : Declarations → List ℕ → List ℕ → Tree → Tree → Tree
 in_some s n u a b =
-    or_term (only_where (bytes_eq n u) (two binary.Member a b)) (only_where (may_be_above s n u) (two binary.Common (above s u a) b))
+    or_term (only_where (bytes_eq n u) (two binary.Member a b))
+    (only_where (may_be_above s n u) (two binary.Common (above s u a) b))
 
 abbrev pub in_some_of : Declarations → List ℕ → Option (List ℕ) → Tree → Tree → Tree
 in_some_of s n (Some u) a b = in_some s n u a b
@@ -166,7 +170,8 @@ is_decided s x y = is_declared_action s (uid_at (out-TypedExpr x)) && is_group_i
 -- `a in b`, whose type is the first one
 abbrev pub in_code : Declarations → Ty → TypedExpr → TypedExpr → Code → Code → Code
 in_code s type x y a b =
-    if is_decided s x y then constant (is_true type) else after_both a b (in_term s (entity_name (ty x)) (ty y) a.val b.val)
+    if is_decided s x y then constant (is_true type)
+    else after_both a b (in_term s (entity_name (ty x)) (ty y) a.val b.val)
 
 -- ---- entities that are written, and variables
 

@@ -13,7 +13,8 @@ use Rattle.sc_eval.specs.Operators.{literal_value}
 -- `front && x has b && x.b has c`
 abbrev pub and_has : Place → Expr → Expr → List (List ℕ) → Expr
 and_has place front x [] = front
-and_has place front x (name ∷ names) = and_has place (expr.And place front (expr.Has place x (name ∷ []))) (expr.Access place x name) names
+and_has place front x (name ∷ names) =
+    and_has place (expr.And place front (expr.Has place x (name ∷ []))) (expr.Access place x name) names
 
 -- `x has a && x.a has b && x.a.b has c`
 abbrev pub has_each : Place → Expr → List ℕ → List (List ℕ) → Expr

@@ -18,4 +18,5 @@ pub record AreColoured (truth : Truth) (chosen : List ℕ) (from upto k : ℕ) (
   pub small : k ≤ upto
   pub each : (t : ℕ) → from ≤ t → t < upto → IsAway truth chosen t → (g : ℕ) × (get_or colours t None ≡ Some g)
   pub within : (t g : ℕ) → get_or colours t None ≡ Some g → g < k
-  pub together : (t u g : ℕ) → t < u → u < upto → get_or colours t None ≡ Some g → get_or colours u None ≡ Some g → ¬ (truth t u ≡ Some false)
+  pub together : (t u g : ℕ) → t < u → u < upto → get_or colours t None ≡ Some g → get_or colours u None ≡ Some g
+      → ¬ (truth t u ≡ Some false)

@@ -34,7 +34,8 @@ pub record IsCrowd (truth sign : Truth) (few : Few) (n patterns : ℕ) (items : 
 
 -- there is no crowd
 abbrev pub NoneCrowded : Truth → Truth → Few → ℕ → ℕ → Type 0
-NoneCrowded truth sign few n patterns = (items : List ℕ) (signs : Signs) → ¬ (IsCrowd truth sign few n patterns items signs)
+NoneCrowded truth sign few n patterns =
+    (items : List ℕ) (signs : Signs) → ¬ (IsCrowd truth sign few n patterns items signs)
 
 -- ---- the search for one
 
@@ -67,7 +68,8 @@ count_from test at zero = 0
 count_from test at (suc m) = one_if (test at) + count_from test (suc at) m
 
 -- the items from a place on that pass a test differ pairwise and from the chosen ones, and have the signs
-pub record IsFurther (truth sign : Truth) (n : ℕ) (chosen : List ℕ) (at : ℕ) (test : ℕ → Bool) (w : Signs) : Type 0 where
+pub record IsFurther (truth sign : Truth) (n : ℕ) (chosen : List ℕ) (at : ℕ) (test : ℕ → Bool)
+    (w : Signs) : Type 0 where
   pub apart : (t u : ℕ) → at ≤ t → t < u → u < n → test t ≡ true → test u ≡ true → truth t u ≡ Some false
   pub away : (t : ℕ) → at ≤ t → t < n → test t ≡ true → All (λ c. truth c t ≡ Some false) chosen
   pub fit : (t : ℕ) → at ≤ t → t < n → test t ≡ true → Fits sign w t
@@ -84,7 +86,8 @@ HasRoomFrom truth sign n chosen from most = (at : ℕ) → from ≤ at → at �
 -- whatever signs of a family are asked, the chosen items and some from a place on are no crowd
 abbrev pub NoneOn : Truth → Truth → Few → ℕ → (Signs → Type 0) → List ℕ → ℕ → Type 0
 NoneOn truth sign few n asked chosen at =
-    (w : Signs) (test : ℕ → Bool) → asked w → IsFurther truth sign n chosen at test w → ¬ (few w (length chosen + count_from test at (n - at)))
+    (w : Signs) (test : ℕ → Bool) → asked w → IsFurther truth sign n chosen at test w
+    → ¬ (few w (length chosen + count_from test at (n - at)))
 
 -- the family: parts of the given signs
 unfoldable pub NoneIn : Truth → Truth → Few → ℕ → Signs → List ℕ → ℕ → Type 0
@@ -115,8 +118,10 @@ pub record IsEnough (few : Few) (count : ℕ) (old new : Signs) : Type 0 where
 
 -- each of the first n signs is needed: without it no fewer than `count` texts have the others
 unfoldable pub AreNeeded : Few → ℕ → Signs → ℕ → Type 0
-AreNeeded few count signs n = (p : ℕ) (s : Bool) → p < n → get_or signs p None ≡ Some s → ¬ (few (slice_set signs p None) count)
+AreNeeded few count signs n = (p : ℕ) (s : Bool) → p < n → get_or signs p None ≡ Some s
+    → ¬ (few (slice_set signs p None) count)
 
 -- each sign is needed
 abbrev pub AreAllNeeded : Few → ℕ → Signs → Type 0
-AreAllNeeded few count signs = (p : ℕ) (s : Bool) → get_or signs p None ≡ Some s → ¬ (few (slice_set signs p None) count)
+AreAllNeeded few count signs = (p : ℕ) (s : Bool) → get_or signs p None ≡ Some s
+    → ¬ (few (slice_set signs p None) count)

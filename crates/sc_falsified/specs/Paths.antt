@@ -10,7 +10,8 @@ pub record IsGap (first second third : Truth) (a b c : ℕ) : Type 0 where
 
 -- there is no gap
 abbrev pub NoGap : Truth → Truth → Truth → ℕ → ℕ → ℕ → Type 0
-NoGap first second third starts middles ends = (a b c : ℕ) → a < starts → b < middles → c < ends → ¬ (IsGap first second third a b c)
+NoGap first second third starts middles ends = (a b c : ℕ) → a < starts → b < middles → c < ends
+    → ¬ (IsGap first second third a b c)
 
 -- ---- the search for one
 

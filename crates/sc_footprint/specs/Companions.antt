@@ -20,12 +20,14 @@ pub record IsSpanOf (d : Declarations) (xs : List Node) (ns : List ℕ) (n : ℕ
   pub stands : stood xs (between ns s) ≡ follow d (tree xs n)
 
 -- of each of these terms
-pub record AreListed (d : Declarations) (xs : List Node) (terms : List ℕ) (spans : List Span) (ns : List ℕ) : Type 0 where
+pub record AreListed (d : Declarations) (xs : List Node) (terms : List ℕ) (spans : List Span)
+    (ns : List ℕ) : Type 0 where
   pub within : AllByRecursion (λ n. n < length xs) ns
   pub each : AllZip (IsSpanOf d xs ns) terms spans
 
 -- What goes with the first of some terms is listed, while the table grows: these are the ones to come.
-pub record IsListing (d : Declarations) (first now : List Node) (all rest : List ℕ) (spans : List Span) (ns : List ℕ) : Type 0 where
+pub record IsListing (d : Declarations) (first now : List Node) (all rest : List ℕ) (spans : List Span)
+    (ns : List ℕ) : Type 0 where
   pub kept : Keeps first now
   pub done : List ℕ
   pub are : all ≡ done ++ rest

@@ -1,4 +1,5 @@
--- The clauses that define a problem: those of each listed atom by its definition, those of each address, and last the goal.
+-- The clauses that define a problem: those of each listed atom by its definition, those of each address, and last the
+-- goal.
 use Rattle.std.specs.Prelude.{◌&&◌, ℕ, ◌+◌, Bool, true, false, not, List, [], ◌∷◌, ◌++◌, map, filter, flat_map, length, Option, Some, None, if◌then◌else◌}
 use Rattle.std.specs.List.{list_any}
 use Rattle.sc_sorts.specs.declared.sort.Sort.{Sort, Sort-F, out-Sort}
@@ -94,7 +95,8 @@ is_other None = true
 abbrev pub is_address : Tree → Bool
 is_address t = is_address_in (out-Sort (tree_sort t)) && is_other (literal_of t)
 
--- ---- all of them: the definitions by the numbers of their atoms, the addresses in the order of terms, and the goal's literal
+-- ---- all of them: the definitions by the numbers of their atoms, the addresses in the order of terms, and the
+-- goal's literal
 
 abbrev pub defining : Posed → List Clause
 defining p =

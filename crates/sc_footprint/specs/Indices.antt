@@ -1,5 +1,5 @@
--- What a problem keeps of its atoms, of what goes with its terms, and of its terms by sorts, and how literals go down negations. No
--- public promise speaks of it.
+-- What a problem keeps of its atoms, of what goes with its terms, and of its terms by sorts, and how literals go down
+-- negations. No public promise speaks of it.
 use Rattle.std.specs.Prelude.{◌≡◌, ◌<◌, ◌&&◌, ℕ, Bool, true, false, List, [], map, find, length, Option, Some, None, if◌then◌else◌}
 use Rattle.std.specs.List.{AllByRecursion}
 use Rattle.sc_names.specs.declared.uid.Uid.{Uid}
@@ -23,7 +23,8 @@ use Rattle.sc_footprint.specs.Shelves.{shelf}
 
 -- the problem of a goal's number
 abbrev pub problem_of : Declarations → Env → List Uid → List Node → ℕ → List ℕ → Posed
-problem_of d env literals xs goal closed = record { schema = d; env = env; literals = literals; nodes = xs; goal = goal; closed = closed }
+problem_of d env literals xs goal closed =
+    record { schema = d; env = env; literals = literals; nodes = xs; goal = goal; closed = closed }
 
 -- the terms of the first shelf of a kind and of a term's sort
 abbrev pub is_shelf : List Node → Kind → ℕ → Shelf → Bool
@@ -39,10 +40,12 @@ terms_at xs ss k n = terms_on (find (is_shelf xs k n) ss)
 pub record AreShelves (p : Posed) (ss : List Shelf) : Type 0 where
   pub keys_within : AllByRecursion (λ (s : Shelf). s.key < length p.nodes) ss
   pub within : AllByRecursion (λ (s : Shelf). AllByRecursion (λ n. n < length p.nodes) s.terms.items) ss
-  pub each : (k : Kind) (n : ℕ) → n < length p.nodes → stood p.nodes (terms_at p.nodes ss k n) ≡ shelf p k (tree p.nodes n)
+  pub each : (k : Kind) (n : ℕ) → n < length p.nodes
+      → stood p.nodes (terms_at p.nodes ss k n) ≡ shelf p k (tree p.nodes n)
 
 -- a problem of a goal, its atoms by their numbers in the table, what goes with its terms, and its terms by sorts
-pub record IsKept (p : Posed) (atom_terms : List ℕ) (spans : List Span) (companions : List ℕ) (ss : List Shelf) : Type 0 where
+pub record IsKept (p : Posed) (atom_terms : List ℕ) (spans : List Span) (companions : List ℕ)
+    (ss : List Shelf) : Type 0 where
   pub posed : IsPosed p
   pub atoms_within : AllByRecursion (λ n. n < length p.nodes) atom_terms
   pub atoms_are : map (tree p.nodes) atom_terms ≡ atoms p

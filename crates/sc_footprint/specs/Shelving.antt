@@ -28,7 +28,8 @@ abbrev pub if_so : Bool → ℕ → List ℕ
 if_so true n = n ∷ []
 if_so false n = []
 
--- a term more is last on each shelf that passes a test of its kind and of a term of its sort, and the others are as they were
+-- a term more is last on each shelf that passes a test of its kind and of a term of its sort, and the others are as
+-- they were
 pub record IsAdded (xs : List Node) (old new : List Shelf) (n : ℕ) (test : Kind → ℕ → Bool) : Type 0 where
   pub within : AreWithin xs new
   pub each : (k : Kind) (m : ℕ) → m < length xs → terms_at xs new k m ≡ terms_at xs old k m ++ if_so (test k m) n
@@ -44,7 +45,8 @@ is_like xs kind_is key k m = same_kind kind_is k && one_sort (tree xs key) (tree
 
 -- the shelf of a candidate's sort, if the term is one of these candidates
 abbrev pub is_among : List Node → List ℕ → ℕ → Kind → ℕ → Bool
-is_among xs candidates n k m = same_kind kind.Candidate k && (not (place_among candidates n == 0) && one_sort (tree xs n) (tree xs m))
+is_among xs candidates n k m =
+    same_kind kind.Candidate k && (not (place_among candidates n == 0) && one_sort (tree xs n) (tree xs m))
 
 -- the entity that a term of a kind tells of
 abbrev pub told_of : Kind → Tree → Option Tree
@@ -74,7 +76,8 @@ pub record AreShelving (xs : List Node) (all rest : List ℕ) (ss : List Shelf) 
 pub record AreShelved (xs : List Node) (ns : List ℕ) (ss : List Shelf) : Type 0 where
   pub within : AreWithin xs ss
   pub each : (k : Kind) (m : ℕ) → m < length xs
-      → stood xs (terms_at xs ss k m) ≡ filter (λ t. is_of_kind (stood xs ns) k t && has_key_like (tree xs m) (key_of k t)) (stood xs ns)
+      → stood xs (terms_at xs ss k m)
+      ≡ filter (λ t. is_of_kind (stood xs ns) k t && has_key_like (tree xs m) (key_of k t)) (stood xs ns)
 
 -- which kind a node's term is of that tells of an entity, and the entity
 abbrev pub node_owned : Node → Option (Kind × ℕ)
@@ -95,7 +98,8 @@ node_candidates n _ = []
 
 -- the numbers of just the candidates that terms tell of
 abbrev pub AreCandidates : List Node → List ℕ → List ℕ → Type 0
-AreCandidates xs ns candidates = (n : ℕ) → n < length xs → Has candidates n ↔ (is_candidate (stood xs ns) (tree xs n) ≡ true)
+AreCandidates xs ns candidates = (n : ℕ) → n < length xs → Has candidates n
+    ↔ (is_candidate (stood xs ns) (tree xs n) ≡ true)
 
 -- those of the first terms, where these are to come
 pub record AreCandidatesSoFar (xs : List Node) (all rest candidates : List ℕ) : Type 0 where

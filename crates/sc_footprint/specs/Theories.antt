@@ -26,7 +26,8 @@ IsClauseOf p c = (l : Lit) → Contains c l → IsListed (length (atoms p)) l ×
 
 -- each closed term of a goal is a term of its sort
 abbrev pub ClosedAreTerms : Type 0
-ClosedAreTerms = (d : Declarations) (env : Env) (literals : List Uid) (goal t : Tree) → IsLawful d → IsGoal d env literals goal → Closed d env goal t → IsTermOf d env literals (tree_sort t) t
+ClosedAreTerms = (d : Declarations) (env : Env) (literals : List Uid) (goal t : Tree) → IsLawful d
+    → IsGoal d env literals goal → Closed d env goal t → IsTermOf d env literals (tree_sort t) t
 
 -- What is proved of all terms. A theory's laws may rest on it, and `problem_laws` gives it.
 pub record TermsHold : Type 0 where

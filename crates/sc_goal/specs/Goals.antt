@@ -42,4 +42,5 @@ all_compiled s env ps = all_by (compiled s env) ps
 
 -- the goal, where all policies are typed
 abbrev pub goal_term : Declarations → Env → Question → List Policy → List Policy → Option Tree
-goal_term s env q a b = option_and_then (λ (x : List Compiled). option_map (goal_of q x) (all_compiled s env b)) (all_compiled s env a)
+goal_term s env q a b = option_and_then (λ (x : List Compiled). option_map (goal_of q x) (all_compiled s env b))
+    (all_compiled s env a)

@@ -21,6 +21,8 @@ pub record HasPlaces {K : Type 0} (keys : List K) (next : ℕ → List K) (graph
 
 -- a node follows another just where its key follows the other's key; what a key follows is a key
 pub record IsOfKeys {K : Type 0} (keys : List K) (follows : K → K → Type 0) (graph : List (List ℕ)) : Type 0 where
-  pub sound : (i n : ℕ) (a : K) → slice_get keys i ≡ Some a → Follows graph i n → (b : K) × (slice_get keys n ≡ Some b) × follows a b
-  pub complete : (i : ℕ) (a b : K) → slice_get keys i ≡ Some a → follows a b → Contains keys b → (n : ℕ) × (slice_get keys n ≡ Some b) × Follows graph i n
+  pub sound : (i n : ℕ) (a : K) → slice_get keys i ≡ Some a → Follows graph i n → (b : K)
+      × (slice_get keys n ≡ Some b) × follows a b
+  pub complete : (i : ℕ) (a b : K) → slice_get keys i ≡ Some a → follows a b → Contains keys b → (n : ℕ)
+      × (slice_get keys n ≡ Some b) × Follows graph i n
   pub known : (a b : K) → follows a b → Contains keys a

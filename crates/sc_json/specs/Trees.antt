@@ -15,7 +15,8 @@ pub record HasTree (bytes : List ℕ) (d : Data) : Type 0 where
 -- ---- what a file says
 
 -- the bytes say a value: their tree has no fault, and means it
-pub record Says {W F : Type 0} (first_fault : Data → Option F) (meaning : Data → W) (bytes : List ℕ) (w : W) : Type 0 where
+pub record Says {W F : Type 0} (first_fault : Data → Option F) (meaning : Data → W) (bytes : List ℕ)
+    (w : W) : Type 0 where
   pub d : Data
   pub tree : HasTree bytes d
   pub no_fault : first_fault d ≡ None
@@ -24,7 +25,8 @@ pub record Says {W F : Type 0} (first_fault : Data → Option F) (meaning : Data
 -- the bytes have a fault: they are the text of no tree, or their tree has it first
 pub data Fails {F : Type 0} (not_json : F) (first_fault : Data → Option F) (bytes : List ℕ) : F → Type 0 where
   no_tree : ((d : Data) → ¬ HasTree bytes d) → Fails not_json first_fault bytes not_json
-  in_tree : (d : Data) (fault : F) → HasTree bytes d → first_fault d ≡ Some fault → Fails not_json first_fault bytes fault
+  in_tree : (d : Data) (fault : F) → HasTree bytes d → first_fault d ≡ Some fault
+      → Fails not_json first_fault bytes fault
 
 -- ---- trees that are read
 

@@ -99,7 +99,8 @@ accepts skipped (x ∷ items) (b ∷ marks) = not (refuses x (b || skipped)) && 
 abbrev pub is_dead : Bool → Bool → List Item → List Bool → Bool
 is_dead any star [] marks = false
 is_dead any star (x ∷ items) [] = false
-is_dead any star (x ∷ items) (b ∷ marks) = dies x (any || b) star || is_dead (kept x (any || b)) (is_star_item x && b) items marks
+is_dead any star (x ∷ items) (b ∷ marks) =
+    dies x (any || b) star || is_dead (kept x (any || b)) (is_star_item x && b) items marks
 
 -- ---- what the automaton means
 
@@ -116,7 +117,8 @@ abbrev pub completes : List Item → List Bool → Bool → List ℕ → Bool
 completes [] marks known text = true
 completes (x ∷ items) [] known text = true
 completes (x ∷ items) (b ∷ marks) known text =
-    not (refuses x (known || (b && fits (x ∷ items) text))) && completes items marks (kept x (known || (b && fits (x ∷ items) text))) text
+    not (refuses x (known || (b && fits (x ∷ items) text)))
+    && completes items marks (kept x (known || (b && fits (x ∷ items) text))) text
 
 -- a whole text gives each pattern its sign
 abbrev pub obeys : List Item → List ℕ → Bool

@@ -90,7 +90,8 @@ IsMet items es marks = Has (places_of es) marks ⊎ IsDead items marks
 abbrev pub IsStepped : List Item → List (List ℕ) → List Bool → List ℕ → ℕ → List Entry → List Entry → Type 0
 IsStepped items words marks word d old new =
     ((new ≡ old) × (IsOn words (word ++ d ∷ []) ⊎ IsMet items old (step d false false items marks)))
-    ⊎ ((new ≡ old ++ (step d false false items marks, word ++ d ∷ []) ∷ []) × (accepts false items (step d false false items marks) ≡ false) × IsOff words (word ++ d ∷ []))
+    ⊎ ((new ≡ old ++ (step d false false items marks, word ++ d ∷ []) ∷ [])
+    × (accepts false items (step d false false items marks) ≡ false) × IsOff words (word ++ d ∷ []))
 
 -- an entry: its text leads to its marks, isn't sought, and is a prefix of no excluded text
 pub record IsEntry (items : List Item) (words : List (List ℕ)) (e : Entry) : Type 0 where
@@ -101,9 +102,11 @@ pub record IsEntry (items : List Item) (words : List (List ℕ)) (e : Entry) : T
 
 -- After an entry was followed, the marks behind each character of the alphabet are in the queue or dead, or the text
 -- is a prefix of an excluded one; no appended text is sought.
-pub record IsFollowed (items : List Item) (symbols : List ℕ) (words : List (List ℕ)) (marks : List Bool) (word : List ℕ) (old new : List Entry) : Type 0 where
+pub record IsFollowed (items : List Item) (symbols : List ℕ) (words : List (List ℕ)) (marks : List Bool)
+    (word : List ℕ) (old new : List Entry) : Type 0 where
   pub longer : (more : List Entry) × (new ≡ old ++ more)
-  pub only : (e : Entry) → Has new e → Has old e ⊎ ((d : ℕ) × IsScalar d × (accepts false items (step d false false items marks) ≡ false)
+  pub only : (e : Entry) → Has new e → Has old e
+      ⊎ ((d : ℕ) × IsScalar d × (accepts false items (step d false false items marks) ≡ false)
       × (e ≡ (step d false false items marks, word ++ d ∷ [])) × IsOff words (word ++ d ∷ []))
   pub all : (d : ℕ) → Has symbols d → IsOn words (word ++ d ∷ []) ⊎ IsMet items new (step d false false items marks)
 
@@ -122,7 +125,8 @@ pub record IsFound (items : List Item) (words : List (List ℕ)) (found : List �
   pub other : ¬ (Has words found)
 
 -- a text was visited: if it gives each pattern its sign it is excluded, and the marks behind it are in the queue
-pub record IsVisited (items : List Item) (symbols : List ℕ) (words : List (List ℕ)) (es : List Entry) (word : List ℕ) : Type 0 where
+pub record IsVisited (items : List Item) (symbols : List ℕ) (words : List (List ℕ)) (es : List Entry)
+    (word : List ℕ) : Type 0 where
   pub marks : List Bool
   pub leads : (text : List ℕ) → completes items marks false text ≡ obeys items (word ++ text)
   pub known : accepts false items marks ≡ true → Has words word
@@ -133,13 +137,15 @@ abbrev pub IsWalkedTo : List Item → List ℕ → List (List ℕ) → List Entr
 IsWalkedTo items symbols words es whole n = (k : ℕ) → k < n → IsVisited items symbols words es (take k whole)
 
 -- the queue, when the prefixes of these excluded texts were visited
-pub record AreEntries (items : List Item) (symbols : List ℕ) (words front : List (List ℕ)) (es : List Entry) : Type 0 where
+pub record AreEntries (items : List Item) (symbols : List ℕ) (words front : List (List ℕ))
+    (es : List Entry) : Type 0 where
   pub entries : (e : Entry) → Has es e → IsEntry items words e
   pub first : IsVisited items symbols words es []
   pub walked : (w : List ℕ) → Has front w → IsWalkedTo items symbols words es w (length w + 1)
 
 -- the prefixes of a text shorter than n are visited now
-pub record IsWalk (items : List Item) (symbols : List ℕ) (words : List (List ℕ)) (old new : List Entry) (whole : List ℕ) (n : ℕ) : Type 0 where
+pub record IsWalk (items : List Item) (symbols : List ℕ) (words : List (List ℕ)) (old new : List Entry)
+    (whole : List ℕ) (n : ℕ) : Type 0 where
   pub longer : (more : List Entry) × (new ≡ old ++ more)
   pub entries : (e : Entry) → Has new e → IsEntry items words e
   pub walked : IsWalkedTo items symbols words new whole n
@@ -150,7 +156,8 @@ pub record IsAt (items : List Item) (marks : List Bool) (word : List ℕ) : Type
   pub leads : (text : List ℕ) → completes items marks false text ≡ obeys items (word ++ text)
 
 -- the first i entries of the queue were followed
-pub record IsSearch (items : List Item) (symbols : List ℕ) (words : List (List ℕ)) (es : List Entry) (i : ℕ) : Type 0 where
+pub record IsSearch (items : List Item) (symbols : List ℕ) (words : List (List ℕ)) (es : List Entry)
+    (i : ℕ) : Type 0 where
   pub are : AreEntries items symbols words words es
   pub done : (e : Entry) → Has (take i es) e → (d : ℕ) → Has symbols d → IsMet items es (step d false false items e.0)
 

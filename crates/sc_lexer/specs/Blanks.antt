@@ -27,7 +27,8 @@ pub record BeginsNoComment (bytes : List ℕ) : Type 0 where
 pub data Skips : List ℕ → List ℕ → Type 0 where
   none : (bytes : List ℕ) → BeginsNoSpace bytes → BeginsNoComment bytes → Skips bytes bytes
   space : (c : ℕ) (rest left : List ℕ) → is_whitespace c ≡ true → Skips rest left → Skips (encode_utf8 c ++ rest) left
-  comment : (line rest left : List ℕ) → list_all stays_in_line line ≡ true → EndsLine rest → Skips rest left → Skips (codes "//" ++ (line ++ rest)) left
+  comment : (line rest left : List ℕ) → list_all stays_in_line line ≡ true → EndsLine rest → Skips rest left
+      → Skips (codes "//" ++ (line ++ rest)) left
 
 -- what is left after white space and comments of the second bytes is left of the first
 pub record Leads (bytes rest : List ℕ) : Type 0 where

@@ -17,8 +17,10 @@ is_letter c = (c == 110) || (c == 114) || (c == 116) || (c == 48) || (c == 92) |
 pub data IsEscape (like : Bool) : List ℕ → Type 0 where
   letter : (c : ℕ) → is_letter c ≡ true → IsEscape like (c ∷ [])
   star : like ≡ true → IsEscape like (codes "*")
-  ascii : (digits : List ℕ) → list_all is_ascii_hexdigit digits ≡ true → length digits ≡ 2 → digits_value 16 digits ≤ 127 → IsEscape like (codes "x" ++ digits)
-  code : (digits : List ℕ) → list_all is_ascii_hexdigit digits ≡ true → 1 ≤ length digits → length digits ≤ 6 → IsScalar (digits_value 16 digits)
+  ascii : (digits : List ℕ) → list_all is_ascii_hexdigit digits ≡ true → length digits ≡ 2
+      → digits_value 16 digits ≤ 127 → IsEscape like (codes "x" ++ digits)
+  code : (digits : List ℕ) → list_all is_ascii_hexdigit digits ≡ true → 1 ≤ length digits → length digits ≤ 6
+      → IsScalar (digits_value 16 digits)
       → IsEscape like (codes "u{" ++ (digits ++ codes "}"))
 
 -- the bytes are escapes and bytes that stand for themselves
@@ -41,13 +43,15 @@ letter_char c = if c == 110 then 10 else (if c == 114 then 13 else (if c == 116 
 unfoldable pub ascii_of : List ℕ → Option Escape
 ascii_of bytes =
     let digits = take 2 (take_while is_ascii_hexdigit bytes) in
-    if nat_eq (length digits) 2 && nat_le (digits_value 16 digits) 127 then Some (record { piece = Char (digits_value 16 digits); len = 3 }) else None
+    if nat_eq (length digits) 2 && nat_le (digits_value 16 digits) 127
+    then Some (record { piece = Char (digits_value 16 digits); len = 3 }) else None
 
 -- the escape after whose `u{` these bytes stand
 unfoldable pub braced_of : List ℕ → Option Escape
 braced_of bytes =
     let digits = take_while is_ascii_hexdigit bytes in
-    if nat_le 1 (length digits) && nat_le (length digits) 6 && (slice_index bytes (length digits) == 125) && scalar (digits_value 16 digits)
+    if nat_le 1 (length digits) && nat_le (length digits) 6 && (slice_index bytes (length digits) == 125)
+    && scalar (digits_value 16 digits)
     then Some (record { piece = Char (digits_value 16 digits); len = length digits + 3 }) else None
 
 -- the escape after whose `u` these bytes stand

@@ -29,4 +29,5 @@ pub record IsNext (like : Bool) (bytes : List ℕ) (kind : Kind) (len : ℕ) : T
 -- why there is no such token, where the bytes stand at a place of the file
 pub data Stops (like : Bool) (bytes : List ℕ) (at : ℕ) : LexFault → Type 0 where
   lacks_token : BeginsNoToken bytes → Stops like bytes at (BadToken at)
-  lacks_escape : (text rest front back : List ℕ) → BeginsWith bytes text rest Str → IsBadEscape like text front back → Stops like bytes at (BadEscape (at + length front))
+  lacks_escape : (text rest front back : List ℕ) → BeginsWith bytes text rest Str → IsBadEscape like text front back
+      → Stops like bytes at (BadEscape (at + length front))

@@ -21,7 +21,8 @@ pub data Spells : List ℕ → List Piece → Type 0 where
   nothing : Spells [] []
   character : (c : ℕ) (cs : List ℕ) (ps : List Piece) → c ≢ 92 → c ≢ 42 → Spells cs ps → Spells (c ∷ cs) (Char c ∷ ps)
   wildcard : (cs : List ℕ) (ps : List Piece) → Spells cs ps → Spells (42 ∷ cs) (Star ∷ ps)
-  escaped : (e cs : List ℕ) (p : Piece) (ps : List Piece) → IsEscape true e → Means e p → Spells cs ps → Spells (92 ∷ (e ++ cs)) (p ∷ ps)
+  escaped : (e cs : List ℕ) (p : Piece) (ps : List Piece) → IsEscape true e → Means e p → Spells cs ps
+      → Spells (92 ∷ (e ++ cs)) (p ∷ ps)
 
 -- the bytes between the quotes of a string
 abbrev pub quoted : List ℕ → List ℕ

@@ -31,11 +31,16 @@ HasEscapes like kind text = kind ≡ Str → IsSpelled like text
 -- what is read of the last bytes of a file of `whole` bytes; like tells that the token before them is the word `like`
 pub data Reads (whole : ℕ) : Bool → List ℕ → Result (List Token) LexFault → Type 0 where
   ends : (like : Bool) (bytes : List ℕ) → Skips bytes [] → Reads whole like bytes (Ok [])
-  no_token : (like : Bool) (bytes left : List ℕ) → Skips bytes left → left ≢ [] → BeginsNoToken left → Reads whole like bytes (Err (BadToken (whole - length left)))
-  bad_escape : (like : Bool) (bytes left text rest front back : List ℕ) → Skips bytes left → BeginsWith left text rest Str
-      → IsBadEscape like text front back → Reads whole like bytes (Err (BadEscape (whole - length (92 ∷ (back ++ rest)))))
-  some_token : (like : Bool) (bytes left text rest : List ℕ) (kind : Kind) (others : Result (List Token) LexFault) → Skips bytes left → BeginsWith left text rest kind
-      → HasEscapes like kind text → Reads whole (bytes_eq text (codes "like")) rest others → Reads whole like bytes (before (token_of whole kind text rest) others)
+  no_token : (like : Bool) (bytes left : List ℕ) → Skips bytes left → left ≢ [] → BeginsNoToken left
+      → Reads whole like bytes (Err (BadToken (whole - length left)))
+  bad_escape : (like : Bool) (bytes left text rest front back : List ℕ) → Skips bytes left
+      → BeginsWith left text rest Str
+      → IsBadEscape like text front back
+      → Reads whole like bytes (Err (BadEscape (whole - length (92 ∷ (back ++ rest)))))
+  some_token : (like : Bool) (bytes left text rest : List ℕ) (kind : Kind) (others : Result (List Token) LexFault)
+      → Skips bytes left → BeginsWith left text rest kind
+      → HasEscapes like kind text → Reads whole (bytes_eq text (codes "like")) rest others
+      → Reads whole like bytes (before (token_of whole kind text rest) others)
 
 -- the tokens of a file of these bytes, or its first fault
 pub data Lexes (bytes : List ℕ) : Result (List Token) LexFault → Type 0 where

@@ -13,8 +13,8 @@ abbrev pub is_number : List ℕ → Bool
 is_number [] = false
 is_number (c ∷ cs) = list_all is_ascii_digit (c ∷ cs)
 
--- the last byte is the first quote, where each backslash takes the byte after it along. Of a longer character that is the
--- first byte; its others are neither quotes nor backslashes
+-- the last byte is the first quote, where each backslash takes the byte after it along. Of a longer character that is
+-- the first byte; its others are neither quotes nor backslashes
 unfoldable pub closes : List ℕ → Bool
 closes [] = false
 closes (c ∷ []) = c == 34
@@ -79,7 +79,8 @@ kind_of t =
 pub record BeginsWith (bytes text rest : List ℕ) (kind : Kind) : Type 0 where
   pub parts : bytes ≡ text ++ rest
   pub is : kind_of text ≡ Some kind
-  pub longest : (longer others : List ℕ) (other : Kind) → bytes ≡ longer ++ others → kind_of longer ≡ Some other → length longer ≤ length text
+  pub longest : (longer others : List ℕ) (other : Kind) → bytes ≡ longer ++ others → kind_of longer ≡ Some other
+      → length longer ≤ length text
 
 -- no token begins the bytes
 abbrev pub BeginsNoToken : List ℕ → Type 0

@@ -39,10 +39,12 @@ likely_sign b = if b == 46 then None else Some (b == 43)
 
 -- a word that begins with `+`, `-` or `.` could only be signs
 abbrev pub likely_word : List ℕ → Word
-likely_word w = if begins_with 43 w || begins_with 45 w || begins_with 46 w then Signs (map likely_sign w) else Number (digits_value 10 w)
+likely_word w = if begins_with 43 w || begins_with 45 w || begins_with 46 w then Signs (map likely_sign w)
+    else Number (digits_value 10 w)
 
 abbrev pub likely_lit : List ℕ → Lit
-likely_lit w = if begins_with 45 w then record { atom = digits_value 10 (drop 1 w); negated = true } else record { atom = digits_value 10 w; negated = false }
+likely_lit w = if begins_with 45 w then record { atom = digits_value 10 (drop 1 w); negated = true }
+    else record { atom = digits_value 10 w; negated = false }
 
 -- the words before the first `0`, and those after it
 abbrev pub before_zero : List (List ℕ) → List (List ℕ)
@@ -54,13 +56,17 @@ after_zero [] = []
 after_zero (w ∷ ws) = if bytes_eq w zero_text then ws else after_zero ws
 
 abbrev pub likely_learned : List (List ℕ) → learned.Learned
-likely_learned ws = record { clause = map likely_lit (before_zero ws); hints = map (digits_value 10) (before_zero (after_zero ws)) }
+likely_learned ws = record {
+  clause = map likely_lit (before_zero ws);
+  hints = map (digits_value 10) (before_zero (after_zero ws));
+}
 
 abbrev pub likely_instance : List (List ℕ) → instance.Instance
 likely_instance ws = record { rule = get_or ws 0 []; words = map likely_word (drop 1 ws) }
 
 abbrev pub likely_step : List (List ℕ) → Step
-likely_step ws = if begins_with 108 (get_or ws 0 []) then Learned (likely_learned (drop 1 ws)) else Instance (likely_instance (drop 1 ws))
+likely_step ws = if begins_with 108 (get_or ws 0 []) then Learned (likely_learned (drop 1 ws))
+    else Instance (likely_instance (drop 1 ws))
 
 -- ---- what it is
 

@@ -56,7 +56,8 @@ first_saying p names s (n ∷ ns) = if says p names s (tree p.nodes n) then Some
 
 -- ---- worked rows
 
-pub resource_is_no_principal : (p : Posed) (names : List (List ℕ)) (k : Sort) → says p names Principal (leaf (leafs.Resource k)) ≡ false
+pub resource_is_no_principal : (p : Posed) (names : List (List ℕ)) (k : Sort)
+    → says p names Principal (leaf (leafs.Resource k)) ≡ false
 resource_is_no_principal p names k = refl
 
 pub none_says : (p : Posed) (names : List (List ℕ)) (s : Sought) → first_saying p names s [] ≡ None

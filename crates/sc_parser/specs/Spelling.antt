@@ -45,9 +45,11 @@ pub data HasFault (bytes : List ℕ) : PolicyFault → Type 0 where
   ill_formed : {n : ℕ} → Lexes bytes (Err (BadUtf8 n)) → HasFault bytes (fault.BadUtf8 (record { offset = n }))
   no_token : {n : ℕ} → Lexes bytes (Err (BadToken n)) → HasFault bytes (fault.BadToken (record { offset = n }))
   no_escape : {n : ℕ} → Lexes bytes (Err (BadEscape n)) → HasFault bytes (fault.BadEscape (record { offset = n }))
-  unexpected : {ts : List Lexeme} {n : ℕ} {l : Lexeme} → AreLexemes bytes ts → slice_get ts n ≡ Some l → IsUnexpected ts n → HasFault bytes (fault.Unexpected l.place)
+  unexpected : {ts : List Lexeme} {n : ℕ} {l : Lexeme} → AreLexemes bytes ts → slice_get ts n ≡ Some l
+      → IsUnexpected ts n → HasFault bytes (fault.Unexpected l.place)
   unexpected_end : {ts : List Lexeme} → AreLexemes bytes ts → IsUnexpectedEnd ts → HasFault bytes fault.UnexpectedEnd
-  passed : {ts : List Lexeme} {f : Stop} {n : ℕ} {l : Lexeme} → AreLexemes bytes ts → slice_get ts n ≡ Some l → Passes ts f n → HasFault bytes (fault_of f l.place)
+  passed : {ts : List Lexeme} {f : Stop} {n : ℕ} {l : Lexeme} → AreLexemes bytes ts → slice_get ts n ≡ Some l
+      → Passes ts f n → HasFault bytes (fault_of f l.place)
 
 -- what a file is read as: the policies that it spells, or its first fault
 pub data IsReading (bytes : List ℕ) : Result (List Policy) PolicyFault → Type 0 where

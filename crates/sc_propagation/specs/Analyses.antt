@@ -15,7 +15,8 @@ IsMet met m = slice_index_or met m.atom false ≡ true
 -- The hints refute any set of true literals that holds the met ones which are true before place i.
 abbrev pub RefutesMet : List Clause → List Cell → ℕ → ℕ → List Bool → List ℕ → Type 0
 RefutesMet clauses cells p i met hints =
-    (known : List Lit) → ((m : Lit) → true_before cells i m ≡ true → IsMet met m → Contains known m) → ((m : Lit) → Contains known m → true_before cells p m ≡ true)
+    (known : List Lit) → ((m : Lit) → true_before cells i m ≡ true → IsMet met m → Contains known m)
+    → ((m : Lit) → Contains known m → true_before cells p m ≡ true)
     → Refutes clauses known (reverse hints)
 
 -- the learned clause has the negation of each met literal that was true before the level
@@ -55,7 +56,8 @@ abbrev pub IsHighest : List ℕ → ℕ → Type 0
 IsHighest levels first = (Contains levels first) × ((k : ℕ) → Contains levels k → k ≤ first)
 
 -- The learned clause: literals that were false before the level, and the negation of one that became true in it.
-pub record IsResolvent (clauses : List Clause) (cells : List Cell) (p first : ℕ) (lower : List Lit) (uip : Lit) (hints : List ℕ) : Type 0 where
+pub record IsResolvent (clauses : List Clause) (cells : List Cell) (p first : ℕ) (lower : List Lit) (uip : Lit)
+    (hints : List ℕ) : Type 0 where
   pub refutes : Refutes clauses (map negation (negation uip ∷ lower)) hints
   pub is_new : IsNew clauses (negation uip ∷ lower)
   pub are_lower : AreLower cells first lower

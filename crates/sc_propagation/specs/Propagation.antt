@@ -8,11 +8,13 @@ use Rattle.sc_clauses.specs.Clauses.{Clause, negation}
 -- and in turn the one literal of a clause whose others are false.
 pub data Follows (clauses : List Clause) (c : Clause) (l : Lit) : Lit → Type 0 where
   assumed : (m x : Lit) → Contains c m → m ≢ l → x ≡ negation m → Follows clauses c l x
-  unit : (d : Clause) (x : Lit) → Contains clauses d → Contains d x → ((m : Lit) → Contains d m → m ≢ x → Follows clauses c l (negation m)) → Follows clauses c l x
+  unit : (d : Clause) (x : Lit) → Contains clauses d → Contains d x
+      → ((m : Lit) → Contains d m → m ≢ x → Follows clauses c l (negation m)) → Follows clauses c l x
 
 -- a conflict: it makes all literals of some clause false
 abbrev pub Conflicts : List Clause → Clause → Lit → Type 0
-Conflicts clauses c l = (d : Clause) × Contains clauses d × ((m : Lit) → Contains d m → Follows clauses c l (negation m))
+Conflicts clauses c l = (d : Clause) × Contains clauses d
+    × ((m : Lit) → Contains d m → Follows clauses c l (negation m))
 
 -- where the other literals of c are false, propagation gives neither its literal l nor a conflict
 abbrev pub IsNewBy : List Clause → Clause → Lit → Type 0
@@ -26,7 +28,8 @@ IsNew clauses c = (l : Lit) × IsNewBy clauses c l
 abbrev pub IsSettledBy : List Lit → Clause → Type 0
 IsSettledBy known c =
     ((y : Lit) × Contains c y × Contains known y)
-    ⊎ ((y : Lit) × (z : Lit) × Contains c y × Contains c z × (y ≢ z) × ¬ Contains known (negation y) × ¬ Contains known (negation z))
+    ⊎ ((y : Lit) × (z : Lit) × Contains c y × Contains c z × (y ≢ z) × ¬ Contains known (negation y)
+    × ¬ Contains known (negation z))
 
 abbrev pub AreFalseBy : List Lit → Clause → Type 0
 AreFalseBy known c = (m : Lit) → Contains c m → Contains known (negation m)
@@ -36,8 +39,11 @@ AreFalseBy known c = (m : Lit) → Contains c m → Contains known (negation m)
 -- at rest: each clause has a true literal, or two that aren't false.
 pub data IsReached (clauses : List Clause) : List Lit → Type 0 where
   at_first : IsReached clauses []
-  implied : (known : List Lit) (c : Clause) (l : Lit) → IsReached clauses known → Contains clauses c → Contains c l → ((m : Lit) → Contains c m → m ≢ l → Contains known (negation m)) → IsReached clauses (l ∷ known)
-  decided : (known : List Lit) (l : Lit) → IsReached clauses known → ((c : Clause) → Contains clauses c → IsSettledBy known c) → ¬ Contains known (negation l) → IsReached clauses (l ∷ known)
+  implied : (known : List Lit) (c : Clause) (l : Lit) → IsReached clauses known → Contains clauses c → Contains c l
+      → ((m : Lit) → Contains c m → m ≢ l → Contains known (negation m)) → IsReached clauses (l ∷ known)
+  decided : (known : List Lit) (l : Lit) → IsReached clauses known
+      → ((c : Clause) → Contains clauses c → IsSettledBy known c) → ¬ Contains known (negation l)
+      → IsReached clauses (l ∷ known)
 
 -- decisions and propagation make all literals of this clause false
 abbrev pub FallsBy : List Clause → Clause → Type 0

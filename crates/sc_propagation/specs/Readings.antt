@@ -36,11 +36,13 @@ AreFalse cells p c = (m : Lit) → Contains c m → true_before cells p (negatio
 
 -- one literal is open, and the others are false
 abbrev pub IsUnitAt : List Cell → ℕ → Clause → Lit → Type 0
-IsUnitAt cells p c l = (Contains c l) × (cell_of cells l ≡ Free) × ((m : Lit) → Contains c m → m ≢ l → true_before cells p (negation m) ≡ true)
+IsUnitAt cells p c l = (Contains c l) × (cell_of cells l ≡ Free)
+    × ((m : Lit) → Contains c m → m ≢ l → true_before cells p (negation m) ≡ true)
 
 -- two literals are open
 abbrev pub AreTwoOpen : List Cell → Clause → Watch → Type 0
-AreTwoOpen cells c w = (Contains c w.first) × (Contains c w.second) × (w.first ≢ w.second) × (cell_of cells w.first ≡ Free) × (cell_of cells w.second ≡ Free)
+AreTwoOpen cells c w = (Contains c w.first) × (Contains c w.second) × (w.first ≢ w.second)
+    × (cell_of cells w.first ≡ Free) × (cell_of cells w.second ≡ Free)
 
 abbrev pub HasStatus : List Cell → ℕ → Clause → Status → Type 0
 HasStatus cells p c (status.Satisfied y) = (Contains c y) × (true_before cells p y ≡ true)

@@ -30,9 +30,12 @@ IsClause atoms c = (l : Lit) → Contains c l → IsListed atoms l × ¬ Contain
 -- Reverse unit propagation: where some literals are true, each hint in turn names a clause that is false but for one
 -- literal, which is true from then on; the last one is false as a whole.
 pub data Refutes (clauses : List Clause) : List Lit → List ℕ → Type 0 where
-  conflict : (known : List Lit) (h : ℕ) (c : Clause) → IsNumbered clauses h c → ((m : Lit) → Contains c m → Contains known (negation m)) → Refutes clauses known (h ∷ [])
-  one_left : (known : List Lit) (h : ℕ) (hints : List ℕ) (c : Clause) (l : Lit) → IsNumbered clauses h c → Contains c l → ¬ Contains known (negation l)
-      → ((m : Lit) → Contains c m → m ≢ l → Contains known (negation m)) → Refutes clauses (l ∷ known) hints → Refutes clauses known (h ∷ hints)
+  conflict : (known : List Lit) (h : ℕ) (c : Clause) → IsNumbered clauses h c
+      → ((m : Lit) → Contains c m → Contains known (negation m)) → Refutes clauses known (h ∷ [])
+  one_left : (known : List Lit) (h : ℕ) (hints : List ℕ) (c : Clause) (l : Lit) → IsNumbered clauses h c
+      → Contains c l → ¬ Contains known (negation l)
+      → ((m : Lit) → Contains c m → m ≢ l → Contains known (negation m)) → Refutes clauses (l ∷ known) hints
+      → Refutes clauses known (h ∷ hints)
 
 -- a number other than 0, of at most 18 digits
 abbrev pub IsNumber : ℕ → Type 0

@@ -36,7 +36,9 @@ IsSingle T = (l : Lit) → T l ≡ true → T (negation l) ≡ false
 
 -- a literal of the clause is true, or two aren't false: the clause implies nothing and is no conflict
 abbrev pub IsQuiet : (Lit → Bool) → Clause → Type 0
-IsQuiet T c = ((y : Lit) × Contains c y × (T y ≡ true)) ⊎ ((y : Lit) × (z : Lit) × Contains c y × Contains c z × (y ≢ z) × (T (negation y) ≡ false) × (T (negation z) ≡ false))
+IsQuiet T c = ((y : Lit) × Contains c y × (T y ≡ true))
+    ⊎ ((y : Lit) × (z : Lit) × Contains c y × Contains c z × (y ≢ z) × (T (negation y) ≡ false)
+    × (T (negation z) ≡ false))
 
 abbrev pub AreQuiet : (Lit → Bool) → List Clause → Type 0
 AreQuiet T clauses = (c : Clause) → Contains clauses c → IsQuiet T c
@@ -62,7 +64,8 @@ pub record AreLevels (cells : List Cell) (levels : List ℕ) (p : ℕ) : Type 0 
 
 -- A trail of n cells whose first p places the levels account for. All clauses are quiet where a level begins: so a
 -- clause that is false but for one literal implied it at the lowest level at which it could.
-pub record IsTrail (n : ℕ) (clauses : List Clause) (cells : List Cell) (trail : List Lit) (levels : List ℕ) (p : ℕ) : Type 0 where
+pub record IsTrail (n : ℕ) (clauses : List Clause) (cells : List Cell) (trail : List Lit) (levels : List ℕ)
+    (p : ℕ) : Type 0 where
   pub sized : length cells ≡ n
   pub bounded : p ≤ length trail
   pub agree : Agree cells trail

@@ -39,7 +39,8 @@ pub record AreSeen (clauses : List Clause) (t : Trail) (w : Watches) (p : ℕ) :
 -- all clauses are alive but the one at place i
 pub record AreAliveBut (clauses : List Clause) (t : Trail) (w : Watches) (i : ℕ) : Type 0 where
   pub within : i < length clauses
-  pub others : (j : ℕ) (c : Clause) → j ≢ i → At clauses j c → IsAlive (true_before t.cells.items (length t.lits.items)) (watch_of w j) c
+  pub others : (j : ℕ) (c : Clause) → j ≢ i → At clauses j c
+      → IsAlive (true_before t.cells.items (length t.lits.items)) (watch_of w j) c
 
 -- all clauses are alive but those that are pending
 abbrev pub AreSeenBut : List Clause → Trail → Watches → Pending → Type 0
@@ -58,7 +59,8 @@ pub record IsWellWatched (n : ℕ) (clauses : List Clause) (t : Trail) (w : Watc
 
 -- no level begins where the literal was false
 pub record IsLate (t : Trail) (l : Lit) : Type 0 where
-  pub at_levels : (k : ℕ) → k < length t.levels.items → true_before t.cells.items (slice_index_or t.levels.items k 0) (negation l) ≡ false
+  pub at_levels : (k : ℕ) → k < length t.levels.items
+      → true_before t.cells.items (slice_index_or t.levels.items k 0) (negation l) ≡ false
 
 -- Two literals that a clause may watch: they keep it alive, now and where each level begins, and one of them that is
 -- false was watched already.
@@ -66,8 +68,10 @@ pub record MayWatch (t : Trail) (was : Option Watch) (c : Clause) (w : Watch) : 
   pub first : Contains c w.first
   pub second : Contains c w.second
   pub alive : IsAlive (true_before t.cells.items (length t.lits.items)) (Some w) c
-  pub at_levels : (k : ℕ) → k < length t.levels.items → IsAlive (true_before t.cells.items (slice_index_or t.levels.items k 0)) (Some w) c
-  pub listed : (l : Lit) → IsWatched (Some w) l → (true_before t.cells.items (length t.lits.items) (negation l) ≡ false) ⊎ IsWatched was l
+  pub at_levels : (k : ℕ) → k < length t.levels.items
+      → IsAlive (true_before t.cells.items (slice_index_or t.levels.items k 0)) (Some w) c
+  pub listed : (l : Lit) → IsWatched (Some w) l
+      → (true_before t.cells.items (length t.lits.items) (negation l) ≡ false) ⊎ IsWatched was l
 
 -- The trail is as it was or has grown: each new literal is of an atom that was free, and what was seen stays seen.
 pub record GoesOn (n : ℕ) (clauses : List Clause) (old new : Trail) : Type 0 where
@@ -76,27 +80,33 @@ pub record GoesOn (n : ℕ) (clauses : List Clause) (old new : Trail) : Type 0 w
   pub counted : free_count new.cells.items + length new.lits.items ≡ free_count old.cells.items + length old.lits.items
   pub longer : length old.lits.items ≤ length new.lits.items
   pub before : (q : ℕ) → q ≤ length old.lits.items → true_before new.cells.items q ≡ true_before old.cells.items q
-  pub seen : (p : ℕ) (o : Option Watch) (c : Clause) → p ≤ length old.lits.items → IsSeenBy old.cells.items old.lits.items p o c → IsSeenBy new.cells.items new.lits.items p o c
+  pub seen : (p : ℕ) (o : Option Watch) (c : Clause) → p ≤ length old.lits.items
+      → IsSeenBy old.cells.items old.lits.items p o c → IsSeenBy new.cells.items new.lits.items p o c
 
 -- The trail grows, other literals may be watched, and what was seen stays seen.
-pub record MovesOn (n : ℕ) (clauses : List Clause) (old : Trail) (was : Watches) (new : Trail) (w : Watches) : Type 0 where
+pub record MovesOn (n : ℕ) (clauses : List Clause) (old : Trail) (was : Watches) (new : Trail)
+    (w : Watches) : Type 0 where
   pub goes_on : GoesOn n clauses old new
   pub watched : IsWellWatched n clauses new w
-  pub seen : (p i : ℕ) (c : Clause) → p ≤ length old.lits.items → At clauses i c → IsSeen old was p i c → IsSeen new w p i c
+  pub seen : (p i : ℕ) (c : Clause) → p ≤ length old.lits.items → At clauses i c → IsSeen old was p i c
+      → IsSeen new w p i c
 
 -- the clause stands in the list of a literal that it watches, from a place on
 abbrev pub IsWaiting : Watches → Lit → ℕ → ℕ → Type 0
-IsWaiting w lit at i = (j : ℕ) × (at ≤ j) × (j < length (places_of w.lists lit)) × (slice_index_or (places_of w.lists lit) j 0 ≡ i) × IsWatched (watch_of w i) lit
+IsWaiting w lit at i = (j : ℕ) × (at ≤ j) × (j < length (places_of w.lists lit))
+    × (slice_index_or (places_of w.lists lit) j 0 ≡ i) × IsWatched (watch_of w i) lit
 
 -- the other clauses watch what they watched, and the lists of false literals are as they were
 pub record KeepsOthers (t : Trail) (place : ℕ) (old new : Watches) : Type 0 where
   pub pairs : (i : ℕ) → i ≢ place → watch_of new i ≡ watch_of old i
-  pub lists : (l : Lit) → true_before t.cells.items (length t.lits.items) (negation l) ≡ true → places_of new.lists l ≡ places_of old.lists l
+  pub lists : (l : Lit) → true_before t.cells.items (length t.lits.items) (negation l) ≡ true
+      → places_of new.lists l ≡ places_of old.lists l
 
 -- the clause at a place is falsified, or alive
 abbrev pub HasVisited : List Clause → Trail → Watches → ℕ → Bool → Type 0
 HasVisited clauses t w i true = IsFalsified clauses t.cells.items (length t.lits.items) i
-HasVisited clauses t w i false = (c : Clause) → At clauses i c → IsAlive (true_before t.cells.items (length t.lits.items)) (watch_of w i) c
+HasVisited clauses t w i false =
+    (c : Clause) → At clauses i c → IsAlive (true_before t.cells.items (length t.lits.items)) (watch_of w i) c
 
 -- a clause is falsified, or all were seen from place p on
 abbrev pub HasVisitedEach : List Clause → Trail → Watches → ℕ → Option ℕ → Type 0

@@ -34,14 +34,17 @@ pub record IsListedToo (place : ℕ) (lit : Lit) (was : Option Watch) (old new :
   pub same : IsWatched was lit → places_of new lit ≡ places_of old lit
 
 -- the clause at a place watches these two, and stands in the list of each that it didn't watch already
-pub record IsRewatched (place : ℕ) (watch : Watch) (pairs : List (Option Watch)) (old : Lists) (new : Watches) : Type 0 where
+pub record IsRewatched (place : ℕ) (watch : Watch) (pairs : List (Option Watch)) (old : Lists)
+    (new : Watches) : Type 0 where
   pub pairs_set : new.pairs.items ≡ slice_set pairs place (Some watch)
   pub sizes : (sign : Bool) → length (lists_of new.lists sign) ≡ length (lists_of old sign)
   pub kept : (l : Lit) (i : ℕ) → Contains (places_of old l) i → Contains (places_of new.lists l) i
-  pub added : (l : Lit) → IsWatched (Some watch) l → Contains (places_of new.lists l) place ⊎ IsWatched (watch_in pairs place) l
+  pub added : (l : Lit) → IsWatched (Some watch) l → Contains (places_of new.lists l) place
+      ⊎ IsWatched (watch_in pairs place) l
   pub only : (l : Lit) (i : ℕ) → Contains (places_of new.lists l) i → Contains (places_of old l) i ⊎ (i ≡ place)
   pub elsewhere : (l : Lit) → ¬ IsWatched (Some watch) l → places_of new.lists l ≡ places_of old l
-  pub same : (l : Lit) → (IsWatched (Some watch) l → IsWatched (watch_in pairs place) l) → places_of new.lists l ≡ places_of old l
+  pub same : (l : Lit) → (IsWatched (Some watch) l → IsWatched (watch_in pairs place) l)
+      → places_of new.lists l ≡ places_of old l
 
 -- one more clause, which watches these
 abbrev pub IsAdded : Option Watch → Watches → Watches → Type 0
@@ -57,4 +60,6 @@ IsPlaceAt ps at (Some i) = (at < length ps) × (slice_index_or ps at 0 ≡ i)
 abbrev pub IsSifted : Lit → ℕ → Watches → Watches → ℕ → Type 0
 IsSifted lit at old new next =
     ((next ≡ at + 1) × (new.pairs ≡ old.pairs) × (new.lists ≡ old.lists))
-    ⊎ ((next ≡ at) × (new.pairs ≡ old.pairs) × (¬ IsWatched (watch_of old (slice_index_or (places_of old.lists lit) at 0)) lit) × IsListSet lit (swap_remove (places_of old.lists lit) at 0) old.lists new.lists)
+    ⊎ ((next ≡ at) × (new.pairs ≡ old.pairs)
+    × (¬ IsWatched (watch_of old (slice_index_or (places_of old.lists lit) at 0)) lit)
+    × IsListSet lit (swap_remove (places_of old.lists lit) at 0) old.lists new.lists)

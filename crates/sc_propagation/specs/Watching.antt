@@ -26,7 +26,8 @@ AreAliveBy T pairs clauses = (i : ℕ) (c : Clause) → At clauses i c → IsAli
 
 -- each clause is alive where each level begins
 abbrev pub AreAliveAtLevels : List Cell → List ℕ → List (Option Watch) → List Clause → Type 0
-AreAliveAtLevels cells levels pairs clauses = (k : ℕ) → k < length levels → AreAliveBy (true_before cells (slice_index_or levels k 0)) pairs clauses
+AreAliveAtLevels cells levels pairs clauses =
+    (k : ℕ) → k < length levels → AreAliveBy (true_before cells (slice_index_or levels k 0)) pairs clauses
 
 -- Each clause stands in the lists of its watched literals, which are its own.
 pub record AreListedBy (n : ℕ) (clauses : List Clause) (pairs : List (Option Watch)) (o : Lists) : Type 0 where

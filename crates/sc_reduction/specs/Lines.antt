@@ -20,7 +20,8 @@ on_env word (Some env) = word ++ env_text env
 abbrev pub fate_text : Declarations → ℕ → Fate → List ℕ
 fate_text s budget Dropped = codes "dropped"
 fate_text s budget (Kept n w) = on_env (codes "kept ") (slice_get (environments s) n) ++ (codes " " ++ world_text w)
-fate_text s budget (Unproved n log) = on_env (codes "unproved ") (slice_get (environments s) n) ++ (codes " after " ++ (decimal budget ++ codes " units"))
+fate_text s budget (Unproved n log) = on_env (codes "unproved ") (slice_get (environments s) n)
+    ++ (codes " after " ++ (decimal budget ++ codes " units"))
 fate_text s budget (TooLarge n) = on_env (codes "over limit ") (slice_get (environments s) n)
 
 -- the line of the policy at a place, with its newline

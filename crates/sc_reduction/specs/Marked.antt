@@ -11,7 +11,13 @@ use Rattle.sc_reduction.specs.declared.fate.Fate.{Fate}
 use Rattle.sc_reduction.specs.declared.fate.Fate.TheVariants.{Dropped, Kept, Unproved, TooLarge}
 
 abbrev pub trial_of : Task → List Bool → List Bool → Trial
-trial_of t left right = record { schema = t.schema.now; policies = t.query.now.first; left = left; right = right; budget = t.budget }
+trial_of t left right = record {
+  schema = t.schema.now;
+  policies = t.query.now.first;
+  left = left;
+  right = right;
+  budget = t.budget;
+}
 
 abbrev pub asked_by : Task → Asked
 asked_by t = asked_of t.schema.now t.query.now t.budget
@@ -19,7 +25,8 @@ asked_by t = asked_of t.schema.now t.query.now t.budget
 -- where a policy was kept by a world, that is well-formed for its environment
 abbrev pub HasWorld : Asked → Fate → Type 0
 HasWorld r Dropped = ⊤
-HasWorld r (Kept n w) = IsSomeAnd (slice_get (environments r.schema) n) (λ env. IsWellFormed r.schema env (literals r.policies) w)
+HasWorld r (Kept n w) = IsSomeAnd (slice_get (environments r.schema) n)
+    (λ env. IsWellFormed r.schema env (literals r.policies) w)
 HasWorld r (Unproved n log) = ⊤
 HasWorld r (TooLarge n) = ⊤
 

@@ -28,7 +28,8 @@ pub record Asked : Type 0 where
 abbrev pub asked_of : Declarations → Query → ℕ → Asked
 asked_of s q budget = record { schema = s; policies = q.first; budget = budget }
 
--- the query compares a set with itself, and the set writes declared names alone, is typed in each environment, and its constants are values
+-- the query compares a set with itself, and the set writes declared names alone, is typed in each environment, and
+-- its constants are values
 pub record MayBeReduced (s : Declarations) (q : Query) : Type 0 where
   pub question : q.question ≡ Equivalent
   pub itself : q.against ≡ Some q.first
@@ -50,7 +51,13 @@ kept fates = map stays fates
 
 -- the policies that are marked, compared with those without the one at a place
 abbrev pub without : Asked → List Bool → ℕ → Trial
-without r marks place = record { schema = r.schema; policies = r.policies; left = marks; right = slice_set marks place false; budget = r.budget }
+without r marks place = record {
+  schema = r.schema;
+  policies = r.policies;
+  left = marks;
+  right = slice_set marks place false;
+  budget = r.budget;
+}
 
 -- why the policy at a place stays, where it does: what is found of those that are marked without it
 abbrev pub IsFate : Asked → List Bool → ℕ → Fate → Type 0
@@ -61,12 +68,14 @@ IsFate r marks place (TooLarge n) = Finds (without r marks place) (TooLarge n)
 
 -- in each well-formed world of the environment those that are marked allow exactly where the whole file does
 abbrev pub DecidesAsAll : Asked → List Bool → Env → Type 0
-DecidesAsAll r marks env = (w : World) → IsWellFormed r.schema env (literals r.policies) w → allows w (selected marks r.policies) ≡ allows w r.policies
+DecidesAsAll r marks env = (w : World) → IsWellFormed r.schema env (literals r.policies) w
+    → allows w (selected marks r.policies) ≡ allows w r.policies
 
 abbrev pub IsEquivalent : Asked → List Bool → Type 0
 IsEquivalent r marks = AllByRecursion (DecidesAsAll r marks) (environments r.schema)
 
--- One fate for each policy, by its place. Each that stays does so among those that stay in the end; these decide as the whole file does.
+-- One fate for each policy, by its place. Each that stays does so among those that stay in the end; these decide as
+-- the whole file does.
 pub record IsReduction (r : Asked) (fates : List Fate) : Type 0 where
   pub one_each : length fates ≡ length r.policies
   pub fates_true : (place : ℕ) (fate : Fate) → slice_get fates place ≡ Some fate → IsFate r (kept fates) place fate

@@ -56,7 +56,8 @@ goes_on Open is_last rest = false
 -- last has all literals false.
 abbrev pub refutes : List Clause → LitSet → List ℕ → Bool
 refutes clauses known [] = false
-refutes clauses known (h ∷ hs) = goes_on (residual_at known (clause_at clauses h)) (is_nil hs) (λ l. refutes clauses (with_lit known l) hs)
+refutes clauses known (h ∷ hs) =
+    goes_on (residual_at known (clause_at clauses h)) (is_nil hs) (λ l. refutes clauses (with_lit known l) hs)
 
 -- the literal is one of the first atoms
 abbrev pub is_listed : ℕ → Lit → Bool

@@ -30,7 +30,8 @@ environments s = flat_map environments_for s.actions
 
 -- environments by action, then principal type, then resource type
 abbrev pub env_cmp : Env → Env → Ordering
-env_cmp a b = ordering_then (uid_cmp a.action b.action) (ordering_then (text_cmp a.principal b.principal) (text_cmp a.resource b.resource))
+env_cmp a b = ordering_then (uid_cmp a.action b.action)
+    (ordering_then (text_cmp a.principal b.principal) (text_cmp a.resource b.resource))
 
 -- the names of the declared entity types
 abbrev pub entity_types : Declarations → List (List ℕ)
@@ -57,16 +58,19 @@ is_action_type s name = list_any (λ a. bytes_eq name a.uid.type_name) s.actions
 
 -- the type of an entity's attributes: its type's shape, and none for an action
 abbrev pub attrs_of : Declarations → List ℕ → Option Ty
-attrs_of s name = if is_action_type s name then Some (Record []) else option_map (λ (t : EntityType). t.shape) (entity_type s name)
+attrs_of s name = if is_action_type s name then Some (Record [])
+    else option_map (λ (t : EntityType). t.shape) (entity_type s name)
 
 -- the type of the values of an entity's tags, where entities of its type have tags
 abbrev pub tags_of : Declarations → List ℕ → Option Ty
-tags_of s name = if is_action_type s name then None else option_and_then (λ (t : EntityType). t.tags) (entity_type s name)
+tags_of s name = if is_action_type s name then None
+    else option_and_then (λ (t : EntityType). t.tags) (entity_type s name)
 
 -- names that ascend, with one more in its place, where it isn't there
 unfoldable pub with_name : List (List ℕ) → List ℕ → List (List ℕ)
 with_name [] name = name ∷ []
-with_name (other ∷ names) name = match_ordering (text_cmp name other) (name ∷ other ∷ names) (other ∷ names) (other ∷ with_name names name)
+with_name (other ∷ names) name =
+    match_ordering (text_cmp name other) (name ∷ other ∷ names) (other ∷ names) (other ∷ with_name names name)
 
 -- the names in ascending order, each once
 abbrev pub in_order : List (List ℕ) → List (List ℕ)
@@ -74,7 +78,8 @@ in_order = fold with_name []
 
 -- the types of the actions that actions of a type are in
 abbrev pub types_above : List Action → List ℕ → List (List ℕ)
-types_above actions name = flat_map (λ (a : Action). if bytes_eq name a.uid.type_name then map (λ (u : Uid). u.type_name) a.ancestors else []) actions
+types_above actions name = flat_map
+    (λ (a : Action). if bytes_eq name a.uid.type_name then map (λ (u : Uid). u.type_name) a.ancestors else []) actions
 
 -- the types that an entity's ancestors may have: those that its type declares, and for an action those of the actions
 -- that actions of its type are in

@@ -1,5 +1,5 @@
--- What holds of each schema whose common types are written out: what it names is declared, each declaration has a name of
--- its own, shapes and contexts are record types, and no type is larger than a type may be.
+-- What holds of each schema whose common types are written out: what it names is declared, each declaration has a
+-- name of its own, shapes and contexts are record types, and no type is larger than a type may be.
 use Rattle.std.specs.Prelude.{◌≡◌, ℕ, List, map, Contains, false, IfSome}
 use Rattle.std.specs.List.{AllByRecursion, list_any, IsDistinct}
 use Rattle.std.specs.Str.{IsUtf8, bytes_eq}
@@ -48,6 +48,8 @@ pub record IsExpandedAction (x : ExpandedSchema) (a : ExpandedAction) : Type 0 w
 pub record IsExpanded (x : ExpandedSchema) : Type 0 where
   pub types_distinct : IsDistinct bytes_eq (expanded_names x)
   pub actions_distinct : IsDistinct uid_eq (expanded_uids x)
-  pub no_action : AllByRecursion (λ (name : List ℕ). list_any (λ (u : Uid). bytes_eq name u.type_name) (expanded_uids x) ≡ false) (expanded_names x)
+  pub no_action : AllByRecursion
+      (λ (name : List ℕ). list_any (λ (u : Uid). bytes_eq name u.type_name) (expanded_uids x) ≡ false)
+      (expanded_names x)
   pub each_type : AllByRecursion (IsExpandedEntityType x) x.entity_types
   pub each_action : AllByRecursion (IsExpandedAction x) x.actions

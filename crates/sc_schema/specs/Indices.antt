@@ -13,7 +13,8 @@ use Rattle.sc_schema.specs.Declarations.{Declarations, environments, entity_type
 -- the types of the actions that actions of a type are in, where there is an action of the type
 abbrev pub types_above_actions : List Action → List ℕ → Option (List (List ℕ))
 types_above_actions actions name =
-    if list_any (λ (a : Action). bytes_eq name a.uid.type_name) actions then Some (in_order (types_above actions name)) else None
+    if list_any (λ (a : Action). bytes_eq name a.uid.type_name) actions
+    then Some (in_order (types_above actions name)) else None
 
 abbrev pub Above : Type 0
 Above = List (List ℕ × List (List ℕ))

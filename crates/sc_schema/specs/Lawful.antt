@@ -1,5 +1,5 @@
--- What holds of each schema: what it lists ascends, what it names is declared, ancestors of ancestors are ancestors, shapes
--- and contexts are record types, and no type is larger than a type may be.
+-- What holds of each schema: what it lists ascends, what it names is declared, ancestors of ancestors are ancestors,
+-- shapes and contexts are record types, and no type is larger than a type may be.
 use Rattle.std.specs.Prelude.{◌≡◌, ℕ, List, [], map, unwrap_or, Contains, false, IsSome, IfSome, ⊤}
 use Rattle.std.specs.List.{AllByRecursion}
 use Rattle.std.specs.List.Sorted.{IsStrictlySortedBy}
@@ -37,7 +37,8 @@ IsLevelOver known t.Decimal = ⊤
 IsLevelOver known t.Ip = ⊤
 IsLevelOver known (t.Entity name) = known name
 IsLevelOver known (t.Set member) = ⊤
-IsLevelOver known (t.Record fields) = AreAscending (names_of_fields fields) × AllByRecursion IsUtf8 (names_of_fields fields)
+IsLevelOver known (t.Record fields) =
+    AreAscending (names_of_fields fields) × AllByRecursion IsUtf8 (names_of_fields fields)
 
 -- a type over these entity types
 abbrev pub IsTypeOver : (List ℕ → Type 0) → Ty → Type 0

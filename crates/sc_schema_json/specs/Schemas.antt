@@ -49,8 +49,10 @@ pub record IsActionOf (links : Links Uid) (d : ExpandedAction) (a : Action) : Ty
 -- entity types in order, each declared, and each declaration among them
 pub record AreTypesOf (ds : List ExpandedEntityType) (types : List EntityType) : Type 0 where
   pub ascending : AreAscending (map (λ (t : EntityType). t.name) types)
-  pub each : (t : EntityType) → Contains types t → (d : ExpandedEntityType) × Contains ds d × IsEntityTypeOf (type_links ds) d t
-  pub all : (d : ExpandedEntityType) → Contains ds d → (t : EntityType) × Contains types t × IsEntityTypeOf (type_links ds) d t
+  pub each : (t : EntityType) → Contains types t → (d : ExpandedEntityType) × Contains ds d
+      × IsEntityTypeOf (type_links ds) d t
+  pub all : (d : ExpandedEntityType) → Contains ds d → (t : EntityType) × Contains types t
+      × IsEntityTypeOf (type_links ds) d t
 
 -- actions in order, each declared, and each declaration among them
 pub record AreActionsOf (ds : List ExpandedAction) (actions : List Action) : Type 0 where

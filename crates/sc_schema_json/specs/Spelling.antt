@@ -54,7 +54,8 @@ pub data HasFaultOf (r : ResolvedSchema) : SchemaFault → Type 0 where
   of_common_types : (fault : SchemaFault) → HasTypeCycle r fault → HasFaultOf r fault
   of_actions : (u : Uid) → IsOrdered r → IsLeastCycle uid_cmp (links_of r) u → HasFaultOf r (ActionCycle u)
   of_types : (fault : SchemaFault) → IsAcyclic r → HasTypeFault r fault → HasFaultOf r fault
-  of_environments : (s : Declarations) → Means r s → max_environments < length (environments s) → HasFaultOf r TooManyEnvironments
+  of_environments : (s : Declarations) → Means r s → max_environments < length (environments s)
+      → HasFaultOf r TooManyEnvironments
 
 -- the bytes are of the form, and each name in them is known: this is what they declare
 pub record Declares (bytes : List ℕ) (r : ResolvedSchema) : Type 0 where
@@ -71,7 +72,8 @@ pub record Spells (bytes : List ℕ) (s : Declarations) : Type 0 where
 -- the fault that the bytes have first: of their form, of a name, or of what they declare
 pub data HasFault (bytes : List ℕ) : SchemaFault → Type 0 where
   of_form : (fault : SchemaFault) → syntax.HasFault bytes fault → HasFault bytes fault
-  of_names : (w : WrittenSchema) (fault : SchemaFault) → syntax.Spells bytes w → HasUnknown w fault → HasFault bytes fault
+  of_names : (w : WrittenSchema) (fault : SchemaFault) → syntax.Spells bytes w → HasUnknown w fault
+      → HasFault bytes fault
   of_schema : (r : ResolvedSchema) (fault : SchemaFault) → Declares bytes r → HasFaultOf r fault → HasFault bytes fault
 
 -- what it says of bytes, or of a schema, that it was refused with this fault

@@ -14,7 +14,8 @@ use Rattle.sc_schema_syntax.specs.declared.written_schema.WrittenSchema.{Written
 
 -- ---- names in full
 
--- the full name of what a namespace declares: the namespace's name, `::` and the name; in the empty namespace the name itself
+-- the full name of what a namespace declares: the namespace's name, `::` and the name; in the empty namespace the
+-- name itself
 abbrev pub full : List ℕ → List ℕ → List ℕ
 full namespace name = if length namespace == 0 then name else namespace ++ (codes "::" ++ name)
 
@@ -65,8 +66,8 @@ known_in w =
 
 -- ---- what a text in a namespace names
 
--- the names that a text may mean: an identifier first a name of its namespace, then one of the empty namespace; any other
--- text the name as it is written
+-- the names that a text may mean: an identifier first a name of its namespace, then one of the empty namespace; any
+-- other text the name as it is written
 abbrev pub candidates : List ℕ → List ℕ → List (List ℕ)
 candidates namespace text = if is_ident text then full namespace text ∷ text ∷ [] else text ∷ []
 
@@ -85,4 +86,5 @@ action_types namespace (Some text) = candidates namespace text
 
 -- the first declared action of one of these types with the item's id
 abbrev pub action_named : Known → List ℕ → WrittenParent → Option Uid
-action_named known namespace parent = find known.is_action (map (uid_of parent.id) (action_types namespace parent.type_name))
+action_named known namespace parent =
+    find known.is_action (map (uid_of parent.id) (action_types namespace parent.type_name))

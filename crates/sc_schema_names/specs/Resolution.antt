@@ -77,7 +77,8 @@ resolved_step known namespace t.Boolean = type.Boolean
 resolved_step known namespace t.Long = type.Long
 resolved_step known namespace t.String = type.String
 resolved_step known namespace (t.Set element) = type.Set element
-resolved_step known namespace (t.Record attributes) = type.Record (map (λ (a : List ℕ × WrittenPresence × ResolvedType). (a.0, presence_of a.1, a.2)) attributes)
+resolved_step known namespace (t.Record attributes) =
+    type.Record (map (λ (a : List ℕ × WrittenPresence × ResolvedType). (a.0, presence_of a.1, a.2)) attributes)
 resolved_step known namespace (t.Entity name) = type.Entity (entity_type_of known namespace name)
 resolved_step known namespace (t.Extension kind) = extension_type kind
 resolved_step known namespace (t.EntityOrCommon name) = any_type_of known namespace name
@@ -86,7 +87,8 @@ resolved_step known namespace (t.Common name) = type.Common (common_type_of know
 unfoldable pub resolved_type : Known → List ℕ → WrittenType → ResolvedType
 resolved_type known namespace = fold-WrittenType ResolvedType (resolved_step known namespace)
 
-abbrev pub resolved_attribute : Known → List ℕ → List ℕ × WrittenPresence × WrittenType → List ℕ × Presence × ResolvedType
+abbrev pub resolved_attribute : Known → List ℕ → List ℕ × WrittenPresence × WrittenType → List ℕ × Presence
+    × ResolvedType
 resolved_attribute known namespace a = (a.0, presence_of a.1, resolved_type known namespace a.2)
 
 -- ---- declarations

@@ -1,5 +1,5 @@
--- The first name of a schema file that nothing declared has, in a walk that takes the members of an object in the order of
--- their bytes.
+-- The first name of a schema file that nothing declared has, in a walk that takes the members of an object in the
+-- order of their bytes.
 use Rattle.std.specs.Prelude.{ℕ, ◌+◌, List, [], ◌∷◌, Option, Some, None, option_map, codes}
 use Rattle.std.specs.Option.{option_or, option_map_or}
 use Rattle.std.specs.Fmt.{decimal}
@@ -66,11 +66,14 @@ type_fault_step known namespace t.Long = None
 type_fault_step known namespace t.String = None
 type_fault_step known namespace (t.Set element) = inside (codes "element") element
 type_fault_step known namespace (t.Record attributes) =
-    inside (codes "attributes") (first_member (λ (a : List ℕ × WrittenPresence × Option SchemaFault). a.0) (λ a. a.2) attributes)
+    inside (codes "attributes") (first_member (λ (a : List ℕ × WrittenPresence × Option SchemaFault). a.0) (λ a. a.2)
+    attributes)
 type_fault_step known namespace (t.Entity name) = inside (codes "name") (entity_type_fault known namespace name)
 type_fault_step known namespace (t.Extension kind) = None
-type_fault_step known namespace (t.EntityOrCommon name) = inside (codes "name") (no_type (type_named known namespace name))
-type_fault_step known namespace (t.Common name) = inside (codes "type") (no_type (common_type_named known namespace name))
+type_fault_step known namespace (t.EntityOrCommon name) =
+    inside (codes "name") (no_type (type_named known namespace name))
+type_fault_step known namespace (t.Common name) =
+    inside (codes "type") (no_type (common_type_named known namespace name))
 
 unfoldable pub type_fault : Known → List ℕ → WrittenType → Option SchemaFault
 type_fault known namespace = fold-WrittenType (Option SchemaFault) (type_fault_step known namespace)
@@ -103,9 +106,12 @@ declared_entity_type_fault known namespace e =
 
 abbrev pub namespace_fault : Known → WrittenNamespace → Option SchemaFault
 namespace_fault known n =
-    option_or (inside (codes "actions") (first_member (λ (a : WrittenAction). a.id) (action_fault known n.name) n.actions))
-    (option_or (inside (codes "commonTypes") (first_member (λ (c : WrittenCommonType). c.name) (common_type_fault known n.name) n.common_types))
-    (inside (codes "entityTypes") (first_member (λ (e : WrittenEntityType). e.name) (declared_entity_type_fault known n.name) n.entity_types)))
+    option_or (inside (codes "actions")
+    (first_member (λ (a : WrittenAction). a.id) (action_fault known n.name) n.actions))
+    (option_or (inside (codes "commonTypes")
+    (first_member (λ (c : WrittenCommonType). c.name) (common_type_fault known n.name) n.common_types))
+    (inside (codes "entityTypes")
+    (first_member (λ (e : WrittenEntityType). e.name) (declared_entity_type_fault known n.name) n.entity_types)))
 
 abbrev pub schema_fault : Known → WrittenSchema → Option SchemaFault
 schema_fault known w = first_member (λ (n : WrittenNamespace). n.name) (namespace_fault known) w.namespaces

@@ -1,5 +1,5 @@
--- The first fault of the form of a schema file, in a walk that takes the members of an object in the order of their bytes
--- and an object before its members.
+-- The first fault of the form of a schema file, in a walk that takes the members of an object in the order of their
+-- bytes and an object before its members.
 use Rattle.std.specs.Prelude.{ℕ, ◌+◌, List, [], Bool, true, false, Option, Some, None, option_map}
 use Rattle.std.specs.Option.{option_or, option_map_or}
 use Rattle.std.specs.Fmt.{decimal}
@@ -32,7 +32,8 @@ unfoldable mutual
   value_fault form (string text) = shape_fault (admits_text form text)
   value_fault form (array items) = option_map_or (λ each. items_fault each 0 items) (item_form form) (shape_fault false)
   value_fault form (object members) =
-      option_map_or (λ level. option_or (shape_fault (is_whole level members)) (members_fault level members)) (level_of form members) (shape_fault false)
+      option_map_or (λ level. option_or (shape_fault (is_whole level members)) (members_fault level members))
+      (level_of form members) (shape_fault false)
 
   -- the first fault of the items of a list from this number on
   pub items_fault : Form → ℕ → Items → Option SchemaFault
@@ -45,12 +46,15 @@ unfoldable mutual
   members_fault level no_members = None
   members_fault level (member key value members) =
       option_or
-      (option_map (under key) (option_or (name_fault (is_name level key)) (option_map_or (λ form. value_fault form value) (member_form level key) None)))
+      (option_map (under key) (option_or (name_fault (is_name level key))
+      (option_map_or (λ form. value_fault form value) (member_form level key) None)))
       (members_fault level members)
 
 -- the first fault of a member: of its name, and then of its value, if that is looked at
 abbrev pub member_fault : Level → List ℕ → Data → Option SchemaFault
-member_fault level key value = option_or (name_fault (is_name level key)) (option_map_or (λ form. value_fault form value) (member_form level key) None)
+member_fault level key value =
+    option_or (name_fault (is_name level key))
+    (option_map_or (λ form. value_fault form value) (member_form level key) None)
 
 -- the first fault of a schema file with this tree
 abbrev pub first_fault : Data → Option SchemaFault

@@ -46,8 +46,8 @@ level_of _ ms = None
 
 -- ---- the names of members
 
--- whether a member may have the name, where members are declarations: namespaces have paths or the empty text, entity types
--- and common types have identifiers
+-- whether a member may have the name, where members are declarations: namespaces have paths or the empty text, entity
+-- types and common types have identifiers
 abbrev pub is_name : Level → List ℕ → Bool
 is_name level.Schema name = is_path name || (length name == 0)
 is_name level.EntityTypes name = is_ident name && not (bytes_eq name (codes "Action"))
@@ -119,7 +119,8 @@ applies_to_members =
 
 abbrev pub word_members : TypeWord → List (List ℕ × Form)
 word_members word.Set = (codes "element", form.Type Elsewhere) ∷ []
-word_members word.Record = (codes "attributes", form.Object level.Attributes) ∷ (codes "additionalAttributes", form.False) ∷ []
+word_members word.Record = (codes "attributes", form.Object level.Attributes)
+    ∷ (codes "additionalAttributes", form.False) ∷ []
 word_members word.Entity = (codes "name", form.Text) ∷ []
 word_members word.Extension = (codes "name", form.ExtensionName) ∷ []
 word_members word.EntityOrCommon = (codes "name", form.Text) ∷ []

@@ -38,19 +38,22 @@ is_shaped form (array items) = is_some (item_form form)
 is_shaped form (object members) = option_map_or (λ level. is_whole level members) (level_of form members) false
 
 mutual
-  -- a value, where this form is wanted, has a fault of this kind at these steps: its own, or that of an item or of a member
+  -- a value, where this form is wanted, has a fault of this kind at these steps: its own, or that of an item or of a
+  -- member
   pub data FaultAt : Form → Data → Kind → List Step → Type 0 where
     misshapen : (form : Form) (d : Data) → is_shaped form d ≡ false → FaultAt form d bad_shape []
     in_item : (form each : Form) (items : Items) (place : ℕ) (value : Data) (kind : Kind) (steps : List Step)
         → item_form form ≡ Some each → HasItem 0 items place value → FaultAt each value kind steps
         → FaultAt form (array items) kind (to_item place ∷ steps)
-    in_member : (form : Form) (level : Level) (members : Members) (name : List ℕ) (value : Data) (kind : Kind) (steps : List Step)
+    in_member : (form : Form) (level : Level) (members : Members) (name : List ℕ) (value : Data) (kind : Kind)
+        (steps : List Step)
         → level_of form members ≡ Some level → HasMember members name value → MemberFaultAt level name value kind steps
         → FaultAt form (object members) kind (to_member name ∷ steps)
 
   -- the same of a member of an object of this level: its name can't be declared, or its value has the fault
   pub data MemberFaultAt : Level → List ℕ → Data → Kind → List Step → Type 0 where
-    misnamed : (level : Level) (name : List ℕ) (value : Data) → is_name level name ≡ false → MemberFaultAt level name value bad_name []
+    misnamed : (level : Level) (name : List ℕ) (value : Data) → is_name level name ≡ false
+        → MemberFaultAt level name value bad_name []
     in_value : (level : Level) (name : List ℕ) (form : Form) (value : Data) (kind : Kind) (steps : List Step)
         → member_form level name ≡ Some form → FaultAt form value kind steps → MemberFaultAt level name value kind steps
 
@@ -62,7 +65,8 @@ IsEarlier (to_member a) (to_member b) = text_cmp a b ≡ Less
 IsEarlier (to_item m) (to_item n) = m < n
 IsEarlier _ _ = ⊥
 
--- one fault comes before another: a name before what it names, a value before what is inside, and earlier steps before later ones
+-- one fault comes before another: a name before what it names, a value before what is inside, and earlier steps
+-- before later ones
 pub data IsBefore : Kind → List Step → Kind → List Step → Type 0 where
   name_first : IsBefore bad_name [] bad_shape []
   outside : (k l : Kind) (step : Step) (steps : List Step) → IsBefore k [] l (step ∷ steps)
@@ -84,11 +88,13 @@ SchemaFaultAt = FaultAt (Object Schema)
 -- the bytes are the text of no tree, or this is their tree's first fault, and its path leads to a value of the tree
 pub data IsFirstOf (bytes : List ℕ) : SchemaFault → Type 0 where
   of_no_tree : ((d : Data) → ¬ HasTree bytes d) → IsFirstOf bytes NotJson
-  of_tree : (d : Data) (fault : SchemaFault) → HasTree bytes d → (first : IsFirst (SchemaFaultAt d) fault) → (end : Data) × LeadsTo d first.steps end → IsFirstOf bytes fault
+  of_tree : (d : Data) (fault : SchemaFault) → HasTree bytes d → (first : IsFirst (SchemaFaultAt d) fault)
+      → (end : Data) × LeadsTo d first.steps end → IsFirstOf bytes fault
 
--- the fault of a file is the first one of its tree, and just the trees without a fault spell schemas, which are those of
--- the form
+-- the fault of a file is the first one of its tree, and just the trees without a fault spell schemas, which are those
+-- of the form
 pub record ArePlaced (bytes : List ℕ) : Type 0 where
   pub first : (fault : SchemaFault) → HasFault bytes fault ↔ IsFirstOf bytes fault
-  pub none : (d : Data) → HasTree bytes d → ((w : WrittenSchema) × Spells bytes w) ↔ ((k : Kind) (steps : List Step) → ¬ SchemaFaultAt d k steps)
+  pub none : (d : Data) → HasTree bytes d → ((w : WrittenSchema) × Spells bytes w)
+      ↔ ((k : Kind) (steps : List Step) → ¬ SchemaFaultAt d k steps)
   pub formed : (d : Data) → HasTree bytes d → ((w : WrittenSchema) × Spells bytes w) ↔ IsSchemaTree d

@@ -20,8 +20,10 @@ type_word w =
 -- no common type can have the name
 abbrev pub is_reserved : List ℕ → Bool
 is_reserved w =
-    bytes_eq w (codes "Bool") || bytes_eq w (codes "Boolean") || bytes_eq w (codes "Long") || bytes_eq w (codes "String") || bytes_eq w (codes "Set")
-    || bytes_eq w (codes "Record") || bytes_eq w (codes "Entity") || bytes_eq w (codes "Extension") || bytes_eq w (codes "EntityOrCommon")
+    bytes_eq w (codes "Bool") || bytes_eq w (codes "Boolean") || bytes_eq w (codes "Long") || bytes_eq w
+    (codes "String") || bytes_eq w (codes "Set")
+    || bytes_eq w (codes "Record") || bytes_eq w (codes "Entity") || bytes_eq w (codes "Extension") || bytes_eq w
+    (codes "EntityOrCommon")
 
 -- an extension type's name
 abbrev pub is_extension : List ℕ → Bool

@@ -54,9 +54,10 @@ presence_of None = Required
 presence_of (Some true) = Required
 presence_of (Some false) = Optional
 
--- the type with this word, whose member `name` is a text, whose member `element` is a type, and whose member `attributes`
--- are attributes; the word itself names a common type, if it has no other meaning
-abbrev pub type_by : TypeWord → List ℕ → List ℕ → WrittenType → List (List ℕ × WrittenPresence × WrittenType) → WrittenType
+-- the type with this word, whose member `name` is a text, whose member `element` is a type, and whose member
+-- `attributes` are attributes; the word itself names a common type, if it has no other meaning
+abbrev pub type_by : TypeWord → List ℕ → List ℕ → WrittenType → List (List ℕ × WrittenPresence × WrittenType)
+    → WrittenType
 type_by word.Boolean w name element attributes = type.Boolean
 type_by word.Long w name element attributes = type.Long
 type_by word.String w name element attributes = type.String
@@ -78,7 +79,8 @@ unfoldable mutual
   type_of (string text) = type.Common []
   type_of (array items) = type.Common []
   type_of (object members) =
-      type_with (text_of (get_member (codes "type") members)) (text_of (get_member (codes "name") members)) (element_in members) (attributes_in members)
+      type_with (text_of (get_member (codes "type") members)) (text_of (get_member (codes "name") members))
+      (element_in members) (attributes_in members)
 
   -- the type at the member `element`
   pub element_in : Members → WrittenType
@@ -88,7 +90,8 @@ unfoldable mutual
   -- the attributes at the member `attributes`
   pub attributes_in : Members → List (List ℕ × WrittenPresence × WrittenType)
   attributes_in no_members = []
-  attributes_in (member key value members) = if bytes_eq (codes "attributes") key then attributes_of value else attributes_in members
+  attributes_in (member key value members) = if bytes_eq (codes "attributes") key then attributes_of value
+      else attributes_in members
 
   pub attributes_of : Data → List (List ℕ × WrittenPresence × WrittenType)
   attributes_of null = []
@@ -101,7 +104,8 @@ unfoldable mutual
   pub attributes_from : Members → List (List ℕ × WrittenPresence × WrittenType)
   attributes_from no_members = []
   attributes_from (member name value members) =
-      (name, presence_of (option_and_then as_bool (get (codes "required") value)), type_of value) ∷ attributes_from members
+      (name, presence_of (option_and_then as_bool (get (codes "required") value)), type_of value)
+      ∷ attributes_from members
 
 abbrev pub type_at : Option Data → WrittenType
 type_at value = unwrap_or (option_map type_of value) (type.Common [])

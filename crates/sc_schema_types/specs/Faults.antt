@@ -48,14 +48,16 @@ optional_fault judge wanted None = None
 optional_fault judge wanted (Some type) = judge wanted type
 
 abbrev pub action_fault : Judge → ResolvedAction → Option SchemaFault
-action_fault judge a = inside a.uid.id (inside (codes "appliesTo") (inside (codes "context") (optional_fault judge RecordType a.context)))
+action_fault judge a = inside a.uid.id
+    (inside (codes "appliesTo") (inside (codes "context") (optional_fault judge RecordType a.context)))
 
 abbrev pub common_type_fault : Judge → ResolvedCommonType → Option SchemaFault
 common_type_fault judge c = inside c.key (judge AnyType c.body)
 
 abbrev pub entity_type_fault : Judge → ResolvedEntityType → Option SchemaFault
 entity_type_fault judge t =
-    inside t.key (option_or (inside (codes "shape") (optional_fault judge RecordType t.shape)) (inside (codes "tags") (optional_fault judge AnyType t.tags)))
+    inside t.key (option_or (inside (codes "shape") (optional_fault judge RecordType t.shape))
+    (inside (codes "tags") (optional_fault judge AnyType t.tags)))
 
 abbrev pub namespace_fault : Judge → ResolvedNamespace → Option SchemaFault
 namespace_fault judge n =

@@ -34,7 +34,8 @@ Bodies = List ℕ → Option ResolvedType
 
 -- the body of the first of these common types that has the name
 unfoldable pub body_among : List ResolvedCommonType → Bodies
-body_among types name = option_map (λ (c : ResolvedCommonType). c.body) (find (λ (c : ResolvedCommonType). bytes_eq name c.name) types)
+body_among types name = option_map (λ (c : ResolvedCommonType). c.body)
+    (find (λ (c : ResolvedCommonType). bytes_eq name c.name) types)
 
 -- the body of the common type of a schema that has the name
 abbrev pub body_of : ResolvedSchema → Bodies

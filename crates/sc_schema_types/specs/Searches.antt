@@ -36,7 +36,8 @@ IsPath graph (a ∷ b ∷ names) = Contains (graph a) b × IsPath graph (b ∷ n
 -- what is kept of a common type on the path: which ones its body names, and that some of these have their places
 pub record IsStep (bodies : Bodies) (order : Names) (step : Step) : Type 0 where
   pub named : step.next ≡ references bodies step.name
-  pub behind : (k : ℕ) (d : List ℕ) → k < step.placed → k < length step.next → Contains order (slice_index_or step.next k d)
+  pub behind : (k : ℕ) (d : List ℕ) → k < step.placed → k < length step.next
+      → Contains order (slice_index_or step.next k d)
 
 -- a name that is marked as placed has its place, and one that is marked as open is on the path
 pub record AreMarks (order : Names) (path : Names) (marks : Marks) : Type 0 where
@@ -74,5 +75,7 @@ IsKnown order path q = Contains order q ⊎ Contains (names_on path) q
 -- the search made a step, from the end of a path that was taken off
 pub record GoesOn (bodies : Bodies) (old : Search) (end : Step) (new : Search) : Type 0 where
   pub sound : IsSearch bodies new.order.items new.path.items new.marks.entries
-  pub further : 2 * length new.order.items + length new.path.items ≡ 2 * length old.order.items + length old.path.items + 2
-  pub keeps : (q : List ℕ) → IsKnown old.order.items (old.path.items ++ end ∷ []) q → IsKnown new.order.items new.path.items q
+  pub further : 2 * length new.order.items + length new.path.items
+      ≡ 2 * length old.order.items + length old.path.items + 2
+  pub keeps : (q : List ℕ) → IsKnown old.order.items (old.path.items ++ end ∷ []) q
+      → IsKnown new.order.items new.path.items q

@@ -56,11 +56,19 @@ nothing = record { is_record = false; levels = 0; nodes = 0 }
 
 -- that of a type with these inside
 abbrev pub around : Bool → Outline → Outline
-around is_record o = record { is_record = is_record; levels = min (o.levels + 1) (max_levels + 1); nodes = min (o.nodes + 1) (max_nodes + 1) }
+around is_record o = record {
+  is_record = is_record;
+  levels = min (o.levels + 1) (max_levels + 1);
+  nodes = min (o.nodes + 1) (max_nodes + 1);
+}
 
 -- that of the one beside the other
 abbrev pub beside : Outline → Outline → Outline
-beside o p = record { is_record = false; levels = max o.levels p.levels; nodes = min (o.nodes + p.nodes) (max_nodes + 1) }
+beside o p = record {
+  is_record = false;
+  levels = max o.levels p.levels;
+  nodes = min (o.nodes + p.nodes) (max_nodes + 1);
+}
 
 abbrev pub together : List (List ℕ × Presence × Outline) → Outline
 together fields = fold (λ o (f : List ℕ × Presence × Outline). beside o f.2) nothing fields

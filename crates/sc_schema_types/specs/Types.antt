@@ -80,14 +80,16 @@ Refuses s NoMemory = ⊤
 
 -- ---- what holds of each schema
 
--- where each common type that is named is declared: they have an order, or one is the least that reaches itself, and no more
--- than one; none reaches itself beside an order; with an order there is a meaning, and one expansion or one fault
+-- where each common type that is named is declared: they have an order, or one is the least that reaches itself, and
+-- no more than one; none reaches itself beside an order; with an order there is a meaning, and one expansion or one
+-- fault
 pub record IsSettled (s : ResolvedSchema) : Type 0 where
   pub order_or_cycle : ((order : Names) × IsOrder s order) ⊎ ((a : List ℕ) × IsTypeCycle s a)
   pub one_cycle : (a b : List ℕ) → IsTypeCycle s a → IsTypeCycle s b → a ≡ b
   pub no_cycle : (order : Names) (a : List ℕ) → IsOrder s order → ¬ Reaches (references (body_of s)) a a
   pub meaning : (order : Names) → IsOrder s order → (m : Meaning) × IsMeaning (body_of s) m
-  pub either : (order : Names) → IsOrder s order → ((x : ExpandedSchema) × IsExpansion s x) ⊎ ((fault : SchemaFault) × HasTypeFault s fault)
+  pub either : (order : Names) → IsOrder s order → ((x : ExpandedSchema) × IsExpansion s x)
+      ⊎ ((fault : SchemaFault) × HasTypeFault s fault)
   pub one_expansion : (x y : ExpandedSchema) → IsExpansion s x → IsExpansion s y → x ≡ y
   pub one_fault : (a b : SchemaFault) → HasTypeFault s a → HasTypeFault s b → a ≡ b
   pub not_both : (x : ExpandedSchema) (fault : SchemaFault) → IsExpansion s x → ¬ HasTypeFault s fault

@@ -7,7 +7,8 @@ use Rattle.sc_propagation.specs.Giving.{Gives}
 use Rattle.sc_propagation.specs.declared.trail.Trail.{Trail}
 
 -- an instance of the source with its clause, which implies a literal
-pub record IsGiven (has_instance : instance.Instance → Type 0) (clause_of : instance.Instance → Clause) (t : Trail) (g : Given) : Type 0 where
+pub record IsGiven (has_instance : instance.Instance → Type 0) (clause_of : instance.Instance → Clause) (t : Trail)
+    (g : Given) : Type 0 where
   pub accepted : has_instance g.instance
   pub clause_is : g.clause ≡ clause_of g.instance
   pub gives : Gives t g.clause

@@ -72,7 +72,8 @@ HasSettled n clauses steps budget s (turn.Consistent m) = ⊥
 HasSettled n clauses steps budget s turn.Spent = (s.steps.items ≡ steps) × (length steps ≡ budget) × HasConflict clauses
 
 -- one more unit
-pub record HasAdded (atoms : ℕ) (has_instance : instance.Instance → Type 0) (clause_of : instance.Instance → Clause) (clauses : List Clause) (steps : List Step) (s : Solver) : Type 0 where
+pub record HasAdded (atoms : ℕ) (has_instance : instance.Instance → Type 0) (clause_of : instance.Instance → Clause)
+    (clauses : List Clause) (steps : List Step) (s : Solver) : Type 0 where
   pub step : Step
   pub is_unit : IsUnit atoms has_instance clause_of clauses step
   pub clauses_more : s.clauses ≡ clauses ++ added clause_of step ∷ []
@@ -80,25 +81,34 @@ pub record HasAdded (atoms : ℕ) (has_instance : instance.Instance → Type 0) 
   pub ready : IsReady (atoms + 1) s
 
 -- one more lawful step, with the empty clause
-pub record HasEnded (atoms : ℕ) (has_instance : instance.Instance → Type 0) (clause_of : instance.Instance → Clause) (clauses : List Clause) (steps : List Step) (s : Solver) : Type 0 where
+pub record HasEnded (atoms : ℕ) (has_instance : instance.Instance → Type 0) (clause_of : instance.Instance → Clause)
+    (clauses : List Clause) (steps : List Step) (s : Solver) : Type 0 where
   pub step : Step
   pub is_lawful : IsLawful atoms has_instance clause_of clauses step
   pub is_empty : added clause_of step ≡ []
   pub steps_more : s.steps.items ≡ steps ++ step ∷ []
 
-abbrev pub IsTurn : ℕ → (instance.Instance → Type 0) → (instance.Instance → Clause) → List Clause → List Step → ℕ → Solver → Turn → Type 0
-IsTurn atoms has_instance clause_of clauses steps budget s turn.Added = HasAdded atoms has_instance clause_of clauses steps s × (length steps ≢ budget)
-IsTurn atoms has_instance clause_of clauses steps budget s turn.Refuted = HasEnded atoms has_instance clause_of clauses steps s × (length steps ≢ budget)
-IsTurn atoms has_instance clause_of clauses steps budget s (turn.Consistent m) = IsConsistent atoms has_instance clause_of clauses m
-IsTurn atoms has_instance clause_of clauses steps budget s turn.Spent = (s.steps.items ≡ steps) × (length steps ≡ budget) × IsDue has_instance clause_of clauses
+abbrev pub IsTurn : ℕ → (instance.Instance → Type 0) → (instance.Instance → Clause) → List Clause → List Step → ℕ
+    → Solver → Turn → Type 0
+IsTurn atoms has_instance clause_of clauses steps budget s turn.Added =
+    HasAdded atoms has_instance clause_of clauses steps s × (length steps ≢ budget)
+IsTurn atoms has_instance clause_of clauses steps budget s turn.Refuted =
+    HasEnded atoms has_instance clause_of clauses steps s × (length steps ≢ budget)
+IsTurn atoms has_instance clause_of clauses steps budget s (turn.Consistent m) =
+    IsConsistent atoms has_instance clause_of clauses m
+IsTurn atoms has_instance clause_of clauses steps budget s turn.Spent =
+    (s.steps.items ≡ steps) × (length steps ≡ budget) × IsDue has_instance clause_of clauses
 
 -- the part of a turn before any decision: nothing is logged, or the turn is over
-abbrev pub HasBegun : ℕ → (instance.Instance → Type 0) → (instance.Instance → Clause) → List Clause → List Step → ℕ → Solver → Option Turn → Type 0
+abbrev pub HasBegun : ℕ → (instance.Instance → Type 0) → (instance.Instance → Clause) → List Clause → List Step → ℕ
+    → Solver → Option Turn → Type 0
 HasBegun n has_instance clause_of clauses steps budget s None = IsReady n s × IsKept clauses steps s
-HasBegun n has_instance clause_of clauses steps budget s (Some t) = IsTurn (n - 1) has_instance clause_of clauses steps budget s t
+HasBegun n has_instance clause_of clauses steps budget s (Some t) =
+    IsTurn (n - 1) has_instance clause_of clauses steps budget s t
 
 -- the state of the search: behind the clauses given stand units, at most as many as the budget
-pub record IsSearching (atoms : ℕ) (has_instance : instance.Instance → Type 0) (clause_of : instance.Instance → Clause) (clauses : List Clause) (budget : ℕ) (s : Solver) : Type 0 where
+pub record IsSearching (atoms : ℕ) (has_instance : instance.Instance → Type 0)
+    (clause_of : instance.Instance → Clause) (clauses : List Clause) (budget : ℕ) (s : Solver) : Type 0 where
   pub ready : IsReady (atoms + 1) s
   pub clauses_are : s.clauses ≡ after clause_of clauses s.steps.items
   pub are_units : AreUnits atoms has_instance clause_of clauses s.steps.items

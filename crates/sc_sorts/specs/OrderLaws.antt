@@ -1,4 +1,5 @@
--- The order that `Ord` gives is the one by kind and then by what is within; it is total, and only equal sorts are level in it.
+-- The order that `Ord` gives is the one by kind and then by what is within; it is total, and only equal sorts are
+-- level in it.
 use Rattle.std.proofs.Common.{◌≡◌, ◌↔◌, ℕ, true, List, [], ◌∷◌, map, refl, sym, ap, ◌∙◌, subst}
 use Rattle.std.specs.declared.cmp.Ordering.TheVariants.{Equal}
 use Rattle.std.specs.Ordering.{is_eq}
@@ -121,7 +122,8 @@ Known = (a : Sort) × IsExact a
 abbrev forget_fields : List (List ℕ × Known) → List (List ℕ × Sort)
 forget_fields es = map (λ (e : List ℕ × Known). (e.0, e.1.0)) es
 
-exact_fields : (es : List (List ℕ × Known)) (fs : List (List ℕ × Sort)) → slice_cmp field_cmp (forget_fields es) fs ≡ Equal → forget_fields es ≡ fs
+exact_fields : (es : List (List ℕ × Known)) (fs : List (List ℕ × Sort))
+    → slice_cmp field_cmp (forget_fields es) fs ≡ Equal → forget_fields es ≡ fs
 exact_fields [] [] h = refl
 exact_fields [] (f ∷ fs) h = cc
 exact_fields (e ∷ es) [] h = cc
@@ -144,7 +146,8 @@ exact_uids (u ∷ us) (v ∷ vs) h =
     let rest : us ≡ vs = exact_uids us vs p.1 in
     cc
 
-exact_entity : (m n : List ℕ) (us vs : List Uid) → by_kind (s.Entity m us) (s.Entity n vs) ≡ Equal → ◌≡◌ {A = Sort-F Sort} (s.Entity m us) (s.Entity n vs)
+exact_entity : (m n : List ℕ) (us vs : List Uid) → by_kind (s.Entity m us) (s.Entity n vs) ≡ Equal
+    → ◌≡◌ {A = Sort-F Sort} (s.Entity m us) (s.Entity n vs)
 exact_entity m n us vs h =
     let p = ordering_then_equal _ _ h in
     let name : m ≡ n = exact_bytes m n p.0 in
@@ -176,14 +179,19 @@ inner (s.Option a) b h = absurd cc
 
 from_level : (x : Sort-F Sort) → IsExactLevel x → IsExact (roll-Sort x)
 from_level x h b e =
-    let level : by_kind x (out-Sort b) ≡ Equal = ap (λ z. by_kind z (out-Sort b)) (sym (out-roll-Sort x)) ∙ sym (sort_cmp_by_kind (roll-Sort x) b) ∙ e in
+    let level : by_kind x (out-Sort b) ≡ Equal = ap (λ z. by_kind z (out-Sort b)) (sym (out-roll-Sort x))
+    ∙ sym (sort_cmp_by_kind (roll-Sort x) b) ∙ e in
     ap roll-Sort (h (out-Sort b) level) ∙ roll-out-Sort b
 
 pub sort_cmp_exact : CmpEqualImpliesEq sort_cmp
 sort_cmp_exact = ind-Sort IsExact (λ x y e. from_level x (subst IsExactLevel e (inner y)))
 
 pub sort_cmp_level : (a b : Sort) → sort_cmp a b ≡ Equal ↔ a ≡ b
-sort_cmp_level a b = (sort_cmp_exact a b, λ e. subst (λ (z : Sort). sort_cmp a z ≡ Equal) e (tied_itself sort_cmp_total a))
+sort_cmp_level a b = (
+  sort_cmp_exact a b,
+  λ e. subst (λ (z : Sort). sort_cmp a z ≡ Equal) e
+      (tied_itself sort_cmp_total a),
+)
 
 -- ---- sorts that `==` finds equal
 

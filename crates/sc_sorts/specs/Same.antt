@@ -72,7 +72,8 @@ exact_bool false true h = never _ (ap is_eq h)
 exact_bool false false h = refl
 
 both_numbers : (m n p q : ℕ) → ordering_then (nat_cmp m n) (nat_cmp p q) ≡ Equal → (m ≡ n) × (p ≡ q)
-both_numbers m n p q h = let parts = ordering_then_equal (nat_cmp m n) (nat_cmp p q) h in (exact_unsigned m n parts.0, exact_unsigned p q parts.1)
+both_numbers m n p q h = let parts =
+    ordering_then_equal (nat_cmp m n) (nat_cmp p q) h in (exact_unsigned m n parts.0, exact_unsigned p q parts.1)
 
 exact_ip : (a b : Ip) → ip_ord.cmp a b ≡ Equal → a ≡ b
 exact_ip (V4 m p) (V4 n q) h = let same = both_numbers m n p q h in λ i. V4 (same.0 i) (same.1 i)

@@ -30,7 +30,8 @@ any_satisfied test ps = any_of (map (λ (p : Compiled). satisfied p.code) (filte
 
 -- some permit is satisfied, and no forbid is
 abbrev pub allow : List Compiled → Tree
-allow ps = and_term (any_satisfied (λ p. permits p.effect) ps) (not_term (any_satisfied (λ p. not (permits p.effect)) ps))
+allow ps = and_term (any_satisfied (λ p. permits p.effect) ps)
+    (not_term (any_satisfied (λ p. not (permits p.effect)) ps))
 
 -- whether the condition of one of the policies has no value
 abbrev pub any_error : List Compiled → Tree

@@ -19,7 +19,8 @@ sort_step s t.Decimal = sort.Decimal
 sort_step s t.Ip = sort.Ip
 sort_step s (t.Entity name) = entity_sort s name
 sort_step s (t.Set member) = sort.Set member
-sort_step s (t.Record fields) = sort.Record (map (λ (f : List ℕ × Presence × Sort). (f.0, with_presence f.1 f.2)) fields)
+sort_step s (t.Record fields) =
+    sort.Record (map (λ (f : List ℕ × Presence × Sort). (f.0, with_presence f.1 f.2)) fields)
 
 -- as `sort_of`, but for types of actions, which list the declared ones
 unfoldable pub sort_in : Declarations → Ty → Sort

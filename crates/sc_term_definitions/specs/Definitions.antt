@@ -1,5 +1,6 @@
--- How each truth value is defined by others: by a truth table, as all of them, or as a constant. What isn't said here is defined by
--- nothing. From these data follow the clauses, their number and their truth, and which terms a definition brings in.
+-- How each truth value is defined by others: by a truth table, as all of them, or as a constant. What isn't said here
+-- is defined by nothing. From these data follow the clauses, their number and their truth, and which terms a
+-- definition brings in.
 use Rattle.std.specs.Prelude.{ℕ, zero, suc, ◌+◌, ◌-◌, min, nat_le, Bool, true, false, List, [], ◌∷◌, map, if◌then◌else◌}
 use Rattle.sc_sorts.specs.declared.sort.Sort.{Sort, Sort-F, out-Sort}
 use Rattle.sc_sorts.specs.declared.sort.Sort.TheOpen as s
@@ -39,7 +40,8 @@ unfoldable pub counted : ℕ → ℕ → List ℕ
 counted from zero = []
 counted from (suc n) = from ∷ counted (suc from) n
 
--- how many bits the values of a sort have: numbers 64, addresses one for the version, 128 for the prefix and 128 of the address
+-- how many bits the values of a sort have: numbers 64, addresses one for the version, 128 for the prefix and 128 of
+-- the address
 abbrev pub bits_in : Sort-F Sort → ℕ
 bits_in s.Long = 64
 bits_in s.Decimal = 64
@@ -79,11 +81,13 @@ product_row a b i j = one (unary.ProductRow i j) (two binary.Multiply a b)
 
 -- bit j of partial product i: a moved up by i places where b has its bit i
 abbrev pub partial_term : Tree → Tree → ℕ → ℕ → Tree
-partial_term a b i j = if nat_le i j then and_term (bit_term a (min (j - i) 63)) (bit_term b (min i 63)) else truth_term false
+partial_term a b i j = if nat_le i j then and_term (bit_term a (min (j - i) 63)) (bit_term b (min i 63))
+    else truth_term false
 
 -- what a place of a row adds: the row before, the partial product and the carry
 abbrev pub row_inputs : Tree → Tree → ℕ → ℕ → List Tree
-row_inputs a b i j = product_row a b i j ∷ partial_term a b i j ∷ one (unary.ProductCarry i j) (two binary.Multiply a b) ∷ []
+row_inputs a b i j = product_row a b i j ∷ partial_term a b i j
+    ∷ one (unary.ProductCarry i j) (two binary.Multiply a b) ∷ []
 
 abbrev pub row_at : Tree → Tree → ℕ → ℕ → Definition
 row_at a b zero j = fixed false
@@ -103,7 +107,8 @@ row_carry_of _ a b i j = free
 
 -- bits 64 to 127 of a product's last row are all as bit 63
 abbrev pub sign_equations : Tree → List Tree
-sign_equations m = map (λ j. equal_term (one (unary.ProductRow 128 63) m) (one (unary.ProductRow 128 j) m)) (counted 64 64)
+sign_equations m = map (λ j. equal_term (one (unary.ProductRow 128 63) m) (one (unary.ProductRow 128 j) m))
+    (counted 64 64)
 
 -- just where they are, the exact product is one of 64 bits
 abbrev pub upper_bits : Tree → Tree → List Tree
@@ -125,7 +130,8 @@ low_at a b (suc i) = table Below (bit_term a i ∷ bit_term b i ∷ two (binary.
 
 -- place j of the prefix of b is free, or held fast in a too, where the addresses agree
 abbrev pub place_agrees : Tree → Tree → ℕ → Tree
-place_agrees a b j = or_term (not_term (bit_term b (1 + j))) (and_term (bit_term a (1 + j)) (equal_term (bit_term a (129 + j)) (bit_term b (129 + j))))
+place_agrees a b j = or_term (not_term (bit_term b (1 + j)))
+    (and_term (bit_term a (1 + j)) (equal_term (bit_term a (129 + j)) (bit_term b (129 + j))))
 
 abbrev pub agreements : Tree → Tree → List Tree
 agreements a b = map (place_agrees a b) (counted 0 128)
@@ -176,8 +182,10 @@ abbrev pub over_two : BinaryOp → Tree → Tree → Definition
 over_two binary.And a b = table Both (a ∷ b ∷ [])
 over_two binary.Or a b = table Either (a ∷ b ∷ [])
 over_two binary.Equal a b = equal_of (out-Sort (tree_sort a)) a b
-over_two binary.AddOverflows a b = table SumOverflows (bit_term a 63 ∷ bit_term b 63 ∷ bit_term (two binary.Add a b) 63 ∷ [])
-over_two binary.SubtractOverflows a b = table DifferenceOverflows (bit_term a 63 ∷ bit_term b 63 ∷ bit_term (two binary.Subtract a b) 63 ∷ [])
+over_two binary.AddOverflows a b =
+    table SumOverflows (bit_term a 63 ∷ bit_term b 63 ∷ bit_term (two binary.Add a b) 63 ∷ [])
+over_two binary.SubtractOverflows a b =
+    table DifferenceOverflows (bit_term a 63 ∷ bit_term b 63 ∷ bit_term (two binary.Subtract a b) 63 ∷ [])
 over_two binary.MultiplyOverflows a b = record { shape = NotAll; inputs = upper_bits a b }
 over_two binary.Less a b = table SignedBelow (bit_term a 63 ∷ bit_term b 63 ∷ two (binary.Low 63) a b ∷ [])
 over_two binary.InRange a b = all (range_inputs a b)

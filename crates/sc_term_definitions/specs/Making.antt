@@ -1,5 +1,5 @@
--- Numbers of a table that are made one after the other, and the row of the table of definitions that a number's term has. No public
--- promise but those on what is put speaks of it.
+-- Numbers of a table that are made one after the other, and the row of the table of definitions that a number's term
+-- has. No public promise but those on what is put speaks of it.
 use Rattle.std.specs.Prelude.{◌≡◌, ◌<◌, ◌≤◌, ℕ, Bool, true, false, ⊤, List, [], ◌∷◌, ◌++◌, map, length}
 use Rattle.std.specs.List.{AllByRecursion}
 use Rattle.sc_names.specs.declared.uid.Uid.{Uid}
@@ -64,13 +64,19 @@ inputs_by xs (row.Fixed b) = []
 inputs_by xs (row.Pair f a b) = tree xs a ∷ tree xs b ∷ []
 inputs_by xs (row.Choice c a b) = tree xs c ∷ tree xs a ∷ tree xs b ∷ []
 inputs_by xs (row.Bits count a b) = equal_bits (tree xs a) (tree xs b) count
-inputs_by xs (row.Sum f difference s a b i) = bit_term (tree xs a) i ∷ bit_term (tree xs b) i ∷ one (unary.CarryIn i) (two (operator difference) (tree xs a) (tree xs b)) ∷ []
+inputs_by xs (row.Sum f difference s a b i) =
+    bit_term (tree xs a) i ∷ bit_term (tree xs b) i
+    ∷ one (unary.CarryIn i) (two (operator difference) (tree xs a) (tree xs b)) ∷ []
 inputs_by xs (row.ProductBit m i) = one (unary.ProductRow 128 i) (tree xs m) ∷ []
 inputs_by xs (row.Product f m a b i j) = row_inputs (tree xs a) (tree xs b) i j
-inputs_by xs (row.Overflow difference a b) = bit_term (tree xs a) 63 ∷ bit_term (tree xs b) 63 ∷ bit_term (two (operator difference) (tree xs a) (tree xs b)) 63 ∷ []
+inputs_by xs (row.Overflow difference a b) =
+    bit_term (tree xs a) 63 ∷ bit_term (tree xs b) 63
+    ∷ bit_term (two (operator difference) (tree xs a) (tree xs b)) 63 ∷ []
 inputs_by xs (row.ProductOverflow a b) = upper_bits (tree xs a) (tree xs b)
-inputs_by xs (row.Low a b i) = bit_term (tree xs a) i ∷ bit_term (tree xs b) i ∷ two (binary.Low i) (tree xs a) (tree xs b) ∷ []
-inputs_by xs (row.Less a b) = bit_term (tree xs a) 63 ∷ bit_term (tree xs b) 63 ∷ two (binary.Low 63) (tree xs a) (tree xs b) ∷ []
+inputs_by xs (row.Low a b i) =
+    bit_term (tree xs a) i ∷ bit_term (tree xs b) i ∷ two (binary.Low i) (tree xs a) (tree xs b) ∷ []
+inputs_by xs (row.Less a b) =
+    bit_term (tree xs a) 63 ∷ bit_term (tree xs b) 63 ∷ two (binary.Low 63) (tree xs a) (tree xs b) ∷ []
 inputs_by xs (row.Range a b) = range_inputs (tree xs a) (tree xs b)
 
 abbrev pub shape_by : Row → Shape
@@ -114,9 +120,11 @@ Stands xs (row.Fixed b) = ⊤
 Stands xs (row.Pair f a b) = (a < length xs) × (b < length xs)
 Stands xs (row.Choice c a b) = (c < length xs) × (a < length xs) × (b < length xs)
 Stands xs (row.Bits count a b) = (a < length xs) × (b < length xs)
-Stands xs (row.Sum f difference s a b i) = (s < length xs) × (a < length xs) × (b < length xs) × (tree xs s ≡ two (operator difference) (tree xs a) (tree xs b))
+Stands xs (row.Sum f difference s a b i) = (s < length xs) × (a < length xs) × (b < length xs)
+    × (tree xs s ≡ two (operator difference) (tree xs a) (tree xs b))
 Stands xs (row.ProductBit m i) = m < length xs
-Stands xs (row.Product f m a b i j) = (m < length xs) × (a < length xs) × (b < length xs) × (tree xs m ≡ two binary.Multiply (tree xs a) (tree xs b))
+Stands xs (row.Product f m a b i j) = (m < length xs) × (a < length xs) × (b < length xs)
+    × (tree xs m ≡ two binary.Multiply (tree xs a) (tree xs b))
 Stands xs (row.Overflow difference a b) = (a < length xs) × (b < length xs)
 Stands xs (row.ProductOverflow a b) = (a < length xs) × (b < length xs)
 Stands xs (row.Low a b i) = (a < length xs) × (b < length xs)
@@ -129,7 +137,8 @@ HasPlaces xs row.Free = ⊤
 HasPlaces xs (row.Fixed b) = ⊤
 HasPlaces xs (row.Pair f a b) = ⊤
 HasPlaces xs (row.Choice c a b) = ⊤
-HasPlaces xs (row.Bits count a b) = (count ≤ bit_count (tree_sort (tree xs a))) × (count ≤ bit_count (tree_sort (tree xs b)))
+HasPlaces xs (row.Bits count a b) = (count ≤ bit_count (tree_sort (tree xs a)))
+    × (count ≤ bit_count (tree_sort (tree xs b)))
 HasPlaces xs (row.Sum f difference s a b i) = HasBit xs a i × HasBit xs b i
 HasPlaces xs (row.ProductBit m i) = ⊤
 HasPlaces xs (row.Product f m a b i j) = HasBit xs a 63 × HasBit xs b 63

@@ -53,7 +53,8 @@ DefinitionsHold = (d : Declarations) (env : Env) (written : List Uid) (w : World
 -- the bits of every address term are those of an address
 abbrev pub AddressesHold : Type 0
 AddressesHold = (d : Declarations) (env : Env) (written : List Uid) (w : World) (x : Tree)
-    → IsLawful d → IsWellFormed d env written w → IsTermOf d env written sort.Ip x → AreBlockBits (λ i. is_true (bit_term x i) w)
+    → IsLawful d → IsWellFormed d env written w → IsTermOf d env written sort.Ip x
+    → AreBlockBits (λ i. is_true (bit_term x i) w)
 
 -- the inputs of every truth value are truth values
 abbrev pub InputsAreTerms : Type 0

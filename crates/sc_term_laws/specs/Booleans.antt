@@ -1,5 +1,5 @@
--- Terms of the fragment of Booleans: truth values, attributes of a context that has required truth values alone, and connectives
--- of these.
+-- Terms of the fragment of Booleans: truth values, attributes of a context that has required truth values alone, and
+-- connectives of these.
 use Rattle.std.specs.Prelude.{◌≡◌, ℕ, List, Bool, true, false, map, Option, Some}
 use Rattle.std.specs.List.{Contains}
 use Rattle.sc_schema.specs.declared.ty.Ty.{Ty}
@@ -33,6 +33,8 @@ is_connective _ = false
 -- in an environment whose context is of this type, where it has one
 pub data IsBoolean (context : Option Ty) : Tree → Type 0 where
   of_truth : (b : Bool) → IsBoolean context (truth_term b)
-  of_attribute : (type : Ty) (fields : List Field) (name : List ℕ) → context ≡ Some type → plain_fields type ≡ Some fields → Contains (names_of fields) name → IsBoolean context (attribute_term type name)
+  of_attribute : (type : Ty) (fields : List Field) (name : List ℕ) → context ≡ Some type
+      → plain_fields type ≡ Some fields → Contains (names_of fields) name → IsBoolean context (attribute_term type name)
   of_not : (a : Tree) → IsBoolean context a → IsBoolean context (one Not a)
-  of_two : (o : BinaryOp) (a b : Tree) → is_connective o ≡ true → IsBoolean context a → IsBoolean context b → IsBoolean context (two o a b)
+  of_two : (o : BinaryOp) (a b : Tree) → is_connective o ≡ true → IsBoolean context a → IsBoolean context b
+      → IsBoolean context (two o a b)

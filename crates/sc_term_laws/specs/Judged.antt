@@ -44,7 +44,8 @@ abbrev pub is_choice : List Node → List Bool → ℕ → ℕ → ℕ → Bool
 is_choice xs good c a b =
     is_good good c
     && (are_good good a b
-    && choice_test (tree_sort (tree xs c)) (tree_sort (tree xs a)) (tree_sort (tree xs b)) (tree xs c) (tree xs a) (tree xs b))
+    && choice_test (tree_sort (tree xs c)) (tree_sort (tree xs a)) (tree_sort (tree xs b)) (tree xs c) (tree xs a)
+    (tree xs b))
 
 -- ---- literals
 

@@ -72,7 +72,8 @@ mutual
         → IsTermOf s env written sort.Decimal (literal_term (literal.Decimal n))
     of_address : (ip : Ip) → IsIp ip → IsTermOf s env written sort.Ip (literal_term (literal.Ip ip))
     of_uid : (u : Uid) → Contains written u ⊎ Contains (action_uids s) u
-        → IsTermOf s env written (entity_sort s u.type_name) (literal_term (literal.Entity u (choices_of s u.type_name)))
+        → IsTermOf s env written (entity_sort s u.type_name)
+        (literal_term (literal.Entity u (choices_of s u.type_name)))
     of_default : (name : List ℕ) → IsEntityType s name → choices_of s name ≡ []
         → IsTermOf s env written (sort.Entity name []) (literal_term (literal.Entity (default_uid name []) []))
     of_none : (k : Sort) → IsHeldSort s k → IsTermOf s env written (sort.Option k) (leaf (leafs.None k))

@@ -8,7 +8,9 @@ unfoldable pub joined : (Tree → Tree → Tree) → Tree → ℕ → List Tree 
 joined f e n [] = e
 joined f e n (x ∷ []) = x
 joined f e zero (x ∷ y ∷ xs) = x
-joined f e (suc n) (x ∷ y ∷ xs) = f (joined f e n (take (length (x ∷ y ∷ xs) / 2) (x ∷ y ∷ xs))) (joined f e n (drop (length (x ∷ y ∷ xs) / 2) (x ∷ y ∷ xs)))
+joined f e (suc n) (x ∷ y ∷ xs) =
+    f (joined f e n (take (length (x ∷ y ∷ xs) / 2) (x ∷ y ∷ xs)))
+    (joined f e n (drop (length (x ∷ y ∷ xs) / 2) (x ∷ y ∷ xs)))
 
 -- whether all are true; of no terms `true`
 abbrev pub all_of : List Tree → Tree

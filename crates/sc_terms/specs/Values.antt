@@ -135,7 +135,8 @@ abbrev pub option_in : Val → Option Value
 option_in (maybe o) = o
 option_in (it x) = None
 
--- ---- connectives, on any values. What they give of values that are no truth values is what the folds give of such terms.
+-- ---- connectives, on any values. What they give of values that are no truth values is what the folds give of such
+-- terms.
 
 abbrev pub not_seen : Option Bool → Val → Val
 not_seen (Some b) x = yes (not b)
@@ -226,7 +227,8 @@ attributes_value sort None = default_of sort
 
 -- the stored ancestors of a type
 abbrev pub ancestors_value : List ℕ → Option EntityData → Value
-ancestors_value name (Some e) = value.Set (map value.Entity (filter (λ (u : Uid). bytes_eq name u.type_name) e.ancestors))
+ancestors_value name (Some e) =
+    value.Set (map value.Entity (filter (λ (u : Uid). bytes_eq name u.type_name) e.ancestors))
 ancestors_value name None = value.Set []
 
 abbrev pub keys_value : Option EntityData → Value
@@ -336,7 +338,8 @@ two_value (binary.Tag own) sort x y w = it (tag_value own (text_in y) (entity_in
 two_value binary.Member sort x y w = yes (has_member (members_in y) (value_in x))
 two_value binary.Subset sort x y w = yes (list_all (has_member (members_in y)) (members_in x))
 two_value binary.Common sort x y w = yes (list_any (has_member (members_in y)) (members_in x))
-two_value binary.DifferencePick sort x y w = least (member_sort sort) (find (λ (z : Value). not (has_member (members_in y) z)) (members_in x))
+two_value binary.DifferencePick sort x y w =
+    least (member_sort sort) (find (λ (z : Value). not (has_member (members_in y) z)) (members_in x))
 two_value binary.CommonPick sort x y w = least (member_sort sort) (find (has_member (members_in y)) (members_in x))
 
 abbrev pub many_value : ManyOp → List (List ℕ × Val) → Val
@@ -373,7 +376,8 @@ is_maybe (maybe o) = true
 -- each name comes once, and what a field has is an option just where its sort is one of options
 abbrev pub HaveKinds : Trees → World → Type 0
 HaveKinds no_part w = ⊤
-HaveKinds (part l t ts) w = (lookup (bytes_eq l) (listed ts) ≡ None) × (is_maybe (val t w) ≡ is_option (tree_sort t)) × HaveKinds ts w
+HaveKinds (part l t ts) w = (lookup (bytes_eq l) (listed ts) ≡ None) × (is_maybe (val t w) ≡ is_option (tree_sort t))
+    × HaveKinds ts w
 
 -- of a term that is no record term nothing is asked
 abbrev pub HasKinds : Tree → World → Type 0

@@ -135,14 +135,16 @@ same_name a b = only_if (bytes_eq a b) (ty.Entity b)
 
 -- a field whose type joins another one's, before fields that are joined
 abbrev pub with_front : List ℕ → Presence → Option Ty → Option (List Field) → Option (List Field)
-with_front name presence joined fields = option_and_then (λ (u : Ty). option_map (λ (us : List Field). (name, presence, u) ∷ us) fields) joined
+with_front name presence joined fields =
+    option_and_then (λ (u : Ty). option_map (λ (us : List Field). (name, presence, u) ∷ us) fields) joined
 
 -- fields of the same names and presence, joined one by one
 abbrev pub join_fields : List (List ℕ × Presence × (Ty → Option Ty)) → List Field → Option (List Field)
 join_fields [] [] = Some []
 join_fields [] (g ∷ gs) = None
 join_fields (f ∷ fs) [] = None
-join_fields (f ∷ fs) (g ∷ gs) = if bytes_eq f.0 g.0 && same_presence f.1 g.1 then with_front g.0 g.1 (f.2 g.2) (join_fields fs gs) else None
+join_fields (f ∷ fs) (g ∷ gs) =
+    if bytes_eq f.0 g.0 && same_presence f.1 g.1 then with_front g.0 g.1 (f.2 g.2) (join_fields fs gs) else None
 
 -- a type and another one, the types inside the first being seen as what they join to
 abbrev pub join_step : Ty-F (Ty → Option Ty) → Ty → Option Ty
@@ -157,8 +159,8 @@ join_step (t.Entity a) y = option_and_then (same_name a) (entity_name y)
 join_step (t.Set a) y = option_and_then (λ b. option_map ty.Set (a b)) (member y)
 join_step (t.Record fs) y = option_and_then (λ gs. option_map ty.Record (join_fields fs gs)) (record_fields y)
 
--- the type that two types join to: equal ones to themselves, two Boolean ones that differ to Bool, sets by their members,
--- and records with the same names and the same required fields by their fields; nothing else joins
+-- the type that two types join to: equal ones to themselves, two Boolean ones that differ to Bool, sets by their
+-- members, and records with the same names and the same required fields by their fields; nothing else joins
 unfoldable pub join : Ty → Ty → Option Ty
 join = fold-Ty (Ty → Option Ty) join_step
 

@@ -19,7 +19,8 @@ fault_of (Err e) = Some e
 
 -- policy i in one environment
 abbrev pub fault_in : Declarations → ℕ → Policy → Env → Option IllTyped
-fault_in s i p env = option_map (λ (f : TypeFault). record { policy = i; env = env; fault = f }) (fault_of (typed_policy s env p))
+fault_in s i p env = option_map (λ (f : TypeFault). record { policy = i; env = env; fault = f })
+    (fault_of (typed_policy s env p))
 
 -- in the first of these environments in which it has no type
 unfoldable pub first_in : Declarations → ℕ → Policy → List Env → Option IllTyped

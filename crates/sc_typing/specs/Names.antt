@@ -55,7 +55,8 @@ abbrev pub first_in : List Undeclared → Undeclared
 first_in xs = fold first_of None xs
 
 abbrev pub uid_fault : Declarations → Place → Uid → Undeclared
-uid_fault s place u = if is_declared s u then None else Some (if is_action_name u.type_name then UnknownAction else UnknownEntityType, place)
+uid_fault s place u = if is_declared s u then None
+    else Some (if is_action_name u.type_name then UnknownAction else UnknownEntityType, place)
 
 abbrev pub type_fault : Declarations → TypeName → Undeclared
 type_fault s t = if is_type s t.name then None else Some (UnknownEntityType, t.place)

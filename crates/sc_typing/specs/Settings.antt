@@ -41,4 +41,5 @@ choice_rest place x y b known = b.typed known >>= λ z. branches place x y z
 
 -- `a is T in b` where a is of the type T
 abbrev pub tested_among : Declarations → Place → TypeName → Place → Expr → TypedExpr → Operand → Meaning
-tested_among s place t in_place a x b known = membership s a b known x >>= λ y. gives (typed.IsIn place y.0 x t in_place y.1) []
+tested_among s place t in_place a x b known =
+    membership s a b known x >>= λ y. gives (typed.IsIn place y.0 x t in_place y.1) []

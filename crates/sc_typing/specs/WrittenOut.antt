@@ -20,9 +20,10 @@ use Rattle.sc_typing.specs.Typing.{typing}
 abbrev pub is_and_in : Place → Expr → TypeName → Place → Expr → Expr
 is_and_in place a t in_place b = expr.And place (expr.Is place a t) (expr.Binary in_place In a b)
 
--- what the short form and the long one give: one fault, or one type, the same parts with their types, and nothing known; `in`
--- is skipped in both or in neither
-pub data TypesIsInAlike (place : Place) (a : Expr) (t : TypeName) (in_place : Place) (b : Expr) : Outcome → Outcome → Type 0 where
+-- what the short form and the long one give: one fault, or one type, the same parts with their types, and nothing
+-- known; `in` is skipped in both or in neither
+pub data TypesIsInAlike (place : Place) (a : Expr) (t : TypeName) (in_place : Place) (b : Expr) : Outcome → Outcome
+    → Type 0 where
   ill_typed : (fault : TypeFault) → TypesIsInAlike place a t in_place b (Err fault) (Err fault)
   of_the_type : (type : Ty) (x y : TypedExpr)
       → TypesIsInAlike place a t in_place b
@@ -36,4 +37,5 @@ pub data TypesIsInAlike (place : Place) (a : Expr) (t : TypeName) (in_place : Pl
 -- the two forms are typed alike in an environment, under what is known
 abbrev pub IsShort : Declarations → Env → Place → Expr → TypeName → Place → Expr → Capabilities → Type 0
 IsShort s env place a t in_place b known =
-    TypesIsInAlike place a t in_place b (typing s env (expr.IsIn place a t in_place b) known) (typing s env (is_and_in place a t in_place b) known)
+    TypesIsInAlike place a t in_place b (typing s env (expr.IsIn place a t in_place b) known)
+    (typing s env (is_and_in place a t in_place b) known)

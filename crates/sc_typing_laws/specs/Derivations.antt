@@ -1,5 +1,5 @@
--- What typing gives of an expression under capabilities, one row a construct, in the order of the grammar. A row's equations say
--- what the expression is and what is given, so that rows can be told apart at any expression.
+-- What typing gives of an expression under capabilities, one row a construct, in the order of the grammar. A row's
+-- equations say what the expression is and what is given, so that rows can be told apart at any expression.
 use Rattle.std.specs.Prelude.{◌≡◌, ℕ, List, [], ◌∷◌, ◌++◌, Bool, true, false, ◌||◌, if◌then◌else◌, Some, None, Ok}
 use Rattle.std.specs.Str.{bytes_eq}
 use Rattle.sc_ast.specs.declared.expr.Expr.{Expr}
@@ -35,17 +35,21 @@ in_type s n m = if may_be_in s n m then types.Bool else types.False
 mutual
   pub data Derives (s : Declarations) (env : Env) : Expr → Capabilities → Typed → Type 0 where
     -- `if c then a else b`: c is true, and b is skipped; c is false, and a is skipped; c may be true or false
-    of_if_true : (z : Expr) (known : Capabilities) (u : Typed) (p : Place) (c a b : Expr) (x y : Typed) → z ≡ expr.If p c a b
+    of_if_true : (z : Expr) (known : Capabilities) (u : Typed) (p : Place) (c a b : Expr) (x y : Typed)
+        → z ≡ expr.If p c a b
         → Derives s env c known x → is_true (ty x.expr) ≡ true → Derives s env a (known ++ x.given) y
         → u ≡ first_branch p x y b → Derives s env z known u
-    of_if_false : (z : Expr) (known : Capabilities) (u : Typed) (p : Place) (c a b : Expr) (x y : Typed) → z ≡ expr.If p c a b
+    of_if_false : (z : Expr) (known : Capabilities) (u : Typed) (p : Place) (c a b : Expr) (x y : Typed)
+        → z ≡ expr.If p c a b
         → Derives s env c known x → is_true (ty x.expr) ≡ false → is_false (ty x.expr) ≡ true → Derives s env b known y
         → u ≡ second_branch p x a y → Derives s env z known u
-    of_if : (z : Expr) (known : Capabilities) (u : Typed) (p : Place) (c a b : Expr) (x y v : Typed) (type : Ty) → z ≡ expr.If p c a b
+    of_if : (z : Expr) (known : Capabilities) (u : Typed) (p : Place) (c a b : Expr) (x y v : Typed) (type : Ty)
+        → z ≡ expr.If p c a b
         → Derives s env c known x → is_true (ty x.expr) ≡ false → is_false (ty x.expr) ≡ false
         → Derives s env a (known ++ x.given) y → Derives s env b known v → is_boolean (ty x.expr) ≡ true
         → join (ty y.expr) (ty v.expr) ≡ Some type
-        → u ≡ made (typed.If p type x.expr y.expr v.expr) (common (x.given ++ y.given) v.given) → Derives s env z known u
+        → u ≡ made (typed.If p type x.expr y.expr v.expr) (common (x.given ++ y.given) v.given)
+        → Derives s env z known u
     -- `a || b`
     of_or_true : (z : Expr) (known : Capabilities) (u : Typed) (p : Place) (a b : Expr) (x : Typed) → z ≡ expr.Or p a b
         → Derives s env a known x → is_true (ty x.expr) ≡ true
@@ -55,7 +59,8 @@ mutual
         → is_boolean (ty x.expr) ≡ true → is_boolean (ty y.expr) ≡ true
         → u ≡ made (typed.Or p (or_type x.expr y.expr) x.expr y.expr) (or_given x y) → Derives s env z known u
     -- `a && b`
-    of_and_false : (z : Expr) (known : Capabilities) (u : Typed) (p : Place) (a b : Expr) (x : Typed) → z ≡ expr.And p a b
+    of_and_false : (z : Expr) (known : Capabilities) (u : Typed) (p : Place) (a b : Expr) (x : Typed)
+        → z ≡ expr.And p a b
         → Derives s env a known x → is_false (ty x.expr) ≡ true
         → u ≡ made (typed.And p types.False x.expr (typed.Skipped b)) [] → Derives s env z known u
     of_and : (z : Expr) (known : Capabilities) (u : Typed) (p : Place) (a b : Expr) (x y : Typed) → z ≡ expr.And p a b
@@ -63,7 +68,8 @@ mutual
         → is_boolean (ty x.expr) ≡ true → is_boolean (ty y.expr) ≡ true
         → u ≡ made (typed.And p (and_type x.expr y.expr) x.expr y.expr) (and_given x y) → Derives s env z known u
     -- operators with two operands but for `in`
-    of_binary : (z : Expr) (known : Capabilities) (u : Typed) (p : Place) (o : BinaryOperator) (a b : Expr) (x y : Typed) (type : Ty)
+    of_binary : (z : Expr) (known : Capabilities) (u : Typed) (p : Place) (o : BinaryOperator) (a b : Expr)
+        (x y : Typed) (type : Ty)
         → z ≡ expr.Binary p o a b → Derives s env a known x → Derives s env b known y
         → IsOperation s known a b x.expr y.expr o type
         → u ≡ made (typed.Binary p type o x.expr y.expr) (given_by o a b type) → Derives s env z known u
@@ -75,7 +81,8 @@ mutual
         → z ≡ expr.Binary p In a b → Derives s env a known x → decided s a b ≡ None → Derives s env b known y
         → entity_name (ty x.expr) ≡ Some n → group (ty y.expr) ≡ Some m
         → u ≡ made (typed.Binary p (in_type s n m) In x.expr y.expr) [] → Derives s env z known u
-    of_has : (z : Expr) (known : Capabilities) (u : Typed) (p : Place) (a : Expr) (names : List (List ℕ)) (x : Typed) (r : Path)
+    of_has : (z : Expr) (known : Capabilities) (u : Typed) (p : Place) (a : Expr) (names : List (List ℕ)) (x : Typed)
+        (r : Path)
         → z ≡ expr.Has p a names → Derives s env a known x → along s p known (subject a x.expr) no_names names ≡ Ok r
         → u ≡ made (typed.Has p r.found x.expr r.steps r.skipped) r.given → Derives s env z known u
     of_like : (z : Expr) (known : Capabilities) (u : Typed) (p : Place) (a : Expr) (pattern : List Part) (x : Typed)
@@ -85,21 +92,28 @@ mutual
         → z ≡ expr.Is p a t → Derives s env a known x → entity_name (ty x.expr) ≡ Some n
         → u ≡ made (typed.Is p (truth (bytes_eq n t.name)) x.expr t) [] → Derives s env z known u
     -- `a is T in b`: b is skipped where a isn't of the type T
-    of_is_in_other : (z : Expr) (known : Capabilities) (u : Typed) (p q : Place) (a b : Expr) (t : TypeName) (x : Typed) (n : List ℕ)
-        → z ≡ expr.IsIn p a t q b → Derives s env a known x → entity_name (ty x.expr) ≡ Some n → bytes_eq n t.name ≡ false
+    of_is_in_other : (z : Expr) (known : Capabilities) (u : Typed) (p q : Place) (a b : Expr) (t : TypeName)
+        (x : Typed) (n : List ℕ)
+        → z ≡ expr.IsIn p a t q b → Derives s env a known x → entity_name (ty x.expr) ≡ Some n
+        → bytes_eq n t.name ≡ false
         → u ≡ made (typed.IsIn p types.False x.expr t q (typed.Skipped b)) [] → Derives s env z known u
-    of_is_in_decided : (z : Expr) (known : Capabilities) (u : Typed) (p q : Place) (a b : Expr) (t : TypeName) (x : Typed) (n : List ℕ)
+    of_is_in_decided : (z : Expr) (known : Capabilities) (u : Typed) (p q : Place) (a b : Expr) (t : TypeName)
+        (x : Typed) (n : List ℕ)
         (is_in : Bool) → z ≡ expr.IsIn p a t q b → Derives s env a known x → entity_name (ty x.expr) ≡ Some n
         → bytes_eq n t.name ≡ true → decided s a b ≡ Some is_in
         → u ≡ made (typed.IsIn p (truth is_in) x.expr t q (leaves b)) [] → Derives s env z known u
-    of_is_in : (z : Expr) (known : Capabilities) (u : Typed) (p q : Place) (a b : Expr) (t : TypeName) (x y : Typed) (n m : List ℕ)
-        → z ≡ expr.IsIn p a t q b → Derives s env a known x → entity_name (ty x.expr) ≡ Some n → bytes_eq n t.name ≡ true
+    of_is_in : (z : Expr) (known : Capabilities) (u : Typed) (p q : Place) (a b : Expr) (t : TypeName) (x y : Typed)
+        (n m : List ℕ)
+        → z ≡ expr.IsIn p a t q b → Derives s env a known x → entity_name (ty x.expr) ≡ Some n
+        → bytes_eq n t.name ≡ true
         → decided s a b ≡ None → Derives s env b known y → group (ty y.expr) ≡ Some m
         → u ≡ made (typed.IsIn p (in_type s n m) x.expr t q y.expr) [] → Derives s env z known u
-    of_unary : (z : Expr) (known : Capabilities) (u : Typed) (p : Place) (o : UnaryOperator) (a : Expr) (x : Typed) (type : Ty)
+    of_unary : (z : Expr) (known : Capabilities) (u : Typed) (p : Place) (o : UnaryOperator) (a : Expr) (x : Typed)
+        (type : Ty)
         → z ≡ expr.Unary p o a → Derives s env a known x → IsApplication a x.expr o type
         → u ≡ made (typed.Unary p type o x.expr) [] → Derives s env z known u
-    of_access : (z : Expr) (known : Capabilities) (u : Typed) (p : Place) (a : Expr) (name : List ℕ) (x : Typed) (fields : List Field)
+    of_access : (z : Expr) (known : Capabilities) (u : Typed) (p : Place) (a : Expr) (name : List ℕ) (x : Typed)
+        (fields : List Field)
         (f : Field) → z ≡ expr.Access p a name → Derives s env a known x → attributes s (ty x.expr) ≡ Some fields
         → attribute name fields ≡ Some f → (is_required f || is_known known (attribute_of a name)) ≡ true
         → u ≡ made (typed.Access p f.2 x.expr name) [] → Derives s env z known u
@@ -107,7 +121,8 @@ mutual
         → u ≡ made (literal_typed p l) [] → Derives s env z known u
     of_variable : (z : Expr) (known : Capabilities) (u : Typed) (p : Place) (v : Variable) → z ≡ expr.Variable p v
         → u ≡ made (typed.Variable p (variable_type s env v) v) [] → Derives s env z known u
-    of_set : (z : Expr) (known : Capabilities) (u : Typed) (p : Place) (members : List Expr) (xs : List TypedExpr) (type : Ty)
+    of_set : (z : Expr) (known : Capabilities) (u : Typed) (p : Place) (members : List Expr) (xs : List TypedExpr)
+        (type : Ty)
         → z ≡ expr.Set p members → DeriveAll s env members known xs → member_type p xs ≡ Ok type
         → u ≡ made (typed.Set p (types.Set type) xs) [] → Derives s env z known u
     of_record : (z : Expr) (known : Capabilities) (u : Typed) (p : Place) (fields : List (List ℕ × Expr))
@@ -117,11 +132,13 @@ mutual
   -- the members of a set, each under the same capabilities
   pub data DeriveAll (s : Declarations) (env : Env) : List Expr → Capabilities → List TypedExpr → Type 0 where
     no_member : (known : Capabilities) → DeriveAll s env [] known []
-    with_member : (known : Capabilities) (z : Expr) (zs : List Expr) (u : Typed) (us : List TypedExpr) → Derives s env z known u
+    with_member : (known : Capabilities) (z : Expr) (zs : List Expr) (u : Typed) (us : List TypedExpr)
+        → Derives s env z known u
         → DeriveAll s env zs known us → DeriveAll s env (z ∷ zs) known (u.expr ∷ us)
 
   -- the fields of a record, in the order in which they are written
-  pub data DeriveFields (s : Declarations) (env : Env) : List (List ℕ × Expr) → Capabilities → List (List ℕ × TypedExpr) → Type 0 where
+  pub data DeriveFields (s : Declarations) (env : Env) : List (List ℕ × Expr) → Capabilities
+      → List (List ℕ × TypedExpr) → Type 0 where
     no_field : (known : Capabilities) → DeriveFields s env [] known []
     with_field : (known : Capabilities) (name : List ℕ) (z : Expr) (zs : List (List ℕ × Expr)) (u : Typed)
         (us : List (List ℕ × TypedExpr)) → Derives s env z known u → DeriveFields s env zs known us

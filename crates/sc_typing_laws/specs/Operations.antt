@@ -1,4 +1,5 @@
--- The types of operators, one row for each kind of operator: what typing asks of the operands, and the type of the result.
+-- The types of operators, one row for each kind of operator: what typing asks of the operands, and the type of the
+-- result.
 use Rattle.std.specs.Prelude.{◌≡◌, ◌&&◌, ℕ, List, Bool, true, false, Some, None, is_some}
 use Rattle.sc_ast.specs.declared.expr.Expr.{Expr}
 use Rattle.sc_ast.specs.declared.literal.Literal.{Literal}
@@ -45,7 +46,8 @@ abbrev pub are_literals : Expr → Expr → Bool
 are_literals a b = is_some (literal_of a) && is_some (literal_of b)
 
 -- an operator other than `in` has a type, of two operands a and b, which are typed as x and y
-pub data IsOperation (s : Declarations) (known : Capabilities) (a b : Expr) (x y : TypedExpr) : BinaryOperator → Ty → Type 0 where
+pub data IsOperation (s : Declarations) (known : Capabilities) (a b : Expr) (x y : TypedExpr) : BinaryOperator → Ty
+    → Type 0 where
   of_comparison : (o : BinaryOperator) → IsComparison o → is_long (ty x) ≡ true → is_long (ty y) ≡ true
       → IsOperation s known a b x y o types.Bool
   of_arithmetic : (o : BinaryOperator) → IsArithmetic o → is_long (ty x) ≡ true → is_long (ty y) ≡ true
@@ -53,17 +55,21 @@ pub data IsOperation (s : Declarations) (known : Capabilities) (a b : Expr) (x y
   -- two literals are compared by value, also of two kinds
   of_literals : (l m : Literal) → literal_of a ≡ Some l → literal_of b ≡ Some m
       → IsOperation s known a b x y Equal (truth (same_literal l m))
-  of_equal : (both : Ty) → are_literals a b ≡ false → join (ty x) (ty y) ≡ Some both → IsOperation s known a b x y Equal types.Bool
+  of_equal : (both : Ty) → are_literals a b ≡ false → join (ty x) (ty y) ≡ Some both
+      → IsOperation s known a b x y Equal types.Bool
   -- entities of two types are never equal
-  of_apart : (n m : List ℕ) → are_literals a b ≡ false → entity_name (ty x) ≡ Some n → entity_name (ty y) ≡ Some m → join (ty x) (ty y) ≡ None
+  of_apart : (n m : List ℕ) → are_literals a b ≡ false → entity_name (ty x) ≡ Some n → entity_name (ty y) ≡ Some m
+      → join (ty x) (ty y) ≡ None
       → IsOperation s known a b x y Equal types.False
   of_contains : (element both : Ty) → member (ty x) ≡ Some element → join element (ty y) ≡ Some both
       → IsOperation s known a b x y Contains types.Bool
-  of_sets : (o : BinaryOperator) (first second both : Ty) → IsSetTest o → member (ty x) ≡ Some first → member (ty y) ≡ Some second
+  of_sets : (o : BinaryOperator) (first second both : Ty) → IsSetTest o → member (ty x) ≡ Some first
+      → member (ty y) ≡ Some second
       → join first second ≡ Some both → IsOperation s known a b x y o types.Bool
   of_has_tag : (n : List ℕ) → entity_name (ty x) ≡ Some n → is_string (ty y) ≡ true
       → IsOperation s known a b x y HasTag (has_tag (tags_of s n) (is_known known (tag_of a b)))
-  of_get_tag : (n : List ℕ) (type : Ty) → entity_name (ty x) ≡ Some n → is_string (ty y) ≡ true → tags_of s n ≡ Some type
+  of_get_tag : (n : List ℕ) (type : Ty) → entity_name (ty x) ≡ Some n → is_string (ty y) ≡ true
+      → tags_of s n ≡ Some type
       → is_known known (tag_of a b) ≡ true → IsOperation s known a b x y GetTag type
   of_decimals : (o : BinaryOperator) → IsDecimalComparison o → is_decimal (ty x) ≡ true → is_decimal (ty y) ≡ true
       → IsOperation s known a b x y o types.Bool
@@ -81,5 +87,6 @@ pub data IsApplication (a : Expr) (x : TypedExpr) : UnaryOperator → Ty → Typ
   of_negate : is_long (ty x) ≡ true → IsApplication a x Negate types.Long
   of_is_empty : (element : Ty) → member (ty x) ≡ Some element → IsApplication a x IsEmpty types.Bool
   of_address_test : (o : UnaryOperator) → IsAddressTest o → is_ip (ty x) ≡ true → IsApplication a x o types.Bool
-  of_decimal : (text : List ℕ) (n : _) → text_of a ≡ Some text → decimal_of text ≡ Some n → IsApplication a x Decimal types.Decimal
+  of_decimal : (text : List ℕ) (n : _) → text_of a ≡ Some text → decimal_of text ≡ Some n
+      → IsApplication a x Decimal types.Decimal
   of_ip : (text : List ℕ) (ip : Address) → text_of a ≡ Some text → ip_of text ≡ Some ip → IsApplication a x Ip types.Ip

@@ -52,7 +52,8 @@ abbrev pub are_entities : Ty → Ty → Bool
 are_entities s t = is_some (entity_name s) && is_some (entity_name t)
 
 abbrev pub compared : Place → Ty → Ty → Result Ty TypeFault
-compared place s t = if is_some (join s t) then Ok ty.Bool else (if are_entities s t then Ok ty.False else fails NoJoin place)
+compared place s t = if is_some (join s t) then Ok ty.Bool
+    else (if are_entities s t then Ok ty.False else fails NoJoin place)
 
 -- two literals are compared by value
 abbrev pub equal_by : Place → Option Literal → Option Literal → Ty → Ty → Result Ty TypeFault
@@ -129,7 +130,8 @@ tag_read s known place a b x y = tags s x y >>= λ o. get_tag place o (is_known 
 -- ---- two operands
 
 -- the type of an operator's result, at a place, of two operands and of these with their types
-abbrev pub binary : Declarations → Capabilities → Place → BinaryOperator → Expr → Expr → TypedExpr → TypedExpr → Result Ty TypeFault
+abbrev pub binary : Declarations → Capabilities → Place → BinaryOperator → Expr → Expr → TypedExpr → TypedExpr
+    → Result Ty TypeFault
 binary s known place Less a b x y = longs x y ty.Bool
 binary s known place LessOrEqual a b x y = longs x y ty.Bool
 binary s known place Greater a b x y = longs x y ty.Bool

@@ -35,15 +35,31 @@ no_names = record { steps = []; found = ty.True; given = []; skipped = [] }
 
 -- a name more that is never there, asked of an object of a type; the names after it are skipped
 abbrev pub ended : Path → Ty → List ℕ → List (List ℕ) → Path
-ended p type name names = record { steps = p.steps ++ step name type ty.False ∷ []; found = ty.False; given = []; skipped = names }
+ended p type name names = record {
+  steps = p.steps ++ step name type ty.False ∷ [];
+  found = ty.False;
+  given = [];
+  skipped = names;
+}
 
 -- a name more that is always there
 abbrev pub held : Path → Ty → List ℕ → Path
-held p type name = record { steps = p.steps ++ step name type ty.True ∷ []; found = p.found; given = p.given; skipped = [] }
+held p type name = record {
+  steps = p.steps ++ step name type ty.True ∷ [];
+  found = p.found;
+  given = p.given;
+  skipped = [];
+}
 
 -- a name more that may be there or not, and is where its capability holds
 abbrev pub maybe_held : Path → Ty → List ℕ → Capability → Path
-maybe_held p type name c = record { steps = p.steps ++ step name type ty.Bool ∷ []; found = ty.Bool; given = p.given ++ c ∷ []; skipped = [] }
+maybe_held p type name c = record {
+  steps = p.steps ++ step name type ty.Bool ∷ [];
+  found = ty.Bool;
+  given = p.given
+      ++ c ∷ [];
+  skipped = [];
+}
 
 -- each record has what its type requires
 abbrev pub has_always : Ty → Field → Bool
@@ -55,11 +71,13 @@ named object name = record { object = object; key = Attribute name }
 -- a name more that is declared
 abbrev pub longer : Capabilities → Path → Expr → Ty → List ℕ → Field → Path
 longer known p object type name f =
-    if has_always type f || is_known (known ++ p.given) (named object name) then held p type name else maybe_held p type name (named object name)
+    if has_always type f || is_known (known ++ p.given) (named object name) then held p type name
+    else maybe_held p type name (named object name)
 
 -- the path so far, and the names to come, of which the first is asked of a subject
 abbrev pub along : Declarations → Place → Capabilities → Subject → Path → List (List ℕ) → Result Path TypeFault
 along s place known o p [] = Ok p
 along s place known o p (name ∷ names) =
     as_object s o.at o.type >>= λ fields.
-    option_map_or (λ (f : Field). along s place known (attribute_in place o name f) (longer known p o.object o.type name f) names) (attribute name fields) (Ok (ended p o.type name names))
+    option_map_or (λ (f : Field). along s place known (attribute_in place o name f)
+    (longer known p o.object o.type name f) names) (attribute name fields) (Ok (ended p o.type name names))

@@ -1,6 +1,6 @@
--- The type of an expression under capabilities, and the capabilities that it gives where it is true. Operands are typed
--- first, from left to right, but for those that a rule skips; then their kinds are asked for, from left to right; then comes
--- the rest of the rule. The first fault stands.
+-- The type of an expression under capabilities, and the capabilities that it gives where it is true. Operands are
+-- typed first, from left to right, but for those that a rule skips; then their kinds are asked for, from left to
+-- right; then comes the rest of the rule. The first fault stands.
 use Rattle.std.specs.Prelude.{ℕ, List, [], ◌∷◌, ◌++◌, map, fold, Bool, ◌||◌, if◌then◌else◌, Option, Some, None, unwrap_or, Result, Ok}
 use Rattle.std.specs.BTreeMap.{insert_entry}
 use Rattle.std.specs.Str.{bytes_eq}
@@ -48,7 +48,8 @@ pub record Operand : Type 0 where
 
 -- c is true, and b is skipped
 abbrev pub first_branch : Place → Typed → Typed → Expr → Typed
-first_branch place c a b = made (typed.If place (outcome.ty a.expr) c.expr a.expr (typed.Skipped b)) (c.given ++ a.given)
+first_branch place c a b = made (typed.If place (outcome.ty a.expr) c.expr a.expr (typed.Skipped b))
+    (c.given ++ a.given)
 
 -- c is false, and a is skipped
 abbrev pub second_branch : Place → Typed → Expr → Typed → Typed
@@ -165,7 +166,8 @@ with_right s x y = within s x y >>= λ type. Ok (type, y)
 abbrev pub right_side : Declarations → Operand → Capabilities → TypedExpr → Result (Ty × TypedExpr) TypeFault
 right_side s b known x = b.typed known >>= λ y. with_right s x y.expr
 
-abbrev pub membership_by : Option Bool → Declarations → Operand → Capabilities → TypedExpr → Result (Ty × TypedExpr) TypeFault
+abbrev pub membership_by : Option Bool → Declarations → Operand → Capabilities → TypedExpr
+    → Result (Ty × TypedExpr) TypeFault
 membership_by (Some is_in) s b known x = Ok (truth is_in, leaves b.expr)
 membership_by None s b known x = right_side s b known x
 
@@ -178,9 +180,11 @@ contained s place a b known =
     a.typed known >>= λ x. membership s a.expr b known x.expr >>= λ y. gives (typed.Binary place y.0 In x.expr y.1) []
 
 -- an operator, of operands with their types
-abbrev pub operation : Declarations → Capabilities → Place → BinaryOperator → Expr → Expr → TypedExpr → TypedExpr → Outcome
+abbrev pub operation : Declarations → Capabilities → Place → BinaryOperator → Expr → Expr → TypedExpr
+    → TypedExpr → Outcome
 operation s known place operator a b x y =
-    binary s known place operator a b x y >>= λ type. gives (typed.Binary place type operator x y) (given_by operator a b type)
+    binary s known place operator a b x y >>= λ type. gives (typed.Binary place type operator x y)
+    (given_by operator a b type)
 
 abbrev pub computed : Declarations → Place → BinaryOperator → Operand → Operand → Meaning
 computed s place operator a b known =
@@ -198,7 +202,8 @@ subject a x = record { object = bare a; at = place_of x; type = outcome.ty x }
 
 abbrev pub path_of : Declarations → Capabilities → Place → List (List ℕ) → Expr → TypedExpr → Outcome
 path_of s known place names a x =
-    along s place known (subject a x) no_names names >>= λ p. gives (typed.Has place p.found x p.steps p.skipped) p.given
+    along s place known (subject a x) no_names names >>= λ p. gives
+    (typed.Has place p.found x p.steps p.skipped) p.given
 
 abbrev pub having : Declarations → Place → List (List ℕ) → Operand → Meaning
 having s place names a known = a.typed known >>= λ x. path_of s known place names a.expr x.expr
@@ -251,7 +256,8 @@ read place (Some f) known = if is_required f || known then Ok f.2 else fails May
 
 abbrev pub read_type : Declarations → Capabilities → Place → List ℕ → Expr → TypedExpr → Result Ty TypeFault
 read_type s known place name a x =
-    as_object s (place_of x) (outcome.ty x) >>= λ fields. read place (attribute name fields) (is_known known (attribute_of a name))
+    as_object s (place_of x) (outcome.ty x) >>= λ fields. read place (attribute name fields)
+    (is_known known (attribute_of a name))
 
 abbrev pub access : Declarations → Capabilities → Place → List ℕ → Expr → TypedExpr → Outcome
 access s known place name a x = read_type s known place name a x >>= λ type. gives (typed.Access place type x name) []
@@ -294,4 +300,5 @@ abbrev pub record_type : List (List ℕ × TypedExpr) → Ty
 record_type fields = ty.Record (map (λ (f : List ℕ × Ty). (f.0, Required, f.1)) (fold with_field [] fields))
 
 abbrev pub record_literal : Place → List (List ℕ × Operand) → Meaning
-record_literal place fields known = fields_typed fields known >>= λ xs. gives (typed.Record place (record_type xs) xs) []
+record_literal place fields known =
+    fields_typed fields known >>= λ xs. gives (typed.Record place (record_type xs) xs) []

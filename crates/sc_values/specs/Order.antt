@@ -30,14 +30,15 @@ kind (v.Ip x) = 7
 
 -- by version, address and prefix
 abbrev pub ip_cmp : Ip → Ip → Ordering
-ip_cmp a b = ordering_then (nat_cmp (width_of a) (width_of b)) (ordering_then (nat_cmp (address_of a) (address_of b)) (nat_cmp (prefix_of a) (prefix_of b)))
+ip_cmp a b = ordering_then (nat_cmp (width_of a) (width_of b))
+    (ordering_then (nat_cmp (address_of a) (address_of b)) (nat_cmp (prefix_of a) (prefix_of b)))
 
 -- fields by name, then value
 abbrev pub field_cmp : List ℕ × Value → List ℕ × Value → Ordering
 field_cmp f g = ordering_then (text_cmp f.0 g.0) (value_cmp f.1 g.1)
 
--- two values of one kind: numbers by size, false before true, texts and uids by bytes, sets and records as lists, of which
--- a proper prefix comes first
+-- two values of one kind: numbers by size, false before true, texts and uids by bytes, sets and records as lists, of
+-- which a proper prefix comes first
 abbrev pub within_kind : Value-F Value → Value-F Value → Ordering
 within_kind (v.Bool a) (v.Bool b) = bool_cmp a b
 within_kind (v.Long m) (v.Long n) = int_cmp m n

@@ -39,7 +39,8 @@ default_step s t.Decimal = value.Decimal (pos 0)
 default_step s t.Ip = value.Ip (V4 0 32)
 default_step s (t.Entity name) = value.Entity (default_uid s name)
 default_step s (t.Set member) = value.Set []
-default_step s (t.Record fields) = value.Record (flat_map (λ (f : List ℕ × Presence × Value). default_field f.1 f.0 f.2) fields)
+default_step s (t.Record fields) =
+    value.Record (flat_map (λ (f : List ℕ × Presence × Value). default_field f.1 f.0 f.2) fields)
 
 -- the default of a type
 unfoldable pub default_value : Declarations → Ty → Value
@@ -60,7 +61,11 @@ default_attrs s name = default_fields s (attrs_of s name)
 
 -- what is stored of an entity by default: an action's declared ancestors and no others, and no tags
 abbrev pub default_data : Declarations → Uid → EntityData
-default_data s u = record { attrs = default_attrs s u.type_name; ancestors = unwrap_or (action_ancestors s u) []; tags = [] }
+default_data s u = record {
+  attrs = default_attrs s u.type_name;
+  ancestors = unwrap_or (action_ancestors s u) [];
+  tags = [];
+}
 
 -- the request of an environment, by default
 abbrev pub default_request : Declarations → Env → Request

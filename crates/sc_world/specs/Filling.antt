@@ -20,15 +20,17 @@ first_uids s given r literals = action_uids s ++ (request_uids r ++ (literals ++
 abbrev pub HaveTexts : Entities → Type 0
 HaveTexts es = AllByRecursion (λ (x : Entry). IsUidText x.0) es
 
--- what one entity of the list changes: nothing where it is stored, and else it is stored as it is by default, and what it
--- names then is put at the list's end
+-- what one entity of the list changes: nothing where it is stored, and else it is stored as it is by default, and
+-- what it names then is put at the list's end
 pub data IsStep (s : Declarations) (uids : List Uid) (es : Entities) (u : Uid) : List Uid → Entities → Type 0 where
   known : IsStored es u → IsStep s uids es u uids es
-  added : ¬ IsStored es u → IsUidText u → IsStep s uids es u (uids ++ uids_in_data (default_data s u)) (with_entity u (default_data s u) es)
+  added : ¬ IsStored es u → IsUidText u
+      → IsStep s uids es u (uids ++ uids_in_data (default_data s u)) (with_entity u (default_data s u) es)
 
--- what is given is stored, and so are the first entities of the list, each as it is by default where it isn't given; what
--- the stored ones name stands in the list, and only what is named is in either
-pub record IsFilled (s : Declarations) (given : Entities) (r : Request) (literals uids : List Uid) (done : ℕ) (es : Entities) : Type 0 where
+-- what is given is stored, and so are the first entities of the list, each as it is by default where it isn't given;
+-- what the stored ones name stands in the list, and only what is named is in either
+pub record IsFilled (s : Declarations) (given : Entities) (r : Request) (literals uids : List Uid) (done : ℕ)
+    (es : Entities) : Type 0 where
   pub begins : AllByRecursion (Contains uids) (first_uids s given r literals)
   pub kept : AllByRecursion (λ (x : Entry). IsStored es x.0) given
   pub listed : AllByRecursion (IsNamedWith s given r literals) uids

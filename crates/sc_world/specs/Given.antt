@@ -18,14 +18,15 @@ data_with s given u = unwrap_or (stored u given) (default_data s u)
 abbrev pub AreAsGiven : Declarations → Entities → Entities → Type 0
 AreAsGiven s given es = AllByRecursion (λ (x : Entry). x.1 ≡ data_with s given x.0) es
 
--- what is stored with these given: the declared actions, what the request names, what policies write, what is given, and
--- what the attributes, tags and ancestors of a stored entity name
+-- what is stored with these given: the declared actions, what the request names, what policies write, what is given,
+-- and what the attributes, tags and ancestors of a stored entity name
 pub data IsNamedWith (s : Declarations) (given : Entities) (r : Request) (literals : List Uid) : Uid → Type 0 where
   of_schema : {u : Uid} → Contains (action_uids s) u → IsNamedWith s given r literals u
   of_request : {u : Uid} → Contains (request_uids r) u → IsNamedWith s given r literals u
   of_policy : {u : Uid} → Contains literals u → IsNamedWith s given r literals u
   of_given : {u : Uid} → IsStored given u → IsNamedWith s given r literals u
-  of_entity : {v : Uid} (u : Uid) → IsNamedWith s given r literals u → Contains (uids_in_data (data_with s given u)) v → IsNamedWith s given r literals v
+  of_entity : {v : Uid} (u : Uid) → IsNamedWith s given r literals u → Contains (uids_in_data (data_with s given u)) v
+      → IsNamedWith s given r literals v
 
 -- just what is named is stored
 abbrev pub StoresNamedWith : Declarations → Entities → Request → List Uid → Entities → Type 0

@@ -57,15 +57,18 @@ HasAttributes s x = IsSomeAnd (attrs_of s x.0.type_name) (λ t. IsTrue (conforms
 
 -- each tag is of the type's tag type, and there is none where the type has none
 abbrev pub HasTags : Declarations → Entry → Type 0
-HasTags s x = MatchOption (tags_of s x.0.type_name) (x.1.tags ≡ []) (λ t. AllByRecursion (λ (f : List ℕ × Value). IsTrue (conforms t f.1)) x.1.tags)
+HasTags s x = MatchOption (tags_of s x.0.type_name) (x.1.tags ≡ [])
+    (λ t. AllByRecursion (λ (f : List ℕ × Value). IsTrue (conforms t f.1)) x.1.tags)
 
 -- each ancestor is of a type that ancestors of the entity's type may have
 abbrev pub HasAncestorTypes : Declarations → Entry → Type 0
-HasAncestorTypes s x = AllByRecursion (λ (a : Uid). IsSomeAnd (ancestor_types s x.0.type_name) (λ types. Contains types a.type_name)) x.1.ancestors
+HasAncestorTypes s x = AllByRecursion
+    (λ (a : Uid). IsSomeAnd (ancestor_types s x.0.type_name) (λ types. Contains types a.type_name)) x.1.ancestors
 
 -- ancestors of an ancestor are ancestors
 abbrev pub IsTransitive : Entities → Entry → Type 0
-IsTransitive es x = AllByRecursion (λ a. IfSome (stored a es) (λ e. AllByRecursion (λ b. Contains x.1.ancestors b) e.ancestors)) x.1.ancestors
+IsTransitive es x = AllByRecursion
+    (λ a. IfSome (stored a es) (λ e. AllByRecursion (λ b. Contains x.1.ancestors b) e.ancestors)) x.1.ancestors
 
 -- an entity isn't its own ancestor
 abbrev pub IsAcyclic : Entry → Type 0
@@ -77,7 +80,8 @@ action_data a = record { attrs = []; ancestors = a.ancestors; tags = [] }
 
 -- an entity of an action type is a declared action, with no attributes and tags and with its declared ancestors
 abbrev pub IsAction : Declarations → Entry → Type 0
-IsAction s x = IsTrue (is_action_type s x.0.type_name) → (a : Action) × Contains s.actions a × (x ≡ (a.uid, action_data a))
+IsAction s x = IsTrue (is_action_type s x.0.type_name) → (a : Action) × Contains s.actions a
+    × (x ≡ (a.uid, action_data a))
 
 abbrev pub IsStored : Entities → Uid → Type 0
 IsStored es u = IsSome (stored u es)

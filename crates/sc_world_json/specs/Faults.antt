@@ -1,5 +1,5 @@
--- The first place of a world's JSON that isn't of the form, in a walk that takes the members of an object in the order of
--- their bytes and an object before its members.
+-- The first place of a world's JSON that isn't of the form, in a walk that takes the members of an object in the
+-- order of their bytes and an object before its members.
 use Rattle.std.specs.Prelude.{ℕ, ◌+◌, List, [], ◌∷◌, Bool, true, false, not, Option, Some, None, option_map, option_and_then, codes}
 use Rattle.std.specs.Option.{option_or, option_map_or}
 use Rattle.std.specs.BTreeSet.{insert_key}
@@ -40,18 +40,21 @@ unfoldable mutual
   value_fault form (string text) = fault_unless (admits_text form text)
   value_fault form (array ds) = option_map_or (λ each. items_fault each 0 ds) (item_form form) (fault_unless false)
   value_fault form (object ms) =
-      option_map_or (λ level. option_or (fault_unless (has_members level ms)) (members_fault level ms)) (level_of form ms) (fault_unless false)
+      option_map_or (λ level. option_or (fault_unless (has_members level ms)) (members_fault level ms))
+      (level_of form ms) (fault_unless false)
 
   -- the first fault of the items of a list from this number on
   pub items_fault : Form → ℕ → Items → Option WorldFault
   items_fault form n no_items = None
-  items_fault form n (item d ds) = option_or (option_map (under (decimal n)) (value_fault form d)) (items_fault form (n + 1) ds)
+  items_fault form n (item d ds) =
+      option_or (option_map (under (decimal n)) (value_fault form d)) (items_fault form (n + 1) ds)
 
   -- the first fault of the members of an object
   pub members_fault : Level → Members → Option WorldFault
   members_fault level no_members = None
   members_fault level (member key d ms) =
-      option_or (option_map (under key) (option_map_or (λ form. value_fault form d) (member_form level key) None)) (members_fault level ms)
+      option_or (option_map (under key) (option_map_or (λ form. value_fault form d) (member_form level key) None))
+      (members_fault level ms)
 
 -- the first fault of one member of an object
 abbrev pub member_fault : Level → List ℕ → Data → Option WorldFault
@@ -71,7 +74,8 @@ entity_fault before d = option_or (value_fault (Object Entity) d) (repeat_fault 
 unfoldable pub entities_fault : List Uid → ℕ → Items → Option WorldFault
 entities_fault before n no_items = None
 entities_fault before n (item d ds) =
-    option_or (option_map (under (decimal n)) (entity_fault before d)) (entities_fault (insert_key uid_cmp before (uid_of (get (codes "uid") d))) (n + 1) ds)
+    option_or (option_map (under (decimal n)) (entity_fault before d))
+    (entities_fault (insert_key uid_cmp before (uid_of (get (codes "uid") d))) (n + 1) ds)
 
 abbrev pub store_fault : Data → Option WorldFault
 store_fault d = option_map_or (λ ds. entities_fault [] 0 ds) (as_array d) (fault_unless false)
@@ -88,4 +92,5 @@ is_world d = option_map_or (has_just (codes "entities" ∷ codes "request" ∷ [
 abbrev pub first_fault : Data → Option WorldFault
 first_fault d =
     option_or (fault_unless (is_world d))
-    (option_or (fault_at (codes "entities") store_fault d) (fault_at (codes "request") (value_fault (Object Request)) d))
+    (option_or (fault_at (codes "entities") store_fault d)
+    (fault_at (codes "request") (value_fault (Object Request)) d))

@@ -14,7 +14,8 @@ use Rattle.sc_world_json.specs.declared.function.Function.TheVariants.{Decimal, 
 
 -- what an object whose one member has this name is marked as
 abbrev pub mark_named : List ℕ → Option Mark
-mark_named name = if bytes_eq name (codes "__entity") then Some Entity else (if bytes_eq name (codes "__extn") then Some Extension else None)
+mark_named name = if bytes_eq name (codes "__entity") then Some Entity
+    else (if bytes_eq name (codes "__extn") then Some Extension else None)
 
 -- the name of the one member, if there is just one
 abbrev pub only_name : Members → Option (List ℕ)
@@ -28,7 +29,8 @@ mark_of ms = option_and_then mark_named (only_name ms)
 
 -- the function of this name
 abbrev pub function_named : List ℕ → Option Function
-function_named name = if bytes_eq name (codes "decimal") then Some Decimal else (if bytes_eq name (codes "ip") then Some Ip else None)
+function_named name = if bytes_eq name (codes "decimal") then Some Decimal
+    else (if bytes_eq name (codes "ip") then Some Ip else None)
 
 -- the value that a function gives for a text, if the text stands for one
 abbrev pub value_by : Function → List ℕ → Option Value

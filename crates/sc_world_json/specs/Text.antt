@@ -28,7 +28,8 @@ reference_data u = only_member (codes "__entity") (uid_data u)
 
 -- the value that a function gives for a text
 abbrev pub extension_data : List ℕ → List ℕ → Data
-extension_data name text = only_member (codes "__extn") (object (member (codes "arg") (string text) (member (codes "fn") (string name) no_members)))
+extension_data name text = only_member (codes "__extn")
+    (object (member (codes "arg") (string text) (member (codes "fn") (string name) no_members)))
 
 -- the members with these names and data, in order
 abbrev pub members_data : List (List ℕ × Data) → Members
@@ -72,7 +73,8 @@ request_data r =
 
 abbrev pub world_data : World → Data
 world_data w =
-    object (member (codes "entities") (entities_data w.store) (member (codes "request") (request_data w.request) no_members))
+    object (member (codes "entities") (entities_data w.store)
+    (member (codes "request") (request_data w.request) no_members))
 
 -- the text with no white space
 unfoldable pub world_text : World → List ℕ

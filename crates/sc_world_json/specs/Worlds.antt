@@ -49,7 +49,8 @@ uids_of value = in_order uid_cmp (map (λ d. uid_of (Some d)) (elements_of value
 -- the value that a named function gives for a text
 abbrev pub extension_of : Option Data → Value
 extension_of call =
-    unwrap_or (option_and_then (λ f. value_by f (text_at (codes "arg") call)) (function_named (text_at (codes "fn") call))) (value.Bool false)
+    unwrap_or (option_and_then (λ f. value_by f (text_at (codes "arg") call))
+    (function_named (text_at (codes "fn") call))) (value.Bool false)
 
 -- the value of an object with this mark: a record of its members, if it has none
 abbrev pub object_value : Option Mark → Members → Fields → Value

@@ -44,7 +44,8 @@ any_left : (v : ℕ → Bool) (c d : Clause) → clause_holds v c ≡ true → c
 any_left v [] d h = absurd (true≢false (sym h))
 any_left v (l ∷ c) d h = by (holds v l) h (any_left v c d)
   where
-    by : (b : Bool) → (b || clause_holds v c) ≡ true → (clause_holds v c ≡ true → clause_holds v (c ++ d) ≡ true) → (b || clause_holds v (c ++ d)) ≡ true
+    by : (b : Bool) → (b || clause_holds v c) ≡ true → (clause_holds v c ≡ true → clause_holds v (c ++ d) ≡ true)
+        → (b || clause_holds v (c ++ d)) ≡ true
     by true e f = refl
     by false e f = f e
 
@@ -66,24 +67,31 @@ same_or_not false true = inl refl
 same_or_not false false = inr refl
 
 -- of a row either some input differs, or the row is that of the inputs' own values
-some_differs : (v : ℕ → Bool) (ls : List Lit) (vs : List Bool) → length vs ≡ length ls → (clause_holds v (differ_all ls vs) ≡ true) ⊎ (map (holds v) ls ≡ vs)
+some_differs : (v : ℕ → Bool) (ls : List Lit) (vs : List Bool) → length vs ≡ length ls
+    → (clause_holds v (differ_all ls vs) ≡ true) ⊎ (map (holds v) ls ≡ vs)
 some_differs v [] [] h = inr refl
 some_differs v [] (u ∷ us) h = absurd (omega (arith, h))
 some_differs v (l ∷ ls) [] h = absurd (omega (arith, h))
 some_differs v (l ∷ ls) (u ∷ us) h =
-    ⊎_elim (λ e. inl (ap (λ (b : Bool). b || clause_holds v (differ_all ls us)) (differs_holds v l (holds v l) u refl ∙ ap not e)))
-    (λ e. ⊎_elim (λ k. inl (any_right v (differs l u ∷ []) (differ_all ls us) k)) (λ k. inr (ap (λ (b : Bool). b ∷ map (holds v) ls) e ∙ ap (λ (l : List Bool). u ∷ l) k)) (some_differs v ls us (omega (arith, h))))
+    ⊎_elim (λ e. inl (ap (λ (b : Bool). b || clause_holds v (differ_all ls us))
+    (differs_holds v l (holds v l) u refl ∙ ap not e)))
+    (λ e. ⊎_elim (λ k. inl (any_right v (differs l u ∷ []) (differ_all ls us) k))
+    (λ k. inr (ap (λ (b : Bool). b ∷ map (holds v) ls) e ∙ ap (λ (l : List Bool). u ∷ l) k))
+    (some_differs v ls us (omega (arith, h))))
     (same_or_not (holds v l) u)
 
-row_true : (v : ℕ → Bool) (f : Function) (x : Lit) (ls : List Lit) (vs : List Bool) → length vs ≡ length ls → holds v x ≡ value_of f (map (holds v) ls) → clause_holds v (row f x ls vs) ≡ true
+row_true : (v : ℕ → Bool) (f : Function) (x : Lit) (ls : List Lit) (vs : List Bool) → length vs ≡ length ls
+    → holds v x ≡ value_of f (map (holds v) ls) → clause_holds v (row f x ls vs) ≡ true
 row_true v f x ls vs h e =
     ⊎_elim (any_left v (differ_all ls vs) (has_value x (value_of f vs) ∷ []))
     (λ k. any_right v (differ_all ls vs) (has_value x (value_of f vs) ∷ []) (unit_true v (has_value x (value_of f vs))
-    (value_holds v x (value_of f (map (holds v) ls)) (value_of f vs) e ∙ ap (λ (us : List Bool). bool_eq (value_of f us) (value_of f vs)) k ∙ bool_eq-itself (value_of f vs))))
+    (value_holds v x (value_of f (map (holds v) ls)) (value_of f vs) e
+    ∙ ap (λ (us : List Bool). bool_eq (value_of f us) (value_of f vs)) k ∙ bool_eq-itself (value_of f vs))))
     (some_differs v ls vs h)
 
 -- each row has a value for each input
-put_first : (b : Bool) (n : ℕ) (rs : List (List Bool)) → AllByRecursion (λ vs. length vs ≡ n) rs → AllByRecursion (λ vs. length vs ≡ suc n) (map (λ (us : List Bool). b ∷ us) rs)
+put_first : (b : Bool) (n : ℕ) (rs : List (List Bool)) → AllByRecursion (λ vs. length vs ≡ n) rs
+    → AllByRecursion (λ vs. length vs ≡ suc n) (map (λ (us : List Bool). b ∷ us) rs)
 put_first b n [] h = tt
 put_first b n (r ∷ rs) h = (ap suc h.0, put_first b n rs h.1)
 
@@ -91,57 +99,78 @@ pub rows_long : (n : ℕ) → AllByRecursion (λ vs. length vs ≡ n) (rows n)
 unfolding rows
 rows_long zero = (refl, tt)
 rows_long (suc n) =
-    all_append (λ vs. length vs ≡ suc n) (map (λ (us : List Bool). false ∷ us) (rows n)) (map (λ (us : List Bool). true ∷ us) (rows n))
+    all_append (λ vs. length vs ≡ suc n) (map (λ (us : List Bool). false ∷ us) (rows n))
+    (map (λ (us : List Bool). true ∷ us) (rows n))
     (put_first false n (rows n) (rows_long n)) (put_first true n (rows n) (rows_long n))
 
 abbrev pub AreTrue : (ℕ → Bool) → List Clause → Type 0
 AreTrue v = AllByRecursion (λ c. clause_holds v c ≡ true)
 
-rows_true : (v : ℕ → Bool) (f : Function) (x : Lit) (ls : List Lit) (rs : List (List Bool)) → AllByRecursion (λ vs. length vs ≡ length ls) rs → holds v x ≡ value_of f (map (holds v) ls) → AreTrue v (map (row f x ls) rs)
+rows_true : (v : ℕ → Bool) (f : Function) (x : Lit) (ls : List Lit) (rs : List (List Bool))
+    → AllByRecursion (λ vs. length vs ≡ length ls) rs → holds v x ≡ value_of f (map (holds v) ls)
+    → AreTrue v (map (row f x ls) rs)
 rows_true v f x ls [] h e = tt
 rows_true v f x ls (r ∷ rs) h e = (row_true v f x ls r h.0 e, rows_true v f x ls rs h.1 e)
 
 -- the rows of a truth table are true where the whole has the value of its inputs
-table_true : (v : ℕ → Bool) (f : Function) (x : Lit) (ls : List Lit) → holds v x ≡ value_of f (map (holds v) ls) → AreTrue v (table f x ls)
+table_true : (v : ℕ → Bool) (f : Function) (x : Lit) (ls : List Lit) → holds v x ≡ value_of f (map (holds v) ls)
+    → AreTrue v (table f x ls)
 table_true v f x ls e = rows_true v f x ls (rows (length ls)) (rows_long (length ls)) e
 
 -- ---- all of some
 
 -- if all are true each is; if not, the negation of one is
-each_if : (v : ℕ → Bool) (x : Lit) (b : Bool) (ls : List Lit) → holds v x ≡ b → (b ≡ true → AllByRecursion (λ l. holds v l ≡ true) ls) → AreTrue v (map (λ (l : Lit). negation x ∷ l ∷ []) ls)
+each_if : (v : ℕ → Bool) (x : Lit) (b : Bool) (ls : List Lit) → holds v x ≡ b
+    → (b ≡ true → AllByRecursion (λ l. holds v l ≡ true) ls) → AreTrue v (map (λ (l : Lit). negation x ∷ l ∷ []) ls)
 each_if v x b [] e h = tt
-each_if v x true (l ∷ ls) e h = (any_right v (negation x ∷ []) (l ∷ []) (unit_true v l (h refl).0), each_if v x true ls e (λ k. (h k).1))
-each_if v x false (l ∷ ls) e h = (any_left v (negation x ∷ []) (l ∷ []) (unit_true v (negation x) (holds_negation v x ∙ ap not e)), each_if v x false ls e (λ k. absurd (true≢false (sym k))))
+each_if v x true (l ∷ ls) e h =
+    (any_right v (negation x ∷ []) (l ∷ []) (unit_true v l (h refl).0), each_if v x true ls e (λ k. (h k).1))
+each_if v x false (l ∷ ls) e h = (
+  any_left v (negation x ∷ []) (l ∷ [])
+      (unit_true v (negation x) (holds_negation v x ∙ ap not e)),
+  each_if v x false ls e
+      (λ k. absurd (true≢false (sym k))),
+)
 
-all_true : (v : ℕ → Bool) (ls : List Lit) → list_all (λ u. u) (map (holds v) ls) ≡ true → AllByRecursion (λ l. holds v l ≡ true) ls
+all_true : (v : ℕ → Bool) (ls : List Lit) → list_all (λ u. u) (map (holds v) ls) ≡ true
+    → AllByRecursion (λ l. holds v l ≡ true) ls
 all_true v [] h = tt
 all_true v (l ∷ ls) h = by (holds v l) refl h (all_true v ls)
   where
-    by : (b : Bool) → holds v l ≡ b → (b && list_all (λ u. u) (map (holds v) ls)) ≡ true → (list_all (λ u. u) (map (holds v) ls) ≡ true → AllByRecursion (λ m. holds v m ≡ true) ls)
+    by : (b : Bool) → holds v l ≡ b → (b && list_all (λ u. u) (map (holds v) ls)) ≡ true
+        → (list_all (λ u. u) (map (holds v) ls) ≡ true → AllByRecursion (λ m. holds v m ≡ true) ls)
         → AllByRecursion (λ m. holds v m ≡ true) (l ∷ ls)
     by true e k rest = (e, rest k)
     by false e k rest = absurd (true≢false (sym k))
 
-some_false : (v : ℕ → Bool) (ls : List Lit) → list_all (λ u. u) (map (holds v) ls) ≡ false → clause_holds v (map negation ls) ≡ true
+some_false : (v : ℕ → Bool) (ls : List Lit) → list_all (λ u. u) (map (holds v) ls) ≡ false
+    → clause_holds v (map negation ls) ≡ true
 some_false v [] h = absurd (true≢false h)
 some_false v (l ∷ ls) h = by (holds v l) refl h (some_false v ls)
   where
-    by : (b : Bool) → holds v l ≡ b → (b && list_all (λ u. u) (map (holds v) ls)) ≡ false → (list_all (λ u. u) (map (holds v) ls) ≡ false → clause_holds v (map negation ls) ≡ true) → clause_holds v (map negation (l ∷ ls)) ≡ true
+    by : (b : Bool) → holds v l ≡ b → (b && list_all (λ u. u) (map (holds v) ls)) ≡ false
+        → (list_all (λ u. u) (map (holds v) ls) ≡ false → clause_holds v (map negation ls) ≡ true)
+        → clause_holds v (map negation (l ∷ ls)) ≡ true
     by true e k f = any_right v (negation l ∷ []) (map negation ls) (f k)
-    by false e k f = any_left v (negation l ∷ []) (map negation ls) (unit_true v (negation l) (holds_negation v l ∙ ap not e))
+    by false e k f = any_left v (negation l ∷ []) (map negation ls)
+        (unit_true v (negation l) (holds_negation v l ∙ ap not e))
 
-last_true : (v : ℕ → Bool) (x : Lit) (ls : List Lit) (b : Bool) → holds v x ≡ b → (b ≡ false → clause_holds v (map negation ls) ≡ true) → clause_holds v (x ∷ map negation ls) ≡ true
+last_true : (v : ℕ → Bool) (x : Lit) (ls : List Lit) (b : Bool) → holds v x ≡ b
+    → (b ≡ false → clause_holds v (map negation ls) ≡ true) → clause_holds v (x ∷ map negation ls) ≡ true
 last_true v x ls true e h = any_left v (x ∷ []) (map negation ls) (unit_true v x e)
 last_true v x ls false e h = any_right v (x ∷ []) (map negation ls) (h refl)
 
-conjunction_true : (v : ℕ → Bool) (x : Lit) (ls : List Lit) → holds v x ≡ list_all (λ u. u) (map (holds v) ls) → AreTrue v (conjunction x ls)
+conjunction_true : (v : ℕ → Bool) (x : Lit) (ls : List Lit) → holds v x ≡ list_all (λ u. u) (map (holds v) ls)
+    → AreTrue v (conjunction x ls)
 conjunction_true v x ls e =
     all_append (λ c. clause_holds v c ≡ true) (map (λ (l : Lit). negation x ∷ l ∷ []) ls) ((x ∷ map negation ls) ∷ [])
-    (each_if v x (list_all (λ u. u) (map (holds v) ls)) ls e (all_true v ls)) (last_true v x ls (list_all (λ u. u) (map (holds v) ls)) e (some_false v ls), tt)
+    (each_if v x (list_all (λ u. u) (map (holds v) ls)) ls e (all_true v ls))
+    (last_true v x ls (list_all (λ u. u) (map (holds v) ls)) e (some_false v ls), tt)
 
 -- ---- all shapes
 
-turned_truths : (v : ℕ → Bool) (t : Bool) (ls : List Lit) → map (holds v) (turned t ls) ≡ truths.turned t (map (holds v) ls)
+turned_truths : (v : ℕ → Bool) (t : Bool) (ls : List Lit)
+    → map (holds v) (turned t ls) ≡ truths.turned t (map (holds v) ls)
 turned_truths v true [] = refl
 turned_truths v true (k ∷ []) = refl
 turned_truths v true (k ∷ l ∷ ls) = ap (λ (b : Bool). holds v k ∷ b ∷ map (holds v) ls) (holds_negation v l)
@@ -156,28 +185,35 @@ not_not a true e = ap not e
 not_not a false e = ap not e
 
 -- the clauses of a definition are true where what it defines has the value that it makes of its inputs
-pub clauses_true : (v : ℕ → Bool) (shape : Shape) (x : Lit) (ls : List Lit) → IsAs v x (defined shape (map (holds v) ls)) → AreTrue v (clauses_by shape x ls)
+pub clauses_true : (v : ℕ → Bool) (shape : Shape) (x : Lit) (ls : List Lit)
+    → IsAs v x (defined shape (map (holds v) ls)) → AreTrue v (clauses_by shape x ls)
 clauses_true v (Table f t) x ls e = table_true v f x (turned t ls) (e ∙ ap (value_of f) (sym (turned_truths v t ls)))
 clauses_true v All x ls e = conjunction_true v x ls e
-clauses_true v NotAll x ls e = conjunction_true v (negation x) ls (holds_negation v x ∙ not_not (holds v x) (list_all (λ u. u) (map (holds v) ls)) e)
+clauses_true v NotAll x ls e =
+    conjunction_true v (negation x) ls
+    (holds_negation v x ∙ not_not (holds v x) (list_all (λ u. u) (map (holds v) ls)) e)
 clauses_true v (Fixed b) x ls e = (unit_true v (has_value x b) (value_holds v x b b e ∙ bool_eq-itself b), tt)
 clauses_true v Free x ls e = tt
 
-filtered_at : {X : Type 0} (P : X → Type 0) (x : X) (ys : List X) (b : Bool) → (b ≡ true → P x) → AllByRecursion P ys → AllByRecursion P (cond b (x ∷ ys) ys)
+filtered_at : {X : Type 0} (P : X → Type 0) (x : X) (ys : List X) (b : Bool) → (b ≡ true → P x) → AllByRecursion P ys
+    → AllByRecursion P (cond b (x ∷ ys) ys)
 filtered_at P x ys true h rest = (h refl, rest)
 filtered_at P x ys false h rest = rest
 
 -- what passes a test has what follows from it
-pub filtered : {X : Type 0} (test : X → Bool) (P : X → Type 0) (xs : List X) → AllByRecursion (λ x. test x ≡ true → P x) xs → AllByRecursion P (filter test xs)
+pub filtered : {X : Type 0} (test : X → Bool) (P : X → Type 0) (xs : List X)
+    → AllByRecursion (λ x. test x ≡ true → P x) xs → AllByRecursion P (filter test xs)
 filtered test P [] h = tt
 filtered test P (x ∷ xs) h = filtered_at P x (filter test xs) (test x) h.0 (filtered test P xs h.1)
 
-whenever : (P : Clause → Type 0) (test : Clause → Bool) (cs : List Clause) → AllByRecursion P cs → AllByRecursion (λ c. test c ≡ true → P c) cs
+whenever : (P : Clause → Type 0) (test : Clause → Bool) (cs : List Clause) → AllByRecursion P cs
+    → AllByRecursion (λ c. test c ≡ true → P c) cs
 whenever P test [] h = tt
 whenever P test (c ∷ cs) h = (λ e. h.0, whenever P test cs h.1)
 
 pub kept_true : (v : ℕ → Bool) (cs : List Clause) → AreTrue v cs → AreTrue v (kept cs)
-kept_true v cs h = filtered (λ (c : Clause). not (is_tautology c)) (λ c. clause_holds v c ≡ true) cs (whenever (λ c. clause_holds v c ≡ true) (λ (c : Clause). not (is_tautology c)) cs h)
+kept_true v cs h = filtered (λ (c : Clause). not (is_tautology c)) (λ c. clause_holds v c ≡ true) cs
+    (whenever (λ c. clause_holds v c ≡ true) (λ (c : Clause). not (is_tautology c)) cs h)
 
 -- ---- form
 
@@ -193,10 +229,12 @@ in_from_contains : (c : Clause) (l : Lit) → Contains c l → is_in c l ≡ tru
 in_from_contains c l h = list_any_at (lit_eq l) c h.0 l h.1 (ap (lit_eq l) h.2 ∙ lit_eq-itself l)
 
 -- a clause that is no tautology holds no literal with its negation
-pub lawful_from : (count : ℕ) (c : Clause) → AllByRecursion (IsListed count) c → is_tautology c ≡ false → IsLawful count c
+pub lawful_from : (count : ℕ) (c : Clause) → AllByRecursion (IsListed count) c → is_tautology c ≡ false
+    → IsLawful count c
 lawful_from count c listed plain l h = (
   All-contains (IsListed count) c l (All-from_recursion (IsListed count) c listed) h,
-  λ other. true≢false (sym (list_any_at (λ (m : Lit). is_in c (negation m)) c h.0 l h.1 (ap (λ (m : Lit). is_in c (negation m)) h.2 ∙ in_from_contains c (negation l) other)) ∙ plain),
+  λ other. true≢false (sym (list_any_at (λ (m : Lit). is_in c (negation m)) c h.0 l h.1
+      (ap (λ (m : Lit). is_in c (negation m)) h.2 ∙ in_from_contains c (negation l) other)) ∙ plain),
 )
 
 differs_listed : (count : ℕ) (l : Lit) (u : Bool) → IsListed count l → IsListed count (differs l u)
@@ -214,17 +252,23 @@ not_is false e = refl
 abbrev pub AreListed : ℕ → List Lit → Type 0
 AreListed count = AllByRecursion (IsListed count)
 
-differ_all_listed : (count : ℕ) (ls : List Lit) (vs : List Bool) → AreListed count ls → AreListed count (differ_all ls vs)
+differ_all_listed : (count : ℕ) (ls : List Lit) (vs : List Bool) → AreListed count ls
+    → AreListed count (differ_all ls vs)
 differ_all_listed count [] vs h = tt
 differ_all_listed count (l ∷ ls) [] h = tt
 differ_all_listed count (l ∷ ls) (u ∷ us) h = (differs_listed count l u h.0, differ_all_listed count ls us h.1)
 
-rows_listed : (count : ℕ) (f : Function) (x : Lit) (ls : List Lit) (rs : List (List Bool)) → IsListed count x → AreListed count ls → AllByRecursion (AreListed count) (map (row f x ls) rs)
+rows_listed : (count : ℕ) (f : Function) (x : Lit) (ls : List Lit) (rs : List (List Bool)) → IsListed count x
+    → AreListed count ls → AllByRecursion (AreListed count) (map (row f x ls) rs)
 rows_listed count f x ls [] h k = tt
-rows_listed count f x ls (r ∷ rs) h k =
-    (all_append (IsListed count) (differ_all ls r) (has_value x (value_of f r) ∷ []) (differ_all_listed count ls r k) (value_listed count x (value_of f r) h, tt), rows_listed count f x ls rs h k)
+rows_listed count f x ls (r ∷ rs) h k = (
+  all_append (IsListed count) (differ_all ls r) (has_value x (value_of f r) ∷ []) (differ_all_listed count ls r k)
+      (value_listed count x (value_of f r) h, tt),
+  rows_listed count f x ls rs h k,
+)
 
-each_listed : (count : ℕ) (x : Lit) (ls : List Lit) → IsListed count x → AreListed count ls → AllByRecursion (AreListed count) (map (λ (l : Lit). negation x ∷ l ∷ []) ls)
+each_listed : (count : ℕ) (x : Lit) (ls : List Lit) → IsListed count x → AreListed count ls
+    → AllByRecursion (AreListed count) (map (λ (l : Lit). negation x ∷ l ∷ []) ls)
 each_listed count x [] h k = tt
 each_listed count x (l ∷ ls) h k = ((h, (k.0, tt)), each_listed count x ls h k.1)
 
@@ -238,23 +282,31 @@ turned_listed count true (l ∷ []) k = k
 turned_listed count true (l ∷ m ∷ ls) k = k
 turned_listed count false ls k = k
 
-conjunction_listed : (count : ℕ) (x : Lit) (ls : List Lit) → IsListed count x → AreListed count ls → AllByRecursion (AreListed count) (conjunction x ls)
+conjunction_listed : (count : ℕ) (x : Lit) (ls : List Lit) → IsListed count x → AreListed count ls
+    → AllByRecursion (AreListed count) (conjunction x ls)
 conjunction_listed count x ls h k =
-    all_append (AreListed count) (map (λ (l : Lit). negation x ∷ l ∷ []) ls) ((x ∷ map negation ls) ∷ []) (each_listed count x ls h k) ((h, negated_listed count ls k), tt)
+    all_append (AreListed count) (map (λ (l : Lit). negation x ∷ l ∷ []) ls) ((x ∷ map negation ls) ∷ [])
+    (each_listed count x ls h k) ((h, negated_listed count ls k), tt)
 
-pub clauses_listed : (count : ℕ) (shape : Shape) (x : Lit) (ls : List Lit) → IsListed count x → AreListed count ls → AllByRecursion (AreListed count) (clauses_by shape x ls)
-clauses_listed count (Table f t) x ls h k = rows_listed count f x (turned t ls) (rows (length (turned t ls))) h (turned_listed count t ls k)
+pub clauses_listed : (count : ℕ) (shape : Shape) (x : Lit) (ls : List Lit) → IsListed count x → AreListed count ls
+    → AllByRecursion (AreListed count) (clauses_by shape x ls)
+clauses_listed count (Table f t) x ls h k =
+    rows_listed count f x (turned t ls) (rows (length (turned t ls))) h (turned_listed count t ls k)
 clauses_listed count All x ls h k = conjunction_listed count x ls h k
 clauses_listed count NotAll x ls h k = conjunction_listed count (negation x) ls h k
 clauses_listed count (Fixed b) x ls h k = ((value_listed count x b h, tt), tt)
 clauses_listed count Free x ls h k = tt
 
-lawful_whenever : (count : ℕ) (cs : List Clause) → AllByRecursion (AreListed count) cs → AllByRecursion (λ c. not (is_tautology c) ≡ true → IsLawful count c) cs
+lawful_whenever : (count : ℕ) (cs : List Clause) → AllByRecursion (AreListed count) cs
+    → AllByRecursion (λ c. not (is_tautology c) ≡ true → IsLawful count c) cs
 lawful_whenever count [] h = tt
-lawful_whenever count (c ∷ cs) h = (λ e. lawful_from count c h.0 (not_is (is_tautology c) e), lawful_whenever count cs h.1)
+lawful_whenever count (c ∷ cs) h =
+    (λ e. lawful_from count c h.0 (not_is (is_tautology c) e), lawful_whenever count cs h.1)
 
-pub kept_lawful : (count : ℕ) (cs : List Clause) → AllByRecursion (AreListed count) cs → AllByRecursion (IsLawful count) (kept cs)
-kept_lawful count cs h = filtered (λ (c : Clause). not (is_tautology c)) (IsLawful count) cs (lawful_whenever count cs h)
+pub kept_lawful : (count : ℕ) (cs : List Clause) → AllByRecursion (AreListed count) cs
+    → AllByRecursion (IsLawful count) (kept cs)
+kept_lawful count cs h = filtered (λ (c : Clause). not (is_tautology c)) (IsLawful count) cs
+    (lawful_whenever count cs h)
 
 other_sign : (a b : Bool) → (a && bool_eq (not b) b || false) || false ≡ false
 other_sign true true = refl
@@ -265,7 +317,8 @@ pub unit_lawful : (count : ℕ) (l : Lit) → IsListed count l → IsLawful coun
 unit_lawful count l h = lawful_from count (l ∷ []) (h, tt) (other_sign (l.atom == l.atom) l.negated)
 
 -- two literals of different atoms
-pub pair_lawful : (count : ℕ) (l m : Lit) → IsListed count l → IsListed count m → l.atom ≢ m.atom → IsLawful count (l ∷ m ∷ [])
+pub pair_lawful : (count : ℕ) (l m : Lit) → IsListed count l → IsListed count m → l.atom ≢ m.atom
+    → IsLawful count (l ∷ m ∷ [])
 pair_lawful count l m h k apart x there = by (contains_split l (m ∷ []) x there)
   where
     flipped : (y : Lit) → y ≡ negation y → ⊥
@@ -275,11 +328,17 @@ pair_lawful count l m h k apart x there = by (contains_split l (m ∷ []) x ther
     none y e = ⊎_elim (λ f. f) (λ f. absurd (contains_nothing y f)) (contains_split m [] y e)
 
     first : Contains (l ∷ m ∷ []) (negation l) → ⊥
-    first e = ⊎_elim (λ f. flipped l f) (λ f. apart (sym (ap (λ (z : Lit). z.atom) (none (negation l) f)))) (contains_split l (m ∷ []) (negation l) e)
+    first e = ⊎_elim (λ f. flipped l f) (λ f. apart (sym (ap (λ (z : Lit). z.atom) (none (negation l) f))))
+        (contains_split l (m ∷ []) (negation l) e)
 
     second : Contains (l ∷ m ∷ []) (negation m) → ⊥
-    second e = ⊎_elim (λ f. apart (ap (λ (z : Lit). z.atom) f)) (λ f. flipped m (none (negation m) f)) (contains_split l (m ∷ []) (negation m) e)
+    second e = ⊎_elim (λ f. apart (ap (λ (z : Lit). z.atom) f)) (λ f. flipped m (none (negation m) f))
+        (contains_split l (m ∷ []) (negation m) e)
 
     by : (l ≡ x) ⊎ Contains (m ∷ []) x → IsListed count x × ¬ Contains (l ∷ m ∷ []) (negation x)
     by (inl e) = (subst (IsListed count) e h, subst (λ (y : Lit). ¬ Contains (l ∷ m ∷ []) (negation y)) e first)
-    by (inr e) = let f = none x e in (subst (IsListed count) f k, subst (λ (y : Lit). ¬ Contains (l ∷ m ∷ []) (negation y)) f second)
+    by (inr e) = let f = none x e in (
+      subst (IsListed count) f k,
+      subst
+          (λ (y : Lit). ¬ Contains (l ∷ m ∷ []) (negation y)) f second,
+    )

@@ -38,7 +38,8 @@ kept_clauses p i = kept (item_clauses p i)
 -- ---- which items there are
 
 abbrev pub definition_of : Posed → Tree → Item
-definition_of p x = item.Definition (number_among (closed_terms p) x) (shape_of x) (literal_in p x) (length (inputs_of x))
+definition_of p x = item.Definition (number_among (closed_terms p) x) (shape_of x) (literal_in p x)
+    (length (inputs_of x))
 
 abbrev pub if_atom : Posed → Option Tree → Item
 if_atom p None = item.Nothing
@@ -58,12 +59,14 @@ is_unwritten _ = true
 
 -- the item at a place, counted from 0: first the atoms, then the closed terms
 abbrev pub item_at : Posed → ℕ → Item
-item_at p i = if nat_lt i (length (atoms p)) then if_atom p (numbered (atoms p) (i + 1)) else address_of p (i - length (atoms p) + 1)
+item_at p i = if nat_lt i (length (atoms p)) then if_atom p (numbered (atoms p) (i + 1))
+    else address_of p (i - length (atoms p) + 1)
 
 abbrev pub item_count : Posed → ℕ
 item_count p = length (atoms p) + length p.closed
 
--- what an item's clauses are told from: of a table there are one, two or three inputs, and of no definition more than an address has bits
+-- what an item's clauses are told from: of a table there are one, two or three inputs, and of no definition more than
+-- an address has bits
 abbrev pub HasInputs : Shape → ℕ → Type 0
 HasInputs (Table f turn) count = (0 < count) × (count ≤ 3)
 HasInputs _ count = count ≤ 257
@@ -102,7 +105,8 @@ input_literal p n shape i = turned_if (is_turned shape i) (companion_or p n i)
 
 abbrev pub literal_of_row : Posed → ℕ → Shape → Function → Lit → ℕ → ℕ → ℕ → Lit
 literal_of_row p n shape f whole count r i =
-    if nat_lt i count then differs (input_literal p n shape i) (get_or (get_or (rows count) r []) i false) else has_value whole (value_of f (get_or (rows count) r []))
+    if nat_lt i count then differs (input_literal p n shape i) (get_or (get_or (rows count) r []) i false)
+    else has_value whole (value_of f (get_or (rows count) r []))
 
 abbrev pub literal_of_conjunction : Posed → ℕ → Lit → ℕ → ℕ → ℕ → Lit
 literal_of_conjunction p n whole count k i =

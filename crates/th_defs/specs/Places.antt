@@ -14,5 +14,6 @@ IsFirstFalsified m cs None = AllByRecursion (λ c. falsifies m c ≡ false) cs
 
 -- the place of the clause of a number among those that are kept; or there are fewer
 abbrev pub IsPlaceOf : Posed → Item → ℕ → Option ℕ → Type 0
-IsPlaceOf p i n (Some k) = (k < length (item_clauses p i)) × (clause_at p i k ≡ slice_index_or (kept_clauses p i) (n - 1) [])
+IsPlaceOf p i n (Some k) = (k < length (item_clauses p i))
+    × (clause_at p i k ≡ slice_index_or (kept_clauses p i) (n - 1) [])
 IsPlaceOf p i n None = length (kept_clauses p i) < n

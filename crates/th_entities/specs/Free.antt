@@ -49,7 +49,8 @@ IsUnder p m e lows up = has_member lows up.owner ≡ true → IsLifted p m e up.
 
 -- the same for one membership in the ancestors of the first entity, and each in those of the member
 abbrev pub IsThroughFree : Posed → Assignment → List Membership → Membership → Type 0
-IsThroughFree p m known low = AllByRecursion (λ (up : Membership). up.owner ≡ low.member → IsLifted p m low.owner low.member up) known
+IsThroughFree p m known low =
+    AllByRecursion (λ (up : Membership). up.owner ≡ low.member → IsLifted p m low.owner low.member up) known
 
 -- ---- tests that are taken before many instances are looked at
 

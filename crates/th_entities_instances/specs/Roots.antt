@@ -54,7 +54,8 @@ pub record IsPairIn (p : Posed) (q : Pair) : Type 0 where
 
 -- what EN1 says of two terms that are alike as this says, and what EN3 does
 abbrev pub attributes_at : Posed → ℕ → ℕ → Said → Said
-attributes_at p x y said = en1_of (roots (tree p.nodes x) (tree p.nodes y)).0 (roots (tree p.nodes x) (tree p.nodes y)).1 said
+attributes_at p x y said = en1_of (roots (tree p.nodes x) (tree p.nodes y)).0
+    (roots (tree p.nodes x) (tree p.nodes y)).1 said
 
 abbrev pub tags_at : Posed → ℕ → ℕ → Said → Said
 tags_at p x y said = en3_of (roots (tree p.nodes x) (tree p.nodes y)).0 (roots (tree p.nodes x) (tree p.nodes y)).1 said

@@ -14,7 +14,8 @@ use Rattle.th_equal.specs.Classes.{IsSame}
 -- the sides of an equation are in one class
 unfoldable pub AreSidesJoined : Posed → Tree → List ℕ → Type 0
 AreSidesJoined p t ps =
-    (a b : ℕ) → a < length p.nodes → b < length p.nodes → t ≡ two Equal (tree p.nodes a) (tree p.nodes b) → IsSame ps a b
+    (a b : ℕ) → a < length p.nodes → b < length p.nodes → t ≡ two Equal (tree p.nodes a) (tree p.nodes b)
+    → IsSame ps a b
 
 -- those of an atom are, if the assignment says that it is true
 unfoldable pub IsAtomJoined : Posed → Assignment → ℕ → List ℕ → Type 0
@@ -46,7 +47,8 @@ IsRowJoined p m ns i count ps = (j : ℕ) → j < count → IsPairJoined p m ns 
 -- an item is with each, if it is an entity with others beside it
 unfoldable pub IsItemJoined : Posed → Assignment → List ℕ → ℕ → List ℕ → Type 0
 IsItemJoined p m ns i ps =
-    (x : ℕ) → named_at p ns i ≡ Some x → has_choices (tree p.nodes x) ≡ true → IsRowJoined p m ns i (few_items (length ns)) ps
+    (x : ℕ) → named_at p ns i ≡ Some x → has_choices (tree p.nodes x) ≡ true
+    → IsRowJoined p m ns i (few_items (length ns)) ps
 
 unfoldable pub AreRowsJoined : Posed → Assignment → List ℕ → ℕ → List ℕ → Type 0
 AreRowsJoined p m ns count ps = (i : ℕ) → i < count → IsItemJoined p m ns i ps

@@ -68,4 +68,5 @@ count_if _ _ = None
 
 -- the literal of the equation of two records' fields of a number
 abbrev pub IsFieldLiteral : Posed → Tree → Tree → ℕ → Lit → Type 0
-IsFieldLiteral p x y i l = (f : SortField) → one_sort x y ≡ true → field_at (fields_of x) i ≡ Some f → l ≡ literal_in p (field_equal x y f)
+IsFieldLiteral p x y i l = (f : SortField) → one_sort x y ≡ true → field_at (fields_of x) i ≡ Some f
+    → l ≡ literal_in p (field_equal x y f)
