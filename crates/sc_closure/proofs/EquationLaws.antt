@@ -21,7 +21,8 @@ use Rattle.sc_closure_rules.proofs.MakingLaws.{puts_then, puts_same, stood_later
 use Rattle.sc_closure_rules.proofs.MemberLaws.{within_later}
 use Rattle.sc_closure.specs.declared.roles.Group.{Group}
 use Rattle.sc_closure.specs.declared.roles.Meeting.TheVariants.{Equation}
-use Rattle.sc_closure.specs.Following.{truth_value, value_in, apart, apart_from, told_of, met_terms, met_in, met_among, IsGroupWithin, IsDivided, Equates}
+use Rattle.sc_closure.specs.Values.{truth_value, value_in, AreDivided}
+use Rattle.sc_closure.specs.Following.{apart, apart_from, told_of, met_terms, met_in, met_among, IsGroupWithin, Equates}
 use Rattle.sc_closure.proofs.GroupLaws.{group_at, in_stays}
 
 -- a literal that is no truth value has none
@@ -122,12 +123,12 @@ has_any p [] n h e = absurd h
 has_any p (m ∷ ms) n (inl f) e = ap (λ u. u || list_any p ms) (ap p f ∙ e)
 has_any p (m ∷ ms) n (inr h) e = or_right (p m) (list_any p ms) (has_any p ms n h e)
 
-module _ (xs : List Node) (g : Group) (x : Tree) (divided : IsDivided xs g) (value : value_in (literal_of x) ≡ true) where
+module _ (xs : List Node) (ms os : List ℕ) (x : Tree) (divided : AreDivided xs ms os) (value : value_in (literal_of x) ≡ true) where
   abbrev met : List ℕ → List Tree
   met ns = met_terms Equation (stood xs ns) x
 
   abbrev any : Bool
-  any = list_any (apart_from xs x) g.members
+  any = list_any (apart_from xs x) ms
 
   number_met : (ns : List ℕ) (n : ℕ) → Has ns n → Has (met ns) (equal_term (tree xs n) x)
   number_met ns n h = Has-map (λ (t : Tree). equal_term t x) (stood xs ns) (tree xs n) (Has-map (tree xs) ns n h)
@@ -138,51 +139,64 @@ module _ (xs : List Node) (g : Group) (x : Tree) (divided : IsDivided xs g) (val
       let n = map-Has (tree xs) ns q.0 q.1 in
       (n.0, n.1, ap (λ (t : Tree). equal_term t x) n.2 ∙ q.2)
 
-  value_only : (z : Tree) → Has (told_of any x ++ met g.others) z → Has (met g.members) z ⊎ (equal_term x x ≡ z)
-  value_only z h = ⊎_elim (λ i. ⊎_elim inr (λ j. inl (two j.0 j.1)) (told_only any x z i)) (λ i. inl (other i)) (Has-append (told_of any x) (met g.others) z h)
+  value_only : (z : Tree) → Has (told_of any x ++ met os) z → Has (met ms) z ⊎ (equal_term x x ≡ z)
+  value_only z h = ⊎_elim (λ i. ⊎_elim inr (λ j. inl (two j.0 j.1)) (told_only any x z i)) (λ i. inl (other i)) (Has-append (told_of any x) (met os) z h)
     where
-      two : any ≡ true → truth_term false ≡ z → Has (met g.members) z
+      two : any ≡ true → truth_term false ≡ z → Has (met ms) z
       two e f =
-          let n = any_has (apart_from xs x) g.members e in
-          subst (Has (met g.members)) (apart_falls (tree xs n.0) x (tree_eq (tree xs n.0) x) (literal_of (tree xs n.0)) (literal_of x) refl refl refl n.2 ∙ f) (number_met g.members n.0 n.1)
+          let n = any_has (apart_from xs x) ms e in
+          subst (Has (met ms)) (apart_falls (tree xs n.0) x (tree_eq (tree xs n.0) x) (literal_of (tree xs n.0)) (literal_of x) refl refl refl n.2 ∙ f) (number_met ms n.0 n.1)
 
-      other : Has (met g.others) z → Has (met g.members) z
-      other i = let n = met_number g.others z i in subst (Has (met g.members)) n.2 (number_met g.members n.0 (divided.others_in n.0 n.1))
+      other : Has (met os) z → Has (met ms) z
+      other i = let n = met_number os z i in subst (Has (met ms)) n.2 (number_met ms n.0 (divided.others_in n.0 n.1))
 
-  value_whole : (z : Tree) → Has (met g.members) z → Has (told_of any x ++ met g.others) z
-  value_whole z h = let n = met_number g.members z h in subst (Has (told_of any x ++ met g.others)) n.2 (⊎_elim (other n.0) (λ v. by n.0 n.1 v (apart_from xs x n.0) refl) (divided.divided n.0 n.1))
+  value_whole : (z : Tree) → Has (met ms) z → Has (told_of any x ++ met os) z
+  value_whole z h = let n = met_number ms z h in subst (Has (told_of any x ++ met os)) n.2 (⊎_elim (other n.0) (λ v. by n.0 n.1 v (apart_from xs x n.0) refl) (divided.divided n.0 n.1))
     where
-      other : (n : ℕ) → Has g.others n → Has (told_of any x ++ met g.others) (equal_term (tree xs n) x)
-      other n i = Has-right (told_of any x) (met g.others) (equal_term (tree xs n) x) (number_met g.others n i)
+      other : (n : ℕ) → Has os n → Has (told_of any x ++ met os) (equal_term (tree xs n) x)
+      other n i = Has-right (told_of any x) (met os) (equal_term (tree xs n) x) (number_met os n i)
 
-      by : (n : ℕ) → Has g.members n → value_in (literal_of (tree xs n)) ≡ true → (b : Bool) → apart_from xs x n ≡ b → Has (told_of any x ++ met g.others) (equal_term (tree xs n) x)
+      by : (n : ℕ) → Has ms n → value_in (literal_of (tree xs n)) ≡ true → (b : Bool) → apart_from xs x n ≡ b → Has (told_of any x ++ met os) (equal_term (tree xs n) x)
       by n i v true e =
-          Has-left (told_of any x) (met g.others) (equal_term (tree xs n) x)
-          (subst (Has (told_of any x)) (sym (apart_falls (tree xs n) x (tree_eq (tree xs n) x) (literal_of (tree xs n)) (literal_of x) refl refl refl e)) (told_false any x (has_any (apart_from xs x) g.members n i e)))
+          Has-left (told_of any x) (met os) (equal_term (tree xs n) x)
+          (subst (Has (told_of any x)) (sym (apart_falls (tree xs n) x (tree_eq (tree xs n) x) (literal_of (tree xs n)) (literal_of x) refl refl refl e)) (told_false any x (has_any (apart_from xs x) ms n i e)))
       by n i v false e =
-          Has-left (told_of any x) (met g.others) (equal_term (tree xs n) x) (subst (Has (told_of any x)) (together (tree xs n) x v value e) (told_own any x))
+          Has-left (told_of any x) (met os) (equal_term (tree xs n) x) (subst (Has (told_of any x)) (together (tree xs n) x v value e) (told_own any x))
 
-  equates_value : (s1 s2 : List Node) (ls ms ns : List ℕ) → Puts xs s1 ls ms (told_of any x) → Puts s1 s2 ms ns (met g.others) → Equates xs s2 ls ns (met g.members) x
-  equates_value s1 s2 ls ms ns p q = record {
-    told = told_of any x ++ met g.others;
-    puts = puts_then xs s1 s2 ls ms ns (told_of any x) (met g.others) p q;
+  equates_value : (s1 s2 : List Node) (ls ks ns : List ℕ) → Puts xs s1 ls ks (told_of any x) → Puts s1 s2 ks ns (met os) → Equates xs s2 ls ns (met ms) x
+  equates_value s1 s2 ls ks ns p q = record {
+    told = told_of any x ++ met os;
+    puts = puts_then xs s1 s2 ls ks ns (told_of any x) (met os) p q;
     only = value_only;
     whole = value_whole;
   }
 
-others_within : (l : ℕ) (xs : List Node) (g : Group) → IsDivided xs g → AllByRecursion (λ n. n < l) g.members → AllByRecursion (λ n. n < l) g.others
-others_within l xs g d w = Has-AllByRecursion (λ n. n < l) g.others (λ n h. AllByRecursion-Has (λ n. n < l) g.members n w (d.others_in n h))
+others_within : (l : ℕ) (xs : List Node) (ms os : List ℕ) → AreDivided xs ms os → AllByRecursion (λ n. n < l) ms → AllByRecursion (λ n. n < l) os
+others_within l xs ms os d w = Has-AllByRecursion (λ n. n < l) os (λ n h. AllByRecursion-Has (λ n. n < l) ms n w (d.others_in n h))
 
-pub others_later : (xs ys : List Node) (g : Group) → Keeps xs ys → IsDivided xs g → AllByRecursion (λ n. n < length xs) g.members → AllByRecursion (λ n. n < length ys) g.others
-others_later xs ys g e d w = within_later (length xs) (length ys) e.longer g.others (others_within (length xs) xs g d w)
+pub others_later : (xs ys : List Node) (ms os : List ℕ) → Keeps xs ys → AreDivided xs ms os → AllByRecursion (λ n. n < length xs) ms → AllByRecursion (λ n. n < length ys) os
+others_later xs ys ms os e d w = within_later (length xs) (length ys) e.longer os (others_within (length xs) xs ms os d w)
 
-pub value_equates : (xs s1 s2 : List Node) (ls ms ns : List ℕ) (g : Group) (term : ℕ) → AllByRecursion (λ n. n < length xs) g.members → IsDivided xs g → term < length xs → value_in (literal_of (tree xs term)) ≡ true
-    → Puts xs s1 ls ms (told_of (list_any (apart_from xs (tree xs term)) g.members) (tree xs term)) → Puts s1 s2 ms ns (met_terms Equation (stood s1 g.others) (tree s1 term))
-    → Equates xs s2 ls ns (met_terms Equation (stood xs g.members) (tree xs term)) (tree xs term)
-value_equates xs s1 s2 ls ms ns g term w d within v p q =
-    let same : met_terms Equation (stood s1 g.others) (tree s1 term) ≡ met_terms Equation (stood xs g.others) (tree xs term) =
-    ap (λ (ts : List Tree). met_terms Equation ts (tree s1 term)) (stood_later xs s1 p.kept g.others (others_within (length xs) xs g d w)) ∙ ap (met_terms Equation (stood xs g.others)) (p.kept.same term within) in
-    equates_value xs g (tree xs term) d v s1 s2 ls ms ns p (puts_same s1 s2 ms ns (met_terms Equation (stood s1 g.others) (tree s1 term)) (met_terms Equation (stood xs g.others) (tree xs term)) same q)
+pub value_equates : (xs s1 s2 : List Node) (ls ks ns ms os : List ℕ) (term : ℕ) → AllByRecursion (λ n. n < length xs) ms → AreDivided xs ms os → term < length xs → value_in (literal_of (tree xs term)) ≡ true
+    → Puts xs s1 ls ks (told_of (list_any (apart_from xs (tree xs term)) ms) (tree xs term)) → Puts s1 s2 ks ns (met_terms Equation (stood s1 os) (tree s1 term))
+    → Equates xs s2 ls ns (met_terms Equation (stood xs ms) (tree xs term)) (tree xs term)
+value_equates xs s1 s2 ls ks ns ms os term w d within v p q =
+    let same : met_terms Equation (stood s1 os) (tree s1 term) ≡ met_terms Equation (stood xs os) (tree xs term) =
+    ap (λ (ts : List Tree). met_terms Equation ts (tree s1 term)) (stood_later xs s1 p.kept os (others_within (length xs) xs ms os d w)) ∙ ap (met_terms Equation (stood xs os)) (p.kept.same term within) in
+    equates_value xs ms os (tree xs term) d v s1 s2 ls ks ns p (puts_same s1 s2 ks ns (met_terms Equation (stood s1 os) (tree s1 term)) (met_terms Equation (stood xs os) (tree xs term)) same q)
+
+-- ---- equations for each of a list, one after the other
+
+module _ {X : Type 0} (f : X → List Tree) (us : List X) (s0 s1 : List Node) (ls ms : List ℕ) (i : ℕ) (x : Tree) (so_far : Equates s0 s1 ls ms (flat_map f (take i us)) x) where
+  pub equates_more : (s2 : List Node) (ns : List ℕ) (u : X) → i < length us → u ≡ get_or us i u → Equates s1 s2 ms ns (f u) x → Equates s0 s2 ls ns (flat_map f (take (i + 1) us)) x
+  equates_more s2 ns u h at p =
+      let last : take (i + 1) us ≡ take i us ++ u ∷ [] = take_more us i u h ∙ ap (λ (t : X). take i us ++ t ∷ []) (sym at) in
+      let more : flat_map f (take i us) ++ f u ≡ flat_map f (take (i + 1) us) =
+      sym (ap (flat_map f) last ∙ flat_map-append f (take i us) (u ∷ []) ∙ ap (λ (ts : List Tree). flat_map f (take i us) ++ ts) (append-nil (f u))) in
+      equates_same s0 s2 ls ns (flat_map f (take i us) ++ f u) (flat_map f (take (i + 1) us)) x x more refl (equates_then s0 s1 s2 ls ms ns (flat_map f (take i us)) (f u) x so_far p)
+
+  pub equates_whole : length us ≤ i → Equates s0 s1 ls ms (flat_map f us) x
+  equates_whole h = equates_same s0 s1 ls ms (flat_map f (take i us)) (flat_map f us) x x (ap (flat_map f) (take_all i us h)) refl so_far
 
 -- ---- the equations of groups, one after the other
 
@@ -199,12 +213,8 @@ module _ (gs : List Group) (s0 s1 : List Node) (ls ms : List ℕ) (i term : ℕ)
       let here = group_at (length s0) gs within i g h at in
       let same : met_in Equation (tree s1 g.first) (stood s1 g.members) (tree s1 term) ≡ told_at g =
       ap (met_in Equation (tree s1 g.first) (stood s1 g.members)) (kept.same term term_in) ∙ in_stays s0 s1 kept Equation g (tree s0 term) here in
-      let last : take (i + 1) gs ≡ take i gs ++ g ∷ [] = take_more gs i g h ∙ ap (λ (t : Group). take i gs ++ t ∷ []) (sym at) in
-      let more : flat_map told_at (take i gs) ++ told_at g ≡ flat_map told_at (take (i + 1) gs) =
-      sym (ap (flat_map told_at) last ∙ flat_map-append told_at (take i gs) (g ∷ []) ∙ ap (λ (ts : List Tree). flat_map told_at (take i gs) ++ ts) (append-nil (told_at g))) in
-      equates_same s0 s2 ls ns (flat_map told_at (take i gs) ++ told_at g) (flat_map told_at (take (i + 1) gs)) (tree s0 term) (tree s0 term) more refl
-      (equates_then s0 s1 s2 ls ms ns (flat_map told_at (take i gs)) (told_at g) (tree s0 term) so_far
-      (equates_same s1 s2 ms ns (met_in Equation (tree s1 g.first) (stood s1 g.members) (tree s1 term)) (told_at g) (tree s1 term) (tree s0 term) same (kept.same term term_in) p))
+      equates_more told_at gs s0 s1 ls ms i (tree s0 term) so_far s2 ns g h at
+      (equates_same s1 s2 ms ns (met_in Equation (tree s1 g.first) (stood s1 g.members) (tree s1 term)) (told_at g) (tree s1 term) (tree s0 term) same (kept.same term term_in) p)
 
   pub equates_end : Equates s0 s1 ls ms (met_among Equation s0 (take i gs) (tree s0 term)) (tree s0 term) → length gs ≤ i → Equates s0 s1 ls ms (met_among Equation s0 gs (tree s0 term)) (tree s0 term)
-  equates_end p h = equates_same s0 s1 ls ms (flat_map told_at (take i gs)) (flat_map told_at gs) (tree s0 term) (tree s0 term) (ap (flat_map told_at) (take_all i gs h)) refl p
+  equates_end p h = equates_whole told_at gs s0 s1 ls ms i (tree s0 term) p h

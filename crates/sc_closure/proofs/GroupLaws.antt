@@ -4,7 +4,7 @@ use Rattle.std.proofs.lemmas.Grind.{flat_map-append}
 use Rattle.std.proofs.lemmas.List.{map-append}
 use Rattle.std.specs.Prelude.{slice_set}
 use Rattle.std.specs.List.{AllByRecursion}
-use Rattle.sc_lists.proofs.ListLaws.{all_append}
+use Rattle.sc_lists.proofs.ListLaws.{all_append, all_weaker}
 use Rattle.sc_lists.proofs.MemberLaws.{Has-left, Has-right, Has-append, Has-last, Has-push, Has-map, map-Has, AllByRecursion-Has}
 use Rattle.sc_lists.specs.Members.{Has}
 use Rattle.sc_sorts.specs.declared.sort.Sort.{Sort}
@@ -17,11 +17,14 @@ use Rattle.sc_closure_rules.proofs.TestLaws.{same_sorts}
 use Rattle.sc_closure_rules.specs.Making.{Puts, stood}
 use Rattle.sc_closure_rules.proofs.MakingLaws.{puts_same, stood_later}
 use Rattle.sc_closure_rules.proofs.MemberLaws.{within_later, within_push}
-use Rattle.sc_closure_rules.specs.Closure.{one_sort}
+use Rattle.sc_rule_laws.specs.Terms.{one_sort}
 use Rattle.sc_closure_rules.proofs.LoopLaws.{all_next, all_end}
 use Rattle.sc_closure.specs.declared.roles.Group.{Group}
 use Rattle.sc_closure.specs.declared.roles.Meeting.{Meeting}
-use Rattle.sc_closure.specs.Following.{grouped, no_group, group_with, with_member, with_other, value_in, IsDivided, IsGroup, AreGroups, IsGroupWithin, Joins, met_term, is_met, met_terms, pattern_in, if_any, met_in, met_among}
+use Rattle.sc_closure.specs.declared.crowds.Crowd.{Crowd}
+use Rattle.sc_closure.specs.Crowds.{IsCrowd, AreCrowds}
+use Rattle.sc_closure.specs.Values.{value_in, with_other, where_so, AreDivided}
+use Rattle.sc_closure.specs.Following.{grouped, no_group, group_with, with_member, IsDivided, IsGroup, AreGroups, IsGroupWithin, Joins, met_term, is_met, met_terms, pattern_in, met_in, met_among}
 
 -- ---- a term joins a group at a place
 
@@ -41,11 +44,12 @@ other_only : (value : Bool) (ns : List ℕ) (n m : ℕ) → Has (with_other valu
 other_only true ns n m h = Has-left ns (n ∷ []) m h
 other_only false ns n m h = h
 
-divided_push : (xs : List Node) (value : Bool) (g : Group) (n : ℕ) → value ≡ value_in (literal_of (tree xs n)) → IsDivided xs g → IsDivided xs (with_member value g n)
-divided_push xs value g n e h = record {
-  others_in = λ m k. ⊎_elim (λ i. Has-left g.members (n ∷ []) m (h.others_in m i)) (λ i. subst (Has (g.members ++ n ∷ [])) i (Has-last g.members n)) (Has-push g.others n m (other_only value g.others n m k));
-  divided = λ m k. ⊎_elim (λ i. ⊎_elim (λ j. inl (other_old value g.others n m j)) inr (h.divided m i))
-      (λ i. ⊎_elim (λ j. inl (subst (Has (with_other value g.others n)) i j)) (λ j. inr (subst (λ (l : ℕ). value_in (literal_of (tree xs l)) ≡ true) i (sym e ∙ j))) (other_there value g.others n)) (Has-push g.members n m k);
+-- members that are divided stay so with one more
+pub divided_push : (xs : List Node) (value : Bool) (ms os : List ℕ) (n : ℕ) → value ≡ value_in (literal_of (tree xs n)) → AreDivided xs ms os → AreDivided xs (ms ++ n ∷ []) (with_other value os n)
+divided_push xs value ms os n e h = record {
+  others_in = λ m k. ⊎_elim (λ i. Has-left ms (n ∷ []) m (h.others_in m i)) (λ i. subst (Has (ms ++ n ∷ [])) i (Has-last ms n)) (Has-push os n m (other_only value os n m k));
+  divided = λ m k. ⊎_elim (λ i. ⊎_elim (λ j. inl (other_old value os n m j)) inr (h.divided m i))
+      (λ i. ⊎_elim (λ j. inl (subst (Has (with_other value os n)) i j)) (λ j. inr (subst (λ (l : ℕ). value_in (literal_of (tree xs l)) ≡ true) i (sym e ∙ j))) (other_there value os n)) (Has-push ms n m k);
 }
 
 module _ (value : Bool) (term : ℕ) where
@@ -80,7 +84,7 @@ module _ (value : Bool) (term : ℕ) where
       first_in = h.first_in;
       members_in = within_push (length xs) term g.members h.members_in term_in;
       alike = all_push (λ n. tree_sort (tree xs n) ≡ tree_sort (tree xs g.first)) g.members term h.alike (sym e);
-      divided = divided_push xs value g term told h.divided;
+      divided = divided_push xs value g.members g.others term told h.divided;
     }
 
     set_are : (gs : List Group) (p : ℕ) → p < length gs → tree_sort (tree xs (get_or gs p no_group).first) ≡ tree_sort (tree xs term) → AreGroups xs gs → AreGroups xs (set_at gs p)
@@ -89,7 +93,7 @@ module _ (value : Bool) (term : ℕ) where
     set_are (g ∷ gs) (suc p) h e k = (k.0, set_are gs p (omega arith) e k.1)
 
     new_are : (gs : List Group) → AreGroups xs gs → AreGroups xs (gs ++ group_with value term ∷ [])
-    new_are gs k = all_append (IsGroup xs) gs (group_with value term ∷ []) k (record { first_in = term_in; members_in = (term_in, tt); alike = (refl, tt); divided = divided_push xs value (record { first = term; members = []; others = [] }) term told (record { others_in = λ n i. absurd i; divided = λ n i. absurd i }) }, tt)
+    new_are gs k = all_append (IsGroup xs) gs (group_with value term ∷ []) k (record { first_in = term_in; members_in = (term_in, tt); alike = (refl, tt); divided = divided_push xs value [] [] term told (record { others_in = λ n i. absurd i; divided = λ n i. absurd i }) }, tt)
 
   new_grouped : (gs : List Group) → grouped (gs ++ group_with value term ∷ []) ≡ grouped gs ++ term ∷ []
   new_grouped gs = flat_map-append (λ (g : Group). g.members) gs (group_with value term ∷ [])
@@ -131,15 +135,17 @@ pub members_within : (l : ℕ) (gs : List Group) → AllByRecursion (IsGroupWith
 members_within l [] h = tt
 members_within l (g ∷ gs) h = all_append (λ n. n < l) g.members (grouped gs) h.0.1 (members_within l gs h.1)
 
+-- what is read at a place
+pub item_at : {X : Type 0} (P : X → Type 0) (xs : List X) → AllByRecursion P xs → (i : ℕ) (x : X) → i < length xs → x ≡ get_or xs i x → P x
+item_at P [] h i x k e = absurd (omega arith)
+item_at P (y ∷ ys) h zero x k e = subst P (sym e) h.0
+item_at P (y ∷ ys) h (suc i) x k e = item_at P ys h.1 i x (omega arith) e
+
 pub group_at : (l : ℕ) (gs : List Group) → AllByRecursion (IsGroupWithin l) gs → (i : ℕ) (g : Group) → i < length gs → g ≡ get_or gs i g → IsGroupWithin l g
-group_at l [] h i g k e = absurd (omega arith)
-group_at l (f ∷ fs) h zero g k e = subst (IsGroupWithin l) (sym e) h.0
-group_at l (f ∷ fs) h (suc i) g k e = group_at l fs h.1 i g (omega arith) e
+group_at l gs h i g k e = item_at (IsGroupWithin l) gs h i g k e
 
 pub divided_at : (xs : List Node) (gs : List Group) → AllByRecursion (IsDivided xs) gs → (i : ℕ) (g : Group) → i < length gs → g ≡ get_or gs i g → IsDivided xs g
-divided_at xs [] h i g k e = absurd (omega arith)
-divided_at xs (f ∷ fs) h zero g k e = subst (IsDivided xs) (sym e) h.0
-divided_at xs (f ∷ fs) h (suc i) g k e = divided_at xs fs h.1 i g (omega arith) e
+divided_at xs gs h i g k e = item_at (IsDivided xs) gs h i g k e
 
 pub group_later : (l m : ℕ) (g : Group) → l ≤ m → IsGroupWithin l g → IsGroupWithin m g
 group_later l m g e h = (omega (arith, e, h.0), within_later l m e g.members h.1)
@@ -153,10 +159,10 @@ module _ (xs ys : List Node) (e : Keeps xs ys) where
   alike_later k [] h a = tt
   alike_later k (n ∷ ns) h a = (ap tree_sort (e.same n h.0) ∙ a.0, alike_later k ns h.1 a.1)
 
-  pub divided_later : (g : Group) → AllByRecursion (λ n. n < length xs) g.members → IsDivided xs g → IsDivided ys g
-  divided_later g w h = record {
+  pub divided_later : (ms os : List ℕ) → AllByRecursion (λ n. n < length xs) ms → AreDivided xs ms os → AreDivided ys ms os
+  divided_later ms os w h = record {
     others_in = h.others_in;
-    divided = λ n k. ⊎_elim inl (λ i. inr (ap (λ (t : Tree). value_in (literal_of t)) (e.same n (AllByRecursion-Has (λ n. n < length xs) g.members n w k)) ∙ i)) (h.divided n k);
+    divided = λ n k. ⊎_elim inl (λ i. inr (ap (λ (t : Tree). value_in (literal_of t)) (e.same n (AllByRecursion-Has (λ n. n < length xs) ms n w k)) ∙ i)) (h.divided n k);
   }
 
   pub groups_later : (gs : List Group) → AreGroups xs gs → AreGroups ys gs
@@ -168,10 +174,23 @@ module _ (xs ys : List Node) (e : Keeps xs ys) where
           members_in = within_later (length xs) (length ys) e.longer g.members h.0.members_in;
           alike = alike_later (tree_sort (tree ys g.first)) g.members h.0.members_in
               (subst (λ (t : Tree). AllByRecursion (λ n. tree_sort (tree xs n) ≡ tree_sort t) g.members) (sym first_stays) h.0.alike);
-          divided = divided_later g h.0.members_in h.0.divided;
+          divided = divided_later g.members g.others h.0.members_in h.0.divided;
         },
         groups_later gs h.1,
       )
+
+  pub crowd_later : (c : Crowd) → IsCrowd xs c → IsCrowd ys c
+  crowd_later c h = record {
+    within = (
+      omega (arith, h.within.0, e.longer),
+      within_later (length xs) (length ys) e.longer c.members h.within.1,
+      within_later (length xs) (length ys) e.longer c.targets h.within.2,
+    );
+    divided = divided_later c.members c.others h.within.1 h.divided;
+  }
+
+  pub crowds_later : (cs : List Crowd) → AreCrowds xs cs → AreCrowds ys cs
+  crowds_later cs h = all_weaker (IsCrowd xs) (IsCrowd ys) crowd_later cs h
 
   -- what goes with a term and a group's stays
   pub in_stays : (m : Meeting) (g : Group) (x : Tree) → IsGroupWithin (length xs) g → met_in m (tree ys g.first) (stood ys g.members) x ≡ met_in m (tree xs g.first) (stood xs g.members) x
@@ -211,13 +230,13 @@ groups_next m gs s0 s1 s2 ls ms ns i term g within term_in so_far h at p =
 
 -- ---- what goes with a term and those of groups, by each of them
 
-any_is : (b : Bool) (ts : List Tree) (z : Tree) → Has (if_any b ts) z → (b ≡ true) × Has ts z
-any_is true ts z h = (refl, h)
-any_is false ts z h = absurd h
+pub where_in : (b : Bool) (ts : List Tree) (z : Tree) → Has (where_so b ts) z → (b ≡ true) × Has ts z
+where_in true ts z h = (refl, h)
+where_in false ts z h = absurd h
 
-is_any : (b : Bool) (ts : List Tree) (z : Tree) → b ≡ true → Has ts z → Has (if_any b ts) z
-is_any true ts z e h = h
-is_any false ts z e h = absurd cc
+pub in_where : (b : Bool) (ts : List Tree) (z : Tree) → b ≡ true → Has ts z → Has (where_so b ts) z
+in_where true ts z e h = h
+in_where false ts z e h = absurd cc
 
 -- one of these, where something goes with it
 pub record IsMet (m : Meeting) (ts : List Tree) (x z : Tree) : Type 0 where
@@ -226,11 +245,11 @@ pub record IsMet (m : Meeting) (ts : List Tree) (x z : Tree) : Type 0 where
   pub meets : is_met m (tree_sort other) (tree_sort x) ≡ true
   pub is : met_term m other x ≡ z
 
-pub met_patterns_has : (b : Bool) (m : Meeting) (ts : List Tree) (x z : Tree) → Has (if_any b (met_terms m ts x)) z → (b ≡ true) × (t : Tree) × Has ts t × (met_term m t x ≡ z)
-met_patterns_has b m ts x z h = let k = any_is b (met_terms m ts x) z h in let q = map-Has (λ (t : Tree). met_term m t x) ts z k.1 in (k.0, q.0, q.1, q.2)
+pub met_patterns_has : (b : Bool) (m : Meeting) (ts : List Tree) (x z : Tree) → Has (where_so b (met_terms m ts x)) z → (b ≡ true) × (t : Tree) × Has ts t × (met_term m t x ≡ z)
+met_patterns_has b m ts x z h = let k = where_in b (met_terms m ts x) z h in let q = map-Has (λ (t : Tree). met_term m t x) ts z k.1 in (k.0, q.0, q.1, q.2)
 
-pub has_met_patterns : (b : Bool) (m : Meeting) (ts : List Tree) (x t : Tree) → b ≡ true → Has ts t → Has (if_any b (met_terms m ts x)) (met_term m t x)
-has_met_patterns b m ts x t e h = is_any b (met_terms m ts x) (met_term m t x) e (Has-map (λ (u : Tree). met_term m u x) ts t h)
+pub has_met_patterns : (b : Bool) (m : Meeting) (ts : List Tree) (x t : Tree) → b ≡ true → Has ts t → Has (where_so b (met_terms m ts x)) (met_term m t x)
+has_met_patterns b m ts x t e h = in_where b (met_terms m ts x) (met_term m t x) e (Has-map (λ (u : Tree). met_term m u x) ts t h)
 
 module _ (xs : List Node) (m : Meeting) (x : Tree) where
   abbrev k : Sort

@@ -1,17 +1,16 @@
 -- Roles that are held by numbers of a table, as they are and as more are taken in.
 use Rattle.std.proofs.Common.{◌≡◌, ◌⊎◌, inl, inr, ⊎_elim, ℕ, Bool, true, false, List, ◌++◌, map, length, refl, sym, ap, ◌∙◌, subst}
 use Rattle.std.specs.Cmp.{IsTotalOrder}
-use Rattle.sc_lists.proofs.MemberLaws.{Has-left, Has-right, Has-append, Has-map, map-Has}
+use Rattle.sc_lists.proofs.MemberLaws.{AllByRecursion-Has, Has-left, Has-right, Has-append, Has-map, map-Has}
 use Rattle.sc_lists.specs.Members.{Has}
 use Rattle.sc_pattern.specs.declared.part.Part.{Part}
 use Rattle.sc_sorts.specs.declared.sort.Sort.{Sort, Sort-F}
 use Rattle.sc_sorts.specs.declared.sort.Sort.TheOpen as s
 use Rattle.sc_sorts.specs.contracts.sort.SortPartialEq.TheImpl.{ghosts as sorts}
 use Rattle.sc_sorts.specs.OrderLaws.{sort_eq_decides}
-use Rattle.sc_sorts.specs.declared.node.BinaryOp.TheVariants as binary
 use Rattle.sc_sorts.specs.declared.node.Node.{Node}
 use Rattle.sc_terms.specs.Order.{tree_cmp}
-use Rattle.sc_terms.specs.Trees.{Tree, two}
+use Rattle.sc_terms.specs.Trees.{Tree}
 use Rattle.sc_terms.specs.TreeSorts.{tree_sort}
 use Rattle.sc_terms.specs.Tables.{tree, Keeps}
 use Rattle.sc_terms.specs.Folds.{equal_term, like_term}
@@ -19,14 +18,17 @@ use Rattle.sc_closure_rules.proofs.TestLaws.{same_sorts}
 use Rattle.sc_closure_rules.specs.Making.{Puts, stood}
 use Rattle.sc_closure_rules.proofs.MakingLaws.{stood_later}
 use Rattle.sc_closure_rules.proofs.MemberLaws.{within_later}
-use Rattle.sc_closure_rules.specs.Closure.{Role, named, candidate, set, pattern, equated_by, one_sort, members_by, matches_by}
+use Rattle.sc_rule_laws.specs.Terms.{one_sort, member}
+use Rattle.sc_closure_rules.specs.Closure.{Role, named, candidate, set, flow, above, pattern, ancestors_of, equated_by, members_by, matches_by}
 use Rattle.sc_closure_rules.proofs.MetLaws.{equated_is}
+use Rattle.sc_closure.specs.declared.crowds.Crowd.{Crowd}
 use Rattle.sc_closure.specs.declared.roles.Group.{Group}
+use Rattle.sc_closure.specs.Crowds.{IsCrowd}
 use Rattle.sc_closure.specs.declared.roles.Roles.{Roles}
 use Rattle.sc_closure.specs.declared.roles.Meeting.TheVariants as meeting
 use Rattle.sc_closure.specs.Following.{pattern_in, grouped, Held, AreGroups, AreRoles, Joins, is_text, met_among, Equates, TakesIn, Takes}
 use Rattle.sc_terms.proofs.EqualLaws.{equal_turned}
-use Rattle.sc_closure.proofs.GroupLaws.{groups_within, members_within, groups_later, among_has, has_among}
+use Rattle.sc_closure.proofs.GroupLaws.{groups_within, members_within, groups_later, crowds_later, among_has, has_among}
 
 -- ---- roles stay while the table grows
 
@@ -43,25 +45,69 @@ module _ (xs ys : List Node) (e : Keeps xs ys) (r : Roles) (are : AreRoles xs r)
   patterns_stay : stood ys r.patterns ≡ stood xs r.patterns
   patterns_stay = stood_later xs ys e r.patterns are.of_patterns
 
+  sets_stay : stood ys r.sets ≡ stood xs r.sets
+  sets_stay = stood_later xs ys e r.sets are.of_sets
+
+  above_stays : stood ys r.above ≡ stood xs r.above
+  above_stays = stood_later xs ys e r.above are.of_above
+
+  -- a crowd's set, candidates and targets
+  module _ (c : Crowd) (there : Has r.crowds.items c) where
+    is_crowd : IsCrowd xs c
+    is_crowd = AllByRecursion-Has (IsCrowd xs) r.crowds.items c are.of_crowds there
+
+    set_stays : tree ys c.set ≡ tree xs c.set
+    set_stays = e.same c.set is_crowd.within.0
+
+    members_stay : stood ys c.members ≡ stood xs c.members
+    members_stay = stood_later xs ys e c.members is_crowd.within.1
+
+    targets_stay : stood ys c.targets ≡ stood xs c.targets
+    targets_stay = stood_later xs ys e c.targets is_crowd.within.2
+
   pub held_later : (p : Role) → Held xs r p → Held ys r p
   held_later (named x) h = moved r.named.items x are.of_named h
-  held_later (candidate x) h = moved r.candidates.items x are.of_candidates h
-  held_later (set x) h = moved r.sets.items x are.of_sets h
+  held_later (candidate x s) h = record {
+    crowd = h.crowd;
+    there = h.there;
+    of_set = set_stays h.crowd h.there ∙ h.of_set;
+    among = subst (λ (ts : List Tree). Has ts x) (sym (members_stay h.crowd h.there)) h.among;
+  }
+  held_later (set x) h = subst (λ (ts : List Tree). Has ts x) (sym sets_stay) h
+  held_later (flow s t) h = record {
+    crowd = h.crowd;
+    there = h.there;
+    of_set = set_stays h.crowd h.there ∙ h.of_set;
+    among = subst (λ (ts : List Tree). Has ts t) (sym (targets_stay h.crowd h.there)) h.among;
+  }
+  held_later (above k f) h = subst (λ (ts : List Tree). Has ts (ancestors_of k f)) (sym above_stays) h
   held_later (pattern ps) h = subst (λ (ts : List Tree). Has (map pattern_in ts) ps) (sym patterns_stay) h
 
   pub held_before : (p : Role) → Held ys r p → Held xs r p
   held_before (named x) h = moved_back r.named.items x are.of_named h
-  held_before (candidate x) h = moved_back r.candidates.items x are.of_candidates h
-  held_before (set x) h = moved_back r.sets.items x are.of_sets h
+  held_before (candidate x s) h = record {
+    crowd = h.crowd;
+    there = h.there;
+    of_set = sym (set_stays h.crowd h.there) ∙ h.of_set;
+    among = subst (λ (ts : List Tree). Has ts x) (members_stay h.crowd h.there) h.among;
+  }
+  held_before (set x) h = subst (λ (ts : List Tree). Has ts x) sets_stay h
+  held_before (flow s t) h = record {
+    crowd = h.crowd;
+    there = h.there;
+    of_set = sym (set_stays h.crowd h.there) ∙ h.of_set;
+    among = subst (λ (ts : List Tree). Has ts t) (targets_stay h.crowd h.there) h.among;
+  }
+  held_before (above k f) h = subst (λ (ts : List Tree). Has ts (ancestors_of k f)) above_stays h
   held_before (pattern ps) h = subst (λ (ts : List Tree). Has (map pattern_in ts) ps) patterns_stay h
 
   pub roles_later : AreRoles ys r
   roles_later = record {
     of_named = groups_later xs ys e r.named.items are.of_named;
-    of_candidates = groups_later xs ys e r.candidates.items are.of_candidates;
-    of_sets = groups_later xs ys e r.sets.items are.of_sets;
+    of_crowds = crowds_later xs ys e r.crowds.items are.of_crowds;
+    of_sets = within_later (length xs) (length ys) e.longer r.sets are.of_sets;
+    of_above = within_later (length xs) (length ys) e.longer r.above are.of_above;
     of_patterns = within_later (length xs) (length ys) e.longer r.patterns are.of_patterns;
-    once = are.once;
   }
 
 -- what goes with the roles that are taken in is put behind other numbers
@@ -109,11 +155,11 @@ module _ (xs : List Node) (old new : List Group) (term : ℕ) (j : Joins xs old 
 
 -- ---- tests that tell what goes with two
 
-is_equated : (b : Bool) (x y : Tree) → b ≡ true → Has (equated_by b x y) (equal_term x y)
+pub is_equated : (b : Bool) (x y : Tree) → b ≡ true → Has (equated_by b x y) (equal_term x y)
 is_equated true x y e = inl refl
 is_equated false x y e = absurd cc
 
-pub is_member : (b : Bool) (x y : Tree) → b ≡ true → Has (members_by b x y) (two binary.Member x y)
+pub is_member : (b : Bool) (x y : Tree) → b ≡ true → Has (members_by b x y) (member x y)
 is_member true x y e = inl refl
 is_member false x y e = absurd cc
 
@@ -152,12 +198,13 @@ module _ (total : IsTotalOrder tree_cmp) (xs : List Node) (gs : List Group) (are
       (q.other, q.among, subst (Has (equated_by (one_sort q.other x) q.other x)) q.is (is_equated (one_sort q.other x) q.other x q.meets))
 
   -- a term of these is equated with itself
-  own_equation : Has (stood xs (grouped gs)) x → Has equations (equal_term x x)
+  pub own_equation : Has (stood xs (grouped gs)) x → Has equations (equal_term x x)
   own_equation h = equation_back x (equal_term x x) h (is_equated (one_sort x x) x x ((sort_eq_decides (tree_sort x) (tree_sort x)).1 refl))
 
-  module _ (ys : List Node) (ls ms : List ℕ) (p : Equates xs ys ls ms equations x) where
-    pub told_back : Has (stood xs (grouped gs)) x → (us : List Tree) (z : Tree) → Has (p.told ++ us) z → Has (equations ++ us) z
-    told_back own us z h = ⊎_elim (λ i. Has-left equations us z (⊎_elim (λ j. j) (λ e. subst (Has equations) e (own_equation own)) (p.only z i))) (λ i. Has-right equations us z i) (Has-append p.told us z h)
+-- what is told of equations, and what more, is the same where its equation with itself is one of them
+module _ (xs ys : List Node) (ls ms : List ℕ) (all : List Tree) (x : Tree) (p : Equates xs ys ls ms all x) where
+  pub told_back : Has all (equal_term x x) → (us : List Tree) (z : Tree) → Has (p.told ++ us) z → Has (all ++ us) z
+  told_back own us z h = ⊎_elim (λ i. Has-left all us z (⊎_elim (λ j. j) (λ e. subst (Has all) e own) (p.only z i))) (λ i. Has-right all us z i) (Has-append p.told us z h)
 
-    pub told_forth : (us : List Tree) (z : Tree) → Has (equations ++ us) z → Has (p.told ++ us) z
-    told_forth us z h = ⊎_elim (λ i. Has-left p.told us z (p.whole z i)) (λ i. Has-right p.told us z i) (Has-append equations us z h)
+  pub told_forth : (us : List Tree) (z : Tree) → Has (all ++ us) z → Has (p.told ++ us) z
+  told_forth us z h = ⊎_elim (λ i. Has-left p.told us z (p.whole z i)) (λ i. Has-right p.told us z i) (Has-append all us z h)

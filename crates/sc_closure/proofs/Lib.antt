@@ -11,6 +11,11 @@ mod GroupLaws
 mod TakingLaws
 mod HeldLaws
 mod TakenLaws
+mod JoinLaws
+mod CrowdLaws
+mod CrowdLoopLaws
+mod AncestorLaws
+mod RoleLaws
 mod TakesLaws
 pub mod ClosingLaws
 pub mod CountingLaws

@@ -1,11 +1,8 @@
 -- Roles that are taken in one after the other, by numbers, while the table grows.
-use Rattle.std.proofs.Common.{◌≡◌, ◌==◌, ◌+◌, ◌<◌, ◌≤◌, ℕ, Bool, true, false, cond, inl, inr, ⊎_elim, List, [], ◌∷◌, ◌++◌, map, take, get_or, length, refl, sym, ap, ◌∙◌, subst, arith}
+use Rattle.std.proofs.Common.{◌≡◌, ◌<◌, ℕ, Bool, true, false, inl, inr, ⊎_elim, List, [], ◌∷◌, ◌++◌, flat_map, length, Option, Some, None, is_some, refl, sym, ap, ◌∙◌, subst}
 use Rattle.std.proofs.Common.{append_assoc, append-nil}
-use Rattle.std.proofs.lemmas.Bool.Decides.{nat_tests}
-use Rattle.std.proofs.lemmas.List.{map-append, map_more, take_all}
+use Rattle.std.proofs.lemmas.List.{map-append}
 use Rattle.std.specs.List.{AllByRecursion}
-use Rattle.sc_lists.proofs.MemberLaws.{Has-map}
-use Rattle.sc_lists.specs.Members.{Has}
 use Rattle.sc_schema.specs.Declarations.{Declarations}
 use Rattle.sc_sorts.specs.declared.sort.Sort.{Sort, Sort-F, out-Sort}
 use Rattle.sc_sorts.specs.declared.sort.Sort.TheOpen as s
@@ -17,16 +14,16 @@ use Rattle.sc_sorts.specs.declared.node.UnaryOp.TheVariants as unary
 use Rattle.sc_terms.proofs.TableLaws.{keeps_itself, keeps_then}
 use Rattle.sc_terms.specs.Trees.{Tree}
 use Rattle.sc_terms.specs.TreeSorts.{tree_sort}
-use Rattle.sc_terms.specs.Tables.{Places, tree, node_parts, node_tree, AreBelow, PartsAreBelow}
+use Rattle.sc_terms.specs.Tables.{tree, node_tree, PartsAreBelow}
+use Rattle.sc_rule_laws.specs.Terms.{written}
 use Rattle.sc_closure_rules.specs.Making.{Puts, stood}
 use Rattle.sc_closure_rules.proofs.MakingLaws.{stood_later}
-use Rattle.sc_closure_rules.proofs.MemberLaws.{within_later, within_append, read_at, within_at}
-use Rattle.sc_closure_rules.specs.Closure.{trees_in, Role, candidate, pattern, roles, roles_by, roles_in, follow}
+use Rattle.sc_closure_rules.proofs.MemberLaws.{within_later, within_append}
+use Rattle.sc_closure_rules.specs.Closure.{Role, pattern, unless_written, roles, roles_by, roles_in, follow}
 use Rattle.sc_closure.specs.declared.roles.Roles.{Roles}
 use Rattle.sc_closure.specs.declared.taking.Part.{Part}
 use Rattle.sc_closure.specs.declared.taking.Place.{Place}
-use Rattle.sc_closure.specs.Following.{pattern_in, Held, AreRoles, IsPartOf, IsPartWithin, Takes, TakesIn, Follows, part_in, place_in as place_of, roles_at, roles_by_part}
-use Rattle.sc_closure.specs.Places.{place_among, one_more}
+use Rattle.sc_closure.specs.Following.{pattern_in, Held, AreRoles, IsPartOf, IsPartWithin, Takes, TakesIn, Follows, set_node, is_written, flow_role, common_role, part_in, place_in as place_of, roles_at, roles_by_part}
 use Rattle.sc_closure.proofs.HeldLaws.{held_later, held_before}
 use Rattle.sc_closure.proofs.TakingLaws.{takes_none, takes_known, takes_then}
 
@@ -37,18 +34,6 @@ takes_nothing xs r ls are = record { kept = keeps_itself xs; more = []; is = sym
 
 pub takes_here : (xs : List Node) (r : Roles) (p : Role) (ls : List ℕ) → AreRoles xs r → Held xs r p → Takes xs xs r r (p ∷ []) ls ls
 takes_here xs r p ls are there = record { kept = keeps_itself xs; more = []; is = sym (append-nil ls); within = tt; are = are; takes = takes_known (Held xs r) p there }
-
--- a number that has a place is there
-placed : (ns : List ℕ) (n : ℕ) → (place_among ns n ≡ 0 → ⊥) → Has ns n
-placed [] n h = absurd (h refl)
-placed (m ∷ ms) n h = by (m == n) refl (placed ms n) h
-  where
-    by : (b : Bool) → (m == n) ≡ b → ((place_among ms n ≡ 0 → ⊥) → Has ms n) → (cond b 1 (one_more (place_among ms n)) ≡ 0 → ⊥) → Has (m ∷ ms) n
-    by true e rest k = inl (grind (arith, nat_tests))
-    by false e rest k = inr (rest (λ z. k (ap one_more z)))
-
-pub knows_candidate : (xs : List Node) (r : Roles) (n : ℕ) (ls : List ℕ) (p : ℕ) → AreRoles xs r → p ≡ place_among r.seen.keys n → (p ≡ 0 → ⊥) → Takes xs xs r r (candidate (tree xs n) ∷ []) ls ls
-knows_candidate xs r n ls p are is seen = takes_here xs r (candidate (tree xs n)) ls are (Has-map (tree xs) _ n (are.once n (placed r.seen.keys n (λ e. seen (is ∙ e)))))
 
 -- ---- some, and then more
 
@@ -74,51 +59,66 @@ module _ (a b c : List Node) (r s t : Roles) (ps qs : List Role) (ls ms ns : Lis
 pub takes_same : (a b : List Node) (r s : Roles) (ps qs : List Role) (ls ms : List ℕ) → ps ≡ qs → Takes a b r s ps ls ms → Takes a b r s qs ls ms
 takes_same a b r s ps qs ls ms e x = subst (λ (l : List Role). Takes a b r s l ls ms) e x
 
--- ---- candidates
-
-module _ (s0 s1 s2 : List Node) (r s t : Roles) (members : List ℕ) (i : ℕ) (ls ms ns : List ℕ) (within : AllByRecursion (λ n. n < length s0) members) (h : i < length members) where
-  pub candidates_next : Takes s0 s1 r s (map (λ (n : ℕ). candidate (tree s0 n)) (take i members)) ls ms → Takes s1 s2 s t (candidate (tree s1 (get_or members i 0)) ∷ []) ms ns
-      → Takes s0 s2 r t (map (λ (n : ℕ). candidate (tree s0 n)) (take (i + 1) members)) ls ns
-  candidates_next x y =
-      let n = get_or members i 0 in
-      let n_stays = x.kept.same n (within_at (length s0) members within i n h (read_at members i h)) in
-      let one = subst (λ (z : Tree). Takes s1 s2 s t (candidate z ∷ []) ms ns) n_stays y in
-      takes_same s0 s2 r t (map (λ (n : ℕ). candidate (tree s0 n)) (take i members) ++ candidate (tree s0 n) ∷ []) (map (λ (n : ℕ). candidate (tree s0 n)) (take (i + 1) members)) ls ns
-      (sym (map_more (λ (n : ℕ). candidate (tree s0 n)) members i 0 h))
-      (takes_both s0 s1 s2 r s t (map (λ (n : ℕ). candidate (tree s0 n)) (take i members)) (candidate (tree s0 n) ∷ []) ls ms ns x one)
-
-pub candidates_end : (s0 s1 : List Node) (r s : Roles) (members : List ℕ) (i : ℕ) (ls ms : List ℕ) → length members ≤ i → Takes s0 s1 r s (map (λ (n : ℕ). candidate (tree s0 n)) (take i members)) ls ms
-    → Takes s0 s1 r s (map (λ (n : ℕ). candidate (tree s0 n)) members) ls ms
-candidates_end s0 s1 r s members i ls ms h x = subst (λ (l : List ℕ). Takes s0 s1 r s (map (λ (n : ℕ). candidate (tree s0 n)) l) ls ms) (take_all i members h) x
-
 -- ---- what a term is by its row
 
-members_are : (xs : List Node) (ps : Places) → map candidate (trees_in (node_parts xs ps)) ≡ map (λ m. candidate (tree xs m)) (map (λ (p : List ℕ × ℕ). p.1) ps)
-members_are xs [] = refl
-members_are xs (p ∷ ps) = ap (λ (l : List Role). candidate (tree xs p.1) ∷ l) (members_are xs ps)
+-- a node is a set term
+written_at : (xs : List Node) (x : Node) → set_node x ≡ is_some (written (node_tree xs x))
+written_at xs (node.Many (manys.Set k) ps) = refl
+written_at xs _ = refl
 
-members_below : (l : ℕ) (ps : Places) → AreBelow l ps → AllByRecursion (λ m. m < l) (map (λ (p : List ℕ × ℕ). p.1) ps)
-members_below l [] h = tt
-members_below l (p ∷ ps) h = (h.0, members_below l ps h.1)
+pub written_told : (xs : List Node) (t : Tree) (x : Node) (b : Bool) → t ≡ node_tree xs x → b ≡ set_node x → b ≡ is_some (written t)
+written_told xs t x b stands is = is ∙ written_at xs x ∙ ap (λ u. is_some (written u)) (sym stands)
 
-module _ (xs : List Node) (n : ℕ) (n_in : n < length xs) where
-  part_is_at : (x : Node) → tree xs n ≡ node_tree xs x → PartsAreBelow (length xs) x → IsPartOf xs n (part_in n x)
-  part_is_at (node.Two binary.Member a b) e h = record { within = h.0; are = ap roles_in e }
-  part_is_at (node.Two binary.DifferencePick a b) e h = record { within = n_in; are = ap roles_in e ∙ ap (λ (t : Tree). candidate t ∷ []) (sym e) }
-  part_is_at (node.Two binary.CommonPick a b) e h = record { within = n_in; are = ap roles_in e ∙ ap (λ (t : Tree). candidate t ∷ []) (sym e) }
-  part_is_at (node.One (unary.Ancestors own) a) e h = record { within = h; are = ap roles_in e }
-  part_is_at (node.One (unary.Like p) a) e h = record { within = tt; are = ap roles_in e ∙ ap (λ (t : Tree). pattern (pattern_in t) ∷ []) (sym e) }
-  part_is_at (node.Many (manys.Set member) ps) e h = record { within = members_below (length xs) ps h; are = ap roles_in e ∙ members_are xs ps }
-  part_is_at _ e h = record { within = tt; are = ap roles_in e }
+none_of : (o : Option (List Tree)) (p : Role) → is_some o ≡ true → [] ≡ unless_written o p
+none_of (Some ts) p h = refl
+none_of None p h = cc
 
-  pub part_is : (x : Node) (p : Part) → tree xs n ≡ node_tree xs x → PartsAreBelow (length xs) x → p ≡ part_in n x → IsPartOf xs n p
-  part_is x p e h is = subst (IsPartOf xs n) (sym is) (part_is_at x e h)
+one_of : (o : Option (List Tree)) (p : Role) → is_some o ≡ false → p ∷ [] ≡ unless_written o p
+one_of (Some ts) p h = cc
+one_of None p h = refl
+
+-- what is asked of a set that is a set term has no role, and what is asked of another has one
+pub takes_unasked : (xs : List Node) (r : Roles) (s : ℕ) (p : Role) (ls : List ℕ) (b : Bool) → AreRoles xs r → b ≡ is_written (tree xs s) → b ≡ true → Takes xs xs r r (unless_written (written (tree xs s)) p) ls ls
+takes_unasked xs r s p ls b are is h = takes_same xs xs r r [] (unless_written (written (tree xs s)) p) ls ls (none_of (written (tree xs s)) p (sym is ∙ h)) (takes_nothing xs r ls are)
+
+pub takes_asked : (xs ys : List Node) (r q : Roles) (s : ℕ) (p : Role) (ls ms : List ℕ) (b : Bool) → b ≡ is_written (tree xs s) → b ≡ false → Takes xs ys r q (p ∷ []) ls ms → Takes xs ys r q (unless_written (written (tree xs s)) p) ls ms
+takes_asked xs ys r q s p ls ms b is h x = takes_same xs ys r q (p ∷ []) (unless_written (written (tree xs s)) p) ls ms (one_of (written (tree xs s)) p (sym is ∙ h)) x
+
+-- the same of what is asked of two sets
+none_in : (o : Option (List Tree)) (ps : List Role) → is_some o ≡ true → [] ≡ flat_map (λ r. unless_written o r) ps
+none_in o [] h = refl
+none_in (Some ts) (p ∷ ps) h = none_in (Some ts) ps h
+none_in None (p ∷ ps) h = cc
+
+all_in : (o : Option (List Tree)) (ps : List Role) → is_some o ≡ false → ps ≡ flat_map (λ r. unless_written o r) ps
+all_in o [] h = refl
+all_in (Some ts) (p ∷ ps) h = cc
+all_in None (p ∷ ps) h = ap (λ (l : List Role). p ∷ l) (all_in None ps h)
+
+pub takes_uncommon : (xs : List Node) (r : Roles) (s t : ℕ) (ls : List ℕ) (b : Bool) → AreRoles xs r → b ≡ is_written (tree xs t) → b ≡ true → Takes xs xs r r (common_role (tree xs s) (tree xs t)) ls ls
+takes_uncommon xs r s t ls b are is h =
+    takes_same xs xs r r [] (common_role (tree xs s) (tree xs t)) ls ls (none_in (written (tree xs t)) (flow_role (tree xs s) (tree xs t)) (sym is ∙ h)) (takes_nothing xs r ls are)
+
+pub takes_common : (xs ys : List Node) (r q : Roles) (s t : ℕ) (ls ms : List ℕ) (b : Bool) → b ≡ is_written (tree xs t) → b ≡ false → Takes xs ys r q (flow_role (tree xs s) (tree xs t)) ls ms → Takes xs ys r q (common_role (tree xs s) (tree xs t)) ls ms
+takes_common xs ys r q s t ls ms b is h x =
+    takes_same xs ys r q (flow_role (tree xs s) (tree xs t)) (common_role (tree xs s) (tree xs t)) ls ms (all_in (written (tree xs t)) (flow_role (tree xs s) (tree xs t)) (sym is ∙ h)) x
+
+part_is_at : (xs : List Node) (n : ℕ) (x : Node) → tree xs n ≡ node_tree xs x → PartsAreBelow (length xs) x → IsPartOf xs n (part_in x)
+part_is_at xs n (node.Two binary.Member a s) e h = record { within = h; are = ap roles_in e }
+part_is_at xs n (node.Two binary.Subset s t) e h = record { within = h; are = ap roles_in e }
+part_is_at xs n (node.Two binary.Common s t) e h = record { within = h; are = ap roles_in e }
+part_is_at xs n (node.One (unary.Ancestors own) a) e h = record { within = record { own = own; entity = tree xs a; is = e }; are = refl }
+part_is_at xs n (node.One (unary.Like p) a) e h = record { within = tt; are = ap roles_in e ∙ ap (λ (t : Tree). pattern (pattern_in t) ∷ []) (sym e) }
+part_is_at xs n _ e h = record { within = tt; are = ap roles_in e }
+
+pub part_is : (xs : List Node) (n : ℕ) (x : Node) (p : Part) → tree xs n ≡ node_tree xs x → PartsAreBelow (length xs) x → p ≡ part_in x → IsPartOf xs n p
+part_is xs n x p e h is = subst (IsPartOf xs n) (sym is) (part_is_at xs n x e h)
 
 pub takes_part : (a b : List Node) (r s : Roles) (n : ℕ) (p q : Part) (ls ms : List ℕ) → IsPartOf a n p → p ≡ q → Takes a b r s (roles_by_part a n q) ls ms → Takes a b r s (roles_in (tree a n)) ls ms
 takes_part a b r s n p q ls ms is e x = takes_same a b r s (roles_by_part a n q) (roles_in (tree a n)) ls ms (sym (is.are ∙ ap (roles_by_part a n) e)) x
 
-pub part_within : (a : List Node) (n : ℕ) (p q : Part) → IsPartOf a n p → p ≡ q → IsPartWithin (length a) q
-part_within a n p q is e = subst (IsPartWithin (length a)) e is.within
+pub part_within : (a : List Node) (n : ℕ) (p q : Part) → IsPartOf a n p → p ≡ q → IsPartWithin a n q
+part_within a n p q is e = subst (IsPartWithin a n) e is.within
 
 -- ---- what a term is by its sort
 

@@ -1,5 +1,5 @@
 -- Numbers of a table on their way to the closed terms. No public promise speaks of it.
-use Rattle.std.specs.Prelude.{◌≡◌, ◌<◌, ◌⊎◌, ℕ, Bool, true, false, not, ◌&&◌, List, [], ◌∷◌, ◌++◌, map, flat_map, filter, take, length, nat_eq, Option, Some, None, unwrap_or, ⊤}
+use Rattle.std.specs.Prelude.{◌≡◌, ◌<◌, ◌⊎◌, ℕ, Bool, true, false, not, ◌&&◌, List, [], ◌∷◌, ◌++◌, map, flat_map, filter, take, length, nat_eq, Option, Some, None, is_some, unwrap_or, ⊤}
 use Rattle.std.specs.List.{AllByRecursion}
 use Rattle.indexmap.specs.IndexSet.{insert_key}
 use Rattle.sc_lists.specs.Members.{Has}
@@ -12,17 +12,17 @@ use Rattle.sc_sorts.specs.declared.node.Node.{Node}
 use Rattle.sc_sorts.specs.contracts.sort.SortPartialEq.TheImpl.{ghosts as sorts}
 use Rattle.sc_sorts.specs.declared.node.Node.TheVariants as node
 use Rattle.sc_sorts.specs.declared.node.ManyOp.TheVariants as manys
+use Rattle.sc_sorts.specs.declared.node.BinaryOp.TheVariants as binary
 use Rattle.sc_sorts.specs.declared.node.UnaryOp.{UnaryOp}
 use Rattle.sc_sorts.specs.declared.node.UnaryOp.TheVariants as unary
-use Rattle.sc_sorts.specs.declared.node.BinaryOp.TheVariants as binary
 use Rattle.sc_sorts.specs.declared.node.Literal.{Literal}
-use Rattle.sc_sorts.specs.declared.node.Literal.TheVariants as literal
 use Rattle.sc_sorts.specs.Literals.{same_entity}
-use Rattle.sc_terms.specs.Trees.{Tree, one, two}
+use Rattle.sc_terms.specs.Trees.{Tree, one}
 use Rattle.sc_terms.specs.Tables.{tree, Keeps}
 use Rattle.sc_terms.specs.TreeSorts.{tree_sort}
 use Rattle.sc_terms.specs.Order.{tree_eq}
 use Rattle.sc_terms.specs.Folds.{truth_term, literal_of, equal_term, like_term}
+use Rattle.sc_rule_laws.specs.Terms.{written}
 use Rattle.sc_closure_rules.specs.Making.{Puts, stood}
 use Rattle.sc_closure.specs.declared.roles.Group.{Group}
 use Rattle.sc_closure.specs.declared.roles.Meeting.{Meeting}
@@ -32,7 +32,10 @@ use Rattle.sc_closure.specs.declared.taking.Part.{Part as PartOf}
 use Rattle.sc_closure.specs.declared.taking.Part.TheVariants as part
 use Rattle.sc_closure.specs.declared.taking.Place.{Place}
 use Rattle.sc_closure.specs.declared.taking.Place.TheVariants as place
-use Rattle.sc_closure_rules.specs.Closure.{principal_term, resource_term, follow, Role, named, candidate, set, pattern, roles_in, roles, meet, is_over, Closed}
+use Rattle.sc_closure_rules.specs.Closure.{principal_term, resource_term, follow, Role, named, candidate, set, flow, above, pattern, ancestors_of, unless_written, roles_in, roles, meet, Closed}
+use Rattle.sc_closure.specs.Ancestors.{IsAbove}
+use Rattle.sc_closure.specs.Crowds.{AreCrowds, HasCandidate, HasTarget}
+use Rattle.sc_closure.specs.Values.{truth_value, with_other, where_so, AreDivided}
 use Rattle.sc_closure.specs.Atoms.{is_atom}
 
 -- a number after the others, if it isn't there
@@ -70,11 +73,6 @@ grouped gs = flat_map (λ (g : Group). g.members) gs
 abbrev pub no_group : Group
 no_group = record { first = 0; members = []; others = [] }
 
--- a term that is no value is put behind these
-abbrev pub with_other : Bool → List ℕ → ℕ → List ℕ
-with_other true ns n = ns
-with_other false ns n = ns ++ n ∷ []
-
 abbrev pub with_member : Bool → Group → ℕ → Group
 with_member value g n = record { first = g.first; members = g.members ++ n ∷ []; others = with_other value g.others n }
 
@@ -84,24 +82,15 @@ group_with value n = with_member value (record { first = n; members = []; others
 -- a role is one of those that are held by numbers of a table
 abbrev pub Held : List Node → Roles → Role → Type 0
 Held xs r (named x) = Has (stood xs (grouped r.named.items)) x
-Held xs r (candidate x) = Has (stood xs (grouped r.candidates.items)) x
-Held xs r (set x) = Has (stood xs (grouped r.sets.items)) x
+Held xs r (candidate x s) = HasCandidate xs r.crowds.items x s
+Held xs r (set x) = Has (stood xs r.sets) x
+Held xs r (flow s t) = HasTarget xs r.crowds.items s t
+Held xs r (above own e) = Has (stood xs r.above) (ancestors_of own e)
 Held xs r (pattern p) = Has (map pattern_in (stood xs r.patterns)) p
 
--- whether a literal is a truth value
-abbrev pub truth_value : Literal → Bool
-truth_value (literal.Bool b) = true
-truth_value _ = false
-
--- whether a term, given the literal that it is, is one and no truth value
-abbrev pub value_in : Option Literal → Bool
-value_in (Some l) = not (truth_value l)
-value_in None = false
-
 -- the members of a group that aren't among its others are values
-pub record IsDivided (xs : List Node) (g : Group) : Type 0 where
-  pub others_in : (n : ℕ) → Has g.others n → Has g.members n
-  pub divided : (n : ℕ) → Has g.members n → Has g.others n ⊎ (value_in (literal_of (tree xs n)) ≡ true)
+abbrev pub IsDivided : List Node → Group → Type 0
+IsDivided xs g = AreDivided xs g.members g.others
 
 -- the members of a group are of the sort of the first
 pub record IsGroup (xs : List Node) (g : Group) : Type 0 where
@@ -115,38 +104,54 @@ AreGroups xs = AllByRecursion (IsGroup xs)
 
 pub record AreRoles (xs : List Node) (r : Roles) : Type 0 where
   pub of_named : AreGroups xs r.named.items
-  pub of_candidates : AreGroups xs r.candidates.items
-  pub of_sets : AreGroups xs r.sets.items
+  pub of_crowds : AreCrowds xs r.crowds.items
+  pub of_sets : AllByRecursion (λ n. n < length xs) r.sets
+  pub of_above : AllByRecursion (λ n. n < length xs) r.above
   pub of_patterns : AllByRecursion (λ n. n < length xs) r.patterns
-  -- what has been seen as a candidate is in a group
-  pub once : (n : ℕ) → Has r.seen.keys n → Has (grouped r.candidates.items) n
 
 -- what a term is by its row, with the numbers that it speaks of
+abbrev pub part_in : Node → PartOf
+part_in (node.Two binary.Member a s) = part.Candidate a s
+part_in (node.Two binary.Subset s t) = part.Subset s t
+part_in (node.Two binary.Common s t) = part.Common s t
+part_in (node.One (unary.Ancestors own) e) = part.Above
+part_in (node.One (unary.Like p) a) = part.Pattern
+part_in _ = part.Nothing
+
+-- whether a set is written as a set term, by its node and by its term
+abbrev pub set_node : Node → Bool
+set_node (node.Many (manys.Set own) ps) = true
+set_node _ = false
+
+abbrev pub is_written : Tree → Bool
+is_written s = is_some (written s)
+
+-- the roles of what is asked of two sets
+abbrev pub flow_role : Tree → Tree → List Role
+flow_role s t = unless_written (written s) (flow s t)
+
+abbrev pub common_role : Tree → Tree → List Role
+common_role s t = flat_map (λ r. unless_written (written t) r) (flow_role s t)
+
 abbrev pub roles_by_part : List Node → ℕ → PartOf → List Role
 roles_by_part xs n part.Nothing = []
-roles_by_part xs n (part.Candidate a) = candidate (tree xs a) ∷ []
-roles_by_part xs n (part.Candidates members) = map (λ m. candidate (tree xs m)) members
+roles_by_part xs n (part.Candidate a s) = unless_written (written (tree xs s)) (candidate (tree xs a) (tree xs s))
+roles_by_part xs n (part.Subset s t) = flow_role (tree xs s) (tree xs t)
+roles_by_part xs n (part.Common s t) = common_role (tree xs s) (tree xs t)
+roles_by_part xs n part.Above = roles_in (tree xs n)
 roles_by_part xs n part.Pattern = pattern (pattern_in (tree xs n)) ∷ []
 
-abbrev pub IsPartWithin : ℕ → PartOf → Type 0
-IsPartWithin l part.Nothing = ⊤
-IsPartWithin l (part.Candidate a) = a < l
-IsPartWithin l (part.Candidates members) = AllByRecursion (λ m. m < l) members
-IsPartWithin l part.Pattern = ⊤
+abbrev pub IsPartWithin : List Node → ℕ → PartOf → Type 0
+IsPartWithin xs n part.Nothing = ⊤
+IsPartWithin xs n (part.Candidate a s) = (a < length xs) × (s < length xs)
+IsPartWithin xs n (part.Subset s t) = (s < length xs) × (t < length xs)
+IsPartWithin xs n (part.Common s t) = (s < length xs) × (t < length xs)
+IsPartWithin xs n part.Above = IsAbove (tree xs n)
+IsPartWithin xs n part.Pattern = ⊤
 
 pub record IsPartOf (xs : List Node) (n : ℕ) (p : PartOf) : Type 0 where
-  pub within : IsPartWithin (length xs) p
+  pub within : IsPartWithin xs n p
   pub are : roles_in (tree xs n) ≡ roles_by_part xs n p
-
--- the part of the node of a number
-abbrev pub part_in : ℕ → Node → PartOf
-part_in n (node.Two binary.Member a b) = part.Candidate a
-part_in n (node.Two binary.DifferencePick a b) = part.Candidate n
-part_in n (node.Two binary.CommonPick a b) = part.Candidate n
-part_in n (node.One (unary.Ancestors own) e) = part.Candidate e
-part_in n (node.One (unary.Like p) t) = part.Pattern
-part_in n (node.Many (manys.Set member) ps) = part.Candidates (map (λ (p : List ℕ × ℕ). p.1) ps)
-part_in n _ = part.Nothing
 
 -- what a term is by its sort
 abbrev pub roles_at : Tree → Place → List Role
@@ -179,8 +184,6 @@ is_text _ = false
 -- what goes with a term and another
 abbrev pub met_term : Meeting → Tree → Tree → Tree
 met_term meeting.Equation t x = equal_term t x
-met_term meeting.Sets t x = two binary.Member x t
-met_term meeting.Candidates t x = two binary.Member t x
 met_term meeting.Texts t x = like_term t (pattern_in x)
 met_term meeting.Patterns t x = like_term x (pattern_in t)
 
@@ -206,27 +209,21 @@ told_of false x = equal_term x x ∷ []
 -- where something goes with terms of a sort and one of another
 abbrev pub is_met : Meeting → Sort → Sort → Bool
 is_met meeting.Equation a b = sorts.eq a b
-is_met meeting.Sets a b = is_over (out-Sort a) b
-is_met meeting.Candidates a b = is_over (out-Sort b) a
 is_met meeting.Texts a b = is_text (out-Sort a)
 is_met meeting.Patterns a b = is_text (out-Sort b)
 
 abbrev pub met_terms : Meeting → List Tree → Tree → List Tree
 met_terms m ts x = map (λ t. met_term m t x) ts
 
-abbrev pub if_any : Bool → List Tree → List Tree
-if_any true ts = ts
-if_any false ts = []
-
 abbrev pub met_in : Meeting → Tree → List Tree → Tree → List Tree
-met_in m first ts x = if_any (is_met m (tree_sort first) (tree_sort x)) (met_terms m ts x)
+met_in m first ts x = where_so (is_met m (tree_sort first) (tree_sort x)) (met_terms m ts x)
 
 abbrev pub met_among : Meeting → List Node → List Group → Tree → List Tree
 met_among m xs gs x = flat_map (λ (g : Group). met_in m (tree xs g.first) (stood xs g.members) x) gs
 
 -- of a text and those that ask patterns
 abbrev pub met_patterns : List Node → List ℕ → Tree → List Tree
-met_patterns xs ns x = if_any (is_text (out-Sort (tree_sort x))) (met_terms meeting.Patterns (stood xs ns) x)
+met_patterns xs ns x = where_so (is_text (out-Sort (tree_sort x))) (met_terms meeting.Patterns (stood xs ns) x)
 
 -- numbers are put that stand for these equations of a term, and perhaps for its equation with itself
 pub record Equates (old new : List Node) (before after : List ℕ) (ys : List Tree) (x : Tree) : Type 0 where

@@ -7,7 +7,8 @@ ghost use Rattle.sc_terms.specs.Order.{tree_eq};
 ghost use Rattle.sc_terms.specs.Tables.{tree, Keeps, StandsFor};
 ghost use Rattle.sc_closure_rules.specs.Making.{Puts, stood};
 ghost use Rattle.sc_closure.specs.declared.roles.Meeting.TheVariants.{Equation as equation};
-ghost use Rattle.sc_closure.specs.Following.{IsGroupWithin, IsDivided, Equates, met_terms, met_in, met_among, truth_value, value_in, two_values, apart, apart_from, told_of};
+ghost use Rattle.sc_closure.specs.Following.{IsGroupWithin, IsDivided, Equates, met_terms, met_in, met_among, two_values, apart, apart_from, told_of};
+ghost use Rattle.sc_closure.specs.Values.{AreDivided, truth_value, value_in};
 
 use crate::roles::{Group, Meeting, is_met};
 use sc_sorts::{Literal, same_entity};
@@ -132,41 +133,43 @@ fn put_own(
 /// Puts the equations of a value and those of a group.
 fn equate_value(
     terms: &mut Terms,
-    group: &Group,
+    members: &[u64],
+    others: &[u64],
     term: u64,
     numbers: &mut Vec<u64>,
 ) -> Result<(), AllocError>
-    requires members_in { AllByRecursion (λ n. n < length terms.old) group.now.members }
-    requires divided { IsDivided terms.old group.now }
+    requires members_in { AllByRecursion (λ n. n < length terms.old) members.now }
+    requires divided { AreDivided terms.old members.now others.now }
     requires term_in { term < length terms.old }
     requires value { value_in (literal_of (tree terms.old term)) ≡ true }
     ensures ok { OnOk result (Equates terms.old terms.new numbers.old.items numbers.new.items (met_terms equation
-        (stood terms.old group.now.members) (tree terms.old term)) (tree terms.old term)) }
+        (stood terms.old members.now) (tree terms.old term)) (tree terms.old term)) }
     ensures kept { Keeps terms.old terms.new }
 {
-    put_own(terms, group.members.as_slice(), term, numbers)?;
-    put_equations(terms, group.others.as_slice(), term, numbers)?;
+    put_own(terms, members, term, numbers)?;
+    put_equations(terms, others, term, numbers)?;
     Ok(())
 }
 
 /// Puts the equations of a term and those of a group.
-fn equate_members(
+pub(crate) fn equate_members(
     terms: &mut Terms,
-    group: &Group,
+    members: &[u64],
+    others: &[u64],
     term: u64,
     numbers: &mut Vec<u64>,
 ) -> Result<(), AllocError>
-    requires members_in { AllByRecursion (λ n. n < length terms.old) group.now.members }
-    requires divided { IsDivided terms.old group.now }
+    requires members_in { AllByRecursion (λ n. n < length terms.old) members.now }
+    requires divided { AreDivided terms.old members.now others.now }
     requires term_in { term < length terms.old }
     ensures ok { OnOk result (Equates terms.old terms.new numbers.old.items numbers.new.items (met_terms equation
-        (stood terms.old group.now.members) (tree terms.old term)) (tree terms.old term)) }
+        (stood terms.old members.now) (tree terms.old term)) (tree terms.old term)) }
     ensures kept { Keeps terms.old terms.new }
 {
     if is_value(terms, term) {
-        equate_value(terms, group, term, numbers)
+        equate_value(terms, members, others, term, numbers)
     } else {
-        put_equations(terms, group.members.as_slice(), term, numbers)
+        put_equations(terms, members, term, numbers)
     }
 }
 
@@ -186,7 +189,13 @@ fn equate_group(
     ensures kept { Keeps terms.old terms.new }
 {
     if is_met(terms, Meeting::Equation, group.first, term) {
-        equate_members(terms, group, term, numbers)
+        equate_members(
+            terms,
+            group.members.as_slice(),
+            group.others.as_slice(),
+            term,
+            numbers,
+        )
     } else {
         Ok(())
     }

@@ -11,11 +11,12 @@ ghost use Rattle.sc_terms.specs.Folds.{like_term};
 ghost use Rattle.sc_terms.specs.TreeSorts.{tree_sort};
 ghost use Rattle.sc_terms.specs.Tables.{tree, Keeps, StandsFor};
 ghost use Rattle.sc_closure_rules.specs.Making.{Puts, stood};
-ghost use Rattle.sc_closure_rules.specs.Closure.{Role, one_sort, is_over as over};
+ghost use Rattle.sc_closure_rules.specs.Closure.{Role};
+ghost use Rattle.sc_rule_laws.specs.Terms.{one_sort};
 ghost use Rattle.sc_closure.specs.Following.{AreRoles, Held, IsGroupWithin, Joins, no_group, with_member, group_with, is_met as meets, met_term, met_terms, met_in, met_among, met_patterns, is_text as text, operator_in, asked, pattern_in};
 
+use crate::crowds::Crowd;
 use crate::equations::is_value;
-use indexmap::IndexSet;
 use sc_lists::Seq;
 use sc_pattern::{Pattern, pattern_of};
 use sc_sorts::{Node, Sort, UnaryOp};
@@ -50,12 +51,14 @@ impl Group {
 #[derive(Drop)]
 pub(crate) struct Roles {
     pub(crate) named: Vec<Group>,
-    pub(crate) candidates: Vec<Group>,
-    pub(crate) sets: Vec<Group>,
+    /// The candidates of sets that are no set terms.
+    pub(crate) crowds: Vec<Crowd>,
+    /// The sets.
+    pub(crate) sets: Seq<u64>,
+    /// The ancestors of entities.
+    pub(crate) above: Seq<u64>,
     /// One term for each pattern that is asked.
     pub(crate) patterns: Seq<u64>,
-    /// The candidates, each once.
-    pub(crate) seen: IndexSet<u64>,
 }
 
 impl Roles {
@@ -66,10 +69,10 @@ impl Roles {
     {
         Roles {
             named: Vec::new(alloc),
-            candidates: Vec::new(alloc),
-            sets: Vec::new(alloc),
+            crowds: Vec::new(alloc),
+            sets: Seq::new(alloc),
+            above: Seq::new(alloc),
             patterns: Seq::new(alloc),
-            seen: IndexSet::new(alloc),
         }
     }
 }
@@ -79,10 +82,6 @@ impl Roles {
 pub(crate) enum Meeting {
     /// Their equation.
     Equation,
-    /// Whether the term is a member of each set.
-    Sets,
-    /// Whether each candidate is a member of the term.
-    Candidates,
     /// Whether each text matches the pattern that the term asks.
     Texts,
     /// Whether the term matches the pattern that each asks.
@@ -96,16 +95,6 @@ fn is_one_sort(terms: &Terms, a: u64, b: u64) -> bool
     ensures { result ≡ one_sort (tree terms.now a) (tree terms.now b) }
 {
     terms.sort(a) == terms.sort(b)
-}
-
-/// Whether a sort is one of sets over another.
-fn is_over(set: &Sort, sort: &Sort) -> bool
-    ensures { result ≡ over (out-Sort set.now) sort.now }
-{
-    match set {
-        Sort::Set(member) => member.get() == sort,
-        _ => false,
-    }
 }
 
 fn is_text(sort: &Sort) -> bool
@@ -122,8 +111,6 @@ pub(crate) fn is_met(terms: &Terms, meeting: Meeting, first: u64, term: u64) -> 
 {
     match meeting {
         Meeting::Equation => is_one_sort(terms, first, term),
-        Meeting::Sets => is_over(terms.sort(first), terms.sort(term)),
-        Meeting::Candidates => is_over(terms.sort(term), terms.sort(first)),
         Meeting::Texts => is_text(terms.sort(first)),
         Meeting::Patterns => is_text(terms.sort(term)),
     }
@@ -247,8 +234,6 @@ fn met(
 {
     match meeting {
         Meeting::Equation => terms.equal(other, term),
-        Meeting::Sets => terms.member(term, other),
-        Meeting::Candidates => terms.member(other, term),
         Meeting::Texts => matched(alloc, terms, other, term),
         Meeting::Patterns => matched(alloc, terms, term, other),
     }

@@ -1,18 +1,20 @@
 //! Takes in the roles of a closed term, and puts what goes with them and the roles so far.
-ghost use Rattle.std.specs.Prelude.{◌≡◌, ◌<◌, [], ◌∷◌, length, map, IfOk, OnOk};
-ghost use Rattle.std.specs.List.{AllByRecursion};
+ghost use Rattle.std.specs.Prelude.{◌≡◌, ◌<◌, [], ◌∷◌, length, OnOk};
 ghost use Rattle.sc_sorts.specs.declared.sort.Sort.{out-Sort};
 ghost use Rattle.sc_terms.specs.TreeSorts.{tree_sort};
 ghost use Rattle.sc_terms.specs.Tables.{tree, Keeps};
-ghost use Rattle.sc_closure_rules.specs.Closure.{roles as roles_of, roles_in, roles_by, named, candidate, set, pattern};
-ghost use Rattle.sc_closure.specs.Following.{AreRoles, IsPartOf, Takes, part_in, pattern_in, place_in as place_of_sort};
+ghost use Rattle.sc_rule_laws.specs.Terms.{written};
+ghost use Rattle.sc_closure_rules.specs.Closure.{roles as roles_of, roles_in, roles_by, unless_written, named, candidate, set, flow, pattern};
+ghost use Rattle.sc_closure.specs.Ancestors.{IsAbove};
+ghost use Rattle.sc_closure.specs.Following.{AreRoles, IsPartOf, Takes, set_node, part_in, is_written as written_set, flow_role, common_role, pattern_in, place_in as place_of_sort};
 
+use crate::ancestors::{meet_above, meet_entity};
+use crate::crowds::{join_candidate, join_target};
 use crate::equations::equate_groups;
-use crate::numbers::{place_in, put};
+use crate::memberships::{meet_crowds, meet_flow, meet_linked, meet_set};
 use crate::roles::{Meeting, Roles, is_pattern_known, join, meet_groups, meet_patterns};
 use sc_closure_rules::order_laws;
-use sc_lists::Seq;
-use sc_sorts::{BinaryOp, ManyOp, Node, Parts, Sort, UnaryOp};
+use sc_sorts::{BinaryOp, ManyOp, Node, Sort, UnaryOp};
 use sc_terms::Terms;
 use std::alloc::{AllocError, Global};
 
@@ -38,72 +40,33 @@ fn take_named(
     Ok(())
 }
 
-/// A new candidate: whether it is another of its sort, and whether it is a member of each set over
-/// its sort.
-fn take_new_candidate(
-    alloc: Global,
-    terms: &mut Terms,
-    roles: &mut Roles,
-    n: u64,
-    numbers: &mut Vec<u64>,
-) -> Result<(), AllocError>
-    requires within { n < length terms.old }
-    requires are { AreRoles terms.old roles.old }
-    ensures ok { OnOk result (Takes terms.old terms.new roles.old roles.new (candidate (tree terms.old n) ∷ [])
-        numbers.old.items numbers.new.items) }
-    ensures kept { Keeps terms.old terms.new }
-{
-    order_laws();
-    put(&mut roles.seen, n)?;
-    join(alloc, terms, &mut roles.candidates, n)?;
-    equate_groups(terms, &roles.candidates, n, numbers)?;
-    meet_groups(alloc, terms, Meeting::Sets, &roles.sets, n, numbers)?;
-    Ok(())
-}
-
-/// A candidate, if it is a new one.
+/// A candidate of a set: whether it is each other one, and whether it is a member of the sets to which
+/// the set flows or with which it is linked, and, of an entity's ancestors, of those of other entities.
 fn take_candidate(
     alloc: Global,
     terms: &mut Terms,
     roles: &mut Roles,
     n: u64,
+    in_set: u64,
     numbers: &mut Vec<u64>,
 ) -> Result<(), AllocError>
     requires within { n < length terms.old }
+    requires set_within { in_set < length terms.old }
     requires are { AreRoles terms.old roles.old }
-    ensures ok { OnOk result (Takes terms.old terms.new roles.old roles.new (candidate (tree terms.old n) ∷ [])
-        numbers.old.items numbers.new.items) }
+    ensures ok { OnOk result (Takes terms.old terms.new roles.old roles.new (candidate (tree terms.old n) (tree
+        terms.old in_set) ∷ []) numbers.old.items numbers.new.items) }
     ensures kept { Keeps terms.old terms.new }
 {
-    if place_in(&roles.seen, n) != 0 {
-        return Ok(());
-    }
-    take_new_candidate(alloc, terms, roles, n, numbers)
-}
-
-/// The members of a set term are candidates.
-fn take_candidates(
-    alloc: Global,
-    terms: &mut Terms,
-    roles: &mut Roles,
-    members: &[u64],
-    numbers: &mut Vec<u64>,
-) -> Result<(), AllocError>
-    requires within { AllByRecursion (λ n. n < length terms.old) members.now }
-    requires are { AreRoles terms.old roles.old }
-    ensures ok { OnOk result (Takes terms.old terms.new roles.old roles.new (map (λ n. candidate (tree terms.old n))
-        members.now) numbers.old.items numbers.new.items) }
-    ensures kept { Keeps terms.old terms.new }
-{
-    for n in members {
-        take_candidate(alloc, terms, roles, *n, numbers)?;
-    }
+    order_laws();
+    join_candidate(alloc, terms, &mut roles.crowds, in_set, n)?;
+    meet_crowds(terms, &roles.crowds, in_set, n, numbers)?;
+    meet_linked(terms, roles.sets.as_slice(), in_set, n, numbers)?;
+    meet_above(alloc, terms, roles.above.as_slice(), in_set, n, numbers)?;
     Ok(())
 }
 
-/// A set: whether each candidate of its sort is a member.
+/// A set: whether the candidates of each linked one are its members.
 fn take_set(
-    alloc: Global,
     terms: &mut Terms,
     roles: &mut Roles,
     n: u64,
@@ -115,12 +78,53 @@ fn take_set(
         numbers.old.items numbers.new.items) }
     ensures kept { Keeps terms.old terms.new }
 {
-    join(alloc, terms, &mut roles.sets, n)?;
-    meet_groups(
+    roles.sets.push(n)?;
+    meet_set(terms, &roles.crowds, n, numbers)?;
+    Ok(())
+}
+
+/// A set that flows to another: whether its candidates are members of that.
+fn take_flow(
+    alloc: Global,
+    terms: &mut Terms,
+    roles: &mut Roles,
+    from: u64,
+    to: u64,
+    numbers: &mut Vec<u64>,
+) -> Result<(), AllocError>
+    requires from_within { from < length terms.old }
+    requires to_within { to < length terms.old }
+    requires are { AreRoles terms.old roles.old }
+    ensures ok { OnOk result (Takes terms.old terms.new roles.old roles.new (flow (tree terms.old from) (tree terms.old
+        to) ∷ []) numbers.old.items numbers.new.items) }
+    ensures kept { Keeps terms.old terms.new }
+{
+    join_target(alloc, terms, &mut roles.crowds, from, to)?;
+    meet_flow(terms, &roles.crowds, from, to, numbers)?;
+    Ok(())
+}
+
+/// The ancestors of an entity: whether each entity may be one, and whose it is one.
+fn take_above(
+    alloc: Global,
+    terms: &mut Terms,
+    roles: &mut Roles,
+    n: u64,
+    numbers: &mut Vec<u64>,
+) -> Result<(), AllocError>
+    requires within { n < length terms.old }
+    requires is { IsAbove (tree terms.old n) }
+    requires are { AreRoles terms.old roles.old }
+    ensures ok { OnOk result (Takes terms.old terms.new roles.old roles.new (roles_in (tree terms.old n))
+        numbers.old.items numbers.new.items) }
+    ensures kept { Keeps terms.old terms.new }
+{
+    roles.above.push(n)?;
+    meet_entity(
         alloc,
         terms,
-        Meeting::Candidates,
-        &roles.candidates,
+        roles.above.as_slice(),
+        &roles.crowds,
         n,
         numbers,
     )?;
@@ -166,51 +170,126 @@ fn take_pattern(
     take_new_pattern(alloc, terms, roles, asking, numbers)
 }
 
-/// The role that a term has by its row, with the numbers that it speaks of.
-#[derive(Drop)]
+/// Whether a node is a set term.
+fn is_set_term(node: &Node) -> bool
+    ensures { result ≡ set_node node.now }
+{
+    matches!(node, Node::Many(ManyOp::Set(_), _))
+}
+
+/// Whether a set is written as a set term.
+#[tactic(auto, using(crate::proofs::TakesLaws::written_told))]
+fn is_written(terms: &Terms, set: u64) -> bool
+    requires { set < length terms.now }
+    ensures { result ≡ written_set (tree terms.now set) }
+{
+    is_set_term(terms.node(set))
+}
+
+/// A membership: its first term is a candidate of the set, unless that is a set term.
+fn take_member(
+    alloc: Global,
+    terms: &mut Terms,
+    roles: &mut Roles,
+    n: u64,
+    in_set: u64,
+    numbers: &mut Vec<u64>,
+) -> Result<(), AllocError>
+    requires within { n < length terms.old }
+    requires set_within { in_set < length terms.old }
+    requires are { AreRoles terms.old roles.old }
+    ensures ok { OnOk result (Takes terms.old terms.new roles.old roles.new (unless_written (written (tree terms.old
+        in_set)) (candidate (tree terms.old n) (tree terms.old in_set))) numbers.old.items numbers.new.items) }
+    ensures kept { Keeps terms.old terms.new }
+{
+    if is_written(terms, in_set) {
+        return Ok(());
+    }
+    take_candidate(alloc, terms, roles, n, in_set, numbers)
+}
+
+/// Whether a set is within another: the one flows to the other, unless it is a set term.
+fn take_subset(
+    alloc: Global,
+    terms: &mut Terms,
+    roles: &mut Roles,
+    from: u64,
+    to: u64,
+    numbers: &mut Vec<u64>,
+) -> Result<(), AllocError>
+    requires from_within { from < length terms.old }
+    requires to_within { to < length terms.old }
+    requires are { AreRoles terms.old roles.old }
+    ensures ok { OnOk result (Takes terms.old terms.new roles.old roles.new (flow_role (tree terms.old from)
+        (tree terms.old to)) numbers.old.items numbers.new.items) }
+    ensures kept { Keeps terms.old terms.new }
+{
+    if is_written(terms, from) {
+        return Ok(());
+    }
+    take_flow(alloc, terms, roles, from, to, numbers)
+}
+
+/// Whether two sets have a member in common: the one flows to the other, unless one of them is a set
+/// term.
+fn take_common(
+    alloc: Global,
+    terms: &mut Terms,
+    roles: &mut Roles,
+    from: u64,
+    to: u64,
+    numbers: &mut Vec<u64>,
+) -> Result<(), AllocError>
+    requires from_within { from < length terms.old }
+    requires to_within { to < length terms.old }
+    requires are { AreRoles terms.old roles.old }
+    ensures ok { OnOk result (Takes terms.old terms.new roles.old roles.new (common_role (tree terms.old from)
+        (tree terms.old to)) numbers.old.items numbers.new.items) }
+    ensures kept { Keeps terms.old terms.new }
+{
+    if is_written(terms, to) {
+        return Ok(());
+    }
+    take_subset(alloc, terms, roles, from, to, numbers)
+}
+
+/// What a term is by its row, with the numbers that it speaks of.
+#[derive(Clone, Copy)]
 enum Part {
-    /// None.
+    /// Nothing that has a role.
     Nothing,
-    /// A candidate.
-    Candidate(u64),
-    /// Candidates.
-    Candidates(Seq<u64>),
-    /// The pattern that the term asks.
+    /// Whether a term is a member of a set.
+    Candidate(u64, u64),
+    /// Whether a set is within another.
+    Subset(u64, u64),
+    /// Whether two sets have a member in common.
+    Common(u64, u64),
+    /// The ancestors of an entity.
+    Above,
+    /// Whether a text matches a pattern.
     Pattern,
 }
 
-/// The members of a set term.
-fn members_of(alloc: Global, parts: &Parts) -> Result<Seq<u64>, AllocError>
-    ensures { IfOk result (λ v. v ≡ map (λ p. p.1) parts.now) }
-{
-    let mut members = Seq::new(alloc);
-    for part in parts.as_slice() {
-        members.push(part.1)?;
-    }
-    Ok(members)
-}
-
-/// What the term of a number is by its node.
-fn part_at(alloc: Global, n: u64, node: &Node) -> Result<Part, AllocError>
-    ensures { IfOk result (λ p. p ≡ part_in n node.now) }
+/// What the term of a node is by its row.
+fn part_at(node: &Node) -> Part
+    ensures { result ≡ part_in node.now }
 {
     match node {
-        Node::Two(BinaryOp::Member, a, _) => Ok(Part::Candidate(*a)),
-        Node::Two(BinaryOp::DifferencePick, _, _) => Ok(Part::Candidate(n)),
-        Node::Two(BinaryOp::CommonPick, _, _) => Ok(Part::Candidate(n)),
-        Node::One(UnaryOp::Ancestors(_), entity) => Ok(Part::Candidate(*entity)),
-        Node::One(UnaryOp::Like(_), _) => Ok(Part::Pattern),
-        Node::Many(ManyOp::Set(_), parts) => Ok(Part::Candidates(members_of(alloc, parts)?)),
-        _ => Ok(Part::Nothing),
+        Node::Two(BinaryOp::Member, a, s) => Part::Candidate(*a, *s),
+        Node::Two(BinaryOp::Subset, s, t) => Part::Subset(*s, *t),
+        Node::Two(BinaryOp::Common, s, t) => Part::Common(*s, *t),
+        Node::One(UnaryOp::Ancestors(_), _) => Part::Above,
+        Node::One(UnaryOp::Like(_), _) => Part::Pattern,
+        _ => Part::Nothing,
     }
 }
 
 /// What a term is by its row.
-fn part_of(alloc: Global, terms: &Terms, n: u64) -> Result<Part, AllocError>
+fn part_of(terms: &Terms, n: u64) -> Part
     requires { n < length terms.now }
-    ensures { IfOk result (λ p. IsPartOf terms.now n p) }
+    ensures { IsPartOf terms.now n result }
 {
-    part_at(alloc, n, terms.node(n))
+    part_at(terms.node(n))
 }
 
 /// Takes in the role that a term has by its row.
@@ -227,13 +306,12 @@ fn take_part(
         numbers.old.items numbers.new.items) }
     ensures kept { Keeps terms.old terms.new }
 {
-    let part = part_of(alloc, terms, n)?;
-    match part {
+    match part_of(terms, n) {
         Part::Nothing => Ok(()),
-        Part::Candidate(a) => take_candidate(alloc, terms, roles, a, numbers),
-        Part::Candidates(members) => {
-            take_candidates(alloc, terms, roles, members.as_slice(), numbers)
-        }
+        Part::Candidate(a, s) => take_member(alloc, terms, roles, a, s, numbers),
+        Part::Subset(s, t) => take_subset(alloc, terms, roles, s, t, numbers),
+        Part::Common(s, t) => take_common(alloc, terms, roles, s, t, numbers),
+        Part::Above => take_above(alloc, terms, roles, n, numbers),
         Part::Pattern => take_pattern(alloc, terms, roles, n, numbers),
     }
 }
@@ -276,7 +354,7 @@ fn take_place(
 {
     match place_of(terms.sort(n)) {
         Place::Named => take_named(alloc, terms, roles, n, numbers),
-        Place::Set => take_set(alloc, terms, roles, n, numbers),
+        Place::Set => take_set(terms, roles, n, numbers),
         Place::Neither => Ok(()),
     }
 }

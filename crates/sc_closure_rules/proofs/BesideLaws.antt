@@ -37,7 +37,9 @@ use Rattle.sc_term_laws.proofs.SortsLawful.{lawful_action, tags_lawful, type_law
 use Rattle.sc_term_laws.proofs.TestLaws.{at_level}
 use Rattle.sc_term_definitions.specs.Definitions.{definition, inputs_of, chosen_of, over_leaf}
 use Rattle.sc_term_definitions.specs.Truths.{InputsAreTerms}
-use Rattle.sc_closure_rules.specs.Closure.{uid_term, branches, equations, ancestors_of, declared_members, declared_ancestors, ancestors_by, beside}
+use Rattle.sc_rule_laws.specs.Terms.{member, written}
+use Rattle.sc_rule_laws.proofs.WrittenTerms.{written_made}
+use Rattle.sc_closure_rules.specs.Closure.{memberships, standing_by, picked, within_by, common_by, uid_term, branches, equations, ancestors_of, declared_members, declared_ancestors, ancestors_by, beside}
 use Rattle.sc_closure_rules.proofs.PartLaws.{own}
 use Rattle.sc_closure_rules.proofs.MadeLaws.{at, equated, uid_at, field_of}
 
@@ -70,18 +72,18 @@ defined_bool (choice c a b) t h = chosen_bool c a b t (out-Sort (tree_sort a)) r
 defined_bool (leaf l) t h = leaf_defined l t h
 defined_bool _ t h = absurd h
 
-module _ (d : Declarations) (env : Env) (written : List Uid) (lawful : IsLawful d) (among : Contains (environments d) env) (declared : AllByRecursion (IsDeclared d) written) where
+module _ (d : Declarations) (env : Env) (literals : List Uid) (lawful : IsLawful d) (among : Contains (environments d) env) (declared : AllByRecursion (IsDeclared d) literals) where
   abbrev Of : Sort → Tree → Type 0
-  Of = IsTermOf d env written
+  Of = IsTermOf d env literals
 
   abbrev Is : Tree → Type 0
-  Is = IsTerm d env written
+  Is = IsTerm d env literals
 
   self : (k : Sort) (t : Tree) → Of k t → Is t
-  self = own d env written
+  self = own d env literals
 
   pub inputs_made : InputsAreTerms → (x t : Tree) → Is x → Has (inputs_of x) t → Is t
-  inputs_made inputs x t h m = self sort.Bool t (inputs d env written x t (at d env written sort.Bool x (defined_bool x t m) h) (Contains-from_Has (inputs_of x) t m))
+  inputs_made inputs x t h m = self sort.Bool t (inputs d env literals x t (at d env literals sort.Bool x (defined_bool x t m) h) (Contains-from_Has (inputs_of x) t m))
 
   -- ---- choices and equations
 
@@ -90,22 +92,22 @@ module _ (d : Declarations) (env : Env) (written : List Uid) (lawful : IsLawful 
   branches_two _ x a b t m = m
 
   two_made : (k : Sort) (x a b t : Tree) → Of k x → Of k a → Of k b → Has (equal_term x a ∷ equal_term x b ∷ []) t → Is t
-  two_made k x a b t f g h (inl m) = subst Is m (equated d env written k x a f g)
-  two_made k x a b t f g h (inr (inl m)) = subst Is m (equated d env written k x b f h)
+  two_made k x a b t f g h (inl m) = subst Is m (equated d env literals k x a f g)
+  two_made k x a b t f g h (inr (inl m)) = subst Is m (equated d env literals k x b f h)
   two_made k x a b t f g h (inr (inr m)) = absurd m
 
   equations_made : (l : Sort-F Sort) (k : Sort) (a b t : Tree) → out-Sort k ≡ l → Of k a → Of k b → Has (equations l a b) t → Is t
   equations_made (s.Record fs) k a b t e g h m =
       let same = at_level k (s.Record fs) e ∙ rolls-Record fs in
       let q = map-Has (λ (f : SortField). equal_term (field_term f.0 a) (field_term f.0 b)) fs t m in
-      let first = field_of d env written lawful among declared fs q.0 a (subst (λ (z : Sort). Of z a) same g) q.1 in
-      let second = field_of d env written lawful among declared fs q.0 b (subst (λ (z : Sort). Of z b) same h) q.1 in
-      subst Is q.2 (equated d env written q.0.1 (field_term q.0.0 a) (field_term q.0.0 b) first second)
+      let first = field_of d env literals lawful among declared fs q.0 a (subst (λ (z : Sort). Of z a) same g) q.1 in
+      let second = field_of d env literals lawful among declared fs q.0 b (subst (λ (z : Sort). Of z b) same h) q.1 in
+      subst Is q.2 (equated d env literals q.0.1 (field_term q.0.0 a) (field_term q.0.0 b) first second)
   equations_made (s.Option held) k a b t e g h (inl m) =
       let same = at_level k (s.Option held) e ∙ rolls-Option held in
-      let first = held_made d env written held a (subst (λ (z : Sort). Of z a) same g) in
-      let second = held_made d env written held b (subst (λ (z : Sort). Of z b) same h) in
-      subst Is m (equated d env written held (held_term a) (held_term b) first second)
+      let first = held_made d env literals held a (subst (λ (z : Sort). Of z a) same g) in
+      let second = held_made d env literals held b (subst (λ (z : Sort). Of z b) same h) in
+      subst Is m (equated d env literals held (held_term a) (held_term b) first second)
   equations_made (s.Option held) k a b t e g h (inr m) = absurd m
   equations_made (s.Set member) k a b t e g h (inl m) =
       let same = at_level k (s.Set member) e ∙ rolls-Set member in
@@ -140,7 +142,7 @@ module _ (d : Declarations) (env : Env) (written : List Uid) (lawful : IsLawful 
     members_made u x t here h m =
         let q = map-Has (λ (v : Uid). two binary.Member (uid_term (choices_of d above) v) (ancestors_of set_sort x)) (of_type_name above (unwrap_or (action_ancestors d u) [])) t m in
         let c = chosen above (unwrap_or (action_ancestors d u) []) q.0 (Contains-from_Has (of_type_name above (unwrap_or (action_ancestors d u) [])) q.0 q.1) in
-        let member = uid_at d env written above (choices_of d above) q.0 refl (ancestor_declared u q.0 here c.among) c.named in
+        let member = uid_at d env literals above (choices_of d above) q.0 refl (ancestor_declared u q.0 here c.among) c.named in
         subst Is q.2 (self sort.Bool (two binary.Member (uid_term (choices_of d above) q.0) (ancestors_of set_sort x))
         (judged.of_member set_sort (uid_term (choices_of d above) q.0) (ancestors_of set_sort x) member (set_of x h)))
 
@@ -149,7 +151,7 @@ module _ (d : Declarations) (env : Env) (written : List Uid) (lawful : IsLawful 
         → Has (ancestors_of set_sort (uid_term (choices_of d name) u) ∷ declared_members d (out-Sort set_sort) set_sort (uid_term (choices_of d name) u) u) t → Is t
     action_made u t here m =
         let c = chosen name (action_uids d) u here in
-        let entity = uid_at d env written name (choices_of d name) u refl c.among c.named in
+        let entity = uid_at d env literals name (choices_of d name) u refl c.among c.named in
         let members = λ (n : Has (declared_members d (out-Sort set_sort) set_sort (uid_term (choices_of d name) u) u) t).
         members_made u (uid_term (choices_of d name) u) t c.among entity
         (subst (λ (l : Sort-F Sort). Has (declared_members d l set_sort (uid_term (choices_of d name) u) u) t) (out_Entity above (choices_of d above)) n) in
@@ -169,7 +171,7 @@ module _ (d : Declarations) (env : Env) (written : List Uid) (lawful : IsLawful 
 
     pub ancestors_made : (e t : Tree) → Of (entity_sort d name) e → Has (ancestors_by d (out-Sort (tree_sort e)) set_sort e) t → Is t
     ancestors_made e t h m =
-        let level : out-Sort (tree_sort e) ≡ s.Entity name (choices_of d name) = ap out-Sort (sort_is d env written (entity_sort d name) e h) ∙ out_Entity name (choices_of d name) in
+        let level : out-Sort (tree_sort e) ≡ s.Entity name (choices_of d name) = ap out-Sort (sort_is d env literals (entity_sort d name) e h) ∙ out_Entity name (choices_of d name) in
         let n = subst (λ (l : Sort-F Sort). Has (ancestors_by d l set_sort e) t) level m in
         ⊎_elim (types_made e t h) (declared_made t)
         (Has-append (map (λ (n : List ℕ). ancestors_of (entity_sort d n) e) (unwrap_or (ancestor_types d name) [])) (declared_ancestors d set_sort (choices_of d name)) t n)
@@ -182,15 +184,38 @@ module _ (d : Declarations) (env : Env) (written : List Uid) (lawful : IsLawful 
   tag_made name y e k t stored g h (inr (inl m)) =
       subst Is m (self sort.Bool (two binary.Member k (one unary.Keys e)) (judged.of_member sort.String k (one unary.Keys e) h (judged.of_keys name y e stored g)))
   tag_made name y e k t stored g h (inr (inr (inl m))) =
-      subst Is m (equated d env written (sort_of y) (two (binary.Tag (sort_of y)) e k) (default_term (sort_of y)) (judged.of_tag name y e k stored g h)
-      (default_made d env written (sort_of y) (type_lawful d lawful y (tags_lawful d lawful name y stored))))
+      subst Is m (equated d env literals (sort_of y) (two (binary.Tag (sort_of y)) e k) (default_term (sort_of y)) (judged.of_tag name y e k stored g h)
+      (default_made d env literals (sort_of y) (type_lawful d lawful y (tags_lawful d lawful name y stored))))
   tag_made name y e k t stored g h (inr (inr (inr m))) = absurd m
 
   -- ---- all rows
 
-  picked : (k : Sort) (x t : Tree) → Of k x → Has (x ∷ []) t → Is t
-  picked k x t h (inl e) = subst Is e (self k x h)
-  picked k x t h (inr m) = absurd m
+  membership_made : (k : Sort) (x a : Tree) → Of k x → Of (sort.Set k) a → Is (two binary.Member x a)
+  membership_made k x a h i = self sort.Bool (two binary.Member x a) (judged.of_member k x a h i)
+
+  memberships_made : (k : Sort) (us : List Tree) (a t : Tree) → ((u : Tree) → Has us u → Of k u) → Of (sort.Set k) a → Has (memberships us a) t → Is t
+  memberships_made k us a t each h m = let q = map-Has (λ u. member u a) us t m in subst Is q.2 (membership_made k q.0 a (each q.0 q.1) h)
+
+  picked_made : (k : Sort) (x a b t : Tree) → Of k x → Of (sort.Set k) a → Of (sort.Set k) b → Has (picked x a b) t → Is t
+  picked_made k x a b t h i j (inl e) = subst Is e (self k x h)
+  picked_made k x a b t h i j (inr (inl e)) = subst Is e (membership_made k x a h i)
+  picked_made k x a b t h i j (inr (inr (inl e))) = subst Is e (membership_made k x b h j)
+  picked_made k x a b t h i j (inr (inr (inr m))) = absurd m
+
+  standing_made : (k : Sort) (x a t : Tree) (o : Option (List Tree)) → written a ≡ o → Of k x → Of (sort.Set k) a → Has (standing_by o x) t → Is t
+  standing_made k x a t (Some us) e h i m =
+      let q = map-Has (equal_term x) us t m in
+      subst Is q.2 (equated d env literals k x q.0 h (written_made d env literals k a us q.0 i e q.1))
+  standing_made k x a t None e h i m = absurd m
+
+  within_made : (k : Sort) (a b t : Tree) (o : Option (List Tree)) → written a ≡ o → Of (sort.Set k) a → Of (sort.Set k) b → Has (within_by o a b) t → Is t
+  within_made k a b t (Some us) e h i m = memberships_made k us b t (λ u n. written_made d env literals k a us u h e n) i m
+  within_made k a b t None e h i m = picked_made k (two binary.DifferencePick a b) a b t (judged.of_pick binary.DifferencePick k a b judged.difference h i) h i m
+
+  common_made : (k : Sort) (a b t : Tree) (o p : Option (List Tree)) → written a ≡ o → written b ≡ p → Of (sort.Set k) a → Of (sort.Set k) b → Has (common_by o p a b) t → Is t
+  common_made k a b t (Some us) p e f h i m = memberships_made k us b t (λ u n. written_made d env literals k a us u h e n) i m
+  common_made k a b t None (Some us) e f h i m = memberships_made k us a t (λ u n. written_made d env literals k b us u i f n) h m
+  common_made k a b t None None e f h i m = picked_made k (two binary.CommonPick a b) a b t (judged.of_pick binary.CommonPick k a b judged.intersection h i) h i m
 
   beside_of : (k : Sort) (x t : Tree) → Of k x → Has (beside d x) t → Is t
   beside_of _ _ t (judged.of_truth b) m = absurd m
@@ -208,7 +233,7 @@ module _ (d : Declarations) (env : Env) (written : List Uid) (lawful : IsLawful 
   beside_of _ _ t (judged.of_and a b h i s) m = absurd m
   beside_of _ _ t (judged.of_or a b h i s) m = absurd m
   beside_of _ _ t (judged.of_choice k c a b h i j s) m = two_made k (choice c a b) a b t (judged.of_choice k c a b h i j s) i j (branches_two (out-Sort (tree_sort a)) (choice c a b) a b t m)
-  beside_of _ _ t (judged.of_equal k a b h i s) m = equations_made (out-Sort (tree_sort a)) k a b t (ap out-Sort (sym (sort_is d env written k a h))) h i m
+  beside_of _ _ t (judged.of_equal k a b h i s) m = equations_made (out-Sort (tree_sort a)) k a b t (ap out-Sort (sym (sort_is d env literals k a h))) h i m
   beside_of _ _ t (judged.of_arithmetic _ a b (judged.of_sum _ judged.addition) h i) m = absurd m
   beside_of _ _ t (judged.of_arithmetic _ a b (judged.of_sum _ judged.subtraction) h i) m = absurd m
   beside_of _ _ t (judged.of_arithmetic _ a b judged.multiplication h i) m = absurd m
@@ -231,9 +256,9 @@ module _ (d : Declarations) (env : Env) (written : List Uid) (lawful : IsLawful 
   beside_of _ _ t (judged.of_set k ts f hs) m = absurd m
   beside_of _ _ t (judged.of_present k a h s) m = absurd m
   beside_of _ _ t (judged.of_held k a h s) m = absurd m
-  beside_of _ _ t (judged.of_member k x a h i) m = absurd m
-  beside_of _ _ t (judged.of_sets _ k a b judged.subset_test h i) m = picked k (two binary.DifferencePick a b) t (judged.of_pick binary.DifferencePick k a b judged.difference h i) m
-  beside_of _ _ t (judged.of_sets _ k a b judged.common_test h i) m = picked k (two binary.CommonPick a b) t (judged.of_pick binary.CommonPick k a b judged.intersection h i) m
+  beside_of _ _ t (judged.of_member k x a h i) m = standing_made k x a t (written a) refl h i m
+  beside_of _ _ t (judged.of_sets _ k a b judged.subset_test h i) m = within_made k a b t (written a) refl h i m
+  beside_of _ _ t (judged.of_sets _ k a b judged.common_test h i) m = common_made k a b t (written a) (written b) refl refl h i m
   beside_of _ _ t (judged.of_pick _ k a b judged.difference h i) m = absurd m
   beside_of _ _ t (judged.of_pick _ k a b judged.intersection h i) m = absurd m
   beside_of _ _ t (judged.of_like p a h s) m = absurd m

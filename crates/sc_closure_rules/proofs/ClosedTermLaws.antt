@@ -38,7 +38,7 @@ module _ (inputs : InputsAreTerms) (d : Declarations) (env : Env) (literals : Li
       (Has-append (inputs_of x) (inside x ++ (choices x ++ (beside d x ++ parts x))) t k)
 
   half_made : (x y t : Tree) → Is x → Is y → Has (half x y) t → Is t
-  half_made x y t h k e = let r = half_has x y t e in roles_made d env literals x y r.0 r.1 t h k r.2 r.3 r.4
+  half_made x y t h k e = let r = half_has x y t e in roles_made d env literals lawful x y r.0 r.1 t h k r.2 r.3 r.4
 
   pub closed_made : {t : Tree} → Closed d env goal t → Is t
   closed_made of_true = own d env literals sort.Bool (truth_term true) (judged.of_truth true)

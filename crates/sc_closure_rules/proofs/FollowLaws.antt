@@ -32,7 +32,7 @@ labelled_stand : (xs : List Node) (ps : Places) → stood xs (map (λ (p : List 
 labelled_stand xs [] = refl
 labelled_stand xs (p ∷ ps) = ap (λ (ts : List Tree). tree xs p.1 ∷ ts) (labelled_stand xs ps)
 
-labelled_within : (l : ℕ) (ps : Places) → AreBelow l ps → AllByRecursion (λ n. n < l) (map (λ (p : List ℕ × ℕ). p.1) ps)
+pub labelled_within : (l : ℕ) (ps : Places) → AreBelow l ps → AllByRecursion (λ n. n < l) (map (λ (p : List ℕ × ℕ). p.1) ps)
 labelled_within l [] h = tt
 labelled_within l (p ∷ ps) h = (h.0, labelled_within l ps h.1)
 
@@ -56,6 +56,7 @@ module _ (xs : List Node) (n : ℕ) where
   rule_at (node.Two (binary.Tag own) a b) e h =
       let sort_is : tree_sort (tree xs n) ≡ own = ap tree_sort e in
       (h.0, h.1, e ∙ ap (λ (k : Sort). two (binary.Tag k) (tree xs a) (tree xs b)) (sym sort_is))
+  rule_at (node.Two binary.Member a b) e h = (h.0, h.1, e)
   rule_at (node.Two binary.Subset a b) e h = (h.0, h.1, e)
   rule_at (node.Two binary.Common a b) e h = (h.0, h.1, e)
   rule_at _ e h = λ d. ap (beside d) e

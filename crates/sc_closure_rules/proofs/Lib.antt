@@ -6,12 +6,15 @@ pub use Rattle.sc_term_laws.proofs.JudgingLaws
 pub use Rattle.sc_term_laws.proofs.TestLaws
 pub mod LoopLaws
 mod FollowLaws
+mod StandingLaws
+mod LinkingLaws
 mod InsideLaws
 mod AncestorLaws
 mod PartLaws
 pub mod SortLaws
 mod MadeLaws
 mod BesideLaws
+pub mod UpLaws
 pub mod MetLaws
 pub mod RoleLaws
 pub mod ClosedTermLaws

@@ -11,9 +11,10 @@ use Rattle.sc_sorts.specs.declared.node.Node.{Node}
 use Rattle.sc_sorts.specs.declared.node.Node.TheVariants as node
 use Rattle.sc_sorts.specs.declared.node.UnaryOp.TheVariants as unary
 use Rattle.sc_sorts.specs.declared.node.BinaryOp.TheVariants as binary
+use Rattle.sc_sorts.specs.declared.node.ManyOp.TheVariants as manys
 use Rattle.sc_terms.specs.Trees.{Tree, two}
 use Rattle.sc_terms.specs.Folds.{equal_term, present_term, held_term, default_term}
-use Rattle.sc_terms.specs.Tables.{tree}
+use Rattle.sc_terms.specs.Tables.{Places, tree}
 use Rattle.sc_terms.specs.TreeSorts.{tree_sort}
 use Rattle.sc_closure_rules.specs.declared.following.Beside.{Beside}
 use Rattle.sc_closure_rules.specs.declared.following.Beside.TheVariants as row
@@ -68,9 +69,15 @@ rule (node.Choice c a b) = row.Branches a b
 rule (node.One (unary.Ancestors own) a) = row.Ancestors a
 rule (node.Two binary.Equal a b) = row.Equations a b
 rule (node.Two (binary.Tag own) a b) = row.Tag a b
-rule (node.Two binary.Subset a b) = row.Difference a b
+rule (node.Two binary.Member x q) = row.Membership x q
+rule (node.Two binary.Subset a b) = row.Inclusion a b
 rule (node.Two binary.Common a b) = row.Intersection a b
 rule _ = row.Nothing
+
+-- the parts of a set term's node
+abbrev pub set_parts : Node → Option Places
+set_parts (node.Many (manys.Set member) ps) = Some ps
+set_parts _ = None
 
 -- what each rule says of a term, by its number and those of its parts
 abbrev pub IsBesideOf : List Node → ℕ → Beside → Type 0
@@ -79,5 +86,6 @@ IsBesideOf xs n (row.Branches a b) = (a < length xs) × (b < length xs) × ((d :
 IsBesideOf xs n (row.Ancestors e) = (e < length xs) × IsAncestorsOf xs n e
 IsBesideOf xs n (row.Equations a b) = (a < length xs) × (b < length xs) × ((d : Declarations) → beside d (tree xs n) ≡ equations (out-Sort (tree_sort (tree xs a))) (tree xs a) (tree xs b))
 IsBesideOf xs n (row.Tag e k) = (e < length xs) × (k < length xs) × (tree xs n ≡ two (binary.Tag (tree_sort (tree xs n))) (tree xs e) (tree xs k))
-IsBesideOf xs n (row.Difference a b) = (a < length xs) × (b < length xs) × (tree xs n ≡ two binary.Subset (tree xs a) (tree xs b))
+IsBesideOf xs n (row.Membership x q) = (x < length xs) × (q < length xs) × (tree xs n ≡ two binary.Member (tree xs x) (tree xs q))
+IsBesideOf xs n (row.Inclusion a b) = (a < length xs) × (b < length xs) × (tree xs n ≡ two binary.Subset (tree xs a) (tree xs b))
 IsBesideOf xs n (row.Intersection a b) = (a < length xs) × (b < length xs) × (tree xs n ≡ two binary.Common (tree xs a) (tree xs b))

@@ -1,5 +1,5 @@
 -- The closed terms of a goal: those on which a world depends that may make it true.
-use Rattle.std.specs.Prelude.{ℕ, Bool, true, false, List, [], ◌∷◌, ◌++◌, map, flat_map, Option, Some, None, unwrap_or}
+use Rattle.std.specs.Prelude.{◌==◌, ◌&&◌, ℕ, Bool, true, false, List, [], ◌∷◌, ◌++◌, map, flat_map, length, Option, Some, None, unwrap_or}
 use Rattle.std.specs.List.{Contains}
 use Rattle.sc_names.specs.declared.uid.Uid.{Uid}
 use Rattle.sc_pattern.specs.declared.part.Part.{Part}
@@ -13,11 +13,13 @@ use Rattle.sc_sorts.specs.declared.node.Leaf.TheVariants.{Principal, Resource}
 use Rattle.sc_sorts.specs.declared.node.Literal.TheVariants as literal
 use Rattle.sc_sorts.specs.declared.node.UnaryOp.TheVariants as unary
 use Rattle.sc_sorts.specs.declared.node.BinaryOp.TheVariants as binary
-use Rattle.sc_sorts.specs.declared.node.ManyOp.TheVariants as manys
 use Rattle.sc_terms.specs.Trees.{Tree, leaf, one, two, choice, many, Trees, no_part, part}
 use Rattle.sc_terms.specs.TreeSorts.{tree_sort}
+use Rattle.sc_terms.specs.Order.{tree_eq}
 use Rattle.sc_terms.specs.Folds.{truth_term, literal_term, literal_of, equal_term, field_term, present_term, held_term, default_term, bit_term, like_term}
 use Rattle.sc_term_definitions.specs.Definitions.{counted, bits_in, inputs_of}
+use Rattle.sc_rule_laws.specs.Terms.{one_sort, choices_in, member, missing, shared, written}
+use Rattle.sc_rule_laws.specs.Places.{roots}
 
 -- ---- the request's entities
 
@@ -103,14 +105,40 @@ abbrev pub ancestors_by : Declarations → Sort-F Sort → Sort → Tree → Lis
 ancestors_by d (s.Entity name us) own e = map (λ (n : List ℕ). ancestors_of (entity_sort d n) e) (unwrap_or (ancestor_types d name) []) ++ declared_ancestors d own us
 ancestors_by d _ own e = []
 
+-- A set is told by its candidates, the terms whose membership in it is closed. Of one that is written as a set term those that stand there
+-- tell what is asked of it.
+abbrev pub memberships : List Tree → Tree → List Tree
+memberships ts s = map (λ t. member t s) ts
+
+-- of a membership in a set term the equations with those that stand there
+abbrev pub standing_by : Option (List Tree) → Tree → List Tree
+standing_by (Some ts) x = map (equal_term x) ts
+standing_by None x = []
+
+-- of a member that is picked whether it is one of each of two sets
+abbrev pub picked : Tree → Tree → Tree → List Tree
+picked x s t = x ∷ member x s ∷ member x t ∷ []
+
+-- of whether a set is within another: the members of a set term, or one that tells that it isn't
+abbrev pub within_by : Option (List Tree) → Tree → Tree → List Tree
+within_by (Some ts) s t = memberships ts t
+within_by None s t = picked (missing s t) s t
+
+-- of whether sets have a member in common: the members of a set term, of the first if both are, or one that tells it
+abbrev pub common_by : Option (List Tree) → Option (List Tree) → Tree → Tree → List Tree
+common_by (Some ts) o s t = memberships ts t
+common_by None (Some ts) s t = memberships ts s
+common_by None None s t = picked (shared s t) s t
+
 -- what goes with it by its row
 abbrev pub beside : Declarations → Tree → List Tree
 beside d (choice c a b) = branches (out-Sort (tree_sort a)) (choice c a b) a b
 beside d (one (unary.Ancestors own) e) = ancestors_by d (out-Sort (tree_sort e)) own e
 beside d (two binary.Equal a b) = equations (out-Sort (tree_sort a)) a b
 beside d (two (binary.Tag own) e k) = one unary.Keys e ∷ two binary.Member k (one unary.Keys e) ∷ equal_term (two (binary.Tag own) e k) (default_term own) ∷ []
-beside d (two binary.Subset a b) = two binary.DifferencePick a b ∷ []
-beside d (two binary.Common a b) = two binary.CommonPick a b ∷ []
+beside d (two binary.Member x s) = standing_by (written s) x
+beside d (two binary.Subset s t) = within_by (written s) s t
+beside d (two binary.Common s t) = common_by (written s) (written t) s t
 beside d _ = []
 
 -- all of them, in the order in which they are numbered: the inputs of its definition first, and its parts last
@@ -121,9 +149,15 @@ follow d x = inputs_of x ++ (inside x ++ (choices x ++ (beside d x ++ parts x)))
 
 -- what a closed term is to those rules
 pub data Role : Type 0 where
+  -- a text or an entity
   named : Tree → Role
-  candidate : Tree → Role
+  -- a candidate of a set that is no set term
+  candidate : Tree → Tree → Role
   set : Tree → Role
+  -- each candidate of the first set is one of the second
+  flow : Tree → Tree → Role
+  -- the ancestors, of a sort, of an entity
+  above : Sort → Tree → Role
   pattern : List Part → Role
 
 -- by its sort: texts and entities, which are told apart by their names, and sets
@@ -133,39 +167,31 @@ roles_by (s.Entity name us) x = named x ∷ []
 roles_by (s.Set member) x = set x ∷ []
 roles_by _ x = []
 
--- By its row. Candidates for members of sets are first parts of `member`, picks, what stands in a set, and entities under ancestors.
+abbrev pub unless_written : Option (List Tree) → Role → List Role
+unless_written (Some ts) r = []
+unless_written None r = r ∷ []
+
+-- By its row. Where a set is asked whether it is within another, or has a member in common with it, its candidates are the other's.
 -- No rule brings in a pattern, so patterns are the goal's.
 abbrev pub roles_in : Tree → List Role
-roles_in (two binary.Member a b) = candidate a ∷ []
-roles_in (two binary.DifferencePick a b) = candidate (two binary.DifferencePick a b) ∷ []
-roles_in (two binary.CommonPick a b) = candidate (two binary.CommonPick a b) ∷ []
-roles_in (many (manys.Set member) ts) = map candidate (trees_in ts)
-roles_in (one (unary.Ancestors own) e) = candidate e ∷ []
+roles_in (two binary.Member x s) = unless_written (written s) (candidate x s)
+roles_in (two binary.Subset s t) = unless_written (written s) (flow s t)
+roles_in (two binary.Common s t) = flat_map (λ r. unless_written (written t) r) (unless_written (written s) (flow s t))
+roles_in (one (unary.Ancestors own) e) = above own e ∷ []
 roles_in (one (unary.Like p) t) = pattern p ∷ []
 roles_in _ = []
 
 abbrev pub roles : Tree → List Role
 roles x = roles_by (out-Sort (tree_sort x)) x ++ roles_in x
 
--- the equation of two terms, where they are of one sort
+-- where a test passes, the equation of two terms, and whether one is a member of the other
 abbrev pub equated_by : Bool → Tree → Tree → List Tree
 equated_by true x y = equal_term x y ∷ []
 equated_by false x y = []
 
-abbrev pub one_sort : Tree → Tree → Bool
-one_sort e f = sorts.eq (tree_sort e) (tree_sort f)
-
--- a candidate and a set of its sort: whether it is a member
 abbrev pub members_by : Bool → Tree → Tree → List Tree
-members_by true x y = two binary.Member x y ∷ []
-members_by false x y = []
-
-abbrev pub is_over : Sort-F Sort → Sort → Bool
-is_over (s.Set member) k = sorts.eq member k
-is_over _ k = false
-
-abbrev pub is_set_over : Tree → Tree → Bool
-is_set_over y x = is_over (out-Sort (tree_sort y)) (tree_sort x)
+members_by true x s = member x s ∷ []
+members_by false x s = []
 
 -- a text and a pattern: whether it matches
 abbrev pub matches_by : Sort-F Sort → Tree → List Part → List Tree
@@ -177,15 +203,43 @@ with_named x (named y) = equated_by (one_sort x y) x y
 with_named x (pattern p) = matches_by (out-Sort (tree_sort x)) x p
 with_named x _ = []
 
-abbrev pub with_candidate : Tree → Role → List Tree
-with_candidate x (candidate y) = equated_by (one_sort x y) x y
-with_candidate x (set y) = members_by (is_set_over y x) x y
-with_candidate x _ = []
+-- Sets that are one where their entities are, and keys of tags: the ancestors of one type, the keys, and like places of the attributes, or of
+-- tags, each of two entities of one type
+abbrev pub own_sets : Tree → Tree → Bool
+own_sets (one (unary.Attributes k) e) (one (unary.Attributes l) f) = one_sort e f
+own_sets (two (binary.Tag k) e x) (two (binary.Tag l) f y) = one_sort e f
+own_sets (one (unary.Ancestors k) e) (one (unary.Ancestors l) f) = one_sort e f
+own_sets (one unary.Keys e) (one unary.Keys f) = one_sort e f
+own_sets _ _ = false
+
+abbrev pub are_linked : Tree → Tree → Bool
+are_linked s t = one_sort s t && own_sets (roots s t).0 (roots s t).1
+
+-- an entity is of the type of another's ancestors
+abbrev pub is_under : Tree → Sort → Bool
+is_under f own = sorts.eq (tree_sort f) own
+
+-- An ancestor of an entity's ancestor is one of the entity's, of whichever type. Actions have their declared ones.
+abbrev pub ancestors_up : Tree → Tree → Sort → Tree → List Tree
+ancestors_up x (one (unary.Ancestors k) f) own e = members_by (is_under f own && (length (choices_in e) == 0)) x (ancestors_of k e)
+ancestors_up x _ own e = []
+
+abbrev pub with_candidate : Tree → Tree → Role → List Tree
+with_candidate x s (candidate y t) = equated_by (tree_eq s t) x y
+with_candidate x s (set t) = members_by (are_linked s t) x t
+with_candidate x s (flow t u) = members_by (tree_eq s t) x u
+with_candidate x s (above own e) = ancestors_up x s own e
+with_candidate x s _ = []
+
+abbrev pub with_above : Sort → Tree → Role → List Tree
+with_above own e (above k f) = members_by (is_under f own) f (ancestors_of own e)
+with_above own e _ = []
 
 -- what goes with a role and another
 abbrev pub meet : Role → Role → List Tree
 meet (named x) r = with_named x r
-meet (candidate x) r = with_candidate x r
+meet (candidate x s) r = with_candidate x s r
+meet (above own e) r = with_above own e r
 meet _ r = []
 
 -- one half of what goes with two terms; the other exchanges them

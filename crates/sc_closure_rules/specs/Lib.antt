@@ -8,4 +8,5 @@ pub use Rattle.sc_term_laws.specs.Fitting
 pub use Rattle.sc_term_laws.specs.Judging
 pub mod Closure
 pub mod Goals
+pub mod Linking
 pub mod Beside

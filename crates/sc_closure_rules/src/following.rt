@@ -17,6 +17,7 @@ ghost use Rattle.sc_closure_rules.specs.Closure as closing;
 ghost use Rattle.sc_closure_rules.specs.Beside.{IsBesideOf, rule, held_option, held_terms, equated_by};
 
 use crate::ancestors::{put_ancestors, put_choices};
+use crate::sets::{put_common, put_standing, put_within};
 use sc_lists::{Seq, Text};
 use sc_schema::Schema;
 use sc_sorts::{BinaryOp, Node, Sort, UnaryOp, try_clone};
@@ -503,9 +504,11 @@ enum Beside {
     Equations(u64, u64),
     /// Of an entity's tag under a key.
     Tag(u64, u64),
-    /// Of an inclusion.
-    Difference(u64, u64),
-    /// Of a common member.
+    /// Of whether a term is a member of a set.
+    Membership(u64, u64),
+    /// Of whether a set is within another.
+    Inclusion(u64, u64),
+    /// Of whether sets have a member in common.
     Intersection(u64, u64),
 }
 
@@ -518,7 +521,8 @@ fn rule_of(node: &Node) -> Beside
         Node::One(UnaryOp::Ancestors(_), entity) => Beside::Ancestors(*entity),
         Node::Two(BinaryOp::Equal, a, b) => Beside::Equations(*a, *b),
         Node::Two(BinaryOp::Tag(_), entity, key) => Beside::Tag(*entity, *key),
-        Node::Two(BinaryOp::Subset, a, b) => Beside::Difference(*a, *b),
+        Node::Two(BinaryOp::Member, x, set) => Beside::Membership(*x, *set),
+        Node::Two(BinaryOp::Subset, a, b) => Beside::Inclusion(*a, *b),
         Node::Two(BinaryOp::Common, a, b) => Beside::Intersection(*a, *b),
         _ => Beside::Nothing,
     }
@@ -530,44 +534,6 @@ fn rule_at(terms: &Terms, n: u64) -> Beside
     ensures { IsBesideOf terms.now n result }
 {
     rule_of(terms.node(n))
-}
-
-/// Puts the member that tells that a set isn't within another.
-#[tactic(auto, using(sc_term_definitions::proofs::MakingLaws::puts_one))]
-fn put_difference(
-    terms: &mut Terms,
-    a: u64,
-    b: u64,
-    numbers: &mut Vec<u64>,
-) -> Result<(), AllocError>
-    requires a_in { a < length terms.old }
-    requires b_in { b < length terms.old }
-    ensures ok { OnOk result (Puts terms.old terms.new numbers.old.items numbers.new.items (two binary.DifferencePick
-        (tree terms.old a) (tree terms.old b) ∷ [])) }
-    ensures kept { Keeps terms.old terms.new }
-{
-    let pick = terms.difference_pick(a, b)?;
-    numbers.push(pick)?;
-    Ok(())
-}
-
-/// Puts the member that tells that two sets have one in common.
-#[tactic(auto, using(sc_term_definitions::proofs::MakingLaws::puts_one))]
-fn put_intersection(
-    terms: &mut Terms,
-    a: u64,
-    b: u64,
-    numbers: &mut Vec<u64>,
-) -> Result<(), AllocError>
-    requires a_in { a < length terms.old }
-    requires b_in { b < length terms.old }
-    ensures ok { OnOk result (Puts terms.old terms.new numbers.old.items numbers.new.items (two binary.CommonPick
-        (tree terms.old a) (tree terms.old b) ∷ [])) }
-    ensures kept { Keeps terms.old terms.new }
-{
-    let pick = terms.common_pick(a, b)?;
-    numbers.push(pick)?;
-    Ok(())
 }
 
 /// Puts what goes with a term by its row.
@@ -589,8 +555,9 @@ fn put_beside(
         Beside::Ancestors(entity) => put_ancestors(alloc, schema, terms, n, entity, numbers),
         Beside::Equations(a, b) => put_equations(alloc, terms, a, b, numbers),
         Beside::Tag(entity, key) => put_tag(alloc, terms, n, entity, key, numbers),
-        Beside::Difference(a, b) => put_difference(terms, a, b, numbers),
-        Beside::Intersection(a, b) => put_intersection(terms, a, b, numbers),
+        Beside::Membership(x, set) => put_standing(alloc, terms, x, set, numbers),
+        Beside::Inclusion(a, b) => put_within(alloc, terms, a, b, numbers),
+        Beside::Intersection(a, b) => put_common(alloc, terms, a, b, numbers),
     }
 }
 

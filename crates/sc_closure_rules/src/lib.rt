@@ -5,8 +5,11 @@
 mod ancestors;
 mod following;
 mod law;
+mod places;
+mod sets;
 
 pub use following::put_following;
 pub use law::closed_laws;
+pub use places::{are_linked, roots};
 pub use sc_term_definitions::{Shape, definition_laws, input_count, shape_at};
 pub use sc_term_laws::{order_laws, terms_fit};

@@ -21,13 +21,14 @@ use Rattle.sc_terms.specs.Tables.{tree, node_tree, node_parts, IsTable, PartsAre
 use Rattle.sc_terms.specs.Trees.{Tree}
 use Rattle.sc_closure.specs.Making.{stood}
 use Rattle.sc_closure.proofs.PuttingLaws.{put_old, put_there, put_only}
-use Rattle.sc_closure.specs.Closure.{candidate, roles_in, trees_in, one_sort}
+use Rattle.sc_closure.specs.Closure.{trees_in}
+use Rattle.sc_rule_laws.specs.Terms.{one_sort}
 use Rattle.sc_closure.specs.Following.{put_new}
 use Rattle.sc_closure.specs.Places.{one_more, place_among}
 use Rattle.sc_footprint.specs.declared.kind.Kind.{Kind}
 use Rattle.sc_footprint.specs.declared.kind.Kind.TheVariants as kind
 use Rattle.sc_footprint.specs.Kinds.{same_kind}
-use Rattle.sc_footprint.specs.Shelves.{is_candidate, is_candidate_in, has_key_like}
+use Rattle.sc_footprint.specs.Shelves.{told_candidates, is_among_told, is_candidate, has_key_like}
 use Rattle.sc_footprint.specs.Shelving.{AreCandidates, AreCandidatesSoFar, node_candidates, node_owned, told_of, is_told, is_like}
 
 -- ---- a number has a place just where it is there
@@ -95,17 +96,17 @@ module _ (xs : List Node) (t : IsTable xs) where
   no_candidate a = (λ h. absurd h, λ e. absurd (true≢false (sym e)))
 
   abbrev IsAmong : ℕ → List (List ℕ × ℕ) → Type 0
-  IsAmong a ps = Has (map (λ (p : List ℕ × ℕ). p.1) ps) a ↔ (list_any (is_candidate_in (tree xs a)) (map candidate (trees_in (node_parts xs ps))) ≡ true)
+  IsAmong a ps = Has (map (λ (p : List ℕ × ℕ). p.1) ps) a ↔ (list_any (is_among_told (tree xs a)) (trees_in (node_parts xs ps)) ≡ true)
 
   all_parts : (a : ℕ) (ps : List (List ℕ × ℕ)) → a < length xs → AreBelow (length xs) ps → IsAmong a ps
   all_parts a [] h k = no_candidate a
   all_parts a (p ∷ ps) h k = (forth (all_parts a ps h k.1), back (all_parts a ps h k.1) (tree_eq (tree xs p.1) (tree xs a)) refl)
     where
-      forth : IsAmong a ps → Has (map (λ (q : List ℕ × ℕ). q.1) (p ∷ ps)) a → list_any (is_candidate_in (tree xs a)) (map candidate (trees_in (node_parts xs (p ∷ ps)))) ≡ true
-      forth rest (inl e) = or_left (tree_eq (tree xs p.1) (tree xs a)) (list_any (is_candidate_in (tree xs a)) (map candidate (trees_in (node_parts xs ps)))) (same_test p.1 a e)
-      forth rest (inr q) = or_right (tree_eq (tree xs p.1) (tree xs a)) (list_any (is_candidate_in (tree xs a)) (map candidate (trees_in (node_parts xs ps)))) (rest.0 q)
+      forth : IsAmong a ps → Has (map (λ (q : List ℕ × ℕ). q.1) (p ∷ ps)) a → list_any (is_among_told (tree xs a)) (trees_in (node_parts xs (p ∷ ps))) ≡ true
+      forth rest (inl e) = or_left (tree_eq (tree xs p.1) (tree xs a)) (list_any (is_among_told (tree xs a)) (trees_in (node_parts xs ps))) (same_test p.1 a e)
+      forth rest (inr q) = or_right (tree_eq (tree xs p.1) (tree xs a)) (list_any (is_among_told (tree xs a)) (trees_in (node_parts xs ps))) (rest.0 q)
 
-      back : IsAmong a ps → (b : Bool) → tree_eq (tree xs p.1) (tree xs a) ≡ b → (b || list_any (is_candidate_in (tree xs a)) (map candidate (trees_in (node_parts xs ps)))) ≡ true
+      back : IsAmong a ps → (b : Bool) → tree_eq (tree xs p.1) (tree xs a) ≡ b → (b || list_any (is_among_told (tree xs a)) (trees_in (node_parts xs ps))) ≡ true
           → Has (map (λ (q : List ℕ × ℕ). q.1) (p ∷ ps)) a
       back rest true e g = inl (test_same p.1 a k.0 h e)
       back rest false e g = inr (rest.1 g)
@@ -113,7 +114,7 @@ module _ (xs : List Node) (t : IsTable xs) where
   -- ---- by rows of nodes
 
   told_by_node : (a n : ℕ) (x : Node) → tree xs n ≡ node_tree xs x → PartsAreBelow (length xs) x → a < length xs → n < length xs
-      → Has (node_candidates n x) a ↔ (list_any (is_candidate_in (tree xs a)) (roles_in (node_tree xs x)) ≡ true)
+      → Has (node_candidates n x) a ↔ (list_any (is_among_told (tree xs a)) (told_candidates (node_tree xs x)) ≡ true)
   told_by_node a n (node.Two binary.Member b c) e parts h k = one_candidate a b h parts.0
   told_by_node a n (node.Two binary.DifferencePick b c) e parts h k = own_candidate a n (node_tree xs (node.Two binary.DifferencePick b c)) e h k
   told_by_node a n (node.Two binary.CommonPick b c) e parts h k = own_candidate a n (node_tree xs (node.Two binary.CommonPick b c)) e h k
@@ -122,21 +123,21 @@ module _ (xs : List Node) (t : IsTable xs) where
   told_by_node a n _ e parts h k = no_candidate a
 
   told_here : (a n : ℕ) (x : Node) → tree xs n ≡ node_tree xs x → PartsAreBelow (length xs) x → a < length xs → n < length xs
-      → Has (node_candidates n x) a ↔ (list_any (is_candidate_in (tree xs a)) (roles_in (tree xs n)) ≡ true)
-  told_here a n x e parts h k = subst (λ (y : Tree). Has (node_candidates n x) a ↔ (list_any (is_candidate_in (tree xs a)) (roles_in y) ≡ true)) (sym e) (told_by_node a n x e parts h k)
+      → Has (node_candidates n x) a ↔ (list_any (is_among_told (tree xs a)) (told_candidates (tree xs n)) ≡ true)
+  told_here a n x e parts h k = subst (λ (y : Tree). Has (node_candidates n x) a ↔ (list_any (is_among_told (tree xs a)) (told_candidates y) ≡ true)) (sym e) (told_by_node a n x e parts h k)
 
   -- ---- all terms
 
   module _ (all : List ℕ) (n : ℕ) (rest candidates more : List ℕ) (x : Node) (so_far : AreCandidatesSoFar xs all (n ∷ rest) candidates) (e : tree xs n ≡ node_tree xs x) (parts : PartsAreBelow (length xs) x) (k : n < length xs)
       (is : more ≡ put_new candidates (node_candidates n x)) where
     abbrev tells : ℕ → Bool
-    tells a = list_any (is_candidate_in (tree xs a)) (roles_in (tree xs n))
+    tells a = list_any (is_among_told (tree xs a)) (told_candidates (tree xs n))
 
     -- a candidate of one term more is one of those before, or this one tells of it
     one_more_tells : (a : ℕ) → is_candidate (stood xs (so_far.done ++ n ∷ [])) (tree xs a) ≡ (is_candidate (stood xs so_far.done) (tree xs a) || tells a)
     one_more_tells a =
         ap (λ (ts : List Tree). is_candidate ts (tree xs a)) (map-append (tree xs) so_far.done (n ∷ []))
-        ∙ list_any-append (λ s. list_any (is_candidate_in (tree xs a)) (roles_in s)) (stood xs so_far.done) (tree xs n ∷ [])
+        ∙ list_any-append (λ s. list_any (is_among_told (tree xs a)) (told_candidates s)) (stood xs so_far.done) (tree xs n ∷ [])
         ∙ ap (λ (b : Bool). is_candidate (stood xs so_far.done) (tree xs a) || b) (or_false (tells a))
 
     put_is : (a : ℕ) → a < length xs → Has candidates a ⊎ Has (node_candidates n x) a → (is_candidate (stood xs so_far.done) (tree xs a) || tells a) ≡ true

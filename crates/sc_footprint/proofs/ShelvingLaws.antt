@@ -17,7 +17,7 @@ use Rattle.sc_terms.specs.Trees.{Tree}
 use Rattle.sc_terms.specs.Tables.{tree}
 use Rattle.sc_terms.specs.TreeSorts.{tree_sort}
 use Rattle.sc_closure.specs.Making.{stood}
-use Rattle.sc_closure.specs.Closure.{one_sort}
+use Rattle.sc_rule_laws.specs.Terms.{one_sort}
 use Rattle.sc_closure.specs.Places.{place_among}
 use Rattle.sc_footprint.proofs.CompanionLaws.{take_all}
 use Rattle.sc_footprint.specs.declared.kind.Kind.{Kind}

@@ -12,7 +12,7 @@ use Rattle.sc_terms.specs.Trees.{Tree}
 use Rattle.sc_terms.specs.Tables.{tree}
 use Rattle.sc_terms.specs.Folds.{constant}
 use Rattle.sc_closure.specs.Making.{stood}
-use Rattle.sc_closure.specs.Closure.{one_sort}
+use Rattle.sc_rule_laws.specs.Terms.{one_sort}
 use Rattle.sc_footprint.specs.declared.kind.Kind.{Kind}
 use Rattle.sc_footprint.specs.declared.companions.Span.{Span}
 use Rattle.sc_footprint.specs.declared.shelves.Shelf.{Shelf}

@@ -1,22 +1,33 @@
 -- The closed terms of one kind, by a sort: what rules go over.
-use Rattle.std.specs.Prelude.{◌&&◌, Bool, true, false, List, filter, Option, Some, None}
+use Rattle.std.specs.Prelude.{◌&&◌, Bool, true, false, List, [], ◌∷◌, filter, Option, Some, None}
 use Rattle.std.specs.List.{list_any}
 use Rattle.sc_sorts.specs.declared.node.UnaryOp.TheVariants as unary
 use Rattle.sc_sorts.specs.declared.node.BinaryOp.TheVariants as binary
-use Rattle.sc_terms.specs.Trees.{Tree, one, two}
+use Rattle.sc_sorts.specs.declared.node.ManyOp.TheVariants as manys
+use Rattle.sc_terms.specs.Trees.{Tree, one, two, many}
 use Rattle.sc_terms.specs.Order.{tree_eq}
-use Rattle.sc_closure.specs.Closure.{Role, candidate, roles_in, one_sort}
+use Rattle.sc_closure.specs.Closure.{trees_in}
+use Rattle.sc_rule_laws.specs.Terms.{one_sort}
 use Rattle.sc_footprint.specs.declared.kind.Kind.{Kind}
 use Rattle.sc_footprint.specs.declared.kind.Kind.TheVariants as kind
 use Rattle.sc_footprint.specs.Problems.{Posed, closed_terms}
 
-abbrev pub is_candidate_in : Tree → Role → Bool
-is_candidate_in t (candidate x) = tree_eq x t
-is_candidate_in t _ = false
+-- the candidates for members of sets that a term tells of: what is asked of a set, a member that is picked, those
+-- that stand in a set term, and an entity that has ancestors
+abbrev pub told_candidates : Tree → List Tree
+told_candidates (two binary.Member x s) = x ∷ []
+told_candidates (two binary.DifferencePick s t) = two binary.DifferencePick s t ∷ []
+told_candidates (two binary.CommonPick s t) = two binary.CommonPick s t ∷ []
+told_candidates (many (manys.Set own) ts) = trees_in ts
+told_candidates (one (unary.Ancestors own) e) = e ∷ []
+told_candidates _ = []
 
--- some closed term makes a term a candidate for members of sets
+abbrev pub is_among_told : Tree → Tree → Bool
+is_among_told t x = tree_eq x t
+
+-- some closed term tells of a term as a candidate
 abbrev pub is_candidate : List Tree → Tree → Bool
-is_candidate ts t = list_any (λ s. list_any (is_candidate_in t) (roles_in s)) ts
+is_candidate ts t = list_any (λ s. list_any (is_among_told t) (told_candidates s)) ts
 
 -- the entity that attributes, ancestors, keys or a tag are of
 abbrev pub attributes_owner : Tree → Option Tree

@@ -214,7 +214,7 @@ const COUNTS: &[(Question, &str, &str, (u64, u64, usize))] = &[
         Question::Equivalent,
         "[context.n, context.n].contains(1)",
         "context.n == 1",
-        (404, 328, 390),
+        (401, 325, 390),
     ),
 ];
 

@@ -120,3 +120,10 @@ past_places n i k h l big = past n i k (10 ^ 18) h l (not_less i (10 ^ 18) big)
   where
     past : (n i k most : ℕ) → n ≤ k → k < most → most ≤ i → n ≤ i
     past n i k most h l big = omega (arith, h, l, big)
+
+-- and never one past the last
+pub never_place : (n i k : ℕ) → n ≤ k → k < 10 ^ 18 → is_number i ≡ false → n < i
+never_place n i k h l big = past n i k (10 ^ 18) h l (not_less i (10 ^ 18) big)
+  where
+    past : (n i k most : ℕ) → n ≤ k → k < most → most ≤ i → n < i
+    past n i k most h l big = omega (arith, h, l, big)

@@ -1,8 +1,10 @@
 -- Where no instance is falsified, no rule of equations, sets and entities is.
-use Rattle.std.proofs.Common.{◌≡◌, ◌^◌, ℕ, zero, suc, nat_lt, Bool, true, false, List, [], ◌∷◌, codes, map, length, Option, Some, None, Contains, refl, sym, ap, ◌∙◌, subst}
+use Rattle.std.proofs.Common.{◌≡◌, ◌==◌, ◌<◌, ◌≤◌, ◌^◌, ℕ, zero, suc, nat_lt, arith, slice_get, Bool, true, false, List, [], ◌∷◌, codes, map, length, Option, Some, None, Contains, refl, sym, ap, ◌∙◌, subst}
+use Rattle.std.proofs.lemmas.Bool.Decides.{nat_tests}
 use Rattle.std.proofs.lemmas.Option.{slice_get_past}
 use Rattle.std.specs.List.{AllByRecursion}
 use Rattle.sc_laws.proofs.BoolLaws.{never}
+use Rattle.sc_laws.proofs.OptionLaws.{same_some}
 use Rattle.sc_clauses.specs.Assignments.{Assignment}
 use Rattle.sc_clauses.specs.declared.step.Instance.{Instance}
 use Rattle.sc_clauses.specs.declared.step.Word.TheVariants.{Number}
@@ -13,15 +15,15 @@ use Rattle.sc_sorts.specs.declared.node.BinaryOp.TheVariants as binary
 use Rattle.sc_sorts.specs.declared.sort.Sort.{Sort, Sort-F, out-Sort}
 use Rattle.sc_sorts.specs.declared.sort.Sort.TheOpen as s
 use Rattle.sc_sorts.specs.contracts.sort.SortPartialEq.TheImpl.{ghosts as sorts}
-use Rattle.sc_terms.specs.Trees.{Tree, one, two, choice, many}
+use Rattle.sc_terms.specs.Trees.{Tree, leaf, one, two, choice, many}
 use Rattle.sc_terms.specs.TreeSorts.{tree_sort}
 use Rattle.sc_terms.specs.Folds.{equal_term}
 use Rattle.sc_footprint.specs.Problems.{Posed, IsPosed, closed_terms, term_of}
 use Rattle.sc_footprint.specs.Written.{is_number}
-use Rattle.sc_rule_laws.specs.Signed.{Signed, Said, unless, given}
-use Rattle.sc_rule_laws.specs.Terms.{fields_of, members}
+use Rattle.sc_rule_laws.specs.Signed.{Signed, Said, so, unless, given}
+use Rattle.sc_rule_laws.specs.Terms.{fields_of, member, subset, common, members, written as set_members}
 use Rattle.sc_rule_laws.specs.Equal.{eq1, eq2, eq3_of, field_at, eq3, eq4, eq5, eq6, eq7, eq8}
-use Rattle.sc_rule_laws.specs.Sets.{se1, se2, se3_of, se3, se4, se5, se6, se7, se8}
+use Rattle.sc_rule_laws.specs.Sets.{se1, se2, se3_of, se3, se4, se5, se6, se7, se8, se9_at, se9_of, se9, se10_at, se10_of, se10}
 use Rattle.sc_rule_laws.specs.Places.{roots, half_by, under}
 use Rattle.sc_rule_laws.specs.Entities.{en1_of, en1, en2, en3_of, en3, en4, en5, en6, en7, en8}
 use Rattle.sc_rule_instances.specs.Instances.{on_one, on_two, on_three, on_four, equal_said, set_said, entity_said, equal_of, set_of, entity_of}
@@ -30,12 +32,12 @@ use Rattle.sc_rule_instances.specs.Names.{numbers_of, equal_named, equal_rule, s
 use Rattle.sc_rule_instances.specs.declared.rule.EqualRule.{EqualRule}
 use Rattle.sc_rule_instances.specs.declared.rule.EqualRule.TheVariants.{Eq1, Eq2, Eq3, Eq4, Eq5, Eq6, Eq7, Eq8}
 use Rattle.sc_rule_instances.specs.declared.rule.SetRule.{SetRule}
-use Rattle.sc_rule_instances.specs.declared.rule.SetRule.TheVariants.{Se1, Se2, Se3, Se4, Se5, Se6, Se7, Se8}
+use Rattle.sc_rule_instances.specs.declared.rule.SetRule.TheVariants.{Se1, Se2, Se3, Se4, Se5, Se6, Se7, Se8, Se9, Se10}
 use Rattle.sc_rule_instances.specs.declared.rule.EntityRule.{EntityRule}
 use Rattle.sc_rule_instances.specs.declared.rule.EntityRule.TheVariants.{En1, En2, En3, En4, En5, En6, En7, En8}
 use Rattle.sc_rule_instances.proofs.RulesHold.{term_closed}
 use Rattle.sc_model_consistency.specs.Laws.{HasSmallPlaces}
-use Rattle.sc_model_consistency.proofs.NumberLaws.{IsSmall, zero_small, one_small, two_small, none_less, words_small, number_small, fields_within, members_within, past_places}
+use Rattle.sc_model_consistency.proofs.NumberLaws.{IsSmall, zero_small, one_small, two_small, none_less, words_small, number_small, fields_within, members_within, past_places, never_place}
 use Rattle.sc_model_consistency.proofs.InstanceLaws.{IsRight, written, rule_free, numbers_back}
 
 module _ (p : Posed) (posed : IsPosed p) (places : HasSmallPlaces p) (m : Assignment) where
@@ -147,6 +149,41 @@ module _ (p : Posed) (posed : IsPosed p) (places : HasSmallPlaces p) (m : Assign
       (past_places (length (members ts)) i _ (members_within p.schema (many (manys.Set k) ts) ts refl) (places (many (manys.Set k) ts) there) big) in
       ap (λ (o : Option Tree). is_falsified p m (se3_of x (many (manys.Set k) ts) o)) none ∙ said_none
   se3_past x _ i there big = said_none
+
+  -- a set term's members are fewer
+  few_standing : (s : Tree) (us : List Tree) (i : ℕ) → Contains (closed_terms p) s → is_number i ≡ false → set_members s ≡ Some us → length us < i
+  few_standing (many (manys.Set k) ts) us i there big e =
+      subst (λ (vs : List Tree). length vs < i) (same_some e)
+      (never_place (length (members ts)) i _ (members_within p.schema (many (manys.Set k) ts) ts refl) (places (many (manys.Set k) ts) there) big)
+  few_standing (many manys.Record ts) us i there big e = absurd cc
+  few_standing (leaf l) us i there big e = absurd cc
+  few_standing (one o a) us i there big e = absurd cc
+  few_standing (two o a b) us i there big e = absurd cc
+  few_standing (choice c a b) us i there big e = absurd cc
+
+  not_last : (i n : ℕ) → n < i → (i == n) ≡ false
+  not_last i n h = grind (arith, nat_tests)
+
+  past_standing : (said : Option Tree → Said) (parts : List Signed) (us : List Tree) (i : ℕ) → length us < i → said None ≡ given (i == length us) parts → Free (said (slice_get us i))
+  past_standing said parts us i far e =
+      let past : length us ≤ i = omega (arith, far) in
+      ap (λ (o : Option Tree). is_falsified p m (said o)) (slice_get_past us i past)
+      ∙ ap (is_falsified p m) (e ∙ ap (λ (b : Bool). given b parts) (not_last i (length us) far)) ∙ said_none
+
+  se9_past : (s t : Tree) (i : ℕ) → Contains (closed_terms p) s → is_number i ≡ false → Free (se9 s t i)
+  se9_past s t i there big = by (set_members s) refl
+    where
+      by : (o : Option (List Tree)) → set_members s ≡ o → Free (se9_of o s t i)
+      by None e = said_none
+      by (Some us) e = past_standing (se9_at s t us i) (so (subset s t) ∷ map (λ u. unless (member u t)) us) us i (few_standing s us i there big e) refl
+
+  se10_past : (s t : Tree) (i : ℕ) → Contains (closed_terms p) s → Contains (closed_terms p) t → is_number i ≡ false → Free (se10 s t i)
+  se10_past s t i there here big = by (set_members s) (set_members t) refl refl
+    where
+      by : (o q : Option (List Tree)) → set_members s ≡ o → set_members t ≡ q → Free (se10_of o q s t i)
+      by None None e f = said_none
+      by (Some us) q e f = past_standing (se10_at (common s t) us t i) (unless (common s t) ∷ map (λ u. so (member u t)) us) us i (few_standing s us i there big e) refl
+      by None (Some us) e f = past_standing (se10_at (common s t) us s i) (unless (common s t) ∷ map (λ u. so (member u s)) us) us i (few_standing t us i here big f) refl
 
   se5_past : (s t : Tree) (i : ℕ) → is_number i ≡ false → Free (se5 s t i)
   se5_past s t zero big = never _ (sym zero_small ∙ big)
@@ -267,6 +304,14 @@ module _ (p : Posed) (posed : IsPosed p) (places : HasSmallPlaces p) (m : Assign
         placed i (set_said p (Se8 s t i))
         (λ j. two_free s t (λ u v. se8 u v i) (λ a b. of_sets (codes "SE8") (s ∷ t ∷ i ∷ []) (Se8 s t i) (a, (b, (j, tt))) refl))
         (λ big. two_said s t (λ u v. se8 u v i) (λ u v there here. se8_past u v i big))
+    sets_free (Se9 s t i) =
+        placed i (set_said p (Se9 s t i))
+        (λ j. two_free s t (λ u v. se9 u v i) (λ a b. of_sets (codes "SE9") (s ∷ t ∷ i ∷ []) (Se9 s t i) (a, (b, (j, tt))) refl))
+        (λ big. two_said s t (λ u v. se9 u v i) (λ u v there here. se9_past u v i there big))
+    sets_free (Se10 s t i) =
+        placed i (set_said p (Se10 s t i))
+        (λ j. two_free s t (λ u v. se10 u v i) (λ a b. of_sets (codes "SE10") (s ∷ t ∷ i ∷ []) (Se10 s t i) (a, (b, (j, tt))) refl))
+        (λ big. two_said s t (λ u v. se10 u v i) (λ u v there here. se10_past u v i there here big))
 
   module _ (right : (i : Instance) → IsRight p m (entity_of p i)) where
     of_entities : (word ns : List ℕ) (rule : EntityRule) → AllByRecursion IsSmall ns → entity_named word (numbers_of (map Number ns)) ≡ Some rule

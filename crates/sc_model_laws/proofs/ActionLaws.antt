@@ -39,7 +39,7 @@ use Rattle.sc_model_laws.specs.Consistent.{of_en7, of_en8}
 use Rattle.sc_model_laws.specs.Vals.{Model, assigned}
 use Rattle.sc_model_laws.specs.Models.{IsModel}
 use Rattle.sc_model_laws.proofs.HoldLaws.{others, last, some_so}
-use Rattle.sc_model_laws.proofs.ManyRows.{all_so}
+use Rattle.sc_model_laws.proofs.CompositeClaims.{all_so}
 use Rattle.sc_model_laws.proofs.ClosureLaws.{of_part, declared_closed, declared_member, entities_equation}
 use Rattle.sc_model_laws.proofs.EntityLaws.{OfAncestors, ancestors_sort, ruled, member_true, true_member, ancestors_move}
 use Rattle.sc_model_laws.proofs.FittingLaws.{AreMade, assigned_sorted}

@@ -1,5 +1,6 @@
 -- Which terms are closed with a closed term, one law for each rule.
-use Rattle.std.proofs.Common.{◌≡◌, ◌+◌, ◌++◌, ◌<◌, inl, inr, ℕ, zero, suc, arith, false, List, [], ◌∷◌, map, flat_map, refl, sym, ap, ◌∙◌, subst}
+use Rattle.std.proofs.Common.{◌≡◌, ◌+◌, ◌++◌, ◌<◌, inl, inr, ℕ, zero, suc, arith, Bool, true, false, List, [], ◌∷◌, map, flat_map, Option, Some, None, refl, sym, ap, ◌∙◌, subst}
+use Rattle.sc_laws.proofs.OptionLaws.{same_some}
 use Rattle.sc_lists.proofs.MemberLaws.{Has-left, Has-right, Has-map, Has-flat_map, Contains-from_Has}
 use Rattle.sc_lists.specs.Members.{Has}
 use Rattle.sc_names.specs.declared.uid.Uid.{Uid}
@@ -15,12 +16,20 @@ use Rattle.sc_sorts.proofs.OutLaws.{out_Long, out_String, out_Decimal, out_Ip, o
 use Rattle.sc_sorts.specs.declared.node.UnaryOp.TheVariants as unary
 use Rattle.sc_sorts.specs.declared.node.BinaryOp.TheVariants as binary
 use Rattle.sc_sorts.specs.declared.node.ManyOp.TheVariants as manys
-use Rattle.sc_terms.specs.Trees.{Tree, one, two, choice, many, Trees}
+use Rattle.sc_terms.specs.Trees.{Tree, leaf, one, two, choice, many, Trees, no_part, part}
 use Rattle.sc_terms.specs.TreeSorts.{tree_sort}
+use Rattle.sc_terms.specs.Order.{tree_eq}
+use Rattle.sc_terms.proofs.OrderLaws.{tree_eq-itself}
 use Rattle.sc_terms.specs.Folds.{equal_term, field_term, present_term, held_term, default_term, bit_term, like_term}
 use Rattle.sc_term_definitions.specs.Definitions.{counted, inputs_of}
 use Rattle.sc_term_laws.specs.Tests.{bool_level}
-use Rattle.sc_closure_rules.specs.Closure.{Closed, next, pair, Role, named, candidate, set, pattern, inside, inside_by, choices, beside, branches, equations, parts, trees_in, follow, follow_pair, half, meet, roles, roles_by, roles_in, one_sort, is_over, equated_by, members_by, matches_by}
+use Rattle.sc_rule_laws.specs.Terms.{one_sort, member, members, written}
+use Rattle.sc_closure_rules.specs.Closure.{Closed, next, pair, Role, named, candidate, flow, pattern, inside, inside_by, choices, beside, branches, equations, standing_by, picked, within_by, common_by, parts, trees_in, follow, follow_pair, half, meet, roles, roles_by, roles_in, unless_written, equated_by, members_by, matches_by}
+
+-- the members of a set term are its parts
+pub members_trees : (ts : Trees) → members ts ≡ trees_in ts
+members_trees no_part = refl
+members_trees (part l t ts) = ap (λ us. t ∷ us) (members_trees ts)
 
 -- from a number on, so many
 pub counted_has : (n from i : ℕ) → i < n → Has (counted from n) (from + i)
@@ -151,11 +160,44 @@ module _ (d : Declarations) (env : Env) (goal : Tree) where
   pub superset_closed : (k : Sort) (a b : Tree) → tree_sort a ≡ sort.Set k → Closed d env goal (two binary.Equal a b) → Closed d env goal (two binary.Subset b a)
   superset_closed k a b e c = equation_at a b (two binary.Subset b a) (sort.Set k) (s.Set k) e (out_Set k) c (inr (inl refl))
 
-  pub pick_closed : (a b : Tree) → Closed d env goal (two binary.Subset a b) → Closed d env goal (two binary.DifferencePick a b)
-  pick_closed a b c = of_beside (two binary.Subset a b) (two binary.DifferencePick a b) c (inl refl)
+  -- what is asked of a set term is told by those that stand there
+  pub standing_equation : (x a t : Tree) (us : List Tree) → written a ≡ Some us → Closed d env goal (two binary.Member x a) → Has us t → Closed d env goal (equal_term x t)
+  standing_equation x a t us e c h =
+      of_beside (two binary.Member x a) (equal_term x t) c
+      (subst (λ (o : Option (List Tree)). Has (standing_by o x) (equal_term x t)) (sym e) (Has-map (equal_term x) us t h))
 
-  pub shared_closed : (a b : Tree) → Closed d env goal (two binary.Common a b) → Closed d env goal (two binary.CommonPick a b)
-  shared_closed a b c = of_beside (two binary.Common a b) (two binary.CommonPick a b) c (inl refl)
+  pub standing_within : (a b t : Tree) (us : List Tree) → written a ≡ Some us → Closed d env goal (two binary.Subset a b) → Has us t → Closed d env goal (two binary.Member t b)
+  standing_within a b t us e c h =
+      of_beside (two binary.Subset a b) (two binary.Member t b) c
+      (subst (λ (o : Option (List Tree)). Has (within_by o a b) (two binary.Member t b)) (sym e) (Has-map (λ u. member u b) us t h))
+
+  pub first_standing : (a b t : Tree) (us : List Tree) → written a ≡ Some us → Closed d env goal (two binary.Common a b) → Has us t → Closed d env goal (two binary.Member t b)
+  first_standing a b t us e c h =
+      of_beside (two binary.Common a b) (two binary.Member t b) c
+      (subst (λ (o : Option (List Tree)). Has (common_by o (written b) a b) (two binary.Member t b)) (sym e) (Has-map (λ u. member u b) us t h))
+
+  common_beside : (a b y : Tree) (o p : Option (List Tree)) → written a ≡ o → written b ≡ p → IsClosed (two binary.Common a b) → Has (common_by o p a b) y → IsClosed y
+  common_beside a b y o p e f c h = of_beside (two binary.Common a b) y c (subst (λ (q : Option (List Tree) × Option (List Tree)). Has (common_by q.0 q.1 a b) y) (λ i. (sym e i, sym f i)) h)
+
+  pub second_standing : (a b t : Tree) (us : List Tree) → written a ≡ None → written b ≡ Some us → Closed d env goal (two binary.Common a b) → Has us t → Closed d env goal (two binary.Member t a)
+  second_standing a b t us e f c h = common_beside a b (two binary.Member t a) None (Some us) e f c (Has-map (λ u. member u a) us t h)
+
+  -- what is asked of two others, by a member that is picked
+  pub missing_closed : (a b y : Tree) → written a ≡ None → Closed d env goal (two binary.Subset a b) → Has (picked (two binary.DifferencePick a b) a b) y → Closed d env goal y
+  missing_closed a b y e c h = of_beside (two binary.Subset a b) y c (subst (λ (o : Option (List Tree)). Has (within_by o a b) y) (sym e) h)
+
+  pub shared_closed : (a b y : Tree) → written a ≡ None → written b ≡ None → Closed d env goal (two binary.Common a b) → Has (picked (two binary.CommonPick a b) a b) y → Closed d env goal y
+  shared_closed a b y e f c h = common_beside a b y None None e f c h
+
+  -- those that stand in a set term are closed
+  pub standing_closed : (a t : Tree) (us : List Tree) → written a ≡ Some us → Closed d env goal a → Has us t → Closed d env goal t
+  standing_closed (many (manys.Set k) ts) t us e c h =
+      of_part (many (manys.Set k) ts) t c (subst (λ vs. Has vs t) (members_trees ts) (subst (λ (vs : List Tree). Has vs t) (sym (same_some e)) h))
+  standing_closed (many manys.Record ts) t us e c h = absurd cc
+  standing_closed (leaf l) t us e c h = absurd cc
+  standing_closed (one o a) t us e c h = absurd cc
+  standing_closed (two o a b) t us e c h = absurd cc
+  standing_closed (choice c a b) t us e i h = absurd cc
 
   pub tag_keys : (own : Sort) (e k : Tree) → Closed d env goal (two (binary.Tag own) e k) → Closed d env goal (one unary.Keys e)
   tag_keys own e k c = of_beside (two (binary.Tag own) e k) (one unary.Keys e) c (inl refl)
@@ -207,37 +249,32 @@ module _ (d : Declarations) (env : Env) (goal : Tree) where
       met x y (equal_term x y) (named x) (named y) c h (role_at x (sort.Entity name us) (s.Entity name us) (named x) e (out_Entity name us) (inl refl))
       (role_at y (sort.Entity name us) (s.Entity name us) (named y) f (out_Entity name us) (inl refl)) (of_one_sort x y x y (e ∙ sym f))
 
-  -- a closed term brings in a candidate for membership of sets
-  pub record IsCandidate (k : Sort) (x : Tree) : Type 0 where
-    pub source : Tree
-    pub closed : Closed d env goal source
-    pub among : Has (roles_in source) (candidate x)
-    pub sorted : tree_sort x ≡ k
-    pub own : Closed d env goal x
+  -- ---- candidates of sets that are no set terms
 
-  pub candidates_equation : (k : Sort) (x y : Tree) → IsCandidate k x → IsCandidate k y → Closed d env goal (equal_term x y)
-  candidates_equation k x y i j =
-      met i.source j.source (equal_term x y) (candidate x) (candidate y) i.closed j.closed (role_in i.source (candidate x) i.among)
-      (role_in j.source (candidate y) j.among) (of_one_sort x y x y (i.sorted ∙ sym j.sorted))
+  plain_role : (a : Tree) (r : Role) → written a ≡ None → Has (unless_written (written a) r) r
+  plain_role a r e = subst (λ (o : Option (List Tree)). Has (unless_written o r) r) (sym e) (inl refl)
 
-  pub member_closed : (k : Sort) (x y : Tree) → IsCandidate k x → tree_sort y ≡ sort.Set k → Closed d env goal y → Closed d env goal (two binary.Member x y)
-  member_closed k x y i e c =
-      met i.source y (two binary.Member x y) (candidate x) (set y) i.closed c (role_in i.source (candidate x) i.among)
-      (role_at y (sort.Set k) (s.Set k) (set y) e (out_Set k) (inl refl))
-      (subst (λ b. Has (members_by b x y) (two binary.Member x y))
-      (sym (ap (λ (l : Sort-F Sort). is_over l (tree_sort x)) (ap out-Sort e ∙ out_Set k) ∙ (sort_eq_decides k (tree_sort x)).1 (sym i.sorted))) (inl refl))
+  member_role : (x a : Tree) → written a ≡ None → Has (roles (two binary.Member x a)) (candidate x a)
+  member_role x a e = role_in (two binary.Member x a) (candidate x a) (plain_role a (candidate x a) e)
 
-  pub member_candidate : (k : Sort) (x y : Tree) → tree_sort x ≡ k → Closed d env goal (two binary.Member x y) → IsCandidate k x
-  member_candidate k x y e c = record { source = two binary.Member x y; closed = c; among = inl refl; sorted = e; own = of_part (two binary.Member x y) x c (inl refl) }
+  tested : (b : Bool) (x y : Tree) → b ≡ true → Has (members_by b x y) (two binary.Member x y)
+  tested b x y e = subst (λ t. Has (members_by t x y) (two binary.Member x y)) (sym e) (inl refl)
 
-  pub pick_candidate : (k : Sort) (a b : Tree) → tree_sort (two binary.DifferencePick a b) ≡ k → Closed d env goal (two binary.DifferencePick a b)
-      → IsCandidate k (two binary.DifferencePick a b)
-  pick_candidate k a b e c = record { source = two binary.DifferencePick a b; closed = c; among = inl refl; sorted = e; own = c }
+  -- each two of one set are equated
+  pub candidates_equation : (x y a : Tree) → written a ≡ None → Closed d env goal (two binary.Member x a) → Closed d env goal (two binary.Member y a) → Closed d env goal (equal_term x y)
+  candidates_equation x y a e c h =
+      met (two binary.Member x a) (two binary.Member y a) (equal_term x y) (candidate x a) (candidate y a) c h (member_role x a e) (member_role y a e)
+      (subst (λ b. Has (equated_by b x y) (equal_term x y)) (sym (tree_eq-itself a)) (inl refl))
 
-  pub shared_candidate : (k : Sort) (a b : Tree) → tree_sort (two binary.CommonPick a b) ≡ k → Closed d env goal (two binary.CommonPick a b)
-      → IsCandidate k (two binary.CommonPick a b)
-  shared_candidate k a b e c = record { source = two binary.CommonPick a b; closed = c; among = inl refl; sorted = e; own = c }
+  flowed : (x a b q : Tree) → written a ≡ None → IsClosed (two binary.Member x a) → IsClosed q → Has (roles q) (flow a b) → IsClosed (two binary.Member x b)
+  flowed x a b q e c h r =
+      met (two binary.Member x a) q (two binary.Member x b) (candidate x a) (flow a b) c h (member_role x a e) r (tested (tree_eq a a) x b (tree_eq-itself a))
 
-  pub among_candidate : (j k : Sort) (ts : Trees) (x : Tree) → tree_sort x ≡ k → Closed d env goal (many (manys.Set j) ts) → Has (trees_in ts) x → IsCandidate k x
-  among_candidate j k ts x e c h =
-      record { source = many (manys.Set j) ts; closed = c; among = Has-map candidate (trees_in ts) x h; sorted = e; own = of_part (many (manys.Set j) ts) x c h }
+  -- they are candidates of a set of which it is asked
+  pub within_flows : (x a b : Tree) → written a ≡ None → Closed d env goal (two binary.Member x a) → Closed d env goal (two binary.Subset a b) → Closed d env goal (two binary.Member x b)
+  within_flows x a b e c h = flowed x a b (two binary.Subset a b) e c h (role_in (two binary.Subset a b) (flow a b) (plain_role a (flow a b) e))
+
+  pub common_flows : (x a b : Tree) → written a ≡ None → written b ≡ None → Closed d env goal (two binary.Member x a) → Closed d env goal (two binary.Common a b) → Closed d env goal (two binary.Member x b)
+  common_flows x a b e f c h =
+      flowed x a b (two binary.Common a b) e c h (role_in (two binary.Common a b) (flow a b)
+      (Has-flat_map (λ r. unless_written (written b) r) (unless_written (written a) (flow a b)) (flow a b) (flow a b) (plain_role a (flow a b) e) (plain_role b (flow a b) f)))

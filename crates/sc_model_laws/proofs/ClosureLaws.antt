@@ -1,5 +1,6 @@
 -- Which terms are closed with others.
-use Rattle.std.proofs.Common.{◌≡◌, inl, inr, ℕ, List, [], ◌∷◌, ◌++◌, map, unwrap_or, refl, sym, ap, ◌∙◌, subst}
+use Rattle.std.proofs.Common.{◌≡◌, ◌==◌, ◌&&◌, inl, inr, ℕ, Bool, true, List, [], ◌∷◌, ◌++◌, map, length, Option, None, unwrap_or, refl, sym, ap, ◌∙◌, subst}
+use Rattle.std.specs.Cmp.Derive.{both_true}
 use Rattle.sc_lists.proofs.MemberLaws.{Has-left, Has-right, Has-map, Has-flat_map, Contains-from_Has}
 use Rattle.sc_lists.specs.Members.{Has}
 use Rattle.sc_names.specs.declared.uid.Uid.{Uid}
@@ -18,7 +19,8 @@ use Rattle.sc_terms.specs.Trees.{Tree, one, two}
 use Rattle.sc_terms.specs.TreeSorts.{tree_sort}
 use Rattle.sc_terms.specs.Folds.{equal_term, field_term, held_term, default_term}
 use Rattle.sc_term_definitions.specs.Definitions.{inputs_of}
-use Rattle.sc_closure_rules.specs.Closure.{Closed, next, pair, Role, named, candidate, set, inside, inside_by, choices, beside, parts, follow, follow_pair, half, meet, roles, roles_by, roles_in, one_sort, equated_by, is_over, members_by, ancestors_by, ancestors_of, declared_ancestors, declared_members, uid_term}
+use Rattle.sc_rule_laws.specs.Terms.{one_sort, choices_in, written}
+use Rattle.sc_closure_rules.specs.Closure.{Closed, next, pair, Role, named, candidate, set, above, inside, inside_by, choices, beside, parts, follow, follow_pair, half, meet, roles, roles_by, roles_in, unless_written, equated_by, members_by, are_linked, is_under, ancestors_by, ancestors_of, declared_ancestors, declared_members, uid_term}
 use Rattle.sc_closure_rules.proofs.RoleLaws.{has_half}
 
 module _ (d : Declarations) (env : Env) (goal : Tree) where
@@ -96,14 +98,14 @@ module _ (d : Declarations) (env : Env) (goal : Tree) where
   declared_closed own e name us u k c i = declared_by own e (one (unary.Ancestors own) (uid_term us u)) name us u k c i (inl refl)
 
   -- with its declared ones as members
-  pub declared_member : (above : List ℕ) (vs : List Uid) (e : Tree) (name : List ℕ) (us : List Uid) (u v : Uid) → tree_sort e ≡ sort.Entity name us
-      → Closed d env goal (one (unary.Ancestors (sort.Entity above vs)) e) → Has us u → Has (of_type_name above (unwrap_or (action_ancestors d u) [])) v
-      → Closed d env goal (two binary.Member (uid_term vs v) (one (unary.Ancestors (sort.Entity above vs)) (uid_term us u)))
-  declared_member above vs e name us u v k c i h =
-      let own : Sort = sort.Entity above vs in
-      declared_by (sort.Entity above vs) e (two binary.Member (uid_term vs v) (one (unary.Ancestors (sort.Entity above vs)) (uid_term us u))) name us u k c i
-      (inr (subst (λ (l : Sort-F Sort). Has (declared_members d l (sort.Entity above vs) (uid_term us u) u) (two binary.Member (uid_term vs v) (one (unary.Ancestors (sort.Entity above vs)) (uid_term us u)))) (sym (out_Entity above vs))
-      (Has-map (λ (v : Uid). two binary.Member (uid_term vs v) (ancestors_of (sort.Entity above vs) (uid_term us u))) (of_type_name above (unwrap_or (action_ancestors d u) [])) v h)))
+  pub declared_member : (type : List ℕ) (vs : List Uid) (e : Tree) (name : List ℕ) (us : List Uid) (u v : Uid) → tree_sort e ≡ sort.Entity name us
+      → Closed d env goal (one (unary.Ancestors (sort.Entity type vs)) e) → Has us u → Has (of_type_name type (unwrap_or (action_ancestors d u) [])) v
+      → Closed d env goal (two binary.Member (uid_term vs v) (one (unary.Ancestors (sort.Entity type vs)) (uid_term us u)))
+  declared_member type vs e name us u v k c i h =
+      let own : Sort = sort.Entity type vs in
+      declared_by (sort.Entity type vs) e (two binary.Member (uid_term vs v) (one (unary.Ancestors (sort.Entity type vs)) (uid_term us u))) name us u k c i
+      (inr (subst (λ (l : Sort-F Sort). Has (declared_members d l (sort.Entity type vs) (uid_term us u) u) (two binary.Member (uid_term vs v) (one (unary.Ancestors (sort.Entity type vs)) (uid_term us u)))) (sym (out_Entity type vs))
+      (Has-map (λ (v : Uid). two binary.Member (uid_term vs v) (ancestors_of (sort.Entity type vs) (uid_term us u))) (of_type_name type (unwrap_or (action_ancestors d u) [])) v h)))
 
   -- ---- with two
 
@@ -131,21 +133,39 @@ module _ (d : Declarations) (env : Env) (goal : Tree) where
       met x y (equal_term x y) (named x) (named y) c h (role_at x (sort.Entity name us) (s.Entity name us) (named x) e (out_Entity name us) (inl refl))
       (role_at y (sort.Entity name us) (s.Entity name us) (named y) f (out_Entity name us) (inl refl)) (equated x y x y (e ∙ sym f))
 
-  -- a closed term brings x in as a candidate for membership of sets
-  pub record IsCandidate (x : Tree) : Type 0 where
-    pub source : Tree
-    pub closed : Closed d env goal source
-    pub among : Has (roles_in source) (candidate x)
+  -- ---- candidates of sets that are no set terms
 
-  pub member_closed : (k : Sort) (x y : Tree) → IsCandidate x → tree_sort x ≡ k → tree_sort y ≡ sort.Set k → Closed d env goal y → Closed d env goal (two binary.Member x y)
-  member_closed k x y i e f c =
-      met i.source y (two binary.Member x y) (candidate x) (set y) i.closed c (role_in i.source (candidate x) i.among)
-      (role_at y (sort.Set k) (s.Set k) (set y) f (out_Set k) (inl refl))
-      (subst (λ b. Has (members_by b x y) (two binary.Member x y))
-      (sym (ap (λ (l : Sort-F Sort). is_over l (tree_sort x)) (ap out-Sort f ∙ out_Set k) ∙ (sort_eq_decides k (tree_sort x)).1 (sym e))) (inl refl))
+  candidate_role : (x a : Tree) → written a ≡ None → Has (roles (two binary.Member x a)) (candidate x a)
+  candidate_role x a e =
+      role_in (two binary.Member x a) (candidate x a) (subst (λ (o : Option (List Tree)). Has (unless_written o (candidate x a)) (candidate x a)) (sym e) (inl refl))
 
-  pub above_candidate : (own : Sort) (e : Tree) → Closed d env goal (one (unary.Ancestors own) e) → IsCandidate e
-  above_candidate own e c = record { source = one (unary.Ancestors own) e; closed = c; among = inl refl }
+  tested : (b : Bool) (x y : Tree) → b ≡ true → Has (members_by b x y) (two binary.Member x y)
+  tested b x y e = subst (λ t. Has (members_by t x y) (two binary.Member x y)) (sym e) (inl refl)
 
-  pub member_candidate : (x y : Tree) → Closed d env goal (two binary.Member x y) → IsCandidate x
-  member_candidate x y c = record { source = two binary.Member x y; closed = c; among = inl refl }
+  -- those of a set are those of a linked one
+  pub linked_member : (k : Sort) (x a b : Tree) → written a ≡ None → Closed d env goal (two binary.Member x a) → tree_sort b ≡ sort.Set k → Closed d env goal b → are_linked a b ≡ true
+      → Closed d env goal (two binary.Member x b)
+  linked_member k x a b w c e h linked =
+      met (two binary.Member x a) b (two binary.Member x b) (candidate x a) (set b) c h (candidate_role x a w) (role_at b (sort.Set k) (s.Set k) (set b) e (out_Set k) (inl refl))
+      (tested (are_linked a b) x b linked)
+
+  under : (f : Tree) (own : Sort) → tree_sort f ≡ own → is_under f own ≡ true
+  under f own e = (sort_eq_decides (tree_sort f) own).1 e
+
+  above_role : (own : Sort) (e : Tree) → Has (roles (one (unary.Ancestors own) e)) (above own e)
+  above_role own e = role_in (one (unary.Ancestors own) e) (above own e) (inl refl)
+
+  -- an entity of the type of another's ancestors is one of their candidates
+  pub entity_member : (own k : Sort) (e f : Tree) → Closed d env goal (one (unary.Ancestors own) e) → Closed d env goal (one (unary.Ancestors k) f) → tree_sort f ≡ own
+      → Closed d env goal (two binary.Member f (one (unary.Ancestors own) e))
+  entity_member own k e f c h s =
+      met (one (unary.Ancestors own) e) (one (unary.Ancestors k) f) (two binary.Member f (one (unary.Ancestors own) e)) (above own e) (above k f) c h (above_role own e) (above_role k f)
+      (tested (is_under f own) f (one (unary.Ancestors own) e) (under f own s))
+
+  -- and what is one of its ancestors' is one of the other's, where the other is no action
+  pub ancestor_member : (own k : Sort) (x e f : Tree) → Closed d env goal (two binary.Member x (one (unary.Ancestors k) f)) → Closed d env goal (one (unary.Ancestors own) e) → tree_sort f ≡ own
+      → (length (choices_in e) == 0) ≡ true → Closed d env goal (two binary.Member x (one (unary.Ancestors k) e))
+  ancestor_member own k x e f c h s none =
+      met (two binary.Member x (one (unary.Ancestors k) f)) (one (unary.Ancestors own) e) (two binary.Member x (one (unary.Ancestors k) e)) (candidate x (one (unary.Ancestors k) f)) (above own e) c h
+      (candidate_role x (one (unary.Ancestors k) f) refl) (above_role own e)
+      (tested (is_under f own && (length (choices_in e) == 0)) x (one (unary.Ancestors k) e) (both_true (under f own s) none))

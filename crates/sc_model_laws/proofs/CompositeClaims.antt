@@ -1,13 +1,13 @@
--- Closed records, options and sets have equal values just where their equation is true, if what is in them has.
+-- Closed records and options have equal values just where their equation is true, if what is in them has.
 use Rattle.std.proofs.Common.{◌≡◌, ◌&&◌, inl, inr, ℕ, suc, Bool, true, false, cond, List, [], ◌∷◌, ◌++◌, map, flat_map, Option, Some, None, slice_get, refl, sym, ap, ◌∙◌, subst}
 use Rattle.std.specs.Cmp.{both_ways}
 use Rattle.std.specs.Cmp.Derive.{both_true}
 use Rattle.std.specs.List.{AllByRecursion}
 use Rattle.std.specs.List.Sorted.{IsStrictlySortedBy}
 use Rattle.std.specs.Map.{keys_of}
-use Rattle.sc_laws.proofs.BoolLaws.{and_first, and_second, true_both}
+use Rattle.sc_laws.proofs.BoolLaws.{and_first, and_second}
 use Rattle.sc_laws.proofs.OptionLaws.{same_some}
-use Rattle.sc_lists.proofs.MemberLaws.{Has-map, map-Has, Has-flat_map, flat_map-Has, Has-from_Contains, Contains-from_Has}
+use Rattle.sc_lists.proofs.MemberLaws.{Has-flat_map, flat_map-Has, Has-from_Contains, Contains-from_Has}
 use Rattle.sc_lists.specs.Members.{Has}
 use Rattle.sc_names.specs.declared.uid.Uid.{Uid}
 use Rattle.sc_names.specs.Uids.{text_cmp}
@@ -22,12 +22,11 @@ use Rattle.sc_values.proofs.OutLaws as out
 use Rattle.sc_sorts.specs.declared.sort.Sort.{Sort, Sort-F, out-Sort}
 use Rattle.sc_sorts.specs.declared.sort.Sort.TheVariants as sort
 use Rattle.sc_sorts.specs.declared.sort.Sort.TheOpen as s
-use Rattle.sc_sorts.specs.contracts.sort.SortPartialEq.TheImpl.{ghosts as sorts}
 use Rattle.sc_sorts.specs.Defaults.{is_option, is_option_level}
-use Rattle.sc_sorts.specs.Inside.{SortField, SortFields, member_sort}
+use Rattle.sc_sorts.specs.Inside.{SortField, SortFields}
 use Rattle.sc_sorts.proofs.EveryLaws.{in_Set, in_Record, in_Option}
 use Rattle.sc_sorts.specs.OrderLaws.{sort_eq_decides}
-use Rattle.sc_sorts.proofs.OutLaws.{out_Bool, out_Long, out_String, out_Decimal, out_Ip, out_Entity, out_Set, out_Record, out_Option}
+use Rattle.sc_sorts.proofs.OutLaws.{out_Bool, out_Long, out_String, out_Decimal, out_Ip, out_Entity, out_Record, out_Option}
 use Rattle.sc_sorts.specs.NodeSorts.{literal_sort}
 use Rattle.sc_sorts.specs.declared.node.Literal.{Literal}
 use Rattle.sc_sorts.specs.declared.node.Literal.TheVariants as literal
@@ -36,34 +35,31 @@ use Rattle.sc_terms.specs.Trees.{Tree, two}
 use Rattle.sc_terms.specs.TreeSorts.{tree_sort}
 use Rattle.sc_terms.specs.Order.{tree_eq}
 use Rattle.sc_terms.specs.Folds.{literal_of, equal_term, field_term, present_term, held_term}
-use Rattle.sc_terms.specs.Values.{it, value_in, members_in, members_seen, record_in, fields_seen, option_in, field_of, field_seen, set_from}
+use Rattle.sc_terms.specs.Values.{it, value_in, record_in, fields_seen, option_in, field_of, field_seen, set_from}
 use Rattle.sc_terms.proofs.OrderLaws.{tree_eq-exact, tree_eq-itself}
 use Rattle.sc_term_laws.specs.Judging.{IsTermOf}
 use Rattle.sc_term_laws.specs.LawfulSorts.{IsSortOf, IsSortLevel}
-use Rattle.sc_term_laws.specs.Tests.{bool_level, set_level, set_of_level, is_set_of}
-use Rattle.sc_term_laws.proofs.JudgingLaws.{sort_is, member_of}
+use Rattle.sc_term_laws.specs.Tests.{bool_level}
+use Rattle.sc_term_laws.proofs.JudgingLaws.{sort_is}
 use Rattle.sc_term_laws.proofs.MadeLaws.{field_made}
 use Rattle.sc_term_laws.proofs.DefaultMade.{held_made}
-use Rattle.sc_term_laws.proofs.BinaryJudged.{binary_kept}
 use Rattle.sc_term_laws.proofs.FitSets.{set_ascends}
 use Rattle.sc_rule_laws.specs.Signed.{Signed, Said, so, unless, given}
-use Rattle.sc_rule_laws.specs.Terms.{fields_of, fields_level, one_sort, is_set}
+use Rattle.sc_rule_laws.specs.Terms.{fields_of, fields_level, one_sort}
 use Rattle.sc_rule_laws.specs.Equal.{field_equal, eq3, eq3_of, field_at, eq4, eq4_of, are_options, eq5, eq6, eq7}
-use Rattle.sc_rule_laws.specs.Sets.{se1, se4, se5, se8}
 use Rattle.sc_rule_laws.proofs.MemberTruths.{has_set_from, set_from_has}
 use Rattle.sc_rule_laws.proofs.EquationLaws.{no_constant}
 use Rattle.sc_closure_rules.specs.Closure.{Closed}
 use Rattle.sc_model_laws.specs.Assignments.{Assignment, lit, some_hold}
-use Rattle.sc_model_laws.specs.Consistent.{IsRuleAt, of_eq3, of_eq4, of_eq5, of_eq6, of_eq7, of_se1, of_se4, of_se5, of_se8}
+use Rattle.sc_model_laws.specs.Consistent.{IsRuleAt, of_eq3, of_eq4, of_eq5, of_eq6, of_eq7}
 use Rattle.sc_model_laws.specs.Vals.{Model, member_in, assigned, held_by, val_of}
 use Rattle.sc_model_laws.specs.Models.{IsModel}
-use Rattle.sc_model_laws.proofs.ClaimLaws.{AreTerms, AreAddresses, Agrees, ArePaired, Claim, Straight, by_straight, sort_of_literal, bool_step, long_step, decimal_step, ip_step, string_step, entity_step}
-use Rattle.sc_model_laws.proofs.ClosedLaws.{field_closed, present_closed, held_closed, fields_equation, held_equation, subset_closed, superset_closed, pick_closed, IsCandidate, candidates_equation, member_closed, member_candidate, pick_candidate}
-use Rattle.sc_model_laws.proofs.EquationTerms.{literal_is, equal_sym, lit_two}
+use Rattle.sc_model_laws.proofs.ClaimLaws.{AreTerms, AreAddresses, Agrees, ArePaired, Claim, by_straight, sort_of_literal}
+use Rattle.sc_model_laws.proofs.ClosedLaws.{field_closed, present_closed, held_closed, fields_equation, held_equation}
+use Rattle.sc_model_laws.proofs.EquationTerms.{literal_is, equal_sym}
 use Rattle.sc_model_laws.proofs.HoldLaws.{second, third, only, first_of_three, first_of_four, none_unless}
 use Rattle.sc_closure_rules.proofs.SortLaws.{found}
-use Rattle.sc_model_laws.proofs.SortSteps.{by_sorts}
-use Rattle.sc_model_laws.proofs.ValLaws.{entry, val_Set, val_Option, val_Record, shown, is_it, field_found}
+use Rattle.sc_model_laws.proofs.ValLaws.{entry, val_Option, val_Record, shown, is_it, field_found}
 
 -- ---- lists
 
@@ -79,11 +75,15 @@ same_joined g h (x ∷ xs) e =
     let rest = same_joined g h xs (λ y k. e y (inr k)) in
     λ i. first i ++ rest i
 
-all_unless : {X : Type 0} (P : Tree → Type 0) (f : X → Tree) (xs : List X) → ((x : X) → Has xs x → P (f x)) → AllByRecursion (λ (s : Signed). P s.1) (map (λ x. unless (f x)) xs)
+pub all_unless : {X : Type 0} (P : Tree → Type 0) (f : X → Tree) (xs : List X) → ((x : X) → Has xs x → P (f x)) → AllByRecursion (λ (s : Signed). P s.1) (map (λ x. unless (f x)) xs)
 all_unless P f [] h = tt
 all_unless P f (x ∷ xs) h = (h x (inl refl), all_unless P f xs (λ y k. h y (inr k)))
 
-true_unless : (b : Bool) → (b ≡ false → ⊥) → b ≡ true
+pub all_so : {X : Type 0} (P : Tree → Type 0) (f : X → Tree) (xs : List X) → ((x : X) → Has xs x → P (f x)) → AllByRecursion (λ (s : Signed). P s.1) (map (λ x. so (f x)) xs)
+all_so P f [] h = tt
+all_so P f (x ∷ xs) h = (h x (inl refl), all_so P f xs (λ y k. h y (inr k)))
+
+pub true_unless : (b : Bool) → (b ≡ false → ⊥) → b ≡ true
 true_unless true h = refl
 true_unless false h = absurd (h refl)
 
@@ -328,147 +328,3 @@ module _ (d : Declarations) (env : Env) (literals : List Uid) (goal : Tree) (add
 
   pub option_step : (k : Sort) → Claim d env literals goal addresses terms m is k → Claim d env literals goal addresses terms m is (sort.Option k)
   option_step k known = by_straight d env literals goal addresses terms m is (sort.Option k) (ap bool_level (out_Option k)) (option_agrees k known)
-
-  -- ---- sets
-
-  -- a closed term for a set
-  pub record IsSet (k : Sort) (x : Tree) : Type 0 where
-    pub closed : Closed d env goal x
-    pub sorted : tree_sort x ≡ sort.Set k
-
-  -- what is assigned to a set is of its members' sort
-  pub member_sorted : (k : Sort) (x y : Tree) → IsSet k x → Closed d env goal (two binary.Member y x) → tree_sort y ≡ k
-  member_sorted k x y s c =
-      let test : is_set_of (tree_sort x) (tree_sort y) ≡ true =
-      (binary_kept d env literals (tree_sort (two binary.Member y x)) binary.Member y x (terms.made (two binary.Member y x) c)).2 in
-      let same : sorts.eq k (tree_sort y) ≡ true = ap (λ l. set_of_level l (tree_sort y)) (sym (ap out-Sort s.sorted ∙ out_Set k)) ∙ test in
-      sym ((sort_eq_decides k (tree_sort y)).0 same)
-
-  pub members_of : Sort → Tree → List Value
-  members_of k x = map (λ y. value_in (val_of m k y)) (assigned m x)
-
-  pub val_members : (k : Sort) (x : Tree) → val_of m (sort.Set k) x ≡ it (value.Set (set_from (members_of k x)))
-  unfolding members_of
-  val_members k x = val_Set m k x
-
-  -- the value of a candidate that is assigned to it
-  pub has_member : (k : Sort) (x y : Tree) → Closed d env goal (two binary.Member y x) → lit m.truths (two binary.Member y x) ≡ true → Has (members_of k x) (value_in (val_of m k y))
-  unfolding members_of
-  has_member k x y c e = Has-map (λ y. value_in (val_of m k y)) (assigned m x) y (assigned_is x y c (sym (lit_two m.truths binary.Member y x) ∙ e))
-
-  pub record IsMember (k : Sort) (x : Tree) (v : Value) : Type 0 where
-    pub term : Tree
-    pub closed : Closed d env goal (two binary.Member term x)
-    pub so_assigned : lit m.truths (two binary.Member term x) ≡ true
-    pub value_is : value_in (val_of m k term) ≡ v
-
-  pub member_has : (k : Sort) (x : Tree) (v : Value) → Has (members_of k x) v → IsMember k x v
-  unfolding members_of
-  member_has k x v h =
-      let y = map-Has (λ y. value_in (val_of m k y)) (assigned m x) v h in
-      let r = is_assigned x y.0 y.1 in
-      record { term = y.0; closed = r.0; so_assigned = lit_two m.truths binary.Member y.0 x ∙ r.1; value_is = y.2 }
-
-  module _ (k : Sort) (known : Claim d env literals goal addresses terms m is k) where
-    pub candidate_of : (x y : Tree) → IsSet k x → Closed d env goal (two binary.Member y x) → IsCandidate d env goal k y
-    candidate_of x y s c = member_candidate d env goal k y x (member_sorted k x y s c) c
-
-    pub membership : (y x : Tree) → IsCandidate d env goal k y → IsSet k x → Closed d env goal (two binary.Member y x)
-    membership y x i s = member_closed d env goal k y x i s.sorted s.closed
-
-    pub candidates_agree : (a b : Tree) → IsCandidate d env goal k a → IsCandidate d env goal k b → Agrees d env literals goal addresses terms m is k a b
-    candidates_agree a b i j =
-        known a b (record { first = i.own; second = j.own; first_sort = i.sorted; second_sort = j.sorted }) (candidates_equation d env goal k a b i j)
-
-    -- of two candidates of one value both are members or none
-    pub moves : (a b x : Tree) → IsCandidate d env goal k a → IsCandidate d env goal k b → IsSet k x → val_of m k a ≡ val_of m k b
-        → lit m.truths (two binary.Member a x) ≡ true → lit m.truths (two binary.Member b x) ≡ true
-    moves a b x i j s e t =
-        third m.truths false false true (equal_term a b) (two binary.Member a x) (two binary.Member b x)
-        (ruled (se1 a b x) (unless (equal_term a b) ∷ unless (two binary.Member a x) ∷ so (two binary.Member b x) ∷ []) (of_se1 a b x i.own j.own s.closed) refl
-        (candidates_equation d env goal k a b i j, (membership a x i s, (membership b x j s, tt))))
-        ((candidates_agree a b i j).told e) t
-
-    pub included : (x y : Tree) → IsSet k x → IsSet k y → Closed d env goal (two binary.Subset x y) → lit m.truths (two binary.Subset x y) ≡ true
-        → (v : Value) → Has (members_of k x) v → Has (members_of k y) v
-    included x y s r c t v h =
-        let a = member_has k x v h in
-        let i = candidate_of x a.term s a.closed in
-        subst (Has (members_of k y)) a.value_is
-        (has_member k y a.term (membership a.term y i r)
-        (third m.truths false false true (two binary.Subset x y) (two binary.Member a.term x) (two binary.Member a.term y)
-        (ruled (se4 x y a.term) (unless (two binary.Subset x y) ∷ unless (two binary.Member a.term x) ∷ so (two binary.Member a.term y) ∷ []) (of_se4 x y a.term s.closed r.closed i.own) refl
-        (c, (a.closed, (membership a.term y i r, tt)))) t a.so_assigned))
-
-    pick_sorted : (x y : Tree) → IsSet k x → tree_sort (two binary.DifferencePick x y) ≡ k
-    unfolding tree_sort
-    pick_sorted x y s = ap member_sort s.sorted ∙ member_of k
-
-    pub inclusion : (x y : Tree) → IsSet k x → IsSet k y → Closed d env goal (two binary.Subset x y)
-        → ((v : Value) → Has (members_of k x) v → Has (members_of k y) v) → lit m.truths (two binary.Subset x y) ≡ true
-    inclusion x y s r c h =
-        true_unless (lit m.truths (two binary.Subset x y)) (λ f.
-        let i : IsCandidate d env goal k (two binary.DifferencePick x y) = pick_candidate d env goal k x y (pick_sorted x y s) (pick_closed d env goal x y c) in
-        let inside : lit m.truths (two binary.Member (two binary.DifferencePick x y) x) ≡ true =
-        second m.truths true true (two binary.Subset x y) (two binary.Member (two binary.DifferencePick x y) x)
-        (ruled (se5 x y 0) (so (two binary.Subset x y) ∷ so (two binary.Member (two binary.DifferencePick x y) x) ∷ []) (of_se5 x y 0 s.closed r.closed) refl
-        (c, (membership (two binary.DifferencePick x y) x i s, tt))) f in
-        let outside : lit m.truths (two binary.Member (two binary.DifferencePick x y) y) ≡ false =
-        second m.truths true false (two binary.Subset x y) (two binary.Member (two binary.DifferencePick x y) y)
-        (ruled (se5 x y 1) (so (two binary.Subset x y) ∷ unless (two binary.Member (two binary.DifferencePick x y) y) ∷ []) (of_se5 x y 1 s.closed r.closed) refl
-        (c, (membership (two binary.DifferencePick x y) y i r, tt))) f in
-        let a = member_has k y (value_in (val_of m k (two binary.DifferencePick x y)))
-        (h (value_in (val_of m k (two binary.DifferencePick x y))) (has_member k x (two binary.DifferencePick x y) (membership (two binary.DifferencePick x y) x i s) inside)) in
-        let plain = member_plain k x s.sorted s.closed in
-        let vals : val_of m k a.term ≡ val_of m k (two binary.DifferencePick x y) =
-        is_it m k a.term plain ∙ ap it a.value_is ∙ sym (is_it m k (two binary.DifferencePick x y) plain) in
-        true_both (lit m.truths (two binary.Member (two binary.DifferencePick x y) y))
-        (moves a.term (two binary.DifferencePick x y) y (candidate_of y a.term r a.closed) i r vals a.so_assigned) outside)
-
-    is_set_of_sort : (x : Tree) → IsSet k x → is_set x ≡ true
-    is_set_of_sort x s = ap set_level (ap out-Sort s.sorted ∙ out_Set k)
-
-    set_agrees : Straight d env literals goal addresses terms m is (sort.Set k)
-    set_agrees x y p c e =
-        let s : IsSet k x = record { closed = p.first; sorted = p.first_sort } in
-        let r : IsSet k y = record { closed = p.second; sorted = p.second_sort } in
-        let whole : Closed d env goal (equal_term x y) = subst (Closed d env goal) (sym e) c in
-        let down : Closed d env goal (two binary.Subset x y) = subset_closed d env goal k x y p.first_sort c in
-        let up : Closed d env goal (two binary.Subset y x) = superset_closed d env goal k x y p.first_sort c in
-        record {
-          same = λ t.
-              let ordered : set_from (members_of k x) ≡ set_from (members_of k y) =
-              one_set (members_of k x) (members_of k y)
-              (included x y s r down (second m.truths false true (equal_term x y) (two binary.Subset x y)
-              (ruled (se8 x y 0) (unless (equal_term x y) ∷ so (two binary.Subset x y) ∷ []) (of_se8 x y 0 p.first p.second) refl (whole, (down, tt))) t))
-              (included y x r s up (second m.truths false true (equal_term x y) (two binary.Subset y x)
-              (ruled (se8 x y 1) (unless (equal_term x y) ∷ so (two binary.Subset y x) ∷ []) (of_se8 x y 1 p.first p.second) refl (whole, (up, tt))) t)) in
-              val_members k x ∙ ap (λ vs. it (value.Set vs)) ordered ∙ sym (val_members k y);
-          told = λ t.
-              let ordered : set_from (members_of k x) ≡ set_from (members_of k y) =
-              sym (ap members_seen (out.out_Set (set_from (members_of k x)))) ∙ ap members_in (sym (val_members k x) ∙ t ∙ val_members k y) ∙ ap members_seen (out.out_Set (set_from (members_of k y))) in
-              let parts : List Signed = so (equal_term x y) ∷ unless (two binary.Subset x y) ∷ unless (two binary.Subset y x) ∷ [] in
-              let sets : (is_set x && is_set y) ≡ true = both_true (is_set_of_sort x s) (is_set_of_sort y r) in
-              first_of_three m.truths true false false (equal_term x y) (two binary.Subset x y) (two binary.Subset y x)
-              (ruled (se8 x y 2) parts (of_se8 x y 2 p.first p.second) (passed (is_set x && is_set y) parts sets) (whole, (down, (up, tt))))
-              (inclusion x y s r down (set_within (members_of k x) (members_of k y) ordered))
-              (inclusion y x r s up (set_within (members_of k y) (members_of k x) (sym ordered)));
-        }
-
-    pub set_step : Claim d env literals goal addresses terms m is (sort.Set k)
-    set_step = by_straight d env literals goal addresses terms m is (sort.Set k) (ap bool_level (out_Set k)) set_agrees
-
-  -- ---- all sorts
-
-  pub claims : (k : Sort) → Claim d env literals goal addresses terms m is k
-  claims = by_sorts (Claim d env literals goal addresses terms m is) (record {
-    on_bool = bool_step d env literals goal addresses terms m is;
-    on_long = long_step d env literals goal addresses terms m is;
-    on_string = string_step d env literals goal addresses terms m is;
-    on_decimal = decimal_step d env literals goal addresses terms m is;
-    on_ip = ip_step d env literals goal addresses terms m is;
-    on_entity = entity_step d env literals goal addresses terms m is;
-    on_set = set_step;
-    on_record = record_step;
-    on_option = option_step;
-  })

@@ -29,7 +29,6 @@ use Rattle.sc_sorts.specs.Defaults.{is_option, is_option_level, default_field, d
 use Rattle.sc_sorts.specs.Inside.{SortField, SortFields}
 use Rattle.sc_sorts.proofs.DefaultLaws as plain
 use Rattle.sc_sorts.proofs.EveryLaws.{in_Record}
-use Rattle.sc_sorts.specs.OrderLaws.{sort_eq_decides}
 use Rattle.sc_sorts.proofs.OutLaws.{out_Bool, out_Long, out_String, out_Decimal, out_Ip, out_Entity, out_Set, out_Record, out_Option}
 use Rattle.sc_sorts.specs.declared.node.BinaryOp.{BinaryOp}
 use Rattle.sc_sorts.specs.declared.node.BinaryOp.TheVariants as binary
@@ -41,7 +40,7 @@ use Rattle.sc_terms.specs.Trees.{Tree, leaf, two, many, no_part, Labelled, liste
 use Rattle.sc_terms.specs.TreeSorts.{tree_sort}
 use Rattle.sc_terms.specs.Order.{tree_cmp, tree_eq}
 use Rattle.sc_terms.specs.Folds.{literal_term, truth_term, constant, other_equal, equation, equal_by, equal_term, field_by, field_term, present_term, bit_term, default_term, default_parts, not_term}
-use Rattle.sc_terms.specs.Values.{Val, it, yes, value_in, default_by, default_val, field_of, set_from}
+use Rattle.sc_terms.specs.Values.{Val, it, yes, default_by, default_val, field_of, set_from}
 use Rattle.sc_terms.proofs.DefaultLaws.{with_default, default_Bool, default_Long, default_String, default_Decimal, default_Ip, default_Entity, default_Set, default_Record, default_Option}
 use Rattle.sc_terms.proofs.OrderLaws.{tree_eq-exact}
 use Rattle.sc_term_laws.specs.LawfulSorts.{IsSortLevel, IsSortOf}
@@ -51,19 +50,15 @@ use Rattle.sc_term_laws.proofs.FitVals.{no_option_at}
 use Rattle.sc_term_laws.proofs.JudgingLaws.{sort_is}
 use Rattle.sc_term_laws.proofs.MadeLaws.{constant_sort}
 use Rattle.sc_term_laws.proofs.TestLaws.{bool_sort, bool_told}
-use Rattle.sc_rule_laws.specs.Signed.{unless}
-use Rattle.sc_rule_laws.specs.Sets.{se2}
 use Rattle.sc_closure_rules.specs.Closure.{Closed}
 use Rattle.sc_closure_rules.specs.Goals.{IsGoal}
 use Rattle.sc_closure_rules.proofs.SortLaws.{found}
 use Rattle.sc_model_laws.specs.Assignments.{lit}
-use Rattle.sc_model_laws.specs.Consistent.{IsRuleAt, of_se2}
 use Rattle.sc_model_laws.specs.Laws.{EquationsAgree}
-use Rattle.sc_model_laws.specs.Vals.{Model, assigned, bits_of, val_of}
+use Rattle.sc_model_laws.specs.Vals.{Model, bits_of, val_of}
 use Rattle.sc_model_laws.specs.Models.{IsModel}
-use Rattle.sc_model_laws.proofs.HoldLaws.{last}
 use Rattle.sc_model_laws.proofs.ClosureLaws.{of_part, field_closed}
-use Rattle.sc_model_laws.proofs.FittingLaws.{AreMade, is_assigned, assigned_sorted}
+use Rattle.sc_model_laws.proofs.FittingLaws.{AreMade}
 use Rattle.sc_model_laws.proofs.SortedVals.{val_at, entity_val, set_val, fields_at, record_val}
 
 -- what the bits of addresses promise
@@ -153,30 +148,13 @@ module _ (d : Declarations) (env : Env) (literals : List Uid) (goal : Tree) (mad
       given (sort.Entity name us) (s.Entity name us) (literal_term (literal.Entity u us)) (value.Entity u) (default_Entity name us) (out_Entity name us) refl (plain.default_Entity name us)
       (λ c. entity_val m name us (literal_term (literal.Entity (default_uid name us) us)) ∙ ap (λ z. it (value.Entity z)) (model.literal_uid (default_uid name us) us c))
 
-  -- ---- the empty set has no members
-
-  empty_sort : (k : Sort) → tree_sort (many (manys.Set k) no_part) ≡ sort.Set k
-  unfolding tree_sort
-  empty_sort k = refl
-
-  no_member : (k : Sort) (y : Tree) → Closed d env goal (many (manys.Set k) no_part) → Has (assigned m (many (manys.Set k) no_part)) y → ⊥
-  unfolding lit
-  no_member k y c h =
-      let x : Tree = many (manys.Set k) no_part in
-      let r = is_assigned d env literals goal made m model (many (manys.Set k) no_part) y h in
-      let q = assigned_sorted d env literals goal made m model k (many (manys.Set k) no_part) y (empty_sort k) h in
-      let said : se2 y (many (manys.Set k) no_part) ≡ Some (unless (two binary.Member y (many (manys.Set k) no_part)) ∷ []) =
-      ap (λ (b : Bool). cond b (Some (unless (two binary.Member y (many (manys.Set k) no_part)) ∷ [])) None) ((sort_eq_decides (tree_sort y) k).1 q.1) in
-      true_both (m.truths (two binary.Member y (many (manys.Set k) no_part))) r.1
-      (last m.truths false (two binary.Member y (many (manys.Set k) no_part))
-      (model.consistent.rules (unless (two binary.Member y (many (manys.Set k) no_part)) ∷ []) (subst (IsRuleAt d (Closed d env goal)) said (of_se2 y (many (manys.Set k) no_part) q.0 c)) (r.0, tt)))
+  -- ---- no term stands in the empty set
 
   on_set : (k : Sort) → HasDefault (sort.Set k)
   unfolding set_from
   on_set k =
       given (sort.Set k) (s.Set k) (many (manys.Set k) no_part) (value.Set []) (default_Set k) (out_Set k) refl (plain.default_Set k)
-      (λ c. set_val m k (many (manys.Set k) no_part)
-      ∙ ap (λ (ys : List Tree). it (value.Set (set_from (map (λ y. value_in (val_of m k y)) ys)))) (nothing (assigned m (many (manys.Set k) no_part)) (λ y h. no_member k y c h)))
+      (λ c. set_val m k (many (manys.Set k) no_part))
 
   on_option : (k : Sort) → HasDefault (sort.Option k)
   unfolding present_term lit

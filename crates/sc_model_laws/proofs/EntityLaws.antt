@@ -1,24 +1,24 @@
 -- What a model tells of equal entities: they have the same attributes, ancestors, keys and tags. Ancestors of ancestors are ancestors,
 -- none is its own, and a tag without a key is the default.
-use Rattle.std.proofs.Common.{◌≡◌, inl, inr, cond, ℕ, Bool, true, false, List, [], ◌∷◌, Option, Some, option_map, unwrap_or, Contains, refl, sym, ap, ◌∙◌, subst}
+use Rattle.std.proofs.Common.{◌≡◌, ◌==◌, inl, inr, ℕ, Bool, true, false, length, List, [], ◌∷◌, Option, Some, unwrap_or, Contains, refl, sym, ap, ◌∙◌, subst}
 use Rattle.std.specs.List.{AllByRecursion}
+use Rattle.std.specs.Cmp.Derive.{both_true}
 use Rattle.sc_lists.specs.Members.{Has}
-use Rattle.sc_lists.proofs.ListLaws.{all_element}
 use Rattle.sc_lists.proofs.MemberLaws.{Has-from_Contains}
-use Rattle.sc_laws.proofs.OptionLaws.{same_some, option_map_some}
+use Rattle.sc_laws.proofs.OptionLaws.{same_some}
 use Rattle.sc_laws.proofs.BoolLaws.{true_both}
 use Rattle.sc_names.specs.declared.uid.Uid.{Uid}
-use Rattle.sc_schema.specs.declared.declarations.EntityType.{EntityType}
 use Rattle.sc_schema.specs.declared.declarations.Env.{Env}
 use Rattle.sc_schema.specs.declared.ty.Ty.{Ty}
-use Rattle.sc_schema.specs.Declarations.{Declarations, attrs_of, tags_of, ancestor_types, entity_type, is_action_type, types_above, in_order}
-use Rattle.sc_schema.specs.Lawful.{IsLawful, IsTypeWithin}
-use Rattle.sc_sorts.specs.declared.sort.Sort.{Sort}
+use Rattle.sc_schema.specs.Declarations.{Declarations, attrs_of, tags_of, ancestor_types, is_action_type}
+use Rattle.sc_schema.specs.Lawful.{IsLawful}
+use Rattle.sc_sorts.specs.declared.sort.Sort.{Sort, out-Sort}
 use Rattle.sc_sorts.specs.declared.sort.Sort.TheVariants as sort
 use Rattle.sc_sorts.specs.contracts.sort.SortPartialEq.TheImpl.{ghosts as sorts}
 use Rattle.sc_sorts.specs.Entities.{choices_of, entity_sort}
 use Rattle.sc_sorts.specs.OfTypes.{sort_of}
 use Rattle.sc_sorts.specs.OrderLaws.{sort_eq_decides}
+use Rattle.sc_sorts.proofs.OutLaws.{out_Entity}
 use Rattle.sc_sorts.specs.declared.node.UnaryOp.{UnaryOp}
 use Rattle.sc_sorts.specs.declared.node.UnaryOp.TheVariants as unary
 use Rattle.sc_sorts.specs.declared.node.BinaryOp.TheVariants as binary
@@ -30,13 +30,15 @@ use Rattle.sc_terms.specs.Values.{default_val}
 use Rattle.sc_terms.proofs.OrderLaws.{tree_eq-itself}
 use Rattle.sc_term_laws.specs.Judging.{IsTermOf}
 use Rattle.sc_term_laws.specs.Judging as judged
+use Rattle.sc_term_laws.proofs.ChoicesLaws.{no_choices}
 use Rattle.sc_term_laws.proofs.JudgingLaws.{sort_is}
-use Rattle.sc_term_laws.proofs.SortsLawful.{lawful_type}
 use Rattle.sc_rule_laws.specs.Signed.{Signed, Said, so, unless, given}
+use Rattle.sc_rule_laws.specs.Terms.{one_sort, choices_in, choices_level}
 use Rattle.sc_rule_laws.specs.Sets.{se1}
 use Rattle.sc_rule_laws.specs.Entities.{same_sets, en1_of, en1, en2, en3_of, en3, en4, en5, en6}
 use Rattle.sc_rule_laws.specs.Places.{roots, half, under}
-use Rattle.sc_closure_rules.specs.Closure.{Closed}
+use Rattle.sc_closure_rules.specs.Closure.{Closed, are_linked}
+use Rattle.sc_closure_rules.proofs.UpLaws.{above_within}
 use Rattle.sc_closure_rules.specs.Goals.{IsGoal}
 use Rattle.sc_model_laws.specs.Assignments.{lit, some_hold}
 use Rattle.sc_model_laws.specs.Consistent.{IsRuleAt, of_se1, of_en1, of_en2, of_en3, of_en4, of_en5, of_en6}
@@ -44,7 +46,7 @@ use Rattle.sc_model_laws.specs.Laws.{EquationsAgree}
 use Rattle.sc_model_laws.specs.Vals.{Model, assigned, val_of}
 use Rattle.sc_model_laws.specs.Models.{IsModel}
 use Rattle.sc_model_laws.proofs.HoldLaws.{second, third, last, others}
-use Rattle.sc_model_laws.proofs.ClosureLaws.{of_part, tag_keys, tag_key, tag_default, above_closed, strings_equation, entities_equation, member_closed, above_candidate, member_candidate}
+use Rattle.sc_model_laws.proofs.ClosureLaws.{of_part, tag_keys, tag_key, tag_default, above_closed, strings_equation, entities_equation, linked_member, entity_member, ancestor_member}
 use Rattle.sc_model_laws.proofs.DefaultLaws.{AreAddresses, is_default}
 use Rattle.sc_model_laws.proofs.LinkLaws.{AreLinked, linked_val}
 use Rattle.sc_model_laws.proofs.FittingLaws.{AreMade, is_assigned, assigned_is, assigned_sorted, lawful_at}
@@ -126,6 +128,18 @@ tag_roots : (k l : Sort) (e f x y : Tree) → roots (two (binary.Tag k) e x) (tw
 unfolding roots
 tag_roots k l e f x y = refl
 
+-- ancestors, and keys, of entities of one type are linked
+one_type : (e f : Tree) → tree_sort e ≡ tree_sort f → one_sort e f ≡ true
+one_type e f s = (sort_eq_decides (tree_sort e) (tree_sort f)).1 s
+
+ancestors_linked : (k : Sort) (e f : Tree) → tree_sort e ≡ tree_sort f → are_linked (one (unary.Ancestors k) e) (one (unary.Ancestors k) f) ≡ true
+unfolding roots
+ancestors_linked k e f s = both_true (one_type (one (unary.Ancestors k) e) (one (unary.Ancestors k) f) (ancestors_sort k e ∙ sym (ancestors_sort k f))) (one_type e f s)
+
+keys_linked : (e f : Tree) → tree_sort e ≡ tree_sort f → are_linked (one unary.Keys e) (one unary.Keys f) ≡ true
+unfolding roots
+keys_linked e f s = both_true (one_type (one unary.Keys e) (one unary.Keys f) (keys_sort e ∙ sym (keys_sort f))) (one_type e f s)
+
 passed : (test : Bool) (parts : List Signed) → test ≡ true → given test parts ≡ Some parts
 passed test parts e = ap (λ t. given t parts) e
 
@@ -181,15 +195,15 @@ module _ (d : Declarations) (env : Env) (literals : List Uid) (goal : Tree) (mad
       (ruled (se1 x y s) (unless (equal_term x y) ∷ unless (two binary.Member x s) ∷ so (two binary.Member y s) ∷ []) (of_se1 x y s c e g) refl (q.0, (h.0, (i, tt)))) q.1 h.1
 
   -- equal entities have the same members
-  pub members_move : (o : UnaryOp) (k : Sort) (name other : List ℕ) (e f y : Tree) → same_sets o o ≡ true → tree_sort (one o e) ≡ sort.Set k → tree_sort (one o f) ≡ sort.Set k
+  pub members_move : (o : UnaryOp) (k : Sort) (name other : List ℕ) (e f y : Tree) → same_sets o o ≡ true → are_linked (one o e) (one o f) ≡ true → tree_sort (one o e) ≡ sort.Set k → tree_sort (one o f) ≡ sort.Set k
       → tree_sort e ≡ entity_sort d name → tree_sort f ≡ entity_sort d other → Closed d env goal (one o e) → Closed d env goal (one o f) → m.uid e ≡ m.uid f
       → Has (assigned m (one o e)) y → Has (assigned m (one o f)) y
-  members_move o k name other e f y same g h s r c i u a =
+  members_move o k name other e f y same linked g h s r c i u a =
       let n : entity_sort d other ≡ entity_sort d name = ap (entity_sort d) (sym (one_name name other e f s r u)) in
       let q = one_entity name e f s (r ∙ n) (of_part d env goal (one o e) e c (inl refl)) (of_part d env goal (one o f) f i (inl refl)) u in
       let t = member_true (one o e) y a in
       let there = assigned_sorted d env literals goal made m model k (one o e) y g a in
-      let after : Closed d env goal (two binary.Member y (one o f)) = member_closed d env goal k y (one o f) (member_candidate d env goal y (one o e) t.0) there.1 h i in
+      let after : Closed d env goal (two binary.Member y (one o f)) = linked_member d env goal k y (one o e) (one o f) refl t.0 h i linked in
       let parts : List Signed = unless (equal_term e f) ∷ unless (two binary.Member y (one o e)) ∷ so (two binary.Member y (one o f)) ∷ [] in
       true_member (one o f) y after
       (third m.truths false false true (equal_term e f) (two binary.Member y (one o e)) (two binary.Member y (one o f))
@@ -200,14 +214,15 @@ module _ (d : Declarations) (env : Env) (literals : List Uid) (goal : Tree) (mad
   ancestors_move k e f y c i u a =
       let p = of_ancestors d env literals (tree_sort (one (unary.Ancestors k) e)) k e (made (one (unary.Ancestors k) e) c) in
       let q = of_ancestors d env literals (tree_sort (one (unary.Ancestors k) f)) k f (made (one (unary.Ancestors k) f) i) in
-      members_move (unary.Ancestors k) k p.name q.name e f y ((sort_eq_decides k k).1 refl) (ancestors_sort k e) (ancestors_sort k f) p.sorted q.sorted c i u a
+      members_move (unary.Ancestors k) k p.name q.name e f y ((sort_eq_decides k k).1 refl)
+      (ancestors_linked k e f (one_kind p.name q.name e f p.sorted q.sorted u)) (ancestors_sort k e) (ancestors_sort k f) p.sorted q.sorted c i u a
 
   pub keys_move : (e f y : Tree) → Closed d env goal (one unary.Keys e) → Closed d env goal (one unary.Keys f) → m.uid e ≡ m.uid f
       → Has (assigned m (one unary.Keys e)) y → Has (assigned m (one unary.Keys f)) y
   keys_move e f y c i u a =
       let p = of_keys d env literals (tree_sort (one unary.Keys e)) e (made (one unary.Keys e) c) in
       let q = of_keys d env literals (tree_sort (one unary.Keys f)) f (made (one unary.Keys f) i) in
-      members_move unary.Keys sort.String p.name q.name e f y refl (keys_sort e) (keys_sort f) p.sorted q.sorted c i u a
+      members_move unary.Keys sort.String p.name q.name e f y refl (keys_linked e f (one_kind p.name q.name e f p.sorted q.sorted u)) (keys_sort e) (keys_sort f) p.sorted q.sorted c i u a
 
   -- ---- ancestors of ancestors
 
@@ -225,7 +240,7 @@ module _ (d : Declarations) (env : Env) (literals : List Uid) (goal : Tree) (mad
       let there = assigned_sorted d env literals goal made m model k (one (unary.Ancestors k) e) y (ancestors_sort k e) a in
       let i : Closed d env goal e = of_part d env goal (one (unary.Ancestors k) e) e c (inl refl) in
       let s : tree_sort e ≡ k = sym (one_kind p.above p.name y e (there.1 ∙ p.own) p.sorted u) ∙ there.1 in
-      let g = member_closed d env goal k e (one (unary.Ancestors k) e) (above_candidate d env goal k e c) s (ancestors_sort k e) c in
+      let g = entity_member d env goal k k e e c c s in
       let same : two binary.Member e (one (unary.Ancestors (tree_sort e)) e) ≡ two binary.Member e (one (unary.Ancestors k) e) = ap (λ (j : Sort). two binary.Member e (one (unary.Ancestors j) e)) s in
       let whole : Closed d env goal (two binary.Member e (one (unary.Ancestors (tree_sort e)) e)) = subst (Closed d env goal) (sym same) g in
       true_both (lit m.truths (two binary.Member e (one (unary.Ancestors k) e))) (ancestor_true k e y e c a i s g u)
@@ -262,6 +277,8 @@ module _ (d : Declarations) (env : Env) (literals : List Uid) (goal : Tree) (mad
         let linked : AreLinked d env literals goal made m model addresses lawful is a b = record {
           built_first = refl;
           built_second = refl;
+          own_forth = one_type e f (p.sorted ∙ ap (entity_sort d) n ∙ sym r.sorted);
+          own_back = one_type f e (r.sorted ∙ ap (entity_sort d) (sym n) ∙ sym p.sorted);
           forth = λ x y at g h j z parts t w all.
               let said : en1 x y j z ≡ Some (unless (equal_term e f) ∷ parts) =
               (λ v. en1_of (at v).0 (at v).1 (half x y j z)) ∙ ap (λ (b : Bool). under b (unless (equal_term e f) ∷ []) (half x y j z)) same ∙ ap (under true (unless (equal_term e f) ∷ [])) w in
@@ -295,6 +312,8 @@ module _ (d : Declarations) (env : Env) (literals : List Uid) (goal : Tree) (mad
         let linked : AreLinked d env literals goal made m model addresses lawful is a b = record {
           built_first = refl;
           built_second = refl;
+          own_forth = one_type e f (p.sorted ∙ ap (entity_sort d) n ∙ sym r.sorted);
+          own_back = one_type f e (r.sorted ∙ ap (entity_sort d) (sym n) ∙ sym p.sorted);
           forth = λ z o at g h j w parts t said all.
               let whole : en3 z o j w ≡ Some (unless (equal_term e f) ∷ unless (equal_term x y) ∷ parts) =
               (λ v. en3_of (at v).0 (at v).1 (half z o j w)) ∙ ap (λ (b : Bool). under b (unless (equal_term e f) ∷ unless (equal_term x y) ∷ []) (half z o j w)) same
@@ -324,16 +343,10 @@ module _ (d : Declarations) (env : Env) (literals : List Uid) (goal : Tree) (mad
 
     -- ---- ancestors of ancestors
 
-    above_within : (name middle above : List ℕ) (names mores : List (List ℕ)) → is_action_type d name ≡ false → ancestor_types d name ≡ Some names → Contains names middle
-        → ancestor_types d middle ≡ Some mores → Contains mores above → Contains names above
-    above_within name middle above names mores n e c f g =
-        let found : option_map (λ (t : EntityType). t.ancestors) (entity_type d name) ≡ Some names =
-        ap (λ (b : Bool). cond b (Some (in_order (types_above d.actions name))) (option_map (λ (t : EntityType). t.ancestors) (entity_type d name))) (sym n) ∙ e in
-        let t = option_map_some (λ (t : EntityType). t.ancestors) (entity_type d name) names found in
-        let it = (lawful_type d lawful name t.0 t.1).0 in
-        let within : IsTypeWithin d t.0.ancestors middle = all_element (IsTypeWithin d t.0.ancestors) t.0.ancestors middle it.closed (subst (λ (ns : List (List ℕ)). Contains ns middle) (sym t.2) c) in
-        subst (λ (ns : List (List ℕ)). Contains ns above) t.2
-        (all_element (Contains t.0.ancestors) mores above (subst (λ (o : Option (List (List ℕ))). AllByRecursion (Contains t.0.ancestors) (unwrap_or o [])) f within) g)
+    -- an entity that is no action is of a type that lists none
+    no_listed : (name : List ℕ) (e : Tree) → tree_sort e ≡ entity_sort d name → is_action_type d name ≡ false → (length (choices_in e) == 0) ≡ true
+    no_listed name e s n =
+        ap (λ (us : List Uid). length us == 0) (ap (λ (j : Sort). choices_level (out-Sort j)) s ∙ ap choices_level (out_Entity name (choices_of d name)) ∙ no_choices d name n)
 
     pub transitive : (k l : Sort) (e y f z : Tree) → is_action_type d (m.uid e).type_name ≡ false → Closed d env goal (one (unary.Ancestors k) e) → Has (assigned m (one (unary.Ancestors k) e)) y
         → Closed d env goal (one (unary.Ancestors l) f) → Has (assigned m (one (unary.Ancestors l) f)) z → m.uid y ≡ m.uid f
@@ -346,17 +359,17 @@ module _ (d : Declarations) (env : Env) (literals : List Uid) (goal : Tree) (mad
         let middle : p.above ≡ q.name = one_name p.above q.name y f (near.1 ∙ p.own) q.sorted u in
         let no_action : is_action_type d p.name ≡ false = ap (is_action_type d) (sym (named_type p.name e p.sorted)) ∙ plain in
         let among : Contains p.names q.above =
-        above_within p.name q.name q.above p.names q.names no_action p.declared (subst (Contains p.names) middle p.among) q.declared q.among in
+        above_within d lawful p.name q.name q.above p.names q.names no_action p.declared (subst (Contains p.names) middle p.among) q.declared q.among in
         let whole : Closed d env goal (one (unary.Ancestors l) e) =
         subst (λ (j : Sort). Closed d env goal (one (unary.Ancestors j) e)) (sym q.own)
         (above_closed d env goal k e p.name q.above (choices_of d p.name) p.sorted c
         (subst (λ (o : Option (List (List ℕ))). Has (unwrap_or o []) q.above) (sym p.declared) (Has-from_Contains p.names q.above among))) in
         let part : Closed d env goal f = of_part d env goal (one (unary.Ancestors l) f) f i (inl refl) in
         let s : tree_sort f ≡ k = q.sorted ∙ ap (entity_sort d) (sym middle) ∙ sym p.own in
-        let g = member_closed d env goal k f (one (unary.Ancestors k) e) (above_candidate d env goal l f i) s (ancestors_sort k e) c in
+        let g = entity_member d env goal k l e f c i s in
         let same : two binary.Member f (one (unary.Ancestors k) e) ≡ two binary.Member f (one (unary.Ancestors (tree_sort f)) e) = ap (λ (j : Sort). two binary.Member f (one (unary.Ancestors j) e)) (sym s) in
         let t = member_true (one (unary.Ancestors l) f) z b in
-        let after = member_closed d env goal l z (one (unary.Ancestors l) e) (member_candidate d env goal z (one (unary.Ancestors l) f) t.0) far.1 (ancestors_sort l e) whole in
+        let after = ancestor_member d env goal k l z e f t.0 c s (no_listed p.name e p.sorted no_action) in
         let parts : List Signed = unless (two binary.Member f (one (unary.Ancestors (tree_sort f)) e)) ∷ unless (two binary.Member z (one (unary.Ancestors l) f)) ∷ so (two binary.Member z (one (unary.Ancestors l) e)) ∷ [] in (
           whole,
           true_member (one (unary.Ancestors l) e) z after

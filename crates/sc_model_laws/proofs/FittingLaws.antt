@@ -1,5 +1,5 @@
 -- The value that a model gives a closed term fits the term's sort.
-use Rattle.std.proofs.Common.{◌≡◌, ◌&&◌, inl, inr, cond, ℕ, Bool, true, false, List, [], ◌∷◌, map, flat_map, Some, None, refl, sym, ap, ◌∙◌, subst}
+use Rattle.std.proofs.Common.{◌≡◌, ◌&&◌, inl, inr, cond, ℕ, Bool, true, false, List, [], ◌∷◌, map, flat_map, Some, None, refl, sym, ap, ◌∙◌, subst, Option, unwrap_or}
 use Rattle.std.specs.Int.{w64}
 use Rattle.std.specs.List.{AllByRecursion}
 use Rattle.std.specs.Str.{IsUtf8}
@@ -48,12 +48,15 @@ use Rattle.sc_term_laws.proofs.FitVals.{no_option_at, yes_fits, long_fits}
 use Rattle.sc_term_laws.proofs.JudgingLaws.{sort_is, member_of, held_of}
 use Rattle.sc_term_laws.proofs.MadeLaws.{field_made}
 use Rattle.sc_term_laws.proofs.SortsLawful.{declared_text}
+use Rattle.sc_rule_laws.specs.Terms.{written}
+use Rattle.sc_rule_laws.proofs.WrittenTerms.{written_made}
 use Rattle.sc_closure_rules.specs.Closure.{Closed}
 use Rattle.sc_closure_rules.specs.Goals.{IsGoal}
 use Rattle.sc_closure_rules.proofs.SortLaws.{sort_lawful, found}
 use Rattle.sc_model_laws.specs.Assignments.{Assignment, lit}
-use Rattle.sc_model_laws.specs.Vals.{Model, member_in, assigned, bits_of, held_by, val_of}
+use Rattle.sc_model_laws.specs.Vals.{Model, member_in, assigned, elements, bits_of, held_by, val_of}
 use Rattle.sc_model_laws.specs.Models.{IsModel}
+use Rattle.sc_model_laws.proofs.ClosedLaws.{standing_closed}
 use Rattle.sc_model_laws.specs.ValueLaws.{AreNamesIn}
 use Rattle.sc_model_laws.proofs.ClosureLaws.{of_part, field_closed, held_closed}
 use Rattle.sc_model_laws.proofs.SortedVals.{val_at, entity_val, set_val, fields_at, record_val}
@@ -113,6 +116,16 @@ module _ (d : Declarations) (env : Env) (literals : List Uid) (goal : Tree) (mad
       let r = is_assigned x y h in
       (of_part d env goal (two binary.Member y x) y r.0 (inl refl), member_sorted k x y e r.0)
 
+  -- and so are the terms of its members
+  pub elements_sorted : (k : Sort) (x y : Tree) → tree_sort x ≡ sort.Set k → Closed d env goal x → Has (elements m x) y → Closed d env goal y × (tree_sort y ≡ k)
+  elements_sorted k x y e c h = by (written x) refl h where
+    by : (o : Option (List Tree)) → written x ≡ o → Has (unwrap_or o (assigned m x)) y → Closed d env goal y × (tree_sort y ≡ k)
+    by None w h = assigned_sorted k x y e h
+    by (Some us) w h = (
+      standing_closed d env goal x y us w c h,
+      sort_is d env literals k y (written_made d env literals k x us y (subst (λ (j : Sort). IsTermOf d env literals j x) e (made x c)) w h),
+    )
+
   module _ (lawful : IsLawful d) (is : IsGoal d env literals goal) where
     pub lawful_at : (k : Sort) (x : Tree) → tree_sort x ≡ k → Closed d env goal x → IsSortOf d k
     lawful_at k x e c = subst (IsSortOf d) e (sort_lawful d env literals lawful is.environment is.declared (tree_sort x) x (made x c))
@@ -167,12 +180,12 @@ module _ (d : Declarations) (env : Env) (literals : List Uid) (goal : Tree) (mad
       on_set : (k : Sort) → IsFit k → IsFit (sort.Set k)
       on_set k known x c e =
           let plain = ((in_Set (IsSortLevel d) k).0 (lawful_at (sort.Set k) x e c)).0 in
-          let vs : List Value = map (λ y. value_in (val_of m k y)) (assigned m x) in
+          let vs : List Value = map (λ y. value_in (val_of m k y)) (elements m x) in
           subst (Fits d es (sort.Set k)) (sym (set_val m k x))
           (set_fits d es k (set_from vs) (set_ascends vs)
           (set_each (IsOfSort d es k) vs
-          (all_so (IsOfSort d es k) (λ y. value_in (val_of m k y)) (assigned m x)
-          (λ y h. let r = assigned_sorted k x y e h in value_of d es k (val_of m k y) plain (known y r.0 r.1)))))
+          (all_so (IsOfSort d es k) (λ y. value_in (val_of m k y)) (elements m x)
+          (λ y h. let r = elements_sorted k x y e c h in value_of d es k (val_of m k y) plain (known y r.0 r.1)))))
 
       -- ---- records
 

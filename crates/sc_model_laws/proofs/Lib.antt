@@ -6,6 +6,7 @@ pub mod HoldLaws
 pub mod ClosedLaws
 mod ClaimLaws
 pub mod CompositeClaims
+pub mod SetClaims
 mod RowLaws
 pub mod ManyRows
 mod SumRows

@@ -1,6 +1,7 @@
 -- What a model gives the like places of two terms is one, where each half of what says so is true: so are the attributes of equal
 -- entities, and their tags under equal keys.
-use Rattle.std.proofs.Common.{◌≡◌, ◌<◌, ℕ, Bool, true, false, nat_lt, List, [], ◌∷◌, map, Option, Some, None, IfSome, refl, sym, ap, ◌∙◌, subst}
+use Rattle.std.proofs.Common.{◌≡◌, ◌<◌, ℕ, Bool, true, false, nat_lt, List, [], ◌∷◌, map, Option, Some, None, IfSome, unwrap_or, refl, sym, ap, ◌∙◌, subst}
+use Rattle.std.specs.Cmp.Derive.{both_true}
 use Rattle.std.specs.Int.{w64}
 use Rattle.std.specs.List.{AllByRecursion}
 use Rattle.sc_laws.proofs.NumberLaws.{nat_lt_true}
@@ -21,21 +22,23 @@ use Rattle.sc_sorts.specs.declared.sort.Sort.TheVariants as sort
 use Rattle.sc_sorts.specs.declared.sort.Sort.TheOpen as s
 use Rattle.sc_sorts.specs.Inside.{SortField, SortFields}
 use Rattle.sc_sorts.proofs.EveryLaws.{in_Record}
+use Rattle.sc_sorts.specs.OrderLaws.{sort_eq_decides}
 use Rattle.sc_sorts.proofs.OutLaws.{out_Bool, out_Long, out_String, out_Decimal, out_Ip, out_Entity, out_Set, out_Option}
 use Rattle.sc_sorts.specs.declared.node.UnaryOp.TheVariants as unary
 use Rattle.sc_sorts.specs.declared.node.BinaryOp.TheVariants as binary
-use Rattle.sc_terms.specs.Trees.{Tree, two}
+use Rattle.sc_terms.specs.Trees.{Tree, one, two}
 use Rattle.sc_terms.specs.TreeSorts.{tree_sort}
 use Rattle.sc_terms.specs.Folds.{equal_term, field_term, present_term, held_term, bit_term}
-use Rattle.sc_terms.specs.Values.{Val, it, yes, value_in, field_of}
+use Rattle.sc_terms.specs.Values.{Val, it, yes, value_in, field_of, set_from}
 use Rattle.sc_term_laws.specs.LawfulSorts.{IsSortLevel}
 use Rattle.sc_term_laws.proofs.DefaultMade.{held_made}
 use Rattle.sc_term_laws.proofs.JudgingLaws.{sort_is}
 use Rattle.sc_term_laws.proofs.MadeLaws.{field_made}
-use Rattle.sc_closure_rules.specs.Closure.{Closed}
+use Rattle.sc_closure_rules.specs.Closure.{Closed, own_sets, are_linked}
 use Rattle.sc_closure_rules.specs.Goals.{IsGoal}
 use Rattle.sc_closure_rules.proofs.SortLaws.{found}
 use Rattle.sc_rule_laws.specs.Signed.{Signed, so, unless, given}
+use Rattle.sc_rule_laws.specs.Terms.{one_sort, written}
 use Rattle.sc_rule_laws.specs.Places.{roots, half_by, half}
 use Rattle.sc_rule_laws.proofs.PlaceLaws.{step_roots, same_field, is_built, built_place, built_field, built_held}
 use Rattle.sc_model_laws.specs.Assignments.{lit, some_hold}
@@ -45,7 +48,7 @@ use Rattle.sc_model_laws.proofs.ClosedLaws.{present_closed, long_bit, decimal_bi
 use Rattle.sc_model_laws.proofs.CompositeClaims.{same_joined, one_set}
 use Rattle.sc_model_laws.proofs.HoldLaws.{second, last}
 use Rattle.sc_model_laws.proofs.SortSteps.{by_sorts}
-use Rattle.sc_model_laws.proofs.ClosureLaws.{field_closed, held_closed, strings_equation, entities_equation, member_closed, member_candidate}
+use Rattle.sc_model_laws.proofs.ClosureLaws.{field_closed, held_closed, strings_equation, entities_equation, linked_member}
 use Rattle.sc_model_laws.proofs.DefaultLaws.{AreAddresses}
 use Rattle.sc_model_laws.proofs.FittingLaws.{AreMade, is_assigned, assigned_is, assigned_sorted, lawful_at, term_at}
 use Rattle.sc_model_laws.proofs.SortedVals.{val_at, entity_val, set_val, record_val}
@@ -66,6 +69,8 @@ module _ (d : Declarations) (env : Env) (literals : List Uid) (goal : Tree) (mad
   pub record AreLinked (r q : Tree) : Type 0 where
     pub built_first : is_built r ≡ true
     pub built_second : is_built q ≡ true
+    pub own_forth : own_sets r q ≡ true
+    pub own_back : own_sets q r ≡ true
     pub forth : (x y : Tree) → roots x y ≡ (r, q) → Closed d env goal x → Closed d env goal y → HalfHolds x y
     pub back : (x y : Tree) → roots y x ≡ (q, r) → Closed d env goal x → Closed d env goal y → HalfHolds y x
 
@@ -170,48 +175,68 @@ module _ (d : Declarations) (env : Env) (literals : List Uid) (goal : Tree) (mad
         ∙ ap (λ z. it (value.Entity z)) ((model.uids name us x y (p.first, p.first_sort) (p.second, p.second_sort)).1 equal)
         ∙ sym (entity_val m name us y)
 
-    -- ---- sets: the same is assigned to both
-
-    lit_member : (x y : Tree) → lit m.truths (two binary.Member y x) ≡ m.truths (two binary.Member y x)
-    unfolding lit
-    lit_member x y = refl
-
-    moves_by : (k : Sort) (x y z : Tree) → tree_sort x ≡ sort.Set k → tree_sort y ≡ sort.Set k → Closed d env goal y
-        → ((parts : List Signed) → Closed d env goal z → parts ≡ unless (two binary.Member z x) ∷ so (two binary.Member z y) ∷ []
-        → AllByRecursion (λ (p : Signed). Closed d env goal p.1) parts → some_hold m.truths parts ≡ true)
-        → Has (assigned m x) z → Has (assigned m y) z
-    moves_by k x y z e f c holds h =
-        let told = is_assigned d env literals goal made m model x z h in
-        let there = assigned_sorted d env literals goal made m model k x z e h in
-        let after : Closed d env goal (two binary.Member z y) = member_closed d env goal k z y (member_candidate d env goal z x told.0) there.1 f c in
-        let parts : List Signed = unless (two binary.Member z x) ∷ so (two binary.Member z y) ∷ [] in
-        assigned_is d env literals goal made m model y z after
-        (sym (lit_member y z) ∙ second m.truths false true (two binary.Member z x) (two binary.Member z y)
-        (holds parts there.0 refl (told.0, (after, tt))) (lit_member x z ∙ told.1))
-
-    on_set : (k : Sort) → Claim k → Claim (sort.Set k)
-    on_set k known x y p =
-        let o = out_Set k in
-        let forth : (z : Tree) → Has (assigned m x) z → Has (assigned m y) z = λ z.
-        moves_by k x y z p.first_sort p.second_sort p.second (λ parts c e all.
-        forth_half (sort.Set k) (s.Set k) x y p o 0 (Some z) parts c (ap Some (sym e)) all) in
-        let back : (z : Tree) → Has (assigned m y) z → Has (assigned m x) z = λ z.
-        moves_by k y x z p.second_sort p.first_sort p.first (λ parts c e all.
-        back_half (sort.Set k) (s.Set k) x y p o 0 (Some z) parts c (ap Some (sym e)) all) in
-        let f : Tree → Value = λ z. value_in (val_of m k z) in
-        set_val m k x
-        ∙ ap (λ vs. it (value.Set vs)) (one_set (map f (assigned m x)) (map f (assigned m y))
-        (λ v h. let z = map-Has f (assigned m x) v h in subst (Has (map f (assigned m y))) z.2 (Has-map f (assigned m y) z.0 (forth z.0 z.1)))
-        (λ v h. let z = map-Has f (assigned m y) v h in subst (Has (map f (assigned m x))) z.2 (Has-map f (assigned m x) z.0 (back z.0 z.1))))
-        ∙ sym (set_val m k y)
-
-    -- ---- records and options: step by step
+    -- ---- the places are of what is built
 
     built_one : (k : Sort) (x y : Tree) → ArePlaces k x y → is_built x ≡ true
     built_one k x y p = built_place x y (r, q) p.forth linked.built_first
 
     built_other : (k : Sort) (x y : Tree) → ArePlaces k x y → is_built y ≡ true
     built_other k x y p = built_place y x (q, r) p.back linked.built_second
+
+    -- ---- sets: the same is assigned to both
+
+    lit_member : (x y : Tree) → lit m.truths (two binary.Member y x) ≡ m.truths (two binary.Member y x)
+    unfolding lit
+    lit_member x y = refl
+
+    built_plain : (x : Tree) → is_built x ≡ true → written x ≡ None
+    built_plain (one o a) h = refl
+    built_plain (two o a b) h = refl
+    built_plain _ h = absurd cc
+
+    one_kind : (k : Sort) (x y : Tree) → tree_sort x ≡ k → tree_sort y ≡ k → one_sort x y ≡ true
+    one_kind k x y e f = (sort_eq_decides (tree_sort x) (tree_sort y)).1 (e ∙ sym f)
+
+    moves_by : (k : Sort) (x y z : Tree) → written x ≡ None → tree_sort x ≡ sort.Set k → tree_sort y ≡ sort.Set k → Closed d env goal y → are_linked x y ≡ true
+        → ((parts : List Signed) → Closed d env goal z → parts ≡ unless (two binary.Member z x) ∷ so (two binary.Member z y) ∷ []
+        → AllByRecursion (λ (p : Signed). Closed d env goal p.1) parts → some_hold m.truths parts ≡ true)
+        → Has (assigned m x) z → Has (assigned m y) z
+    moves_by k x y z plain e f c linked holds h =
+        let told = is_assigned d env literals goal made m model x z h in
+        let there = assigned_sorted d env literals goal made m model k x z e h in
+        let after : Closed d env goal (two binary.Member z y) = linked_member d env goal k z x y plain told.0 f c linked in
+        let parts : List Signed = unless (two binary.Member z x) ∷ so (two binary.Member z y) ∷ [] in
+        assigned_is d env literals goal made m model y z after
+        (sym (lit_member y z) ∙ second m.truths false true (two binary.Member z x) (two binary.Member z y)
+        (holds parts there.0 refl (told.0, (after, tt))) (lit_member x z ∙ told.1))
+
+    plain_val : (k : Sort) (x : Tree) → written x ≡ None → val_of m (sort.Set k) x ≡ it (value.Set (set_from (map (λ z. value_in (val_of m k z)) (assigned m x))))
+    plain_val k x e =
+        set_val m k x ∙ ap (λ (o : Option (List Tree)). it (value.Set (set_from (map (λ z. value_in (val_of m k z)) (unwrap_or o (assigned m x)))))) e
+
+    on_set : (k : Sort) → Claim k → Claim (sort.Set k)
+    on_set k known x y p =
+        let o = out_Set k in
+        let one = built_plain x (built_one (sort.Set k) x y p) in
+        let other = built_plain y (built_other (sort.Set k) x y p) in
+        let way : are_linked x y ≡ true =
+        both_true (one_kind (sort.Set k) x y p.first_sort p.second_sort) (ap (λ (z : Tree × Tree). own_sets z.0 z.1) p.forth ∙ linked.own_forth) in
+        let turned : are_linked y x ≡ true =
+        both_true (one_kind (sort.Set k) y x p.second_sort p.first_sort) (ap (λ (z : Tree × Tree). own_sets z.0 z.1) p.back ∙ linked.own_back) in
+        let forth : (z : Tree) → Has (assigned m x) z → Has (assigned m y) z = λ z.
+        moves_by k x y z one p.first_sort p.second_sort p.second way (λ parts c e all.
+        forth_half (sort.Set k) (s.Set k) x y p o 0 (Some z) parts c (ap Some (sym e)) all) in
+        let back : (z : Tree) → Has (assigned m y) z → Has (assigned m x) z = λ z.
+        moves_by k y x z other p.second_sort p.first_sort p.first turned (λ parts c e all.
+        back_half (sort.Set k) (s.Set k) x y p o 0 (Some z) parts c (ap Some (sym e)) all) in
+        let f : Tree → Value = λ z. value_in (val_of m k z) in
+        plain_val k x one
+        ∙ ap (λ vs. it (value.Set vs)) (one_set (map f (assigned m x)) (map f (assigned m y))
+        (λ v h. let z = map-Has f (assigned m x) v h in subst (Has (map f (assigned m y))) z.2 (Has-map f (assigned m y) z.0 (forth z.0 z.1)))
+        (λ v h. let z = map-Has f (assigned m y) v h in subst (Has (map f (assigned m x))) z.2 (Has-map f (assigned m x) z.0 (back z.0 z.1))))
+        ∙ sym (plain_val k y other)
+
+    -- ---- records and options: step by step
 
     field_places : (fs : SortFields) (x y : Tree) → ArePlaces (sort.Record fs) x y → (f : SortField) → Has fs f → ArePlaces f.1 (field_term f.0 x) (field_term f.0 y)
     field_places fs x y p f h =

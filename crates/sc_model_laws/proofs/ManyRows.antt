@@ -7,6 +7,7 @@ use Rattle.std.specs.Str.{bytes_eq}
 use Rattle.std.proofs.lemmas.Slice.Eq.{bytes_eq-Decides}
 use Rattle.sc_laws.proofs.BoolLaws.{not_not}
 use Rattle.sc_laws.proofs.OptionLaws.{same_some}
+use Rattle.sc_lists.proofs.MemberLaws.{Has-map, map-Has}
 use Rattle.sc_lists.specs.Members.{Has}
 use Rattle.sc_names.specs.declared.uid.Uid.{Uid}
 use Rattle.sc_names.specs.Uids.{text_cmp}
@@ -19,9 +20,7 @@ use Rattle.sc_sorts.specs.declared.sort.Sort.{Sort, out-Sort}
 use Rattle.sc_sorts.specs.declared.sort.Sort.TheVariants as sort
 use Rattle.sc_sorts.specs.Inside.{SortField, SortFields, held_sort}
 use Rattle.sc_sorts.proofs.EveryLaws.{in_Record}
-use Rattle.sc_sorts.specs.OrderLaws.{sort_eq_decides}
 use Rattle.sc_sorts.proofs.OutLaws.{out_Option}
-use Rattle.sc_sorts.specs.contracts.sort.SortPartialEq.TheImpl.{ghosts as sorts}
 use Rattle.sc_sorts.specs.Defaults.{is_option_level, default_uid}
 use Rattle.sc_ip.specs.declared.ip.Ip.TheVariants.{V4}
 use Rattle.sc_sorts.specs.declared.node.Literal.{Literal}
@@ -45,32 +44,28 @@ use Rattle.sc_term_laws.proofs.JudgingLaws.{sort_is, fields_are, held_of}
 use Rattle.sc_term_laws.specs.LawfulSorts.{IsSortOf, IsSortLevel}
 use Rattle.sc_term_laws.proofs.DefaultMade.{default_made}
 use Rattle.sc_term_laws.proofs.UnfoldedLaws.{held_stays}
-use Rattle.sc_rule_laws.specs.Signed.{Signed, so, unless}
+use Rattle.sc_rule_laws.specs.Signed.{so}
 use Rattle.sc_rule_laws.specs.Terms.{members, is_option}
 use Rattle.sc_rule_laws.specs.Equal.{eq8}
-use Rattle.sc_rule_laws.specs.Sets.{se2, se3, se3_of}
 use Rattle.sc_rule_laws.proofs.EquationLaws.{no_constant}
 use Rattle.sc_closure_rules.specs.Closure.{Closed, trees_in}
 use Rattle.sc_model_laws.specs.Assignments.{lit}
-use Rattle.sc_model_laws.specs.Consistent.{of_eq8, of_se2, of_se3}
+use Rattle.sc_model_laws.specs.Consistent.{of_eq8}
 use Rattle.sc_model_laws.specs.Vals.{Model, held_by, val_of}
 use Rattle.sc_model_laws.specs.Models.{IsModel}
 use Rattle.sc_model_laws.specs.Rows.{IsRight}
 use Rattle.sc_model_laws.proofs.ClaimLaws.{AreTerms, AreAddresses, no_truth}
-use Rattle.sc_model_laws.proofs.ClosedLaws.{of_part, present_closed, held_closed, default_closed, IsCandidate, candidates_equation, among_candidate}
-use Rattle.sc_model_laws.proofs.CompositeClaims.{place_of, one_set, ruled, passed, claims, held_sorted, held_plain, IsSet, member_has, has_member, candidate_of, membership, candidates_agree, members_of, val_members}
+use Rattle.sc_model_laws.proofs.ClosedLaws.{members_trees, of_part, present_closed, held_closed, default_closed}
+use Rattle.sc_model_laws.proofs.CompositeClaims.{one_set, ruled, passed, held_sorted, held_plain}
+use Rattle.sc_model_laws.proofs.SetClaims.{claims}
 use Rattle.sc_model_laws.proofs.EquationTerms.{Equation, is_one, are_literals, is_straight, is_turned, equation_of, lit_not}
-use Rattle.sc_model_laws.proofs.HoldLaws.{second, others, some_so}
+use Rattle.sc_model_laws.proofs.HoldLaws.{second}
 use Rattle.sc_model_laws.proofs.RowLaws.{bool_only, at_sort, from_sort, right_literal, right_none}
 use Rattle.sc_closure_rules.proofs.SortLaws.{key_at}
 use Rattle.sc_model_laws.proofs.SortSteps.{by_sorts}
-use Rattle.sc_model_laws.proofs.ValLaws.{val_Bool, val_Option, val_Record, is_it}
+use Rattle.sc_model_laws.proofs.ValLaws.{val_Bool, val_Set, val_Option, val_Record, is_it}
 
 -- ---- the members of a set term
-
-members_trees : (ts : Trees) → members ts ≡ trees_in ts
-members_trees no_part = refl
-members_trees (part l t ts) = ap (λ us. t ∷ us) (members_trees ts)
 
 abbrev vals_in : Trees → World → List Value
 vals_in ts w = map (λ (x : List ℕ × Val). value_in x.1) (vals ts w)
@@ -92,10 +87,6 @@ unfolding val
 have_vals no_part w t h = absurd h
 have_vals (part l u ts) w t (inl e) = inl (ap (λ z. value_in (val z w)) e)
 have_vals (part l u ts) w t (inr later) = inr (have_vals ts w t later)
-
-pub all_so : {X : Type 0} (P : Tree → Type 0) (f : X → Tree) (xs : List X) → ((x : X) → Has xs x → P (f x)) → AllByRecursion (λ (s : Signed). P s.1) (map (λ x. so (f x)) xs)
-all_so P f [] h = tt
-all_so P f (x ∷ xs) h = (h x (inl refl), all_so P f xs (λ y k. h y (inr k)))
 
 -- ---- the fields of a record term
 
@@ -161,63 +152,22 @@ module _ (d : Declarations) (env : Env) (literals : List Uid) (goal : Tree) (add
   sort_among _ _ t (judged.with_member k u ts i more) (inl e) = ap tree_sort (sym e) ∙ sort_is d env literals k u i
   sort_among _ _ t (judged.with_member k u ts i more) (inr later) = sort_among k ts t more later
 
-  module _ (k : Sort) (ts : Trees) (c : Closed d env goal (many (manys.Set k) ts)) (h : HaveSort d env literals k ts) where
-    among : (t : Tree) → Has (trees_in ts) t → IsCandidate d env goal k t
-    among t n = among_candidate d env goal k k ts t (sort_among k ts t h n) c n
-
-    whole : IsSet d env literals goal addresses terms m is k (many (manys.Set k) ts)
-    whole = record { closed = c; sorted = set_sort k ts }
-
-    member_whole : (t : Tree) → IsCandidate d env goal k t → Closed d env goal (two binary.Member t (many (manys.Set k) ts))
-    member_whole t i = membership d env literals goal addresses terms m is k (claims d env literals goal addresses terms m is k) t (many (manys.Set k) ts) i whole
-
-    -- each of them is a member
-    standing : (t : Tree) → Has (trees_in ts) t → lit m.truths (two binary.Member t (many (manys.Set k) ts)) ≡ true
-    standing t n =
-        let i = among t n in
-        let place = place_of (members ts) t (subst (λ us. Has us t) (sym (members_trees ts)) n) in
-        let parts : List Signed = unless (equal_term t t) ∷ so (two binary.Member t (many (manys.Set k) ts)) ∷ [] in
-        second m.truths false true (equal_term t t) (two binary.Member t (many (manys.Set k) ts))
-        (ruled d env literals goal addresses terms m is (se3 t (many (manys.Set k) ts) place.0) parts (of_se3 t (many (manys.Set k) ts) place.0 i.own c)
-        (ap (se3_of t (many (manys.Set k) ts)) place.1)
-        (candidates_equation d env goal k t t i i, (member_whole t i, tt)))
-        ((candidates_agree d env literals goal addresses terms m is k (claims d env literals goal addresses terms m is k) t t i i).told refl)
-
-    -- each member is equal to one of them
-    is_among : (a : Tree) → IsCandidate d env goal k a → lit m.truths (two binary.Member a (many (manys.Set k) ts)) ≡ true
-        → (t : Tree) × Has (trees_in ts) t × (val_of m k a ≡ val_of m k t)
-    is_among a i e =
-        let rest : List Signed = map (λ t. so (equal_term a t)) (members ts) in
-        let parts : List Signed = unless (two binary.Member a (many (manys.Set k) ts)) ∷ map (λ t. so (equal_term a t)) (members ts) in
-        let each : (t : Tree) → Has (members ts) t → Has (trees_in ts) t = λ t n. subst (λ us. Has us t) (members_trees ts) n in
-        let closed_each : (t : Tree) → Has (members ts) t → Closed d env goal (equal_term a t) = λ t n. candidates_equation d env goal k a t i (among t (each t n)) in
-        let some = some_so m.truths (equal_term a) (members ts)
-        (others m.truths false (two binary.Member a (many (manys.Set k) ts)) rest
-        (ruled d env literals goal addresses terms m is (se2 a (many (manys.Set k) ts)) parts (of_se2 a (many (manys.Set k) ts) i.own c)
-        (passed d env literals goal addresses terms m is (sorts.eq (tree_sort a) k) parts ((sort_eq_decides (tree_sort a) k).1 i.sorted))
-        (member_whole a i, all_so (Closed d env goal) (equal_term a) (members ts) closed_each)) e) in (
-          some.0,
-          each some.0 some.1,
-          (candidates_agree d env literals goal addresses terms m is k (claims d env literals goal addresses terms m is k) a some.0 i (among some.0 (each some.0 some.1))).same some.2,
-        )
-
-    pub right_set : ((t : Tree) → Has (trees_in ts) t → IsRight m w t) → IsRight m w (many (manys.Set k) ts)
-    right_set r =
-        let x : Tree = many (manys.Set k) ts in
-        let value_at : (t : Tree) → Has (trees_in ts) t → val t w ≡ val_of m k t = λ t n. at_sort d env literals goal addresses terms m is w k t (sort_among k ts t h n) (r t n) in
-        let us : List Value = map (λ (x : List ℕ × Val). value_in x.1) (vals ts w) in
-        let vs : List Value = members_of d env literals goal addresses terms m is k (many (manys.Set k) ts) in
-        let same : set_from us ≡ set_from vs = one_set us vs
-        (λ v n.
-        let t = vals_have ts w v n in
-        subst (Has vs) (ap value_in (sym (value_at t.term t.there)) ∙ t.value_is)
-        (has_member d env literals goal addresses terms m is k (many (manys.Set k) ts) t.term (member_whole t.term (among t.term t.there)) (standing t.term t.there)))
-        (λ v n.
-        let a = member_has d env literals goal addresses terms m is k (many (manys.Set k) ts) v n in
-        let t = is_among a.term (candidate_of d env literals goal addresses terms m is k (claims d env literals goal addresses terms m is k) (many (manys.Set k) ts) a.term whole a.closed) a.so_assigned in
-        subst (Has us) (ap value_in (value_at t.0 t.1 ∙ sym t.2) ∙ a.value_is) (have_vals ts w t.0 t.1)) in
-        from_sort d env literals goal addresses terms m is w (sort.Set k) (many (manys.Set k) ts) (set_sort k ts)
-        (many_is (manys.Set k) ts w ∙ ap (λ q. it (value.Set q)) same ∙ sym (val_members d env literals goal addresses terms m is k (many (manys.Set k) ts)))
+  pub right_set : (k : Sort) (ts : Trees) → HaveSort d env literals k ts → ((t : Tree) → Has (trees_in ts) t → IsRight m w t) → IsRight m w (many (manys.Set k) ts)
+  right_set k ts h r =
+      let value_at : (t : Tree) → Has (trees_in ts) t → val t w ≡ val_of m k t = λ t n. at_sort d env literals goal addresses terms m is w k t (sort_among k ts t h n) (r t n) in
+      let f : Tree → Value = λ y. value_in (val_of m k y) in
+      let us : List Value = map (λ (x : List ℕ × Val). value_in x.1) (vals ts w) in
+      let vs : List Value = map f (members ts) in
+      let same : set_from us ≡ set_from vs = one_set us vs
+      (λ v n.
+      let t = vals_have ts w v n in
+      subst (Has vs) (ap value_in (sym (value_at t.term t.there)) ∙ t.value_is) (Has-map f (members ts) t.term (subst (λ zs. Has zs t.term) (sym (members_trees ts)) t.there)))
+      (λ v n.
+      let t = map-Has f (members ts) v n in
+      let there = subst (λ zs. Has zs t.0) (members_trees ts) t.1 in
+      subst (Has us) (ap value_in (value_at t.0 there) ∙ t.2) (have_vals ts w t.0 there)) in
+      from_sort d env literals goal addresses terms m is w (sort.Set k) (many (manys.Set k) ts) (set_sort k ts)
+      (many_is (manys.Set k) ts w ∙ ap (λ q. it (value.Set q)) same ∙ sym (val_Set m k (many (manys.Set k) ts)))
 
   -- ---- defaults
 
@@ -257,7 +207,7 @@ module _ (d : Declarations) (env : Env) (literals : List Uid) (goal : Tree) (add
     on_entity = λ name us. by_literal (sort.Entity name us) (literal.Entity (default_uid name us) us) (default_Entity name us);
     on_set = λ k known h c.
         subst (IsRight m w) (sym (default_Set k))
-        (right_set k no_part (subst (Closed d env goal) (default_Set k) c) (judged.no_member k) (λ t n. absurd n));
+        (right_set k no_part (judged.no_member k) (λ t n. absurd n));
     on_record = default_record;
     on_option = λ k known h c. subst (IsRight m w) (sym (default_Option k)) (right_none d env literals goal addresses terms m is w k);
   })

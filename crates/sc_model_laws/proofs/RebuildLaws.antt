@@ -16,7 +16,7 @@ use Rattle.sc_model_laws.specs.Vals.{val_of}
 use Rattle.sc_model_laws.proofs.BoundLaws.{classes_bound}
 use Rattle.sc_model_laws.proofs.EqualityLaws.{strings_equated}
 use Rattle.sc_model_laws.proofs.ClaimLaws.{AreTerms, AreAddresses}
-use Rattle.sc_model_laws.proofs.CompositeClaims.{claims}
+use Rattle.sc_model_laws.proofs.SetClaims.{claims}
 use Rattle.sc_model_laws.proofs.ModelLaws.{is_model}
 use Rattle.sc_model_laws.proofs.SortLaws.{sort_lawful}
 use Rattle.sc_model_laws.proofs.TextNames.{name_text}

@@ -22,7 +22,7 @@ use Rattle.sc_sorts.specs.declared.sort.Sort.TheVariants as sort
 use Rattle.sc_sorts.specs.declared.sort.Sort.TheVariants.{rolls-Bool}
 use Rattle.sc_sorts.specs.declared.sort.Sort.TheOpen as s
 use Rattle.sc_sorts.specs.Defaults.{is_option}
-use Rattle.sc_sorts.specs.Inside.{SortField, SortFields, field_sort, member_sort}
+use Rattle.sc_sorts.specs.Inside.{SortField, SortFields, field_sort}
 use Rattle.sc_sorts.proofs.OutLaws.{out_Bool}
 use Rattle.sc_sorts.specs.declared.node.Leaf.TheVariants as leafs
 use Rattle.sc_sorts.specs.declared.node.Literal.{Literal}
@@ -35,7 +35,7 @@ use Rattle.std.specs.Int.{w64}
 use Rattle.sc_terms.specs.Trees.{Tree, leaf, one, two, choice}
 use Rattle.sc_terms.specs.TreeSorts.{tree_sort}
 use Rattle.sc_terms.specs.Folds.{literal_term, equal_term, field_term, present_term, held_term}
-use Rattle.sc_terms.specs.Values.{Val, it, yes, val, seen, bool_seen, truth, value_in, members_in, members_seen, record_in, fields_seen, field_of, set_from, not_value, option_in, level, bit_seen, like_seen, field_seen, field_value, has_member, and_value, or_value, equal_value, choice_value, val_eq}
+use Rattle.sc_terms.specs.Values.{Val, yes, val, seen, bool_seen, truth, value_in, members_in, members_seen, record_in, fields_seen, field_of, set_from, not_value, option_in, level, bit_seen, like_seen, field_seen, field_value, has_member, and_value, or_value, equal_value, choice_value, val_eq}
 use Rattle.sc_terms.proofs.FoldValues.{leaf_is, one_is, two_is, not_yes, truth_yes}
 use Rattle.sc_terms.proofs.EqualValues.{equal_bools, equal_others, val_eq-exact}
 use Rattle.sc_term_definitions.specs.Definitions.{definition, table, chosen_of}
@@ -44,27 +44,27 @@ use Rattle.sc_term_laws.specs.Judging.{HasPlace}
 use Rattle.sc_term_laws.specs.Judging as judged
 use Rattle.sc_term_laws.specs.Tests.{bool_level, is_bool}
 use Rattle.sc_term_laws.specs.Unfolded.{stays_equal, stays_field, stays_option, stays_literal}
-use Rattle.sc_term_laws.proofs.JudgingLaws.{field_of_record, member_of}
+use Rattle.sc_term_laws.proofs.JudgingLaws.{field_of_record}
 use Rattle.sc_term_laws.proofs.UnfoldedLaws.{equal_stays, field_stays, present_stays, bit_stays, like_stays}
 use Rattle.sc_term_laws.proofs.ConnectiveLaws.{both_yes, either_yes}
 use Rattle.sc_rule_laws.specs.Signed.{so, unless}
 use Rattle.sc_rule_laws.specs.Equal.{eq2}
-use Rattle.sc_rule_laws.specs.Sets.{se6, se7}
 use Rattle.sc_rule_laws.proofs.EquationLaws.{val_same}
 use Rattle.sc_rule_laws.proofs.MemberLaws.{all_has, has_all, any_first, has_any}
 use Rattle.sc_rule_laws.proofs.MemberTruths.{has_in, in_has, has_set_from, set_from_has}
 use Rattle.sc_closure_rules.specs.Closure.{Closed}
 use Rattle.sc_model_laws.specs.Assignments.{lit}
-use Rattle.sc_model_laws.specs.Consistent.{of_eq2, of_se6, of_se7}
+use Rattle.sc_model_laws.specs.Consistent.{of_eq2}
 use Rattle.sc_model_laws.specs.Vals.{Model, bits_of, held_by, val_step, val_of}
 use Rattle.sc_model_laws.specs.Models.{IsModel}
 use Rattle.sc_model_laws.specs.Rows.{IsRight}
 use Rattle.sc_model_laws.proofs.ClaimLaws.{AreTerms, AreAddresses, Claim, literal_val, by_definition}
-use Rattle.sc_model_laws.proofs.ClosedLaws.{of_part, first_branch, second_branch, shared_closed, IsCandidate, shared_candidate}
-use Rattle.sc_model_laws.proofs.CompositeClaims.{ruled, claims, fields_differ, field_sorted, member_plain, IsSet, member_has, has_member as member_in_set, candidate_of, membership, moves, included, inclusion, members_of, val_members}
+use Rattle.sc_model_laws.proofs.ClosedLaws.{of_part, first_branch, second_branch}
+use Rattle.sc_model_laws.proofs.CompositeClaims.{ruled, fields_differ, field_sorted}
+use Rattle.sc_model_laws.proofs.SetClaims.{claims, IsSet, asked, included, inclusion, shares, sharing, members_of, val_members}
 use Rattle.sc_model_laws.proofs.EquationTerms.{lit_negation}
-use Rattle.sc_model_laws.proofs.HoldLaws.{second, third}
-use Rattle.sc_model_laws.proofs.ValLaws.{val_out, val_Bool, val_Long, val_String, val_Decimal, val_Ip, val_Option, val_Record, shown, is_it}
+use Rattle.sc_model_laws.proofs.HoldLaws.{second}
+use Rattle.sc_model_laws.proofs.ValLaws.{val_out, val_Bool, val_Long, val_String, val_Decimal, val_Ip, val_Option, val_Record, shown}
 
 -- ---- connectives of truth values
 
@@ -309,18 +309,13 @@ module _ (d : Declarations) (env : Env) (literals : List Uid) (goal : Tree) (add
   unfolding tree_sort
   right_member k x a e f c r q =
       let set : IsSetAt k a = record { closed = of_part d env goal (two binary.Member x a) a c (inr (inl refl)); sorted = f } in
-      let i = candidate_of d env literals goal addresses terms m is k (known k) a x set c in
-      let plain = member_plain d env literals goal addresses terms m is k a f set.closed in
+      let ask = asked d env literals goal addresses terms m is k (known k) x a set c in
       right_truth (two binary.Member x a) (has_member (members_in (val a w)) (value_in (val x w))) refl (two_is binary.Member x a w)
       (both_ways (has_member (members_in (val a w)) (value_in (val x w))) (lit m.truths (two binary.Member x a))
-      (λ t.
-      let b = member_has d env literals goal addresses terms m is k a (value_in (val x w)) (in_set k a (value_in (val x w)) f q (has_in (members_in (val a w)) (value_in (val x w)) t)) in
-      let vals : val_of m k b.term ≡ val_of m k x = is_it m k b.term plain ∙ ap it (b.value_is ∙ ap value_in (at_sort k x e r)) ∙ sym (is_it m k x plain) in
-      moves d env literals goal addresses terms m is k (known k) b.term x a (candidate_of d env literals goal addresses terms m is k (known k) a b.term set b.closed) i set vals b.so_assigned)
-      (λ t.
-      in_has (members_in (val a w)) (value_in (val x w))
-      (set_in k a (value_in (val x w)) f q
-      (subst (Has (members_of d env literals goal addresses terms m is k a)) (ap value_in (sym (at_sort k x e r))) (member_in_set d env literals goal addresses terms m is k a x c t)))))
+      (λ t. ask.back (subst (Has (members_of d env literals goal addresses terms m is k a)) (ap value_in (at_sort k x e r))
+      (in_set k a (value_in (val x w)) f q (has_in (members_in (val a w)) (value_in (val x w)) t))))
+      (λ t. in_has (members_in (val a w)) (value_in (val x w)) (set_in k a (value_in (val x w)) f q
+      (subst (Has (members_of d env literals goal addresses terms m is k a)) (ap value_in (sym (at_sort k x e r))) (ask.told t)))))
 
   pub right_subset : (k : Sort) (a b : Tree) → tree_sort a ≡ sort.Set k → tree_sort b ≡ sort.Set k → Closed d env goal (two binary.Subset a b) → IsRight m w a → IsRight m w b → IsRight m w (two binary.Subset a b)
   unfolding tree_sort
@@ -335,39 +330,19 @@ module _ (d : Declarations) (env : Env) (literals : List Uid) (goal : Tree) (add
       (λ t. has_all (has_member (members_in (val b w))) (members_in (val a w)) (λ v h.
       in_has (members_in (val b w)) v (set_in k b v f q (included d env literals goal addresses terms m is k (known k) a b set other c t v (in_set k a v e r h))))))
 
-  shared_sort : (k : Sort) (a b : Tree) → tree_sort a ≡ sort.Set k → tree_sort (two binary.CommonPick a b) ≡ k
-  unfolding tree_sort
-  shared_sort k a b e = ap member_sort e ∙ member_of k
-
   pub right_common : (k : Sort) (a b : Tree) → tree_sort a ≡ sort.Set k → tree_sort b ≡ sort.Set k → Closed d env goal (two binary.Common a b) → IsRight m w a → IsRight m w b → IsRight m w (two binary.Common a b)
   unfolding tree_sort
   right_common k a b e f c r q =
       let set : IsSetAt k a = record { closed = of_part d env goal (two binary.Common a b) a c (inl refl); sorted = e } in
       let other : IsSetAt k b = record { closed = of_part d env goal (two binary.Common a b) b c (inr (inl refl)); sorted = f } in
-      let i : IsCandidate d env goal k (two binary.CommonPick a b) = shared_candidate d env goal k a b (shared_sort k a b e) (shared_closed d env goal a b c) in
-      let first = membership d env literals goal addresses terms m is k (known k) (two binary.CommonPick a b) a i set in
-      let later = membership d env literals goal addresses terms m is k (known k) (two binary.CommonPick a b) b i other in
-      let plain = member_plain d env literals goal addresses terms m is k a e set.closed in
       let test : Bool = list_any (has_member (members_in (val b w))) (members_in (val a w)) in
       right_truth (two binary.Common a b) test refl (two_is binary.Common a b w)
       (both_ways test (lit m.truths (two binary.Common a b))
       (λ t.
       let any = any_first (has_member (members_in (val b w))) (members_in (val a w)) t in
-      let x = member_has d env literals goal addresses terms m is k a any.found (in_set k a any.found e r any.there) in
-      let y = member_has d env literals goal addresses terms m is k b any.found (in_set k b any.found f q (has_in (members_in (val b w)) any.found any.passes)) in
-      let j = candidate_of d env literals goal addresses terms m is k (known k) a x.term set x.closed in
-      let vals : val_of m k y.term ≡ val_of m k x.term = is_it m k y.term plain ∙ ap it (y.value_is ∙ sym x.value_is) ∙ sym (is_it m k x.term plain) in
-      third m.truths false false true (two binary.Member x.term a) (two binary.Member x.term b) (two binary.Common a b)
-      (ruled d env literals goal addresses terms m is (se7 a b x.term) (unless (two binary.Member x.term a) ∷ unless (two binary.Member x.term b) ∷ so (two binary.Common a b) ∷ [])
-      (of_se7 a b x.term set.closed other.closed j.own) refl
-      (x.closed, (membership d env literals goal addresses terms m is k (known k) x.term b j other, (c, tt)))) x.so_assigned
-      (moves d env literals goal addresses terms m is k (known k) y.term x.term b (candidate_of d env literals goal addresses terms m is k (known k) b y.term other y.closed) j other vals y.so_assigned))
+      sharing d env literals goal addresses terms m is k (known k) a b set other c any.found (in_set k a any.found e r any.there)
+      (in_set k b any.found f q (has_in (members_in (val b w)) any.found any.passes)))
       (λ t.
-      let v : Value = value_in (val_of m k (two binary.CommonPick a b)) in
-      let inside = second m.truths false true (two binary.Common a b) (two binary.Member (two binary.CommonPick a b) a)
-      (ruled d env literals goal addresses terms m is (se6 a b 0) (unless (two binary.Common a b) ∷ so (two binary.Member (two binary.CommonPick a b) a) ∷ []) (of_se6 a b 0 set.closed other.closed) refl (c, (first, tt))) t in
-      let too = second m.truths false true (two binary.Common a b) (two binary.Member (two binary.CommonPick a b) b)
-      (ruled d env literals goal addresses terms m is (se6 a b 1) (unless (two binary.Common a b) ∷ so (two binary.Member (two binary.CommonPick a b) b) ∷ []) (of_se6 a b 1 set.closed other.closed) refl (c, (later, tt))) t in
-      has_any (has_member (members_in (val b w))) (members_in (val a w)) v
-      (set_in k a v e r (member_in_set d env literals goal addresses terms m is k a (two binary.CommonPick a b) first inside))
-      (in_has (members_in (val b w)) v (set_in k b v f q (member_in_set d env literals goal addresses terms m is k b (two binary.CommonPick a b) later too)))))
+      let v = shares d env literals goal addresses terms m is k (known k) a b set other c t in
+      has_any (has_member (members_in (val b w))) (members_in (val a w)) v.0 (set_in k a v.0 e r v.1)
+      (in_has (members_in (val b w)) v.0 (set_in k b v.0 f q v.2))))

@@ -12,7 +12,7 @@ use Rattle.sc_sorts.proofs.OutLaws.{out_Entity, out_Set, out_Record}
 use Rattle.sc_terms.specs.Trees.{Tree}
 use Rattle.sc_terms.specs.Folds.{field_term}
 use Rattle.sc_terms.specs.Values.{Val, it, value_in, field_of, set_from}
-use Rattle.sc_model_laws.specs.Vals.{Model, assigned, val_step, val_of}
+use Rattle.sc_model_laws.specs.Vals.{Model, elements, val_step, val_of}
 
 module _ (m : Model) where
   pub val_at : (k : Sort) (l : Sort-F Sort) (x : Tree) → out-Sort k ≡ l → val_of m k x ≡ val_step m (map-Sort Sort (Tree → Val) (val_of m) l) x
@@ -22,7 +22,7 @@ module _ (m : Model) where
   pub entity_val : (name : List ℕ) (us : List Uid) (x : Tree) → val_of m (sort.Entity name us) x ≡ it (value.Entity (m.uid x))
   entity_val name us x = val_at (sort.Entity name us) (s.Entity name us) x (out_Entity name us)
 
-  pub set_val : (k : Sort) (x : Tree) → val_of m (sort.Set k) x ≡ it (value.Set (set_from (map (λ y. value_in (val_of m k y)) (assigned m x))))
+  pub set_val : (k : Sort) (x : Tree) → val_of m (sort.Set k) x ≡ it (value.Set (set_from (map (λ y. value_in (val_of m k y)) (elements m x))))
   set_val k x = val_at (sort.Set k) (s.Set k) x (out_Set k)
 
   -- the fields of a record

@@ -163,7 +163,7 @@ module _ (d : Declarations) (env : Env) (literals : List Uid) (goal : Tree) (add
     right _ _ (judged.of_record fs ts names h) p c =
         right_record d env literals goal addresses terms m is w fs ts names.0 h (right_fields fs ts h p (λ t n. of_part d env goal (many manys.Record ts) t c n))
     right _ _ (judged.of_set k ts held h) p c =
-        right_set d env literals goal addresses terms m is w k ts c h (right_members k ts h p (λ t n. of_part d env goal (many (manys.Set k) ts) t c n))
+        right_set d env literals goal addresses terms m is w k ts h (right_members k ts h p (λ t n. of_part d env goal (many (manys.Set k) ts) t c n))
     right _ _ (judged.of_present k a g e) p c =
         right_present d env literals goal addresses terms m is w k a e (sorted (sort.Option k) a g)
         (right (sort.Option k) a g p (of_part d env goal (one unary.Present a) a c (inl refl)))

@@ -37,6 +37,7 @@ use Rattle.sc_term_laws.proofs.TermsFitLaws.{value_fits}
 use Rattle.sc_rule_laws.specs.Signed.{Signed, Said, is_true, some_holds, Holds}
 use Rattle.sc_rule_laws.proofs.EqualSound.{eq1_holds, eq2_holds, eq5_holds, eq6_holds, eq8_holds}
 use Rattle.sc_rule_laws.proofs.SetSound.{se1_holds, se3_holds, se4_holds, se5_holds, se6_holds, se7_holds}
+use Rattle.sc_rule_laws.proofs.WrittenSound.{se9_holds, se10_holds}
 use Rattle.sc_rule_laws.proofs.EntitySound.{en1_holds, en2_holds, en3_holds}
 use Rattle.sc_rule_laws.proofs.StringSound.{st1_holds}
 use Rattle.sc_rule_laws.proofs.TermsHold.{eq3_true, eq4_true, eq7_true, se2_true, se8_true, en4_true, en5_true, en6_true, en7_true, en8_true, st3_true}
@@ -111,6 +112,8 @@ module _ (d : Declarations) (env : Env) (literals : List Uid) (goal : Tree) (ter
   rule_holds _ (rule.of_se6 x y i c e) = se6_holds w x y i
   rule_holds _ (rule.of_se7 x y z c e f) = se7_holds w x y z
   rule_holds _ (rule.of_se8 x y i c e) = se8_true d env literals w lawful well x y i (terms.made x c) (terms.made y e)
+  rule_holds _ (rule.of_se9 x y i c e) = se9_holds w x y i
+  rule_holds _ (rule.of_se10 x y i c e) = se10_holds w x y i
   rule_holds _ (rule.of_en1 x y i z p q r) = en1_holds w x y i z
   rule_holds _ (rule.of_en2 x y z c e f) = en2_holds w x y z
   rule_holds _ (rule.of_en3 x y i z p q r) = en3_holds w x y i z

@@ -26,7 +26,7 @@ use Rattle.sc_terms.specs.Values.{Val, it, maybe, yes, value_in, field_of, set_f
 use Rattle.sc_terms.proofs.RecordValues.{passes}
 use Rattle.sc_term_laws.proofs.FitRecords.{all_apart, swapped}
 use Rattle.sc_model_laws.specs.Assignments.{lit}
-use Rattle.sc_model_laws.specs.Vals.{Model, bits_of, assigned, held_by, val_step, val_of}
+use Rattle.sc_model_laws.specs.Vals.{Model, bits_of, elements, held_by, val_step, val_of}
 
 -- what a value is, as a record's field
 abbrev pub entry : Val → Option Value
@@ -59,7 +59,7 @@ module _ (m : Model) where
   pub val_Entity : (name : List ℕ) (us : List Uid) (x : Tree) → val_of m (sort.Entity name us) x ≡ it (value.Entity (m.uid x))
   val_Entity name us x = at_roll (sort.Entity name us) (s.Entity name us) x (rolls-Entity name us)
 
-  pub val_Set : (k : Sort) (x : Tree) → val_of m (sort.Set k) x ≡ it (value.Set (set_from (map (λ y. value_in (val_of m k y)) (assigned m x))))
+  pub val_Set : (k : Sort) (x : Tree) → val_of m (sort.Set k) x ≡ it (value.Set (set_from (map (λ y. value_in (val_of m k y)) (elements m x))))
   val_Set k x = at_roll (sort.Set k) (s.Set k) x (rolls-Set k)
 
   pub val_Option : (k : Sort) (x : Tree) → val_of m (sort.Option k) x ≡ held_by (lit m.truths (present_term x)) (val_of m k (held_term x))

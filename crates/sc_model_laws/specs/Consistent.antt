@@ -12,7 +12,7 @@ use Rattle.sc_term_definitions.specs.Definitions.{shape_of, inputs_of}
 use Rattle.sc_term_definitions.specs.Truths.{defined}
 use Rattle.sc_rule_laws.specs.Signed.{Signed, Said}
 use Rattle.sc_rule_laws.specs.Equal.{eq1, eq2, eq3, eq4, eq5, eq6, eq7, eq8}
-use Rattle.sc_rule_laws.specs.Sets.{se1, se2, se3, se4, se5, se6, se7, se8}
+use Rattle.sc_rule_laws.specs.Sets.{se1, se2, se3, se4, se5, se6, se7, se8, se9, se10}
 use Rattle.sc_rule_laws.specs.Entities.{en1, en2, en3, en4, en5, en6, en7, en8}
 use Rattle.sc_rule_laws.specs.Strings.{Pattern, Signs, AreFew, st1, st3}
 use Rattle.sc_closure_rules.specs.Closure.{Closed}
@@ -36,6 +36,8 @@ pub data IsRuleAt (d : Declarations) (Is : Tree → Type 0) : Said → Type 0 wh
   of_se6 : (s t : Tree) (i : ℕ) → Is s → Is t → IsRuleAt d Is (se6 s t i)
   of_se7 : (s t x : Tree) → Is s → Is t → Is x → IsRuleAt d Is (se7 s t x)
   of_se8 : (s t : Tree) (i : ℕ) → Is s → Is t → IsRuleAt d Is (se8 s t i)
+  of_se9 : (s t : Tree) (i : ℕ) → Is s → Is t → IsRuleAt d Is (se9 s t i)
+  of_se10 : (s t : Tree) (i : ℕ) → Is s → Is t → IsRuleAt d Is (se10 s t i)
   of_en1 : (x y : Tree) (i : ℕ) (z : Option Tree) → Is x → Is y → IfSome z Is → IsRuleAt d Is (en1 x y i z)
   of_en2 : (x s t : Tree) → Is x → Is s → Is t → IsRuleAt d Is (en2 x s t)
   of_en3 : (x y : Tree) (i : ℕ) (z : Option Tree) → Is x → Is y → IfSome z Is → IsRuleAt d Is (en3 x y i z)

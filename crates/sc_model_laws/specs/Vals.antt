@@ -1,5 +1,5 @@
 -- The value of a closed term, by its sort, as an assignment tells it.
-use Rattle.std.specs.Prelude.{◌&&◌, ℕ, Bool, true, false, List, [], ◌∷◌, map, flat_map, Some, None, if◌then◌else◌}
+use Rattle.std.specs.Prelude.{◌&&◌, ℕ, Bool, true, false, List, [], ◌∷◌, map, flat_map, Some, None, unwrap_or, if◌then◌else◌}
 use Rattle.sc_names.specs.declared.uid.Uid.{Uid}
 use Rattle.sc_values.specs.declared.value.Value.TheVariants as value
 use Rattle.sc_sorts.specs.declared.sort.Sort.{Sort, Sort-F, fold-Sort}
@@ -11,6 +11,7 @@ use Rattle.sc_terms.specs.Trees.{Tree, two}
 use Rattle.sc_terms.specs.Order.{tree_eq}
 use Rattle.sc_terms.specs.Folds.{bit_term, present_term, held_term, field_term}
 use Rattle.sc_terms.specs.Values.{Val, it, maybe, yes, value_in, field_of, set_from}
+use Rattle.sc_rule_laws.specs.Terms.{written}
 use Rattle.sc_model_laws.specs.Assignments.{Assignment, lit}
 
 -- an assignment, the closed terms, and which text a string is and which entity an entity
@@ -28,6 +29,10 @@ member_in m x _ = []
 abbrev pub assigned : Model → Tree → List Tree
 assigned m x = flat_map (member_in m.truths x) m.closed
 
+-- the terms of its members: of a set term those that stand there, of any other set what is assigned to it
+abbrev pub elements : Model → Tree → List Tree
+elements m x = unwrap_or (written x) (assigned m x)
+
 abbrev pub bits_of : Model → Tree → ℕ → Bool
 bits_of m x i = lit m.truths (bit_term x i)
 
@@ -43,7 +48,7 @@ val_step m s.String x = it (value.String (m.text x))
 val_step m s.Decimal x = it (value.Decimal (of_bits64 (bits_of m x)))
 val_step m s.Ip x = it (value.Ip (ip_of (bits_of m x)))
 val_step m (s.Entity name choices) x = it (value.Entity (m.uid x))
-val_step m (s.Set member) x = it (value.Set (set_from (map (λ y. value_in (member y)) (assigned m x))))
+val_step m (s.Set member) x = it (value.Set (set_from (map (λ y. value_in (member y)) (elements m x))))
 val_step m (s.Record fields) x =
     it (value.Record (flat_map (λ (f : List ℕ × (Tree → Val)). field_of (f.0, f.1 (field_term f.0 x))) fields))
 val_step m (s.Option held) x = held_by (lit m.truths (present_term x)) (held (held_term x))

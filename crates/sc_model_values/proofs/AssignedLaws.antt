@@ -1,5 +1,5 @@
 -- What is assigned to a set, closed term by closed term, and that its members are closed and of one sort.
-use Rattle.std.proofs.Common.{◌≡◌, ◌<◌, ◌≤◌, ◌+◌, ◌++◌, ◌&&◌, ℕ, suc, Bool, true, false, cond, inl, inr, List, [], ◌∷◌, map, flat_map, drop, length, slice_get, Some, Contains, refl, sym, ap, ◌∙◌, subst, arith}
+use Rattle.std.proofs.Common.{◌≡◌, ◌<◌, ◌≤◌, ◌+◌, ◌++◌, ◌&&◌, ℕ, suc, Bool, true, false, cond, inl, inr, List, [], ◌∷◌, map, flat_map, drop, length, slice_get, Option, Some, None, unwrap_or, Contains, refl, sym, ap, ◌∙◌, subst, arith}
 use Rattle.std.proofs.lemmas.List.{append-nil, append_assoc, map-append}
 use Rattle.std.specs.List.{AllByRecursion}
 use Rattle.sc_lists.proofs.ListLaws.{all_of_elements, all_element, contains_map, contains_from_map}
@@ -10,21 +10,28 @@ use Rattle.sc_sorts.specs.declared.sort.Sort.{Sort}
 use Rattle.sc_sorts.specs.declared.sort.Sort.TheVariants as sort
 use Rattle.sc_sorts.specs.Inside.{member_sort}
 use Rattle.sc_sorts.specs.declared.node.BinaryOp.TheVariants as binary
-use Rattle.sc_terms.specs.Trees.{Tree, two}
+use Rattle.sc_sorts.specs.declared.node.ManyOp.TheVariants as manys
+use Rattle.sc_sorts.specs.declared.node.Node.{Node}
+use Rattle.sc_terms.specs.Trees.{Tree, leaf, one, two, choice, many}
 use Rattle.sc_terms.specs.TreeSorts.{tree_sort}
-use Rattle.sc_terms.specs.Tables.{tree, IsTable}
+use Rattle.sc_terms.specs.Tables.{Places, tree, node_parts, AreBelow, IsTable}
 use Rattle.sc_terms.specs.Order.{tree_eq}
 use Rattle.sc_terms.proofs.OrderLaws.{tree_eq-exact}
 use Rattle.sc_term_laws.proofs.BinaryJudged.{binary_kept}
-use Rattle.sc_term_laws.proofs.JudgingLaws.{member_of}
+use Rattle.sc_term_laws.specs.Judging.{IsTermOf}
+use Rattle.sc_term_laws.proofs.JudgingLaws.{sort_is, member_of}
 use Rattle.sc_term_laws.proofs.TestLaws.{set_sort}
+use Rattle.sc_rule_laws.specs.Terms.{members, written}
+use Rattle.sc_rule_laws.proofs.WrittenTerms.{written_made}
+use Rattle.sc_rule_instances.specs.Lookups.{IsMembers}
 use Rattle.sc_footprint.specs.Closure.{Closed}
 use Rattle.sc_footprint.specs.Problems.{Posed, IsPosed, goal_term, closed_terms, numbered}
 use Rattle.sc_footprint.specs.Theories.{ClosedAreTerms}
 use Rattle.sc_model_values.specs.Models.{model, truth_in}
 use Rattle.sc_model_laws.proofs.ClosureLaws.{of_part}
 use Rattle.sc_model_laws.specs.Assignments.{Assignment, lit}
-use Rattle.sc_model_laws.specs.Vals.{assigned, member_in}
+use Rattle.sc_model_laws.specs.Vals.{assigned, elements, member_in}
+use Rattle.sc_model_laws.proofs.ClosedLaws.{standing_closed}
 use Rattle.sc_rule_instances.proofs.PartLaws.{drop_at, drop_end, number_suc}
 use Rattle.sc_model_values.specs.Parts.{IsOf}
 
@@ -113,3 +120,56 @@ module _ (terms : ClosedAreTerms) (p : Posed) (posed : IsPosed p) (table : IsTab
         within = below;
         sorted = member_sorted k (tree p.nodes n) (tree p.nodes y) is.sorted said;
       }))
+
+  -- ---- the terms of its members
+
+  pub elements_are : (m : clauses.Assignment) (names : List (List ℕ)) (k : Sort) (n : ℕ) (ys : List ℕ) → IsOf p (sort.Set k) n → AllByRecursion (λ y. y < length p.nodes) ys
+      → map (tree p.nodes) ys ≡ elements (model p m names) (tree p.nodes n) → AllByRecursion (IsOf p k) ys
+  elements_are m names k n ys is within e = by (written (tree p.nodes n)) refl e
+    where
+      whole : Closed p.schema p.env (goal_term p) (tree p.nodes n)
+      whole = (posed.are_closed.just (tree p.nodes n)).0 (contains_map (tree p.nodes) p.closed n is.closed)
+
+      made : IsTermOf p.schema p.env p.literals (sort.Set k) (tree p.nodes n)
+      made =
+          subst (λ (j : Sort). IsTermOf p.schema p.env p.literals j (tree p.nodes n)) is.sorted
+          (terms p.schema p.env p.literals (goal_term p) (tree p.nodes n) posed.lawful posed.goal_is whole)
+
+      by : (o : Option (List Tree)) → written (tree p.nodes n) ≡ o → map (tree p.nodes) ys ≡ unwrap_or o (assigned (model p m names) (tree p.nodes n)) → AllByRecursion (IsOf p k) ys
+      by None w e = members_are (truth_in p m) k n ys is within (e ∙ sym (assigned_by p m names (tree p.nodes n)))
+      by (Some us) w e = all_of_elements (IsOf p k) ys (λ y h. (
+          let below : y < length p.nodes = all_element (λ y. y < length p.nodes) ys y within h in
+          let here : Has us (tree p.nodes y) =
+          subst (λ (ts : List Tree). Has ts (tree p.nodes y)) e (Has-from_Contains (map (tree p.nodes) ys) (tree p.nodes y) (contains_map (tree p.nodes) ys y h)) in
+          record {
+            closed = closed_number y below (standing_closed p.schema p.env (goal_term p) (tree p.nodes n) (tree p.nodes y) us w whole here);
+            within = below;
+            sorted = sort_is p.schema p.env p.literals k (tree p.nodes y) (written_made p.schema p.env p.literals k (tree p.nodes n) us (tree p.nodes y) made w here);
+          }))
+
+-- ---- by the parts of a set term, and else by what is assigned
+
+parts_stand : (xs : List Node) (ps : Places) → map (tree xs) (map (λ (q : List ℕ × ℕ). q.1) ps) ≡ members (node_parts xs ps)
+parts_stand xs [] = refl
+parts_stand xs (q ∷ ps) = ap (λ (ts : List Tree). tree xs q.1 ∷ ts) (parts_stand xs ps)
+
+pub parts_below : (l : ℕ) (ps : Places) → AreBelow l ps → AllByRecursion (λ n. n < l) (map (λ (q : List ℕ × ℕ). q.1) ps)
+parts_below l [] h = tt
+parts_below l (q ∷ ps) h = (h.0, parts_below l ps h.1)
+
+pub standing_elements : (p : Posed) (m : clauses.Assignment) (names : List (List ℕ)) (x : Tree) (ps : Places) (ys : List ℕ) → IsMembers p.nodes x (Some ps)
+    → ys ≡ map (λ (q : List ℕ × ℕ). q.1) ps → map (tree p.nodes) ys ≡ elements (model p m names) x
+standing_elements p m names x ps ys (k, is, below) e =
+    ap (map (tree p.nodes)) e ∙ parts_stand p.nodes ps ∙ sym (ap (λ (t : Tree). elements (model p m names) t) is)
+
+not_written : (xs : List Node) (x : Tree) → IsMembers xs x None → written x ≡ None
+not_written xs (leaf l) h = refl
+not_written xs (one o a) h = refl
+not_written xs (two o a b) h = refl
+not_written xs (choice c a b) h = refl
+not_written xs (many (manys.Set k) ts) h = absurd (h k ts refl)
+not_written xs (many manys.Record ts) h = refl
+
+pub assigned_elements : (p : Posed) (m : clauses.Assignment) (names : List (List ℕ)) (x : Tree) (ys : List ℕ) → IsMembers p.nodes x None
+    → map (tree p.nodes) ys ≡ assigned (model p m names) x → map (tree p.nodes) ys ≡ elements (model p m names) x
+assigned_elements p m names x ys h e = e ∙ sym (ap (λ (o : Option (List Tree)). unwrap_or o (assigned (model p m names) x)) (not_written p.nodes x h))

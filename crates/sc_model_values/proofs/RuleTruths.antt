@@ -27,12 +27,12 @@ use Rattle.sc_footprint.proofs.NumberingLaws.{numbered_map, numbered_back}
 use Rattle.sc_footprint.proofs.ProblemLaws.{literal_listed}
 use Rattle.sc_rule_laws.specs.Signed.{Signed, Said, unless}
 use Rattle.sc_rule_laws.specs.Equal.{eq1, eq2, eq3, eq4, eq5, eq6, eq7, eq8}
-use Rattle.sc_rule_laws.specs.Sets.{se1, se2, se3, se4, se5, se6, se7, se8}
+use Rattle.sc_rule_laws.specs.Sets.{se1, se2, se3, se4, se5, se6, se7, se8, se9, se10}
 use Rattle.sc_rule_laws.specs.Places.{roots, half_by, half, under}
 use Rattle.sc_rule_laws.specs.Entities.{en1_of, en1, en2, en3_of, en3, en4, en5, en6, en7, en8}
 use Rattle.sc_rule_laws.specs.Strings.{Pattern, Signs, AreFew, st1, st3}
 use Rattle.sc_rule_instances.specs.declared.rule.EqualRule.TheVariants.{Eq1, Eq2, Eq3, Eq4, Eq5, Eq6, Eq7, Eq8}
-use Rattle.sc_rule_instances.specs.declared.rule.SetRule.TheVariants.{Se1, Se2, Se3, Se4, Se5, Se6, Se7, Se8}
+use Rattle.sc_rule_instances.specs.declared.rule.SetRule.TheVariants.{Se1, Se2, Se3, Se4, Se5, Se6, Se7, Se8, Se9, Se10}
 use Rattle.sc_rule_instances.specs.declared.rule.EntityRule.TheVariants.{En1, En2, En3, En4, En5, En6, En7, En8}
 use Rattle.sc_rule_instances.specs.Clauses.{literal_for, clause_for}
 use Rattle.sc_rule_instances.specs.Instances.{on_one, on_two, on_three, on_four}
@@ -48,7 +48,7 @@ use Rattle.sc_model_values.proofs.PartSorts.{AreTruths, IsOfTruths}
 use Rattle.sc_model_values.proofs.PlaceParts.{is_set_in, half_place, first_root, second_root}
 use Rattle.sc_model_laws.proofs.ClosedLaws.{of_part}
 use Rattle.sc_model_values.proofs.EqualParts.{eq1_truths, eq2_truths, eq3_truths, eq4_truths, eq5_truths, eq6_truths, eq7_truths, eq8_truths}
-use Rattle.sc_model_values.proofs.SetParts.{se1_truths, se2_truths, se3_truths, se4_truths, se5_truths, se6_truths, se7_truths, se8_truths}
+use Rattle.sc_model_values.proofs.SetParts.{se1_truths, se2_truths, se3_truths, se4_truths, se5_truths, se6_truths, se7_truths, se8_truths, se9_truths, se10_truths}
 use Rattle.sc_model_values.proofs.EntityParts.{en1_truths, en2_truths, en3_truths, en4_truths, en5_truths, en6_truths, en7_truths, en8_truths}
 
 -- what is said holds, where it is of closed terms
@@ -262,6 +262,10 @@ module _ (laws : TermsHold) (p : Posed) (posed : IsPosed p) (m : Assignment) (no
       of_three se7 y z x i j k (nothing.sets (Se7 (number y) (number z) (number x))) (se7_truths p.schema p.env p.literals y z x)
   rule_holds _ (rule.of_se8 y z n i j) =
       of_two (λ a b. se8 a b n) y z i j (nothing.sets (Se8 (number y) (number z) n)) (se8_truths p.schema p.env p.literals y z n (term y i) (term z j))
+  rule_holds _ (rule.of_se9 y z n i j) =
+      of_two (λ a b. se9 a b n) y z i j (nothing.sets (Se9 (number y) (number z) n)) (se9_truths p.schema p.env p.literals y z n)
+  rule_holds _ (rule.of_se10 y z n i j) =
+      of_two (λ a b. se10 a b n) y z i j (nothing.sets (Se10 (number y) (number z) n)) (se10_truths p.schema p.env p.literals y z n)
   rule_holds _ (rule.of_en1 x y n z i j k) =
       said_holds (en1 x y n z) (places_unbroken en1_of unsaid_first x y i j (λ w. nothing.entities (En1 (number x) (number y) w)) n z k)
       (en1_truths p.schema p.env p.literals x y n z (first_term x y i) (second_term x y j))

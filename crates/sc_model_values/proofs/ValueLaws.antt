@@ -26,7 +26,7 @@ use Rattle.sc_footprint.specs.Problems.{Posed}
 use Rattle.sc_model_values.specs.Models.{model, name_in, truth_in}
 use Rattle.sc_model_laws.proofs.SortedVals.{val_at, record_val}
 use Rattle.sc_model_laws.specs.Assignments.{lit}
-use Rattle.sc_model_laws.specs.Vals.{assigned, val_of, val_step, held_by}
+use Rattle.sc_model_laws.specs.Vals.{elements, val_of, val_step, held_by}
 use Rattle.sc_model_values.specs.Values.{shown}
 
 -- ---- a value of each sort
@@ -61,7 +61,7 @@ module _ (p : Posed) (m : Assignment) (names : List (List ℕ)) where
   pub of_entity : (name : List ℕ) (us : List Uid) (x : Tree) → value_at (sort.Entity name us) x ≡ value.Entity ((model p m names).uid x)
   of_entity name us x = ap value_in (val_at (model p m names) (sort.Entity name us) (s.Entity name us) x (out_Entity name us))
 
-  pub of_set : (k : Sort) (x : Tree) → value_at (sort.Set k) x ≡ value.Set (set_from (map (value_at k) (assigned (model p m names) x)))
+  pub of_set : (k : Sort) (x : Tree) → value_at (sort.Set k) x ≡ value.Set (set_from (map (value_at k) (elements (model p m names) x)))
   of_set k x = ap value_in (val_at (model p m names) (sort.Set k) (s.Set k) x (out_Set k))
 
   pub of_record : (fs : SortFields) (x : Tree)
@@ -100,7 +100,7 @@ module _ (p : Posed) (m : Assignment) (names : List (List ℕ)) where
   pub entity_at : (k : Sort) (x : Tree) (name : List ℕ) (us : List Uid) (v : Value) → k ≡ sort.Entity name us → v ≡ value.Entity ((model p m names).uid x) → v ≡ value_at k x
   entity_at k x name us v e h = at_sort k (sort.Entity name us) x v _ e (of_entity name us x) h
 
-  pub set_at : (k : Sort) (x : Tree) (j : Sort) (vs : List Value) → k ≡ sort.Set j → vs ≡ set_from (map (value_at j) (assigned (model p m names) x)) → value.Set vs ≡ value_at k x
+  pub set_at : (k : Sort) (x : Tree) (j : Sort) (vs : List Value) → k ≡ sort.Set j → vs ≡ set_from (map (value_at j) (elements (model p m names) x)) → value.Set vs ≡ value_at k x
   set_at k x j vs e h = at_sort k (sort.Set j) x (value.Set vs) _ e (of_set j x) (ap value.Set h)
 
   pub record_at : (k : Sort) (x : Tree) (fs : SortFields) (r : Fields) → k ≡ sort.Record fs
@@ -167,7 +167,7 @@ field_none name (it y) e = absurd cc
 field_none name (maybe (Some y)) e = absurd cc
 field_none name (maybe None) e = refl
 
--- the set of the values of what is assigned
+-- the set of the values of some terms
 pub set_told : (f : Tree → Value) (tree_at : ℕ → Tree) (ys : List ℕ) (ts : List Tree) (vs set : List Value) → map tree_at ys ≡ ts → vs ≡ map (λ n. f (tree_at n)) ys → IsSetOf vs set → set ≡ set_from (map f ts)
 set_told f tree_at ys ts vs set e g is = set_is vs set is ∙ ap set_from (g ∙ members_at f tree_at ys ts e)
 

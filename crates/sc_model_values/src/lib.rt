@@ -11,6 +11,6 @@ mod truth;
 mod values;
 
 pub use law::model_laws;
-pub use members::assigned_of;
+pub use members::{assigned_of, elements_of};
 pub use names::{name_at, uid_of};
 pub use values::value_of;

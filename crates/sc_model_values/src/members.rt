@@ -2,14 +2,14 @@
 ghost use Rattle.std.specs.Prelude.{◌≡◌, ◌++◌, ◌<◌, ℕ, List, length, map, IfOk, OnOk};
 ghost use Rattle.std.specs.List.{AllByRecursion};
 ghost use Rattle.sc_model_values.specs.Models.{model, truth_in};
-ghost use Rattle.sc_model_laws.specs.Vals.{assigned, member_in};
+ghost use Rattle.sc_model_laws.specs.Vals.{assigned, elements, member_in};
 ghost use Rattle.sc_terms.specs.Tables.{tree};
 
 use crate::truth::truth;
 use sc_clauses::Assignment;
 use sc_footprint::Problem;
-use sc_lists::Seq;
-use sc_rule_instances::closed_at;
+use sc_lists::{Seq, Text};
+use sc_rule_instances::{closed_at, members};
 use sc_sorts::{BinaryOp, Node};
 use std::alloc::{AllocError, Global};
 
@@ -59,4 +59,34 @@ pub fn assigned_of(
         put_member(problem, m, term, closed, &mut members)?;
     }
     Ok(members)
+}
+
+/// The numbers of parts.
+fn part_numbers(alloc: Global, parts: &[(Text, u64)]) -> Result<Seq<u64>, AllocError>
+    ensures { IfOk result (λ ys. ys ≡ map (λ p. p.1) parts.now) }
+{
+    let mut numbers = Seq::new(alloc);
+    for part in parts {
+        numbers.push(part.1)?;
+    }
+    Ok(numbers)
+}
+
+/// The terms of the members of a set, a term of the table: of a set term those that stand there, of any
+/// other what is assigned to it.
+pub fn elements_of(
+    alloc: Global,
+    problem: &Problem<'_>,
+    m: &Assignment,
+    term: u64,
+) -> Result<Seq<u64>, AllocError>
+    requires { term < length problem.now.nodes }
+    ensures value { IfOk result (λ ys. (names : List (List ℕ)) → map (tree problem.now.nodes) ys
+        ≡ elements (model problem.now m.now names) (tree problem.now.nodes term)) }
+    ensures within { IfOk result (AllByRecursion (λ y. y < length problem.now.nodes)) }
+{
+    match members(problem, term) {
+        Some(parts) => part_numbers(alloc, parts),
+        None => assigned_of(alloc, problem, m, term),
+    }
 }

@@ -8,7 +8,7 @@ ghost use Rattle.sc_bits.specs.Bits.{of_bits64};
 ghost use Rattle.sc_clauses.specs.Assignments.{Assignment as AnyAssignment};
 ghost use Rattle.sc_model_values.specs.Models.{model, name_in, truth_in};
 ghost use Rattle.sc_model_laws.specs.Assignments.{lit};
-ghost use Rattle.sc_model_laws.specs.Vals.{assigned, val_of};
+ghost use Rattle.sc_model_laws.specs.Vals.{elements, val_of};
 ghost use Rattle.sc_sorts.specs.declared.sort.Sort.{Sort as AnySort};
 ghost use Rattle.sc_sorts.specs.declared.sort.Sort.TheVariants as sorts;
 ghost use Rattle.sc_terms.specs.Folds.{bit_term, field_term};
@@ -18,7 +18,7 @@ ghost use Rattle.sc_terms.specs.Values.{field_of, set_from, value_in};
 ghost use Rattle.sc_values.specs.declared.value.Value.TheVariants as value;
 
 use crate::bits::{address, number};
-use crate::members::assigned_of;
+use crate::members::elements_of;
 use crate::names::{name_at, uid_of};
 use crate::parts::{field, held, present};
 use crate::truth::truth;
@@ -176,7 +176,7 @@ fn option_value(
     }
 }
 
-/// The set of what is assigned to a set.
+/// The set of the members of a set.
 #[cycle(values)]
 fn set_value(
     alloc: Global,
@@ -189,12 +189,12 @@ fn set_value(
     requires { IsOf problem.now (sorts.Set member.now) term }
     ensures { IfOk result (λ s. s ≡ set_from (map (λ y.
         value_in (val_of (model problem.now m.now names.now) member.now y))
-        (assigned (model problem.now m.now names.now) (tree problem.now.nodes term)))) }
+        (elements (model problem.now m.now names.now) (tree problem.now.nodes term)))) }
 {
     problem.laws();
     problem.terms().laws();
     closed_laws();
-    let terms = assigned_of(alloc, problem, m, term)?;
+    let terms = elements_of(alloc, problem, m, term)?;
     let members = member_values(alloc, problem, m, names, member, terms.as_slice())?;
     set_of(alloc, members.as_slice())
 }

@@ -70,7 +70,8 @@ set_word rule (One a) r = λ e. absurd cc
 set_word rule (Two a b) r = last_word rule (codes "SE2") _ r refl
 set_word rule (Three a b c) r =
     one_word rule (codes "SE1") _ r _ refl (one_word rule (codes "SE3") _ r _ refl (one_word rule (codes "SE4") _ r _ refl
-    (one_word rule (codes "SE5") _ r _ refl (one_word rule (codes "SE6") _ r _ refl (one_word rule (codes "SE7") _ r _ refl (last_word rule (codes "SE8") _ r refl))))))
+    (one_word rule (codes "SE5") _ r _ refl (one_word rule (codes "SE6") _ r _ refl (one_word rule (codes "SE7") _ r _ refl (one_word rule (codes "SE8") _ r _ refl
+    (one_word rule (codes "SE9") _ r _ refl (last_word rule (codes "SE10") _ r refl))))))))
 set_word rule (Four a b c d) r = λ e. absurd cc
 set_word rule Other r = λ e. absurd cc
 

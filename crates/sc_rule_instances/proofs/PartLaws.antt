@@ -15,11 +15,10 @@ use Rattle.sc_terms.specs.Tables.{tree}
 use Rattle.sc_terms.specs.Trees.{Tree, one}
 use Rattle.sc_terms.specs.TreeSorts.{tree_sort}
 use Rattle.sc_terms.proofs.OrderLaws.{tree_eq-exact, tree_eq-itself}
-use Rattle.sc_footprint.specs.Closure.{one_sort}
 use Rattle.sc_footprint.specs.declared.kind.Kind.TheVariants as kind
 use Rattle.sc_footprint.specs.Problems.{Posed, IsPosed, closed_terms, numbered}
 use Rattle.sc_footprint.specs.Shelves.{shelf, is_of_kind, has_key_like, key_of}
-use Rattle.sc_rule_laws.specs.Terms.{above}
+use Rattle.sc_rule_laws.specs.Terms.{one_sort, above}
 use Rattle.sc_rule_instances.specs.Lookups.{IsClosedFound, IsNumberAmong, is_above}
 use Rattle.sc_rule_instances.proofs.LiteralLaws.{not_in_table}
 

@@ -14,7 +14,7 @@ use Rattle.sc_footprint.proofs.ProblemLaws.{term_judged}
 use Rattle.sc_rule_instances.specs.declared.rule.EqualRule.{EqualRule}
 use Rattle.sc_rule_instances.specs.declared.rule.EqualRule.TheVariants.{Eq1, Eq2, Eq3, Eq4, Eq5, Eq6, Eq7, Eq8}
 use Rattle.sc_rule_instances.specs.declared.rule.SetRule.{SetRule}
-use Rattle.sc_rule_instances.specs.declared.rule.SetRule.TheVariants.{Se1, Se2, Se3, Se4, Se5, Se6, Se7, Se8}
+use Rattle.sc_rule_instances.specs.declared.rule.SetRule.TheVariants.{Se1, Se2, Se3, Se4, Se5, Se6, Se7, Se8, Se9, Se10}
 use Rattle.sc_rule_instances.specs.declared.rule.EntityRule.{EntityRule}
 use Rattle.sc_rule_instances.specs.declared.rule.EntityRule.TheVariants.{En1, En2, En3, En4, En5, En6, En7, En8}
 use Rattle.sc_rule_laws.specs.Signed.{Said, Holds}
@@ -22,6 +22,7 @@ use Rattle.sc_rule_instances.specs.Names.{equal_rule, set_rule, entity_rule}
 use Rattle.sc_rule_instances.specs.Instances.{on_one, on_two, on_three, on_four, equal_said, set_said, entity_said, equal_of, set_of, entity_of, said_by}
 use Rattle.sc_rule_laws.proofs.EqualSound.{eq1_holds, eq2_holds, eq5_holds, eq6_holds, eq8_holds}
 use Rattle.sc_rule_laws.proofs.SetSound.{se1_holds, se3_holds, se4_holds, se5_holds, se6_holds, se7_holds}
+use Rattle.sc_rule_laws.proofs.WrittenSound.{se9_holds, se10_holds}
 use Rattle.sc_rule_laws.proofs.EntitySound.{en1_holds, en2_holds, en3_holds}
 use Rattle.sc_rule_laws.proofs.TermsHold.{eq3_true, eq4_true, eq7_true, se2_true, se8_true, en4_true, en5_true, en6_true, en7_true, en8_true}
 
@@ -84,6 +85,8 @@ module _ (laws : TermsHold) (p : Posed) (w : World) (posed : IsPosed p) (formed 
   set_holds (Se6 s t i) = two_hold w (term_of p s) (term_of p t) _ (λ u v e f. se6_holds w u v i)
   set_holds (Se7 s t x) = three_hold w (term_of p s) (term_of p t) (term_of p x) _ (se7_holds w)
   set_holds (Se8 s t i) = two_hold w (term_of p s) (term_of p t) _ (λ u v e f. se8_true p.schema p.env p.literals w posed.lawful formed u v i (closed_term s u e) (closed_term t v f))
+  set_holds (Se9 s t i) = two_hold w (term_of p s) (term_of p t) _ (λ u v e f. se9_holds w u v i)
+  set_holds (Se10 s t i) = two_hold w (term_of p s) (term_of p t) _ (λ u v e f. se10_holds w u v i)
 
   entity_holds : (rule : EntityRule) → Holds w (entity_said p rule)
   entity_holds (En1 x y i) = two_hold w (term_of p x) (term_of p y) _ (λ t u e f. en1_holds w t u i (term_of p i))

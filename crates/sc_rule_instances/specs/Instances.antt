@@ -7,13 +7,13 @@ use Rattle.sc_footprint.specs.Problems.{Posed, term_of}
 use Rattle.sc_rule_instances.specs.declared.rule.EqualRule.{EqualRule}
 use Rattle.sc_rule_instances.specs.declared.rule.EqualRule.TheVariants.{Eq1, Eq2, Eq3, Eq4, Eq5, Eq6, Eq7, Eq8}
 use Rattle.sc_rule_instances.specs.declared.rule.SetRule.{SetRule}
-use Rattle.sc_rule_instances.specs.declared.rule.SetRule.TheVariants.{Se1, Se2, Se3, Se4, Se5, Se6, Se7, Se8}
+use Rattle.sc_rule_instances.specs.declared.rule.SetRule.TheVariants.{Se1, Se2, Se3, Se4, Se5, Se6, Se7, Se8, Se9, Se10}
 use Rattle.sc_rule_instances.specs.declared.rule.EntityRule.{EntityRule}
 use Rattle.sc_rule_instances.specs.declared.rule.EntityRule.TheVariants.{En1, En2, En3, En4, En5, En6, En7, En8}
 use Rattle.sc_rule_laws.specs.Signed.{Said}
 use Rattle.sc_rule_instances.specs.Clauses.{is_instance, said_clause}
 use Rattle.sc_rule_laws.specs.Equal.{eq1, eq2, eq3, eq4, eq5, eq6, eq7, eq8}
-use Rattle.sc_rule_laws.specs.Sets.{se1, se2, se3, se4, se5, se6, se7, se8}
+use Rattle.sc_rule_laws.specs.Sets.{se1, se2, se3, se4, se5, se6, se7, se8, se9, se10}
 use Rattle.sc_rule_laws.specs.Entities.{en1, en2, en3, en4, en5, en6, en7, en8}
 use Rattle.sc_rule_instances.specs.Names.{equal_rule, set_rule, entity_rule}
 
@@ -57,6 +57,8 @@ set_said p (Se5 s t i) = on_two (term_of p s) (term_of p t) (λ u v. se5 u v i)
 set_said p (Se6 s t i) = on_two (term_of p s) (term_of p t) (λ u v. se6 u v i)
 set_said p (Se7 s t x) = on_three (term_of p s) (term_of p t) (term_of p x) se7
 set_said p (Se8 s t i) = on_two (term_of p s) (term_of p t) (λ u v. se8 u v i)
+set_said p (Se9 s t i) = on_two (term_of p s) (term_of p t) (λ u v. se9 u v i)
+set_said p (Se10 s t i) = on_two (term_of p s) (term_of p t) (λ u v. se10 u v i)
 
 -- ---- entities
 

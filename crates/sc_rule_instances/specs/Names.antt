@@ -12,7 +12,7 @@ use Rattle.sc_rule_instances.specs.declared.words.Numbers.TheVariants.{One, Two,
 use Rattle.sc_rule_instances.specs.declared.rule.EqualRule.{EqualRule}
 use Rattle.sc_rule_instances.specs.declared.rule.EqualRule.TheVariants.{Eq1, Eq2, Eq3, Eq4, Eq5, Eq6, Eq7, Eq8}
 use Rattle.sc_rule_instances.specs.declared.rule.SetRule.{SetRule}
-use Rattle.sc_rule_instances.specs.declared.rule.SetRule.TheVariants.{Se1, Se2, Se3, Se4, Se5, Se6, Se7, Se8}
+use Rattle.sc_rule_instances.specs.declared.rule.SetRule.TheVariants.{Se1, Se2, Se3, Se4, Se5, Se6, Se7, Se8, Se9, Se10}
 use Rattle.sc_rule_instances.specs.declared.rule.EntityRule.{EntityRule}
 use Rattle.sc_rule_instances.specs.declared.rule.EntityRule.TheVariants.{En1, En2, En3, En4, En5, En6, En7, En8}
 
@@ -69,6 +69,8 @@ set_three rule a b c =
     else if is_named rule (codes "SE6") then Some (Se6 a b c)
     else if is_named rule (codes "SE7") then Some (Se7 a b c)
     else if is_named rule (codes "SE8") then Some (Se8 a b c)
+    else if is_named rule (codes "SE9") then Some (Se9 a b c)
+    else if is_named rule (codes "SE10") then Some (Se10 a b c)
     else None
 
 abbrev pub set_named : List ℕ → Numbers → Option SetRule
@@ -119,6 +121,9 @@ eq1_wants_three = refl
 
 pub se8_is_named : set_named (codes "SE8") (numbers_of (Number 4 ∷ Number 4 ∷ Number 2 ∷ [])) ≡ Some (Se8 4 4 2)
 se8_is_named = refl
+
+pub se10_is_named : set_named (codes "SE10") (numbers_of (Number 4 ∷ Number 5 ∷ Number 0 ∷ [])) ≡ Some (Se10 4 5 0)
+se10_is_named = refl
 
 pub en5_is_named : entity_named (codes "EN5") (numbers_of (Number 1 ∷ Number 2 ∷ Number 3 ∷ Number 9 ∷ []))
     ≡ Some (En5 1 2 3 9)

@@ -41,6 +41,10 @@ pub enum SetRule {
     Se7(u64, u64, u64),
     /// S, T, i: sets are equal just where each is a subset of the other.
     Se8(u64, u64, u64),
+    /// S, T, i: a set term is a subset just where each that stands there is a member.
+    Se9(u64, u64, u64),
+    /// S, T, i: a set term has a member in common just where one that stands there is a member.
+    Se10(u64, u64, u64),
 }
 
 /// An instance of a rule on what is stored of entities.

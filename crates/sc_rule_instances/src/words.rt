@@ -132,6 +132,10 @@ fn set_three(rule: &str, a: u64, b: u64, c: u64) -> Option<SetRule>
         Some(SetRule::Se7(a, b, c))
     } else if equals(rule, "SE8") {
         Some(SetRule::Se8(a, b, c))
+    } else if equals(rule, "SE9") {
+        Some(SetRule::Se9(a, b, c))
+    } else if equals(rule, "SE10") {
+        Some(SetRule::Se10(a, b, c))
     } else {
         None
     }

@@ -77,6 +77,8 @@ pub fn write_set(alloc: Global, rule: SetRule) -> Result<Instance, AllocError>
         SetRule::Se6(s, t, i) => numbered(alloc, "SE6", &[s, t, i]),
         SetRule::Se7(s, t, x) => numbered(alloc, "SE7", &[s, t, x]),
         SetRule::Se8(s, t, i) => numbered(alloc, "SE8", &[s, t, i]),
+        SetRule::Se9(s, t, i) => numbered(alloc, "SE9", &[s, t, i]),
+        SetRule::Se10(s, t, i) => numbered(alloc, "SE10", &[s, t, i]),
     }
 }
 

@@ -7,6 +7,8 @@ pub mod MemberTruths
 pub mod SortValues
 pub mod EqualSound
 pub mod SetSound
+pub mod WrittenSound
+pub mod WrittenTerms
 pub mod PlaceLaws
 pub mod PlaceSound
 pub mod EntitySound

@@ -11,7 +11,8 @@ use Rattle.sc_sorts.specs.Inside.{SortFields}
 use Rattle.sc_sorts.specs.declared.node.Literal.TheVariants as literal
 use Rattle.sc_sorts.specs.declared.node.UnaryOp.TheVariants as unary
 use Rattle.sc_sorts.specs.declared.node.BinaryOp.TheVariants as binary
-use Rattle.sc_terms.specs.Trees.{Tree, one, two, Trees, listed, Labelled}
+use Rattle.sc_sorts.specs.declared.node.ManyOp.TheVariants as manys
+use Rattle.sc_terms.specs.Trees.{Tree, one, two, many, Trees, listed, Labelled}
 use Rattle.sc_terms.specs.TreeSorts.{tree_sort}
 use Rattle.sc_terms.specs.Folds.{literal_term}
 use Rattle.sc_term_laws.specs.Tests as sort
@@ -78,6 +79,11 @@ shared s t = two binary.CommonPick s t
 -- the members of a set term, from left to right
 abbrev pub members : Trees → List Tree
 members ts = map (λ (x : Labelled). x.1) (listed ts)
+
+-- those of a set that is written as a set term
+abbrev pub written : Tree → Option (List Tree)
+written (many (manys.Set k) ts) = Some (members ts)
+written _ = None
 
 -- ---- entities
 

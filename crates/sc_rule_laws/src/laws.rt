@@ -6,7 +6,7 @@ ghost use Rattle.sc_world.specs.declared.world.World.{World as AnyWorld};
 ghost use Rattle.sc_terms.specs.Trees.{Tree};
 ghost use Rattle.sc_rule_laws.specs.Signed.{Holds};
 ghost use Rattle.sc_rule_laws.specs.Equal.{eq1, eq2, eq3, eq4, eq5, eq6, eq7, eq8};
-ghost use Rattle.sc_rule_laws.specs.Sets.{se1, se2, se3, se4, se5, se6, se7, se8};
+ghost use Rattle.sc_rule_laws.specs.Sets.{se1, se2, se3, se4, se5, se6, se7, se8, se9, se10};
 ghost use Rattle.sc_rule_laws.specs.Entities.{en1, en2, en3, en4, en5, en6, en7, en8};
 ghost use Rattle.sc_rule_laws.specs.Strings.{Pattern, Signs, AreFew, st1, st2, st3};
 ghost use Rattle.sc_rule_laws.specs.Laws.{InWorlds};
@@ -27,7 +27,8 @@ pub fn equal_laws()
 
 /// The rules of sets: members by value; a set term has just the members that stand there; subsets,
 /// common members, and the members that show that a set is no subset or has one in common; sets
-/// are equal just where each is a subset of the other.
+/// are equal just where each is a subset of the other; of a set term both that it is a subset and
+/// that it has a member in common are told by those that stand there.
 pub fn set_laws()
     ensures moved { (w : AnyWorld) (x y s : Tree) → Holds w (se1 x y s) }
     ensures among { InWorlds (λ d IsTerm w. (x s : Tree) → IsTerm x → IsTerm s → Holds w (se2 x s)) }
@@ -37,6 +38,8 @@ pub fn set_laws()
     ensures shared { (w : AnyWorld) (s t : Tree) (i : ℕ) → Holds w (se6 s t i) }
     ensures common { (w : AnyWorld) (s t x : Tree) → Holds w (se7 s t x) }
     ensures sets { InWorlds (λ d IsTerm w. (s t : Tree) (i : ℕ) → IsTerm s → IsTerm t → Holds w (se8 s t i)) }
+    ensures each { (w : AnyWorld) (s t : Tree) (i : ℕ) → Holds w (se9 s t i) }
+    ensures some { (w : AnyWorld) (s t : Tree) (i : ℕ) → Holds w (se10 s t i) }
 {}
 
 /// The rules of entities: equal ones have alike attributes, ancestors, keys and tags; ancestors are

@@ -15,7 +15,7 @@ use Rattle.sc_footprint.specs.Definitions.{defining, definition_clauses, address
 use Rattle.sc_footprint.specs.Problems.{Posed, IsPosed, AreClosed, atoms, closed_terms, goal_term, literal, literal_in, number_among, numbered, term_of}
 use Rattle.sc_rule_laws.specs.Signed.{Signed, Said}
 use Rattle.sc_rule_laws.specs.Equal.{eq1, eq2, eq3, eq4, eq5, eq6, eq7, eq8}
-use Rattle.sc_rule_laws.specs.Sets.{se1, se2, se3, se4, se5, se6, se7, se8}
+use Rattle.sc_rule_laws.specs.Sets.{se1, se2, se3, se4, se5, se6, se7, se8, se9, se10}
 use Rattle.sc_rule_laws.specs.Entities.{en1, en2, en3, en4, en5, en6, en7, en8}
 use Rattle.sc_rule_laws.specs.Strings.{Pattern, st1, st2, st3}
 use Rattle.sc_rule_instances.specs.Clauses.{clause_for, is_clause, is_instance, said_clause}
@@ -24,7 +24,7 @@ use Rattle.sc_rule_instances.specs.Names.{equal_rule, set_rule, entity_rule}
 use Rattle.sc_rule_instances.specs.declared.rule.EqualRule.{EqualRule}
 use Rattle.sc_rule_instances.specs.declared.rule.EqualRule.TheVariants.{Eq1, Eq2, Eq3, Eq4, Eq5, Eq6, Eq7, Eq8}
 use Rattle.sc_rule_instances.specs.declared.rule.SetRule.{SetRule}
-use Rattle.sc_rule_instances.specs.declared.rule.SetRule.TheVariants.{Se1, Se2, Se3, Se4, Se5, Se6, Se7, Se8}
+use Rattle.sc_rule_instances.specs.declared.rule.SetRule.TheVariants.{Se1, Se2, Se3, Se4, Se5, Se6, Se7, Se8, Se9, Se10}
 use Rattle.sc_rule_instances.specs.declared.rule.EntityRule.{EntityRule}
 use Rattle.sc_rule_instances.specs.declared.rule.EntityRule.TheVariants.{En1, En2, En3, En4, En5, En6, En7, En8}
 use Rattle.th_strings_instances.specs.Instances.{with_term, all_at, on_all, said_of, string_of, IsCrowded, IsInstanceOf}
@@ -89,6 +89,8 @@ module _ (p q : Posed) (schema : p.schema ≡ q.schema) (goal : goal_term p ≡ 
   set_same (Se6 s t k) = λ i. on_two (terms s i) (terms t i) (λ u v. se6 u v k)
   set_same (Se7 s t x) = λ i. on_three (terms s i) (terms t i) (terms x i) se7
   set_same (Se8 s t k) = λ i. on_two (terms s i) (terms t i) (λ u v. se8 u v k)
+  set_same (Se9 s t k) = λ i. on_two (terms s i) (terms t i) (λ u v. se9 u v k)
+  set_same (Se10 s t k) = λ i. on_two (terms s i) (terms t i) (λ u v. se10 u v k)
 
   entity_same : (rule : EntityRule) → entity_said p rule ≡ entity_said q rule
   entity_same (En1 x y k) = λ i. on_two (terms x i) (terms y i) (λ t u. en1 t u k (terms k i))

@@ -10,7 +10,7 @@ use Rattle.sc_rule_instances.specs.Names.{is_named, numbers_of, equal_named, set
 use Rattle.sc_rule_instances.specs.declared.rule.EqualRule.{EqualRule}
 use Rattle.sc_rule_instances.specs.declared.rule.EqualRule.TheVariants.{Eq1, Eq2, Eq3, Eq4, Eq5, Eq6, Eq7, Eq8}
 use Rattle.sc_rule_instances.specs.declared.rule.SetRule.{SetRule}
-use Rattle.sc_rule_instances.specs.declared.rule.SetRule.TheVariants.{Se1, Se2, Se3, Se4, Se5, Se6, Se7, Se8}
+use Rattle.sc_rule_instances.specs.declared.rule.SetRule.TheVariants.{Se1, Se2, Se3, Se4, Se5, Se6, Se7, Se8, Se9, Se10}
 use Rattle.sc_rule_instances.specs.declared.rule.EntityRule.{EntityRule}
 use Rattle.sc_rule_instances.specs.declared.rule.EntityRule.TheVariants.{En1, En2, En3, En4, En5, En6, En7, En8}
 use Rattle.sc_clauses.specs.declared.step.Word.{Word}
@@ -75,7 +75,9 @@ module _ (rule : List ℕ) where
       named rule Set r (codes "SE5") refl (Se5 a b c) _ e (λ e.
       named rule Set r (codes "SE6") refl (Se6 a b c) _ e (λ e.
       named rule Set r (codes "SE7") refl (Se7 a b c) _ e (λ e.
-      named rule Set r (codes "SE8") refl (Se8 a b c) None e (λ f. absurd cc)))))))
+      named rule Set r (codes "SE8") refl (Se8 a b c) _ e (λ e.
+      named rule Set r (codes "SE9") refl (Se9 a b c) _ e (λ e.
+      named rule Set r (codes "SE10") refl (Se10 a b c) None e (λ f. absurd cc)))))))))
   set_letters r (Number a ∷ Number b ∷ Number c ∷ Signed v ∷ ws) e = absurd cc
   set_letters r (Number a ∷ Number b ∷ Number c ∷ Number d ∷ []) e = absurd cc
   set_letters r (Number a ∷ Number b ∷ Number c ∷ Number d ∷ w ∷ ws) e = absurd cc

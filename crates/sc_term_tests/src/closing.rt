@@ -138,8 +138,8 @@ fn closed(rt: HostRuntime) -> Result<(), Fail> {
     assert!(rt; has(alloc, Asked::Flag, 146, 70));
     // whether the other text matches the pattern
     assert!(rt; has(alloc, Asked::Like, 148, 72));
-    // whether the other set holds the text
-    assert!(rt; has(alloc, Asked::Member, 148, 72));
+    // whether the set holds the text; the other set isn't asked
+    assert!(rt; has(alloc, Asked::Member, 147, 71));
     // a member of the one set that the other lacks, whether it is in each, and whether it is each text
     assert!(rt; has(alloc, Asked::Subset, 152, 75));
     // whether the principal is above itself

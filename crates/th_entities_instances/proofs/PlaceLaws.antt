@@ -1,6 +1,5 @@
--- What two terms are places of, as their numbers in the table tell it.
-use Rattle.std.proofs.Common.{◌≡◌, ◌<◌, ◌∙◌, ℕ, Bool, true, false, cond, List, [], ◌∷◌, length, Option, Some, None, refl, sym, ap, subst}
-use Rattle.sc_laws.proofs.OptionLaws.{same_some}
+-- The attributes or the tags that two terms are places of, as their numbers in the table tell it.
+use Rattle.std.proofs.Common.{◌≡◌, ◌<◌, ◌∙◌, ℕ, Bool, true, false, cond, [], ◌∷◌, length, Option, Some, None, refl, sym, ap, subst}
 use Rattle.sc_sorts.specs.contracts.sort.SortPartialEq.TheImpl.{ghosts as sorts}
 use Rattle.sc_sorts.specs.declared.node.Node.{Node}
 use Rattle.sc_sorts.specs.declared.node.Node.TheVariants as node
@@ -11,84 +10,13 @@ use Rattle.sc_terms.specs.Tables.{tree, node_tree, PartsAreBelow}
 use Rattle.sc_terms.specs.Folds.{literal_of}
 use Rattle.sc_footprint.specs.Problems.{Posed}
 use Rattle.sc_rule_laws.specs.Entities.{en1_of, en3_of}
-use Rattle.sc_rule_laws.specs.Places.{roots, same_step, under}
+use Rattle.sc_rule_laws.specs.Places.{roots, under}
 use Rattle.sc_rule_laws.specs.Signed.{Said}
+use Rattle.sc_closure_rules.specs.Linking.{AreRoots}
 use Rattle.th_entities_instances.specs.Alike.{IsNoLiteral}
-use Rattle.th_entities_instances.specs.Roots.{AreEntitiesIf, AreRoots, AreTagsIf, IsPairIn, attributes_pair, node_step, tag_pairs, pair_on, tags_on, unless_equal}
+use Rattle.th_entities_instances.specs.Roots.{AreEntitiesIf, AreTagsIf, IsPairIn, attributes_pair, tag_pairs, pair_on, tags_on, unless_equal}
 use Rattle.th_entities_instances.specs.declared.places.Pair.{Pair}
 use Rattle.th_entities_instances.specs.declared.places.TagPairs.{TagPairs}
-
--- ---- one step
-
--- two nodes are one step into these parts, or none
-abbrev AreStepped : List Node → Node → Node → Option (ℕ × ℕ) → Type 0
-AreStepped xs m n (Some (a, b)) = roots (node_tree xs m) (node_tree xs n) ≡ roots (tree xs a) (tree xs b)
-AreStepped xs m n None = roots (node_tree xs m) (node_tree xs n) ≡ (node_tree xs m, node_tree xs n)
-
-abbrev root_by : Bool → Tree → Tree → Tree → Tree → Tree × Tree
-root_by t a b x y = cond t (roots a b) (x, y)
-
-stepped : (xs : List Node) (m n : Node) → AreStepped xs m n (node_step m n)
-unfolding roots
-stepped xs (node.One o a) (node.One q b) = by (same_step o q) refl
-  where
-    by : (t : Bool) → same_step o q ≡ t → AreStepped xs (node.One o a) (node.One q b) (cond t (Some (a, b)) None)
-    by true e = ap (λ (c : Bool). root_by c (tree xs a) (tree xs b) (one o (tree xs a)) (one q (tree xs b))) e
-    by false e = ap (λ (c : Bool). root_by c (tree xs a) (tree xs b) (one o (tree xs a)) (one q (tree xs b))) e
-stepped xs (node.One o a) (node.Leaf l) = refl
-stepped xs (node.One o a) (node.Two q b c) = refl
-stepped xs (node.One o a) (node.Choice c b d) = refl
-stepped xs (node.One o a) (node.Many q ps) = refl
-stepped xs (node.Leaf l) n = refl
-stepped xs (node.Two o a b) n = refl
-stepped xs (node.Choice c a b) n = refl
-stepped xs (node.Many o ps) n = refl
-
--- the parts of one step are below
-parts_below : (k l : ℕ) (m n : Node) (a b : ℕ) → PartsAreBelow k m → PartsAreBelow l n → node_step m n ≡ Some (a, b) → (a < k) × (b < l)
-parts_below k l (node.One o c) (node.One q d) a b h g = by (same_step o q)
-  where
-    pair_left : ◌≡◌ {A = Option (ℕ × ℕ)} (Some (c, d)) (Some (a, b)) → (c ≡ a) × (d ≡ b)
-    pair_left e = let same = same_some e in (ap (λ (x : ℕ × ℕ). x.0) same, ap (λ (x : ℕ × ℕ). x.1) same)
-
-    by : (t : Bool) → cond {A = Option (ℕ × ℕ)} t (Some (c, d)) None ≡ Some (a, b) → (a < k) × (b < l)
-    by true e = let same = pair_left e in (subst (λ (i : ℕ). i < k) same.0 h, subst (λ (i : ℕ). i < l) same.1 g)
-    by false e = absurd cc
-parts_below k l (node.One o c) _ a b h g = λ e. absurd cc
-parts_below k l _ n a b h g = λ e. absurd cc
-
-module _ (xs : List Node) (x y : ℕ) where
-  -- so far two terms are got by the same steps of these
-  pub record AreReached (a b : ℕ) : Type 0 where
-    pub first_in : a < length xs
-    pub second_in : b < length xs
-    pub same : roots (tree xs x) (tree xs y) ≡ roots (tree xs a) (tree xs b)
-
-  pub reached_first : x < length xs → y < length xs → AreReached x y
-  reached_first h g = record { first_in = h; second_in = g; same = refl }
-
-  at_nodes : (a b : ℕ) (m n : Node) → tree xs a ≡ node_tree xs m → tree xs b ≡ node_tree xs n → roots (tree xs a) (tree xs b) ≡ roots (node_tree xs m) (node_tree xs n)
-  at_nodes a b m n e f = λ i. roots (e i) (f i)
-
-  pub reached_next : (a b c d : ℕ) (m n : Node) → AreReached a b → tree xs a ≡ node_tree xs m → tree xs b ≡ node_tree xs n → PartsAreBelow (length xs) m → PartsAreBelow (length xs) n → node_step m n ≡ Some (c, d) → AreReached c d
-  reached_next a b c d m n so_far e f h g is =
-      let below = parts_below (length xs) (length xs) m n c d h g is in
-      record {
-        first_in = below.0;
-        second_in = below.1;
-        same = so_far.same ∙ at_nodes a b m n e f ∙ subst (AreStepped xs m n) is (stepped xs m n);
-      }
-
-  pub reached_last : (a b : ℕ) (m n : Node) → AreReached a b → tree xs a ≡ node_tree xs m → tree xs b ≡ node_tree xs n → node_step m n ≡ None → AreRoots xs x y a b
-  reached_last a b m n so_far e f is = record {
-    first_in = so_far.first_in;
-    second_in = so_far.second_in;
-    are = so_far.same ∙ at_nodes a b m n e f ∙ subst (AreStepped xs m n) is (stepped xs m n) ∙ (λ i. (sym e i, sym f i));
-  }
-
--- the first number falls
-pub less_first : (k l a b : ℕ) (m n : Node) → PartsAreBelow k m → PartsAreBelow l n → node_step m n ≡ Some (a, b) → a < k
-less_first k l a b m n h g is = (parts_below k l m n a b h g is).0
 
 -- ---- what is a place of attributes or tags is no literal
 

@@ -1,5 +1,5 @@
--- What two terms are places of, by their numbers in the table.
-use Rattle.std.specs.Prelude.{◌≡◌, ◌<◌, ℕ, true, List, [], ◌∷◌, length, Option, Some, None, if◌then◌else◌}
+-- The attributes or the tags that two terms are places of, by their numbers in the table.
+use Rattle.std.specs.Prelude.{◌≡◌, ◌<◌, ℕ, true, [], ◌∷◌, length, Option, Some, None, if◌then◌else◌}
 use Rattle.sc_sorts.specs.contracts.sort.SortPartialEq.TheImpl.{ghosts as sorts}
 use Rattle.sc_sorts.specs.declared.node.Node.{Node}
 use Rattle.sc_sorts.specs.declared.node.Node.TheVariants as node
@@ -8,23 +8,12 @@ use Rattle.sc_sorts.specs.declared.node.BinaryOp.TheVariants as binary
 use Rattle.sc_terms.specs.Tables.{tree}
 use Rattle.sc_terms.specs.Folds.{equal_term}
 use Rattle.sc_footprint.specs.Problems.{Posed}
-use Rattle.sc_rule_laws.specs.Places.{roots, same_step, under}
+use Rattle.sc_rule_laws.specs.Places.{roots, under}
 use Rattle.sc_rule_laws.specs.Entities.{en1_of, en3_of}
 use Rattle.sc_rule_laws.specs.Signed.{Signed, Said, unless}
 use Rattle.th_entities_instances.specs.Alike.{IsNoLiteral}
 use Rattle.th_entities_instances.specs.declared.places.Pair.{Pair}
 use Rattle.th_entities_instances.specs.declared.places.TagPairs.{TagPairs}
-
--- the parts of two nodes that are one step
-abbrev pub node_step : Node → Node → Option (ℕ × ℕ)
-node_step (node.One o a) (node.One q b) = if same_step o q then Some (a, b) else None
-node_step _ _ = None
-
--- these are what two terms are places of, as far as they are got by the same steps
-pub record AreRoots (xs : List Node) (x y a b : ℕ) : Type 0 where
-  pub first_in : a < length xs
-  pub second_in : b < length xs
-  pub are : roots (tree xs x) (tree xs y) ≡ (tree xs a, tree xs b)
 
 abbrev pub pair_on : ℕ → ℕ → Pair
 pair_on e f = record { first = e; second = f }

@@ -1,7 +1,7 @@
 //! What terms are places of: the attributes of two entities, or the tags of two entities under two keys.
 ghost use Rattle.std.specs.Prelude.{◌≡◌, ◌<◌, Some, None, length, if◌then◌else◌};
-ghost use Rattle.sc_rule_laws.specs.Places.{same_step};
-ghost use Rattle.th_entities_instances.specs.Roots.{AreEntitiesIf, AreRoots, AreTagsIf, attributes_pair, node_step, pair_on, tag_pairs, tags_on};
+ghost use Rattle.sc_closure_rules.specs.Linking.{AreRoots};
+ghost use Rattle.th_entities_instances.specs.Roots.{AreEntitiesIf, AreTagsIf, attributes_pair, pair_on, tag_pairs, tags_on};
 
 use sc_footprint::Problem;
 use sc_sorts::{BinaryOp, Node, UnaryOp};
@@ -20,54 +20,13 @@ pub(crate) struct TagPairs {
     pub(crate) keys: Pair,
 }
 
-/// Whether two operators are one step: into the field of a name, or into what an option holds.
-fn is_same_step(o: &UnaryOp, q: &UnaryOp) -> bool
-    ensures { result ≡ same_step o.now q.now }
-{
-    match o {
-        UnaryOp::Field(m) => match q {
-            UnaryOp::Field(n) => m.as_str() == n.as_str(),
-            _ => false,
-        },
-        UnaryOp::Held => matches!(q, UnaryOp::Held),
-        _ => false,
-    }
-}
-
-/// The parts of two nodes that are one step.
-fn step_of(x: &Node, y: &Node) -> Option<(u64, u64)>
-    ensures { result ≡ node_step x.now y.now }
-{
-    match x {
-        Node::One(o, a) => match y {
-            Node::One(q, b) => {
-                if is_same_step(o, q) {
-                    Some((*a, *b))
-                } else {
-                    None
-                }
-            }
-            _ => None,
-        },
-        _ => None,
-    }
-}
-
 /// What two terms are places of, as far as they are got by the same steps.
-#[tactic(auto, using(crate::proofs::PlaceLaws::reached_first, crate::proofs::PlaceLaws::reached_next, crate::proofs::PlaceLaws::reached_last, crate::proofs::PlaceLaws::less_first))]
 pub fn roots(problem: &Problem<'_>, x: u64, y: u64) -> (u64, u64)
     requires x { x < length problem.now.nodes }
     requires y { y < length problem.now.nodes }
     ensures { AreRoots problem.now.nodes x y result.0 result.1 }
 {
-    let terms = problem.terms();
-    let mut first = x;
-    let mut second = y;
-    while let Some((a, b)) = step_of(terms.node(first), terms.node(second)) {
-        first = a;
-        second = b;
-    }
-    (first, second)
+    sc_closure_rules::roots(problem.terms(), x, y)
 }
 
 fn pair_if(test: bool, first: u64, second: u64) -> Option<Pair>

@@ -2,6 +2,7 @@ mod RowLaws
 mod NumberLaws
 mod FalseLaws
 mod FreeLaws
+mod ToldLaws
 mod NameLaws
 mod MoveLaws
 mod WholeLaws

@@ -1,5 +1,6 @@
 -- The literals of instances, one by one, are those of what they say.
-use Rattle.std.proofs.Common.{◌≡◌, ◌==◌, ◌&&◌, ◌+◌, ◌-◌, ◌<◌, ◌≤◌, ℕ, zero, suc, Bool, true, false, cond, List, [], ◌∷◌, map, length, get_or, slice_get, Option, Some, None, option_map, refl, sym, ap, ◌∙◌, subst, arith, if◌then◌else◌}
+use Rattle.std.proofs.Common.{◌≡◌, ◌==◌, ◌&&◌, ◌+◌, ◌-◌, ◌<◌, ◌≤◌, ℕ, zero, suc, nat_lt, Bool, true, false, not, cond, List, [], ◌∷◌, map, length, get_or, slice_get, Option, Some, None, option_map, refl, sym, ap, ◌∙◌, subst, arith, if◌then◌else◌}
+use Rattle.std.specs.Option.{option_or}
 use Rattle.std.proofs.lemmas.Bool.Decides.{nat_tests}
 use Rattle.std.proofs.lemmas.Option.{slice_get_past, slice_get-get_or}
 use Rattle.sc_clauses.specs.declared.lit.Lit.{Lit}
@@ -13,17 +14,17 @@ use Rattle.sc_terms.specs.Trees.{Tree, leaf, one, two, choice, many, Trees}
 use Rattle.sc_terms.specs.TreeSorts.{tree_sort}
 use Rattle.sc_terms.specs.Folds.{equal_term}
 use Rattle.sc_terms.specs.Tables.{tree, node_tree, node_parts, Places}
-use Rattle.sc_footprint.specs.Problems.{Posed, numbered}
+use Rattle.sc_footprint.specs.Problems.{Posed, numbered, literal_in}
 use Rattle.sc_rule_laws.specs.Signed.{Signed, Said, so, unless, given}
-use Rattle.sc_rule_laws.specs.Sets.{se1, se2, se3, se3_of, se4, se5, se6, se7, se8}
-use Rattle.sc_rule_laws.specs.Terms.{is_set, member, subset, members}
+use Rattle.sc_rule_laws.specs.Sets.{se1, se2, se3, se3_of, se4, se5, se6, se7, se8, se9_at, se9_of, se9, se10_at, se10_of, se10}
+use Rattle.sc_rule_laws.specs.Terms.{is_set, member, subset, common, members, written}
 use Rattle.sc_rule_instances.specs.Clauses.{literal_for, said_clause}
 use Rattle.sc_rule_instances.specs.Instances.{on_two, on_three, set_said, said_by}
 use Rattle.sc_rule_instances.specs.Lookups.{IsMembers}
 use Rattle.sc_rule_instances.specs.Saying.{count_of, literal_of}
 use Rattle.sc_rule_instances.specs.declared.rule.SetRule.{SetRule}
-use Rattle.sc_rule_instances.specs.declared.rule.SetRule.TheVariants.{Se1, Se2, Se3, Se4, Se5, Se6, Se7, Se8}
-use Rattle.th_sets.specs.Rows.{two_of, three_of, placed, placed_said, is_set_node, is_set_over, equal_if, equal_at, side_count, row_count, of_two, of_three, listed_row, standing_row, row_literal, equal_lit, subset_lit, both_row}
+use Rattle.sc_rule_instances.specs.declared.rule.SetRule.TheVariants.{Se1, Se2, Se3, Se4, Se5, Se6, Se7, Se8, Se9, Se10}
+use Rattle.th_sets.specs.Rows.{two_of, three_of, placed, placed_said, is_set_node, is_set_over, equal_if, equal_at, side_count, row_count, told_count, told_of, member_if, member_at, of_two, of_three, listed_row, standing_row, told_one, told_all, told_row, row_literal, equal_lit, subset_lit, both_row}
 
 -- ---- set terms
 
@@ -159,6 +160,182 @@ standing_told p x set ps i place h less =
     let is = standing_is (tree p.nodes x) p.nodes (tree p.nodes set) ps i h (get_or ps i ([], 0)) here in
     rw here (places_two _ _ place) ∙ sym (ap (λ (said : Said). literal_of p said place) is)
 
+-- ---- SE9 and SE10: what is told by those that stand in a set term
+
+pub member_past : (p : Posed) (sign : Bool) (q : ℕ) (ps : Places) (k : ℕ) → length ps ≤ k → positive 0 ≡ member_at p sign q ps k
+member_past p sign q ps k past = sym (ap (member_if p sign q) (slice_get_past ps k past))
+
+written_is : (xs : List Node) (t : Tree) (ps : Places) → IsMembers xs t (Some ps) → written t ≡ Some (members (node_parts xs ps))
+written_is xs t ps (k, is, below) = ap written is
+
+pub not_written : (xs : List Node) (t : Tree) → IsMembers xs t None → written t ≡ None
+not_written xs (leaf l) h = refl
+not_written xs (one o a) h = refl
+not_written xs (two o a b) h = refl
+not_written xs (choice c a b) h = refl
+not_written xs (many (manys.Set k) ts) h = absurd (h k ts refl)
+not_written xs (many manys.Record ts) h = refl
+
+-- a term is so just where each of some is a member of a set, or, where the sign is false, isn't so just where none is
+abbrev of_all : Bool → Tree → List Tree → Tree → List Signed
+of_all sign c us v = (sign, c) ∷ map (λ (u : Tree). (not sign, member u v)) us
+
+abbrev told_said : Bool → Tree → List Tree → Tree → ℕ → Option Tree → Said
+told_said sign c us v i (Some u) = Some ((not sign, c) ∷ (sign, member u v) ∷ [])
+told_said sign c us v i None = given (i == length us) (of_all sign c us v)
+
+within_said : (s t : Tree) (us : List Tree) (i : ℕ) (o : Option Tree) → se9_at s t us i o ≡ told_said true (subset s t) us t i o
+within_said s t us i (Some u) = refl
+within_said s t us i None = refl
+
+shared_said : (c : Tree) (us : List Tree) (v : Tree) (i : ℕ) (o : Option Tree) → se10_at c us v i o ≡ told_said false c us v i o
+shared_said c us v i (Some u) = refl
+shared_said c us v i None = refl
+
+signed_length : (sign : Bool) (v : Tree) (us : List Tree) → length {A = Signed} (map (λ (u : Tree). (sign, member u v)) us) ≡ length us
+signed_length sign v [] = refl
+signed_length sign v (u ∷ us) = ap suc (signed_length sign v us)
+
+told_counted : (sign : Bool) (c v : Tree) (us : List Tree) (i : ℕ) → told_count (length us) i ≡ count_of (told_said sign c us v i (slice_get us i))
+told_counted sign c v us i = by (nat_lt i (length us)) (i == length us) refl refl
+  where
+    by : (a b : Bool) → nat_lt i (length us) ≡ a → (i == length us) ≡ b
+        → (if a then Some 2 else if b then Some (length us + 1) else None) ≡ count_of (told_said sign c us v i (slice_get us i))
+    by true b e f =
+        let less : i < length us = grind (arith, nat_tests) in
+        sym (ap (λ (o : Option Tree). count_of (told_said sign c us v i o)) (slice_get-get_or us i c less))
+    by false true e f =
+        let same : i ≡ length us = grind (arith, nat_tests) in
+        let all : length us + 1 ≡ length (of_all sign c us v) = let l = signed_length (not sign) v us in omega (arith, l) in
+        ap Some all
+        ∙ sym (ap (λ (o : Option Tree). count_of (told_said sign c us v i o)) (slice_get_past us i (omega (arith, same))) ∙ ap (λ (t : Bool). count_of (given t (of_all sign c us v))) f)
+    by false false e f =
+        let far : length us ≤ i = grind (arith, nat_tests) in
+        sym (ap (λ (o : Option Tree). count_of (told_said sign c us v i o)) (slice_get_past us i far) ∙ ap (λ (t : Bool). count_of (given t (of_all sign c us v))) f)
+
+pub within_counted : (s t : Tree) (i : ℕ) → told_of (written s) i ≡ count_of (se9 s t i)
+within_counted s t i = by (written s)
+  where
+    by : (o : Option (List Tree)) → told_of o i ≡ count_of (se9_of o s t i)
+    by (Some us) = told_counted true (subset s t) t us i ∙ sym (ap count_of (within_said s t us i (slice_get us i)))
+    by None = refl
+
+pub common_counted : (s t : Tree) (i : ℕ) → told_of (option_or (written s) (written t)) i ≡ count_of (se10 s t i)
+common_counted s t i = by (written s) (written t)
+  where
+    of : (us : List Tree) (v : Tree) → told_count (length us) i ≡ count_of (se10_at (common s t) us v i (slice_get us i))
+    of us v = told_counted false (common s t) v us i ∙ sym (ap count_of (shared_said (common s t) us v i (slice_get us i)))
+
+    by : (o q : Option (List Tree)) → told_of (option_or o q) i ≡ count_of (se10_of o q s t i)
+    by (Some us) q = of us t
+    by None (Some us) = of us s
+    by None None = refl
+
+-- by the numbers of the parts
+module _ (xs : List Node) (t : Tree) (i : ℕ) where
+  pub told_written : (ps : Places) (q : Option (List Tree)) → IsMembers xs t (Some ps) → told_count (length ps) i ≡ told_of (option_or (written t) q) i
+  told_written ps q h = ap (λ (n : ℕ). told_count n i) (sym (members_length xs ps)) ∙ sym (ap (λ (o : Option (List Tree)). told_of (option_or o q) i) (written_is xs t ps h))
+
+  pub told_plain : (q : Option (List Tree)) → IsMembers xs t None → told_of q i ≡ told_of (option_or (written t) q) i
+  told_plain q h = sym (ap (λ (o : Option (List Tree)). told_of (option_or o q) i) (not_written xs t h))
+
+  pub told_alone : (ps : Places) → IsMembers xs t (Some ps) → told_count (length ps) i ≡ told_of (written t) i
+  told_alone ps h = ap (λ (n : ℕ). told_count n i) (sym (members_length xs ps)) ∙ sym (ap (λ (o : Option (List Tree)). told_of o i) (written_is xs t ps h))
+
+  pub none_alone : IsMembers xs t None → None ≡ told_of (written t) i
+  none_alone h = sym (ap (λ (o : Option (List Tree)). told_of o i) (not_written xs t h))
+
+signed_members : (p : Posed) (sign : Bool) (q : ℕ) (ps : Places) (k : ℕ) → member_at p sign q ps k
+    ≡ get_or (map (literal_for p) (map (λ (u : Tree). (sign, member u (tree p.nodes q))) (members (node_parts p.nodes ps)))) k (positive 0)
+signed_members p sign q [] k = refl
+signed_members p sign q (r ∷ ps) zero = refl
+signed_members p sign q (r ∷ ps) (suc k) = signed_members p sign q ps k
+
+module _ (p : Posed) (sign : Bool) (c : Tree) (q : ℕ) (ps : Places) where
+  abbrev stands : List Tree
+  stands = members (node_parts p.nodes ps)
+
+  abbrev told_at : ℕ → Option Tree → Said
+  told_at i o = told_said sign c stands (tree p.nodes q) i o
+
+  abbrev all_signed : List Signed
+  all_signed = of_all sign c stands (tree p.nodes q)
+
+  within_at : (i : ℕ) → i < length ps → slice_get stands i ≡ Some (tree p.nodes (get_or ps i ([], 0)).1)
+  within_at i less = members_at p.nodes ps i ∙ ap (option_map (λ (r : List ℕ × ℕ). tree p.nodes r.1)) (slice_get-get_or ps i ([], 0) less)
+
+  past_at : (i : ℕ) → length ps ≤ i → slice_get stands i ≡ None
+  past_at i far = let e = members_length p.nodes ps in slice_get_past stands i (omega (arith, e, far))
+
+  told_told : (i place : ℕ) → told_row p sign (literal_in p c) q ps i place ≡ literal_of p (told_at i (slice_get stands i)) place
+  unfolding said_clause
+  told_told i place = by (nat_lt i (length ps)) (i == length ps) refl refl
+    where
+      all_told : (k : ℕ) → told_all p sign (literal_in p c) q ps k ≡ literal_of p (Some all_signed) k
+      all_told zero = refl
+      all_told (suc k) =
+          let later : (suc k == 0) ≡ false = grind (arith, nat_tests) in
+          let back : suc k - 1 ≡ k = omega arith in
+          rw (later, back) (signed_members p (not sign) q ps k)
+
+      by : (a b : Bool) → nat_lt i (length ps) ≡ a → (i == length ps) ≡ b
+          → (if a then told_one p sign (literal_in p c) q ps i place else if b then told_all p sign (literal_in p c) q ps place else positive 0)
+          ≡ literal_of p (told_at i (slice_get stands i)) place
+      by true b e f =
+          let less : i < length ps = grind (arith, nat_tests) in
+          rw (slice_get-get_or ps i ([], 0) less) (places_two _ _ place) ∙ sym (ap (λ (o : Option Tree). literal_of p (told_at i o) place) (within_at i less))
+      by false true e f =
+          let same : i ≡ length ps = grind (arith, nat_tests) in
+          let n = members_length p.nodes ps in
+          let here : (i == length stands) ≡ true = rw n f in
+          all_told place ∙ sym (ap (λ (o : Option Tree). literal_of p (told_at i o) place) (past_at i (omega (arith, same))) ∙ ap (λ (t : Bool). literal_of p (given t all_signed) place) here)
+      by false false e f =
+          let far : length ps ≤ i = grind (arith, nat_tests) in
+          let n = members_length p.nodes ps in
+          let here : (i == length stands) ≡ false = rw n f in
+          sym (ap (λ (o : Option Tree). literal_of p (told_at i o) place) (past_at i far) ∙ ap (λ (t : Bool). literal_of p (given t all_signed) place) here)
+
+-- of two sets, by those that stand in the one
+module _ (p : Posed) (s t : ℕ) (ps : Places) (i : ℕ) where
+  abbrev first : Tree
+  first = tree p.nodes s
+
+  abbrev later : Tree
+  later = tree p.nodes t
+
+  abbrev standing_in : List Tree
+  standing_in = members (node_parts p.nodes ps)
+
+  within_is : IsMembers p.nodes first (Some ps) → se9 first later i ≡ told_said true (subset first later) standing_in later i (slice_get standing_in i)
+  within_is h =
+      ap (λ (o : Option (List Tree)). se9_of o first later i) (written_is p.nodes first ps h) ∙ within_said first later standing_in i (slice_get standing_in i)
+
+  common_is : IsMembers p.nodes first (Some ps) → se10 first later i ≡ told_said false (common first later) standing_in later i (slice_get standing_in i)
+  common_is h =
+      ap (λ (o : Option (List Tree)). se10_of o (written later) first later i) (written_is p.nodes first ps h)
+      ∙ shared_said (common first later) standing_in later i (slice_get standing_in i)
+
+  turned_is : written first ≡ None → IsMembers p.nodes later (Some ps) → se10 first later i ≡ told_said false (common first later) standing_in first i (slice_get standing_in i)
+  turned_is plain h =
+      (λ j. se10_of (plain j) (written_is p.nodes later ps h j) first later i) ∙ shared_said (common first later) standing_in first i (slice_get standing_in i)
+
+  pub within_told : (place : ℕ) → IsMembers p.nodes first (Some ps) → told_row p true (literal_in p (subset first later)) t ps i place ≡ literal_of p (se9 first later i) place
+  within_told place h = told_told p true (subset first later) t ps i place ∙ sym (ap (λ (said : Said). literal_of p said place) (within_is h))
+
+  pub common_told : (place : ℕ) → IsMembers p.nodes first (Some ps) → told_row p false (literal_in p (common first later)) t ps i place ≡ literal_of p (se10 first later i) place
+  common_told place h = told_told p false (common first later) t ps i place ∙ sym (ap (λ (said : Said). literal_of p said place) (common_is h))
+
+  pub turned_told : (place : ℕ) → written first ≡ None → IsMembers p.nodes later (Some ps)
+      → told_row p false (literal_in p (common first later)) s ps i place ≡ literal_of p (se10 first later i) place
+  turned_told place plain h = told_told p false (common first later) s ps i place ∙ sym (ap (λ (said : Said). literal_of p said place) (turned_is plain h))
+
+-- and none where no set is written
+pub no_within : (xs : List Node) (s t : Tree) (i : ℕ) → IsMembers xs s None → se9 s t i ≡ None
+no_within xs s t i h = ap (λ (o : Option (List Tree)). se9_of o s t i) (not_written xs s h)
+
+pub no_common : (xs : List Node) (s t : Tree) (i : ℕ) → written s ≡ None → IsMembers xs t None → se10 s t i ≡ None
+no_common xs s t i plain h = λ j. se10_of (plain j) (not_written xs t h j) s t i
+
 -- ---- nothing is said
 
 pub nothing_counted : (said : Said) → said ≡ None → None ≡ count_of said
@@ -205,6 +382,8 @@ module _ (p : Posed) where
   row_counted (Se6 s t i) = sides_counted _ _ (se6 (at s) (at t)) i refl refl refl refl (λ k. refl)
   row_counted (Se7 s t x) = refl
   row_counted (Se8 s t i) = equal_counted s t i
+  row_counted (Se9 s t i) = within_counted (at s) (at t) i
+  row_counted (Se10 s t i) = common_counted (at s) (at t) i
 
   sides_told : (a b c d : Signed) (said : ℕ → Said) (i place : ℕ) → said 0 ≡ Some (a ∷ b ∷ []) → said 1 ≡ Some (c ∷ d ∷ []) → ((k : ℕ) → said (suc (suc k)) ≡ None)
       → (if i == 0 then of_two (literal_for p a) (literal_for p b) place else if i == 1 then of_two (literal_for p c) (literal_for p d) place else positive 0) ≡ literal_of p (said i) place
@@ -245,6 +424,8 @@ module _ (p : Posed) where
   row_told (Se6 s t i) place = sides_told _ _ _ _ (se6 (at s) (at t)) i place refl refl (λ k. refl)
   row_told (Se7 s t x) place = places_three _ _ _ place
   row_told (Se8 s t i) place = equal_told s t i place
+  row_told (Se9 s t i) place = refl
+  row_told (Se10 s t i) place = refl
 
   -- ---- by the numbers of closed terms
 
@@ -273,6 +454,8 @@ module _ (p : Posed) where
   placed_is (Se6 s t i) = two_is (number s) (number t) (λ u v. se6 u v i) (λ a b. Se6 a b i) (λ a b. refl)
   placed_is (Se7 s t x) = three_is (number s) (number t) (number x) se7 (λ a b c. Se7 a b c) (λ a b c. refl)
   placed_is (Se8 s t i) = two_is (number s) (number t) (λ u v. se8 u v i) (λ a b. Se8 a b i) (λ a b. refl)
+  placed_is (Se9 s t i) = two_is (number s) (number t) (λ u v. se9 u v i) (λ a b. Se9 a b i) (λ a b. refl)
+  placed_is (Se10 s t i) = two_is (number s) (number t) (λ u v. se10 u v i) (λ a b. Se10 a b i) (λ a b. refl)
 
   said_at : (rule placed_rule : SetRule) → placed p rule ≡ Some placed_rule → set_said p rule ≡ placed_said p placed_rule
   said_at rule placed_rule e = placed_is rule ∙ ap (said_by (placed_said p)) e

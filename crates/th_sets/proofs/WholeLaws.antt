@@ -1,5 +1,5 @@
--- Each falsified instance of SE2 to SE8 is named by a closed term, so none is where all that closed terms name are free.
-use Rattle.std.proofs.Common.{◌≡◌, ◌&&◌, ℕ, zero, suc, Bool, true, false, List, [], ◌∷◌, map, Option, Some, None, refl, ap, ◌∙◌, subst}
+-- Each falsified instance of SE2 to SE10 is named by a closed term, so none is where all that closed terms name are free.
+use Rattle.std.proofs.Common.{◌≡◌, ◌==◌, ◌&&◌, ℕ, zero, suc, Bool, true, false, List, [], ◌∷◌, map, length, slice_get, Option, Some, None, refl, ap, ◌∙◌, subst}
 use Rattle.std.proofs.lemmas.Bool.{and_parts}
 use Rattle.sc_sorts.specs.contracts.sort.SortPartialEq.TheImpl.{ghosts as sorts}
 use Rattle.sc_clauses.specs.Assignments.{Assignment}
@@ -11,12 +11,12 @@ use Rattle.sc_terms.specs.TreeSorts.{tree_sort}
 use Rattle.sc_terms.specs.Folds.{equal_term}
 use Rattle.sc_footprint.specs.Problems.{Posed, IsPosed, term_of}
 use Rattle.sc_rule_laws.specs.Signed.{Signed, Said, so, unless, given}
-use Rattle.sc_rule_laws.specs.Sets.{se2, se3, se3_of, se4, se5, se6, se7, se8}
-use Rattle.sc_rule_laws.specs.Terms.{is_set, member, subset, common, members}
+use Rattle.sc_rule_laws.specs.Sets.{se2, se3, se3_of, se4, se5, se6, se7, se8, se9_at, se9_of, se9, se10_at, se10_of, se10}
+use Rattle.sc_rule_laws.specs.Terms.{is_set, member, subset, common, members, written}
 use Rattle.sc_rule_instances.specs.Clauses.{literal_for}
 use Rattle.sc_rule_instances.specs.Instances.{on_two, on_three, set_said}
 use Rattle.sc_rule_instances.specs.Known.{is_falsified, NoneFalsified}
-use Rattle.sc_rule_instances.specs.declared.rule.SetRule.TheVariants.{Se1, Se2, Se3, Se4, Se5, Se6, Se7, Se8}
+use Rattle.sc_rule_instances.specs.declared.rule.SetRule.TheVariants.{Se1, Se2, Se3, Se4, Se5, Se6, Se7, Se8, Se9, Se10}
 use Rattle.sc_rule_instances.proofs.InstanceLaws.{asked_atom}
 use Rattle.th_sets.specs.declared.named.Named.{Named}
 use Rattle.th_sets.specs.declared.named.Named.TheVariants.{Member, Subset, Common}
@@ -171,24 +171,49 @@ module _ (p : Posed) (m : Assignment) where
               read (common_free n s t a b e f g)
 
       se5_free : (s t i : ℕ) → IsFree p m (Se5 s t i)
-      se5_free s t zero = by_subset_free s t s t (λ a b. se5 a b 0) (λ a b f g out. let (n, e) = so_there binary.Subset a b (head_out m p _ _ out) in (n, a, b, e, f, g)) (λ k. k.0)
-      se5_free s t (suc zero) = by_subset_free s t s t (λ a b. se5 a b 1) (λ a b f g out. let (n, e) = so_there binary.Subset a b (head_out m p _ _ out) in (n, a, b, e, f, g)) (λ k. k.1.0)
+      se5_free s t zero = by_subset_free s t s t (λ a b. se5 a b 0) (λ a b f g out. let (n, e) = so_there binary.Subset a b (head_out m p _ _ out) in (n, a, b, e, f, g)) (λ k. k.rows.0)
+      se5_free s t (suc zero) = by_subset_free s t s t (λ a b. se5 a b 1) (λ a b f g out. let (n, e) = so_there binary.Subset a b (head_out m p _ _ out) in (n, a, b, e, f, g)) (λ k. k.rows.1.0)
       se5_free s t (suc (suc i)) = free_if m p _ (λ h. let (a, b, f, g, out) = two_view (term_of p s) (term_of p t) (λ a b. None) h in absurd (nothing_out m p out))
 
       se6_free : (s t i : ℕ) → IsFree p m (Se6 s t i)
-      se6_free s t zero = by_common_free s t (λ a b. se6 a b 0) (λ a b out. unless_there binary.Common a b (head_out m p _ _ out)) (λ k. k.0)
-      se6_free s t (suc zero) = by_common_free s t (λ a b. se6 a b 1) (λ a b out. unless_there binary.Common a b (head_out m p _ _ out)) (λ k. k.1.0)
+      se6_free s t zero = by_common_free s t (λ a b. se6 a b 0) (λ a b out. unless_there binary.Common a b (head_out m p _ _ out)) (λ k. k.rows.0)
+      se6_free s t (suc zero) = by_common_free s t (λ a b. se6 a b 1) (λ a b out. unless_there binary.Common a b (head_out m p _ _ out)) (λ k. k.rows.1.0)
       se6_free s t (suc (suc i)) = free_if m p _ (λ h. let (a, b, f, g, out) = two_view (term_of p s) (term_of p t) (λ a b. None) h in absurd (nothing_out m p out))
 
       se8_free : (s t i : ℕ) → IsFree p m (Se8 s t i)
       se8_free s t zero =
-          by_subset_free s t s t (λ a b. se8 a b 0) (λ a b f g out. let (n, e) = so_there binary.Subset a b (head_out m p _ _ (tail_out m p _ _ out)) in (n, a, b, e, f, g)) (λ k. k.1.1.0)
+          by_subset_free s t s t (λ a b. se8 a b 0) (λ a b f g out. let (n, e) = so_there binary.Subset a b (head_out m p _ _ (tail_out m p _ _ out)) in (n, a, b, e, f, g)) (λ k. k.rows.1.1.0)
       se8_free s t (suc zero) =
-          by_subset_free t s s t (λ a b. se8 a b 1) (λ a b f g out. let (n, e) = so_there binary.Subset b a (head_out m p _ _ (tail_out m p _ _ out)) in (n, b, a, e, g, f)) (λ k. k.1.1.1.0)
+          by_subset_free t s s t (λ a b. se8 a b 1) (λ a b f g out. let (n, e) = so_there binary.Subset b a (head_out m p _ _ (tail_out m p _ _ out)) in (n, b, a, e, g, f)) (λ k. k.rows.1.1.1.0)
       se8_free s t (suc (suc zero)) =
           by_subset_free s t s t (λ a b. se8 a b 2)
-          (λ a b f g out. let (n, e) = unless_there binary.Subset a b (head_out m p _ _ (tail_out m p _ _ (given_view (is_set a && is_set b) _ out))) in (n, a, b, e, f, g)) (λ k. k.1.1.1.1.0)
+          (λ a b f g out. let (n, e) = unless_there binary.Subset a b (head_out m p _ _ (tail_out m p _ _ (given_view (is_set a && is_set b) _ out))) in (n, a, b, e, f, g)) (λ k. k.rows.1.1.1.1.0)
       se8_free s t (suc (suc (suc i))) = free_if m p _ (λ h. let (a, b, f, g, out) = two_view (term_of p s) (term_of p t) (λ a b. None) h in absurd (nothing_out m p out))
+
+      -- ---- set terms, by those that stand there
+
+      se9_at_there : (a b : Tree) (us : List Tree) (i : ℕ) (o : Option Tree) → Out (se9_at a b us i o) → (n : ℕ) × (term_of p n ≡ Some (subset a b))
+      se9_at_there a b us i (Some u) h = unless_there binary.Subset a b (head_out m p _ _ h)
+      se9_at_there a b us i None h = so_there binary.Subset a b (head_out m p _ _ (given_view (i == length us) _ h))
+
+      se9_there : (o : Option (List Tree)) (a b : Tree) (i : ℕ) → Out (se9_of o a b i) → (n : ℕ) × (term_of p n ≡ Some (subset a b))
+      se9_there (Some us) a b i h = se9_at_there a b us i (slice_get us i) h
+      se9_there None a b i h = absurd (nothing_out m p h)
+
+      se9_free : (s t i : ℕ) → IsFree p m (Se9 s t i)
+      se9_free s t i = by_subset_free s t s t (λ a b. se9 a b i) (λ a b f g out. let (n, e) = se9_there (written a) a b i out in (n, a, b, e, f, g)) (λ k. k.se9 i)
+
+      se10_at_there : (a b v : Tree) (us : List Tree) (i : ℕ) (o : Option Tree) → Out (se10_at (common a b) us v i o) → (n : ℕ) × (term_of p n ≡ Some (common a b))
+      se10_at_there a b v us i (Some u) h = so_there binary.Common a b (head_out m p _ _ h)
+      se10_at_there a b v us i None h = unless_there binary.Common a b (head_out m p _ _ (given_view (i == length us) _ h))
+
+      se10_there : (o q : Option (List Tree)) (a b : Tree) (i : ℕ) → Out (se10_of o q a b i) → (n : ℕ) × (term_of p n ≡ Some (common a b))
+      se10_there (Some us) q a b i h = se10_at_there a b b us i (slice_get us i) h
+      se10_there None (Some us) a b i h = se10_at_there a b a us i (slice_get us i) h
+      se10_there None None a b i h = absurd (nothing_out m p h)
+
+      se10_free : (s t i : ℕ) → IsFree p m (Se10 s t i)
+      se10_free s t i = by_common_free s t (λ a b. se10 a b i) (λ a b out. se10_there (written a) (written b) a b i out) (λ k. k.se10 i)
 
       pub none_falsified : AreMovesFree p m → NoneFalsified set_said p m
       none_falsified moves (Se1 x y s) = moves x y s
@@ -199,3 +224,5 @@ module _ (p : Posed) (m : Assignment) where
       none_falsified moves (Se6 s t i) = se6_free s t i
       none_falsified moves (Se7 s t x) = se7_free s t x
       none_falsified moves (Se8 s t i) = se8_free s t i
+      none_falsified moves (Se9 s t i) = se9_free s t i
+      none_falsified moves (Se10 s t i) = se10_free s t i

@@ -1,6 +1,6 @@
--- Instances of SE2 to SE8 that closed terms name, and that none of them is falsified. Those of SE2 and SE3 are named by a membership, of
--- SE5 and SE8 by an inclusion, of SE6 by a common member, of SE4 by a membership and an inclusion, of SE7 by a membership and a common
--- member.
+-- Instances of SE2 to SE10 that closed terms name, and that none of them is falsified. Those of SE2 and SE3 are named
+-- by a membership, of SE5, SE8 and SE9 by an inclusion, of SE6 and SE10 by a common member, of SE4 by a membership and an
+-- inclusion, of SE7 by a membership and a common member.
 use Rattle.std.specs.Prelude.{◌≡◌, ◌<◌, ⊤, ℕ, false, List, [], ◌∷◌, length, Option, Some}
 use Rattle.std.specs.List.{AllByRecursion}
 use Rattle.sc_clauses.specs.Assignments.{Assignment}
@@ -9,7 +9,7 @@ use Rattle.sc_terms.specs.Trees.{Tree, many}
 use Rattle.sc_rule_laws.specs.Terms.{members}
 use Rattle.sc_footprint.specs.Problems.{Posed}
 use Rattle.sc_rule_instances.specs.declared.rule.SetRule.{SetRule}
-use Rattle.sc_rule_instances.specs.declared.rule.SetRule.TheVariants.{Se2, Se3, Se4, Se5, Se6, Se7, Se8}
+use Rattle.sc_rule_instances.specs.declared.rule.SetRule.TheVariants.{Se2, Se3, Se4, Se5, Se6, Se7, Se8, Se9, Se10}
 use Rattle.sc_rule_instances.specs.Instances.{set_said}
 use Rattle.sc_rule_instances.specs.Known.{is_falsified}
 use Rattle.th_sets.specs.declared.named.Named.{Named}
@@ -19,6 +19,10 @@ use Rattle.th_sets.specs.Named.{named_at}
 abbrev pub IsFree : Posed → Assignment → SetRule → Type 0
 IsFree p m rule = is_falsified p m (set_said p rule) ≡ false
 
+-- a rule at the first so many of those that stand in a set term
+unfoldable pub AreFirstFree : Posed → Assignment → (ℕ → SetRule) → ℕ → Type 0
+AreFirstFree p m rule count = (i : ℕ) → i < count → IsFree p m (rule i)
+
 -- ---- by an inclusion, and by a common member
 
 abbrev pub by_subset : ℕ → ℕ → List SetRule
@@ -27,16 +31,25 @@ by_subset s t = Se5 s t 0 ∷ Se5 s t 1 ∷ Se8 s t 0 ∷ Se8 t s 1 ∷ Se8 s t 
 abbrev pub by_common : ℕ → ℕ → List SetRule
 by_common s t = Se6 s t 0 ∷ Se6 s t 1 ∷ []
 
--- ---- by a membership
+pub record IsSubsetFree (p : Posed) (m : Assignment) (s t : ℕ) : Type 0 where
+  pub rows : AllByRecursion (IsFree p m) (by_subset s t)
+  pub se9 : (i : ℕ) → IsFree p m (Se9 s t i)
+
+pub record IsCommonFree (p : Posed) (m : Assignment) (s t : ℕ) : Type 0 where
+  pub rows : AllByRecursion (IsFree p m) (by_common s t)
+  pub se10 : (i : ℕ) → IsFree p m (Se10 s t i)
 
 -- how many members a set term has
 abbrev pub member_count : Option Tree → ℕ
 member_count (Some (many (manys.Set k) ts)) = length (members ts)
 member_count _ = 0
 
--- SE3 at the first so many members of a set term
-unfoldable pub AreStanding : Posed → Assignment → ℕ → ℕ → ℕ → Type 0
-AreStanding p m x s count = (i : ℕ) → i < count → IsFree p m (Se3 x s i)
+-- how many tell whether two sets have a member in common: those of the first, or else of the second
+abbrev pub teller_count : Option Tree → Option Tree → ℕ
+teller_count (Some (many (manys.Set k) ts)) q = length (members ts)
+teller_count _ q = member_count q
+
+-- ---- by a membership
 
 -- SE4 or SE7, with what another closed term names
 abbrev pub IsBesideFree : Posed → Assignment → ℕ → ℕ → Named → Type 0
@@ -53,8 +66,8 @@ pub record IsMemberFree (p : Posed) (m : Assignment) (x set : ℕ) : Type 0 wher
 
 abbrev pub IsNamedFree : Posed → Assignment → Named → Type 0
 IsNamedFree p m (Member x s) = IsMemberFree p m x s
-IsNamedFree p m (Subset s t) = AllByRecursion (IsFree p m) (by_subset s t)
-IsNamedFree p m (Common s t) = AllByRecursion (IsFree p m) (by_common s t)
+IsNamedFree p m (Subset s t) = IsSubsetFree p m s t
+IsNamedFree p m (Common s t) = IsCommonFree p m s t
 IsNamedFree p m Other = ⊤
 
 abbrev pub AreNamedFree : Posed → Assignment → Type 0

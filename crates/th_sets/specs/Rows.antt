@@ -1,5 +1,6 @@
 -- Instances by the numbers of their terms in the table, and their literals one by one. No public promise speaks of it.
-use Rattle.std.specs.Prelude.{◌&&◌, ◌-◌, ◌<◌, ◌==◌, ℕ, Bool, false, List, length, Option, Some, None, option_map, slice_get, if◌then◌else◌}
+use Rattle.std.specs.Prelude.{◌&&◌, ◌+◌, ◌-◌, ◌<◌, ◌==◌, ℕ, nat_lt, Bool, false, not, List, length, Option, Some, None, option_map, slice_get, if◌then◌else◌}
+use Rattle.std.specs.Option.{option_or}
 use Rattle.sc_clauses.specs.declared.lit.Lit.{Lit}
 use Rattle.sc_clauses.specs.Clauses.{positive, negation}
 use Rattle.sc_sorts.specs.declared.sort.Sort.{Sort}
@@ -12,11 +13,11 @@ use Rattle.sc_terms.specs.Folds.{equal_term}
 use Rattle.sc_terms.specs.Tables.{tree, Places}
 use Rattle.sc_footprint.specs.Problems.{Posed, numbered, literal_in}
 use Rattle.sc_rule_laws.specs.Signed.{Said}
-use Rattle.sc_rule_laws.specs.Sets.{se1, se2, se3, se4, se5, se6, se7, se8}
-use Rattle.sc_rule_laws.specs.Terms.{is_set, member, subset, common, missing, shared}
+use Rattle.sc_rule_laws.specs.Sets.{se1, se2, se3, se4, se5, se6, se7, se8, se9, se10}
+use Rattle.sc_rule_laws.specs.Terms.{is_set, member, subset, common, missing, shared, written}
 use Rattle.sc_rule_instances.specs.Saying.{count_of, literal_of}
 use Rattle.sc_rule_instances.specs.declared.rule.SetRule.{SetRule}
-use Rattle.sc_rule_instances.specs.declared.rule.SetRule.TheVariants.{Se1, Se2, Se3, Se4, Se5, Se6, Se7, Se8}
+use Rattle.sc_rule_instances.specs.declared.rule.SetRule.TheVariants.{Se1, Se2, Se3, Se4, Se5, Se6, Se7, Se8, Se9, Se10}
 
 -- ---- terms of the table in place of closed terms
 
@@ -44,6 +45,8 @@ placed p (Se5 s t i) = option_map (λ (k : ℕ × ℕ). Se5 k.0 k.1 i) (two_at p
 placed p (Se6 s t i) = option_map (λ (k : ℕ × ℕ). Se6 k.0 k.1 i) (two_at p s t)
 placed p (Se7 s t x) = option_map (λ (k : ℕ × ℕ × ℕ). Se7 k.0 k.1 k.2) (three_at p s t x)
 placed p (Se8 s t i) = option_map (λ (k : ℕ × ℕ). Se8 k.0 k.1 i) (two_at p s t)
+placed p (Se9 s t i) = option_map (λ (k : ℕ × ℕ). Se9 k.0 k.1 i) (two_at p s t)
+placed p (Se10 s t i) = option_map (λ (k : ℕ × ℕ). Se10 k.0 k.1 i) (two_at p s t)
 
 -- its terms are of the table
 abbrev pub IsPlaced : Posed → SetRule → Type 0
@@ -55,6 +58,8 @@ IsPlaced p (Se5 s t i) = (s < length p.nodes) × (t < length p.nodes)
 IsPlaced p (Se6 s t i) = (s < length p.nodes) × (t < length p.nodes)
 IsPlaced p (Se7 s t x) = (s < length p.nodes) × (t < length p.nodes) × (x < length p.nodes)
 IsPlaced p (Se8 s t i) = (s < length p.nodes) × (t < length p.nodes)
+IsPlaced p (Se9 s t i) = (s < length p.nodes) × (t < length p.nodes)
+IsPlaced p (Se10 s t i) = (s < length p.nodes) × (t < length p.nodes)
 
 -- what it says
 abbrev pub placed_said : Posed → SetRule → Said
@@ -66,6 +71,8 @@ placed_said p (Se5 s t i) = se5 (tree p.nodes s) (tree p.nodes t) i
 placed_said p (Se6 s t i) = se6 (tree p.nodes s) (tree p.nodes t) i
 placed_said p (Se7 s t x) = se7 (tree p.nodes s) (tree p.nodes t) (tree p.nodes x)
 placed_said p (Se8 s t i) = se8 (tree p.nodes s) (tree p.nodes t) i
+placed_said p (Se9 s t i) = se9 (tree p.nodes s) (tree p.nodes t) i
+placed_said p (Se10 s t i) = se10 (tree p.nodes s) (tree p.nodes t) i
 
 -- ---- set terms
 
@@ -86,6 +93,17 @@ equal_if p x None = positive 0
 abbrev pub equal_at : Posed → ℕ → Places → ℕ → Lit
 equal_at p x parts place = equal_if p x (slice_get parts place)
 
+-- whether the part at a place is a member of a set, with a sign, and a literal of no atom where there is none
+abbrev pub signed : Bool → Lit → Lit
+signed sign lit = if sign then lit else negation lit
+
+abbrev pub member_if : Posed → Bool → ℕ → Option (List ℕ × ℕ) → Lit
+member_if p sign q (Some part) = signed sign (literal_in p (member (tree p.nodes part.1) (tree p.nodes q)))
+member_if p sign q None = positive 0
+
+abbrev pub member_at : Posed → Bool → ℕ → Places → ℕ → Lit
+member_at p sign q parts place = member_if p sign q (slice_get parts place)
+
 -- ---- how many literals there are
 
 abbrev pub side_count : ℕ → Option ℕ
@@ -97,6 +115,14 @@ equal_count p s t side =
     else if side == 2 then (if is_set (tree p.nodes s) && is_set (tree p.nodes t) then Some 3 else None)
     else None
 
+-- of SE9 and SE10, by how many stand in a set term, and by those that stand there
+abbrev pub told_count : ℕ → ℕ → Option ℕ
+told_count count index = if nat_lt index count then Some 2 else if index == count then Some (count + 1) else None
+
+abbrev pub told_of : Option (List Tree) → ℕ → Option ℕ
+told_of (Some us) index = told_count (length us) index
+told_of None index = None
+
 abbrev pub row_count : Posed → SetRule → Option ℕ
 row_count p (Se1 x y s) = Some 3
 row_count p (Se2 x s) = count_of (se2 (tree p.nodes x) (tree p.nodes s))
@@ -106,6 +132,8 @@ row_count p (Se5 s t i) = side_count i
 row_count p (Se6 s t i) = side_count i
 row_count p (Se7 s t x) = Some 3
 row_count p (Se8 s t i) = equal_count p s t i
+row_count p (Se9 s t i) = told_of (written (tree p.nodes s)) i
+row_count p (Se10 s t i) = told_of (option_or (written (tree p.nodes s)) (written (tree p.nodes t))) i
 
 -- ---- the literal at a place, and one of no atom past the last
 
@@ -134,6 +162,21 @@ module _ (p : Posed) where
 
   abbrev pub standing_row : ℕ → ℕ → Places → ℕ → ℕ → Lit
   standing_row x s parts index place = of_two (negation (equal_at p x parts index)) (member_lit x s) place
+
+  -- The literals of SE9 and SE10, by those that stand in a set term: a literal is so just where each of them is a member
+  -- of a set, or, where the sign is false, isn't so just where none is. Of one of them by its place, and past the last of
+  -- all.
+  abbrev pub told_one : Bool → Lit → ℕ → Places → ℕ → ℕ → Lit
+  told_one sign told q parts index place = of_two (signed (not sign) told) (member_at p sign q parts index) place
+
+  abbrev pub told_all : Bool → Lit → ℕ → Places → ℕ → Lit
+  told_all sign told q parts place = if place == 0 then signed sign told else member_at p (not sign) q parts (place - 1)
+
+  abbrev pub told_row : Bool → Lit → ℕ → Places → ℕ → ℕ → Lit
+  told_row sign told q parts index place =
+      if nat_lt index (length parts) then told_one sign told q parts index place
+      else if index == length parts then told_all sign told q parts place
+      else positive 0
 
   -- the least member of one set that isn't in another, as a member of a third
   abbrev pub missing_lit : ℕ → ℕ → ℕ → Lit
@@ -177,3 +220,5 @@ module _ (p : Posed) where
   row_literal (Se6 s t i) place = shared_row s t i place
   row_literal (Se7 s t x) place = of_three (negation (member_lit x s)) (negation (member_lit x t)) (common_lit s t) place
   row_literal (Se8 s t i) place = equal_row s t i place
+  row_literal (Se9 s t i) place = literal_of p (se9 (tree p.nodes s) (tree p.nodes t) i) place
+  row_literal (Se10 s t i) place = literal_of p (se10 (tree p.nodes s) (tree p.nodes t) i) place

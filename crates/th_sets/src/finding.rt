@@ -1,13 +1,13 @@
-//! SE2 to SE8: instances that an assignment falsifies, found at the closed terms that name them.
+//! SE2 to SE10: instances that an assignment falsifies, found at the closed terms that name them.
 ghost use Rattle.std.specs.Prelude.{◌≡◌, ◌<◌, length, true, ℕ, Some, IfOk, IfSome, IfNone};
 ghost use Rattle.std.specs.List.{AllByRecursion};
 ghost use Rattle.sc_terms.specs.Tables.{tree};
 ghost use Rattle.sc_footprint.specs.Problems.{term_of};
-ghost use Rattle.sc_rule_instances.specs.declared.rule.SetRule.TheVariants.{Se3};
+ghost use Rattle.sc_rule_instances.specs.declared.rule.SetRule.TheVariants.{Se3, Se9, Se10};
 ghost use Rattle.sc_rule_instances.specs.Instances.{set_said};
 ghost use Rattle.sc_rule_instances.specs.Known.{is_falsified as falsified_of};
 ghost use Rattle.th_sets.specs.Named.{named_at as named_of, AreNames, AreOfSets};
-ghost use Rattle.th_sets.specs.Free.{IsFree, IsBesideFree, IsMemberFree, IsNamedFree, AreNamedFree, by_subset, by_common, member_count as members_of};
+ghost use Rattle.th_sets.specs.Free.{IsFree, IsBesideFree, IsMemberFree, IsNamedFree, AreNamedFree, AreFirstFree, IsSubsetFree, IsCommonFree, by_subset, by_common, member_count as members_of, teller_count as tellers_of};
 
 use crate::named::{Named, names, names_of_sets};
 use crate::said::Said;
@@ -142,8 +142,8 @@ fn at_member(
 
 // ---- by any closed term
 
-/// An instance that an inclusion names.
-fn at_subset(problem: &Problem<'_>, m: &Assignment, s: u64, t: u64) -> Option<SetRule>
+/// An instance of two sets that an inclusion names.
+fn at_inclusion(problem: &Problem<'_>, m: &Assignment, s: u64, t: u64) -> Option<SetRule>
     ensures found { IfSome result (λ rule. falsified_of problem.now m.now (set_said problem.now rule) ≡ true) }
     ensures none { IfNone result (AllByRecursion (IsFree problem.now m.now) (by_subset s t)) }
 {
@@ -165,8 +165,8 @@ fn at_subset(problem: &Problem<'_>, m: &Assignment, s: u64, t: u64) -> Option<Se
     None
 }
 
-/// An instance that a common member names.
-fn at_common(problem: &Problem<'_>, m: &Assignment, s: u64, t: u64) -> Option<SetRule>
+/// An instance of two sets that a common member names.
+fn at_shared(problem: &Problem<'_>, m: &Assignment, s: u64, t: u64) -> Option<SetRule>
     ensures found { IfSome result (λ rule. falsified_of problem.now m.now (set_said problem.now rule) ≡ true) }
     ensures none { IfNone result (AllByRecursion (IsFree problem.now m.now) (by_common s t)) }
 {
@@ -177,6 +177,112 @@ fn at_common(problem: &Problem<'_>, m: &Assignment, s: u64, t: u64) -> Option<Se
         return Some(rule);
     }
     None
+}
+
+/// An instance of SE9 for two sets, by the first so many numbers.
+fn within_first(
+    problem: &Problem<'_>,
+    m: &Assignment,
+    s: u64,
+    t: u64,
+    count: u64,
+) -> Option<SetRule>
+    ensures found { IfSome result (λ rule. falsified_of problem.now m.now (set_said problem.now rule) ≡ true) }
+    ensures none { IfNone result (AreFirstFree problem.now m.now (λ i. Se9 s t i) count) }
+{
+    for index in 0..count {
+        if let Some(rule) = if_falsified(problem, m, SetRule::Se9(s, t, index)) {
+            return Some(rule);
+        }
+    }
+    None
+}
+
+/// An instance of SE9 for two sets.
+fn within(problem: &Problem<'_>, m: &Assignment, s: u64, t: u64) -> Option<SetRule>
+    ensures found { IfSome result (λ rule. falsified_of problem.now m.now (set_said problem.now rule) ≡ true) }
+    ensures none { IfNone result ((i : ℕ) → IsFree problem.now m.now (Se9 s t i)) }
+{
+    let count = member_count(problem, s);
+    if let Some(rule) = within_first(problem, m, s, t, count) {
+        return Some(rule);
+    }
+    if_falsified(problem, m, SetRule::Se9(s, t, count))
+}
+
+/// An instance that an inclusion names.
+fn at_subset(problem: &Problem<'_>, m: &Assignment, s: u64, t: u64) -> Option<SetRule>
+    ensures found { IfSome result (λ rule. falsified_of problem.now m.now (set_said problem.now rule) ≡ true) }
+    ensures none { IfNone result (IsSubsetFree problem.now m.now s t) }
+{
+    if let Some(rule) = at_inclusion(problem, m, s, t) {
+        return Some(rule);
+    }
+    within(problem, m, s, t)
+}
+
+/// How many terms tell whether a term of the table and the closed term of a number have a member in
+/// common: those that stand in the first, or, if it is no set term, in the second.
+fn teller_count_at(problem: &Problem<'_>, set: u64, t: u64) -> u64
+    requires { set < length problem.now.nodes }
+    ensures { result ≡ tellers_of (Some (tree problem.now.nodes set)) (term_of problem.now t) }
+{
+    match members(problem, set) {
+        Some(parts) => parts.len() as u64,
+        None => member_count(problem, t),
+    }
+}
+
+/// The same of the closed terms of two numbers.
+fn teller_count(problem: &Problem<'_>, s: u64, t: u64) -> u64
+    ensures { result ≡ tellers_of (term_of problem.now s) (term_of problem.now t) }
+{
+    match problem.term(s) {
+        Some(at) => teller_count_at(problem, at, t),
+        None => member_count(problem, t),
+    }
+}
+
+/// An instance of SE10 for two sets, by the first so many numbers.
+fn sharing_first(
+    problem: &Problem<'_>,
+    m: &Assignment,
+    s: u64,
+    t: u64,
+    count: u64,
+) -> Option<SetRule>
+    ensures found { IfSome result (λ rule. falsified_of problem.now m.now (set_said problem.now rule) ≡ true) }
+    ensures none { IfNone result (AreFirstFree problem.now m.now (λ i. Se10 s t i) count) }
+{
+    for index in 0..count {
+        if let Some(rule) = if_falsified(problem, m, SetRule::Se10(s, t, index)) {
+            return Some(rule);
+        }
+    }
+    None
+}
+
+/// An instance of SE10 for two sets.
+fn sharing(problem: &Problem<'_>, m: &Assignment, s: u64, t: u64) -> Option<SetRule>
+    ensures found { IfSome result (λ rule. falsified_of problem.now m.now (set_said problem.now rule) ≡ true) }
+    ensures none { IfNone result ((i : ℕ) → IsFree problem.now m.now (Se10 s t i)) }
+{
+    let count = teller_count(problem, s, t);
+    if let Some(rule) = sharing_first(problem, m, s, t, count) {
+        return Some(rule);
+    }
+    if_falsified(problem, m, SetRule::Se10(s, t, count))
+}
+
+/// An instance that a common member names.
+fn at_common(problem: &Problem<'_>, m: &Assignment, s: u64, t: u64) -> Option<SetRule>
+    ensures found { IfSome result (λ rule. falsified_of problem.now m.now (set_said problem.now rule) ≡ true) }
+    ensures none { IfNone result (IsCommonFree problem.now m.now s t) }
+{
+    if let Some(rule) = at_shared(problem, m, s, t) {
+        return Some(rule);
+    }
+    sharing(problem, m, s, t)
 }
 
 fn at_named(problem: &Problem<'_>, m: &Assignment, pairs: &[Named], by: Named) -> Option<SetRule>
@@ -209,7 +315,7 @@ fn among(problem: &Problem<'_>, m: &Assignment, names: &[Named], pairs: &[Named]
     None
 }
 
-/// An instance of SE2 to SE8 that an assignment falsifies; none where there is none.
+/// An instance of SE2 to SE10 that an assignment falsifies; none where there is none.
 pub(crate) fn falsified_row(
     alloc: Global,
     problem: &Problem<'_>,

@@ -7,5 +7,6 @@ mod named;
 mod rows;
 mod said;
 mod theory;
+mod told;
 
 pub use theory::Sets;

@@ -8,6 +8,7 @@ ghost use Rattle.sc_rule_laws.specs.Terms.{is_set};
 ghost use Rattle.sc_rule_instances.specs.Saying.{count_of, literal_of};
 ghost use Rattle.th_sets.specs.Rows.{IsPlaced, placed as placed_rule, two_at, three_at, is_set_node, is_set_over, equal_at as equal_at_place, side_count as side_counted, equal_count as equal_counted, row_count, row_literal, listed_row, standing_row, of_three, missing_lit, shared_lit, equal_lit, member_lit, subset_lit, common_lit, missing_row, shared_row, both_row, equal_row};
 
+use crate::told::{common_literal, inclusion_literal, told_by, told_by_one};
 use sc_clauses::{Lit, negation};
 use sc_footprint::Problem;
 use sc_lists::Text;
@@ -75,6 +76,14 @@ pub(crate) fn placed(problem: &Problem<'_>, rule: SetRule) -> Option<SetRule>
         SetRule::Se8(s, t, i) => {
             let (s, t) = two(problem, s, t)?;
             Some(SetRule::Se8(s, t, i))
+        }
+        SetRule::Se9(s, t, i) => {
+            let (s, t) = two(problem, s, t)?;
+            Some(SetRule::Se9(s, t, i))
+        }
+        SetRule::Se10(s, t, i) => {
+            let (s, t) = two(problem, s, t)?;
+            Some(SetRule::Se10(s, t, i))
         }
     }
 }
@@ -489,6 +498,8 @@ pub(crate) fn count(problem: &Problem<'_>, rule: SetRule) -> Option<u128>
         SetRule::Se6(_, _, i) => side_count(i),
         SetRule::Se7(_, _, _) => Some(3),
         SetRule::Se8(s, t, i) => equal_count(problem, s, t, i),
+        SetRule::Se9(s, _, i) => told_by(problem, s, i),
+        SetRule::Se10(s, t, i) => told_by_one(problem, s, t, i),
     }
 }
 
@@ -506,5 +517,7 @@ pub(crate) fn literal(problem: &Problem<'_>, rule: SetRule, place: u128) -> Lit
         SetRule::Se6(s, t, i) => shared_literal(problem, s, t, i, place),
         SetRule::Se7(s, t, x) => meeting_literal(problem, s, t, x, place),
         SetRule::Se8(s, t, i) => equal_literal(problem, s, t, i, place),
+        SetRule::Se9(s, t, i) => inclusion_literal(problem, s, t, i, place),
+        SetRule::Se10(s, t, i) => common_literal(problem, s, t, i, place),
     }
 }

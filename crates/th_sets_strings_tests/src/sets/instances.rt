@@ -114,10 +114,9 @@ SE1: 0 | y | s
 SE1: x | past | s
 SE1: x | y | 1000000000000000000
 # numbers of no member and of no part of a rule
-SE3: x | x, y | 2
 SE5: s | t | 2
-SE6: x, y | s | 2
 SE8: s | t | 3
+SE10: x, y | s | 3
 # terms of other sorts
 SE1: x | context | s
 SE1: x | y | b
@@ -128,20 +127,29 @@ SE5: x | y | 0
 SE7: x, y | s | true
 SE8: s | b | 2
 SE8: x | y | 2
+SE9: x, y | x | 0
+SE10: x, y | x | 0
 # sets that aren't written
-SE2: shared | s
+SE2: x | s
 SE3: x | s | 0
+SE9: s | t | 0
+SE10: s | t | 0
 # atoms that aren't listed
+SE2: x | x, y
+SE3: x | x, y | 1
 SE4: s | x, y | x
 SE5: x, y | s | 0
 SE6: s | t | 0
-SE6: s | x, y | 0
+SE6: x, y | s | 0
 SE7: s | t | x
+SE7: x, y | s | x
 SE8: s | x, y | 0
 SE8: s | s | 0
-# what is always so: a term equals itself, and so does a member
+SE9: x, y | s | 0
+SE10: x, y | t | 0
+SE10: s | x, y | 0
+# what is always so: a term equals itself
 SE1: x | x | s
-SE2: x | x, y
 # words too few, too many, or no numbers
 SE1: nothing
 SE1: x | y
@@ -149,13 +157,15 @@ SE1: x | y | s | s
 SE1: x | y | s | +
 SE1: + | y | s
 SE2: x, y
-SE2: shared | x, y | 0
+SE2: x | x, y | 0
 SE8: s | t
+SE9: x, y | s
+SE10: x, y | s
 # no rules on sets
-SE9: s | t | 0
+SE11: x, y | s | 0
 SE: x | y | s
 se1: x | y | s
-EQ1: x | y | shared
+EQ1: x | y | s without t
 EN2: x | s | t";
 
 const FORGED_OF_ITSELF: &str = "# a set is always itself, and what has a member has it
@@ -163,7 +173,48 @@ SE8: s | s | 2
 SE4: s | s | s without s
 # no term is asked for as a member
 SE4: s | s | x
-SE7: s | s | s without s";
+SE7: s | s | s without s
+# no set is written
+SE9: s | s | 0";
+
+const FORGED_OF_SHARED: &str = "# numbers of no part of a rule
+SE6: s | t | 2
+# a member of the second set isn't asked for in the first
+SE7: s | t | y
+SE1: x | y | s
+# nothing is asked of the second set and the first
+SE6: t | s | 0
+SE7: t | s | x
+# no set is written
+SE10: s | t | 0
+SE10: s | t | 1";
+
+const FORGED_OF_WRITTEN: &str = "# numbers of no member
+SE3: x | x, y | 2
+SE9: x, y | s | 3
+SE10: t | x, y | 3
+# sets that aren't written
+SE2: x | t
+SE3: x | t | 0
+SE9: t | x, y | 0
+# no member of a written set is picked
+SE5: x, y | s | 0
+SE6: t | x, y | 0
+# a member isn't asked for in the other set
+SE4: x, y | s | t without x, y
+# nothing is asked of the two, or of them in this order
+SE9: x, y | t | 0
+SE10: x, y | s | 0
+SE10: x, y | t | 0
+# what is always so: a member is one
+SE2: x | x, y";
+
+const FORGED_OF_TAGS: &str = "# a text isn't asked for in other sets
+SE1: x | y | s
+# nothing is asked of two tags
+SE4: tag x | tag y | x
+SE7: tag x | tag y | x
+SE8: tag x | tag y | 0";
 
 // ---- instances
 
@@ -260,30 +311,57 @@ pub(crate) fn is_accepted(
 }
 
 const RIGHT: &str = "SE1: x | y | s => not x = y; not x in s; y in s
-SE1: y | x | x, y => not y = x; not y in x, y; x in x, y
-SE1: shared | s without t | t => not shared = s without t; not shared in t; s without t in t
-SE2: shared | x, y => not shared in x, y; shared = x; shared = y
-# also of the member itself
-SE3: x | x, y | 0 => not x = x; x in x, y
-SE3: x | x, y | 1 => not x = y; x in x, y
-SE3: shared | x, y | 1 => not shared = y; shared in x, y
+SE1: y | x | t => not y = x; not y in t; x in t
+SE1: t without s | s without t | t => not t without s = s without t; not t without s in t; s without t in t
 SE4: s | t | x => not s <= t; not x in s; x in t
-SE4: t | s | shared => not t <= s; not shared in t; shared in s
+SE4: t | s | s without t => not t <= s; not s without t in t; s without t in s
 SE5: s | t | 0 => s <= t; s without t in s
 SE5: s | t | 1 => s <= t; not s without t in t
 SE5: t | s | 0 => t <= s; t without s in t
-SE6: x, y | s | 0 => not x, y & s; shared in x, y
-SE6: x, y | s | 1 => not x, y & s; shared in s
-SE7: x, y | s | y => not y in x, y; not y in s; x, y & s
 SE8: s | t | 0 => not s = t; s <= t
 SE8: s | t | 1 => not s = t; t <= s
 SE8: t | s | 1 => not t = s; s <= t
-SE8: s | t | 2 => s = t; not s <= t; not t <= s";
+SE8: s | t | 2 => s = t; not s <= t; not t <= s
+# each member of the written set, and all of them
+SE10: x, y | s | 0 => x, y & s; not x in s
+SE10: x, y | s | 1 => x, y & s; not y in s
+SE10: x, y | s | 2 => not x, y & s; x in s; y in s";
 
 const RIGHT_OF_ITSELF: &str = "SE8: s | s | 0 => not s = s; s <= s
 SE8: s | s | 1 => not s = s; s <= s
 SE5: s | s | 0 => s <= s; s without s in s
 SE5: s | s | 1 => s <= s; not s without s in s";
+
+const RIGHT_OF_SHARED: &str = "SE1: y | x | t => not y = x; not y in t; x in t
+SE1: x | shared | s => not x = shared; not x in s; shared in s
+SE6: s | t | 0 => not s & t; shared in s
+SE6: s | t | 1 => not s & t; shared in t
+# a member of the first set is asked for in the second
+SE7: s | t | x => not x in s; not x in t; s & t
+SE7: s | t | shared => not shared in s; not shared in t; s & t";
+
+const RIGHT_OF_WRITTEN: &str = "SE1: y | x | x, y => not y = x; not y in x, y; x in x, y
+SE2: t without x, y | x, y => not t without x, y in x, y; t without x, y = x; t without x, y = y
+# also of the member itself
+SE3: x | x, y | 0 => not x = x; x in x, y
+SE3: x | x, y | 1 => not x = y; x in x, y
+SE3: t without x, y | x, y | 1 => not t without x, y = y; t without x, y in x, y
+SE4: t | x, y | t without x, y => not t <= x, y; not t without x, y in t; t without x, y in x, y
+SE5: t | x, y | 0 => t <= x, y; t without x, y in t
+SE5: t | x, y | 1 => t <= x, y; not t without x, y in x, y
+# each member of the written set, and all of them
+SE9: x, y | s | 0 => not x, y <= s; x in s
+SE9: x, y | s | 1 => not x, y <= s; y in s
+SE9: x, y | s | 2 => x, y <= s; not x in s; not y in s
+# also where the second set is the written one
+SE10: t | x, y | 0 => t & x, y; not x in t
+SE10: t | x, y | 1 => t & x, y; not y in t
+SE10: t | x, y | 2 => not t & x, y; x in t; y in t";
+
+const RIGHT_OF_TAGS: &str = "# what is asked for in one tag is asked for in the other
+SE1: x | y | tag x => not x = y; not x in tag x; y in tag x
+SE1: x | y | tag y => not x = y; not x in tag y; y in tag y
+SE1: x | y | keys => not x = y; not x in keys; y in keys";
 
 // ---- tests
 
@@ -293,6 +371,12 @@ fn refused(rt: HostRuntime) -> Result<(), Fail> {
     assert!(rt; wrong.is_none(), "{wrong:?}");
     let wrong = first_wrong(rt.alloc(), Asked::Itself, Rows::Forged, FORGED_OF_ITSELF)?;
     assert!(rt; wrong.is_none(), "{wrong:?}");
+    let wrong = first_wrong(rt.alloc(), Asked::Shared, Rows::Forged, FORGED_OF_SHARED)?;
+    assert!(rt; wrong.is_none(), "{wrong:?}");
+    let wrong = first_wrong(rt.alloc(), Asked::Written, Rows::Forged, FORGED_OF_WRITTEN)?;
+    assert!(rt; wrong.is_none(), "{wrong:?}");
+    let wrong = first_wrong(rt.alloc(), Asked::Tags, Rows::Forged, FORGED_OF_TAGS)?;
+    assert!(rt; wrong.is_none(), "{wrong:?}");
     Ok(())
 }
 
@@ -301,6 +385,12 @@ fn accepted(rt: HostRuntime) -> Result<(), Fail> {
     let wrong = first_wrong(rt.alloc(), Asked::Sets, Rows::Right, RIGHT)?;
     assert!(rt; wrong.is_none(), "{wrong:?}");
     let wrong = first_wrong(rt.alloc(), Asked::Itself, Rows::Right, RIGHT_OF_ITSELF)?;
+    assert!(rt; wrong.is_none(), "{wrong:?}");
+    let wrong = first_wrong(rt.alloc(), Asked::Shared, Rows::Right, RIGHT_OF_SHARED)?;
+    assert!(rt; wrong.is_none(), "{wrong:?}");
+    let wrong = first_wrong(rt.alloc(), Asked::Written, Rows::Right, RIGHT_OF_WRITTEN)?;
+    assert!(rt; wrong.is_none(), "{wrong:?}");
+    let wrong = first_wrong(rt.alloc(), Asked::Tags, Rows::Right, RIGHT_OF_TAGS)?;
     assert!(rt; wrong.is_none(), "{wrong:?}");
     Ok(())
 }

@@ -1,6 +1,7 @@
 //! Closed terms and atoms of a problem by names. An attribute of the context has its own; `x, y` is the
-//! set that is written, `s without t` the member that is picked of what `t` lacks of `s`, and
-//! `shared` the one that is picked of what the written set shares.
+//! set that is written, `tag x` the tag under `x`, and `keys` are those of all tags; `s without t` is the
+//! member that is picked of what `t` lacks of `s`, and `shared` the one that is picked of what two sets
+//! have in common.
 //!
 //! A fact says of two terms that they are equal, `a = b`, or that the first is a member of the second,
 //! `a in b`, is within it, `a <= b`, or shares a member with it, `a & b`. With `not ` before it that is
@@ -15,11 +16,13 @@ use sc_sorts::{BinaryOp, Leaf, Literal, ManyOp, Node, UnaryOp};
 
 // ---- terms
 
-fn is_attribute(problem: &Problem<'_>, at: u64, name: &str) -> bool
+/// Whether a term is the attribute of this name, or the set that is written under it.
+fn is_simple(problem: &Problem<'_>, at: u64, name: &str) -> bool
     requires { at < length problem.now.nodes }
 {
     match problem.terms().node(at) {
         Node::One(UnaryOp::Field(own), _) => own.as_str() == name,
+        Node::Many(ManyOp::Set(_), _) => name == "x, y",
         _ => false,
     }
 }
@@ -30,9 +33,18 @@ fn is_difference(problem: &Problem<'_>, name: &str, of: u64, without: u64) -> bo
     requires without { without < length problem.now.nodes }
 {
     match name.split_once(" without ") {
-        Some((first, second)) => {
-            is_attribute(problem, of, first) && is_attribute(problem, without, second)
-        }
+        Some((first, second)) => is_simple(problem, of, first)
+            && is_simple(problem, without, second),
+        None => false,
+    }
+}
+
+/// Whether a name is that of the tag under a key.
+fn is_tag(problem: &Problem<'_>, name: &str, key: u64) -> bool
+    requires { key < length problem.now.nodes }
+{
+    match name.strip_prefix("tag ") {
+        Some(text) => is_simple(problem, key, text),
         None => false,
     }
 }
@@ -49,6 +61,8 @@ fn is_named(problem: &Problem<'_>, at: u64, name: &str) -> bool
             is_difference(problem, name, *of, *without)
         }
         Node::Two(BinaryOp::CommonPick, _, _) => name == "shared",
+        Node::Two(BinaryOp::Tag(_), _, key) => is_tag(problem, name, *key),
+        Node::One(UnaryOp::Keys, _) => name == "keys",
         Node::Many(ManyOp::Set(_), _) => name == "x, y",
         _ => false,
     }

@@ -4,7 +4,7 @@ ghost use Rattle.sc_schema.specs.Declarations.{environments};
 ghost use Rattle.sc_terms.specs.Tables.{tree};
 ghost use Rattle.sc_closure_rules.specs.Goals.{IsGoal};
 
-use crate::sets::goals::{Asked, SCHEMA, goal};
+use crate::sets::goals::{Asked, Place, SCHEMA, goal};
 use crate::sets::instances::{is_accepted, is_refused};
 use crate::sets::violations::is_falsified;
 use sc_footprint::{OverLimit, Problem, close};
@@ -82,7 +82,13 @@ fn number_of(
         return Err(AllocError);
     };
     let context = terms.context(sort_of(alloc, ty)?)?;
-    let n = goal(alloc, terms, context, asked)?;
+    let place = Place {
+        alloc,
+        schema,
+        env,
+        context,
+    };
+    let n = goal(place, terms, asked)?;
     if is_goal(alloc, schema, env, literals, terms, n)? {
         Ok(n)
     } else {

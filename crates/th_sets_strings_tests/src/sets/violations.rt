@@ -103,14 +103,7 @@ x = y; not y in s => nothing
 x in s; not y in s => nothing
 x = y; x in s; y in s => nothing
 # that equality goes on is no rule on sets
-x = y; y = shared; not x = shared => nothing
-# members of what is written
-shared in x, y; not shared = x; not shared = y => SE2: shared | x, y
-shared in x, y; not shared = x => nothing
-x = x; not x in x, y => SE3: x | x, y | 0
-# also truth itself has no value
-not x in x, y => nothing
-x = y; not x in x, y => SE3: x | x, y | 1";
+x = y; y = s without t; not x = s without t => nothing";
 
 /// Truths of a few atoms on two sets.
 const SETS: &str = "# one set within another
@@ -120,11 +113,11 @@ not s <= t; not s without t in s => SE5: s | t | 0
 not s <= t; s without t in t => SE5: s | t | 1
 not s <= t; s without t in s; not s without t in t => nothing
 s <= t; not s without t in s => nothing
-# what two sets share
-x, y & s; not shared in x, y => SE6: x, y | s | 0
-x, y & s; not shared in s => SE6: x, y | s | 1
-y in x, y; y in s; not x, y & s => SE7: x, y | s | y
-y in t; y in s; not x, y & s => nothing
+# what a written set has in common with another
+not x, y & s; y in s => SE10: x, y | s | 1
+x, y & s; not x in s; not y in s => SE10: x, y | s | 2
+x, y & s; not x in s => nothing
+not x, y & s; y in t => nothing
 # equal sets
 s = t; not s <= t => SE8: s | t | 0 or SE8: t | s | 1
 s = t; not t <= s => SE8: s | t | 1 or SE8: t | s | 0
@@ -133,13 +126,48 @@ not s = t; s <= t => nothing";
 
 /// Truths of all atoms.
 const WHOLE: &str = "# two empty sets and two texts
-x = x; s = t; s <= t; t <= s; x in x, y; y in x, y; s without t = t without s; s without t = shared; t without s = shared; not others => nothing
+x = x; s = t; s <= t; t <= s; s without t = t without s; not others => nothing
 # the first text is the one member of s, and t is empty
-x = x; t <= s; x in s; x in x, y; y in x, y; x, y & s; s without t = x; shared = x; s without t = shared; s without t in s; s without t in x, y; shared in s; shared in x, y; not others => nothing
+x = x; t <= s; x in s; x, y & s; s without t = x; s without t in s; not others => nothing
 # the same, but that it is no member
-x = x; t <= s; x in x, y; y in x, y; x, y & s; s without t = x; shared = x; s without t = shared; s without t in s; s without t in x, y; shared in s; shared in x, y; not others => SE1: s without t | x | s or SE1: shared | x | s
+x = x; t <= s; x, y & s; s without t = x; s without t in s; not others => SE1: s without t | x | s or SE10: x, y | s | 2
 # nothing is so
-x = x; not others => SE3: x | x, y | 0 or SE3: y | x, y | 1 or SE5: s | t | 0 or SE5: t | s | 0";
+x = x; not others => SE5: s | t | 0 or SE5: t | s | 0";
+
+const TOLD_OF_SHARED: &str = "# the member that is picked
+s & t; not shared in s => SE6: s | t | 0
+s & t; not shared in t => SE6: s | t | 1
+s & t; shared in s; shared in t => nothing
+# any member
+x in s; x in t; not s & t => SE7: s | t | x
+x in s; y in t; not s & t => nothing
+# two members that are equal: whether the first set's is one of the second is asked too
+x in s; y in t; x = y; not s & t => nothing
+x in s; y in t; x = y; x in t; not s & t => SE7: s | t | x
+x in s; y in t; x = y; not x in t; not s & t => SE1: y | x | t";
+
+const TOLD_OF_WRITTEN: &str = "# members of a written set
+t without x, y in x, y; not t without x, y = x; not t without x, y = y => SE2: t without x, y | x, y
+t without x, y in x, y; not t without x, y = x => nothing
+x = x; not x in x, y => SE3: x | x, y | 0
+# also truth itself has no value
+not x in x, y => nothing
+x = y; not x in x, y => SE3: x | x, y | 1
+# each of its members is in another set
+x, y <= s; not x in s => SE9: x, y | s | 0
+x, y <= s; not y in s => SE9: x, y | s | 1
+not x, y <= s; x in s; y in s => SE9: x, y | s | 2
+not x, y <= s; x in s => nothing
+x, y <= s; x in s; y in s => nothing
+# or one of them is
+not t & x, y; y in t => SE10: t | x, y | 1
+t & x, y; not x in t; not y in t => SE10: t | x, y | 2
+t & x, y; not x in t => nothing
+not t & x, y; not x in t; not y in t => nothing";
+
+const TOLD_OF_TAGS: &str = "x = y; x in tag x; not y in tag x => SE1: x | y | tag x
+x = y; x in tag x; not y in tag y => nothing
+x = y; x in keys; not y in keys => SE1: x | y | keys";
 
 const TOLD_OF_ITSELF: &str = "s = s; not s <= s => SE8: s | s | 0 or SE8: s | s | 1
 not s <= s; s without s in s => SE5: s | s | 1
@@ -163,6 +191,27 @@ fn two_sets(rt: HostRuntime) -> Result<(), Fail> {
 #[test]
 fn all_atoms(rt: HostRuntime) -> Result<(), Fail> {
     let wrong = first_wrong(rt.alloc(), Asked::Sets, Rows::Told, WHOLE)?;
+    assert!(rt; wrong.is_none(), "{wrong:?}");
+    Ok(())
+}
+
+#[test]
+fn members_in_common(rt: HostRuntime) -> Result<(), Fail> {
+    let wrong = first_wrong(rt.alloc(), Asked::Shared, Rows::Told, TOLD_OF_SHARED)?;
+    assert!(rt; wrong.is_none(), "{wrong:?}");
+    Ok(())
+}
+
+#[test]
+fn written_sets(rt: HostRuntime) -> Result<(), Fail> {
+    let wrong = first_wrong(rt.alloc(), Asked::Written, Rows::Told, TOLD_OF_WRITTEN)?;
+    assert!(rt; wrong.is_none(), "{wrong:?}");
+    Ok(())
+}
+
+#[test]
+fn tags(rt: HostRuntime) -> Result<(), Fail> {
+    let wrong = first_wrong(rt.alloc(), Asked::Tags, Rows::Told, TOLD_OF_TAGS)?;
     assert!(rt; wrong.is_none(), "{wrong:?}");
     Ok(())
 }

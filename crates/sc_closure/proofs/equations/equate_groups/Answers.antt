@@ -15,7 +15,7 @@ equate_group-requires-clause-group_in c =
 pub equate_group-requires-clause-divided : goal.equate_group-requires-clause-divided
 equate_group-requires-clause-divided c =
     let i = c.loop-group.group-index in
-    divided_later c.args.terms.now c.loop-group.terms c.loop-group.invariant.puts.kept c.group-item.result
+    divided_later c.args.terms.now c.loop-group.terms c.loop-group.invariant.puts.kept c.group-item.result.members c.group-item.result.others
     (group_at _ c.args.groups.now c.requires.groups_in i c.group-item.result c.loop-group-test.true c.group-item.is).1
     (divided_at _ c.args.groups.now c.requires.divided i c.group-item.result c.loop-group-test.true c.group-item.is)
 

@@ -1,13 +1,12 @@
-use Rattle.sc_closure.proofs.GroupLaws.{groups_within}
-use Rattle.sc_closure.proofs.TakenLaws.{set_takes}
+use Rattle.sc_closure.proofs.JoinLaws.{crowds_within}
+use Rattle.sc_closure.proofs.RoleLaws.{set_takes}
 use Rattle.sc_closure.proofs.taking.take_set.Goals as goal
 
-pub join-requires-clause-groups_in : goal.join-requires-clause-groups_in
-join-requires-clause-groups_in c = groups_within _ _ c.requires.are.of_sets
-
-pub meet_groups-requires-clause-groups_in : goal.meet_groups-requires-clause-groups_in
-meet_groups-requires-clause-groups_in c = rw c.deref.ensures.value (groups_within _ _ c.requires.are.of_candidates)
+pub meet_set-requires-clause-crowds_in : goal.meet_set-requires-clause-crowds_in
+meet_set-requires-clause-crowds_in c = rw c.deref.ensures.value (crowds_within _ _ c.requires.are.of_crowds)
 
 pub returns-clause-ok : goal.returns-clause-ok
 returns-clause-ok c =
-    set_takes c.args.terms.now c.args.roles.now (record { named = c.args.roles.now.named; candidates = c.args.roles.now.candidates; sets = _; patterns = c.args.roles.now.patterns; seen = c.args.roles.now.seen }) c.requires.are c.args.n c.in_ok-join.ensures _ _ _ (rw c.deref.ensures.value at c.in_ok-meet_groups.ensures.ok)
+    let r = c.args.roles.now in
+    set_takes c.args.terms.now _ r (record { named = r.named; crowds = r.crowds; sets = _; above = r.above; patterns = r.patterns }) c.requires.are c.args.n c.requires.within _ _ c.in_ok-push.ensures.ok
+    (rw c.deref.ensures.value at c.in_ok-meet_set.ensures.ok)

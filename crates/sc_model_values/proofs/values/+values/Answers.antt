@@ -4,7 +4,7 @@ use Rattle.std.specs.List.{AllByRecursion}
 use Rattle.std.proofs.lemmas.Result.{IfOk-weaker}
 use Rattle.sc_model_values.specs.Models.{model, truth_in}
 use Rattle.sc_model_laws.specs.Assignments.{lit}
-use Rattle.sc_model_laws.specs.Vals.{assigned, val_of}
+use Rattle.sc_model_laws.specs.Vals.{elements, val_of}
 use Rattle.sc_sorts.specs.Inside.{SortField, SortFields}
 use Rattle.sc_sorts.specs.declared.sort.Sort.{the_lemmas}
 use Rattle.sc_sorts.specs.declared.sort.Sort.TheVariants as sort
@@ -13,7 +13,7 @@ use Rattle.sc_terms.specs.Folds.{field_term}
 use Rattle.sc_terms.specs.Tables.{tree, IsTable}
 use Rattle.sc_terms.specs.Trees.{Tree}
 use Rattle.sc_terms.specs.Values.{field_of, value_in}
-use Rattle.sc_model_values.proofs.AssignedLaws.{assigned_by, members_are}
+use Rattle.sc_model_values.proofs.AssignedLaws.{elements_are}
 use Rattle.sc_model_values.proofs.ValueLaws.{bool_at, long_at, string_at, decimal_at, ip_at, entity_at, set_at, record_at, option_at, shown_plain, shown_held, shown_absent, set_told, one_more_field}
 use Rattle.sc_model_values.proofs.values.+values.Goals as goal
 
@@ -92,15 +92,14 @@ pub set_value-member_values-requires : goal.set_value-member_values-requires
 set_value-member_values-requires n c = (
   search rules,
   subst (AllByRecursion (IsOf c.args.problem.now c.args.member.now)) (sym c.as_slice.ensures)
-      (members_are c.closed_laws.ensures.judged c.args.problem.now c.laws.ensures (subst IsTable c.terms.ensures c.laws-2.ensures) (truth_in c.args.problem.now c.args.m.now) c.args.member.now c.args.term _
-      c.requires c.in_ok-terms.ensures.within
-      (c.in_ok-terms.ensures.value c.args.names.now ∙ sym (assigned_by c.args.problem.now c.args.m.now c.args.names.now (tree c.args.problem.now.nodes c.args.term)))),
+      (elements_are c.closed_laws.ensures.judged c.args.problem.now c.laws.ensures (subst IsTable c.terms.ensures c.laws-2.ensures) c.args.m.now c.args.names.now c.args.member.now c.args.term _
+      c.requires c.in_ok-terms.ensures.within (c.in_ok-terms.ensures.value c.args.names.now)),
 )
 
 pub set_value-returns : goal.set_value-returns
 set_value-returns n c =
     IfOk-weaker c.set_of.result _ _
     (λ s h. set_told (λ y. value_in (val_of (model c.args.problem.now c.args.m.now c.args.names.now) c.args.member.now y)) (tree c.args.problem.now.nodes) c.as_slice.result.now
-    (assigned (model c.args.problem.now c.args.m.now c.args.names.now) (tree c.args.problem.now.nodes c.args.term)) c.as_slice-2.result.now s
+    (elements (model c.args.problem.now c.args.m.now c.args.names.now) (tree c.args.problem.now.nodes c.args.term)) c.as_slice-2.result.now s
     (ap (map (tree c.args.problem.now.nodes)) c.as_slice.ensures ∙ c.in_ok-terms.ensures.value c.args.names.now)
     (c.as_slice-2.ensures ∙ c.in_ok-members.ensures) h) c.set_of.ensures
