@@ -32,8 +32,8 @@ asked_of s q budget = record { schema = s; question = q.question; first = q.firs
 abbrev pub IsGoalOf : Declarations → Env → Query → Tree → Type 0
 IsGoalOf s env q t = goal_term s env q.question q.first (second q) ≡ Some t
 
--- What may be asked of an environment: it is one of the schema's, the sets write declared names alone, and are typed in it, so that there
--- is a goal.
+-- What may be asked of an environment: it is one of the schema's, the sets write declared names alone, and are typed
+-- in it, so that there is a goal.
 pub record MayBePosed (s : Declarations) (env : Env) (q : Query) : Type 0 where
   pub environment : Contains (environments s) env
   pub first_declared : name_fault s q.first ≡ None
@@ -60,7 +60,8 @@ IsFound q env OverLimit = ⊤
 
 -- what is asked under a schema of one or two policy sets, within a budget
 abbrev pub asked : Declarations → Question → List Policy → Option (List Policy) → ℕ → Asked
-asked s question first against budget = record { schema = s; question = question; first = first; second = unwrap_or against []; budget = budget }
+asked s question first against budget =
+    record { schema = s; question = question; first = first; second = unwrap_or against []; budget = budget }
 
 -- what is asked by the inputs of a command, within a budget
 abbrev pub asked_within : Asking → ℕ → Asked

@@ -36,11 +36,12 @@ pub record IsShown (q : Asked) (env : Env) (text : List ℕ) : Type 0 where
   pub is_problem : IsProblem q env posed
   pub accepted_text : IsAcceptedText (HasRule posed) (rule_clause posed) posed text
 
--- what an answer claims, of a log file with this content, where that is told: that a log is accepted means, whatever the file holds, that
--- each well-formed world of the environment has the property
+-- what an answer claims, of a log file with this content, where that is told: that a log is accepted means, whatever
+-- the file holds, that each well-formed world of the environment has the property
 abbrev pub Claims : Option (List ℕ) → Asked → Env → Answer → Type 0
 Claims content q env accepted = AlwaysHas q env × HasRoom q env × IfSome content (IsShown q env)
-Claims content q env (rejected step why) = HasRoom q env × IfSome content (λ text. HasTextVerdict q env text (Rejected step why))
+Claims content q env (rejected step why) =
+    HasRoom q env × IfSome content (λ text. HasTextVerdict q env text (Rejected step why))
 Claims content q env too_large = IsTooLarge q env
 
 -- the log file isn't too long, where its content is told
@@ -81,9 +82,12 @@ abbrev pub says_of : Verdict → Answer
 says_of Refuted = accepted
 says_of (Rejected step why) = rejected step why
 
--- How checking a log ends, of a log file with this content, where that is told: the log isn't too long, and what is said of it is written
--- whole; or the sink failed, and a front of it is; or memory ran out, and nothing is written.
-pub data Checked (content : Option (List ℕ)) (q : Asked) (env : Env) (old new : Option (List ℕ)) (rose : Type 0) (code : ℕ) : Type 0 where
-  answer_whole : (a : Answer) → IsShort content → Claims content q env a → code ≡ answer_code a → new ≡ appended old (answer_text env a) → Checked content q env old new rose code
-  answer_front : (a : Answer) (n : ℕ) → IsShort content → Claims content q env a → rose → code ≡ 21 → new ≡ appended old (take n (answer_text env a)) → Checked content q env old new rose code
+-- How checking a log ends, of a log file with this content, where that is told: the log isn't too long, and what is
+-- said of it is written whole; or the sink failed, and a front of it is; or memory ran out, and nothing is written.
+pub data Checked (content : Option (List ℕ)) (q : Asked) (env : Env) (old new : Option (List ℕ)) (rose : Type 0)
+    (code : ℕ) : Type 0 where
+  answer_whole : (a : Answer) → IsShort content → Claims content q env a → code ≡ answer_code a
+      → new ≡ appended old (answer_text env a) → Checked content q env old new rose code
+  answer_front : (a : Answer) (n : ℕ) → IsShort content → Claims content q env a → rose → code ≡ 21
+      → new ≡ appended old (take n (answer_text env a)) → Checked content q env old new rose code
   unchecked : code ≡ 30 → new ≡ old → Checked content q env old new rose code

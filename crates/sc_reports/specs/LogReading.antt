@@ -9,7 +9,8 @@ use Rattle.sc_solver.specs.declared.rules.Rules.{Rules}
 -- a piece of a log isn't read: the count rose, or more is left than may be
 pub data RefusesPiece (left : Left) (room : ℕ) (rose : Type 0) : Refusal → Type 0 where
   piece_unread : rose → RefusesPiece left room rose (read_fault log_file)
-  piece_long : IfSome left (λ told. IfSome told (λ rest. room < length rest)) → RefusesPiece left room rose (too_long log_file)
+  piece_long : IfSome left (λ told. IfSome told (λ rest. room < length rest))
+      → RefusesPiece left room rose (too_long log_file)
 
 -- what is held of a log, where it is checked
 abbrev pub Held : Type 0
@@ -31,8 +32,8 @@ HoldsAfter (Some c) text end = After (HasRule c.problem) (rule_clause c.problem)
 abbrev pub ComesTo : Held → List ℕ → Held → List ℕ → Type 0
 ComesTo before text now rest = (end : Checking) → HoldsAfter now rest end → HoldsAfter before text end
 
--- what is left, where that is told, leads from what is held to where the whole text leads from what was held, with so much room up to
--- the limit
+-- what is left, where that is told, leads from what is held to where the whole text leads from what was held, with so
+-- much room up to the limit
 pub record LeadsOn (before now : Held) (text : List ℕ) (room : ℕ) (left : Left) : Type 0 where
   pub rest : List ℕ
   pub is_left : left ≡ Some (Some rest)

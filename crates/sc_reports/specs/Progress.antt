@@ -23,7 +23,8 @@ pub record IsFront (q : Asked) (envs : List Env) (lines : List Line) : Type 0 wh
   pub in_order : map (λ (l : Line). l.env) lines ++ rest ≡ envs
   pub lines_true : AllByRecursion (IsLine q) lines
 
--- what is counted of lines: whether one is a counterexample, whether one is open, and the logs of those that say `unknown`
+-- what is counted of lines: whether one is a counterexample, whether one is open, and the logs of those that say
+-- `unknown`
 pub record Counts (lines : List Line) (t : Tally) : Type 0 where
   pub counterexample : t.counterexample ≡ has_counterexample lines
   pub undecided : t.undecided ≡ has_open lines
@@ -44,11 +45,13 @@ pub record CountedAs (t u : Tally) (fails left : Bool) (logs : List (List Step))
 abbrev pub Counted : Line → Tally → Tally → Type 0
 Counted l t u = CountedAs t u (is_counterexample l.verdict) (is_open l.verdict) (log_of l.verdict)
 
--- What putting out a line and counting it does: it is put out, and counted so; or a failed write puts out a front of it; or memory runs
--- out, and nothing is put out. Where the whole line isn't, no log is counted.
-abbrev pub PutsCounted : Tally → Tally → Bool → Bool → List (List Step) → Option (List ℕ) → Option (List ℕ) → List ℕ → Type 0 → Result Unit SinkFault → Type 0
+-- What putting out a line and counting it does: it is put out, and counted so; or a failed write puts out a front of
+-- it; or memory runs out, and nothing is put out. Where the whole line isn't, no log is counted.
+abbrev pub PutsCounted : Tally → Tally → Bool → Bool → List (List Step) → Option (List ℕ) → Option (List ℕ) → List ℕ
+    → Type 0 → Result Unit SinkFault → Type 0
 PutsCounted t u fails left logs old new text rose (Ok x) = (new ≡ appended old text) × CountedAs t u fails left logs
-PutsCounted t u fails left logs old new text rose (Err Failed) = rose × (u.spent.items ≡ t.spent.items) × ((n : ℕ) × (new ≡ appended old (take n text)))
+PutsCounted t u fails left logs old new text rose (Err Failed) =
+    rose × (u.spent.items ≡ t.spent.items) × ((n : ℕ) × (new ≡ appended old (take n text)))
 PutsCounted t u fails left logs old new text rose (Err NoMemory) = (new ≡ old) × (u.spent.items ≡ t.spent.items)
 
 -- the lines of the first i environments are written, and counted
@@ -59,21 +62,31 @@ pub record Progress (q : Asked) (envs : List Env) (i : ℕ) (old new : Option (L
   pub text : new ≡ appended old (lines_text lines)
   pub counts : Counts lines t
 
--- How reporting ends: the whole report is written; or the sink failed, whole first lines are written and a front of the
--- next one; or memory ran out, and whole first lines are written. The logs are those of the whole lines that say `unknown`.
-pub data Reported (q : Asked) (old new : Option (List ℕ)) (rose : Type 0) (code : ℕ) (spent : List (List Step)) : Type 0 where
-  whole : (lines : List Line) → IsReport q (environments q.schema) lines → code ≡ status_of lines → new ≡ appended old (report_text lines) → spent ≡ logs_of lines → Reported q old new rose code spent
-  cut : (lines : List Line) (next : Line) (n : ℕ) → IsFront q (environments q.schema) (lines ++ next ∷ []) → rose → code ≡ 21
-      → new ≡ appended old (lines_text lines ++ take n (line_text next)) → spent ≡ logs_of lines → Reported q old new rose code spent
-  cut_none : (n : ℕ) → environments q.schema ≡ [] → rose → code ≡ 21 → new ≡ appended old (take n (report_text [])) → spent ≡ [] → Reported q old new rose code spent
-  stopped : (lines : List Line) → IsFront q (environments q.schema) lines → code ≡ 30 → new ≡ appended old (lines_text lines) → spent ≡ logs_of lines → Reported q old new rose code spent
+-- How reporting ends: the whole report is written; or the sink failed, whole first lines are written and a front of
+-- the next one; or memory ran out, and whole first lines are written. The logs are those of the whole lines that say
+-- `unknown`.
+pub data Reported (q : Asked) (old new : Option (List ℕ)) (rose : Type 0) (code : ℕ)
+    (spent : List (List Step)) : Type 0 where
+  whole : (lines : List Line) → IsReport q (environments q.schema) lines → code ≡ status_of lines
+      → new ≡ appended old (report_text lines) → spent ≡ logs_of lines → Reported q old new rose code spent
+  cut : (lines : List Line) (next : Line) (n : ℕ) → IsFront q (environments q.schema) (lines ++ next ∷ []) → rose
+      → code ≡ 21
+      → new ≡ appended old (lines_text lines ++ take n (line_text next)) → spent ≡ logs_of lines
+      → Reported q old new rose code spent
+  cut_none : (n : ℕ) → environments q.schema ≡ [] → rose → code ≡ 21 → new ≡ appended old (take n (report_text []))
+      → spent ≡ [] → Reported q old new rose code spent
+  stopped : (lines : List Line) → IsFront q (environments q.schema) lines → code ≡ 30
+      → new ≡ appended old (lines_text lines) → spent ≡ logs_of lines → Reported q old new rose code spent
 
--- What reporting an environment does: a true line of it is put out and counted; or a failed write puts out a front of such a line; or
--- memory runs out, and nothing is put out. Where no whole line is, no log is counted.
-abbrev pub ReportsEnv : Asked → Env → Tally → Tally → Option (List ℕ) → Option (List ℕ) → Type 0 → Result Unit SinkFault → Type 0
-ReportsEnv q env t u old new rose (Ok x) = (l : Line) × IsLine q l × (l.env ≡ env) × Counted l t u × (new ≡ appended old (line_text l))
+-- What reporting an environment does: a true line of it is put out and counted; or a failed write puts out a front of
+-- such a line; or memory runs out, and nothing is put out. Where no whole line is, no log is counted.
+abbrev pub ReportsEnv : Asked → Env → Tally → Tally → Option (List ℕ) → Option (List ℕ) → Type 0
+    → Result Unit SinkFault → Type 0
+ReportsEnv q env t u old new rose (Ok x) = (l : Line) × IsLine q l × (l.env ≡ env) × Counted l t u
+    × (new ≡ appended old (line_text l))
 ReportsEnv q env t u old new rose (Err Failed) =
-    rose × (u.spent.items ≡ t.spent.items) × ((l : Line) × IsLine q l × (l.env ≡ env) × ((n : ℕ) × (new ≡ appended old (take n (line_text l)))))
+    rose × (u.spent.items ≡ t.spent.items)
+    × ((l : Line) × IsLine q l × (l.env ≡ env) × ((n : ℕ) × (new ≡ appended old (take n (line_text l)))))
 ReportsEnv q env t u old new rose (Err NoMemory) = (new ≡ old) × (u.spent.items ≡ t.spent.items)
 
 -- whole first lines and a front of the next one are written
@@ -93,7 +106,8 @@ pub record WholeFront (q : Asked) (envs : List Env) (old new : Option (List ℕ)
   pub spent : t.spent.items ≡ logs_of lines
 
 -- what reporting environments one after another does
-abbrev pub ReportsAll : Asked → List Env → Tally → Option (List ℕ) → Option (List ℕ) → Type 0 → Result Unit SinkFault → Type 0
+abbrev pub ReportsAll : Asked → List Env → Tally → Option (List ℕ) → Option (List ℕ) → Type 0
+    → Result Unit SinkFault → Type 0
 ReportsAll q envs t old new rose (Ok x) = Progress q envs (length envs) old new t
 ReportsAll q envs t old new rose (Err Failed) = rose × CutFront q envs old new t
 ReportsAll q envs t old new rose (Err NoMemory) = WholeFront q envs old new t
