@@ -1,0 +1,12 @@
+//! The two ways to say what a text stands for agree.
+ghost use Rattle.std.specs.Prelude.{◌≡◌, ◌↔◌, ℕ, ℤ, List, Some};
+ghost use Rattle.sc_date_texts.specs.DurationText.{IsDurationText};
+ghost use Rattle.sc_date_texts.specs.DurationValue.{duration_of};
+ghost use Rattle.sc_date_texts.specs.DatetimeText.{IsDatetimeText};
+ghost use Rattle.sc_date_texts.specs.DatetimeValue.{datetime_of};
+
+/// What `duration_of` and `datetime_of` find is what the text stands for.
+pub fn text_laws()
+    ensures durations { (text : List ℕ) (z : ℤ) → (duration_of text ≡ Some z) ↔ IsDurationText text z }
+    ensures datetimes { (text : List ℕ) (z : ℤ) → (datetime_of text ≡ Some z) ↔ IsDatetimeText text z }
+{}
