@@ -1,15 +1,17 @@
 -- The date and the time of the day that a number of milliseconds is.
-use Rattle.std.proofs.Common.{◌≡◌, ℕ, ◌<◌, Some, None, Result, Ok, Err, IfOk, IsOk, ◌↔◌, refl, ap, sym, ◌∙◌, arith, subst, ℤ, pos, negsuc, ◌+ℤ◌, ◌*ℤ◌, ◌≤ℤ◌, ◌<ℤ◌, unsigned_abs, SFits, to_z, of_z}
+use Rattle.std.proofs.Common.{◌≡◌, ℕ, ◌<◌, ◌≤◌, zero, suc, Some, None, Result, Ok, Err, IfOk, IsOk, ◌↔◌, refl, ap, sym, ◌∙◌, arith, subst, ℤ, pos, negsuc, neg_ℤ, ◌+ℤ◌, ◌*ℤ◌, ◌≤ℤ◌, ◌<ℤ◌, unsigned_abs, SFits, to_z, of_z}
 use Rattle.std.specs.Int.{w64, int_div_euclid, int_rem_euclid}
 use Rattle.std.proofs.lemmas.Int.{ints, to_z-of_z}
 use Rattle.std.proofs.lemmas.Bool.{false≢true}
 use Rattle.std.specs.Result.{result_ok}
 use Rattle.jiff_core.specs.declared.civil.date.Date.{Date}
 use Rattle.jiff_core.specs.declared.error.Error.{Error}
-use Rattle.jiff_core.specs.Calendar.{IsCivilDate, IsEpochDay, days_from_civil}
+use Rattle.jiff_core.specs.Calendar.{IsCivilDate, IsEpochDay, day_count, days_from_civil}
 use Rattle.jiff_core.specs.Date.{epoch_day}
 use Rattle.jiff_core.proofs.DateLemmas.{civil, epoch_day_range, epoch_day_injective}
-use Rattle.sc_date_texts.specs.Written.{IsCivil}
+use Rattle.jiff_core.proofs.CalendarLemmas.{days_from_civil-day_count, day_count_bounds, day_count-lt_year, day_count-later_year, day_count-day_of_year}
+use Rattle.jiff_core.proofs.MarchLemmas.{day_count-early}
+use Rattle.sc_date_texts.specs.Written.{IsCivil, IsInYears}
 
 abbrev day : ℕ
 day = 86400000
@@ -77,3 +79,59 @@ rest_is z r f e = e ∙ ap (λ x. int_rem_euclid x (pos day)) (to_z-of_z w64 z f
     positive : (z : ℤ) → int_rem_euclid z (pos day) ≡ pos (unsigned_abs (int_rem_euclid z (pos day)))
     positive (pos n) = refl
     positive (negsuc n) = refl
+
+-- ---- the years 0 to 9999 by numbers
+
+year_0 : day_count (pos 0) 1 1 ≡ 3652425
+year_0 = day_count-early (pos 0) 9999 1 1 refl (omega arith) (omega arith) (omega arith)
+
+-- where there is no date of these years, the number is none of them
+pub no_date_out : (z number : ℤ) (r : Result Date Error) → number ≡ int_div_euclid z (pos 86400000) → (IsOk r ↔ IsEpochDay number) → None ≡ result_ok r
+    → IsInYears z → ⊥
+no_date_out z number (Ok found) e ok none h = absurd cc
+no_date_out z number (Err other) e ok none h =
+    let s = split z in
+    let range : IsEpochDay number = (let sum = s.sum in let below = s.below in omega (arith, ints), let sum = s.sum in let below = s.below in omega (arith, ints)) in
+    false≢true (ok.1 range)
+
+before_year_0 : (d : Date) → d.year <ℤ pos 0 → epoch_day d <ℤ neg_ℤ (pos 719528)
+before_year_0 d below =
+    let l = day_count-lt_year d.year d.month d.day (pos 0) 1 1 (civil d) (omega arith) below in
+    let k = days_from_civil-day_count d.year d.month d.day in
+    let e = year_0 in
+    omega (arith, ints)
+
+pub no_year_out : (z number : ℤ) (r : Result Date Error) (found : Date) → number ≡ int_div_euclid z (pos 86400000) → IfOk r (λ d. epoch_day d ≡ number) → Some found ≡ result_ok r → found.year <ℤ pos 0
+    → IsInYears z → ⊥
+no_year_out z number (Err other) found e value some below h = absurd cc
+no_year_out z number (Ok other) found e value some below h =
+    let same : found ≡ other = cc in
+    let found_day : epoch_day found ≡ number = subst (λ d. epoch_day d ≡ number) (sym same) value in
+    let early : number <ℤ neg_ℤ (pos 719528) = subst (λ k. k <ℤ neg_ℤ (pos 719528)) found_day (before_year_0 found below) in
+    let s = split z in
+    let sum = s.sum in
+    let under = s.below in
+    omega (arith, ints)
+
+from_year_0 : (y m d : ℕ) → IsCivilDate (pos y) m d → 3652425 ≤ day_count (pos y) m d
+from_year_0 zero m d h =
+    let e = year_0 in
+    let s = day_count-day_of_year (pos 0) m d h.2.0 in
+    let low = h.2.0 in
+    omega arith
+from_year_0 (suc y) m d h =
+    let e = year_0 in
+    let l = day_count-later_year (pos 0) (pos (suc y)) (omega (arith, ints)) (omega (arith, ints)) in
+    let s = day_count-day_of_year (pos (suc y)) m d h.2.0 in
+    let low = h.2.0 in
+    omega arith
+
+-- and each date of these years with a time of the day is one of these numbers
+pub civil_years : (z : ℤ) (y m d t : ℕ) → IsCivil z y m d t → IsInYears z
+civil_years z y m d t h =
+    let low = from_year_0 y m d h.in_calendar in
+    let b = day_count_bounds (pos y) m d h.in_calendar in
+    let k = days_from_civil-day_count (pos y) m d in
+    let sum = h.sum in
+    let below = h.below_day in
+    (omega (arith, ints), omega (arith, ints))

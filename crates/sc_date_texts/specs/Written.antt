@@ -1,6 +1,6 @@
 -- The text that is written of a datetime: the date, the clock with milliseconds, and `Z`, where the year is from 0 to
 -- 9999; else `ms:` and the number of milliseconds. Bytes: 45 is `-`, 46 `.`, 58 `:`, 84 `T`, 90 `Z`.
-use Rattle.std.specs.Prelude.{◌≡◌, ℕ, ◌+◌, ◌/◌, ◌%◌, ◌<◌, List, [], ◌∷◌, ◌++◌, ℤ, pos, ◌+ℤ◌, ◌*ℤ◌}
+use Rattle.std.specs.Prelude.{◌≡◌, ℕ, ◌+◌, ◌/◌, ◌%◌, ◌<◌, List, [], ◌∷◌, ◌++◌, ℤ, pos, neg_ℤ, ◌+ℤ◌, ◌*ℤ◌, ◌≤ℤ◌}
 use Rattle.std.specs.Fmt.{signed_decimal}
 use Rattle.jiff_core.specs.Calendar.{IsCivilDate, days_from_civil}
 
@@ -19,7 +19,8 @@ date_text year month day = four_digits year ++ (45 ∷ (two_digits month ++ (45 
 -- of the milliseconds of a day
 abbrev pub clock_text : ℕ → List ℕ
 clock_text time =
-    84 ∷ (two_digits (time / 3600000) ++ (58 ∷ (two_digits (time / 60000 % 60) ++ (58 ∷ two_digits (time / 1000 % 60)))))
+    84 ∷ (two_digits (time / 3600000)
+    ++ (58 ∷ (two_digits (time / 60000 % 60) ++ (58 ∷ two_digits (time / 1000 % 60)))))
 
 abbrev pub fraction_text : ℕ → List ℕ
 fraction_text time = 46 ∷ three_digits (time % 1000)
@@ -32,6 +33,10 @@ pub record IsCivil (z : ℤ) (year month day time : ℕ) : Type 0 where
   pub in_calendar : IsCivilDate (pos year) month day
   pub below_day : time < 86400000
   pub sum : z ≡ days_from_civil (pos year) month day *ℤ pos 86400000 +ℤ pos time
+
+-- from 0000-01-01T00:00:00.000Z to 9999-12-31T23:59:59.999Z
+abbrev pub IsInYears : ℤ → Type 0
+IsInYears z = (neg_ℤ (pos 62167219200000) ≤ℤ z) × (z ≤ℤ pos 253402300799999)
 
 -- the text that is written of a number
 pub data IsWritten : ℤ → List ℕ → Type 0 where

@@ -2,7 +2,7 @@
 ghost use Rattle.std.specs.Prelude.{◌≡◌, ℕ, ◌<◌, ◌++◌, pos, ◌≤ℤ◌, unsigned_abs, IfOk, IfSome, IfNone, string_bytes};
 ghost use Rattle.std.specs.Int.{int_rem_euclid};
 ghost use Rattle.sc_date_texts.specs.DatetimeText.{IsDatetimeText};
-ghost use Rattle.sc_date_texts.specs.Written.{date_text, moment_text, IsCivil, IsWritten};
+ghost use Rattle.sc_date_texts.specs.Written.{date_text, moment_text, IsCivil, IsInYears, IsWritten};
 
 use jiff_core::civil::Date;
 use sc_dates::Datetime;
@@ -17,6 +17,7 @@ pub fn write_datetime(alloc: Global, t: &Datetime) -> Result<String, AllocError>
     ensures text { IfOk result (λ s. IsWritten t.now (string_bytes s)) }
     ensures reads_back { (year month day time : ℕ) → IsCivil t.now year month day time
         → IfOk result (λ s. IsDatetimeText (string_bytes s) t.now) }
+    ensures in_years { IsInYears t.now → IfOk result (λ s. IsDatetimeText (string_bytes s) t.now) }
 {
     write_milliseconds(alloc, t.milliseconds())
 }
@@ -26,6 +27,7 @@ fn write_milliseconds(alloc: Global, milliseconds: i64) -> Result<String, AllocE
     ensures text { IfOk result (λ s. IsWritten milliseconds (string_bytes s)) }
     ensures reads_back { (year month day time : ℕ) → IsCivil milliseconds year month day time
         → IfOk result (λ s. IsDatetimeText (string_bytes s) milliseconds) }
+    ensures in_years { IsInYears milliseconds → IfOk result (λ s. IsDatetimeText (string_bytes s) milliseconds) }
 {
     match civil_date(milliseconds) {
         Some(date) => write_civil(alloc, date, milliseconds.rem_euclid(DAY) as u32),
@@ -39,6 +41,7 @@ fn civil_date(milliseconds: i64) -> Option<Date>
         (unsigned_abs (int_rem_euclid milliseconds (pos 86400000)))) }
     ensures year { IfSome result (λ date. pos (unsigned_abs date.year) ≡ date.year) }
     ensures none { IfNone result ((year month day time : ℕ) → IsCivil milliseconds year month day time → ⊥) }
+    ensures out { IfNone result (IsInYears milliseconds → ⊥) }
 {
     let date = Date::from_unix_epoch_day(milliseconds.div_euclid(DAY)).ok()?;
     if date.year < 0 { None } else { Some(date) }
