@@ -1,0 +1,5 @@
+mod ClauseLaws
+mod BitLaws
+mod ScriptLaws
+mod Examples
+mod SumLaws

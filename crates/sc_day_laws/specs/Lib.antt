@@ -1,0 +1,4 @@
+pub mod Clauses
+pub mod ScriptWords
+pub mod SplitBits
+pub mod Sums
