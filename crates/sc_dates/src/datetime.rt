@@ -42,8 +42,8 @@ impl Datetime {
         self.milliseconds
     }
 
-    /// The datetime that is later by a duration, or earlier where the duration is negative: Cedar's `offset`. None where
-    /// that leaves 64 bits.
+    /// The datetime that is later by a duration, or earlier where the duration is negative: Cedar's `offset`. None
+    /// where that leaves 64 bits.
     pub fn offset(self, duration: Duration) -> Option<Datetime>
         ensures { SomeIff result (FitsSigned w64 (self +ℤ duration)) (self +ℤ duration) }
     {

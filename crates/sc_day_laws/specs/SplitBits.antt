@@ -13,8 +13,8 @@ pub record IsLess (a b low : ℕ → Bool) (answer : Bool) : Type 0 where
   pub lower : IsLow 63 a b low
   pub is : is_below (b 63) (a 63) (low 63) ≡ answer
 
--- rows and carries of the product of days by the length of a day, its bits, the carries and the bits of its sum with the
--- time
+-- rows and carries of the product of days by the length of a day, its bits, the carries and the bits of its sum with
+-- the time
 pub record IsSum (number days time : ℕ → Bool) (rows carries : ℕ → ℕ → Bool) (product carry sum : ℕ → Bool)
     : Type 0 where
   pub multiplied : IsMultiplier 64 days (bit64 (pos day)) rows carries
@@ -32,4 +32,5 @@ pub record KeepsBits (number days time : ℕ → Bool) (rows carries : ℕ → �
   pub not_after : IsLess (bit64 last_day) days late false
   pub days_lower : IsLow 63 days (bit64 (pos 0)) days_low
   pub number_lower : IsLow 63 number (bit64 (pos 0)) number_low
-  pub sign : is_below (bit64 (pos 0) 63) (days 63) (days_low 63) ≡ is_below (bit64 (pos 0) 63) (number 63) (number_low 63)
+  pub sign : is_below (bit64 (pos 0) 63) (days 63) (days_low 63)
+      ≡ is_below (bit64 (pos 0) 63) (number 63) (number_low 63)
