@@ -1,6 +1,6 @@
 #!/bin/sh
-# Asks about two hundred products of one number, whose bits are more than 4,194,304 atoms, and prints the seconds, the kilobytes of memory, the
-# status and the line; it is to say `over limit` with status 2. A run is stopped after 60 seconds (status 124).
+# Asks about two hundred products of one number, whose bits are more than 4,194,304 atoms, under the schema of generated policies, and prints the
+# seconds, the kilobytes of memory, the status and the line; it is to say `over limit` with status 2. A run is stopped after 60 seconds (status 124).
 # usage: scripts/over_limit.sh [PROGRAM]
 set -u
 cd "$(dirname "$0")/.." || exit 2
@@ -10,12 +10,10 @@ folder=$(mktemp -d)
 trap 'rm -rf "$folder"' EXIT
 
 python3 - "$folder" "$program" <<'PY'
-import json, resource, subprocess, sys, time
+import re, resource, subprocess, sys, time
 folder, program = sys.argv[1], sys.argv[2]
-context = {"type": "Record", "attributes": {"n": {"type": "Long"}}}
-view = {"appliesTo": {"principalTypes": ["User"], "resourceTypes": ["Doc"], "context": context}}
-with open(f"{folder}/schema.json", "w") as out:
-    json.dump({"": {"entityTypes": {"User": {}, "Doc": {}}, "actions": {"view": view}}}, out)
+with open("crates/sc_generated/src/schema.rt") as text, open(f"{folder}/schema.json", "w") as out:
+    out.write(re.search(r'r#"(.*)"#;', text.read()).group(1))
 with open(f"{folder}/policies.cedar", "w") as out:
     tests = " || ".join(f"context.n * {factor} == 7" for factor in range(2, 202))
     out.write("permit(principal, action, resource) when { " + tests + " };\n")

@@ -1,5 +1,5 @@
-//! Tests of the lowest crates: texts and lists, numbers and addresses, patterns, graphs, tokens and clauses. There is no code here but
-//! tests.
+//! Tests of the lowest crates: texts and lists, numbers and addresses, patterns, graphs, tokens, clauses and
+//! generated policies. There is no code here but tests.
 #![tactic(auto)]
 
 #[cfg(test)]
@@ -10,6 +10,8 @@ mod bits;
 mod clauses;
 #[cfg(test)]
 mod decimals;
+#[cfg(test)]
+mod generated;
 #[cfg(test)]
 mod graphs;
 #[cfg(test)]

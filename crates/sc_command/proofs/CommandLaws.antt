@@ -6,7 +6,7 @@ use Rattle.std.specs.Str.Parse.{digits_value}
 use Rattle.std.proofs.lemmas.Bool.{true≢false}
 use Rattle.clap.specs.Words.{Row, Text, subcommand_of}
 use Rattle.sc_question.proofs.NameLaws.{one_name}
-use Rattle.sc_command.specs.CommandLine.{Analyse, Asked, Check, Command, Commands, HasBudget, HasPlace, IsAnalyse, IsAsked, IsCheck, IsLog, IsNumber, IsReduce, IsReplay, Log, Reads, Reduce, Replay, Values, analyse, check_log, reduce, replay, tool, values_of, write_log}
+use Rattle.sc_command.specs.CommandLine.{Analyse, Asked, Check, Command, Commands, Generate, HasBudget, HasPlace, IsAnalyse, IsAsked, IsCheck, IsGenerate, IsLog, IsNumber, IsReduce, IsReplay, Log, Reads, Reduce, Replay, Values, analyse, check_log, generate, reduce, replay, tool, values_of, write_log}
 
 one_value : {X : Type 0} (x y : X) → Some x ≡ Some y → x ≡ y
 one_value x y e = ap (λ o. unwrap_or o x) e
@@ -64,6 +64,13 @@ one_reduce given r s h k =
     let budget = one_budget given r.budget s.budget h.budget_given k.budget_given in
     λ i. record { asked = record { schema = schema i; policies = policies i; against = against i; question = question i }; budget = budget i }
 
+one_generate : (given : Values) (f g : Generate) → IsGenerate given f → IsGenerate given g → f ≡ g
+one_generate given f g h k =
+    let a = h.size_given in
+    let b = k.size_given in
+    let size = one_number a.text b.text f.size g.size (sym a.given_text ∙ b.given_text) a.spelled b.spelled in
+    λ i. record { size = size i }
+
 abbrev Entered : Type 0
 Entered = Option (Text × List Row)
 
@@ -76,10 +83,10 @@ other_name : (entered : Entered) (name other : Text) (r s : List Row) → bytes_
 other_name entered name other r s same differs e f =
     true≢false (sym same ∙ ap (λ (o : Entered). bytes_eq (unwrap_or o ([], [])).0 name) (sym e ∙ f) ∙ differs)
 
--- a name that isn't `reduce`
-not_named : (entered : Entered) (name other : Text) (r s : List Row) → entered ≡ Some (name, r) → bytes_eq name (codes "reduce") ≡ true → bytes_eq other (codes "reduce") ≡ false → entered ≡ Some (other, s) → ⊥
-not_named entered name other r s e named differs f =
-    true≢false (sym named ∙ ap (λ (o : Entered). bytes_eq (unwrap_or o ([], [])).0 (codes "reduce")) (sym e ∙ f) ∙ differs)
+-- a name that isn't this word
+not_named : (entered : Entered) (word name other : Text) (r s : List Row) → entered ≡ Some (name, r) → bytes_eq name word ≡ true → bytes_eq other word ≡ false → entered ≡ Some (other, s) → ⊥
+not_named entered word name other r s e named differs f =
+    true≢false (sym named ∙ ap (λ (o : Entered). bytes_eq (unwrap_or o ([], [])).0 word) (sym e ∙ f) ∙ differs)
 
 never : (entered : Entered) (name other : Text) (r s : List Row) (c d : Command) → bytes_eq name name ≡ true → bytes_eq other name ≡ false → entered ≡ Some (name, r) → entered ≡ Some (other, s) → c ≡ d
 never entered name other r s c d same differs e f = absurd (other_name entered name other r s same differs e f)
@@ -100,6 +107,9 @@ one_read entered (check_log c) (check_log d) h k =
 one_read entered (reduce x) (reduce y) h k =
     let same = one_list entered (codes "reduce") h.0 k.0 h.1 k.1 in
     ap reduce (one_reduce (values_of k.0) x y (subst (λ (rows : List Row). IsReduce (values_of rows) x) same h.2) k.2)
+one_read entered (generate f) (generate g) h k =
+    let same = one_list entered (codes "generate") h.0 k.0 h.1 k.1 in
+    ap generate (one_generate (values_of k.0) f g (subst (λ (rows : List Row). IsGenerate (values_of rows) f) same h.2) k.2)
 one_read entered (analyse a) (replay s) h k = never entered (codes "analyse") (codes "replay") h.0 k.0 _ _ refl refl h.1 k.1
 one_read entered (analyse a) (write_log m) h k = never entered (codes "analyse") (codes "log") h.0 k.0 _ _ refl refl h.1 k.1
 one_read entered (analyse a) (check_log d) h k = never entered (codes "analyse") (codes "check") h.0 k.0 _ _ refl refl h.1 k.1
@@ -120,15 +130,36 @@ one_read entered (reduce x) (analyse b) h k = never entered (codes "reduce") (co
 one_read entered (reduce x) (replay s) h k = never entered (codes "reduce") (codes "replay") h.0 k.0 _ _ refl refl h.1 k.1
 one_read entered (reduce x) (write_log m) h k = never entered (codes "reduce") (codes "log") h.0 k.0 _ _ refl refl h.1 k.1
 one_read entered (reduce x) (check_log d) h k = never entered (codes "reduce") (codes "check") h.0 k.0 _ _ refl refl h.1 k.1
+one_read entered (analyse a) (generate g) h k = never entered (codes "analyse") (codes "generate") h.0 k.0 _ _ refl refl h.1 k.1
+one_read entered (replay r) (generate g) h k = never entered (codes "replay") (codes "generate") h.0 k.0 _ _ refl refl h.1 k.1
+one_read entered (write_log l) (generate g) h k = never entered (codes "log") (codes "generate") h.0 k.0 _ _ refl refl h.1 k.1
+one_read entered (check_log c) (generate g) h k = never entered (codes "check") (codes "generate") h.0 k.0 _ _ refl refl h.1 k.1
+one_read entered (reduce x) (generate g) h k = never entered (codes "reduce") (codes "generate") h.0 k.0 _ _ refl refl h.1 k.1
+one_read entered (generate f) (analyse b) h k = never entered (codes "generate") (codes "analyse") h.0 k.0 _ _ refl refl h.1 k.1
+one_read entered (generate f) (replay s) h k = never entered (codes "generate") (codes "replay") h.0 k.0 _ _ refl refl h.1 k.1
+one_read entered (generate f) (write_log m) h k = never entered (codes "generate") (codes "log") h.0 k.0 _ _ refl refl h.1 k.1
+one_read entered (generate f) (check_log d) h k = never entered (codes "generate") (codes "check") h.0 k.0 _ _ refl refl h.1 k.1
+one_read entered (generate f) (reduce y) h k = never entered (codes "generate") (codes "reduce") h.0 k.0 _ _ refl refl h.1 k.1
 
 -- the words name `reduce`, and its options were given no such command
 pub no_reduce : (entered : Entered) (name : Text) (rows : List Row) → entered ≡ Some (name, rows) → bytes_eq name (codes "reduce") ≡ true → ((r : Reduce) → IsReduce (values_of rows) r → ⊥) → (c : Command) → Reads entered c → ⊥
 no_reduce entered name rows e named none (reduce r) h =
     none r (subst (λ (given : List Row). IsReduce (values_of given) r) (ap (λ (o : Entered). (unwrap_or o (name, rows)).1) (sym h.1 ∙ e)) h.2)
-no_reduce entered name rows e named none (analyse a) h = not_named entered name (codes "analyse") rows h.0 e named refl h.1
-no_reduce entered name rows e named none (replay r) h = not_named entered name (codes "replay") rows h.0 e named refl h.1
-no_reduce entered name rows e named none (write_log l) h = not_named entered name (codes "log") rows h.0 e named refl h.1
-no_reduce entered name rows e named none (check_log c) h = not_named entered name (codes "check") rows h.0 e named refl h.1
+no_reduce entered name rows e named none (analyse a) h = not_named entered (codes "reduce") name (codes "analyse") rows h.0 e named refl h.1
+no_reduce entered name rows e named none (replay r) h = not_named entered (codes "reduce") name (codes "replay") rows h.0 e named refl h.1
+no_reduce entered name rows e named none (write_log l) h = not_named entered (codes "reduce") name (codes "log") rows h.0 e named refl h.1
+no_reduce entered name rows e named none (check_log c) h = not_named entered (codes "reduce") name (codes "check") rows h.0 e named refl h.1
+no_reduce entered name rows e named none (generate g) h = not_named entered (codes "reduce") name (codes "generate") rows h.0 e named refl h.1
+
+-- the words name `generate`, and its option was given no such command
+pub no_generate : (entered : Entered) (name : Text) (rows : List Row) → entered ≡ Some (name, rows) → bytes_eq name (codes "generate") ≡ true → ((g : Generate) → IsGenerate (values_of rows) g → ⊥) → (c : Command) → Reads entered c → ⊥
+no_generate entered name rows e named none (generate g) h =
+    none g (subst (λ (given : List Row). IsGenerate (values_of given) g) (ap (λ (o : Entered). (unwrap_or o (name, rows)).1) (sym h.1 ∙ e)) h.2)
+no_generate entered name rows e named none (analyse a) h = not_named entered (codes "generate") name (codes "analyse") rows h.0 e named refl h.1
+no_generate entered name rows e named none (replay r) h = not_named entered (codes "generate") name (codes "replay") rows h.0 e named refl h.1
+no_generate entered name rows e named none (write_log l) h = not_named entered (codes "generate") name (codes "log") rows h.0 e named refl h.1
+no_generate entered name rows e named none (check_log c) h = not_named entered (codes "generate") name (codes "check") rows h.0 e named refl h.1
+no_generate entered name rows e named none (reduce r) h = not_named entered (codes "generate") name (codes "reduce") rows h.0 e named refl h.1
 
 pub one_command : (words : List Text) (c d : Command) → Commands words c → Commands words d → c ≡ d
 one_command words c d h k = one_read (subcommand_of tool words) c d h.reads k.reads

@@ -12,6 +12,7 @@ use Rattle.sc_question.specs.declared.question.Question.TheVariants.{Equivalent}
 use Rattle.sc_command.specs.declared.command.Analyse as analyse_code
 use Rattle.sc_command.specs.declared.command.Asked as asked_code
 use Rattle.sc_command.specs.declared.command.Check as check_code
+use Rattle.sc_command.specs.declared.command.Generate as generate_code
 use Rattle.sc_command.specs.declared.command.Log as log_code
 use Rattle.sc_command.specs.declared.command.Reduce as reduce_code
 use Rattle.sc_command.specs.declared.command.Replay as replay_code
@@ -51,6 +52,9 @@ check_line = with_rule (with_rule (asking (codes "check")) (required (codes "env
 abbrev pub reduce_line : App
 reduce_line = with_rule (on_files (codes "reduce")) (required (codes "budget"))
 
+abbrev pub generate_line : App
+generate_line = with_rule (new_app (codes "generate")) (required (codes "size"))
+
 -- the words begin with the name of a subcommand
 abbrev pub bare_tool : App
 bare_tool = on_top (λ s. record s { no_binary_name = true; subcommand_required = true })
@@ -65,7 +69,7 @@ unfoldable pub logging_line : App
 logging_line = with_subcommand (with_subcommand served_line log_line.top) check_line.top
 
 unfoldable pub tool : App
-tool = with_subcommand logging_line reduce_line.top
+tool = with_subcommand (with_subcommand logging_line reduce_line.top) generate_line.top
 
 -- ---- commands
 
@@ -101,12 +105,17 @@ pub record Reduce : Type 0 where
   pub asked : Asked
   pub budget : ℕ
 
+-- whether so many generated policies are equivalent to the same in reverse order
+pub record Generate : Type 0 where
+  pub size : ℕ
+
 pub data Command : Type 0 where
   analyse : Analyse → Command
   replay : Replay → Command
   write_log : Log → Command
   check_log : Check → Command
   reduce : Reduce → Command
+  generate : Generate → Command
 
 -- the word begins with `+`
 abbrev pub begins_with_plus : Text → Bool
@@ -128,6 +137,10 @@ IsBudget text n = IsNumber 1 1000000000 text n
 abbrev pub IsPlace : Text → ℕ → Type 0
 IsPlace text n = IsNumber 0 4294967295 text n
 
+-- a number from 1 to a thousand
+abbrev pub IsSize : Text → ℕ → Type 0
+IsSize text n = IsNumber 1 1000 text n
+
 -- the value that each option was given
 abbrev pub Values : Type 0
 Values = Text → Option Text
@@ -143,6 +156,12 @@ pub record HasPlace (given : Values) (n : ℕ) : Type 0 where
   pub text : Text
   pub given_text : given (codes "env") ≡ Some text
   pub spelled : IsPlace text n
+
+-- the option `--size` was given this size
+pub record HasSize (given : Values) (n : ℕ) : Type 0 where
+  pub text : Text
+  pub given_text : given (codes "size") ≡ Some text
+  pub spelled : IsSize text n
 
 -- the options were given this question and these policies; a second set stands with the questions of two sets alone
 pub record IsAsked (given : Values) (a : Asked) : Type 0 where
@@ -183,6 +202,10 @@ pub record IsReduce (given : Values) (r : Reduce) : Type 0 where
   pub question_is : r.asked.question ≡ Equivalent
   pub budget_given : HasBudget given r.budget
 
+-- the option of `generate` was given what this command says
+pub record IsGenerate (given : Values) (g : Generate) : Type 0 where
+  pub size_given : HasSize given g.size
+
 abbrev pub values_of : List Row → Values
 values_of rows name = first_of name rows
 
@@ -193,6 +216,7 @@ Reads entered (replay r) = (rows : List Row) × (entered ≡ Some (codes "replay
 Reads entered (write_log l) = (rows : List Row) × (entered ≡ Some (codes "log", rows)) × IsLog (values_of rows) l
 Reads entered (check_log c) = (rows : List Row) × (entered ≡ Some (codes "check", rows)) × IsCheck (values_of rows) c
 Reads entered (reduce r) = (rows : List Row) × (entered ≡ Some (codes "reduce", rows)) × IsReduce (values_of rows) r
+Reads entered (generate g) = (rows : List Row) × (entered ≡ Some (codes "generate", rows)) × IsGenerate (values_of rows) g
 
 -- `clap` accepts the words by this command line, and what they give is this command
 pub record Commands (words : List Text) (c : Command) : Type 0 where
@@ -230,9 +254,13 @@ check_view c = record { asked = asked_view c.asked; environment = c.environment;
 abbrev pub reduce_view : reduce_code.Reduce → Reduce
 reduce_view r = record { asked = asked_view r.asked; budget = r.budget }
 
+abbrev pub generate_view : generate_code.Generate → Generate
+generate_view g = record { size = g.size }
+
 abbrev pub command_view : command_code.Command → Command
 command_view (command_kind.Analyse a) = analyse (analyse_view a)
 command_view (command_kind.Replay r) = replay (replay_view r)
 command_view (command_kind.Log l) = write_log (log_view l)
 command_view (command_kind.Check c) = check_log (check_view c)
 command_view (command_kind.Reduce r) = reduce (reduce_view r)
+command_view (command_kind.Generate g) = generate (generate_view g)

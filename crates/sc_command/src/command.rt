@@ -14,6 +14,8 @@ pub enum Command<'w> {
     Check(Check<'w>),
     /// To find which policies of a set do nothing.
     Reduce(Reduce<'w>),
+    /// To ask a question of policies that are made for it.
+    Generate(Generate),
 }
 
 /// A question, and the policies that it is asked of.
@@ -78,4 +80,11 @@ pub struct Reduce<'w> {
     pub asked: Asked<'w>,
     /// How many units of work each policy may take in each environment, from 1 to 1,000,000,000.
     pub budget: u64,
+}
+
+/// The command to ask whether generated policies are equivalent to the same in reverse order.
+#[derive(Clone, Copy, PartialEq, Eq)]
+pub struct Generate {
+    /// How many policies there are, from 1 to 1,000.
+    pub size: u64,
 }

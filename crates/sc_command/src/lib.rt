@@ -6,5 +6,5 @@ mod numbers;
 mod reading;
 mod tool;
 
-pub use command::{Analyse, Asked, Check, Command, Log, Reduce, Replay};
+pub use command::{Analyse, Asked, Check, Command, Generate, Log, Reduce, Replay};
 pub use reading::{command_laws, command_of};

@@ -3,10 +3,10 @@ ghost use Rattle.std.specs.Prelude.{◌≡◌, ◌≢◌, ℕ, List, [], IfNone,
 ghost use Rattle.clap.specs.Words.{Text as AnyText, fault_of, found_of, rows_of, subcommand_of, subcommand_rows_of};
 ghost use Rattle.sc_question.specs.Questions.{name_of};
 ghost use Rattle.sc_question.specs.declared.question.Question.{Question as AnyQuestion};
-ghost use Rattle.sc_command.specs.CommandLine.{Analyse as AnyAnalyse, Asked as AnyAsked, Check as AnyCheck, Command as AnyCommand, Commands, HasBudget, HasPlace, IsAnalyse, IsAsked, IsCheck, IsLog, IsReduce, IsReplay, Log as AnyLog, Reads, Reduce as AnyReduce, Replay as AnyReplay, analyse_view, asked_view, check_view, command_view, given_of, log_view, reduce_view, replay_view, tool, words_view};
+ghost use Rattle.sc_command.specs.CommandLine.{Analyse as AnyAnalyse, Asked as AnyAsked, Check as AnyCheck, Command as AnyCommand, Commands, Generate as AnyGenerate, HasBudget, HasPlace, HasSize, IsAnalyse, IsAsked, IsCheck, IsGenerate, IsLog, IsReduce, IsReplay, Log as AnyLog, Reads, Reduce as AnyReduce, Replay as AnyReplay, analyse_view, asked_view, check_view, command_view, generate_view, given_of, log_view, reduce_view, replay_view, tool, words_view};
 
-use crate::command::{Analyse, Asked, Check, Command, Log, Reduce, Replay};
-use crate::numbers::{budget_of, place_of};
+use crate::command::{Analyse, Asked, Check, Command, Generate, Log, Reduce, Replay};
+use crate::numbers::{budget_of, place_of, size_of};
 use crate::tool::tool;
 use clap::ArgMatches;
 use clap::error::ErrorKind;
@@ -170,6 +170,26 @@ fn reduce_of<'w>(values: &ArgMatches<'w>) -> Option<Reduce<'w>>
     Some(Reduce { asked, budget })
 }
 
+fn policies_asked(values: &ArgMatches) -> Option<u64>
+    ensures found { IfSome result (HasSize (given_of values.now)) }
+    ensures none { IfNone result ((n : ℕ) → HasSize (given_of values.now) n → ⊥) }
+{
+    let Some(text) = given(values, "size") else {
+        return None;
+    };
+    size_of(text)
+}
+
+fn generate_of(values: &ArgMatches) -> Option<Generate>
+    ensures found { IfSome result (λ g. IsGenerate (given_of values.now) (generate_view g)) }
+    ensures none { IfNone result ((g : AnyGenerate) → IsGenerate (given_of values.now) g → ⊥) }
+{
+    let Some(size) = policies_asked(values) else {
+        return None;
+    };
+    Some(Generate { size })
+}
+
 /// The subcommand that the words name, and what its options were given.
 fn entered<'m, 'w>(matches: &'m ArgMatches<'w>) -> Option<(&'w str, &'m ArgMatches<'w>)>
     ensures { option_map (λ p. (p.0.now, rows_of (found_of p.1.now))) result ≡ subcommand_rows_of matches.now }
@@ -198,6 +218,9 @@ fn command_in<'w>(matches: &ArgMatches<'w>) -> Option<Command<'w>>
     }
     if name == "reduce" {
         return Some(Command::Reduce(reduce_of(values)?));
+    }
+    if name == "generate" {
+        return Some(Command::Generate(generate_of(values)?));
     }
     None
 }

@@ -1,7 +1,7 @@
 //! The command line, as `clap` is told it.
 ghost use Rattle.std.specs.Prelude.{◌≡◌, IfOk, false};
 ghost use Rattle.clap.specs.Words.{app_of, rule_of};
-ghost use Rattle.sc_command.specs.CommandLine.{analyse_line, asking, bare_tool, check_line, log_line, logging_line, on_files, option, reduce_line, replay_line, required, served_line, tool};
+ghost use Rattle.sc_command.specs.CommandLine.{analyse_line, asking, bare_tool, check_line, generate_line, log_line, logging_line, on_files, option, reduce_line, replay_line, required, served_line, tool};
 
 use clap::{Arg, ArgAction, Command};
 use std::alloc::{AllocError, Global};
@@ -74,6 +74,12 @@ fn reduce_line<'w>(alloc: Global) -> Result<Command<'w>, AllocError>
     on_files(alloc, "reduce")?.arg(required(alloc, "budget"))
 }
 
+fn generate_line<'w>(alloc: Global) -> Result<Command<'w>, AllocError>
+    ensures { IfOk result (λ c. app_of c ≡ generate_line) }
+{
+    Command::new(alloc, "generate").arg(required(alloc, "size"))
+}
+
 fn bare_tool<'w>(alloc: Global) -> Command<'w>
     ensures { app_of result ≡ bare_tool }
 {
@@ -102,6 +108,6 @@ fn logging_line<'w>(alloc: Global) -> Result<Command<'w>, AllocError>
 pub(crate) fn tool<'w>(alloc: Global) -> Result<Command<'w>, AllocError>
     ensures { IfOk result (λ c. app_of c ≡ tool) }
 {
-    let line = logging_line(alloc)?;
-    line.subcommand(reduce_line(alloc)?)
+    let line = logging_line(alloc)?.subcommand(reduce_line(alloc)?)?;
+    line.subcommand(generate_line(alloc)?)
 }

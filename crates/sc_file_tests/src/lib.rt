@@ -1,11 +1,13 @@
-//! Tests of whole runs over files and a sink in memory, by what lies outside: commands, files, worlds, logs, and what is said where
-//! a file can't be read or a line can't be written. There is no code here but tests.
+//! Tests of whole runs over files and a sink in memory, by what lies outside: commands, files, worlds, logs, generated
+//! policies, and what is said where a file can't be read or a line can't be written. There is no code here but tests.
 #![tactic(auto)]
 
 #[cfg(test)]
 mod commands;
 #[cfg(test)]
 mod files;
+#[cfg(test)]
+mod generated;
 #[cfg(test)]
 mod logs;
 #[cfg(test)]

@@ -13,6 +13,8 @@ const IMPLIES: &str = "analyse --schema s --policies p --against a --query impli
 const UNREAD: &[(&str, u64, &str)] = &[
     (DENIES, 0, "error 20 schema"),
     (DENIES, 1, "error 20 policies"),
+    (IMPLIES, 0, "error 20 schema"),
+    (IMPLIES, 1, "error 20 policies"),
     (IMPLIES, 2, "error 20 against"),
     (REPLAYS, 2, "error 20 world"),
 ];

@@ -18,7 +18,7 @@ use Rattle.sc_inputs.specs.Refusals.{Content, File, Side, policies_side, against
 use Rattle.sc_inputs.specs.View.{refusal_view}
 use Rattle.sc_inputs.specs.declared.inputs.Asking.{Asking}
 use Rattle.sc_inputs.specs.declared.inputs.Inputs.{Inputs}
-use Rattle.sc_inputs.specs.declared.inputs.Inputs.TheVariants.{Asked, Checked, Logged, Reduced, Replayed}
+use Rattle.sc_inputs.specs.declared.inputs.Inputs.TheVariants.{Asked, Checked, Generated, Logged, Reduced, Replayed}
 use Rattle.sc_inputs.specs.declared.refusal.Refusal.{Refusal}
 
 -- ---- one file
@@ -222,6 +222,7 @@ words-read-one content words c s (Asked i) serves reads h = asked-read content w
 words-read-one content words c s (Logged i) serves reads h = asked-read content words c s (logging i.analysis.budget i.environment) i.analysis.asking serves reads h
 words-read-one content words c s (Checked i) serves reads h = asked-read content words c s (checking i.environment i.log.now) i.asking serves reads h
 words-read-one content words c s (Reduced i) serves reads h = asked-read content words c s (reducing i.budget) i.asking serves reads h
+words-read-one content words c s (Generated size) serves reads h = absurd h
 words-read-one content words c s (Replayed x) serves reads h = record {
   name = h.0;
   reaches = record { command = c; commands = serves; task = h.1; schema = schema_at content c x.schema s h.2.schema reads; policies = h.2.policies_read };

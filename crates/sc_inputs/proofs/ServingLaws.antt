@@ -1,11 +1,11 @@
--- Words are one command that is served at most.
-use Rattle.std.proofs.Common.{◌≡◌, ◌∙◌, ℕ, List, [], Bool, true, false, Option, None, is_some, ap, refl, sym}
+-- Words are one command at most.
+use Rattle.std.proofs.Common.{◌≡◌, ◌≤◌, ◌∙◌, ℕ, List, [], Bool, true, false, Option, None, is_some, ap, refl, sym}
 use Rattle.sc_question.specs.declared.question.Question.{Question}
 use Rattle.sc_question.specs.declared.question.Question.TheVariants.{AlwaysDenies}
 use Rattle.std.proofs.lemmas.Bool.{true≢false}
-use Rattle.sc_command.specs.CommandLine.{Asked, Command as AnyCommand, Commands, analyse, check_log, reduce, replay, write_log}
+use Rattle.sc_command.specs.CommandLine.{Asked, Command as AnyCommand, Commands, analyse, check_log, generate, reduce, replay, write_log}
 use Rattle.sc_command.proofs.CommandLaws.{one_command}
-use Rattle.sc_inputs.specs.Serving.{Aim, Command, HasSets, MayWork, Serves, Task, as_command, asking, checking, command_for, logging, reducing, replaying, reporting}
+use Rattle.sc_inputs.specs.Serving.{Aim, Command, Generates, HasSets, MayWork, Serves, Task, as_command, asking, checking, command_for, logging, reducing, replaying, reporting}
 
 abbrev schema_of : AnyCommand → List ℕ
 schema_of (analyse a) = a.asked.schema
@@ -13,6 +13,7 @@ schema_of (replay r) = r.schema
 schema_of (write_log l) = l.asked.schema
 schema_of (check_log c) = c.asked.schema
 schema_of (reduce r) = r.asked.schema
+schema_of (generate g) = []
 
 abbrev policies_of : AnyCommand → List ℕ
 policies_of (analyse a) = a.asked.policies
@@ -20,6 +21,7 @@ policies_of (replay r) = r.policies
 policies_of (write_log l) = l.asked.policies
 policies_of (check_log c) = c.asked.policies
 policies_of (reduce r) = r.asked.policies
+policies_of (generate g) = []
 
 abbrev task_for : Asked → Aim → Task
 task_for a aim = asking a.question a.against aim
@@ -30,6 +32,7 @@ task_of (replay r) = replaying r.world
 task_of (write_log l) = task_for l.asked (logging l.budget l.environment)
 task_of (check_log c) = task_for c.asked (checking c.environment c.log)
 task_of (reduce r) = task_for r.asked (reducing r.budget)
+task_of (generate g) = replaying []
 
 schema-of : (schema policies : List ℕ) (t : Task) → schema_of (command_for schema policies t) ≡ schema
 schema-of schema policies (asking question against (reporting budget)) = refl
@@ -63,6 +66,38 @@ same_policies words c d h k =
 pub same_task : (words : List (List ℕ)) (c d : Command) → Serves words c → Serves words d → c.task ≡ d.task
 same_task words c d h k =
     sym (task-of c.schema c.policies c.task) ∙ ap task_of (one_command words (as_command c) (as_command d) h k) ∙ task-of d.schema d.policies d.task
+
+-- ---- policies that are generated
+
+abbrev size_of : AnyCommand → ℕ
+size_of (generate g) = g.size
+size_of _ = 0
+
+-- words ask for one number of policies
+pub one_size : (words : List (List ℕ)) (m n : ℕ) → Generates words m → Generates words n → m ≡ n
+one_size words m n h k = ap size_of (one_command words (generate (record { size = m })) (generate (record { size = n })) h k)
+
+-- and for no more than there may be
+pub size_within : (words : List (List ℕ)) (n : ℕ) → Generates words n → n ≤ 1000
+size_within words n h = h.reads.2.size_given.spelled.most
+
+abbrev is_generating : AnyCommand → Bool
+is_generating (generate g) = true
+is_generating _ = false
+
+on-files : (schema policies : List ℕ) (t : Task) → is_generating (command_for schema policies t) ≡ false
+on-files schema policies (asking question against (reporting budget)) = refl
+on-files schema policies (asking question against (logging budget place)) = refl
+on-files schema policies (asking question against (checking place log)) = refl
+on-files schema policies (asking question against (reducing budget)) = refl
+on-files schema policies (replaying world) = refl
+
+-- a command on files generates none
+pub not_generated : (words : List (List ℕ)) (c : Command) (n : ℕ) → Serves words c → Generates words n → ⊥
+not_generated words c n h k =
+    true≢false (sym (ap is_generating (one_command words (as_command c) (generate (record { size = n })) h k)) ∙ on-files c.schema c.policies c.task)
+
+-- ---- tasks
 
 abbrev world_of : Task → List ℕ
 world_of (asking question against aim) = []

@@ -14,12 +14,12 @@ use Rattle.sc_typing.specs.Names.{name_fault}
 use Rattle.sc_world.specs.declared.world.World.{World}
 use Rattle.sc_world_json.specs.declared.fault.WorldFault.{WorldFault}
 use Rattle.sc_world_json.specs.Reading as world
-use Rattle.sc_inputs.specs.Serving.{Aim, Command, HasUnits, asking, checking, has_second, logging, reducing, replaying, reporting}
+use Rattle.sc_inputs.specs.Serving.{Aim, Command, Generates, HasUnits, asking, checking, has_second, logging, reducing, replaying, reporting}
 use Rattle.sc_inputs.specs.Refusals as spec
 use Rattle.sc_inputs.specs.View.{refusal_view}
 use Rattle.sc_inputs.specs.declared.inputs.Asking.{Asking}
 use Rattle.sc_inputs.specs.declared.inputs.Inputs.{Inputs}
-use Rattle.sc_inputs.specs.declared.inputs.Inputs.TheVariants.{Asked, Replayed, Logged, Checked, Reduced}
+use Rattle.sc_inputs.specs.declared.inputs.Inputs.TheVariants.{Asked, Replayed, Logged, Checked, Reduced, Generated}
 use Rattle.sc_inputs.specs.declared.inputs.Scene.{Scene}
 use Rattle.sc_inputs.specs.declared.refusal.Refusal.{Refusal}
 use Rattle.sc_inputs.specs.declared.refusal.Refusal.TheVariants.{ReadFault}
@@ -103,6 +103,7 @@ ReadsRest content c s (Asked i) = ReadsAsking content c s (reporting i.budget) i
 ReadsRest content c s (Logged i) = ReadsAsking content c s (logging i.analysis.budget i.environment) i.analysis.asking
 ReadsRest content c s (Checked i) = ReadsAsking content c s (checking i.environment i.log.now) i.asking
 ReadsRest content c s (Reduced i) = ReadsAsking content c s (reducing i.budget) i.asking
+ReadsRest content c s (Generated size) = ⊥
 ReadsRest content c s (Replayed x) = (name : List ℕ) × (c.task ≡ replaying name) × ReadsScene content c.policies name s x
 
 -- all files are read
@@ -121,6 +122,7 @@ IsRead content words (Asked i) = IsAskedFor content words (reporting i.budget) i
 IsRead content words (Logged i) = IsAskedFor content words (logging i.analysis.budget i.environment) i.analysis.asking
 IsRead content words (Checked i) = IsAskedFor content words (checking i.environment i.log.now) i.asking
 IsRead content words (Reduced i) = IsAskedFor content words (reducing i.budget) i.asking
+IsRead content words (Generated size) = Generates words size
 IsRead content words (Replayed x) = ReadsWorld content words x.schema x.policies x.world
 
 -- ---- why the files of a command are refused, where the schema is read

@@ -15,7 +15,7 @@ use Rattle.sc_typing.specs.Names.{name_fault}
 use Rattle.sc_world.specs.declared.world.World.{World}
 use Rattle.sc_world_json.specs.declared.fault.WorldFault.{WorldFault}
 use Rattle.sc_world_json.specs.Reading as world
-use Rattle.sc_inputs.specs.Serving.{Aim, Command, Serves, asking, checking, place_in, replaying}
+use Rattle.sc_inputs.specs.Serving.{Aim, Command, IsNoCommand, Serves, asking, checking, place_in, replaying}
 use Rattle.sc_inputs.specs.FaultTexts.{fault_text, schema_fault_text, world_fault_text, name_fault_text, type_fault_text}
 use Rattle.sc_question.specs.declared.question.Question.{Question}
 
@@ -227,7 +227,7 @@ pub data RefusesPlace (s : Declarations) (aim : Aim) : Refusal → Type 0 where
 -- replay write a name that isn't declared, or those of a question are refused, or the environment that is named is none; or
 -- the log that is to be checked is refused, where all else is read
 pub data IsRefusal (content : Content) (words : List (List ℕ)) (rose : Type 0) : Refusal → Type 0 where
-  no_command : ((c : Command) → Serves words c → ⊥) → IsRefusal content words rose usage
+  no_command : IsNoCommand words → IsRefusal content words rose usage
   of_schema : (a : Refusal) (c : Command) → Serves words c → RefusesSchema content c rose a → IsRefusal content words rose a
   of_policies : (a : Refusal) (c : Command) (s : Declarations) → Serves words c → ReadsSchema content c s → RefusesPolicies content c.policies policies_side rose a → IsRefusal content words rose a
   of_against : (a : Refusal) (c : Command) (s : Declarations) (question : Question) (name : List ℕ) (aim : Aim) (first : List Policy) → Serves words c → c.task ≡ asking question (Some name) aim → ReadsSchema content c s

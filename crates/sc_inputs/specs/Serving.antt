@@ -1,13 +1,15 @@
--- The commands, by what is done with the policies under a schema.
+-- The commands, by what is done: with the policies of files under a schema, or with generated policies.
 use Rattle.std.specs.Prelude.{◌≡◌, ◌≤◌, ℕ, List, Bool, false, Option, Some, None, option_map, is_some, ⊤}
 use Rattle.sc_question.specs.Questions.{takes_two}
 use Rattle.sc_question.specs.declared.question.Question.{Question}
-use Rattle.sc_command.specs.CommandLine.{Asked, Command as AnyCommand, Commands, analyse, check_log, reduce, replay, write_log}
+use Rattle.sc_command.specs.CommandLine.{Asked, Command as AnyCommand, Commands, analyse, check_log, generate, reduce, replay, write_log}
 use Rattle.sc_inputs.specs.declared.serving.Aim as aim_code
 use Rattle.sc_inputs.specs.declared.serving.Aim.TheVariants as aim
 use Rattle.sc_inputs.specs.declared.serving.Served.{Served}
 use Rattle.sc_inputs.specs.declared.serving.Task as code
 use Rattle.sc_inputs.specs.declared.serving.Task.TheVariants as task
+use Rattle.sc_inputs.specs.declared.serving.Work.{Work}
+use Rattle.sc_inputs.specs.declared.serving.Work.TheVariants as work
 
 -- what a question is asked for
 pub data Aim : Type 0 where
@@ -52,6 +54,14 @@ as_command c = command_for c.schema c.policies c.task
 abbrev pub Serves : List (List ℕ) → Command → Type 0
 Serves words c = Commands words (as_command c)
 
+-- the words are the command to ask a question of so many generated policies
+abbrev pub Generates : List (List ℕ) → ℕ → Type 0
+Generates words size = Commands words (generate (record { size = size }))
+
+-- the words are no command
+abbrev pub IsNoCommand : List (List ℕ) → Type 0
+IsNoCommand words = (c : AnyCommand) → Commands words c → ⊥
+
 -- a budget allows some work
 abbrev pub HasUnits : Aim → Type 0
 HasUnits (reporting budget) = 1 ≤ budget
@@ -93,3 +103,7 @@ task_view (task.Replay world) = replaying world.now
 
 abbrev pub served_view : Served → Command
 served_view s = record { schema = s.schema.now; policies = s.policies.now; task = task_view s.task }
+
+abbrev pub work_view : Work → AnyCommand
+work_view (work.OnFiles s) = as_command (served_view s)
+work_view (work.Generate size) = generate (record { size = size })

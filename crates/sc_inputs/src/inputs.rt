@@ -70,4 +70,6 @@ pub enum Inputs<'w> {
     Checked(Claim<'w>),
     /// To find which policies of the first set do nothing, within a budget for each in each environment.
     Reduced(Analysis),
+    /// To ask a question of so many generated policies.
+    Generated(u64),
 }

@@ -12,7 +12,7 @@ use crate::files::{content_of, schema_in};
 use crate::inputs::{Analysis, Asking, Claim, Inputs, Logging};
 use crate::policy_reading::sets_of;
 use crate::refusal::{FileName, Refusal};
-use crate::serving::{Aim, Served, Task, served_by};
+use crate::serving::{Aim, Served, Task, Work, work_of};
 use crate::world_reading::scene_of;
 use sc_ast::PolicySet;
 use sc_lists::Fault;
@@ -179,8 +179,9 @@ pub fn inputs_of<'w, F: Files>(
     ensures later { F.faults files.old ≤ F.faults files.new }
     ensures told { F.faults files.old < F.faults files.new → IsUnread result }
 {
-    match served_by(alloc, words) {
-        Ok(Some(command)) => with_command(alloc, files, &command),
+    match work_of(alloc, words) {
+        Ok(Some(Work::OnFiles(command))) => with_command(alloc, files, &command),
+        Ok(Some(Work::Generate(size))) => Ok(Inputs::Generated(size)),
         Ok(None) => Err(Fault::Told(Refusal::Usage)),
         Err(_) => Err(Fault::NoMemory),
     }

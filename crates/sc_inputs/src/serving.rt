@@ -1,9 +1,9 @@
-//! The commands, by what is done with the policies under a schema.
+//! The commands, by what is done: with the policies of files under a schema, or with generated policies.
 ghost use Rattle.std.specs.Prelude.{◌≡◌, IfNone, IfOk, IfSome};
-ghost use Rattle.sc_command.specs.CommandLine.{asked_view, command_view, words_view};
-ghost use Rattle.sc_inputs.specs.Serving.{Command as AnyServed, Serves, aim_view, as_command, asked_for, served_view};
+ghost use Rattle.sc_command.specs.CommandLine.{Commands, asked_view, command_view, words_view};
+ghost use Rattle.sc_inputs.specs.Serving.{IsNoCommand, aim_view, asked_for, work_view};
 
-use sc_command::{Analyse, Asked, Check, Command, Log, Reduce, Replay, command_of};
+use sc_command::{Analyse, Asked, Check, Command, Generate, Log, Reduce, Replay, command_of};
 use sc_question::Question;
 use std::alloc::{AllocError, Global};
 
@@ -41,20 +41,29 @@ pub struct Served<'w> {
     pub task: Task<'w>,
 }
 
-/// The command to ask a question for an aim.
-fn asking<'w>(asked: Asked<'w>, aim: Aim<'w>) -> Served<'w>
-    ensures { asked_for (asked_view asked.entry) (aim_view aim.entry) ≡ as_command (served_view result) }
+/// What the words ask to be done.
+#[derive(Clone, Copy)]
+pub enum Work<'w> {
+    /// Something with the policies of files.
+    OnFiles(Served<'w>),
+    /// To ask a question of so many generated policies.
+    Generate(u64),
+}
+
+/// Work on files, to ask a question for an aim.
+fn asking<'w>(asked: Asked<'w>, aim: Aim<'w>) -> Work<'w>
+    ensures { asked_for (asked_view asked.entry) (aim_view aim.entry) ≡ work_view result }
 {
-    Served {
+    Work::OnFiles(Served {
         schema: asked.schema,
         policies: asked.policies,
         task: Task::Ask(asked.question, asked.against, aim),
-    }
+    })
 }
 
 /// A command by what it does.
-fn as_served<'w>(command: &Command<'w>) -> Served<'w>
-    ensures { command_view command.now ≡ as_command (served_view result) }
+fn as_work<'w>(command: &Command<'w>) -> Work<'w>
+    ensures { command_view command.now ≡ work_view result }
 {
     match command {
         Command::Analyse(Analyse { asked, budget }) => asking(*asked, Aim::Report(*budget)),
@@ -73,27 +82,28 @@ fn as_served<'w>(command: &Command<'w>) -> Served<'w>
             },
         ) => asking(*asked, Aim::Check(*environment, *log)),
         Command::Reduce(Reduce { asked, budget }) => asking(*asked, Aim::Reduce(*budget)),
+        Command::Generate(Generate { size }) => Work::Generate(*size),
         Command::Replay(
             Replay {
                 schema,
                 policies,
                 world,
             },
-        ) => Served {
+        ) => Work::OnFiles(Served {
             schema,
             policies,
             task: Task::Replay(*world),
-        },
+        }),
     }
 }
 
-/// The command that the words are, if they are one.
-pub fn served_by<'w>(alloc: Global, words: &'w [String]) -> Result<Option<Served<'w>>, AllocError>
-    ensures found { IfOk result (λ o. IfSome o (λ s. Serves (words_view words.now) (served_view s))) }
-    ensures none { IfOk result (λ o. IfNone o ((c : AnyServed) → Serves (words_view words.now) c → ⊥)) }
+/// What the words ask to be done, if they are a command.
+pub fn work_of<'w>(alloc: Global, words: &'w [String]) -> Result<Option<Work<'w>>, AllocError>
+    ensures found { IfOk result (λ o. IfSome o (λ work. Commands (words_view words.now) (work_view work))) }
+    ensures none { IfOk result (λ o. IfNone o (IsNoCommand (words_view words.now))) }
 {
     let Some(command) = command_of(alloc, words)? else {
         return Ok(None);
     };
-    Ok(Some(as_served(&command)))
+    Ok(Some(as_work(&command)))
 }

@@ -1,5 +1,5 @@
 //! Which command the words of a line are.
-use sc_command::{Analyse, Asked, Check, Command, Log, Reduce, Replay, command_of};
+use sc_command::{Analyse, Asked, Check, Command, Generate, Log, Reduce, Replay, command_of};
 use sc_question::Question;
 use std::alloc::{AllocError, Global};
 
@@ -415,4 +415,44 @@ const OPTIONS_OF_OTHERS: &[&str] = &[
 #[test]
 fn each_command_has_its_own_options(rt: HostRuntime) {
     assert!(rt; are_refused(rt.alloc(), OPTIONS_OF_OTHERS));
+}
+
+/// Lines that generate policies, and how many.
+const SIZES: &[(&str, u64)] = &[
+    ("generate --size 1", 1),
+    ("generate --size 003", 3),
+    ("generate --size=1000", 1000),
+];
+
+fn generates(alloc: Global, line: &str, size: u64) -> bool {
+    reads(alloc, line, Some(Command::Generate(Generate { size }))).unwrap_or(false)
+}
+
+#[test]
+fn policies_are_generated(rt: HostRuntime) {
+    for &(line, size) in SIZES {
+        assert!(rt; generates(rt.alloc(), line, size), "{line}");
+    }
+}
+
+/// Lines with a size that is none, with none, or with another option.
+const OTHER_SIZES: &[&str] = &[
+    "generate --size 0",
+    "generate --size 1001",
+    "generate --size 18446744073709551617",
+    "generate --size +3",
+    "generate --size=-3",
+    "generate --size 3.0",
+    "generate --size ",
+    "generate --size",
+    "generate",
+    "generate 3",
+    "generate --size 3 --size 3",
+    "generate --size 3 --budget 10",
+    "analyse --schema s --policies p --query always-denies --budget 10 --size 3",
+];
+
+#[test]
+fn other_sizes_are_refused(rt: HostRuntime) {
+    assert!(rt; are_refused(rt.alloc(), OTHER_SIZES));
 }

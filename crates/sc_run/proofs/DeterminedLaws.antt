@@ -1,5 +1,5 @@
 -- What a run must end with, since the words and the files determine what is read.
-use Rattle.std.proofs.Common.{◌≡◌, ◌≢◌, ◌≤◌, ◌<◌, ◌⊎◌, ℕ, zero, suc, List, [], ◌∷◌, Option, Some, None, IfSome, Ok, Err, length, slice_get, refl, sym, ap, ◌∙◌, subst, arith, ⊎_elim, inl, inr}
+use Rattle.std.proofs.Common.{◌≡◌, ◌≢◌, ◌≤◌, ◌<◌, ◌⊎◌, ℕ, zero, suc, List, [], ◌∷◌, Option, Some, None, IfSome, length, slice_get, refl, sym, ap, ◌∙◌, subst, arith, ⊎_elim, inl, inr}
 use Rattle.std.specs.Bool.{⊤}
 use Rattle.std.proofs.lemmas.Option.{slice_get_within}
 use Rattle.sc_schema.specs.declared.declarations.Env.{Env}
@@ -7,16 +7,14 @@ use Rattle.sc_schema.specs.Declarations.{Declarations, environments}
 use Rattle.sc_schema_json.specs.Spelling as json
 use Rattle.sc_ast.specs.declared.policy.Policy.{Policy}
 use Rattle.sc_clauses.specs.declared.step.Step.{Step}
-use Rattle.sc_parser.specs.declared.fault.PolicyFault.{PolicyFault}
-use Rattle.sc_parser.specs.Spelling.{Spells, HasFault, spelled, faulty}
-use Rattle.sc_parser.proofs.ReadingLaws.{one_reading}
+use Rattle.sc_parser.specs.Spelling.{Spells, HasFault}
 use Rattle.sc_question.specs.declared.question.Question.{Question}
 use Rattle.sc_typing.specs.declared.name_fault.NameFault.{NameFault}
 use Rattle.sc_typing.specs.Names.{name_fault}
 use Rattle.sc_world.specs.declared.world.World.{World}
 use Rattle.sc_world_json.specs.Reading as world
-use Rattle.sc_inputs.specs.Serving.{Aim, Command, Serves, asking, checking, logging, place_in, reducing, reporting}
-use Rattle.sc_inputs.proofs.ServingLaws.{same_policies, same_schema, same_task, not_both_tasks, one_world_file, one_question}
+use Rattle.sc_inputs.specs.Serving.{Aim, Command, Generates, IsNoCommand, Serves, as_command, asking, checking, logging, place_in, reducing, reporting}
+use Rattle.sc_inputs.proofs.ServingLaws.{same_policies, same_schema, same_task, not_both_tasks, not_generated, one_world_file, one_question}
 use Rattle.sc_inputs.specs.Readings.{ReadsAll, ReadsWorld}
 use Rattle.sc_inputs.specs.Refusals.{Refusal, Side, policies_side, against_side, IsRefusal, no_command, of_schema, of_policies, of_against, of_world, of_names, of_log, of_place, of_question, RefusesLog, log_long, log_unread, RefusesPlace, misplaced, RefusesQuestion, undeclared, untyped, unread, long, RefusesSchema, schema_unread, schema_faulty, RefusesPolicies, policies_unread, policies_faulty, RefusesWorld, world_unread, world_faulty, code_of, Content, IsContent, IsTooLong, ReadsSchema, HasPolicies, HasAgainst, HasWorld, AreServed, HasEnvironment, IsLongLog, ReachesAim, ReachesQuestion, ReachesWorld, names_fault, types_fault, limit, log_limit}
 use Rattle.sc_checker.specs.declared.checking.Reason.{Reason}
@@ -26,21 +24,16 @@ use Rattle.sc_reports.specs.Logs.{Logged, log_first, log_front, log_whole, other
 use Rattle.sc_reports.specs.Progress.{Reported, whole, cut, cut_none, stopped}
 use Rattle.sc_run.specs.Replays.{Replayed, told_whole, told_front, told_first, untold}
 use Rattle.sc_reports.specs.Reports.{Asked}
-use Rattle.sc_run.specs.Runs.{Run, HasRisen, Ends, refused, refusal_cut, reduced, reported, replayed, wrote_log, checked_log, no_memory, scene, IsReadable, IsServed, IsWhole, IsWholeFor, LogIsLong, LogIsTold, MustBe, PlaceIsMissing, SchemaTold, PoliciesTold, AgainstTold, no_file, told_file, AgainstNamed, AllSpelled, WorldTold, WorldSpelled, QuestionSpelled, SchemaIsLong, SchemaIsFaulty, PoliciesAreLong, PoliciesAreFaulty, AgainstIsLong, AgainstIsFaulty, WorldIsLong, WorldIsFaulty, NamesAreUnknown, PoliciesAreUntyped, IsReplayable, IsReplayed, LogIsRight, LogIsWrong, MustSay, ReadsLog, asked_of_log}
+use Rattle.sc_run.specs.Runs.{Run, HasRisen, Ends, refused, refusal_cut, generated, reduced, reported, replayed, wrote_log, checked_log, no_memory, scene, IsReadable, IsServed, IsWhole, IsWholeFor, LogIsLong, LogIsTold, MustBe, PlaceIsMissing, SchemaTold, PoliciesTold, AgainstTold, no_file, told_file, AgainstNamed, AllSpelled, WorldTold, WorldSpelled, QuestionSpelled, SchemaIsLong, SchemaIsFaulty, PoliciesAreLong, PoliciesAreFaulty, AgainstIsLong, AgainstIsFaulty, WorldIsLong, WorldIsFaulty, NamesAreUnknown, PoliciesAreUntyped, IsReplayable, IsReplayed, LogIsRight, LogIsWrong, MustSay, ReadsLog, asked_of_log}
+use Rattle.sc_command.specs.CommandLine.{generate}
 use Rattle.sc_run.specs.Reduces.{Reduced, to_reduce}
 use Rattle.sc_run.proofs.ReductionLaws.{reduction-codes}
 use Rattle.sc_reduction.specs.Reductions.{Asked as Reduction}
 use Rattle.sc_reports.specs.Analyses.{asked}
+use Rattle.sc_run.proofs.SpellingLaws.{not_both, one_set}
 use Rattle.sc_run.proofs.StatusLaws.{status-code}
 
 -- ---- the words and the files determine what is read
-
--- bytes that spell policies have no fault
-not-both : {bytes : List ℕ} {ps : List Policy} {f : PolicyFault} → Spells bytes ps → HasFault bytes f → ⊥
-not-both {bytes = bytes} {ps = ps} {f = f} s h = let same = one_reading bytes (Ok ps) (Err f) (spelled ps s) (faulty f h) in absurd cc
-
-same-policies : {bytes : List ℕ} {ps qs : List Policy} → Spells bytes ps → Spells bytes qs → ps ≡ qs
-same-policies {bytes = bytes} {ps = ps} {qs = qs} a b = let same = one_reading bytes (Ok ps) (Ok qs) (spelled ps a) (spelled qs b) in cc
 
 content-is : (content : Content) (name b bytes : List ℕ) → content name ≡ Some b → IsContent content name bytes → (bytes ≡ b) × (length b ≤ limit)
 content-is content name b bytes at h = rw at at h
@@ -61,7 +54,7 @@ world-spelled content name b w at h = subst (λ bytes. world.SpellsWorld bytes w
 file-read : (content : Content) (name b : List ℕ) (ps : List Policy) (side : Side) (rose : Type 0) → content name ≡ Some b → length b ≤ limit → Spells b ps → (rose → ⊥) → (a : Refusal) → RefusesPolicies content name side rose a → ⊥
 file-read content name b ps side rose at short spells calm _ (policies_unread _ (unread risen)) = calm risen
 file-read content name b ps side rose at short spells calm _ (policies_unread _ (long is)) = let far = long-is content name b at is in omega (arith, short, far)
-file-read content name b ps side rose at short spells calm _ (policies_faulty f bytes is has) = not-both spells (subst (λ b. HasFault b f) (content-is content name b bytes at is).0 has)
+file-read content name b ps side rose at short spells calm _ (policies_faulty f bytes is has) = not_both spells (subst (λ b. HasFault b f) (content-is content name b bytes at is).0 has)
 
 -- ---- a second policy file
 
@@ -81,7 +74,7 @@ one-against content _ None _ p (told_file file bytes ps at short spells) is h = 
 one-against content _ (Some n) _ None (told_file file bytes ps at short spells) is h = absurd h
 one-against content _ (Some n) _ (Some qs) (told_file file bytes ps at short spells) is h =
     let same : file ≡ n = cc in
-    ap Some (same-policies (policies-spelled content n bytes qs (subst (λ k. content k ≡ Some bytes) same at) h) spells)
+    ap Some (one_set (policies-spelled content n bytes qs (subst (λ k. content k ≡ Some bytes) same at) h) spells)
 
 -- a file of this name that is read isn't refused so
 named-content : (content : Content) (n : Option (List ℕ)) (p : Option (List Policy)) (file : List ℕ) → n ≡ Some file → HasAgainst content n p → (ps : List Policy) × HasPolicies content file ps
@@ -114,7 +107,7 @@ HasShortLog content (reducing budget) = ⊤
 
 -- a run must end with a status, where each refusal that may come has it, and no report comes
 record Only (r : Run) (n : ℕ) : Type 0 where
-  pub words : ((c : Command) → Serves r.words c → ⊥) → 10 ≡ n
+  pub words : IsNoCommand r.words → 10 ≡ n
   pub schema : (a : Refusal) (c : Command) → Serves r.words c → RefusesSchema r.content c (HasRisen r.reads) a → code_of a ≡ n
   pub policies : (a : Refusal) (c : Command) (s : Declarations) → Serves r.words c → ReadsSchema r.content c s → RefusesPolicies r.content c.policies policies_side (HasRisen r.reads) a → code_of a ≡ n
   pub others : (a : Refusal) (c : Command) (s : Declarations) (question : Question) (name : List ℕ) (aim : Aim) (first : List Policy) → Serves r.words c → c.task ≡ asking question (Some name) aim → ReadsSchema r.content c s
@@ -126,6 +119,7 @@ record Only (r : Run) (n : ℕ) : Type 0 where
   pub log : (a : Refusal) (s : Declarations) (question : Question) (first : List Policy) (against : Option (List Policy)) (place : ℕ) (name : List ℕ) → ReachesAim r.content r.words s question first against (checking place name) → RefusesLog r.content name (HasRisen r.reads) a → code_of a ≡ n
   pub report : (s : Declarations) (question : Question) (first : List Policy) (against : Option (List Policy)) (aim : Aim) → ReadsAll r.content r.words s question first against aim → HasShortLog r.content aim → ⊥
   pub replay : (s : Declarations) (ps : List Policy) (w : World) → ReadsWorld r.content r.words s ps w → ⊥
+  pub made : (size : ℕ) → Generates r.words size → ⊥
 
 module _ (r : Run) (spent : List (List Step)) where
   schema-at : (c d : Command) (b : List ℕ) → Serves r.words d → r.content d.schema ≡ Some b → Serves r.words c → r.content c.schema ≡ Some b
@@ -158,10 +152,11 @@ module _ (r : Run) (spent : List (List Step)) where
   must-be n (checked_log s question first against place name env reads at report none) x = checked-must n place name _ env (λ short. x.report s question first against (checking place name) reads short) report
   must-be n (reduced s question first against budget reads report) x = absurd (x.report s question first against (reducing budget) reads tt)
   must-be n (replayed s ps w reads report none) x = absurd (x.replay s ps w reads)
+  must-be n (generated size commands report) x = absurd (x.made size commands)
   must-be n (no_memory c t none) x = inr (inr c)
 
-  pub unusable : Ends r spent → ((c : Command) → Serves r.words c → ⊥) → MustBe 10 r.code
-  unusable ends none = must-be 10 ends (record {
+  pub unusable : Ends r spent → IsNoCommand r.words → MustBe 10 r.code
+  unusable ends all = let none : (c : Command) → Serves r.words c → ⊥ = λ c h. all (as_command c) h in must-be 10 ends (record {
     words = λ h. refl;
     schema = λ a c h i. absurd (none c h);
     policies = λ a c s h reads i. absurd (none c h);
@@ -173,6 +168,7 @@ module _ (r : Run) (spent : List (List Step)) where
     log = λ a s question first against place name reaches i. absurd (none reaches.reaches.command reaches.reaches.commands);
     report = λ s question first against aim reads short. none reads.reached.reaches.command reads.reached.reaches.commands;
     replay = λ s ps w reads. none reads.reaches.command reads.reaches.commands;
+    made = λ size h. all (generate (record { size = size })) h;
   })
 
   -- ---- a schema file that isn't read
@@ -181,7 +177,7 @@ module _ (r : Run) (spent : List (List Step)) where
   at-schema : (n : ℕ) (d : Command) → Serves r.words d → ((c : Command) → Serves r.words c → (s : Declarations) → ReadsSchema r.content c s → ⊥)
       → ((a : Refusal) (c : Command) → Serves r.words c → RefusesSchema r.content c (HasRisen r.reads) a → code_of a ≡ n) → Only r n
   at-schema n d k unread_schema refuses = record {
-    words = λ none. absurd (none d k);
+    words = λ none. absurd (none (as_command d) k);
     schema = refuses;
     policies = λ a c s h reads i. absurd (unread_schema c h s reads);
     others = λ a c s question name aim first h task reads has i. absurd (unread_schema c h s reads);
@@ -192,6 +188,7 @@ module _ (r : Run) (spent : List (List Step)) where
     log = λ a s question first against place name reaches i. absurd (unread_schema reaches.reaches.command reaches.reaches.commands s reaches.reaches.schema);
     report = λ s question first against aim reads short. unread_schema reads.reached.reaches.command reads.reached.reaches.commands s reads.reached.reaches.schema;
     replay = λ s ps w reads. unread_schema reads.reaches.command reads.reaches.commands s reads.reaches.schema;
+    made = λ size h. not_generated r.words d size k h;
   }
 
   long-unread : (t : SchemaTold r) → limit < length t.bytes → (c : Command) → Serves r.words c → (bytes : List ℕ) → IsContent r.content c.schema bytes → ⊥
@@ -247,7 +244,7 @@ module _ (r : Run) (spent : List (List Step)) where
         → ((c : Command) → Serves r.words c → (bytes : List ℕ) → IsContent r.content c.policies bytes → (ps : List Policy) → Spells bytes ps → ⊥)
         → ((a : Refusal) (c : Command) (s : Declarations) → Serves r.words c → ReadsSchema r.content c s → RefusesPolicies r.content c.policies policies_side (HasRisen r.reads) a → code_of a ≡ n) → Only r n
     at-policies n t calm unread_policies refuses = record {
-      words = λ none. absurd (none t.command t.commands);
+      words = λ none. absurd (none (as_command t.command) t.commands);
       schema = λ a c h i. absurd (schema-read t calm a c h i);
       policies = refuses;
       others = λ a c s question name aim first h task reads has i. absurd (unread_policies c h has.bytes has.told first has.spelled);
@@ -258,6 +255,7 @@ module _ (r : Run) (spent : List (List Step)) where
       log = λ a s question first against place name reaches i. absurd (unread_policies reaches.reaches.command reaches.reaches.commands reaches.reaches.policies.bytes reaches.reaches.policies.told first reaches.reaches.policies.spelled);
       report = λ s question first against aim reads short. unread_policies reads.reached.reaches.command reads.reached.reaches.commands reads.reached.reaches.policies.bytes reads.reached.reaches.policies.told first reads.reached.reaches.policies.spelled;
       replay = λ s ps w reads. unread_policies reads.reaches.command reads.reaches.commands reads.reaches.policies.bytes reads.reaches.policies.told ps reads.reaches.policies.spelled;
+      made = λ size h. not_generated r.words t.command size t.commands h;
     }
 
     policies-long-case : (t : PoliciesTold r) → limit < length t.bytes → (HasRisen r.reads → ⊥) → (a : Refusal) (c : Command) (s : Declarations) → Serves r.words c → ReadsSchema r.content c s → RefusesPolicies r.content c.policies policies_side (HasRisen r.reads) a → code_of a ≡ 22
@@ -286,10 +284,10 @@ module _ (r : Run) (spent : List (List Step)) where
     policies-read : (t : PoliciesTold r) → length t.bytes ≤ limit → (ps : List Policy) → Spells t.bytes ps → (HasRisen r.reads → ⊥) → (a : Refusal) (c : Command) → Serves r.words c → RefusesPolicies r.content c.policies policies_side (HasRisen r.reads) a → ⊥
     policies-read t short ps spells calm _ c h (policies_unread _ (unread rose)) = calm rose
     policies-read t short ps spells calm _ c h (policies_unread _ (long is)) = no-long-policies t short c h is
-    policies-read t short ps spells calm _ c h (policies_faulty f bytes is has) = not-both spells (subst (λ b. HasFault b f) (policies-content t c h bytes is).0 has)
+    policies-read t short ps spells calm _ c h (policies_faulty f bytes is has) = not_both spells (subst (λ b. HasFault b f) (policies-content t c h bytes is).0 has)
 
     one-policies : (t : PoliciesTold r) (qs : List Policy) → Spells t.bytes qs → (c : Command) → Serves r.words c → (ps : List Policy) → HasPolicies r.content c.policies ps → ps ≡ qs
-    one-policies t qs spells c h ps has = same-policies (policies-spelled r.content c.policies t.bytes ps (policies-at c t.command t.bytes t.commands t.told h) has) spells
+    one-policies t qs spells c h ps has = one_set (policies-spelled r.content c.policies t.bytes ps (policies-at c t.command t.bytes t.commands t.told h) has) spells
 
     -- the names that policies which are reached write, under their schema, are those of these
     names-in : (t : PoliciesTold r) (qs : List Policy) → Spells t.bytes qs → (o : Option NameFault) (s : Declarations) (ps : List Policy) → Reaches r.content r.words s ps → name_fault s ps ≡ o → name_fault t.schema qs ≡ o
@@ -328,7 +326,7 @@ module _ (r : Run) (spent : List (List Step)) where
     at-against : (n : ℕ) (t : AgainstNamed r) → (HasRisen r.reads → ⊥) → ((ps : List Policy) → HasPolicies r.content t.file ps → ⊥)
         → ((a : Refusal) → RefusesPolicies r.content t.file against_side (HasRisen r.reads) a → code_of a ≡ n) → Only r n
     at-against n t calm unread_file refuses = record {
-      words = λ none. absurd (none t.before.before.command t.before.before.commands);
+      words = λ none. absurd (none (as_command t.before.before.command) t.before.before.commands);
       schema = λ a c h i. absurd (schema-read t.before.before calm a c h i);
       policies = λ a c s h reads i. absurd (question-read t.before calm a c h i);
       others = λ a c s question name aim first h task reads has i.
@@ -341,6 +339,7 @@ module _ (r : Run) (spent : List (List Step)) where
       log = λ a s question first against place name reaches i. absurd (no-question t unread_file s question first against (checking place name) reaches.reaches);
       report = λ s question first against aim reads short. no-question t unread_file s question first against aim reads.reached.reaches;
       replay = λ s ps w reads. no-replay t.before s ps reads.name reads.reaches;
+      made = λ size h. not_generated r.words t.before.before.command size t.before.before.commands h;
     }
 
     against-content : (t : AgainstNamed r) (bytes : List ℕ) → IsContent r.content t.file bytes → (bytes ≡ t.bytes) × (length t.bytes ≤ limit)
@@ -395,7 +394,7 @@ module _ (r : Run) (spent : List (List Step)) where
         → ((a : Refusal) (s : Declarations) (question : Question) (first : List Policy) (against : Option (List Policy)) (aim : Aim) → ReachesQuestion r.content r.words s question first against aim → RefusesQuestion s first against a → code_of a ≡ n)
         → ((s : Declarations) (question : Question) (first : List Policy) (against : Option (List Policy)) (aim : Aim) → ReachesQuestion r.content r.words s question first against aim → AreServed s first against → ⊥) → Only r n
     at-question n t calm refuses unserved = record {
-      words = λ none. absurd (none t.before.before.command t.before.before.commands);
+      words = λ none. absurd (none (as_command t.before.before.command) t.before.before.commands);
       schema = λ a c h i. absurd (schema-read t.before.before calm a c h i);
       policies = λ a c s h reads i. absurd (question-read t.before calm a c h i);
       others = λ a c s question name aim first h task reads has i. absurd (against-read t calm a c question name aim h task i);
@@ -406,6 +405,7 @@ module _ (r : Run) (spent : List (List Step)) where
       log = λ a s question first against place name reaches i. absurd (unserved s question first against (checking place name) reaches.reaches reaches.served);
       report = λ s question first against aim reads short. unserved s question first against aim reads.reached.reaches reads.reached.served;
       replay = λ s ps w reads. no-replay t.before s ps reads.name reads.reaches;
+      made = λ size h. not_generated r.words t.before.before.command size t.before.before.commands h;
     }
 
     -- they write a name that isn't declared
@@ -456,7 +456,7 @@ module _ (r : Run) (spent : List (List Step)) where
         → ((a : Refusal) (place : ℕ) (name : List ℕ) → x.0.before.aim ≡ checking place name → HasEnvironment x.0.before.before.schema x.0.before.aim → RefusesLog r.content name (HasRisen r.reads) a → code_of a ≡ n)
         → (HasEnvironment x.0.before.before.schema x.0.before.aim → HasShortLog r.content x.0.before.aim → ⊥) → Only r n
     at-aim n x calm placeless unread-log done = record {
-      words = λ none. absurd (none x.0.before.before.command x.0.before.before.commands);
+      words = λ none. absurd (none (as_command x.0.before.before.command) x.0.before.before.commands);
       schema = λ a c h i. absurd (schema-read x.0.before.before calm a c h i);
       policies = λ a c s h reads i. absurd (question-read x.0.before calm a c h i);
       others = λ a c s question name aim first h task reads has i. absurd (against-read x.0 calm a c question name aim h task i);
@@ -470,6 +470,7 @@ module _ (r : Run) (spent : List (List Step)) where
       report = λ s question first against aim reads short.
           done (environment-is x s question first against aim reads.reached) (subst (HasShortLog r.content) (sym (one-aim x.0 s question first against aim reads.reached.reaches)) short);
       replay = λ s ps w reads. no-replay x.0.before s ps reads.name reads.reaches;
+      made = λ size h. not_generated r.words x.0.before.before.command size x.0.before.before.commands h;
     }
 
     -- a place that is none of the schema's
@@ -515,7 +516,7 @@ module _ (r : Run) (spent : List (List Step)) where
         let t = subst (LogIsTold content) is told in let far = long-log content name t.0 t.1 beyond in let near = t.2 in omega (arith, far, near)
 
     none-refused : (x : IsReadable r) → (HasRisen r.reads → ⊥) → (a : Refusal) → IsRefusal r.content r.words (HasRisen r.reads) a → ⊥
-    none-refused x calm _ (no_command none) = none x.served.0.before.before.command x.served.0.before.before.commands
+    none-refused x calm _ (no_command none) = none (as_command x.served.0.before.before.command) x.served.0.before.before.commands
     none-refused x calm _ (of_schema a c h i) = schema-read x.served.0.before.before calm a c h i
     none-refused x calm _ (of_policies a c s h reads i) = question-read x.served.0.before calm a c h i
     none-refused x calm _ (of_against a c s question name aim first h task reads has i) = against-read x.served.0 calm a c question name aim h task i
@@ -582,6 +583,7 @@ module _ (r : Run) (spent : List (List Step)) where
     complete (checked_log s question first against place name env reads at report none) x calm still = for-aim x s question first against (checking place name) reads (checked-whole (r.content name) (asked s question first against 0) env report still)
     complete (reduced s question first against budget reads report) x calm still = for-aim x s question first against (reducing budget) reads (reduction-whole (to_reduce s first budget) report still)
     complete (replayed s ps w reads report none) x calm still = absurd (no-replay x.served.0.before s ps reads.name reads.reaches)
+    complete (generated size commands report) x calm still = absurd (not_generated r.words x.served.0.before.before.command size x.served.0.before.before.commands commands)
     complete (no_memory c t none) x calm still = out-of-memory x.served.0.before.aim r.code c
 
     -- ---- a log that is checked
@@ -640,6 +642,7 @@ module _ (r : Run) (spent : List (List Step)) where
         absurd (let other = not-checking x s question first against (reducing budget) reads.reached.reaches in cc)
     must-say x n says (checked_log s question first against place name env reads at report none) calm still = said-whole x n says (this-log x s question first against place name env reads at report) still
     must-say x n says (replayed s ps w reads report none) calm still = absurd (no-replay x.served.0.before s ps reads.name reads.reaches)
+    must-say x n says (generated size commands report) calm still = absurd (not_generated r.words x.served.0.before.before.command size x.served.0.before.before.commands commands)
     must-say x n says (no_memory c t none) calm still = inr (inr c)
 
     right-answer : ShownOnce → (x : ReadsLog r) → IsShown (asked_of_log x) x.env x.bytes → (a : Answer) → Claims (Some x.bytes) (asked_of_log x) x.env a → r.code ≡ answer_code a → MustSay 0 r.code
@@ -708,7 +711,7 @@ module _ (r : Run) (spent : List (List Step)) where
         → ((s : Declarations) (ps : List Policy) (name : List ℕ) → ReachesWorld r.content r.words s ps name → (w : World) → HasWorld r.content name w → ⊥)
         → ((a : Refusal) (s : Declarations) (ps : List Policy) (name : List ℕ) → ReachesWorld r.content r.words s ps name → RefusesWorld r.content name (HasRisen r.reads) a → code_of a ≡ n) → Only r n
     at-world n t calm unread_world refuses = record {
-      words = λ none. absurd (none t.command t.commands);
+      words = λ none. absurd (none (as_command t.command) t.commands);
       schema = λ a c h i. absurd (world-schema t calm a c h i);
       policies = λ a c s h reads i. absurd (world-policies t calm a c h i);
       others = λ a c s question name aim first h task reads has i. absurd (no-report t c h question (Some name) aim task);
@@ -719,6 +722,7 @@ module _ (r : Run) (spent : List (List Step)) where
       log = λ a s question first against place name reaches i. absurd (none-asked t s question first against (checking place name) reaches.reaches);
       report = λ s question first against aim reads short. none-asked t s question first against aim reads.reached.reaches;
       replay = λ s ps w reads. unread_world s ps reads.name reads.reaches w reads.spelled;
+      made = λ size h. not_generated r.words t.command size t.commands h;
     }
 
     world-long-case : (t : WorldTold r) → limit < length t.bytes → (HasRisen r.reads → ⊥) → (a : Refusal) (s : Declarations) (ps : List Policy) (name : List ℕ) → ReachesWorld r.content r.words s ps name → RefusesWorld r.content name (HasRisen r.reads) a → code_of a ≡ 22
@@ -761,7 +765,7 @@ module _ (r : Run) (spent : List (List Step)) where
 
       replay-unknown : Ends r spent → (t : WorldSpelled r) (f : NameFault) → name_fault t.before.schema t.before.policies ≡ Some f → (HasRisen r.reads → ⊥) → MustBe 13 r.code
       replay-unknown ends t f first calm = must-be 13 ends (record {
-        words = λ none. absurd (none t.before.command t.before.commands);
+        words = λ none. absurd (none (as_command t.before.command) t.before.commands);
         schema = λ a c h i. absurd (world-schema t.before calm a c h i);
         policies = λ a c s h reads i. absurd (world-policies t.before calm a c h i);
         others = λ a c s question name aim first h task reads has i. absurd (no-report t.before c h question (Some name) aim task);
@@ -772,6 +776,7 @@ module _ (r : Run) (spent : List (List Step)) where
         log = λ a s question first against place name reaches i. absurd (none-asked t.before s question first against (checking place name) reaches.reaches);
         report = λ s question first against aim reads short. none-asked t.before s question first against aim reads.reached.reaches;
         replay = λ s ps w reads. absurd (let none = reached-names t.before None s ps (reach-world r.content r.words s ps reads.name reads.reaches) reads.declared in cc);
+        made = λ size h. not_generated r.words t.before.command size t.before.commands h;
       })
 
       pub names-are-unknown : Ends r spent → NamesAreUnknown r → (HasRisen r.reads → ⊥) → MustBe 13 r.code
@@ -780,7 +785,7 @@ module _ (r : Run) (spent : List (List Step)) where
       -- ---- where all of a replay is readable
 
       replayable : (x : IsReplayable r) → (HasRisen r.reads → ⊥) → (a : Refusal) → IsRefusal r.content r.words (HasRisen r.reads) a → ⊥
-      replayable x calm _ (no_command none) = none x.0.before.command x.0.before.commands
+      replayable x calm _ (no_command none) = none (as_command x.0.before.command) x.0.before.commands
       replayable x calm _ (of_schema a c h i) = world-schema x.0.before calm a c h i
       replayable x calm _ (of_policies a c s h reads i) = world-policies x.0.before calm a c h i
       replayable x calm _ (of_world a s ps name reaches i) = world-read x.0 calm a s ps name reaches i
@@ -814,4 +819,5 @@ module _ (r : Run) (spent : List (List Step)) where
       complete-replay (checked_log s question first against place name env reads at report none) x calm still = absurd (none-asked x.0.before s question first against (checking place name) reads.reached.reaches)
       complete-replay (reduced s question first against budget reads report) x calm still = absurd (none-asked x.0.before s question first against (reducing budget) reads.reached.reaches)
       complete-replay (replayed s ps w reads report none) x calm still = replayed-whole x (this-scene x s ps w reads report) still
+      complete-replay (generated size commands report) x calm still = absurd (not_generated r.words x.0.before.command size x.0.before.commands commands)
       complete-replay (no_memory c t none) x calm still = inr c

@@ -1,4 +1,6 @@
+pub mod SpellingLaws
 pub mod StatusLaws
 pub mod DeterminedLaws
 pub mod ReplayLaws
 pub mod ReductionLaws
+pub mod GenerationLaws

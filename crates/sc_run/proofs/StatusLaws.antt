@@ -19,13 +19,13 @@ use Rattle.sc_world.specs.WellFormed.{IsWellFormed}
 use Rattle.sc_replay.specs.Breaks.{IsFirstBreak}
 use Rattle.sc_replay.specs.declared.breaks.Break.{Break}
 use Rattle.sc_world_json.specs.Reading as world
-use Rattle.sc_inputs.specs.Serving.{Aim, Command, Serves, checking, logging, reducing, reporting}
+use Rattle.sc_inputs.specs.Serving.{Aim, Command, Generates, IsNoCommand, Serves, checking, logging, reducing, reporting}
 use Rattle.sc_inputs.proofs.ReadingLaws.{log_rises}
 use Rattle.sc_inputs.specs.declared.inputs.Claim.{Claim}
 use Rattle.sc_inputs.specs.Refusals.{Content}
 use Rattle.std.proofs.Math.Path.{fun_ext}
 use Rattle.sc_run.specs.Runs.{ChecksClaim}
-use Rattle.sc_inputs.proofs.ServingLaws.{same_task, not_both_tasks, one_question}
+use Rattle.sc_inputs.proofs.ServingLaws.{same_task, not_both_tasks, not_generated, one_question, size_within}
 use Rattle.sc_inputs.specs.Readings.{ReadsAll, ReadsWorld, IsReadFault}
 use Rattle.sc_inputs.specs.View.{refusal_view}
 use Rattle.sc_inputs.specs.declared.refusal.Refusal as answer
@@ -38,12 +38,14 @@ use Rattle.sc_reports.specs.Claims.{Answer, Checked, Claims, IsShort, accepted, 
 use Rattle.sc_reports.specs.Logs.{Logged, log_first, log_front, log_whole, other_front, other_whole, unlogged}
 use Rattle.sc_reports.proofs.ReportLaws.{append-nil}
 use Rattle.sc_reports.specs.Progress.{Reported, whole, cut, cut_none, stopped}
+use Rattle.sc_command.specs.CommandLine.{generate}
+use Rattle.sc_run.specs.Generates.{IsGenerated, Summed, summary, summary_cut, summed, unsummed}
 use Rattle.sc_run.specs.Reduces.{Reduced, to_reduce, reduced_whole, reduced_front, reduced_first, unreduced}
 use Rattle.sc_run.proofs.ReductionLaws.{ReducedCode, fate-logged, reduction-codes}
 use Rattle.sc_run.specs.Replays.{Replayed, told_whole, told_front, told_first, untold}
 use Rattle.sc_outside.specs.Writes.{appended}
 use Rattle.sc_reports.specs.Reports.{Asked, IsReport, line_text, report_text, Line, Verdict, holds, counterexample, unknown, over_limit, IsLine, AlwaysHas, Violates, IsUndecided, is_counterexample, is_open, has_counterexample, has_open, status_by, status_of, log_of, logs_of}
-use Rattle.sc_run.specs.Runs.{Run, HasRisen, Ends, refused, refusal_cut, reduced, reported, replayed, wrote_log, checked_log, no_memory, scene, asked_about, asked_for, listed, IsReporting, IsLogging, IsChecking, IsReducing, AsksFor, ChecksLog, WritesLog, ReducesSet, SetIsReduced, SomeLeft, IsFateLogged, LogIsAccepted, LogIsRejected, LogIsWritten, SaysOf, IsMisplaced, log_long, Refuses, MustBe, Reports, AllHold, Tells, IsWell, AllWell, AsksQuestion, ReplaysWorld, SomeFails, SomeOpen, IsLogged, IsBroken, ReachesAgainst, TooLong, schema_long, policies_long, against_long, world_long, IsFaulty, policies_faulty, against_faulty, IsFaultySchema, IsFaultyWorld, IsUntyped, undeclared, untyped}
+use Rattle.sc_run.specs.Runs.{Run, HasRisen, Ends, refused, refusal_cut, generated, reduced, reported, replayed, wrote_log, checked_log, no_memory, scene, asked_about, asked_for, listed, IsReporting, IsLogging, IsChecking, IsReducing, AsksFor, ChecksLog, WritesLog, ReducesSet, SetIsReduced, SomeLeft, AsksGenerated, GeneratedHold, GeneratedOpen, GeneratedReports, IsGeneratedLogged, IsOfGenerated, IsOfLog, LogIsAccepted, LogIsRejected, LogIsWritten, SaysOf, IsMisplaced, log_long, Refuses, MustBe, Reports, AllHold, Tells, IsWell, AllWell, AsksQuestion, ReplaysWorld, SomeFails, SomeOpen, IsLogged, IsBroken, ReachesAgainst, TooLong, schema_long, policies_long, against_long, world_long, IsFaulty, policies_faulty, against_faulty, IsFaultySchema, IsFaultyWorld, IsUntyped, undeclared, untyped}
 
 pub refusal-ends : (r : Run) (spent : List (List Step)) (a : Refusal) (n : ℕ) → IsRefusal r.content r.words (HasRisen r.reads) a → Refuses a r.before r.after (HasRisen r.writes) n → r.code ≡ n → spent ≡ [] → Ends r spent
 refusal-ends r spent a n h e is none =
@@ -262,8 +264,16 @@ other-logged r spent s question first against budget place env reads at (other_w
 other-logged r spent s question first against budget place env reads at (other_front l n other rose c text none) log among = absurd (none-spent spent log none among)
 other-logged r spent s question first against budget place env reads at (unlogged c text none) log among = absurd (none-spent spent log none among)
 
+-- the log of a line of generated policies
+generated-logged : (r : Run) (spent : List (List Step)) (size : ℕ) → Generates r.words size → Summed size r.before r.after (HasRisen r.writes) r.code spent → (log : List Step) → Contains spent log → IsGeneratedLogged r log
+generated-logged r spent size commands (summed q is report) log among =
+    let x = logged-reported q (appended r.before (summary size)) r.after (HasRisen r.writes) r.code spent log report among in
+    record { size = size; commands = commands; asks = q; is_generated = is; env = x.env; listed = x.listed; undecided = subst (λ (units : ℕ). IsUndecided q x.env units log) is.budget x.undecided }
+generated-logged r spent size commands (summary_cut n rose c text none) log among = absurd (none-spent spent log none among)
+generated-logged r spent size commands (unsummed c text none) log among = absurd (none-spent spent log none among)
+
 -- each log is of an environment that is asked about, or of a policy for which the budget was spent
-pub logged : (r : Run) (spent : List (List Step)) → Ends r spent → (log : List Step) → Contains spent log → IsLogged r log ⊎ IsFateLogged r log
+pub logged : (r : Run) (spent : List (List Step)) → Ends r spent → (log : List Step) → Contains spent log → IsOfLog r log
 logged r spent (refused a h c t none) log among = absurd (none-spent spent log none among)
 logged r spent (refusal_cut a n h rose c t none) log among = absurd (none-spent spent log none among)
 logged r spent (reported s question first against budget reads report) log among =
@@ -274,7 +284,7 @@ logged r spent (checked_log s question first against place name env reads at rep
 logged r spent (replayed s ps w reads report none) log among = absurd (none-spent spent log none among)
 logged r spent (reduced s question first against budget reads report) log among =
     let x = fate-logged (to_reduce s first budget) r.before r.after (HasRisen r.writes) r.code spent report log among in
-    inr (record {
+    inr (inl (record {
       schema = s;
       question = question;
       policies = first;
@@ -287,7 +297,8 @@ logged r spent (reduced s question first against budget reads report) log among 
       env = x.env;
       listed = x.listed;
       undecided = x.undecided;
-    })
+    }))
+logged r spent (generated size commands report) log among = inr (inr (generated-logged r spent size commands report log among))
 logged r spent (no_memory c t none) log among = absurd (none-spent spent log none among)
 
 -- ---- what is written of one environment
@@ -303,6 +314,18 @@ logged-codes q env old new rose code spent (log_first log lines rest shows order
 logged-codes q env old new rose code spent (other_whole l other c text logs) = inl (status-code (l ∷ []) code c)
 logged-codes q env old new rose code spent (other_front l n other risen c text none) = inr (inl (c, risen))
 logged-codes q env old new rose code spent (unlogged c text none) = inr (inr c)
+
+reported-codes : (q : Asked) (old new : Option (List ℕ)) (rose : Type 0) (code : ℕ) (spent : List (List Step)) → Reported q old new rose code spent → Written code rose
+reported-codes q old new rose code spent (whole lines report c text logs) = inl (status-code lines code c)
+reported-codes q old new rose code spent (cut lines next n front risen c text logs) = inr (inl (c, risen))
+reported-codes q old new rose code spent (cut_none n none risen c text logs) = inr (inl (c, risen))
+reported-codes q old new rose code spent (stopped lines front c text logs) = inr (inr c)
+
+-- the same of generated policies
+summed-codes : (size : ℕ) (old new : Option (List ℕ)) (rose : Type 0) (code : ℕ) (spent : List (List Step)) → Summed size old new rose code spent → Written code rose
+summed-codes size old new rose code spent (summed q is report) = reported-codes q (appended old (summary size)) new rose code spent report
+summed-codes size old new rose code spent (summary_cut n risen c text none) = inr (inl (c, risen))
+summed-codes size old new rose code spent (unsummed c text none) = inr (inr c)
 
 -- where a log is to be checked, it is said to be accepted or rejected, or not to be checked, or the write failed, or memory ran out
 abbrev Said : ℕ → Type 0 → Type 0
@@ -457,6 +480,30 @@ module _ (r : Run) (spent : List (List Step)) where
   set-reduced s question first against budget reads (reduced_first fates lines rest is order c text logs) low = absurd (omega (arith, c, low))
   set-reduced s question first against budget reads (unreduced c text none) low = absurd (omega (arith, c, low))
 
+  -- a whole report on generated policies
+  generated-told : (size : ℕ) → Generates r.words size → (q : Asked) → IsGenerated size q → Whole q (appended r.before (summary size)) r.after r.code → GeneratedReports r
+  generated-told size commands q is x = record { size = size; commands = commands; asks = q; is_generated = is; lines = x.lines; report = x.report; text = x.text }
+
+  generated-hold : (size : ℕ) → Generates r.words size → Summed size r.before r.after (HasRisen r.writes) r.code spent → r.code ≡ 0 → GeneratedHold r
+  unfolding generated-told
+  generated-hold size commands (summed q is report) e =
+      let x = whole-reported q (appended r.before (summary size)) r.after (HasRisen r.writes) r.code spent report (omega (arith, e)) in
+      let none = none-found (has_counterexample x.lines) (has_open x.lines) (sym x.is ∙ e) in
+      record {
+        told = generated-told size commands q is x;
+        always = λ env h. lines-hold q x.lines none.0 none.1 x.report.lines_true env (subst (λ es. Contains es env) (sym x.report.in_order) h);
+      }
+  generated-hold size commands (summary_cut n rose c text none) e = absurd (omega (arith, c, e))
+  generated-hold size commands (unsummed c text none) e = absurd (omega (arith, c, e))
+
+  generated-left : (size : ℕ) → Generates r.words size → Summed size r.before r.after (HasRisen r.writes) r.code spent → r.code ≡ 2 → GeneratedOpen r
+  unfolding generated-told
+  generated-left size commands (summed q is report) e =
+      let x = whole-reported q (appended r.before (summary size)) r.after (HasRisen r.writes) r.code spent report (omega (arith, e)) in
+      record { told = generated-told size commands q is x; some_open = (open-found (has_counterexample x.lines) (has_open x.lines) (sym x.is ∙ e)).1 }
+  generated-left size commands (summary_cut n rose c text none) e = absurd (omega (arith, c, e))
+  generated-left size commands (unsummed c text none) e = absurd (omega (arith, c, e))
+
   pub all-well : Nowhere → Stored → Ends r spent → r.code ≡ 0 → AllWell r
   all-well nowhere stored (refused a h c t none) e = absurd (let is = refusal-code a in omega (arith, is.least, c, e))
   all-well nowhere stored (refusal_cut a n h rose c t none) e = absurd (omega (arith, c, e))
@@ -464,7 +511,8 @@ module _ (r : Run) (spent : List (List Step)) where
   all-well nowhere stored (wrote_log s question first against budget place env reads at report) e = inr (inr (inl (log-written s question first against budget place env reads at report e)))
   all-well nowhere stored (checked_log s question first against place name env reads at report none) e = inr (inr (inr (inl (log-accepted s question first against place name env reads at report e))))
   all-well nowhere stored (replayed s ps w reads report none) e = inr (inl (is-well nowhere stored (well-replayed s ps w reads report e)))
-  all-well nowhere stored (reduced s question first against budget reads report) e = inr (inr (inr (inr (set-reduced s question first against budget reads report (omega (arith, e))))))
+  all-well nowhere stored (reduced s question first against budget reads report) e = inr (inr (inr (inr (inl (set-reduced s question first against budget reads report (omega (arith, e)))))))
+  all-well nowhere stored (generated size commands report) e = inr (inr (inr (inr (inr (generated-hold size commands report e)))))
   all-well nowhere stored (no_memory c t none) e = absurd (omega (arith, c, e))
 
   -- the aim of what is done is of the kind that the words have
@@ -476,6 +524,10 @@ module _ (r : Run) (spent : List (List Step)) where
   not-replayed K x w =
       let reaches = w.told.reads.reaches in
       not_both_tasks x.command.task x.question x.name x.aim w.told.reads.name x.task (same_task r.words x.command reaches.command x.commands reaches.commands ∙ reaches.task)
+
+  -- words on files generate no policies
+  not-made : (K : Aim → Type 0) → AsksFor K r → GeneratedHold r → ⊥
+  not-made K x w = not_generated r.words x.command w.told.size x.commands w.told.commands
 
   not-asked : ReplaysWorld r → (s : Declarations) (question : Question) (first : List Policy) (against : Option (List Policy)) (aim : Aim) → ReachesQuestion r.content r.words s question first against aim → ⊥
   not-asked x s question first against aim reaches =
@@ -510,21 +562,21 @@ module _ (r : Run) (spent : List (List Step)) where
       ⊎_elim (λ (h : AllHold r). h)
       (λ y. ⊎_elim (λ (w : IsWell r). absurd (not-replayed IsReporting x w))
       (λ z. ⊎_elim (λ (w : LogIsWritten r). absurd (kind-written IsReporting x w))
-      (λ v. ⊎_elim (λ (w : LogIsAccepted r). absurd (kind-accepted IsReporting x w)) (λ (w : SetIsReduced r). absurd (kind-reduced IsReporting x w)) v) z) y) (all-well nowhere stored ends e)
+      (λ v. ⊎_elim (λ (w : LogIsAccepted r). absurd (kind-accepted IsReporting x w)) (λ u. ⊎_elim (λ (w : SetIsReduced r). absurd (kind-reduced IsReporting x w)) (λ (w : GeneratedHold r). absurd (not-made IsReporting x w)) u) v) z) y) (all-well nowhere stored ends e)
 
   pub log-is-written : Nowhere → Stored → Ends r spent → WritesLog r → r.code ≡ 0 → LogIsWritten r
   log-is-written nowhere stored ends x e =
       ⊎_elim (λ (h : AllHold r). absurd (not-reporting h.told.aim h.of_all (kind-held IsLogging x h)))
       (λ y. ⊎_elim (λ (w : IsWell r). absurd (not-replayed IsLogging x w))
       (λ z. ⊎_elim (λ (w : LogIsWritten r). w)
-      (λ v. ⊎_elim (λ (w : LogIsAccepted r). absurd (kind-accepted IsLogging x w)) (λ (w : SetIsReduced r). absurd (kind-reduced IsLogging x w)) v) z) y) (all-well nowhere stored ends e)
+      (λ v. ⊎_elim (λ (w : LogIsAccepted r). absurd (kind-accepted IsLogging x w)) (λ u. ⊎_elim (λ (w : SetIsReduced r). absurd (kind-reduced IsLogging x w)) (λ (w : GeneratedHold r). absurd (not-made IsLogging x w)) u) v) z) y) (all-well nowhere stored ends e)
 
   pub log-is-accepted : Nowhere → Stored → Ends r spent → ChecksLog r → r.code ≡ 0 → LogIsAccepted r
   log-is-accepted nowhere stored ends x e =
       ⊎_elim (λ (h : AllHold r). absurd (not-checking h.told.aim h.of_all (kind-held IsChecking x h)))
       (λ y. ⊎_elim (λ (w : IsWell r). absurd (not-replayed IsChecking x w))
       (λ z. ⊎_elim (λ (w : LogIsWritten r). absurd (kind-written IsChecking x w))
-      (λ v. ⊎_elim (λ (w : LogIsAccepted r). w) (λ (w : SetIsReduced r). absurd (kind-reduced IsChecking x w)) v) z) y) (all-well nowhere stored ends e)
+      (λ v. ⊎_elim (λ (w : LogIsAccepted r). w) (λ u. ⊎_elim (λ (w : SetIsReduced r). absurd (kind-reduced IsChecking x w)) (λ (w : GeneratedHold r). absurd (not-made IsChecking x w)) u) v) z) y) (all-well nowhere stored ends e)
 
   pub well-formed : Nowhere → Stored → Ends r spent → ReplaysWorld r → r.code ≡ 0 → IsWell r
   well-formed nowhere stored ends x e =
@@ -532,7 +584,8 @@ module _ (r : Run) (spent : List (List Step)) where
       (λ y. ⊎_elim (λ (w : IsWell r). w)
       (λ z. ⊎_elim (λ (w : LogIsWritten r). absurd (not-asked x w.schema w.question w.first w.against (logging w.budget w.place) w.reads.reached.reaches))
       (λ v. ⊎_elim (λ (w : LogIsAccepted r). absurd (not-asked x w.schema w.question w.first w.against (checking w.place w.name) w.reads.reached.reaches))
-      (λ (w : SetIsReduced r). absurd (not-asked x w.schema w.question w.policies w.against (reducing w.budget) w.reads.reached.reaches)) v) z) y) (all-well nowhere stored ends e)
+      (λ u. ⊎_elim (λ (w : SetIsReduced r). absurd (not-asked x w.schema w.question w.policies w.against (reducing w.budget) w.reads.reached.reaches))
+      (λ (w : GeneratedHold r). absurd (not_generated r.words x.command w.told.size x.commands w.told.commands)) u) v) z) y) (all-well nowhere stored ends e)
 
   broken-replayed : (s : Declarations) (ps : List Policy) (w : World) → ReadsWorld r.content r.words s ps w → Replayed (scene s ps w) r.before r.after (HasRisen r.writes) r.code → r.code ≡ 3 → IsBroken r
   broken-replayed s ps w reads (told_whole None finds c text) e = absurd (omega (arith, c, e))
@@ -558,6 +611,8 @@ module _ (r : Run) (spent : List (List Step)) where
   is-broken (replayed s ps w reads report none) e = broken-replayed s ps w reads report e
   is-broken (reduced s question first against budget reads report) e =
       absurd (none-reduced r.code (HasRisen r.writes) (reduction-codes (to_reduce s first budget) r.before r.after (HasRisen r.writes) r.code spent report) (λ h. omega (arith, h, e)) (λ h. omega (arith, h, e)) (λ h. omega (arith, h, e)) (λ h. omega (arith, h, e)))
+  is-broken (generated size commands report) e =
+      absurd (none-written r.code (HasRisen r.writes) (summed-codes size r.before r.after (HasRisen r.writes) r.code spent report) (omega (arith, e)) (λ h. omega (arith, h, e)) (λ h. omega (arith, h, e)))
   is-broken (no_memory c t none) e = absurd (omega (arith, c, e))
 
   fail-reported : (s : Declarations) (question : Question) (first : List Policy) (against : Option (List Policy)) (budget : ℕ) → ReadsAll r.content r.words s question first against (reporting budget)
@@ -659,24 +714,58 @@ not-rejection (no_environment place count) e = omega (arith, e)
 not-rejection (read_fault f) e = omega (arith, e)
 not-rejection (too_long f) e = omega (arith, e)
 
+-- no world tells generated policies from the same in reverse order
+abbrev pub NeverViolated : Type 0
+NeverViolated = (size : ℕ) (q : Asked) (env : Env) (w : World) → size ≤ 1000 → IsGenerated size q → Violates q env w → ⊥
+
+-- so none is printed
+none-printed : NeverViolated → (size : ℕ) (q : Asked) → size ≤ 1000 → IsGenerated size q → (lines : List Line) → AllByRecursion (IsLine q) lines → has_counterexample lines ≡ true → ⊥
+none-printed never size q within is lines told e = let p = lines-fail q lines e told in never size q p.env p.world within is p.violates
+
+-- and the status isn't that of a counterexample
+by-lines : (fails open-ones : Bool) (code : ℕ) → (fails ≡ true → ⊥) → code ≡ status_by fails open-ones → IsOfGenerated code
+by-lines true open-ones code none c = absurd (none refl)
+by-lines false true code none c = inr (inl c)
+by-lines false false code none c = inl c
+
+reported-status : NeverViolated → (size : ℕ) (q : Asked) → size ≤ 1000 → IsGenerated size q → (old new : Option (List ℕ)) (rose : Type 0) (code : ℕ) (spent : List (List Step)) → Reported q old new rose code spent → IsOfGenerated code
+reported-status never size q within is old new rose code spent (whole lines report c text logs) =
+    by-lines (has_counterexample lines) (has_open lines) code (λ e. none-printed never size q within is lines report.lines_true e) c
+reported-status never size q within is old new rose code spent (cut lines next n front risen c text logs) = inr (inr (inl c))
+reported-status never size q within is old new rose code spent (cut_none n none risen c text logs) = inr (inr (inl c))
+reported-status never size q within is old new rose code spent (stopped lines front c text logs) = inr (inr (inr c))
+
+summed-status : NeverViolated → (size : ℕ) → size ≤ 1000 → (old new : Option (List ℕ)) (rose : Type 0) (code : ℕ) (spent : List (List Step)) → Summed size old new rose code spent → IsOfGenerated code
+summed-status never size within old new rose code spent (summed q is report) = reported-status never size q within is (appended old (summary size)) new rose code spent report
+summed-status never size within old new rose code spent (summary_cut n risen c text none) = inr (inr (inl c))
+summed-status never size within old new rose code spent (unsummed c text none) = inr (inr (inr c))
+
 module _ (r : Run) (spent : List (List Step)) where
   not-between : (s : Declarations) (ps : List Policy) (w : World) → Replayed (scene s ps w) r.before r.after (HasRisen r.writes) r.code → 1 ≤ r.code → r.code ≤ 2 → ⊥
   not-between s ps w report least most =
       ⊎_elim (λ (h : r.code ≡ 30). omega (arith, h, most)) (λ (h : (r.code ≡ 21) × (HasRisen r.writes)). omega (arith, h.0, most))
       (replayed-other s ps w r.before r.after (HasRisen r.writes) r.code report (λ h. omega (arith, h, least)) (λ h. omega (arith, h, most)))
 
-  pub some-fails : Ends r spent → r.code ≡ 1 → SomeFails r
-  some-fails (refused a h c t none) e = absurd (let is = refusal-code a in omega (arith, is.least, c, e))
-  some-fails (refusal_cut a n h rose c t none) e = absurd (omega (arith, c, e))
-  some-fails (reported s question first against budget reads report) e = fail-reported r spent s question first against budget reads report e
-  some-fails (wrote_log s question first against budget place env reads at report) e = fail-logged r spent s question first against budget place env reads at report e
-  some-fails (checked_log s question first against place name env reads at report none) e =
+  none-failing : NeverViolated → (size : ℕ) → Generates r.words size → Summed size r.before r.after (HasRisen r.writes) r.code spent → r.code ≡ 1 → ⊥
+  none-failing never size commands (summed q is report) e =
+      let x = whole-reported q (appended r.before (summary size)) r.after (HasRisen r.writes) r.code spent report (omega (arith, e)) in
+      none-printed never size q (size_within r.words size commands) is x.lines x.report.lines_true (some-found (has_counterexample x.lines) (has_open x.lines) (sym x.is ∙ e))
+  none-failing never size commands (summary_cut n rose c text none) e = omega (arith, c, e)
+  none-failing never size commands (unsummed c text none) e = omega (arith, c, e)
+
+  pub some-fails : NeverViolated → Ends r spent → r.code ≡ 1 → SomeFails r
+  some-fails never (refused a h c t none) e = absurd (let is = refusal-code a in omega (arith, is.least, c, e))
+  some-fails never (refusal_cut a n h rose c t none) e = absurd (omega (arith, c, e))
+  some-fails never (reported s question first against budget reads report) e = fail-reported r spent s question first against budget reads report e
+  some-fails never (wrote_log s question first against budget place env reads at report) e = fail-logged r spent s question first against budget place env reads at report e
+  some-fails never (checked_log s question first against place name env reads at report none) e =
       absurd (none-said r.code (HasRisen r.writes) (checked-codes (r.content name) (asked s question first against 0) env r.before r.after (HasRisen r.writes) r.code report)
       (λ h. omega (arith, h, e)) (λ h. omega (arith, h, e)) (λ h. omega (arith, h, e)) (λ h. omega (arith, h, e)) (λ h. omega (arith, h, e)))
-  some-fails (replayed s ps w reads report none) e = absurd (not-between s ps w report (omega (arith, e)) (omega (arith, e)))
-  some-fails (reduced s question first against budget reads report) e =
+  some-fails never (replayed s ps w reads report none) e = absurd (not-between s ps w report (omega (arith, e)) (omega (arith, e)))
+  some-fails never (reduced s question first against budget reads report) e =
       absurd (none-reduced r.code (HasRisen r.writes) (reduction-codes (to_reduce s first budget) r.before r.after (HasRisen r.writes) r.code spent report) (λ h. omega (arith, h, e)) (λ h. omega (arith, h, e)) (λ h. omega (arith, h, e)) (λ h. omega (arith, h, e)))
-  some-fails (no_memory c t none) e = absurd (omega (arith, c, e))
+  some-fails never (generated size commands report) e = absurd (none-failing never size commands report e)
+  some-fails never (no_memory c t none) e = absurd (omega (arith, c, e))
 
   pub some-left : Ends r spent → r.code ≡ 2 → SomeLeft r
   some-left (refused a h c t none) e = absurd (let is = refusal-code a in omega (arith, is.least, c, e))
@@ -685,7 +774,8 @@ module _ (r : Run) (spent : List (List Step)) where
   some-left (wrote_log s question first against budget place env reads at report) e = inl (open-logged r spent s question first against budget place env reads at report e)
   some-left (checked_log s question first against place name env reads at report none) e = inl (open-checked r spent s question first against place name env reads at report e)
   some-left (replayed s ps w reads report none) e = absurd (not-between s ps w report (omega (arith, e)) (omega (arith, e)))
-  some-left (reduced s question first against budget reads report) e = inr (set-reduced r spent s question first against budget reads report (omega (arith, e)))
+  some-left (reduced s question first against budget reads report) e = inr (inl (set-reduced r spent s question first against budget reads report (omega (arith, e))))
+  some-left (generated size commands report) e = inr (inr (generated-left r spent size commands report e))
   some-left (no_memory c t none) e = absurd (omega (arith, c, e))
 
   -- the words of a reduction are no others
@@ -704,6 +794,7 @@ module _ (r : Run) (spent : List (List Step)) where
       by (replayed s ps w reads report none) low =
           absurd (not_both_tasks x.command.task x.question x.name x.aim reads.name x.task (same_task r.words x.command reads.reaches.command x.commands reads.reaches.commands ∙ reads.reaches.task))
       by (reduced s question first against budget reads report) low = set-reduced r spent s question first against budget reads report low
+      by (generated size commands report) low = absurd (not_generated r.words x.command size x.commands commands)
       by (no_memory c t none) low = absurd (omega (arith, c, low))
 
   pub is-rejected : Ends r spent → r.code ≡ 14 → LogIsRejected r
@@ -718,6 +809,8 @@ module _ (r : Run) (spent : List (List Step)) where
       absurd (replayed-high s ps w r.before r.after (HasRisen r.writes) r.code report (omega (arith, e)) (λ h. omega (arith, h, e)) (λ h. omega (arith, h, e)))
   is-rejected (reduced s question first against budget reads report) e =
       absurd (none-reduced r.code (HasRisen r.writes) (reduction-codes (to_reduce s first budget) r.before r.after (HasRisen r.writes) r.code spent report) (λ h. omega (arith, h, e)) (λ h. omega (arith, h, e)) (λ h. omega (arith, h, e)) (λ h. omega (arith, h, e)))
+  is-rejected (generated size commands report) e =
+      absurd (none-written r.code (HasRisen r.writes) (summed-codes size r.before r.after (HasRisen r.writes) r.code spent report) (omega (arith, e)) (λ h. omega (arith, h, e)) (λ h. omega (arith, h, e)))
   is-rejected (no_memory c t none) e = absurd (omega (arith, c, e))
 
 -- ---- the refusal that a status tells
@@ -742,11 +835,13 @@ by-code r spent n (replayed s ps w reads report none) e l p f g =
 by-code r spent n (reduced s question first against budget reads report) e l p f g =
     absurd (none-reduced r.code (HasRisen r.writes) (reduction-codes (to_reduce s first budget) r.before r.after (HasRisen r.writes) r.code spent report)
     (λ h. omega (arith, h, e, l)) (λ h. omega (arith, h, e, l)) (λ h. f (sym e ∙ h)) (λ h. g (sym e ∙ h)))
+by-code r spent n (generated size commands report) e l p f g =
+    absurd (none-written r.code (HasRisen r.writes) (summed-codes size r.before r.after (HasRisen r.writes) r.code spent report) (omega (arith, e, l)) (λ h. f (sym e ∙ h)) (λ h. g (sym e ∙ h)))
 by-code r spent n (no_memory c t none) e l p f g = absurd (g (sym e ∙ c))
 
 -- what a refusal tells of the run
 abbrev CauseOf : Run → Refusal → Type 0
-CauseOf r usage = (c : Command) → Serves r.words c → ⊥
+CauseOf r usage = IsNoCommand r.words
 CauseOf r (schema_text f) = IsFaultySchema r
 CauseOf r (policy_text side f) = IsFaulty r
 CauseOf r (world_text f) = IsFaultyWorld r
@@ -812,7 +907,7 @@ either false A B = B
 
 abbrev Cause : Run → ℕ → Type 0
 Cause r n =
-    either (n == 10) ((c : Command) → Serves r.words c → ⊥)
+    either (n == 10) (IsNoCommand r.words)
     (either (n == 12) (IsFaultySchema r)
     (either (n == 11) (IsFaulty r)
     (either (n == 17) (IsFaultyWorld r)
@@ -835,7 +930,7 @@ cause-at r (too_long f) h = h
 told-by : (r : Run) (spent : List (List Step)) (n : ℕ) → Ends r spent → r.code ≡ n → 10 ≤ n → (n ≡ 14 → ⊥) → (n ≡ 21 → ⊥) → (n ≡ 30 → ⊥) → Cause r n
 told-by r spent n ends e l p f g = let w = by-code r spent n ends e l p f g in subst (Cause r) w.code (cause-at r w.refusal (cause-of r w.refusal w.is))
 
-pub no-command : (r : Run) (spent : List (List Step)) → Ends r spent → r.code ≡ 10 → (c : Command) → Serves r.words c → ⊥
+pub no-command : (r : Run) (spent : List (List Step)) → Ends r spent → r.code ≡ 10 → IsNoCommand r.words
 no-command r spent ends e = told-by r spent 10 ends e (omega arith) (λ h. omega (arith, h)) (λ h. omega (arith, h)) (λ h. omega (arith, h))
 
 pub read-rose : (r : Run) (spent : List (List Step)) → Ends r spent → r.code ≡ 20 → HasRisen r.reads
@@ -881,4 +976,49 @@ write-rose r spent (checked_log s question first against place name env reads at
 write-rose r spent (replayed s ps w reads report none) e = replayed-rose s ps w r.before r.after (HasRisen r.writes) r.code report e
 write-rose r spent (reduced s question first against budget reads report) e =
     reduced-rose r.code (HasRisen r.writes) (reduction-codes (to_reduce s first budget) r.before r.after (HasRisen r.writes) r.code spent report) e
+write-rose r spent (generated size commands report) e = written-rose r.code (HasRisen r.writes) (summed-codes size r.before r.after (HasRisen r.writes) r.code spent report) e
 write-rose r spent (no_memory c t none) e = absurd (omega (arith, c, e))
+
+-- ---- words that generate policies
+
+module _ (r : Run) (spent : List (List Step)) where
+  -- they are refused for nothing
+  none-refused : (size : ℕ) → Generates r.words size → (a : Refusal) → IsRefusal r.content r.words (HasRisen r.reads) a → ⊥
+  none-refused size h _ (no_command none) = none (generate (record { size = size })) h
+  none-refused size h _ (of_schema a c k i) = not_generated r.words c size k h
+  none-refused size h _ (of_policies a c s k reads i) = not_generated r.words c size k h
+  none-refused size h _ (of_against a c s question name aim first k task reads has i) = not_generated r.words c size k h
+  none-refused size h _ (of_world a s ps name reaches i) = not_generated r.words reaches.command size reaches.commands h
+  none-refused size h _ (of_names f s ps name w reaches has is) = not_generated r.words reaches.command size reaches.commands h
+  none-refused size h _ (of_question a s question first against aim reaches i) = not_generated r.words reaches.command size reaches.commands h
+  none-refused size h _ (of_place a s question first against aim reaches served i) = not_generated r.words reaches.command size reaches.commands h
+  none-refused size h _ (of_log a s question first against place name reaches i) = not_generated r.words reaches.reaches.command size reaches.reaches.commands h
+
+  -- nor is anything read for them
+  none-read : (size : ℕ) → Generates r.words size → (s : Declarations) (question : Question) (first : List Policy) (against : Option (List Policy)) (aim : Aim) → ReadsAll r.content r.words s question first against aim → ⊥
+  none-read size h s question first against aim reads = not_generated r.words reads.reached.reaches.command size reads.reached.reaches.commands h
+
+  -- so their summary and report are written, as far as they came, or memory ran out
+  abbrev IsMade : Type 0
+  IsMade = ((size : ℕ) × Generates r.words size × Summed size r.before r.after (HasRisen r.writes) r.code spent) ⊎ (r.code ≡ 30)
+
+  made : Ends r spent → AsksGenerated r → IsMade
+  made (refused a h c t none) x = absurd (none-refused x.0 x.1 a h)
+  made (refusal_cut a n h rose c t none) x = absurd (none-refused x.0 x.1 a h)
+  made (reported s question first against budget reads report) x = absurd (none-read x.0 x.1 s question first against (reporting budget) reads)
+  made (wrote_log s question first against budget place env reads at report) x = absurd (none-read x.0 x.1 s question first against (logging budget place) reads)
+  made (checked_log s question first against place name env reads at report none) x = absurd (none-read x.0 x.1 s question first against (checking place name) reads)
+  made (replayed s ps w reads report none) x = absurd (not_generated r.words reads.reaches.command x.0 reads.reaches.commands x.1)
+  made (reduced s question first against budget reads report) x = absurd (none-read x.0 x.1 s question first against (reducing budget) reads)
+  made (generated size commands report) x = inl (size, commands, report)
+  made (no_memory c t none) x = inr c
+
+  pub generated-held : Ends r spent → AsksGenerated r → r.code ≡ 0 → GeneratedHold r
+  generated-held ends x e = ⊎_elim (λ y. generated-hold r spent y.0 y.1 y.2 e) (λ (c : r.code ≡ 30). absurd (omega (arith, c, e))) (made ends x)
+
+  pub generated-is-open : Ends r spent → AsksGenerated r → r.code ≡ 2 → GeneratedOpen r
+  generated-is-open ends x e = ⊎_elim (λ y. generated-left r spent y.0 y.1 y.2 e) (λ (c : r.code ≡ 30). absurd (omega (arith, c, e))) (made ends x)
+
+  pub generated-status : NeverViolated → Ends r spent → AsksGenerated r → IsOfGenerated r.code
+  generated-status never ends x =
+      ⊎_elim (λ y. summed-status never y.0 (size_within r.words y.0 y.1) r.before r.after (HasRisen r.writes) r.code spent y.2) (λ (c : r.code ≡ 30). inr (inr (inr c))) (made ends x)

@@ -1,3 +1,4 @@
+pub mod Generates
 pub mod Promises
 pub mod Reduces
 pub mod Replays

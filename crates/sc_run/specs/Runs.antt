@@ -26,7 +26,7 @@ use Rattle.sc_world.specs.WellFormed.{IsWellFormed}
 use Rattle.sc_replay.specs.declared.breaks.Break.{Break}
 use Rattle.sc_world_json.specs.declared.fault.WorldFault.{WorldFault}
 use Rattle.sc_world_json.specs.Reading as world_file
-use Rattle.sc_inputs.specs.Serving.{Aim, Command, Serves, asking, checking, logging, place_in, reducing, replaying, reporting}
+use Rattle.sc_inputs.specs.Serving.{Aim, Command, Generates, Serves, asking, checking, logging, place_in, reducing, replaying, reporting}
 use Rattle.sc_inputs.specs.Readings.{ReadsAll, ReadsWorld}
 use Rattle.sc_checker.specs.declared.checking.Reason.{Reason}
 use Rattle.sc_reports.specs.Analyses.{asked, asked_within}
@@ -38,6 +38,7 @@ use Rattle.sc_reduction.specs.Lines.{status_of as reduction_status}
 use Rattle.sc_reduction.specs.Reductions.{IsReduction, kept, without}
 use Rattle.sc_reduction.specs.Trials as trial
 use Rattle.sc_reduction.specs.declared.fate.Fate.{Fate}
+use Rattle.sc_run.specs.Generates.{IsGenerated, Summed, summary}
 use Rattle.sc_run.specs.Reduces.{Reduced, lines_of as reduced_lines, to_reduce}
 use Rattle.sc_run.specs.Replays.{Finds, Replayed, lines_of}
 use Rattle.sc_inputs.specs.Refusals.{Refusal, Side, IsRefusal, code_of, refusal_text, Content, IsContent, IsTooLong, ReadsSchema, HasPolicies, HasWorld, HasEnvironment, IsLongLog, RefusesLog, ReachesAim, ReachesQuestion, ReachesWorld, names_fault, types_fault, AreServed, limit, log_limit}
@@ -121,6 +122,8 @@ pub data Ends (r : Run) (spent : List (List Step)) : Type 0 where
   replayed : (s : Declarations) (ps : List Policy) (w : World) → ReadsWorld r.content r.words s ps w → Replayed (scene s ps w) r.before r.after (HasRisen r.writes) r.code → spent ≡ [] → Ends r spent
   reduced : (s : Declarations) (question : Question) (first : List Policy) (against : Option (List Policy)) (budget : ℕ) → ReadsAll r.content r.words s question first against (reducing budget)
       → Reduced (to_reduce s first budget) r.before r.after (HasRisen r.writes) r.code spent → Ends r spent
+  generated : (size : ℕ) → Generates r.words size → Summed size r.before r.after (HasRisen r.writes) r.code spent
+      → Ends r spent
   no_memory : r.code ≡ 30 → r.after ≡ r.before → spent ≡ [] → Ends r spent
 
 -- what an aim is
@@ -296,14 +299,53 @@ pub record SetIsReduced (r : Run) : Type 0 where
   pub status : r.code ≡ reduction_status fates
   pub text : r.after ≡ appended r.before (text_of (reduced_lines (to_reduce schema policies budget) fates))
 
+-- the words are a command to ask whether so many generated policies are equivalent to the same in reverse order
+abbrev pub AsksGenerated : Run → Type 0
+AsksGenerated r = (size : ℕ) × Generates r.words size
+
+-- what such words ask, and the summary and a whole report on it that are written
+pub record GeneratedReports (r : Run) : Type 0 where
+  pub size : ℕ
+  pub commands : Generates r.words size
+  pub asks : Asked
+  pub is_generated : IsGenerated size asks
+  pub lines : List Line
+  pub report : IsReport asks (environments asks.schema) lines
+  pub text : r.after ≡ appended (appended r.before (summary size)) (report_text lines)
+
+-- each environment is reported to hold: in every well-formed world of it the policies decide the same in either order
+pub record GeneratedHold (r : Run) : Type 0 where
+  pub told : GeneratedReports r
+  pub always : (env : Env) → Contains (environments told.asks.schema) env → AlwaysHas told.asks env
+
+-- some line says that it isn't known of its environment
+pub record GeneratedOpen (r : Run) : Type 0 where
+  pub told : GeneratedReports r
+  pub some_open : has_open told.lines ≡ true
+
+-- a log of a million units, of the problem of one of the environments
+pub record IsGeneratedLogged (r : Run) (log : List Step) : Type 0 where
+  pub size : ℕ
+  pub commands : Generates r.words size
+  pub asks : Asked
+  pub is_generated : IsGenerated size asks
+  pub env : Env
+  pub listed : Contains (environments asks.schema) env
+  pub undecided : IsUndecided asks env 1000000 log
+
+-- the statuses of generated policies: it is found that all holds, or it isn't known of some environment; or the write failed, or memory ran
+-- out. A counterexample there is none.
+abbrev pub IsOfGenerated : ℕ → Type 0
+IsOfGenerated code = (code ≡ 0) ⊎ ((code ≡ 2) ⊎ ((code ≡ 21) ⊎ (code ≡ 30)))
+
 -- status 0: a question's property holds in each environment, or a world is replayed that is well-formed, or a log is written or accepted, or
--- a policy set is reduced
+-- a policy set is reduced, or generated policies are equivalent
 abbrev pub AllWell : Run → Type 0
-AllWell r = AllHold r ⊎ (IsWell r ⊎ (LogIsWritten r ⊎ (LogIsAccepted r ⊎ SetIsReduced r)))
+AllWell r = AllHold r ⊎ (IsWell r ⊎ (LogIsWritten r ⊎ (LogIsAccepted r ⊎ (SetIsReduced r ⊎ GeneratedHold r))))
 
 -- status 2: some environment is open, or it isn't known of some policy whether it matters
 abbrev pub SomeLeft : Run → Type 0
-SomeLeft r = SomeOpen r ⊎ SetIsReduced r
+SomeLeft r = SomeOpen r ⊎ (SetIsReduced r ⊎ GeneratedOpen r)
 
 -- a log of just as many units as the budget, of the problem whether those policies that stay decide otherwise without one of them
 pub record IsFateLogged (r : Run) (log : List Step) : Type 0 where
@@ -319,6 +361,10 @@ pub record IsFateLogged (r : Run) (log : List Step) : Type 0 where
   pub env : Env
   pub listed : Contains (environments schema) env
   pub undecided : trial.IsUndecided (without (to_reduce schema policies budget) (kept fates) place) env log
+
+-- a log is of an environment that is asked about, or of a policy of a set that is reduced
+abbrev pub IsOfLog : Run → List Step → Type 0
+IsOfLog r log = IsLogged r log ⊎ (IsFateLogged r log ⊎ IsGeneratedLogged r log)
 
 -- status 3: a world is replayed that isn't well-formed
 abbrev pub IsBroken : Run → Type 0

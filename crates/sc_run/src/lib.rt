@@ -3,6 +3,7 @@
 #![tactic(auto)]
 
 mod ending;
+mod generating;
 mod reducing;
 mod replaying;
 mod running;

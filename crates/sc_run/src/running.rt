@@ -8,8 +8,11 @@ ghost use Rattle.sc_inputs.specs.View.{refusal_view};
 ghost use Rattle.sc_run.specs.Promises.{Promises};
 ghost use Rattle.sc_run.specs.Runs.{ChecksClaim, Ends, MustBe, Refuses, run_of};
 
+use crate::generating::report_generated;
 use crate::reducing::report_reduction;
 use crate::replaying::replay;
+use sc_generated_decision_laws::generated_decision_laws;
+use sc_generated_laws::generated_laws;
 use sc_inputs::{Claim, Inputs, Refusal, code, inputs_of, text_of};
 use sc_lists::Fault;
 use sc_outside::{Files, Sink, SinkFault};
@@ -70,6 +73,7 @@ fn ends<F: Files, O: Sink>(alloc: Global, words: &[String], files: &mut F, out: 
         }
         Ok(Inputs::Reduced(analysis)) => report_reduction(alloc, analysis, out),
         Ok(Inputs::Replayed(scene)) => Status::without_logs(alloc, replay(alloc, scene, out)),
+        Ok(Inputs::Generated(size)) => report_generated(alloc, *size, out),
         Err(Fault::Told(refusal)) => Status::without_logs(alloc, refuse(alloc, refusal, out)),
         Err(Fault::NoMemory) => Status::without_logs(alloc, 30),
     }
@@ -86,5 +90,7 @@ pub fn run<F: Files, O: Sink>(alloc: Global, words: &[String], files: &mut F, ou
     reading_laws();
     break_laws();
     verdict_law();
+    generated_laws();
+    generated_decision_laws();
     ends(alloc, words, files, out)
 }

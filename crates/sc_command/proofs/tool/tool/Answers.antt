@@ -9,6 +9,10 @@ pub returns : goal.returns
 unfolding tool
 returns c =
     let reduce = c.in_ok-reduce_line in
-    IfOk-weaker c.subcommand.result _ _
-    (λ line h. h.shape (plain_fields reduce.field-0 (ap (λ (a : App). a.top.is_plain) reduce.ensures)).globals
-    ∙ ap₂ with_subcommand c.in_ok-line.ensures (ap (λ (a : App). a.top) reduce.ensures)) c.subcommand.ensures
+    let generate = c.in_ok-generate_line in
+    let first : app_of c.in_ok-line.line ≡ with_subcommand logging_line reduce_line.top =
+    c.in_ok-line.ensures.shape (plain_fields reduce.field-0 (ap (λ (a : App). a.top.is_plain) reduce.ensures)).globals
+    ∙ ap₂ with_subcommand c.in_ok-logging_line.ensures (ap (λ (a : App). a.top) reduce.ensures) in
+    IfOk-weaker c.subcommand-2.result _ _
+    (λ line h. h.shape (plain_fields generate.field-0 (ap (λ (a : App). a.top.is_plain) generate.ensures)).globals
+    ∙ ap₂ with_subcommand first (ap (λ (a : App). a.top) generate.ensures)) c.subcommand-2.ensures

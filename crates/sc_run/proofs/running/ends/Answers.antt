@@ -5,8 +5,9 @@ use Rattle.sc_inputs.specs.Refusals.{IsRefusal}
 use Rattle.sc_outside.proofs.CountLaws.{rose_before, stands, told_later}
 use Rattle.sc_outside.specs.Counts.{Rose}
 use Rattle.sc_schema.specs.Declarations.{environments}
-use Rattle.sc_run.specs.Runs.{MustBe, reduced, reported, wrote_log}
+use Rattle.sc_run.specs.Runs.{MustBe, generated, reduced, reported, wrote_log}
 use Rattle.sc_inputs.specs.Serving.{checking, logging, reducing, reporting}
+use Rattle.sc_inputs.proofs.ServingLaws.{size_within}
 use Rattle.sc_reports.proofs.AnalysisLaws.{may-be-asked}
 use Rattle.sc_run.proofs.ReductionLaws.{reducible}
 use Rattle.sc_run.proofs.StatusLaws.{claim-ends, found-at, refusal-ends, replay-ends, unread-must}
@@ -107,3 +108,15 @@ returns-in-Ok-Reduced-clause-ends g c =
     let i = c.in-Ok-Reduced.analysis in
     let reads = subst (IsRead (g.F.Files.content c.args.files.now) (words_view c.args.words.now)) (rw c.in-Ok-Reduced.is at c.in-Ok-Reduced.field-0-is) (rw c.in-Ok-Reduced.is at c.inputs_of-read.ensures.reads) in
     reduced i.asking.schema i.asking.question i.asking.policies i.asking.against i.budget reads c.report_reduction.ensures.reports
+
+pub report_generated-requires : goal.report_generated-requires
+report_generated-requires g c = record {
+  size = size_within (words_view c.args.words.now) c.in-Ok-Generated.size
+      (subst (IsRead (g.F.Files.content c.args.files.now) (words_view c.args.words.now)) (rw c.in-Ok-Generated.is at c.in-Ok-Generated.field-0-is) (rw c.in-Ok-Generated.is at c.inputs_of-read.ensures.reads));
+}
+
+pub returns-in-Ok-Generated-clause-ends : goal.returns-in-Ok-Generated-clause-ends
+returns-in-Ok-Generated-clause-ends g c =
+    generated c.in-Ok-Generated.size
+    (subst (IsRead (g.F.Files.content c.args.files.now) (words_view c.args.words.now)) (rw c.in-Ok-Generated.is at c.in-Ok-Generated.field-0-is) (rw c.in-Ok-Generated.is at c.inputs_of-read.ensures.reads))
+    c.report_generated.ensures.reports

@@ -1,5 +1,6 @@
-use Rattle.sc_run.proofs.StatusLaws.{all-well, all-hold, well-formed, some-fails, some-left, set-is-reduced, logged, is-broken, no-command, is-faulty-schema, is-faulty, is-faulty-world, is-untyped, read-rose, write-rose, is-too-long, is-misplaced, is-rejected, log-is-accepted, log-is-written}
+use Rattle.sc_run.proofs.StatusLaws.{all-well, all-hold, well-formed, some-fails, some-left, set-is-reduced, generated-held, generated-is-open, generated-status, logged, is-broken, no-command, is-faulty-schema, is-faulty, is-faulty-world, is-untyped, read-rose, write-rose, is-too-long, is-misplaced, is-rejected, log-is-accepted, log-is-written}
 use Rattle.sc_run.proofs.DeterminedLaws.{complete, complete-replay, unusable, schema-is-long, schema-is-faulty, policies-are-long, against-is-long, against-is-faulty, policies-are-faulty, world-is-long, world-is-faulty, names-are-unknown, policies-are-untyped, place-is-missing, log-is-long, right-log, wrong-log}
+use Rattle.sc_run.proofs.GenerationLaws.{never_violated}
 use Rattle.sc_run.proofs.running.run.Goals as goal
 
 pub returns : goal.returns
@@ -13,9 +14,12 @@ returns g c = record {
   rejected = is-rejected _ _ c.ends.ensures.ends;
   right = λ x f h. right-log _ _ c.spelling_laws.ensures c.verdict_law.ensures c.ends.ensures.ends x f h;
   wrong = λ x f h. wrong-log _ _ c.spelling_laws.ensures c.ends.ensures.ends x f h;
-  counterexample = some-fails _ _ c.ends.ensures.ends;
+  counterexample = some-fails _ _ (never_violated c.generated_laws.ensures.forward c.generated_laws.ensures.backward c.generated_decision_laws.ensures) c.ends.ensures.ends;
   undecided = some-left _ _ c.ends.ensures.ends;
   reduced = λ x e. set-is-reduced _ _ c.ends.ensures.ends x e;
+  generated = λ x e. generated-held _ _ c.ends.ensures.ends x e;
+  generated_open = λ x e. generated-is-open _ _ c.ends.ensures.ends x e;
+  generated_status = λ x. generated-status _ _ (never_violated c.generated_laws.ensures.forward c.generated_laws.ensures.backward c.generated_decision_laws.ensures) c.ends.ensures.ends x;
   spent = logged _ _ c.ends.ensures.ends;
   replayed = is-broken _ _ c.ends.ensures.ends;
   complete = λ x f h. complete _ _ c.spelling_laws.ensures c.ends.ensures.ends x f h;

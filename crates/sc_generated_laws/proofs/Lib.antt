@@ -1,0 +1,5 @@
+pub mod ItemLaws
+pub mod LineLaws
+pub mod PolicyLaws
+pub mod ReadingLaws
+pub mod TextLaws
