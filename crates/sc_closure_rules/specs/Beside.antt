@@ -55,7 +55,8 @@ choices_in _ = []
 
 -- of these entities those of a sort's type, as members of a set
 abbrev pub members_of_sort : Sort-F Sort → Tree → List Uid → List Tree
-members_of_sort (s.Entity name us) set vs = map (λ (v : Uid). two binary.Member (uid_term us v) set) (of_type_name name vs)
+members_of_sort (s.Entity name us) set vs =
+    map (λ (v : Uid). two binary.Member (uid_term us v) set) (of_type_name name vs)
 members_of_sort _ set vs = []
 
 -- a number stands for the ancestors of an entity
@@ -82,10 +83,21 @@ set_parts _ = None
 -- what each rule says of a term, by its number and those of its parts
 abbrev pub IsBesideOf : List Node → ℕ → Beside → Type 0
 IsBesideOf xs n row.Nothing = (d : Declarations) → beside d (tree xs n) ≡ []
-IsBesideOf xs n (row.Branches a b) = (a < length xs) × (b < length xs) × ((d : Declarations) → beside d (tree xs n) ≡ branches (out-Sort (tree_sort (tree xs a))) (tree xs n) (tree xs a) (tree xs b))
+IsBesideOf xs n (row.Branches a b) =
+    (a < length xs) × (b < length xs)
+    × ((d : Declarations) → beside d (tree xs n)
+    ≡ branches (out-Sort (tree_sort (tree xs a))) (tree xs n) (tree xs a) (tree xs b))
 IsBesideOf xs n (row.Ancestors e) = (e < length xs) × IsAncestorsOf xs n e
-IsBesideOf xs n (row.Equations a b) = (a < length xs) × (b < length xs) × ((d : Declarations) → beside d (tree xs n) ≡ equations (out-Sort (tree_sort (tree xs a))) (tree xs a) (tree xs b))
-IsBesideOf xs n (row.Tag e k) = (e < length xs) × (k < length xs) × (tree xs n ≡ two (binary.Tag (tree_sort (tree xs n))) (tree xs e) (tree xs k))
-IsBesideOf xs n (row.Membership x q) = (x < length xs) × (q < length xs) × (tree xs n ≡ two binary.Member (tree xs x) (tree xs q))
-IsBesideOf xs n (row.Inclusion a b) = (a < length xs) × (b < length xs) × (tree xs n ≡ two binary.Subset (tree xs a) (tree xs b))
-IsBesideOf xs n (row.Intersection a b) = (a < length xs) × (b < length xs) × (tree xs n ≡ two binary.Common (tree xs a) (tree xs b))
+IsBesideOf xs n (row.Equations a b) =
+    (a < length xs) × (b < length xs)
+    × ((d : Declarations) → beside d (tree xs n)
+    ≡ equations (out-Sort (tree_sort (tree xs a))) (tree xs a) (tree xs b))
+IsBesideOf xs n (row.Tag e k) =
+    (e < length xs) × (k < length xs)
+    × (tree xs n ≡ two (binary.Tag (tree_sort (tree xs n))) (tree xs e) (tree xs k))
+IsBesideOf xs n (row.Membership x q) =
+    (x < length xs) × (q < length xs) × (tree xs n ≡ two binary.Member (tree xs x) (tree xs q))
+IsBesideOf xs n (row.Inclusion a b) =
+    (a < length xs) × (b < length xs) × (tree xs n ≡ two binary.Subset (tree xs a) (tree xs b))
+IsBesideOf xs n (row.Intersection a b) =
+    (a < length xs) × (b < length xs) × (tree xs n ≡ two binary.Common (tree xs a) (tree xs b))

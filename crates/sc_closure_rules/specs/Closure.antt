@@ -49,8 +49,8 @@ field_terms fields x = map (λ (f : List ℕ × Sort). field_term f.0 x) fields
 abbrev pub bit_terms : ℕ → Tree → List Tree
 bit_terms n x = map (bit_term x) (counted 0 n)
 
--- what tells its value, by its sort: of a record the fields, of an option whether it holds a value, what it holds, and whether that is
--- the default, of a number or an address the bits
+-- what tells its value, by its sort: of a record the fields, of an option whether it holds a value, what it holds,
+-- and whether that is the default, of a number or an address the bits
 abbrev pub inside_by : Sort-F Sort → Tree → List Tree
 inside_by (s.Record fields) x = field_terms fields x
 inside_by (s.Option held) x = present_term x ∷ held_term x ∷ equal_term (held_term x) (default_term held) ∷ []
@@ -80,8 +80,8 @@ abbrev pub branches : Sort-F Sort → Tree → Tree → Tree → List Tree
 branches s.Bool x a b = []
 branches _ x a b = equal_term x a ∷ equal_term x b ∷ []
 
--- of an equation of records those of their fields, of options that of what they hold, of sets whether each is within the other. What
--- has bits is equal by its definition.
+-- of an equation of records those of their fields, of options that of what they hold, of sets whether each is within
+-- the other. What has bits is equal by its definition.
 abbrev pub equations : Sort-F Sort → Tree → Tree → List Tree
 equations (s.Record fields) a b = map (λ (f : List ℕ × Sort). equal_term (field_term f.0 a) (field_term f.0 b)) fields
 equations (s.Option held) a b = equal_term (held_term a) (held_term b) ∷ []
@@ -93,20 +93,27 @@ ancestors_of own e = one (unary.Ancestors own) e
 
 -- an action's ancestors of a sort's type, as members of its ancestors
 abbrev pub declared_members : Declarations → Sort-F Sort → Sort → Tree → Uid → List Tree
-declared_members d (s.Entity name us) own a u = map (λ (v : Uid). two binary.Member (uid_term us v) (ancestors_of own a)) (of_type_name name (unwrap_or (action_ancestors d u) []))
+declared_members d (s.Entity name us) own a u =
+    map (λ (v : Uid). two binary.Member (uid_term us v) (ancestors_of own a))
+    (of_type_name name (unwrap_or (action_ancestors d u) []))
 declared_members d _ own a u = []
 
 -- of an action's ancestors of a type those of each declared action, with its declared ones as members
 abbrev pub declared_ancestors : Declarations → Sort → List Uid → List Tree
-declared_ancestors d own us = flat_map (λ (u : Uid). ancestors_of own (uid_term us u) ∷ declared_members d (out-Sort own) own (uid_term us u) u) us
+declared_ancestors d own us =
+    flat_map
+    (λ (u : Uid). ancestors_of own (uid_term us u) ∷ declared_members d (out-Sort own) own (uid_term us u) u)
+    us
 
 -- of an entity's ancestors of a type those of each ancestor type
 abbrev pub ancestors_by : Declarations → Sort-F Sort → Sort → Tree → List Tree
-ancestors_by d (s.Entity name us) own e = map (λ (n : List ℕ). ancestors_of (entity_sort d n) e) (unwrap_or (ancestor_types d name) []) ++ declared_ancestors d own us
+ancestors_by d (s.Entity name us) own e =
+    map (λ (n : List ℕ). ancestors_of (entity_sort d n) e) (unwrap_or (ancestor_types d name) [])
+    ++ declared_ancestors d own us
 ancestors_by d _ own e = []
 
--- A set is told by its candidates, the terms whose membership in it is closed. Of one that is written as a set term those that stand there
--- tell what is asked of it.
+-- A set is told by its candidates, the terms whose membership in it is closed. Of one that is written as a set term
+-- those that stand there tell what is asked of it.
 abbrev pub memberships : List Tree → Tree → List Tree
 memberships ts s = map (λ t. member t s) ts
 
@@ -135,7 +142,9 @@ abbrev pub beside : Declarations → Tree → List Tree
 beside d (choice c a b) = branches (out-Sort (tree_sort a)) (choice c a b) a b
 beside d (one (unary.Ancestors own) e) = ancestors_by d (out-Sort (tree_sort e)) own e
 beside d (two binary.Equal a b) = equations (out-Sort (tree_sort a)) a b
-beside d (two (binary.Tag own) e k) = one unary.Keys e ∷ two binary.Member k (one unary.Keys e) ∷ equal_term (two (binary.Tag own) e k) (default_term own) ∷ []
+beside d (two (binary.Tag own) e k) =
+    one unary.Keys e ∷ two binary.Member k (one unary.Keys e)
+    ∷ equal_term (two (binary.Tag own) e k) (default_term own) ∷ []
 beside d (two binary.Member x s) = standing_by (written s) x
 beside d (two binary.Subset s t) = within_by (written s) s t
 beside d (two binary.Common s t) = common_by (written s) (written t) s t
@@ -171,8 +180,8 @@ abbrev pub unless_written : Option (List Tree) → Role → List Role
 unless_written (Some ts) r = []
 unless_written None r = r ∷ []
 
--- By its row. Where a set is asked whether it is within another, or has a member in common with it, its candidates are the other's.
--- No rule brings in a pattern, so patterns are the goal's.
+-- By its row. Where a set is asked whether it is within another, or has a member in common with it, its candidates are
+-- the other's. No rule brings in a pattern, so patterns are the goal's.
 abbrev pub roles_in : Tree → List Role
 roles_in (two binary.Member x s) = unless_written (written s) (candidate x s)
 roles_in (two binary.Subset s t) = unless_written (written s) (flow s t)
@@ -203,8 +212,8 @@ with_named x (named y) = equated_by (one_sort x y) x y
 with_named x (pattern p) = matches_by (out-Sort (tree_sort x)) x p
 with_named x _ = []
 
--- Sets that are one where their entities are, and keys of tags: the ancestors of one type, the keys, and like places of the attributes, or of
--- tags, each of two entities of one type
+-- Sets that are one where their entities are, and keys of tags: the ancestors of one type, the keys, and like places of
+-- the attributes, or of tags, each of two entities of one type
 abbrev pub own_sets : Tree → Tree → Bool
 own_sets (one (unary.Attributes k) e) (one (unary.Attributes l) f) = one_sort e f
 own_sets (two (binary.Tag k) e x) (two (binary.Tag l) f y) = one_sort e f
@@ -221,7 +230,8 @@ is_under f own = sorts.eq (tree_sort f) own
 
 -- An ancestor of an entity's ancestor is one of the entity's, of whichever type. Actions have their declared ones.
 abbrev pub ancestors_up : Tree → Tree → Sort → Tree → List Tree
-ancestors_up x (one (unary.Ancestors k) f) own e = members_by (is_under f own && (length (choices_in e) == 0)) x (ancestors_of k e)
+ancestors_up x (one (unary.Ancestors k) f) own e =
+    members_by (is_under f own && (length (choices_in e) == 0)) x (ancestors_of k e)
 ancestors_up x _ own e = []
 
 abbrev pub with_candidate : Tree → Tree → Role → List Tree
@@ -249,8 +259,8 @@ half x y = flat_map (λ p. flat_map (meet p) (roles y)) (roles x)
 abbrev pub follow_pair : Tree → Tree → List Tree
 follow_pair x y = half x y ++ half y x
 
--- ---- the least set that holds `true`, the goal, the principal and the resource, with a term those that go with it, and with two those
--- that go with both
+-- ---- the least set that holds `true`, the goal, the principal and the resource, with a term those that go with it,
+-- and with two those that go with both
 
 pub data Closed (d : Declarations) (env : Env) (goal : Tree) : Tree → Type 0 where
   of_true : Closed d env goal (truth_term true)

@@ -45,8 +45,9 @@ unfoldable mutual
   all_uids no_part = []
   all_uids (part l t ts) = uids_of t ++ all_uids ts
 
--- Over the variables of an environment and the types, attributes, ancestor types and tags of its schema, a truth value as the constructors
--- make it. It picks no member, each entity that is written in it is a declared action or one of the literals, and these are declared.
+-- Over the variables of an environment and the types, attributes, ancestor types and tags of its schema, a truth value
+-- as the constructors make it. It picks no member, each entity that is written in it is a declared action or one of the
+-- literals, and these are declared.
 pub record IsGoal (d : Declarations) (env : Env) (literals : List Uid) (goal : Tree) : Type 0 where
   pub environment : Contains (environments d) env
   pub term : IsTermOf d env literals sort.Bool goal

@@ -1,4 +1,5 @@
--- What two terms are places of, and whether two sets are linked, by nodes of a table. No public promise but those on numbers speaks of it.
+-- What two terms are places of, and whether two sets are linked, by nodes of a table. No public promise but those on
+-- numbers speaks of it.
 use Rattle.std.specs.Prelude.{◌≡◌, ◌<◌, ℕ, Bool, true, false, List, length, Option, Some, None, if◌then◌else◌}
 use Rattle.sc_sorts.specs.declared.node.Node.{Node}
 use Rattle.sc_sorts.specs.declared.node.Node.TheVariants as node
