@@ -1,5 +1,6 @@
--- Internet addresses with a prefix, by their bits: bit 0 says version 6, bits 1 to 128 are the prefix as a mask (as many
--- first bits as it is long), and bits 129 to 256 the address from its highest bit, one of version 4 in the first 32.
+-- Internet addresses with a prefix, by their bits: bit 0 says version 6, bits 1 to 128 are the prefix as a mask (as
+-- many first bits as it is long), and bits 129 to 256 the address from its highest bit, one of version 4 in the first
+-- 32.
 use Rattle.std.specs.Prelude.{ℕ, zero, suc, ◌+◌, ◌-◌, ◌/◌, ◌^◌, ◌<◌, ◌≤◌, ◌==◌, nat_lt, nat_le, if◌then◌else◌, Bool, true, false, not, ◌&&◌, ◌||◌, IsTrue}
 use Rattle.sc_bits.specs.Bits.{number, nat_bit}
 use Rattle.sc_bits.specs.Adders.{differ}
@@ -37,7 +38,8 @@ block_bit a k = if k == 0 then a.is_v6 else (if nat_le k 128 then mask_bit a (k 
 -- the versions are equal, a leaves at most as many bits free as b, and the bits that b holds fast agree
 abbrev pub block_in_range : Block → Block → Bool
 block_in_range a b = not (differ a.is_v6 b.is_v6)
-    && (nat_le (width_of b - a.prefix) (width_of b - b.prefix) && (a.address / 2 ^ (width_of b - b.prefix) == b.address / 2 ^ (width_of b - b.prefix)))
+    && (nat_le (width_of b - a.prefix) (width_of b - b.prefix)
+    && (a.address / 2 ^ (width_of b - b.prefix) == b.address / 2 ^ (width_of b - b.prefix)))
 
 -- place j is free in b, or held fast in a too, where the addresses agree
 abbrev pub agrees_at : (ℕ → Bool) → (ℕ → Bool) → ℕ → Bool

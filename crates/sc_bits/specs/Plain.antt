@@ -1,5 +1,5 @@
--- The same bits by plain integers, with no recursion over bits: the remainder modulo a power of two says what the lowest
--- bits of an integer are, and carries, comparisons and rows are read off remainders.
+-- The same bits by plain integers, with no recursion over bits: the remainder modulo a power of two says what the
+-- lowest bits of an integer are, and carries, comparisons and rows are read off remainders.
 use Rattle.std.specs.Prelude.{ℕ, ◌+◌, ◌-◌, ◌*◌, ◌%◌, ◌^◌, nat_lt, nat_le, Bool, ℤ, pos, negsuc}
 use Rattle.sc_bits.specs.Bits.{digit, nat_bit, bit64}
 
@@ -12,8 +12,8 @@ residue (negsuc m) n = 2 ^ n - 1 - m % 2 ^ n
 abbrev pub sum_carry : ℤ → ℤ → ℕ → Bool
 sum_carry a b i = nat_le (2 ^ i) (residue a i + residue b i)
 
--- the carry into bit i of a plus the complement of b plus 1: nothing is borrowed, since the lowest i bits of b are at most
--- those of a
+-- the carry into bit i of a plus the complement of b plus 1: nothing is borrowed, since the lowest i bits of b are at
+-- most those of a
 abbrev pub difference_carry : ℤ → ℤ → ℕ → Bool
 difference_carry a b i = nat_le (residue b i) (residue a i)
 
@@ -33,7 +33,7 @@ partial_product a b i = digit (bit64 b i) * residue a 128 * 2 ^ i % 2 ^ 128
 abbrev pub row_bit : ℤ → ℤ → ℕ → ℕ → Bool
 row_bit a b i j = nat_bit (row_sum a b i) j
 
--- the carry into bit j when the partial product i is added to those before it: the lowest j bits of both come to 2 ^ j or
--- more
+-- the carry into bit j when the partial product i is added to those before it: the lowest j bits of both come to 2 ^
+-- j or more
 abbrev pub row_carry : ℤ → ℤ → ℕ → ℕ → Bool
 row_carry a b i j = nat_le (2 ^ j) (row_sum a b i % 2 ^ j + partial_product a b i % 2 ^ j)

@@ -70,8 +70,8 @@ pub fn order_laws()
         ≡ int_lt (of_bits64 a) (of_bits64 b) }
 {}
 
-/// The last row of partial products is the exact product in 128 bits, its lowest 64 bits are those of the wrapped one, and
-/// its upper bits tell whether the exact one leaves 64 bits.
+/// The last row of partial products is the exact product in 128 bits, its lowest 64 bits are those of the wrapped
+/// one, and its upper bits tell whether the exact one leaves 64 bits.
 pub fn product_laws()
     ensures exact { (a b : ℤ) → FitsSigned w64 a → FitsSigned w64 b → (j : ℕ) → j < 128
         → bit64 (a *ℤ b) j ≡ prow (bit64 a) (bit64 b) 128 j }

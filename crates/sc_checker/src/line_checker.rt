@@ -194,8 +194,8 @@ impl LineChecker {
         Ok(from + line.len() + 1)
     }
 
-    /// Reads the line at a place of bytes that end with a newline, that of a learned clause in one pass. The place behind
-    /// the line's newline.
+    /// Reads the line at a place of bytes that end with a newline, that of a learned clause in one pass. The place
+    /// behind the line's newline.
     fn read_line<T: Theory>(
         &mut self,
         alloc: Global,

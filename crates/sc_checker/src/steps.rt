@@ -33,7 +33,13 @@ impl Model for StepChecker {
 
     ghost Value = { Progress };
 
-    ghost view = { λ c. record { listed = c.known.count; steps = c.steps; clauses = c.clauses; is_empty = c.is_empty; fault = c.fault } };
+    ghost view = { λ c. record {
+      listed = c.known.count;
+      steps = c.steps;
+      clauses = c.clauses;
+      is_empty = c.is_empty;
+      fault = c.fault;
+    } };
 
     ghost invariant = { λ c. c.known.step ≤ c.steps };
 }

@@ -1,4 +1,5 @@
--- The candidates of sets by numbers of a table, set by set, and what goes with a role and those so far. No public promise speaks of it.
+-- The candidates of sets by numbers of a table, set by set, and what goes with a role and those so far. No public
+-- promise speaks of it.
 use Rattle.std.specs.Prelude.{◌≡◌, ◌<◌, ◌⊎◌, ℕ, Bool, false, List, [], ◌∷◌, ◌++◌, map, flat_map, length, get_or}
 use Rattle.std.specs.List.{AllByRecursion}
 use Rattle.sc_lists.specs.Members.{Has}
@@ -25,7 +26,12 @@ crowd_of set = record { set = set; members = []; others = []; targets = [] }
 
 -- one candidate more, which is a value or isn't, and one target more
 abbrev pub with_candidate : Bool → Crowd → ℕ → Crowd
-with_candidate value c n = record { set = c.set; members = c.members ++ n ∷ []; others = with_other value c.others n; targets = c.targets }
+with_candidate value c n = record {
+  set = c.set;
+  members = c.members ++ n ∷ [];
+  others = with_other value c.others n;
+  targets = c.targets;
+}
 
 abbrev pub with_target : Crowd → ℕ → Crowd
 with_target c n = record { set = c.set; members = c.members; others = c.others; targets = c.targets ++ n ∷ [] }
@@ -83,8 +89,8 @@ pub record JoinsTarget (xs : List Node) (old new : List Crowd) (s t : Tree) : Ty
 
 -- ---- what goes with a role and those so far
 
--- with a candidate x of a set s: its equations with the set's others, and its memberships in the set's targets, and in the sets that are
--- linked with it
+-- with a candidate x of a set s: its equations with the set's others, and its memberships in the set's targets, and
+-- in the sets that are linked with it
 abbrev pub met_crowd : List Node → Tree → Crowd → List Tree
 met_crowd xs x c = map (λ y. equal_term y x) (stood xs c.members) ++ map (member x) (stood xs c.targets)
 
@@ -111,5 +117,6 @@ flow_told xs s t crowds = flat_map (flow_of xs s t) crowds
 -- ---- worked rows
 
 -- a crowd of another set says nothing
-pub other_crowd : (xs : List Node) (x s : Tree) (c : Crowd) → tree_eq (tree xs c.set) s ≡ false → crowd_told xs x s c ≡ []
+pub other_crowd : (xs : List Node) (x s : Tree) (c : Crowd) → tree_eq (tree xs c.set) s ≡ false
+    → crowd_told xs x s c ≡ []
 other_crowd xs x s c e = λ i. where_so (e i) (met_crowd xs x c)

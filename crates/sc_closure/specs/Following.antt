@@ -262,7 +262,8 @@ pub record Follows (d : Declarations) (old new : List Node) (r s : Roles) (n : �
 -- ---- the worklist
 
 -- numbers on their way to the closed terms: the first i have been followed, and these roles are theirs
-pub record IsClosing (d : Declarations) (env : Env) (goal : Tree) (xs : List Node) (ns : List ℕ) (held : Role → Type 0) (i : ℕ) : Type 0 where
+pub record IsClosing (d : Declarations) (env : Env) (goal : Tree) (xs : List Node) (ns : List ℕ)
+    (held : Role → Type 0) (i : ℕ) : Type 0 where
   pub within : AllByRecursion (λ n. n < length xs) ns
   pub started : (x : Tree) → Has (seeds d env goal) x → Has (stood xs ns) x
   pub sound : (x : Tree) → Has (stood xs ns) x → Closed d env goal x

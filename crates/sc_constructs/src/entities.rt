@@ -171,7 +171,8 @@ fn in_one(
 ) -> Result<u64, AllocError>
     requires a_in { a < length terms.old }
     requires b_in { b < length terms.old }
-    ensures ok { IfOk result (λ n. StandsFor terms.new n (one_in setting.now.schema.now name.now of.now (tree terms.old a)
+    ensures ok { IfOk result (λ n. StandsFor terms.new n
+        (one_in setting.now.schema.now name.now of.now (tree terms.old a)
         (tree terms.old b))) }
     ensures kept { Keeps terms.old terms.new }
 {
@@ -192,7 +193,8 @@ fn below_one(
 ) -> Result<u64, AllocError>
     requires a_in { a < length terms.old }
     requires b_in { b < length terms.old }
-    ensures ok { IfOk result (λ n. StandsFor terms.new n (only_where (may_be_above setting.now.schema.now name.now of.now)
+    ensures ok { IfOk result (λ n. StandsFor terms.new n
+        (only_where (may_be_above setting.now.schema.now name.now of.now)
         (two binary.Member (tree terms.old b) (ancestors_above setting.now.schema.now of.now (tree terms.old a))))) }
     ensures kept { Keeps terms.old terms.new }
 {
@@ -215,7 +217,8 @@ fn in_some(
 ) -> Result<u64, AllocError>
     requires a_in { a < length terms.old }
     requires b_in { b < length terms.old }
-    ensures ok { IfOk result (λ n. StandsFor terms.new n (some_in setting.now.schema.now name.now of.now (tree terms.old a)
+    ensures ok { IfOk result (λ n. StandsFor terms.new n
+        (some_in setting.now.schema.now name.now of.now (tree terms.old a)
         (tree terms.old b))) }
     ensures kept { Keeps terms.old terms.new }
 {
@@ -251,7 +254,8 @@ fn below_some(
 ) -> Result<u64, AllocError>
     requires a_in { a < length terms.old }
     requires b_in { b < length terms.old }
-    ensures ok { IfOk result (λ n. StandsFor terms.new n (only_where (may_be_above setting.now.schema.now name.now of.now)
+    ensures ok { IfOk result (λ n. StandsFor terms.new n
+        (only_where (may_be_above setting.now.schema.now name.now of.now)
         (two binary.Common (ancestors_above setting.now.schema.now of.now (tree terms.old a)) (tree terms.old b)))) }
     ensures kept { Keeps terms.old terms.new }
 {

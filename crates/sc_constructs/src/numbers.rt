@@ -26,7 +26,8 @@ pub fn less(terms: &mut Terms, a: Opt, b: Opt) -> Result<Opt, AllocError>
 pub fn less_or_equal(terms: &mut Terms, a: Opt, b: Opt) -> Result<Opt, AllocError>
     requires a_in { IsCode terms.old a }
     requires b_in { IsCode terms.old b }
-    ensures ok { IfOk result (λ o. StandsAs terms.new o (less_or_equal_code (code_at terms.old a) (code_at terms.old b))) }
+    ensures ok { IfOk result (λ o. StandsAs terms.new o
+        (less_or_equal_code (code_at terms.old a) (code_at terms.old b))) }
     ensures kept { Keeps terms.old terms.new }
 {
     let ok = terms.and(a.ok, b.ok)?;

@@ -65,7 +65,8 @@ pub fn contains(terms: &mut Terms, a: Opt, b: Opt) -> Result<Opt, AllocError>
 pub fn contains_all(terms: &mut Terms, a: Opt, b: Opt) -> Result<Opt, AllocError>
     requires a_in { IsCode terms.old a }
     requires b_in { IsCode terms.old b }
-    ensures ok { IfOk result (λ o. StandsAs terms.new o (contains_all_code (code_at terms.old a) (code_at terms.old b))) }
+    ensures ok { IfOk result (λ o. StandsAs terms.new o
+        (contains_all_code (code_at terms.old a) (code_at terms.old b))) }
     ensures kept { Keeps terms.old terms.new }
 {
     let ok = terms.and(a.ok, b.ok)?;
@@ -77,7 +78,8 @@ pub fn contains_all(terms: &mut Terms, a: Opt, b: Opt) -> Result<Opt, AllocError
 pub fn contains_any(terms: &mut Terms, a: Opt, b: Opt) -> Result<Opt, AllocError>
     requires a_in { IsCode terms.old a }
     requires b_in { IsCode terms.old b }
-    ensures ok { IfOk result (λ o. StandsAs terms.new o (contains_any_code (code_at terms.old a) (code_at terms.old b))) }
+    ensures ok { IfOk result (λ o. StandsAs terms.new o
+        (contains_any_code (code_at terms.old a) (code_at terms.old b))) }
     ensures kept { Keeps terms.old terms.new }
 {
     let ok = terms.and(a.ok, b.ok)?;

@@ -18,7 +18,8 @@ pub record IsMagnitude (text : List ℕ) (n : ℕ) : Type 0 where
 -- a magnitude, perhaps after a minus
 pub data IsSigned : List ℕ → ℤ → Type 0 where
   plain : {text : List ℕ} {n : ℕ} {z : ℤ} → IsMagnitude text n → z ≡ pos n → IsSigned text z
-  minus : {text rest : List ℕ} {n : ℕ} {z : ℤ} → text ≡ 45 ∷ rest → IsMagnitude rest n → z ≡ neg_ℤ (pos n) → IsSigned text z
+  minus : {text rest : List ℕ} {n : ℕ} {z : ℤ} → text ≡ 45 ∷ rest → IsMagnitude rest n → z ≡ neg_ℤ (pos n)
+      → IsSigned text z
 
 -- the text stands for the number, which is in the range of a signed 64-bit number
 pub record IsDecimalText (text : List ℕ) (z : ℤ) : Type 0 where

@@ -32,4 +32,5 @@ in_range (negsuc n) = if nat_lt n (2 ^ 63) then Some (negsuc n) else None
 
 unfoldable pub decimal_of : List ℕ → Option ℤ
 decimal_of [] = None
-decimal_of (b ∷ bs) = option_and_then in_range (if b == 45 then option_map (λ n. neg_ℤ (pos n)) (magnitude_of bs) else option_map pos (magnitude_of (b ∷ bs)))
+decimal_of (b ∷ bs) = option_and_then in_range (if b == 45 then option_map (λ n. neg_ℤ (pos n)) (magnitude_of bs)
+    else option_map pos (magnitude_of (b ∷ bs)))

@@ -28,8 +28,8 @@ struct Undecided {
     lit: Lit,
 }
 
-/// The long disjunctions that are true. The one with the fewest open literals decides, and its most active one is tried as
-/// true: so cases are told apart where there are the fewest, as which pigeon sits in which hole.
+/// The long disjunctions that are true. The one with the fewest open literals decides, and its most active one is
+/// tried as true: so cases are told apart where there are the fewest, as which pigeon sits in which hole.
 #[derive(Drop)]
 pub(crate) struct Cases {
     disjunctions: Disjunctions,

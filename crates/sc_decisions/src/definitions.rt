@@ -1,5 +1,5 @@
-//! Which literals to try where another one is true: those of which its truth table gives the values, though no clause alone
-//! does.
+//! Which literals to try where another one is true: those of which its truth table gives the values, though no clause
+//! alone does.
 
 use sc_clauses::{Clauses, Lit, negation};
 use std::alloc::{AllocError, Global};
@@ -16,11 +16,11 @@ struct Rows {
     second: Lit,
 }
 
-/// Truth tables of atoms, each of two others. A table that gives a value in one row has one clause that ends in a literal of
-/// its atom, and three that end in the other: where the former literal is true, the other two of its clause are false, and
-/// each of them leads to a conflict at once if it is tried. A table that gives each value in two rows has two clauses for
-/// each: where its atom has a value, the second of the two others has one as soon as the first has. So what a table gives
-/// is learned, or propagated, as soon as it matters.
+/// Truth tables of atoms, each of two others. A table that gives a value in one row has one clause that ends in a
+/// literal of its atom, and three that end in the other: where the former literal is true, the other two of its
+/// clause are false, and each of them leads to a conflict at once if it is tried. A table that gives each value in
+/// two rows has two clauses for each: where its atom has a value, the second of the two others has one as soon as the
+/// first has. So what a table gives is learned, or propagated, as soon as it matters.
 #[derive(Drop)]
 pub(crate) struct Definitions {
     /// The clauses that end in an atom, by its number.

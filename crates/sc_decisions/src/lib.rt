@@ -1,5 +1,6 @@
-//! What a search decides: on which atom, as which value, and when it begins anew from no decision. Nothing is promised of
-//! these choices but that a conflict leaves no more levels than it may: whatever is chosen, the search ends.
+//! What a search decides: on which atom, as which value, and when it begins anew from no decision. Nothing is
+//! promised of these choices but that a conflict leaves no more levels than it may: whatever is chosen, the search
+//! ends.
 #![tactic(auto)]
 
 mod cases;

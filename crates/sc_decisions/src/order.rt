@@ -12,8 +12,9 @@ const FIRST_STEP: u64 = 1_024;
 /// Above this step all activities are made smaller.
 const LARGEST_STEP: u64 = 1_099_511_627_776;
 
-/// The atoms in the order in which they are decided on: first the parts of what defines an atom that is true, then those
-/// of long disjunctions that are true, and then those that conflicts met most of late, since a later one counts more.
+/// The atoms in the order in which they are decided on: first the parts of what defines an atom that is true, then
+/// those of long disjunctions that are true, and then those that conflicts met most of late, since a later one counts
+/// more.
 #[derive(Drop)]
 pub struct Order {
     heap: Heap,
@@ -83,8 +84,8 @@ impl Order {
         self.cases.come_back(count);
     }
 
-    /// Whether to try an atom as false: one that a definition or a disjunction gave as that says, and one that had a value
-    /// as that says, if the search keeps phases.
+    /// Whether to try an atom as false: one that a definition or a disjunction gave as that says, and one that had a
+    /// value as that says, if the search keeps phases.
     pub fn is_negated(&self, atom: usize, keeps_phases: bool) -> bool {
         if let Some(lit) = self.tried {
             if lit.atom as usize == atom {
@@ -109,8 +110,8 @@ impl Order {
         self.heap.put_back(atom);
     }
 
-    /// Whether it's worth to know that a literal is true: that an atom is false which stands in no clause given is not, since
-    /// it would be tried as false.
+    /// Whether it's worth to know that a literal is true: that an atom is false which stands in no clause given is
+    /// not, since it would be tried as false.
     pub fn is_of_use(&self, lit: Lit) -> bool {
         if !lit.negated {
             return true;

@@ -1,8 +1,8 @@
 //! When to begin anew from no decision.
 ghost use Rattle.std.specs.Prelude.{◌≤◌};
 
-/// The shortest run between two restarts, in conflicts. A run has to be long enough to go through the parts of one large
-/// condition, since what a restart takes back of them is decided again.
+/// The shortest run between two restarts, in conflicts. A run has to be long enough to go through the parts of one
+/// large condition, since what a restart takes back of them is decided again.
 const SHORTEST_RUN: u64 = 4_000;
 
 /// Counts conflicts. The lengths of runs are those of Luby's sequence: 1, 1, 2, 1, 1, 2, 4, and so on.

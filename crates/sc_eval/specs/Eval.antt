@@ -1,6 +1,6 @@
--- The value of an expression in a world: operands from left to right, the first error stands. The operands of `&&`, `||`
--- and `if` that are evaluated are asked to be Bools as they come; the kinds of other operands are asked for once all are
--- evaluated.
+-- The value of an expression in a world: operands from left to right, the first error stands. The operands of `&&`,
+-- `||` and `if` that are evaluated are asked to be Bools as they come; the kinds of other operands are asked for once
+-- all are evaluated.
 use Rattle.std.specs.Prelude.{ℕ, List, [], ◌∷◌, true, false, if◌then◌else◌, Result, Ok}
 use Rattle.sc_ast.specs.declared.expr.Expr.{Expr, Expr-F, fold-Expr}
 use Rattle.sc_ast.specs.declared.expr.Expr.TheOpen as e

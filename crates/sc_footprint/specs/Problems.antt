@@ -43,8 +43,8 @@ pub record AreClosed (d : Declarations) (env : Env) (goal : Tree) (ts : List Tre
 abbrev pub atoms : Posed → List Tree
 atoms p = atoms_among (closed_terms p)
 
--- What a problem is. No call on it asks more: the schema is lawful, the goal is one, the closed terms are the goal's own, no more of them
--- are atoms than may be, and a log can write their numbers.
+-- What a problem is. No call on it asks more: the schema is lawful, the goal is one, the closed terms are the goal's
+-- own, no more of them are atoms than may be, and a log can write their numbers.
 pub record IsPosed (p : Posed) : Type 0 where
   pub lawful : IsLawful p.schema
   pub goal_within : p.goal < length p.nodes
@@ -86,7 +86,8 @@ companion p n i = option_and_then (λ (x : Tree). slice_get (follow p.schema x) 
 
 -- ---- literals
 
--- of an atom its number, of `false` the negation of atom 1, which is `true`, and of a negation the negation of its part's
+-- of an atom its number, of `false` the negation of atom 1, which is `true`, and of a negation the negation of its
+-- part's
 unfoldable pub literal : (Tree → ℕ) → Tree → Lit
 literal number (leaf l) = if is_opposite (leaf l) then negation (positive 1) else positive (number (leaf l))
 literal number (one Not a) = negation (literal number a)

@@ -40,7 +40,7 @@ forward n = flat_map line (draws n n)
 abbrev pub backward : ℕ → List ℕ
 backward n = flat_map line (reverse (draws n n))
 
--- the schema under which the policies are asked about: groups may be in groups, users may be in groups, and the context has a
--- number
+-- the schema under which the policies are asked about: groups may be in groups, users may be in groups, and the
+-- context has a number
 unfoldable pub schema_text : List ℕ
 schema_text = codes "{\"\":{\"entityTypes\":{\"Group\":{\"memberOfTypes\":[\"Group\"]},\"User\":{\"memberOfTypes\":[\"Group\"],\"shape\":{\"type\":\"Record\",\"attributes\":{\"boss\":{\"type\":\"Entity\",\"name\":\"User\"},\"age\":{\"type\":\"Long\"},\"nick\":{\"type\":\"String\",\"required\":false}}}},\"Doc\":{\"shape\":{\"type\":\"Record\",\"attributes\":{\"owner\":{\"type\":\"Entity\",\"name\":\"User\"}}}}},\"actions\":{\"view\":{\"appliesTo\":{\"principalTypes\":[\"User\"],\"resourceTypes\":[\"Doc\"],\"context\":{\"type\":\"Record\",\"attributes\":{\"n\":{\"type\":\"Long\"},\"s\":{\"type\":\"Set\",\"element\":{\"type\":\"Boolean\"}},\"t\":{\"type\":\"Set\",\"element\":{\"type\":\"Boolean\"}},\"q\":{\"type\":\"Set\",\"element\":{\"type\":\"Long\"}},\"name\":{\"type\":\"String\"},\"addr\":{\"type\":\"Extension\",\"name\":\"ipaddr\"}}}}}}}}"

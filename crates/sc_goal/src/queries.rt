@@ -27,9 +27,20 @@ impl<'a> Model for Query<'a> {
 
     ghost coded = { Prim.hlevel (codes, policy.the_row.coded) };
 
-    ghost view = { λ q. record { question = q.question; first = q.first.now; against = option_copied q.against; literals = q.literals } };
+    ghost view = { λ q. record {
+      question = q.question;
+      first = q.first.now;
+      against = option_copied q.against;
+      literals = q.literals;
+    } };
 
-    ghost invariant = { λ q. IsAsked (record { question = q.question; first = q.first.now; against = option_copied q.against; literals = q.literals }) };
+    ghost invariant = { λ q. IsAsked
+        (record {
+          question = q.question;
+          first = q.first.now;
+          against = option_copied q.against;
+          literals = q.literals;
+        }) };
 }
 
 impl<'a> Query<'a> {

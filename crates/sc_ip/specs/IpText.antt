@@ -22,7 +22,8 @@ abbrev pub AreGroups : ℕ → (List ℕ → ℕ → Type 0) → List ℕ → Li
 AreGroups separator IsGroup text [] = text ≡ []
 AreGroups separator IsGroup text (n ∷ []) = IsGroup text n
 AreGroups separator IsGroup text (n ∷ m ∷ others) =
-    (group : List ℕ) × (rest : List ℕ) × (text ≡ group ++ (separator ∷ rest)) × IsGroup group n × AreGroups separator IsGroup rest (m ∷ others)
+    (group : List ℕ) × (rest : List ℕ) × (text ≡ group ++ (separator ∷ rest)) × IsGroup group n
+    × AreGroups separator IsGroup rest (m ∷ others)
 
 -- four decimal groups between dots
 pub record IsV4Text (text : List ℕ) (address : ℕ) : Type 0 where
@@ -49,7 +50,8 @@ pub record IsGap (front back : List ℕ) (address : ℕ) : Type 0 where
 
 pub data IsV6Text : List ℕ → ℕ → Type 0 where
   full : {text : List ℕ} {address : ℕ} → IsFullText text address → IsV6Text text address
-  gap : {text front back : List ℕ} {address : ℕ} → text ≡ front ++ (58 ∷ 58 ∷ back) → IsGap front back address → IsV6Text text address
+  gap : {text front back : List ℕ} {address : ℕ} → text ≡ front ++ (58 ∷ 58 ∷ back) → IsGap front back address
+      → IsV6Text text address
 
 -- an address without a prefix, which is of all bits
 pub data IsAddressText : List ℕ → Ip → Type 0 where
@@ -60,10 +62,12 @@ abbrev pub with_prefix : Ip → ℕ → Ip
 with_prefix (V4 address old) prefix = V4 address prefix
 with_prefix (V6 address old) prefix = V6 address prefix
 
--- the text stands for the address with its prefix: an address alone, or a slash and a prefix without leading zeros behind
+-- the text stands for the address with its prefix: an address alone, or a slash and a prefix without leading zeros
+-- behind
 pub data IsIpText : List ℕ → Ip → Type 0 where
   alone : {text : List ℕ} {a : Ip} → IsAddressText text a → IsIpText text a
-  prefixed : {text part : List ℕ} {prefix : ℕ} {a b : Ip} → text ≡ part ++ (47 ∷ decimal prefix) → IsAddressText part b → prefix ≤ width_of b → a ≡ with_prefix b prefix → IsIpText text a
+  prefixed : {text part : List ℕ} {prefix : ℕ} {a b : Ip} → text ≡ part ++ (47 ∷ decimal prefix)
+      → IsAddressText part b → prefix ≤ width_of b → a ≡ with_prefix b prefix → IsIpText text a
 
 -- the groups of an address, the highest first
 abbrev pub bytes_of : ℕ → List ℕ

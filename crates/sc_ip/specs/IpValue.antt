@@ -21,12 +21,14 @@ abbrev pub decimal_group : List ℕ → Option ℕ
 decimal_group text = let n = digits_value 10 text in if nat_lt n 256 && bytes_eq text (decimal n) then Some n else None
 
 abbrev pub hexadecimal_group : List ℕ → Option ℕ
-hexadecimal_group text = if nat_lt 0 (length text) && (are_digits 16 text && nat_le (length text) 4) then Some (digits_value 16 text) else None
+hexadecimal_group text = if nat_lt 0 (length text) && (are_digits 16 text && nat_le (length text) 4)
+    then Some (digits_value 16 text) else None
 
 -- the numbers of groups, if each is one
 abbrev pub numbers_of_all : (List ℕ → Option ℕ) → List (List ℕ) → Option (List ℕ)
 numbers_of_all number [] = Some []
-numbers_of_all number (group ∷ groups) = option_and_then (λ n. option_map (λ ns. n ∷ ns) (numbers_of_all number groups)) (number group)
+numbers_of_all number (group ∷ groups) =
+    option_and_then (λ n. option_map (λ ns. n ∷ ns) (numbers_of_all number groups)) (number group)
 
 -- the numbers of the groups between separators, and none of the empty text
 abbrev pub numbers_of : ℕ → (List ℕ → Option ℕ) → List ℕ → Option (List ℕ)
@@ -44,14 +46,17 @@ v4_of text = option_and_then (number_of 4 256) (numbers_of 46 decimal_group text
 abbrev pub cut_at_colons : List ℕ → Option (List ℕ × List ℕ)
 cut_at_colons [] = None
 cut_at_colons (b ∷ []) = None
-cut_at_colons (b ∷ c ∷ bs) = if b == 58 && c == 58 then Some ([], bs) else option_map (λ p. (b ∷ p.0, p.1)) (cut_at_colons (c ∷ bs))
+cut_at_colons (b ∷ c ∷ bs) =
+    if b == 58 && c == 58 then Some ([], bs) else option_map (λ p. (b ∷ p.0, p.1)) (cut_at_colons (c ∷ bs))
 
 abbrev pub joined : List ℕ → List ℕ → Option ℕ
 joined before after = if nat_le (length before + length after) 7
-    then Some (number_from_digits 65536 (before ++ (replicate (8 - (length before + length after)) 0 ++ after))) else None
+    then Some (number_from_digits 65536
+    (before ++ (replicate (8 - (length before + length after)) 0 ++ after))) else None
 
 abbrev pub gap_of : List ℕ × List ℕ → Option ℕ
-gap_of p = option_and_then (λ before. option_and_then (joined before) (numbers_of 58 hexadecimal_group p.1)) (numbers_of 58 hexadecimal_group p.0)
+gap_of p = option_and_then (λ before. option_and_then (joined before) (numbers_of 58 hexadecimal_group p.1))
+    (numbers_of 58 hexadecimal_group p.0)
 
 abbrev pub full_of : List ℕ → Option ℕ
 full_of text = option_and_then (number_of 8 65536) (numbers_of 58 hexadecimal_group text)

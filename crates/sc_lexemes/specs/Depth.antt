@@ -1,6 +1,6 @@
--- How deep a token lies: how many expressions enclose it, and how many constructs are open at it. Open are the expressions
--- that enclose it, the operators, prefixes, accesses and parts of `has` that each of these already holds at its own level,
--- and the earlier clauses of its policy. Both are counted up from where a policy begins.
+-- How deep a token lies: how many expressions enclose it, and how many constructs are open at it. Open are the
+-- expressions that enclose it, the operators, prefixes, accesses and parts of `has` that each of these already holds
+-- at its own level, and the earlier clauses of its policy. Both are counted up from where a policy begins.
 use Rattle.std.specs.Prelude.{◌≡◌, ℕ, ◌+◌, ◌-◌, ◌^◌, ◌&&◌, Bool, min, nat_le}
 use Rattle.sc_lexemes.specs.declared.cursor.Cursor.{Cursor}
 

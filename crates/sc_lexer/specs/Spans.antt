@@ -11,8 +11,8 @@ use Rattle.sc_lexer.specs.Pieces.{Spells, quoted, pieces_of}
 abbrev pub text_of : List ℕ → Token → List ℕ
 text_of bytes t = take (t.span.end - t.span.start) (drop t.span.start bytes)
 
--- each token of a file has some bytes, stands within the file and has a text of its kind; each string spells its pieces; and
--- each token ends before the later ones
+-- each token of a file has some bytes, stands within the file and has a text of its kind; each string spells its
+-- pieces; and each token ends before the later ones
 pub record AreTokens (bytes : List ℕ) (ts : List Token) : Type 0 where
   pub some : All (λ t. t.span.start < t.span.end) ts
   pub within : All (λ t. t.span.end ≤ length bytes) ts

@@ -1,4 +1,5 @@
-//! Whether texts and bytes are equal. A comparison by `==` beside a literal takes a check some five times as long as a call.
+//! Whether texts and bytes are equal. A comparison by `==` beside a literal takes a check some five times as long as
+//! a call.
 ghost use Rattle.std.specs.Prelude.{◌≡◌, IsTrue, false};
 ghost use Rattle.std.specs.Str.{bytes_eq};
 

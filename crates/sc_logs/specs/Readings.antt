@@ -29,7 +29,8 @@ IsText bytes steps = (bytes ≡ log_text steps) ⊎ ((bytes ≡ []) × (steps �
 abbrev pub BeginsWith : List ℕ → Step → Type 0
 BeginsWith bytes s = (rest : List ℕ) × (bytes ≡ step_line s ++ 10 ∷ rest)
 
--- Lines of steps, and then more whose first line is no step's: one that isn't ended is none. Such lines are counted from 1.
+-- Lines of steps, and then more whose first line is no step's: one that isn't ended is none. Such lines are counted
+-- from 1.
 pub record StopsAt (bytes : List ℕ) (number : ℕ) : Type 0 where
   pub before : List Step
   pub rest : List ℕ

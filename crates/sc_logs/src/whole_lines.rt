@@ -63,7 +63,8 @@ fn first_digit_at(bytes: &[u8], place: usize) -> Option<u8>
     Some(first)
 }
 
-/// The number of at most so many digits, a first one other than `0` and those from a place on, and the place behind these.
+/// The number of at most so many digits, a first one other than `0` and those from a place on, and the place behind
+/// these.
 #[inline(always)]
 fn number_from(bytes: &[u8], first: u8, from: usize, most: usize) -> Option<(u64, usize)>
     requires ended { IsTrue (ends_line bytes.now) }
@@ -83,8 +84,8 @@ fn number_from(bytes: &[u8], first: u8, from: usize, most: usize) -> Option<(u64
     None
 }
 
-/// The number other than 0 at a place, up to the first byte that is no digit, where it has at most so many digits, and the
-/// place of that byte.
+/// The number other than 0 at a place, up to the first byte that is no digit, where it has at most so many digits,
+/// and the place of that byte.
 #[inline(always)]
 fn number_at(bytes: &[u8], place: usize, most: usize) -> Option<(u64, usize)>
     requires ended { IsTrue (ends_line bytes.now) }
@@ -192,7 +193,8 @@ pub fn read_whole(bytes: &[u8], from: usize, room: &mut Room) -> Result<Option<u
     ensures { IfOk result (λ o. IfSome o (λ next. IsTrue (is_learned
         (record { clause = map lit_of room.new.codes.items; hints = room.new.hints.items }))
         × (drop from bytes.now ≡ step_line (Step.Learned
-        (record { clause = map lit_of room.new.codes.items; hints = room.new.hints.items })) ++ 10 ∷ drop next bytes.now))) }
+        (record { clause = map lit_of room.new.codes.items; hints = room.new.hints.items }))
+        ++ 10 ∷ drop next bytes.now))) }
 {
     let Some(lits) = after_byte(bytes, from, b'l') else {
         return Ok(None);

@@ -10,7 +10,8 @@ use Rattle.sc_rule_laws.specs.Signed.{Signed}
 abbrev pub Assignment : Type 0
 Assignment = Tree → Bool
 
--- `true` is true, `false` is false, a negation is true where what it negates isn't, and any other term is as it is assigned
+-- `true` is true, `false` is false, a negation is true where what it negates isn't, and any other term is as it is
+-- assigned
 unfoldable pub lit : Assignment → Tree → Bool
 lit m (leaf (Literal (bool b))) = b
 lit m (one Not t) = not (lit m t)

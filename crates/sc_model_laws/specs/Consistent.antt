@@ -50,8 +50,8 @@ pub data IsRuleAt (d : Declarations) (Is : Tree → Type 0) : Said → Type 0 wh
   of_st3 : (qs : List Pattern) (v : Signs) (ts : List Tree) → AllByRecursion Is ts → AreFew qs v (length ts)
       → IsRuleAt d Is (st3 qs v ts)
 
--- Each closed truth value is as its definition says, the bits of each closed address are those of one, and each rule at closed terms
--- holds that speaks of closed terms alone.
+-- Each closed truth value is as its definition says, the bits of each closed address are those of one, and each rule
+-- at closed terms holds that speaks of closed terms alone.
 pub record IsConsistent (d : Declarations) (env : Env) (goal : Tree) (m : Assignment) : Type 0 where
   pub definitions : (x : Tree) → Closed d env goal x → tree_sort x ≡ sort.Bool
       → IfSome (defined (shape_of x) (map (lit m) (inputs_of x))) (λ b. lit m x ≡ b)

@@ -63,14 +63,16 @@ ClassesBound = (d : Declarations) (env : Env) (goal : Tree) (m : Assignment) (qs
 -- have their signs, of which there are as many as there are such strings that differ.
 abbrev pub HasModel : Type 0
 HasModel = (d : Declarations) (env : Env) (goal : Tree) (closed : List Tree) (m : Assignment) (qs : List Pattern)
-    (texts : Texts) → IsConsistent d env goal m → ((x : Tree) → Has closed x ↔ Closed d env goal x) → ArePatterns d env goal qs
+    (texts : Texts) → IsConsistent d env goal m → ((x : Tree) → Has closed x ↔ Closed d env goal x)
+    → ArePatterns d env goal qs
     → AreTextsOf d env goal m qs texts → IsModel d env goal (model_of qs texts closed m)
 
 -- the names of its strings are texts
 abbrev pub NamesAreTexts : Type 0
 NamesAreTexts = (d : Declarations) (env : Env) (literals : List Uid) (goal : Tree) (closed : List Tree) (m : Assignment)
     (qs : List Pattern) (texts : Texts) → IsLawful d → IsGoal d env literals goal
-    → ((x : Tree) → Has closed x ↔ Closed d env goal x) → ((signs : List Bool) (t : Name) → Has (texts signs) t → IsUtf8 t)
+    → ((x : Tree) → Has closed x ↔ Closed d env goal x)
+    → ((signs : List Bool) (t : Name) → Has (texts signs) t → IsUtf8 t)
     → (x : Tree) → IsUtf8 (text_of m qs texts closed x)
 
 -- ---- and back

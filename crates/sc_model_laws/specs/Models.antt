@@ -23,7 +23,8 @@ abbrev pub AreNamed : {X : Type 0} → (Tree → Type 0) → Model → (Tree →
 AreNamed Is m name = (x y : Tree) → Is x → Is y → name x ≡ name y ↔ lit m.truths (equal_term x y) ≡ true
 
 -- The assignment is consistent, the list has just the closed terms, and names tell classes of equal terms apart: a
--- literal's is what it says, a string's matches just the patterns that it is to match, and an entity's has the entity's type.
+-- literal's is what it says, a string's matches just the patterns that it is to match, and an entity's has the
+-- entity's type.
 pub record IsModel (d : Declarations) (env : Env) (goal : Tree) (m : Model) : Type 0 where
   pub consistent : IsConsistent d env goal m.truths
   pub listed : (x : Tree) → Has m.closed x ↔ Closed d env goal x
@@ -34,6 +35,7 @@ pub record IsModel (d : Declarations) (env : Env) (goal : Tree) (m : Model) : Ty
       → Closed d env goal (one (Like p) y) → is_match p (chars (m.text x)) ≡ lit m.truths (like_term x p)
   pub uids : (name : List ℕ) (us : List Uid)
       → AreNamed (λ x. Closed d env goal x × (tree_sort x ≡ sort.Entity name us)) m m.uid
-  pub typed : (name : List ℕ) (us : List Uid) (x : Tree) → tree_sort x ≡ sort.Entity name us → (m.uid x).type_name ≡ name
+  pub typed : (name : List ℕ) (us : List Uid) (x : Tree) → tree_sort x ≡ sort.Entity name us
+      → (m.uid x).type_name ≡ name
   pub literal_uid : (u : Uid) (us : List Uid) → Closed d env goal (literal_term (literal.Entity u us))
       → m.uid (literal_term (literal.Entity u us)) ≡ u

@@ -35,7 +35,8 @@ is_stored _ = false
 -- The variables have their values, and so has what is stored of an entity that has its value.
 pub record HoldsModel (d : Declarations) (env : Env) (goal : Tree) (m : Model) (w : World) : Type 0 where
   pub variables : (l : Leaf) → is_variable l ≡ true → Closed d env goal (leaf l) → IsRight m w (leaf l)
-  pub stored : (o : UnaryOp) (e : Tree) → is_stored o ≡ true → Closed d env goal (one o e) → IsRight m w e → IsRight m w (one o e)
+  pub stored : (o : UnaryOp) (e : Tree) → is_stored o ≡ true → Closed d env goal (one o e) → IsRight m w e
+      → IsRight m w (one o e)
   pub tags : (own : Sort) (e k : Tree) → Closed d env goal (two (binary.Tag own) e k) → IsRight m w e → IsRight m w k
       → IsRight m w (two (binary.Tag own) e k)
 

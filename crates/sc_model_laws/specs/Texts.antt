@@ -30,7 +30,8 @@ abbrev pub IsString : Declarations → Env → Tree → Tree → Type 0
 IsString d env goal x = Closed d env goal x × (tree_sort x ≡ sort.String)
 
 -- closed strings with these signs that differ
-pub record AreOthers (d : Declarations) (env : Env) (goal : Tree) (m : Assignment) (qs : List Pattern) (signs : List Bool)
+pub record AreOthers (d : Declarations) (env : Env) (goal : Tree) (m : Assignment) (qs : List Pattern)
+    (signs : List Bool)
     (ts : List Tree) : Type 0 where
   pub strings : AllByRecursion (IsString d env goal) ts
   pub signed : AllByRecursion (λ t. signs_of m qs t ≡ signs) ts

@@ -1,5 +1,5 @@
--- An assignment that falsifies no clause of a problem and no instance of its rules gives its closed terms truths that are
--- consistent.
+-- An assignment that falsifies no clause of a problem and no instance of its rules gives its closed terms truths that
+-- are consistent.
 use Rattle.std.specs.Prelude.{◌≡◌, ◌≤◌, ℕ, true, false, List, Some, length, IsSome}
 use Rattle.std.specs.List.{AllByRecursion, Contains}
 use Rattle.sc_clauses.specs.Assignments.{Assignment, value_of, falsifies}

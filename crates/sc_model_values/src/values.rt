@@ -67,7 +67,8 @@ fn decimal_value(
 ) -> Result<Value, AllocError>
     requires { IsOf problem.now sorts.Decimal term }
     ensures { IfOk result (λ x. x
-        ≡ value.Decimal (of_bits64 (λ i. lit (truth_in problem.now m.now) (bit_term (tree problem.now.nodes term) i)))) }
+        ≡ value.Decimal (of_bits64 (λ i. lit (truth_in problem.now m.now)
+        (bit_term (tree problem.now.nodes term) i)))) }
 {
     let number = number(alloc, problem, m, term)?;
     Ok(Value::Decimal(Decimal::from_ten_thousandths(number)))

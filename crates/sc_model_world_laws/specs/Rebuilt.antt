@@ -1,4 +1,5 @@
--- The world that a model stands for: a request, and what closed terms tell of entities. All else is as it is by default.
+-- The world that a model stands for: a request, and what closed terms tell of entities. All else is as it is by
+-- default.
 use Rattle.std.specs.Prelude.{◌≡◌, ◌&&◌, ℕ, List, [], ◌∷◌, map, flat_map, Option, Some, None, unwrap_or, if◌then◌else◌, refl}
 use Rattle.std.specs.Str.{bytes_eq}
 use Rattle.std.specs.BTreeSet.{insert_key}

@@ -20,8 +20,10 @@ is_word (c ∷ cs) = begins_word c && list_all goes_on_word cs
 -- the words with a meaning of their own
 abbrev pub is_reserved : List ℕ → Bool
 is_reserved w =
-    bytes_eq w (codes "true") || bytes_eq w (codes "false") || bytes_eq w (codes "if") || bytes_eq w (codes "then") || bytes_eq w (codes "else")
-    || bytes_eq w (codes "in") || bytes_eq w (codes "like") || bytes_eq w (codes "is") || bytes_eq w (codes "has") || bytes_eq w (codes "__cedar")
+    bytes_eq w (codes "true") || bytes_eq w (codes "false") || bytes_eq w (codes "if") || bytes_eq w
+    (codes "then") || bytes_eq w (codes "else")
+    || bytes_eq w (codes "in") || bytes_eq w (codes "like") || bytes_eq w (codes "is") || bytes_eq w
+    (codes "has") || bytes_eq w (codes "__cedar")
 
 -- a word that isn't reserved
 abbrev pub is_ident : List ℕ → Bool

@@ -15,8 +15,8 @@ pub data IsPath : List ℕ → Type 0 where
 abbrev pub BeginsPath : List ℕ → Type 0
 BeginsPath bytes = (rest : List ℕ) × IsPath (bytes ++ rest)
 
--- the first byte of a text that no path has there: the least `at` such that no path begins with the text's first `at + 1`
--- bytes; or the text's length, where a path begins with all of it, but it is none itself
+-- the first byte of a text that no path has there: the least `at` such that no path begins with the text's first `at
+-- + 1` bytes; or the text's length, where a path begins with all of it, but it is none itself
 pub record IsBadAt (text : List ℕ) (at : ℕ) : Type 0 where
   pub within : at ≤ length text
   pub before : (n : ℕ) → n ≤ at → BeginsPath (take n text)

@@ -35,14 +35,15 @@ Takes old new max (Err _) = new ≡ old
 
 -- what is left of a file that was started, of files with this content
 abbrev pub left_in : (List ℕ → Option (List ℕ)) → Option Started → Left
-left_in content started = option_map (λ s. option_map (λ bytes. drop s.taken bytes) (content (string_bytes s.name))) started
+left_in content started = option_map
+    (λ s. option_map (λ bytes. drop s.taken bytes) (content (string_bytes s.name))) started
 
 -- what is left of a file that is open, of which nothing is told
 abbrev pub untold_left : {X : Type 0} → Option X → Left
 untold_left file = option_map (λ _. None) file
 
--- Bytes of an open file, of which these remained and those remain, where that is told: a front of what remained, of at most `max` bytes,
--- and empty at the end alone; what follows it remains.
+-- Bytes of an open file, of which these remained and those remain, where that is told: a front of what remained, of
+-- at most `max` bytes, and empty at the end alone; what follows it remains.
 pub record IsNextPiece (old new : Option (List ℕ)) (max : ℕ) (piece : List ℕ) : Type 0 where
   pub front : Consumes old new piece
   pub within : length piece ≤ max

@@ -59,8 +59,8 @@ pub trait Sink {
 
     /// Writes a piece behind all that was written.
     ///
-    /// `Failed` comes where the sink failed in this call, and then a front of the piece may have been written: no failure is
-    /// passed over. Where memory runs out nothing was.
+    /// `Failed` comes where the sink failed in this call, and then a front of the piece may have been written: no
+    /// failure is passed over. Where memory runs out nothing was.
     fn write(&mut self, piece: &[u8]) -> Result<(), SinkFault>
         ensures text { Writes (written self.old) (written self.new) piece.now result }
         ensures counts { Counts (faults self.old) (faults self.new) (result ≡ Err SinkFault.Failed) };

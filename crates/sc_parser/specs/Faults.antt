@@ -1,5 +1,5 @@
--- The faults of a list of tokens that spells no policies within the limits: the first token that no file has there, or that
--- passes a limit.
+-- The faults of a list of tokens that spells no policies within the limits: the first token that no file has there,
+-- or that passes a limit.
 use Rattle.std.specs.Prelude.{◌≡◌, ℕ, ◌+◌, ◌<◌, ◌≤◌, List, slice_get, length, true, false, Bool}
 use Rattle.sc_ast.specs.declared.policy.Policy.{Policy}
 use Rattle.sc_lexemes.specs.declared.lexeme.Lexeme.{Lexeme}

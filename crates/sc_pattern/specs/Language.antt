@@ -1,6 +1,6 @@
--- The texts that a pattern of `like` matches. A text stands here as the list of its characters, which are Unicode scalar
--- values: `chars text`, the one list whose UTF-8 is the text. There is one, since a text is the UTF-8 of some list of
--- scalar values, and no two such lists have the same UTF-8.
+-- The texts that a pattern of `like` matches. A text stands here as the list of its characters, which are Unicode
+-- scalar values: `chars text`, the one list whose UTF-8 is the text. There is one, since a text is the UTF-8 of some
+-- list of scalar values, and no two such lists have the same UTF-8.
 use Rattle.std.specs.Prelude.{◌≡◌, ◌==◌, ◌&&◌, ◌||◌, ℕ, List, [], ◌∷◌, ◌++◌, Bool, true, false}
 use Rattle.sc_pattern.specs.declared.part.Part.{Part}
 use Rattle.sc_pattern.specs.declared.part.Part.TheVariants.{Star, Char}

@@ -103,7 +103,8 @@ impl Trail {
     /// Whether a watched literal of the clause at a place is true.
     fn is_satisfied(&self, watches: &Watches, place: usize) -> bool
         requires agree { Agree self.now.cells.items self.now.lits.items }
-        requires in_cells { (l : Lit) → IsWatched (watch_of watches.now place) l → l.atom < length self.now.cells.items }
+        requires in_cells { (l : Lit) → IsWatched (watch_of watches.now place) l
+            → l.atom < length self.now.cells.items }
         ensures { IsTrue result → (l : Lit) × IsWatched (watch_of watches.now place) l
             × (true_before self.now.cells.items (length self.now.lits.items) l ≡ true) }
     {
@@ -146,7 +147,8 @@ impl Trail {
     fn kept_watched(&self, watches: &Watches, place: usize) -> Option<Lit>
         requires agree { Agree self.now.cells.items self.now.lits.items }
         requires levels { AreLevels self.now.cells.items self.now.levels.items (length self.now.lits.items) }
-        requires in_cells { (l : Lit) → IsWatched (watch_of watches.now place) l → l.atom < length self.now.cells.items }
+        requires in_cells { (l : Lit) → IsWatched (watch_of watches.now place) l
+            → l.atom < length self.now.cells.items }
         ensures { IfSome result (λ l. IsWatched (watch_of watches.now place) l × IsLate self.now l) }
     {
         let Some(watch) = watches.pair(place) else {
@@ -264,7 +266,8 @@ impl Trail {
         requires watched { IsWellWatched (length self.old.cells.items) clauses.now self.old watches.old }
         ensures moves { IfOk result (λ _. MovesOn (length self.old.cells.items) clauses.now self.old watches.old
             self.new watches.new) }
-        ensures visited { IfOk result (λ r. HasVisitedEach clauses.now self.new watches.new (length self.old.lits.items) r) }
+        ensures visited { IfOk result
+            (λ r. HasVisitedEach clauses.now self.new watches.new (length self.old.lits.items) r) }
     {
         for place in 0..clauses.len() {
             if self.visit(clauses, watches, place)? {

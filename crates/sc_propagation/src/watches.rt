@@ -90,7 +90,8 @@ impl Watches {
     fn list(&mut self, place: usize, lit: Lit) -> Result<(), AllocError>
         requires { (sign : Bool) → lit.atom < length (lists_of self.old.lists sign) }
         ensures pairs { IfOk result (λ _. self.new.pairs ≡ self.old.pairs) }
-        ensures lists { IfOk result (λ _. IsListedToo place lit (watch_of self.old place) self.old.lists self.new.lists) }
+        ensures lists { IfOk result (λ _. IsListedToo place lit (watch_of self.old place)
+            self.old.lists self.new.lists) }
     {
         if self.is_watched(place, lit) {
             return Ok(());

@@ -32,8 +32,8 @@ pub record IsPass (r : Asked) (p : Pass) : Type 0 where
 abbrev pub IsFewer : Bool → List Bool → List Bool → Type 0
 IsFewer dropped before now = (if dropped then 1 else 0) + marked now ≤ marked before
 
--- what trying the policy at a place does: the marks become those with what is found of it, the policies that are marked decide as all do,
--- a policy that had left doesn't come back, and what is found is so
+-- what trying the policy at a place does: the marks become those with what is found of it, the policies that are
+-- marked decide as all do, a policy that had left doesn't come back, and what is found is so
 pub record IsTried (r : Asked) (before : List Bool) (place : ℕ) (now : List Bool) (fate : Fate) : Type 0 where
   pub marks_are : now ≡ slice_set before place (stays fate)
   pub equivalent : IsEquivalent r now

@@ -22,8 +22,8 @@ use Rattle.sc_reduction.specs.declared.comparing.Finding.TheVariants.{Alike, Dif
 use Rattle.sc_reduction.specs.declared.fate.Fate.{Fate}
 use Rattle.sc_reduction.specs.declared.fate.Fate.TheVariants.{Dropped, Kept, Unproved, TooLarge}
 
--- the policies of a file, under a schema; those that `left` marks are compared with those that `right` marks, within a budget for each
--- environment
+-- the policies of a file, under a schema; those that `left` marks are compared with those that `right` marks, within
+-- a budget for each environment
 pub record Trial : Type 0 where
   pub schema : Declarations
   pub policies : List Policy

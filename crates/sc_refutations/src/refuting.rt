@@ -93,8 +93,8 @@ fn left_at(known: &Known, codes: &[u32], ends: &[usize], number: u64) -> Left
     }
 }
 
-/// Takes the literals of a clause as false, and puts their numbers after others, where there is room for all. It stops at
-/// one that is of no listed atom, or true.
+/// Takes the literals of a clause as false, and puts their numbers after others, where there is room for all. It
+/// stops at one that is of no listed atom, or true.
 #[inline(always)]
 fn write_false(known: &mut Known, codes: &mut Vec<u32>, clause: &[u32]) -> bool
     requires nothing { marked known.old.step known.old.marks.items ≡ λ _. false }
@@ -138,8 +138,8 @@ fn follow(known: &mut Known, codes: &[u32], ends: &[usize], hints: &[u64]) -> bo
     false
 }
 
-/// Puts the numbers of a learned clause after those of others, where there is room for all, and tells whether it is shown
-/// by its hints. Of one that isn't, some numbers may be put there.
+/// Puts the numbers of a learned clause after those of others, where there is room for all, and tells whether it is
+/// shown by its hints. Of one that isn't, some numbers may be put there.
 #[inline(always)]
 fn write_shown(
     known: &mut Known,
@@ -166,8 +166,8 @@ fn write_shown(
     follow(known, codes.as_slice(), ends, hints)
 }
 
-/// Puts a learned clause, given by the numbers of its literals, after the others where it is shown by its hints, and tells
-/// whether it is.
+/// Puts a learned clause, given by the numbers of its literals, after the others where it is shown by its hints, and
+/// tells whether it is.
 pub fn learn(
     known: &mut Known,
     number: u64,

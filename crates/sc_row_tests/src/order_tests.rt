@@ -48,8 +48,8 @@ const LITERALS: &[Pair] = &[
     (&[Leaf(User("b"))], &[Leaf(User("a"))], Greater),
 ];
 
-/// Two kinds, and how the absent option of the first compares with that of the second: by kinds in their order, and then by
-/// what is inside them.
+/// Two kinds, and how the absent option of the first compares with that of the second: by kinds in their order, and
+/// then by what is inside them.
 const ABSENT: &[(Kind, Kind, Ordering)] = &[
     (Kind::Bool, Kind::Long, Less),
     (Kind::String, Kind::Long, Greater),

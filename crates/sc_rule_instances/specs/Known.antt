@@ -36,7 +36,8 @@ known_by None m l = known m l
 abbrev pub known_of : Posed → Assignment → Tree → Option Bool
 known_of p m t = known_by (constant t) m (literal_in p t)
 
--- an instance is falsified: each literal is of a listed atom, isn't `true`, and is false. That none stands with its negation follows
+-- an instance is falsified: each literal is of a listed atom, isn't `true`, and is false. That none stands with its
+-- negation follows
 abbrev pub is_broken : Assignment → Clause → Bool
 is_broken m c = list_all (λ (l : Lit). is_asked l && is_false m l) c
 

@@ -1,5 +1,5 @@
--- Which rule an instance names, with the numbers that it gives: of closed terms, but for i, which is a plain number. Each is one that a log
--- can hold.
+-- Which rule an instance names, with the numbers that it gives: of closed terms, but for i, which is a plain number.
+-- Each is one that a log can hold.
 use Rattle.std.specs.Prelude.{◌≡◌, ℕ, Bool, List, [], ◌∷◌, codes, Option, Some, None, if◌then◌else◌, refl}
 use Rattle.std.specs.List.{list_all}
 use Rattle.std.specs.Str.{bytes_eq}

@@ -24,7 +24,8 @@ use Rattle.sc_rule_laws.specs.Terms.{member, above, keys, entity, choices_in}
 
 -- EN1: like places of the attributes of equal entities are alike
 abbrev pub en1_of : Tree → Tree → Said → Said
-en1_of (one (unary.Attributes k) e) (one (unary.Attributes l) f) said = under (sorts.eq k l) (unless (equal_term e f) ∷ []) said
+en1_of (one (unary.Attributes k) e) (one (unary.Attributes l) f) said =
+    under (sorts.eq k l) (unless (equal_term e f) ∷ []) said
 en1_of _ _ said = None
 
 abbrev pub en1 : Tree → Tree → ℕ → Option Tree → Said

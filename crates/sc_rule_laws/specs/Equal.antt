@@ -85,7 +85,8 @@ pub eq4_of_two : (r s : Tree) (m n : List ℕ) (k l : Sort) → one_sort r s ≡
     → eq4_of r s (Some ((m, k) ∷ (n, l) ∷ []))
     ≡ Some (so (equal_term r s) ∷ unless (field_equal r s (m, k)) ∷ unless (field_equal r s (n, l)) ∷ [])
 eq4_of_two r s m n k l e =
-    ap (λ test. given test (so (equal_term r s) ∷ unless (field_equal r s (m, k)) ∷ unless (field_equal r s (n, l)) ∷ [])) e
+    ap (λ test. given test (so (equal_term r s) ∷ unless (field_equal r s (m, k))
+    ∷ unless (field_equal r s (n, l)) ∷ [])) e
 
 pub eq7_held : (o q : Tree) → are_options o q ≡ true
     → eq7 o q 1

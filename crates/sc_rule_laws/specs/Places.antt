@@ -1,4 +1,5 @@
--- Places of a value: the fields of a record and what an option holds, step by step. Two places are like that are got by the same steps.
+-- Places of a value: the fields of a record and what an option holds, step by step. Two places are like that are got
+-- by the same steps.
 use Rattle.std.specs.Prelude.{◌≡◌, ◌++◌, ℕ, zero, nat_lt, Bool, true, false, List, [], ◌∷◌, Option, Some, None, if◌then◌else◌, refl}
 use Rattle.std.specs.Str.{bytes_eq}
 use Rattle.sc_sorts.specs.declared.sort.Sort.{Sort, Sort-F, out-Sort}
@@ -22,8 +23,8 @@ unfoldable pub roots : Tree → Tree → Tree × Tree
 roots (one o a) (one q b) = if same_step o q then roots a b else (one o a, one q b)
 roots x y = (x, y)
 
--- One half of what says that two places are alike; the other exchanges them. It is told by the sort: of what has bits each bit, by its place;
--- of sets each candidate. For the others the number is 0.
+-- One half of what says that two places are alike; the other exchanges them. It is told by the sort: of what has bits
+-- each bit, by its place; of sets each candidate. For the others the number is 0.
 abbrev pub half_by : Sort-F Sort → Tree → Tree → ℕ → Option Tree → Said
 half_by s.Bool x y zero z = Some (unless x ∷ so y ∷ [])
 half_by s.String x y zero z = Some (so (equal_term x y) ∷ [])
@@ -45,7 +46,8 @@ under _ guard _ = None
 
 -- ---- worked rows
 
-pub roots_of_fields : (n : List ℕ) (a b : Tree) → bytes_eq n n ≡ true → roots (one (unary.Field n) a) (one (unary.Field n) b) ≡ roots a b
+pub roots_of_fields : (n : List ℕ) (a b : Tree) → bytes_eq n n ≡ true
+    → roots (one (unary.Field n) a) (one (unary.Field n) b) ≡ roots a b
 unfolding roots
 roots_of_fields n a b e = λ i. if e i then roots a b else (one (unary.Field n) a, one (unary.Field n) b)
 

@@ -57,7 +57,8 @@ se8 s t (suc (suc zero)) =
     given (is_set s && is_set t) (so (equal_term s t) ∷ unless (subset s t) ∷ unless (subset t s) ∷ [])
 se8 s t _ = None
 
--- SE9: a set term is a subset just where each that stands there is a member: the one of each, and past the last the other
+-- SE9: a set term is a subset just where each that stands there is a member: the one of each, and past the last the
+-- other
 abbrev pub se9_at : Tree → Tree → List Tree → ℕ → Option Tree → Said
 se9_at s t us i (Some u) = Some (unless (subset s t) ∷ so (member u t) ∷ [])
 se9_at s t us i None = given (i == length us) (so (subset s t) ∷ map (λ u. unless (member u t)) us)
@@ -104,7 +105,8 @@ se8_of_one s = refl
 abbrev pub pair : Sort → Tree → Tree → Tree
 pair k a b = many (manys.Set k) (part [] a (part [] b no_part))
 
-pub se9_second : (a b t : Tree) (k : Sort) → se9 (pair k a b) t 1 ≡ Some (unless (subset (pair k a b) t) ∷ so (member b t) ∷ [])
+pub se9_second : (a b t : Tree) (k : Sort)
+    → se9 (pair k a b) t 1 ≡ Some (unless (subset (pair k a b) t) ∷ so (member b t) ∷ [])
 se9_second a b t k = refl
 
 pub se9_last : (a b t : Tree) (k : Sort)

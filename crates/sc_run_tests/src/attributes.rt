@@ -39,7 +39,8 @@ const FAIL_NAMED: &str = r#"
 always-denies; principal has nick && principal.nick == "x";; "nick":"x"
 "#;
 
-/// Questions that don't hold, where there are values of many kinds: the question, its conditions, and words of the counterexample.
+/// Questions that don't hold, where there are values of many kinds: the question, its conditions, and words of the
+/// counterexample.
 const FAIL_FULL: &str = r#"
 equivalent --against a; if principal has nick then principal.nick == "x" else false; false; "nick":"x"
 always-allows; principal has nick

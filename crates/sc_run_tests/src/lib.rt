@@ -1,5 +1,5 @@
-//! Tests of whole runs over files and a sink in memory, by what is asked: what is answered and what is refused. There is no code here
-//! but tests.
+//! Tests of whole runs over files and a sink in memory, by what is asked: what is answered and what is refused. There
+//! is no code here but tests.
 #![tactic(auto)]
 
 #[cfg(test)]

@@ -14,7 +14,8 @@ permit(principal, action, resource) when { context.mfa && true };"#;
 const KEPT_TWICE: &str = r#"policy0 dropped
 policy1 kept env User Action::"view" Doc {"entities":[{"attrs":{},"parents":[],"tags":{},"uid":{"id":"view","type":"Action"}},{"attrs":{},"parents":[],"tags":{},"uid":{"id":"0","type":"Doc"}},{"attrs":{},"parents":[],"tags":{},"uid":{"id":"0","type":"User"}}],"request":{"action":{"id":"view","type":"Action"},"context":{"mfa":true},"principal":{"id":"0","type":"User"},"resource":{"id":"0","type":"Doc"}}}"#;
 
-/// The first does something as long as the second stays, and the second does nothing: the first goes in the second pass.
+/// The first does something as long as the second stays, and the second does nothing: the first goes in the second
+/// pass.
 const IN_TURN: &str = "forbid(principal, action, resource);\npermit(principal, action, resource);";
 
 const BOTH_DROPPED: &str = "policy0 dropped\npolicy1 dropped";

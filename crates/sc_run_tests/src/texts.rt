@@ -19,7 +19,8 @@ fn what_holds_of_texts(rt: HostRuntime) -> Result<(), Fail> {
     all_hold(&rt, rt.alloc(), FULL, HOLD)
 }
 
-/// Questions that don't hold, where there are values of many kinds: the question, its conditions, and words of the counterexample.
+/// Questions that don't hold, where there are values of many kinds: the question, its conditions, and words of the
+/// counterexample.
 const FAIL_FULL: &str = r#"
 implies --against a; context.name like "*c"; context.name like "a*c"; c",
 always-denies; context.name == "xy";; "name":"xy",

@@ -1,4 +1,5 @@
--- What holds of each schema whose names are looked up: what it names is declared, and each declaration has a name of its own.
+-- What holds of each schema whose names are looked up: what it names is declared, and each declaration has a name of
+-- its own.
 use Rattle.std.specs.Prelude.{ℕ, List, map, Contains, ◌≡◌, false, IfSome, ⊤}
 use Rattle.std.specs.List.{AllByRecursion, flat_map, list_any, IsDistinct}
 use Rattle.std.specs.Str.{IsUtf8, bytes_eq}

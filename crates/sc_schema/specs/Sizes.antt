@@ -41,7 +41,8 @@ parts_of _ = []
 abbrev pub parts : Ty → List Ty
 parts u = parts_of (out-Ty u)
 
--- a type stands in another at this level: in itself at level 1, and one level below each type that it stands in directly
+-- a type stands in another at this level: in itself at level 1, and one level below each type that it stands in
+-- directly
 pub data StandsAt (whole : Ty) : ℕ → Ty → Type 0 where
   whole_type : StandsAt whole 1 whole
   part : (n : ℕ) (u v : Ty) → StandsAt whole n u → Contains (parts u) v → StandsAt whole (n + 1) v

@@ -10,8 +10,8 @@ use sc_lists::{Seq, Shared, Text};
 use std::alloc::{AllocError, Global};
 use std::marker::Model;
 
-/// Named fields in their order, which contracts see as their list. Copies share them. A name is looked up by halves where
-/// the names ascend, each once.
+/// Named fields in their order, which contracts see as their list. Copies share them. A name is looked up by halves
+/// where the names ascend, each once.
 #[derive(Drop)]
 pub struct Fields<P, T> {
     list: Shared<Seq<(Text, P, T)>>,

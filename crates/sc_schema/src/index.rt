@@ -108,7 +108,8 @@ fn put_types(alloc: Global, names: &mut Seq<Name>, uids: &[Uid]) -> Result<(), A
 /// The uids after those at the front that are of the type of the one before them.
 fn after_run<'a>(uid: &Uid, later: &'a [Uid]) -> &'a [Uid]
     requires { IsStrictlySortedBy uid_cmp (uid.now ∷ later.now) }
-    ensures { result.now ≡ drop (prefix_len (λ (u : AnyUid). bytes_eq uid.now.type_name u.type_name) later.now) later.now }
+    ensures { result.now ≡ drop (prefix_len (λ (u : AnyUid). bytes_eq uid.now.type_name u.type_name) later.now)
+        later.now }
 {
     let run = later.partition_point(|other| uid.type_name.as_str() == other.type_name.as_str());
     &later[run..]

@@ -9,8 +9,9 @@ use Rattle.sc_schema_syntax.specs.declared.level.Level.TheVariants.{Schema}
 use Rattle.sc_schema_syntax.specs.Forms.{admits_truth, admits_text, item_form, level_of, is_name, is_whole, member_form}
 
 mutual
-  -- a value, with all that is inside of it, is of this form: a truth value or a text that it admits, a list whose items are
-  -- of the form that items have there, or an object that lacks no member and whose members are as they may be there
+  -- a value, with all that is inside of it, is of this form: a truth value or a text that it admits, a list whose
+  -- items are of the form that items have there, or an object that lacks no member and whose members are as they may
+  -- be there
   pub data IsOf : Form → Data → Type 0 where
     of_truth : (form : Form) (truth : Bool) → admits_truth form truth ≡ true → IsOf form (boolean truth)
     of_text : (form : Form) (text : List ℕ) → admits_text form text ≡ true → IsOf form (string text)

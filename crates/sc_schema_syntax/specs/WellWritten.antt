@@ -1,5 +1,5 @@
--- What holds of each schema that a file spells: the names of the members of an object ascend by their bytes, each once, and
--- each is one that a member there may have.
+-- What holds of each schema that a file spells: the names of the members of an object ascend by their bytes, each
+-- once, and each is one that a member there may have.
 use Rattle.std.specs.Prelude.{◌≡◌, ℕ, List, map, true, IfSome, ⊤}
 use Rattle.std.specs.List.{AllByRecursion}
 use Rattle.std.specs.List.Sorted.{IsStrictlySortedBy}

@@ -115,7 +115,8 @@ module _ (rule : List ℕ) where
       named rule String r (codes "ST2") refl (St2 v ns) _ e (λ e.
       named rule String r (codes "ST3") refl (St3 v ns) None e (λ f. absurd cc))
 
-  numbered_letters : (r : StringRule) (v : Signs) (ns : List ℕ) (b : Bool) → (if b then counted_named rule v ns else None) ≡ Some r
+  numbered_letters : (r : StringRule) (v : Signs) (ns : List ℕ) (b : Bool)
+      → (if b then counted_named rule v ns else None) ≡ Some r
       → family rule ≡ String
   numbered_letters r v ns true e = counted_letters r v ns e
   numbered_letters r v ns false e = absurd cc
@@ -132,11 +133,13 @@ module _ (p : Posed) (i : Instance) where
   unfolding is_instance
   equal_family h = by (equal_rule i) refl h
     where
-      of_words : (r : EqualRule) (b : Bool) → list_all is_word i.words ≡ b → equal_rule i ≡ Some r → family i.rule ≡ Equal
+      of_words : (r : EqualRule) (b : Bool) → list_all is_word i.words ≡ b → equal_rule i ≡ Some r
+          → family i.rule ≡ Equal
       of_words r true same e = equal_letters i.rule r i.words (rw same at e)
       of_words r false same e = let none = rw same at e in absurd cc
 
-      by : (o : Option EqualRule) → equal_rule i ≡ o → IsTrue (is_instance p (said_by (equal_said p) o)) → family i.rule ≡ Equal
+      by : (o : Option EqualRule) → equal_rule i ≡ o → IsTrue (is_instance p (said_by (equal_said p) o))
+          → family i.rule ≡ Equal
       by (Some r) e h = of_words r (list_all is_word i.words) refl e
       by None e h = absurd cc
 
@@ -156,21 +159,25 @@ module _ (p : Posed) (i : Instance) where
   unfolding is_instance
   entity_family h = by (entity_rule i) refl h
     where
-      of_words : (r : EntityRule) (b : Bool) → list_all is_word i.words ≡ b → entity_rule i ≡ Some r → family i.rule ≡ Entity
+      of_words : (r : EntityRule) (b : Bool) → list_all is_word i.words ≡ b → entity_rule i ≡ Some r
+          → family i.rule ≡ Entity
       of_words r true same e = entity_letters i.rule r i.words (rw same at e)
       of_words r false same e = let none = rw same at e in absurd cc
 
-      by : (o : Option EntityRule) → entity_rule i ≡ o → IsTrue (is_instance p (said_by (entity_said p) o)) → family i.rule ≡ Entity
+      by : (o : Option EntityRule) → entity_rule i ≡ o → IsTrue (is_instance p (said_by (entity_said p) o))
+          → family i.rule ≡ Entity
       by (Some r) e h = of_words r (list_all is_word i.words) refl e
       by None e h = absurd cc
 
   pub string_family : HasString p i → family i.rule ≡ String
   string_family h = by (string_rule i) refl h
     where
-      of_words : (r : StringRule) (b : Bool) → (if b then string_named i.rule i.words else None) ≡ Some r → family i.rule ≡ String
+      of_words : (r : StringRule) (b : Bool) → (if b then string_named i.rule i.words else None) ≡ Some r
+          → family i.rule ≡ String
       of_words r true e = string_letters i.rule r i.words e
       of_words r false e = absurd cc
 
-      by : (o : Option StringRule) → string_rule i ≡ o → IsSomeAnd o (IsInstanceOf p (patterns p)) → family i.rule ≡ String
+      by : (o : Option StringRule) → string_rule i ≡ o → IsSomeAnd o (IsInstanceOf p (patterns p))
+          → family i.rule ≡ String
       by (Some r) e h = of_words r (list_all is_word i.words) e
       by None e h = absurd h

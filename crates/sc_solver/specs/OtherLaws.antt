@@ -20,7 +20,8 @@ use Rattle.sc_solver.specs.Theories.{has_other, clause_of, HasOtherRule, rule_cl
 use Rattle.sc_solver.specs.FamilyLaws.{equal_family, set_family, entity_family, string_family}
 
 module _ (p : Posed) (i : Instance) where
-  pub other_sound : (w : World) → TermsHold → IsPosed p → HasOtherRule p i → IsWorldOf p w → IsTrueIn p w (rule_clause p i)
+  pub other_sound : (w : World) → TermsHold → IsPosed p → HasOtherRule p i → IsWorldOf p w
+      → IsTrueIn p w (rule_clause p i)
   unfolding has_other clause_of
   other_sound w terms posed h formed = by (family i.rule) h
     where
@@ -60,19 +61,23 @@ module _ (p : Posed) (i : Instance) where
 
   pub of_equal : family i.rule ≡ Equal → (HasEqual p i ↔ HasOtherRule p i) × (equal_clause p i ≡ rule_clause p i)
   unfolding has_other clause_of
-  of_equal e = subst (λ (f : Family). (HasEqual p i ↔ has_other f p i) × (equal_clause p i ≡ clause_of f p i)) (sym e) (((λ h. h), (λ h. h)), refl)
+  of_equal e = subst (λ (f : Family). (HasEqual p i ↔ has_other f p i) × (equal_clause p i ≡ clause_of f p i)) (sym e)
+      (((λ h. h), (λ h. h)), refl)
 
   pub of_set : family i.rule ≡ Set → (HasSet p i ↔ HasOtherRule p i) × (set_clause p i ≡ rule_clause p i)
   unfolding has_other clause_of
-  of_set e = subst (λ (f : Family). (HasSet p i ↔ has_other f p i) × (set_clause p i ≡ clause_of f p i)) (sym e) (((λ h. h), (λ h. h)), refl)
+  of_set e = subst (λ (f : Family). (HasSet p i ↔ has_other f p i) × (set_clause p i ≡ clause_of f p i)) (sym e)
+      (((λ h. h), (λ h. h)), refl)
 
   pub of_entity : family i.rule ≡ Entity → (HasEntity p i ↔ HasOtherRule p i) × (entity_clause p i ≡ rule_clause p i)
   unfolding has_other clause_of
-  of_entity e = subst (λ (f : Family). (HasEntity p i ↔ has_other f p i) × (entity_clause p i ≡ clause_of f p i)) (sym e) (((λ h. h), (λ h. h)), refl)
+  of_entity e = subst (λ (f : Family). (HasEntity p i ↔ has_other f p i) × (entity_clause p i ≡ clause_of f p i))
+      (sym e) (((λ h. h), (λ h. h)), refl)
 
   pub of_string : family i.rule ≡ String → (HasString p i ↔ HasOtherRule p i) × (string_clause p i ≡ rule_clause p i)
   unfolding has_other clause_of
-  of_string e = subst (λ (f : Family). (HasString p i ↔ has_other f p i) × (string_clause p i ≡ clause_of f p i)) (sym e) (((λ h. h), (λ h. h)), refl)
+  of_string e = subst (λ (f : Family). (HasString p i ↔ has_other f p i) × (string_clause p i ≡ clause_of f p i))
+      (sym e) (((λ h. h), (λ h. h)), refl)
 
   pub no_definition : family i.rule ≡ Definition → HasOtherRule p i → ⊥
   unfolding has_other
@@ -85,21 +90,28 @@ module _ (p : Posed) (i : Instance) where
   -- ---- instances that are found
 
   module _ (m : Assignment) where
-    pub equal_out : HasEqual p i → falsifies m (equal_clause p i) ≡ true → HasOtherRule p i × (falsifies m (rule_clause p i) ≡ true)
+    pub equal_out : HasEqual p i → falsifies m (equal_clause p i) ≡ true → HasOtherRule p i
+        × (falsifies m (rule_clause p i) ≡ true)
     equal_out h e = let of = of_equal (equal_family p i h) in (of.0.0 h, ap (falsifies m) (sym of.1) ∙ e)
 
-    pub set_out : HasSet p i → falsifies m (set_clause p i) ≡ true → HasOtherRule p i × (falsifies m (rule_clause p i) ≡ true)
+    pub set_out : HasSet p i → falsifies m (set_clause p i) ≡ true → HasOtherRule p i
+        × (falsifies m (rule_clause p i) ≡ true)
     set_out h e = let of = of_set (set_family p i h) in (of.0.0 h, ap (falsifies m) (sym of.1) ∙ e)
 
-    pub entity_out : HasEntity p i → falsifies m (entity_clause p i) ≡ true → HasOtherRule p i × (falsifies m (rule_clause p i) ≡ true)
+    pub entity_out : HasEntity p i → falsifies m (entity_clause p i) ≡ true → HasOtherRule p i
+        × (falsifies m (rule_clause p i) ≡ true)
     entity_out h e = let of = of_entity (entity_family p i h) in (of.0.0 h, ap (falsifies m) (sym of.1) ∙ e)
 
-    pub string_out : HasString p i → falsifies m (string_clause p i) ≡ true → HasOtherRule p i × (falsifies m (rule_clause p i) ≡ true)
+    pub string_out : HasString p i → falsifies m (string_clause p i) ≡ true → HasOtherRule p i
+        × (falsifies m (rule_clause p i) ≡ true)
     string_out h e = let of = of_string (string_family p i h) in (of.0.0 h, ap (falsifies m) (sym of.1) ∙ e)
 
     -- where no theory has one that is falsified, there is none
-    pub none_out : (HasEqual p i → falsifies m (equal_clause p i) ≡ false) → (HasSet p i → falsifies m (set_clause p i) ≡ false)
-        → (HasEntity p i → falsifies m (entity_clause p i) ≡ false) → (HasString p i → falsifies m (string_clause p i) ≡ false) → HasOtherRule p i → falsifies m (rule_clause p i) ≡ false
+    pub none_out : (HasEqual p i → falsifies m (equal_clause p i) ≡ false)
+        → (HasSet p i → falsifies m (set_clause p i) ≡ false)
+        → (HasEntity p i → falsifies m (entity_clause p i) ≡ false)
+        → (HasString p i → falsifies m (string_clause p i) ≡ false) → HasOtherRule p i
+        → falsifies m (rule_clause p i) ≡ false
     unfolding has_other clause_of
     none_out equal set entity string h = by (family i.rule) h
       where

@@ -22,4 +22,5 @@ AreTruthsOf p w m = (n : ℕ) → 1 ≤ n → n ≤ length (atoms p) → value_o
 
 -- those of a well-formed world in which the goal is true are consistent
 abbrev pub TruthsAreConsistent : Type 0
-TruthsAreConsistent = (p : Posed) (w : World) (m : Assignment) → IsPosed p → Satisfies p w → AreTruthsOf p w m → IsConsistent p m
+TruthsAreConsistent = (p : Posed) (w : World) (m : Assignment) → IsPosed p → Satisfies p w → AreTruthsOf p w m
+    → IsConsistent p m

@@ -36,9 +36,11 @@ module _ (p : Posed) (i : Instance) where
       by String e h = other (subst (λ (g : Family). has_other g p i) (sym e) h)
       by Other e h = absurd h
 
-  pub definition_is : family i.rule ≡ Definition → (IsTrue (is_definition p i) ↔ HasRule p i) × (definition_clause p i ≡ rule_clause p i)
+  pub definition_is : family i.rule ≡ Definition → (IsTrue (is_definition p i) ↔ HasRule p i)
+      × (definition_clause p i ≡ rule_clause p i)
   unfolding has_of clause_of
-  definition_is e = subst (λ (f : Family). (IsTrue (is_definition p i) ↔ has_of f p i) × (definition_clause p i ≡ clause_of f p i)) (sym e) (((λ h. h), (λ h. h)), refl)
+  definition_is e = subst (λ (f : Family). (IsTrue (is_definition p i) ↔ has_of f p i)
+      × (definition_clause p i ≡ clause_of f p i)) (sym e) (((λ h. h), (λ h. h)), refl)
 
   -- each other is one of a rule
   pub other_is : HasOtherRule p i → HasRule p i
@@ -59,27 +61,35 @@ module _ (p : Posed) (i : Instance) where
 
   pub definition_family : IsTrue (is_definition p i) → family i.rule ≡ Definition
   unfolding family
-  definition_family h = ap family (bytes_eq_true i.rule [] (and_parts (bytes_eq i.rule []) (is_before_last (defining p) (number_in i.words)) h).0)
+  definition_family h = ap family
+      (bytes_eq_true i.rule [] (and_parts (bytes_eq i.rule []) (is_before_last (defining p) (number_in i.words)) h).0)
 
   pub rule_sound : (w : World) → TermsHold → IsPosed p → HasRule p i → IsWorldOf p w → IsTrueIn p w (rule_clause p i)
   rule_sound w terms posed h formed =
-      one_of (IsTrueIn p w (rule_clause p i)) (λ is e. subst (IsTrueIn p w) (definition_is e).1 (instance_sound p i w terms posed is formed))
+      one_of (IsTrueIn p w (rule_clause p i))
+      (λ is e. subst (IsTrueIn p w) (definition_is e).1 (instance_sound p i w terms posed is formed))
       (λ is. other_sound p i w terms posed is formed) h
 
   pub rule_lawful : TermsHold → IsPosed p → HasRule p i → IsClauseOf p (rule_clause p i)
   rule_lawful terms posed h =
-      one_of (IsClauseOf p (rule_clause p i)) (λ is e. subst (IsClauseOf p) (definition_is e).1 (instance_lawful p i terms posed is)) (λ is. other_lawful p i terms posed is) h
+      one_of (IsClauseOf p (rule_clause p i))
+      (λ is e. subst (IsClauseOf p) (definition_is e).1 (instance_lawful p i terms posed is))
+      (λ is. other_lawful p i terms posed is) h
 
   pub rule_written : IsPosed p → HasRule p i → bytes_eq i.rule [] ≡ false → is_writable i ≡ true
-  rule_written posed h word = one_of (is_writable i ≡ true) (λ is e. instance_written p i posed is word) (λ is. other_written p i posed is word) h
+  rule_written posed h word = one_of (is_writable i ≡ true) (λ is e. instance_written p i posed is word)
+      (λ is. other_written p i posed is word) h
 
   -- ---- instances that are found
 
   module _ (m : Assignment) where
-    pub definition_out : IsTrue (is_definition p i) → falsifies m (definition_clause p i) ≡ true → HasRule p i × (falsifies m (rule_clause p i) ≡ true)
+    pub definition_out : IsTrue (is_definition p i) → falsifies m (definition_clause p i) ≡ true → HasRule p i
+        × (falsifies m (rule_clause p i) ≡ true)
     definition_out h e = let is = definition_is (definition_family h) in (is.0.0 h, ap (falsifies m) (sym is.1) ∙ e)
 
     pub none_falsified : (IsTrue (is_definition p i) → falsifies m (definition_clause p i) ≡ false)
-        → (HasOtherRule p i → falsifies m (rule_clause p i) ≡ false) → HasRule p i → falsifies m (rule_clause p i) ≡ false
+        → (HasOtherRule p i → falsifies m (rule_clause p i) ≡ false) → HasRule p i
+        → falsifies m (rule_clause p i) ≡ false
     none_falsified definition other h =
-        one_of (falsifies m (rule_clause p i) ≡ false) (λ is e. ap (falsifies m) (sym (definition_is e).1) ∙ definition is) other h
+        one_of (falsifies m (rule_clause p i) ≡ false)
+        (λ is e. ap (falsifies m) (sym (definition_is e).1) ∙ definition is) other h

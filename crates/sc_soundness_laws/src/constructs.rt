@@ -22,7 +22,8 @@ ghost use Rattle.sc_soundness_laws.specs.Sound.{SoundAs, Sounds};
 pub fn logic_laws()
     ensures choice { (w : AnyWorld) (place : AnyPlace) (c a b : Operand) → Sounds w c → Sounds w a → Sounds w b
         → (known : Capabilities) →
-        IfOk (choice place c a b known) (SoundAs w known (evaluated.choice (eval c.expr) (eval a.expr) (eval b.expr) w)) }
+        IfOk (choice place c a b known)
+        (SoundAs w known (evaluated.choice (eval c.expr) (eval a.expr) (eval b.expr) w)) }
     ensures either { (w : AnyWorld) (place : AnyPlace) (a b : Operand) → Sounds w a → Sounds w b
         → (known : Capabilities) →
         IfOk (either place a b known) (SoundAs w known (evaluated.either (eval a.expr) (eval b.expr) w)) }
@@ -40,7 +41,8 @@ pub fn operator_laws()
     ensures two { (w : AnyWorld) (s : Declarations) (env : AnyEnv) (literals : List AnyUid) → IsLawful s
         → IsWellFormed s env literals w →
         (place : AnyPlace) (operator : AnyBinary) (a b : Operand) → Sounds w a → Sounds w b → (known : Capabilities) →
-        IfOk (operated s place operator a b known) (SoundAs w known (evaluated.operated operator (eval a.expr) (eval b.expr) w)) }
+        IfOk (operated s place operator a b known)
+        (SoundAs w known (evaluated.operated operator (eval a.expr) (eval b.expr) w)) }
 {}
 
 /// `like`, `is` and `is T in`.
@@ -56,7 +58,8 @@ pub fn test_laws()
         → IsWellFormed s env literals w →
         (place : AnyPlace) (name : AnyTypeName) (in_place : AnyPlace) (a b : Operand) → Sounds w a → Sounds w b
         → (known : Capabilities) →
-        IfOk (tested_in s place name in_place a b known) (SoundAs w known (evaluated.typed_in name.name (eval a.expr) (eval b.expr) w)) }
+        IfOk (tested_in s place name in_place a b known)
+        (SoundAs w known (evaluated.typed_in name.name (eval a.expr) (eval b.expr) w)) }
 {}
 
 /// `has` and `.`: an attribute is read only where it is there.

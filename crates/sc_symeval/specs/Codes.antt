@@ -1,5 +1,5 @@
--- What an expression with types is compiled to in an environment of a schema: a term that is true where the expression doesn't
--- err, and one that is its value there.
+-- What an expression with types is compiled to in an environment of a schema: a term that is true where the
+-- expression doesn't err, and one that is its value there.
 use Rattle.std.specs.Prelude.{ℕ, List, map, Bool, true, false, if◌then◌else◌, Option, Some, None, option_map}
 use Rattle.std.specs.Option.{option_and_then}
 use Rattle.std.specs.Str.{bytes_eq}

@@ -1,5 +1,5 @@
--- The row of the table of definitions that a node has, told from the numbers of its parts, and from the node or the sort of its first
--- part. No public promise speaks of it.
+-- The row of the table of definitions that a node has, told from the numbers of its parts, and from the node or the
+-- sort of its first part. No public promise speaks of it.
 use Rattle.std.specs.Prelude.{◌-◌, ◌==◌, ℕ, Bool, true, false, if◌then◌else◌}
 use Rattle.sc_sorts.specs.declared.sort.Sort.{Sort, Sort-F, out-Sort}
 use Rattle.sc_sorts.specs.declared.sort.Sort.TheOpen as s

@@ -369,7 +369,8 @@ fn put_low(
     requires a_place { HasBit terms.old a place }
     requires b_place { HasBit terms.old b place }
     ensures ok { OnOk result (Puts terms.old terms.new numbers.old.items numbers.new.items (bit_term (tree terms.old a)
-        place ∷ bit_term (tree terms.old b) place ∷ two (binary.Low place) (tree terms.old a) (tree terms.old b) ∷ [])) }
+        place ∷ bit_term (tree terms.old b) place
+        ∷ two (binary.Low place) (tree terms.old a) (tree terms.old b) ∷ [])) }
     ensures kept { Keeps terms.old terms.new }
 {
     let first = bit(terms, a, place)?;

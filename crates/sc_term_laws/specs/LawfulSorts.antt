@@ -24,8 +24,8 @@ IsNamed f = IsUtf8 f.0
 abbrev pub IsDeclared : Declarations → List ℕ → Type 0
 IsDeclared d name = IsEntityType d name ⊎ IsTrue (is_action_type d name)
 
--- but for the sorts inside it: an entity sort is of a declared type and lists its choices, and no option is held by a set or
--- by an option
+-- but for the sorts inside it: an entity sort is of a declared type and lists its choices, and no option is held by a
+-- set or by an option
 abbrev pub IsSortLevel : Declarations → Sort-F Sort → Type 0
 IsSortLevel d s.Bool = ⊤
 IsSortLevel d s.Long = ⊤

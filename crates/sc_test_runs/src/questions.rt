@@ -1,5 +1,5 @@
-//! Questions of policies under conditions. A counterexample is replayed: the world has to be well-formed, and what is asked
-//! has to fail there.
+//! Questions of policies under conditions. A counterexample is replayed: the world has to be well-formed, and what is
+//! asked has to fail there.
 use crate::runs::{ends, text_in, written};
 use crate::samples::{HOLDS, REPLAYS};
 use std::alloc::{AllocError, Global};

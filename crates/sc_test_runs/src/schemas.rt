@@ -4,8 +4,8 @@
 pub const TRUTH: &str =
     r#"{"":{"entityTypes":{"User":{},"Doc":{}},"actions":{"view":{"appliesTo":{"principalTypes":["User"],"resourceTypes":["Doc"],"context":{"type":"Record","attributes":{"mfa":{"type":"Boolean"}}}}}}}}"#;
 
-/// Groups may be in groups; users may be in groups, and have a boss, an age and perhaps a nickname; documents have an owner. The
-/// context has a number, two sets of truth values, a set of numbers, a text and an address.
+/// Groups may be in groups; users may be in groups, and have a boss, an age and perhaps a nickname; documents have an
+/// owner. The context has a number, two sets of truth values, a set of numbers, a text and an address.
 pub const FULL: &str =
     r#"{"":{"entityTypes":{"Group":{"memberOfTypes":["Group"]},"User":{"memberOfTypes":["Group"],"shape":{"type":"Record","attributes":{"boss":{"type":"Entity","name":"User"},"age":{"type":"Long"},"nick":{"type":"String","required":false}}}},"Doc":{"shape":{"type":"Record","attributes":{"owner":{"type":"Entity","name":"User"}}}}},"actions":{"view":{"appliesTo":{"principalTypes":["User"],"resourceTypes":["Doc"],"context":{"type":"Record","attributes":{"n":{"type":"Long"},"s":{"type":"Set","element":{"type":"Boolean"}},"t":{"type":"Set","element":{"type":"Boolean"}},"q":{"type":"Set","element":{"type":"Long"}},"name":{"type":"String"},"addr":{"type":"Extension","name":"ipaddr"}}}}}}}}"#;
 

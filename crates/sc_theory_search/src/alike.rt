@@ -1,5 +1,5 @@
-//! Instances of EN1 and EN3: like places of the attributes of entities that are known to be equal, and of their tags under
-//! keys that are, where what is known of one of them tells something of the other.
+//! Instances of EN1 and EN3: like places of the attributes of entities that are known to be equal, and of their tags
+//! under keys that are, where what is known of one of them tells something of the other.
 
 ghost use Rattle.std.specs.Prelude.{◌<◌, length};
 
@@ -383,8 +383,8 @@ fn tell_of_places(problem: &Problem<'_>, lits: &[Lit]) -> bool {
     false
 }
 
-/// Puts the instances of like places that may give something, where these are all literals that are known, and the last ones
-/// of them new.
+/// Puts the instances of like places that may give something, where these are all literals that are known, and the
+/// last ones of them new.
 pub(crate) fn put_alike(
     alloc: Global,
     problem: &Problem<'_>,

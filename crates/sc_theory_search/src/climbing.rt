@@ -76,8 +76,8 @@ impl Memberships {
     }
 }
 
-/// Puts the entities that one is known to be in among those that were met, each with the place of the membership that tells
-/// it. The memberships stand in the order of their entities.
+/// Puts the entities that one is known to be in among those that were met, each with the place of the membership that
+/// tells it. The memberships stand in the order of their entities.
 fn step_up(
     held: &[Membership],
     entity: u64,
@@ -126,8 +126,8 @@ fn last_step(held: &[Membership], met: &IndexMap<u64, usize>, entity: u64) -> Op
     }
 }
 
-/// Puts the instances by which an entity is in another one, which was met above it, the last one first: each gives that the
-/// entity is in the next one on the way.
+/// Puts the instances by which an entity is in another one, which was met above it, the last one first: each gives
+/// that the entity is in the next one on the way.
 fn put_way(
     alloc: Global,
     held: &[Membership],
@@ -171,8 +171,8 @@ fn put_refuting(
     Ok(())
 }
 
-/// Puts the instances that lead up from an entity to one that it's known not to be in, where these are all literals that are
-/// known, and the last ones of them new.
+/// Puts the instances that lead up from an entity to one that it's known not to be in, where these are all literals
+/// that are known, and the last ones of them new.
 pub(crate) fn put_climbs(
     alloc: Global,
     problem: &Problem<'_>,

@@ -45,8 +45,8 @@ fn root_of(problem: &Problem<'_>, term: u64) -> Option<u64>
     }
 }
 
-/// Whether an atom tells something of a place: it is one, or asks it for a bit or a member, whether it holds a value, or
-/// whether it equals something.
+/// Whether an atom tells something of a place: it is one, or asks it for a bit or a member, whether it holds a value,
+/// or whether it equals something.
 pub(crate) fn is_at_place(problem: &Problem<'_>, atom: u64) -> bool {
     let Some(term) = problem.atom(atom) else {
         return false;

@@ -8,8 +8,8 @@ use sc_footprint::Problem;
 use sc_rule_instances::{EqualRule, write_equal};
 use std::alloc::{AllocError, Global};
 
-/// The instance by which two terms are equal or not, since the first equals a third. Of terms that are equal one has to be a
-/// constant, since there may be very many pairs of others.
+/// The instance by which two terms are equal or not, since the first equals a third. Of terms that are equal one has
+/// to be a constant, since there may be very many pairs of others.
 fn rule_at(problem: &Problem<'_>, known: &Known, one: u64, other: u64) -> Option<EqualRule> {
     let third = known.partner(one);
     if third == 0 || third == other {
@@ -56,8 +56,8 @@ fn put_equal(
     Ok(())
 }
 
-/// Instances that may give a literal where these are all that are known: by the equations, the memberships and the places of
-/// which they tell, if one is told after the first `seen` of them.
+/// Instances that may give a literal where these are all that are known: by the equations, the memberships and the
+/// places of which they tell, if one is told after the first `seen` of them.
 pub fn suggested(
     alloc: Global,
     problem: &Problem<'_>,

@@ -1,5 +1,5 @@
--- The type of an expression under capabilities, and the capabilities that it gives where it is true, by the rules of its
--- constructs.
+-- The type of an expression under capabilities, and the capabilities that it gives where it is true, by the rules of
+-- its constructs.
 use Rattle.std.specs.Prelude.{[]}
 use Rattle.sc_ast.specs.declared.expr.Expr.{Expr, Expr-F, roll-Expr, map-Expr, fold-Expr}
 use Rattle.sc_ast.specs.declared.expr.Expr.TheOpen as e

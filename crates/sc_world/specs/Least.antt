@@ -1,5 +1,5 @@
--- What a world isn't well-formed for, but for its request: the stored entities that aren't as they have to be, and those that
--- have to be stored and aren't; and the least of either.
+-- What a world isn't well-formed for, but for its request: the stored entities that aren't as they have to be, and
+-- those that have to be stored and aren't; and the least of either.
 use Rattle.std.specs.Prelude.{◌≡◌, ◌≢◌, List, ◌++◌, flat_map, None, Contains}
 use Rattle.std.specs.declared.cmp.Ordering.TheVariants.{Greater}
 use Rattle.sc_names.specs.declared.uid.Uid.{Uid}

@@ -1,4 +1,5 @@
--- For private clauses: the parts of a well-formed world as they are tested, and the least of some uids that isn't stored.
+-- For private clauses: the parts of a well-formed world as they are tested, and the least of some uids that isn't
+-- stored.
 use Rattle.std.specs.Prelude.{◌≡◌, ℕ, List, [], ◌∷◌, Option, Some, None, is_some, if◌then◌else◌, Contains, IsTrue, IfSome}
 use Rattle.std.specs.List.{AllByRecursion}
 use Rattle.std.specs.Ordering.{match_ordering}

@@ -1,5 +1,5 @@
--- The memberships that an assignment says are true, by the numbers of closed terms; 0 is the number of none. No public promise speaks of
--- it.
+-- The memberships that an assignment says are true, by the numbers of closed terms; 0 is the number of none. No
+-- public promise speaks of it.
 use Rattle.std.specs.Prelude.{◌≡◌, ◌++◌, ◌<◌, ⊤, ℕ, Bool, true, false, List, [], ◌∷◌, length, Option, Some, None, if◌then◌else◌}
 use Rattle.std.specs.List.{AllByRecursion}
 use Rattle.sc_lists.specs.Members.{Has}

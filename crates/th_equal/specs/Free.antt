@@ -1,5 +1,6 @@
--- Instances that closed terms name, and that none of them is falsified. Those of EQ2 and EQ8 are named by the term that they speak of, those of
--- EQ3 to EQ7 by the equation of their two terms, which is closed where one of them is falsified.
+-- Instances that closed terms name, and that none of them is falsified. Those of EQ2 and EQ8 are named by the term
+-- that they speak of, those of EQ3 to EQ7 by the equation of their two terms, which is closed where one of them is
+-- falsified.
 use Rattle.std.specs.Prelude.{◌≡◌, ◌+◌, ◌<◌, ℕ, false, Option, Some}
 use Rattle.sc_clauses.specs.Assignments.{Assignment}
 use Rattle.sc_sorts.specs.declared.node.BinaryOp.TheVariants.{Equal}

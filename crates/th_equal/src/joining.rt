@@ -91,7 +91,8 @@ fn join_pair(named: &Named<'_, '_>, parents: &mut Vec<usize>, one: usize, other:
     requires sized { length parents.old.items ≡ length named.now.problem.now.nodes }
     requires parents { AreParents parents.old.items }
     ensures coarser { IsCoarser parents.old.items parents.new.items }
-    ensures joined { IsPairJoined named.now.problem.now named.now.m.now named.now.numbers.items one other parents.new.items }
+    ensures joined { IsPairJoined named.now.problem.now named.now.m.now named.now.numbers.items one other
+        parents.new.items }
 {
     if !is_so(named.equal(one, other)) {
         return;

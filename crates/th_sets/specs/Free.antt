@@ -1,6 +1,6 @@
 -- Instances of SE2 to SE10 that closed terms name, and that none of them is falsified. Those of SE2 and SE3 are named
--- by a membership, of SE5, SE8 and SE9 by an inclusion, of SE6 and SE10 by a common member, of SE4 by a membership and an
--- inclusion, of SE7 by a membership and a common member.
+-- by a membership, of SE5, SE8 and SE9 by an inclusion, of SE6 and SE10 by a common member, of SE4 by a membership
+-- and an inclusion, of SE7 by a membership and a common member.
 use Rattle.std.specs.Prelude.{◌≡◌, ◌<◌, ⊤, ℕ, false, List, [], ◌∷◌, length, Option, Some}
 use Rattle.std.specs.List.{AllByRecursion}
 use Rattle.sc_clauses.specs.Assignments.{Assignment}

@@ -1,5 +1,5 @@
--- What a closed term names: a membership, an inclusion, or that two sets have a member in common. The parts have the numbers of closed
--- terms; 0 is the number of none. No public promise speaks of it.
+-- What a closed term names: a membership, an inclusion, or that two sets have a member in common. The parts have the
+-- numbers of closed terms; 0 is the number of none. No public promise speaks of it.
 use Rattle.std.specs.Prelude.{◌≡◌, ◌+◌, ◌++◌, ◌<◌, ⊤, ℕ, Bool, true, false, List, [], ◌∷◌, Option, Some, None}
 use Rattle.sc_lists.specs.Members.{Has}
 use Rattle.sc_sorts.specs.declared.node.BinaryOp.TheVariants as binary

@@ -163,9 +163,9 @@ module _ (p : Posed) where
   abbrev pub standing_row : ℕ → ℕ → Places → ℕ → ℕ → Lit
   standing_row x s parts index place = of_two (negation (equal_at p x parts index)) (member_lit x s) place
 
-  -- The literals of SE9 and SE10, by those that stand in a set term: a literal is so just where each of them is a member
-  -- of a set, or, where the sign is false, isn't so just where none is. Of one of them by its place, and past the last of
-  -- all.
+  -- The literals of SE9 and SE10, by those that stand in a set term: a literal is so just where each of them is a
+  -- member of a set, or, where the sign is false, isn't so just where none is. Of one of them by its place, and past
+  -- the last of all.
   abbrev pub told_one : Bool → Lit → ℕ → Places → ℕ → ℕ → Lit
   told_one sign told q parts index place = of_two (signed (not sign) told) (member_at p sign q parts index) place
 
@@ -215,10 +215,12 @@ module _ (p : Posed) where
   row_literal (Se1 x y s) place = of_three (negation (equal_lit x y)) (negation (member_lit x s)) (member_lit y s) place
   row_literal (Se2 x s) place = literal_of p (se2 (tree p.nodes x) (tree p.nodes s)) place
   row_literal (Se3 x s i) place = literal_of p (se3 (tree p.nodes x) (tree p.nodes s) i) place
-  row_literal (Se4 s t x) place = of_three (negation (subset_lit s t)) (negation (member_lit x s)) (member_lit x t) place
+  row_literal (Se4 s t x) place =
+      of_three (negation (subset_lit s t)) (negation (member_lit x s)) (member_lit x t) place
   row_literal (Se5 s t i) place = missing_row s t i place
   row_literal (Se6 s t i) place = shared_row s t i place
-  row_literal (Se7 s t x) place = of_three (negation (member_lit x s)) (negation (member_lit x t)) (common_lit s t) place
+  row_literal (Se7 s t x) place =
+      of_three (negation (member_lit x s)) (negation (member_lit x t)) (common_lit s t) place
   row_literal (Se8 s t i) place = equal_row s t i place
   row_literal (Se9 s t i) place = literal_of p (se9 (tree p.nodes s) (tree p.nodes t) i) place
   row_literal (Se10 s t i) place = literal_of p (se10 (tree p.nodes s) (tree p.nodes t) i) place

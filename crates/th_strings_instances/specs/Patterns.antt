@@ -1,5 +1,5 @@
--- The patterns of a problem: those that its closed terms ask, each once, in the order of terms. Of a text a closed term asks all of them, so
--- they are in order.
+-- The patterns of a problem: those that its closed terms ask, each once, in the order of terms. Of a text a closed
+-- term asks all of them, so they are in order.
 use Rattle.std.specs.Prelude.{List, [], ◌∷◌, ◌++◌, Option, Some, None, if◌then◌else◌}
 use Rattle.std.specs.List.{list_any}
 use Rattle.sc_pattern.specs.contracts.pattern.PatternPartialEq.TheImpl.{ghosts as same}

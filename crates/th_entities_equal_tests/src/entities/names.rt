@@ -1,7 +1,7 @@
-//! Closed terms and atoms of a problem by names. An attribute of the context and a declared action have
-//! their own, `choice` is the choice of two actions, and what is stored of an entity is, as `keys of other`,
-//! of that entity. A place of its attributes is `vip of other`, `city of held of home of other`, where `held` is what an
-//! option holds; what is asked of a place is `bit 3 of level of other` or `presence of home of other`.
+//! Closed terms and atoms of a problem by names. An attribute of the context and a declared action have their own,
+//! `choice` is the choice of two actions, and what is stored of an entity is, as `keys of other`, of that entity. A
+//! place of its attributes is `vip of other`, `city of held of home of other`, where `held` is what an option holds;
+//! what is asked of a place is `bit 3 of level of other` or `presence of home of other`.
 //!
 //! A fact says of two terms that they are equal, `a = b`, or that the first is a member of the second,
 //! `a in b`, or of one that it is so, `a is so`. With `not ` before it that is false, or negated as a
