@@ -3,6 +3,7 @@ mod ListedLaws
 pub mod RemovedLaws
 pub mod WatchLaws
 mod MarkLaws
+mod GivingLaws
 mod PlaceLaws
 mod NumberLaws
 pub mod LitLaws

@@ -1,4 +1,4 @@
-//! Clauses that would imply a literal.
+//! Clauses that would imply a literal, or that are falsified.
 ghost use Rattle.std.specs.Prelude.{◌≡◌, length, map, IsTrue};
 ghost use Rattle.sc_refutations.specs.Arenas.{lit_of};
 ghost use Rattle.sc_propagation.specs.Giving.{Gives, in_cells};
@@ -40,6 +40,21 @@ impl Trail {
         match self.status(clause) {
             Status::Unit(lit) => order.is_of_use(lit),
             Status::Satisfied(_) | Status::Open(_) | Status::Falsified => false,
+        }
+    }
+
+    /// Whether a clause, by the numbers of its literals, has some and is false but for one open literal at most.
+    pub fn is_due(&self, clause: &[u32]) -> bool
+        requires { Agree self.now.cells.items self.now.lits.items }
+        ensures { IsTrue result → Gives self.now (map lit_of clause.now) }
+    {
+        if !self.are_in_cells(clause) {
+            return false;
+        }
+        match self.status(clause) {
+            Status::Unit(_) => true,
+            Status::Falsified => !clause.is_empty(),
+            Status::Satisfied(_) | Status::Open(_) => false,
         }
     }
 }

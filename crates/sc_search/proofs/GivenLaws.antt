@@ -1,4 +1,4 @@
--- A clause that implies a literal where propagation is at rest is new, and a lawful step.
+-- A clause that implies a literal or is falsified where propagation is at rest is new, and a lawful step.
 use Rattle.std.proofs.Common.{◌≡◌, ◌≢◌, ⊎_elim, ℕ, ◌+◌, ◌<◌, Bool, true, false, not, length, sym, ap, ◌∙◌, subst, true≢false, arith}
 use Rattle.std.specs.List.{Contains}
 use Rattle.sc_lists.proofs.ListLaws.{contains_nothing}
@@ -10,7 +10,6 @@ use Rattle.sc_clauses.specs.declared.step.Step.TheVariants.{Instance}
 use Rattle.sc_propagation.proofs.WatchedLitLaws.{lit-cases}
 use Rattle.sc_propagation.proofs.CellLaws.{consistent}
 use Rattle.sc_propagation.proofs.NewnessLaws.{new-by, uncovered}
-use Rattle.sc_propagation.proofs.ReadingLaws.{free-before}
 use Rattle.sc_search.specs.Findings.{IsUnit}
 use Rattle.sc_propagation.specs.Giving.{Gives}
 use Rattle.sc_search.specs.Given.{IsGiven}
@@ -36,13 +35,13 @@ module _ (s : Solver) (rest : IsQuietNow s) (C : Clause) (g : Gives s.trail C) w
   single = consistent s.trail.cells.items (length s.trail.lits.items)
 
   not-true : T g.lit ≡ false
-  not-true = subst (λ (w : Lit). T w ≡ false) (negation_twice g.lit) (free-before s.trail.cells.items (length s.trail.lits.items) (negation g.lit) g.is_unit.1)
+  not-true = g.not_true
 
   others : (m : Lit) → Contains C m → m ≢ g.lit → T (negation m) ≡ true
-  others = g.is_unit.2
+  others = g.others
 
   pub given-new : IsNew s.clauses C
-  given-new = (g.lit, new-by T single s.clauses rest.quiet C g.lit others g.is_unit.0 not-true)
+  given-new = (g.lit, new-by T single s.clauses rest.quiet C g.lit others g.has not-true)
 
   -- the implied literal doesn't stand with its negation
   given-apart : ¬ Contains C (negation g.lit)
@@ -74,7 +73,7 @@ given-unit has_instance clause_of atoms s e rest g given =
     let is_new = given-new s rest C gives in
     record {
       is_lawful = (given.accepted, given-clause s rest C gives atoms e);
-      some = λ nil. contains_nothing gives.lit (subst (λ (c : Clause). Contains c gives.lit) nil gives.is_unit.0);
+      some = λ nil. contains_nothing gives.lit (subst (λ (c : Clause). Contains c gives.lit) nil gives.has);
       uncovered = uncovered s.clauses C is_new;
       is_new = is_new;
     }

@@ -8,7 +8,7 @@ ghost use Rattle.sc_propagation.specs.Steps.{AreListed};
 ghost use Rattle.sc_search.specs.Turns.{HasBegun, IsReady, IsSearching, IsTotal, IsTurn};
 ghost use Rattle.sc_propagation.specs.Rooms.{cell_value};
 
-use crate::giving::{Given, next_given};
+use crate::giving::{Given, keep_broken, next_due, next_kept};
 use crate::solver::{Solver, Turn};
 use crate::source::Source;
 use sc_clauses::{Assignment, Clauses, Instance, Step};
@@ -104,8 +104,8 @@ impl Solver {
         }
     }
 
-    /// Where no decision stands: logs a suggested instance that implies a literal, or settles a conflict. None where
-    /// there is neither, or the budget is spent.
+    /// Before anything is decided in this turn: logs an instance that implies a literal or is falsified, or settles a
+    /// conflict. None where there is neither, or the budget is spent.
     fn begin<S: Source>(
         &mut self,
         alloc: Global,
@@ -119,21 +119,19 @@ impl Solver {
         ensures { IfOk result (λ o. HasBegun (length self.old.trail.cells.items) (S.has_instance source.now)
             (S.clause_of source.now) self.old.clauses self.old.steps.items budget self.new o) }
     {
-        if !self.trail.levels.is_empty() {
-            return Ok(None);
-        }
         if self.is_spent(budget) {
             return Ok(None);
         }
         if let Some(conflict) = self.come_to_rest()? {
             return Ok(Some(self.settle(alloc, conflict, budget)?));
         }
-        let given = next_given(
+        let given = next_due(
             alloc,
             &self.trail,
             source,
             &self.order,
             &mut self.suggestions,
+            &mut self.kept,
         )?;
         match given {
             None => Ok(None),
@@ -161,10 +159,49 @@ impl Solver {
         if let Some(conflict) = self.rest()? {
             return self.settle(alloc, conflict, budget);
         }
+        self.look(alloc, source, budget)
+    }
+
+    /// Where each atom has a value: logs a kept instance that is falsified, or looks for one.
+    fn look<S: Source>(
+        &mut self,
+        alloc: Global,
+        source: &S,
+        budget: u64,
+    ) -> Result<Turn, AllocError>
+        requires ready { IsReady (length self.old.trail.cells.items) self.old }
+        requires some { 0 < length self.old.trail.cells.items }
+        requires total { IsTotal self.old }
+        ensures { IfOk result (λ t. IsTurn (length self.old.trail.cells.items - 1) (S.has_instance source.now)
+            (S.clause_of source.now) self.old.clauses self.old.steps.items budget self.new t) }
+    {
+        if self.is_spent(budget) {
+            return self.ask(alloc, source, budget);
+        }
+        match next_kept(alloc, &self.trail, source, &mut self.kept)? {
+            None => self.ask(alloc, source, budget),
+            Some(Given { instance, clause }) => {
+                self.log(alloc, instance, clause.as_slice())?;
+                Ok(Turn::Added)
+            }
+        }
+    }
+
+    /// Looks for an instance of the source that the assignment of all atoms falsifies.
+    fn ask<S: Source>(&mut self, alloc: Global, source: &S, budget: u64) -> Result<Turn, AllocError>
+        requires ready { IsReady (length self.old.trail.cells.items) self.old }
+        requires some { 0 < length self.old.trail.cells.items }
+        requires total { IsTotal self.old }
+        ensures { IfOk result (λ t. IsTurn (length self.old.trail.cells.items - 1) (S.has_instance source.now)
+            (S.clause_of source.now) self.old.clauses self.old.steps.items budget self.new t) }
+    {
         let m = self.assignment(alloc)?;
         match source.violated(&m)? {
             None => Ok(Turn::Consistent(m)),
-            Some(instance) => self.tell(alloc, source, instance, budget),
+            Some(instance) => {
+                keep_broken(alloc, source, &m, &mut self.kept)?;
+                self.tell(alloc, source, instance, budget)
+            }
         }
     }
 

@@ -7,6 +7,7 @@ ghost use Rattle.sc_propagation.specs.Visits.{AreAlive, AreSeenBut, IsWellWatche
 ghost use Rattle.sc_search.specs.Turns.{IsReady, IsKept, IsCalm, IsAtRest, HasLearned, HasRefuted, HasSettled};
 ghost use Rattle.sc_propagation.specs.Rooms.{cell_value};
 
+use crate::giving::Kept;
 use sc_clauses::{Assignment, Clauses, Instance, Learned, Lit, Step, negation};
 use sc_decisions::{Order, Restarts, Suggestions};
 use sc_lists::Seq;
@@ -39,6 +40,7 @@ pub(crate) struct Solver {
     pub order: Order,
     pub restarts: Restarts,
     pub suggestions: Suggestions,
+    pub kept: Vec<Kept>,
     pub analysis: Analysis,
 }
 
@@ -109,6 +111,7 @@ impl Solver {
             order,
             restarts: Restarts::new(),
             suggestions: Suggestions::new(alloc),
+            kept: Vec::new(alloc),
             analysis,
         })
     }

@@ -32,6 +32,9 @@ pub trait Source {
     /// of them were shown before. Nothing is promised of them. Want of memory is its one fault.
     fn suggested(&self, lits: &[Lit], seen: usize) -> Result<Vec<Instance>, AllocError>;
 
+    /// Instances whose clauses an assignment may falsify. Nothing is promised of them. Want of memory is its one fault.
+    fn broken(&self, m: &Assignment) -> Result<Vec<Instance>, AllocError>;
+
     /// The clause of an instance, if the source has the instance. Want of memory is its one fault.
     fn told(&self, instance: &Instance) -> Result<Option<Clause>, AllocError>
         ensures accepted { IfOk result (λ o. IfSome o (λ c. has_instance self.now instance.now)) }

@@ -46,6 +46,10 @@ impl Source for Told {
         Ok(Vec::new(self.alloc))
     }
 
+    fn broken(&self, _m: &Assignment) -> Result<Vec<Instance>, AllocError> {
+        Ok(Vec::new(self.alloc))
+    }
+
     fn told(&self, _instance: &Instance) -> Result<Option<Clause>, AllocError> {
         Ok(None)
     }

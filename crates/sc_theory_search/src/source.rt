@@ -1,10 +1,11 @@
 //! The rules of a theory at a problem.
 ghost use Rattle.std.specs.Prelude.{◌≡◌};
 
-use crate::suggesting::suggested;
+use crate::breaking::broken;
 use sc_clauses::{Assignment, Clause, Instance, Lit};
 use sc_footprint::{Problem, Theory};
 use sc_search::Source;
+use sc_suggestions::suggested;
 use std::alloc::{AllocError, Global};
 
 /// The rules of a theory at a problem: the search asks for an instance of one that an assignment falsifies.
@@ -44,6 +45,10 @@ impl<'t, 'p, T: Theory> Source for RulesAt<'t, 'p, T> {
 
     fn suggested(&self, lits: &[Lit], seen: usize) -> Result<Vec<Instance>, AllocError> {
         suggested(self.alloc, self.problem, lits, seen)
+    }
+
+    fn broken(&self, m: &Assignment) -> Result<Vec<Instance>, AllocError> {
+        broken(self.alloc, self.problem, m)
     }
 
     fn told(&self, instance: &Instance) -> Result<Option<Clause>, AllocError> {

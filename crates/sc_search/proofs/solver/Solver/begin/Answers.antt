@@ -31,9 +31,6 @@ settle-requires-clause-few_clauses g c =
     let few : length c.args.self.now.clauses < 10 ^ 18 = c.requires.few_clauses (λ e. ne (ap length kept.steps_kept ∙ e)) in
     omega arith
 
-pub returns-then-not-is_empty : goal.returns-then-not-is_empty
-returns-then-not-is_empty g c = (c.requires.ready, record { clauses_kept = refl; steps_kept = refl })
-
 pub returns-then-is_spent : goal.returns-then-is_spent
 returns-then-is_spent g c = (c.requires.ready, record { clauses_kept = refl; steps_kept = refl })
 

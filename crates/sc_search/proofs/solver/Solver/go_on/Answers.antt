@@ -40,46 +40,25 @@ returns-in-Some g c =
     settled-result A K (length s.trail.cells.items) (n - 1) c.args.self.now.clauses s.clauses c.args.self.now.steps.items s.steps.items c.args.budget c.settle.new.self c.settle.result
     (omega arith) kept.clauses_kept kept.steps_kept c.settle.ensures
 
-pub tell-requires-clause-ready : goal.tell-requires-clause-ready
-tell-requires-clause-ready g c =
+pub look-requires-clause-ready : goal.look-requires-clause-ready
+look-requires-clause-ready g c =
     let ready = c.in_ok-conflict.ensures.ready in
     subst (λ (m : ℕ). IsReady m c.rest.new.self) (sym ready.trail.sized) ready
 
-pub tell-requires-clause-some : goal.tell-requires-clause-some
-tell-requires-clause-some g c = let k = c.in_ok-conflict.ensures.ready.trail.sized in let some = c.requires.some in omega arith
+pub look-requires-clause-some : goal.look-requires-clause-some
+look-requires-clause-some g c = let k = c.in_ok-conflict.ensures.ready.trail.sized in let some = c.requires.some in omega arith
 
-pub tell-requires-clause-total : goal.tell-requires-clause-total
-tell-requires-clause-total g c = subst (λ (r : Option ℕ). IsAtRest c.rest.new.self r) c.in_default.is c.in_ok-conflict.ensures.rest
+pub look-requires-clause-total : goal.look-requires-clause-total
+look-requires-clause-total g c = subst (λ (r : Option ℕ). IsAtRest c.rest.new.self r) c.in_default.is c.in_ok-conflict.ensures.rest
 
-pub tell-requires-clause-accepted : goal.tell-requires-clause-accepted
-tell-requires-clause-accepted g c =
-    subst (λ (o : Option Instance). IfSome o (g.S.Source.has_instance c.args.source.now)) c.in-Some-2.is c.in_ok-violated.ensures.accepted
-
-pub tell-requires-clause-falsified : goal.tell-requires-clause-falsified
-tell-requires-clause-falsified g c =
-    subst (λ m. falsifies m (g.S.Source.clause_of c.args.source.now c.in-Some-2.instance) ≡ true) c.in_ok-m.ensures
-    (subst (λ (o : Option Instance). IfSome o (λ i. falsifies c.in_ok-m.m (g.S.Source.clause_of c.args.source.now i) ≡ true)) c.in-Some-2.is c.in_ok-violated.ensures.falsified)
-
-pub returns-in-None : goal.returns-in-None
-returns-in-None g c =
-    let A = g.S.Source.has_instance c.args.source.now in
-    let K = g.S.Source.clause_of c.args.source.now in
-    let s = c.rest.new.self in
-    let n = length c.args.self.now.trail.cells.items in
-    let kept = c.in_ok-conflict.ensures.kept in
-    let some : 0 < n = c.requires.some in
-    let total : IsTotal s = subst (λ (r : Option ℕ). IsAtRest s r) c.in_default.is c.in_ok-conflict.ensures.rest in
-    subst (λ (cs : List Clause). IsConsistent (n - 1) A K cs c.in_ok-m.m) kept.clauses_kept
-    (consistent-found A K n (n - 1) s (omega arith) c.in_ok-conflict.ensures.ready total c.in_ok-m.m c.in_ok-m.ensures (c.in_ok-violated.ensures.none c.in-None.is))
-
-pub returns-in-Some-2 : goal.returns-in-Some-2
-returns-in-Some-2 g c =
+pub returns : goal.returns
+returns g c =
     let A = g.S.Source.has_instance c.args.source.now in
     let K = g.S.Source.clause_of c.args.source.now in
     let s = c.rest.new.self in
     let n = length c.args.self.now.trail.cells.items in
     let kept = c.in_ok-conflict.ensures.kept in
     let k : length s.trail.cells.items ≡ n = c.in_ok-conflict.ensures.ready.trail.sized in
-    subst (λ (ss : List Step). IfOk c.tell.result (λ t. IsTurn (n - 1) A K c.args.self.now.clauses ss c.args.budget c.tell.new.self t)) kept.steps_kept
-    (subst (λ (cs : List Clause). IfOk c.tell.result (λ t. IsTurn (n - 1) A K cs s.steps.items c.args.budget c.tell.new.self t)) kept.clauses_kept
-    (subst (λ (m : ℕ). IfOk c.tell.result (λ t. IsTurn (m - 1) A K s.clauses s.steps.items c.args.budget c.tell.new.self t)) k c.tell.ensures))
+    subst (λ (ss : List Step). IfOk c.look.result (λ t. IsTurn (n - 1) A K c.args.self.now.clauses ss c.args.budget c.look.new.self t)) kept.steps_kept
+    (subst (λ (cs : List Clause). IfOk c.look.result (λ t. IsTurn (n - 1) A K cs s.steps.items c.args.budget c.look.new.self t)) kept.clauses_kept
+    (subst (λ (m : ℕ). IfOk c.look.result (λ t. IsTurn (m - 1) A K s.clauses s.steps.items c.args.budget c.look.new.self t)) k c.look.ensures))

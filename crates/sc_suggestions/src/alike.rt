@@ -5,6 +5,7 @@ ghost use Rattle.std.specs.Prelude.{◌<◌, length};
 
 use crate::known::{Known, tell_equation};
 use crate::places::{Place, Span, is_at_place, places, spans};
+use crate::told::Tolds;
 use sc_clauses::{Instance, Lit};
 use sc_footprint::Problem;
 use sc_rule_instances::{EntityRule, equal, find, literal_if, member, present, write_entity};
@@ -12,11 +13,11 @@ use sc_sorts::{BinaryOp, Node, Sort, UnaryOp};
 use std::alloc::{AllocError, Global};
 use th_entities_instances::roots;
 
-/// What is known, and the memberships among it in the order of their sets.
+/// What is known, and the memberships among it.
 #[derive(Clone, Copy)]
 struct Look<'a> {
     known: &'a Known,
-    members: &'a [(u64, u64)],
+    tolds: &'a Tolds,
 }
 
 /// Two like places, by the numbers of closed terms, and whether they are of tags.
@@ -115,16 +116,10 @@ fn put_members(
     problem: &Problem<'_>,
     look: &Look<'_>,
     pair: Pair,
-    terms: (u64, u64),
     found: &mut Vec<Instance>,
 ) -> Result<(), AllocError> {
-    let first = look.members.partition_point(|told| told.0 < terms.0);
-    for at in first..look.members.len() {
-        let (set, number) = look.members[at];
-        if set != terms.0 {
-            break;
-        }
-        put_member(alloc, problem, look, pair, number, found)?;
+    for told in look.tolds.of_set(pair.first) {
+        put_member(alloc, problem, look, pair, told.candidate, found)?;
     }
     Ok(())
 }
@@ -197,8 +192,8 @@ fn put_pair(
         Sort::Long | Sort::Decimal => put_bits(alloc, problem, look, pair, terms, 64, found),
         Sort::Ip => put_bits(alloc, problem, look, pair, terms, 257, found),
         Sort::Set(_) => {
-            put_members(alloc, problem, look, pair, terms, found)?;
-            put_members(alloc, problem, look, pair.turned(), (y, x), found)
+            put_members(alloc, problem, look, pair, found)?;
+            put_members(alloc, problem, look, pair.turned(), found)
         }
         Sort::Record(_) => Ok(()),
     }
@@ -345,35 +340,6 @@ fn put_all(
 
 // ---- what is known
 
-/// The set, by its number in the table, and the candidate, by that of a closed term, of which an atom tells.
-fn told_member(problem: &Problem<'_>, atom: u64) -> Option<(u64, u64)> {
-    let Some(term) = problem.atom(atom) else {
-        return None;
-    };
-    match problem.terms().node(term) {
-        Node::Two(BinaryOp::Member, candidate, set) => {
-            Some((*set, problem.number_of(*candidate)?))
-        }
-        _ => None,
-    }
-}
-
-/// The memberships of which literals tell, in the order of their sets.
-fn told_members(
-    alloc: Global,
-    problem: &Problem<'_>,
-    lits: &[Lit],
-) -> Result<Vec<(u64, u64)>, AllocError> {
-    let mut told = Vec::new(alloc);
-    for lit in lits {
-        if let Some(member) = told_member(problem, lit.atom) {
-            told.push(member)?;
-        }
-    }
-    told.sort_unstable_by(|a: &(u64, u64), b: &(u64, u64)| a.0.cmp(&b.0));
-    Ok(told)
-}
-
 fn tell_of_places(problem: &Problem<'_>, lits: &[Lit]) -> bool {
     for lit in lits {
         if is_at_place(problem, lit.atom) {
@@ -385,7 +351,7 @@ fn tell_of_places(problem: &Problem<'_>, lits: &[Lit]) -> bool {
 
 /// Puts the instances of like places that may give something, where these are all literals that are known, and the
 /// last ones of them new.
-pub(crate) fn put_alike(
+pub fn put_alike(
     alloc: Global,
     problem: &Problem<'_>,
     lits: &[Lit],
@@ -396,10 +362,10 @@ pub(crate) fn put_alike(
         return Ok(());
     }
     let known = Known::new(alloc, problem, lits, new)?;
-    let members = told_members(alloc, problem, lits)?;
+    let tolds = Tolds::new(alloc, problem, lits)?;
     let look = Look {
         known: &known,
-        members: members.as_slice(),
+        tolds: &tolds,
     };
     put_all(alloc, problem, &look, found)
 }

@@ -37,7 +37,7 @@ fn rule_of(problem: &Problem<'_>, known: &Known, atom: u64) -> Option<EqualRule>
 }
 
 /// Puts the instances of EQ1 by the equations that new literals say are true.
-fn put_equal(
+pub fn put_equal(
     alloc: Global,
     problem: &Problem<'_>,
     lits: &[Lit],

@@ -3,9 +3,8 @@
 use sc_clauses::Lit;
 use sc_footprint::Problem;
 use sc_rule_instances::equal;
-use sc_sorts::{Leaf, Node};
+use sc_sorts::{BinaryOp, Leaf, Node};
 use std::alloc::{AllocError, Global};
-use th_equal::sides;
 
 /// What some literals tell.
 #[derive(Drop)]
@@ -32,10 +31,10 @@ pub(crate) fn equation(problem: &Problem<'_>, atom: u64) -> Option<(u64, u64)> {
     let Some(term) = problem.atom(atom) else {
         return None;
     };
-    let Some((a, b)) = sides(problem, term) else {
+    let Node::Two(BinaryOp::Equal, a, b) = problem.terms().node(term) else {
         return None;
     };
-    Some((problem.number_of(a)?, problem.number_of(b)?))
+    Some((problem.number_of(*a)?, problem.number_of(*b)?))
 }
 
 /// The same, if a literal says that the equation is true.
