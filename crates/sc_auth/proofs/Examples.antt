@@ -21,7 +21,7 @@ use Rattle.sc_eval.specs.declared.error.EvalError.TheVariants.{TypeError, AttrMi
 use Rattle.sc_eval.specs.Outcomes.{◌>>=◌, bool_in, decide, of_bool}
 use Rattle.sc_eval.specs.Entities.{access_in, access, or_missing}
 use Rattle.sc_eval.specs.Eval.{eval}
-use Rattle.sc_eval.proofs.EvalLaws.{eval_And, eval_Access, eval_Literal, eval_Variable}
+use Rattle.sc_eval.specs.ConstructLaws.{eval_And, eval_Access, eval_Literal, eval_Variable}
 use Rattle.sc_auth.specs.declared.decision.Decision.TheVariants.{Allow, Deny}
 use Rattle.sc_auth.specs.declared.decision.Decision.{Decision}
 use Rattle.sc_auth.specs.Decisions.{true_in, is_true, satisfied, errs, is_permitting, allows, decided, first_some, places, determining, erroring}

@@ -1,11 +1,8 @@
--- Values that are one, members, and the sets and records that lists of values make.
+-- What tests of values tell, and the fields of records that are written.
 use Rattle.std.proofs.Common.{◌≡◌, ◌||◌, ◌↔◌, inl, inr, ℕ, List, [], ◌∷◌, ◌++◌, reverse, Bool, true, false, cond, Option, Some, None, is_some, IsTrue, Contains, fold, refl, sym, ap, subst, ◌∙◌}
-use Rattle.std.specs.List.Sorted.{IsStrictlySortedBy}
-use Rattle.std.specs.Ordering.{is_eq}
 use Rattle.std.specs.Option.{option_or}
 use Rattle.std.specs.Str.{bytes_eq}
 use Rattle.std.specs.BTreeMap.{is_at}
-use Rattle.std.specs.BTreeSet.{insert_key}
 use Rattle.std.specs.Map.{keys_of, lookup}
 use Rattle.std.specs.List.{list_any, list_all}
 use Rattle.std.proofs.Math.Path.{fun_ext}
@@ -14,42 +11,17 @@ use Rattle.std.proofs.lemmas.Map.Views.{Contains-keys_from_lookup, IsSome-lookup
 use Rattle.std.proofs.lemmas.Map.Text.{is_eq-slice_cmp}
 use Rattle.std.proofs.lemmas.Slice.Eq.{bytes_eq-Decides}
 use Rattle.std.proofs.lemmas.List.{reverse-append}
-use Rattle.std.proofs.lemmas.Bool.{or_cases, or_left, or_right, and_from, and_parts}
+use Rattle.std.proofs.lemmas.Bool.{and_from, and_parts}
 use Rattle.sc_lists.proofs.ListLaws.{contains_nothing, contains_split, contains_rest, contains_first}
-use Rattle.sc_laws.proofs.BoolLaws.{or_false, or_assoc, same_truth}
-use Rattle.sc_lists.proofs.OrderingLaws.{is_eq_true}
-use Rattle.sc_lists.proofs.OrderedLaws.{none_ascends, no_pair_ascends, is_in-insert_key, ascending-insert_key, ascending-insert_entry, value_at-insert_entry, value_at-insert_entry_other}
+use Rattle.sc_laws.proofs.BoolLaws.{same_truth}
+use Rattle.sc_lists.proofs.OrderedLaws.{value_at-insert_entry, value_at-insert_entry_other}
 use Rattle.sc_lists.specs.Ordered.{value_at}
 use Rattle.sc_names.specs.Uids.{text_cmp}
 use Rattle.sc_values.specs.declared.value.Value.{Value}
-use Rattle.sc_values.specs.Order.{value_cmp}
 use Rattle.sc_values.specs.Records.{Fields, field}
-use Rattle.sc_values.specs.Sets.{IsSetOf}
-use Rattle.sc_values.proofs.OrderLaws.{value_cmp_total, value_cmp_level}
 use Rattle.sc_values.specs.Sets.{IsSubset, Meets}
-use Rattle.sc_values.specs.declared.value.Value.TheVariants as value
-use Rattle.sc_values.proofs.SetLaws.{one_set}
-use Rattle.sc_eval.specs.Collections.{is_same, is_member, members_of, set_value, with_field, fields_of}
-
--- ---- values that are one
-
-pub is_same-decides : (x y : Value) → IsTrue (is_same x y) ↔ x ≡ y
-is_same-decides x y = (λ t. (value_cmp_level x y).0 (is_eq_true (value_cmp x y) t), λ e. ap is_eq ((value_cmp_level x y).1 e))
-
--- ---- members
-
-pub is_member-decides : (members : List Value) (x : Value) → IsTrue (is_member members x) ↔ Contains members x
-is_member-decides [] x = (λ t. cc, λ h. absurd (contains_nothing x h))
-is_member-decides (y ∷ ys) x = (
-  λ t. elim (or_cases (is_same x y) (is_member ys x) t) [
-    | inl here ↦ subst (Contains (y ∷ ys)) (sym ((is_same-decides x y).0 here)) (contains_first y ys)
-    | inr later ↦ contains_rest y ys x ((is_member-decides ys x).0 later)
-  ],
-  λ h. elim (contains_split y ys x h) [
-    | inl here ↦ or_left (is_same x y) (is_member ys x) ((is_same-decides x y).1 (sym here))
-    | inr later ↦ or_right (is_same x y) (is_member ys x) ((is_member-decides ys x).1 later)
-  ],
-)
+use Rattle.sc_eval.specs.Collections.{is_same, is_member, with_field, fields_of}
+use Rattle.sc_eval.specs.CollectionLaws.{is_same-decides, is_member-decides, any-decides}
 
 -- ---- what tests tell
 
@@ -74,60 +46,10 @@ all-decides (y ∷ ys) t = (
 pub all_are : (r : Bool) (s t : List Value) → (IsTrue r ↔ IsSubset s t) → r ≡ list_all (is_member t) s
 all_are r s t h = same_truth r (list_all (is_member t) s) h (all-decides s t)
 
-pub any-decides : (s t : List Value) → IsTrue (list_any (is_member t) s) ↔ Meets s t
-any-decides [] t = (λ h. cc, λ h. absurd (contains_nothing h.0 h.1))
-any-decides (y ∷ ys) t = (
-  λ h. elim (or_cases (is_member t y) (list_any (is_member t) ys) h) [
-    | inl here ↦ (y, contains_first y ys, (is_member-decides t y).0 here)
-    | inr later ↦ let m = (any-decides ys t).0 later in (m.0, contains_rest y ys m.0 m.1, m.2)
-  ],
-  λ h. elim (contains_split y ys h.0 h.1) [
-    | inl here ↦ or_left (is_member t y) (list_any (is_member t) ys) ((is_member-decides t y).1 (subst (Contains t) (sym here) h.2))
-    | inr later ↦ or_right (is_member t y) (list_any (is_member t) ys) ((any-decides ys t).1 (h.0, later, h.2))
-  ],
-)
-
 pub any_is : (r : Bool) (s t : List Value) → (IsTrue r ↔ Meets s t) → r ≡ list_any (is_member t) s
 any_is r s t h = same_truth r (list_any (is_member t) s) h (any-decides s t)
 
--- ---- sets
-
-abbrev with_all : List Value → List Value → List Value
-with_all set values = fold (insert_key value_cmp) set values
-
-with_all-ascends : (set values : List Value) → IsStrictlySortedBy value_cmp set → IsStrictlySortedBy value_cmp (with_all set values)
-with_all-ascends set [] h = h
-with_all-ascends set (x ∷ xs) h = with_all-ascends (insert_key value_cmp set x) xs (ascending-insert_key value_cmp_total set x h)
-
-is_member-with_all : (set values : List Value) (y : Value) → is_member (with_all set values) y ≡ (is_member set y || is_member values y)
-is_member-with_all set [] y = sym (or_false (is_member set y))
-is_member-with_all set (x ∷ xs) y =
-    is_member-with_all (insert_key value_cmp set x) xs y
-    ∙ ap (λ b. b || is_member xs y) (is_in-insert_key value_cmp_total set x y)
-    ∙ or_assoc (is_member set y) (is_same y x) (is_member xs y)
-
--- what values make is the set of them
-pub members_of-set : (values : List Value) → IsSetOf values (members_of values)
-members_of-set values = record {
-  ascending = with_all-ascends [] values (none_ascends value_cmp [] refl);
-  just = λ x. (
-    λ h. (is_member-decides values x).0 (sym (is_member-with_all [] values x) ∙ (is_member-decides (members_of values) x).1 h),
-    λ h. (is_member-decides (members_of values) x).0 (is_member-with_all [] values x ∙ (is_member-decides values x).1 h),
-  );
-}
-
-pub set_is : (values set : List Value) → IsSetOf values set → value.Set set ≡ set_value values
-set_is values set h = ap value.Set (one_set values set (members_of values) h (members_of-set values))
-
 -- ---- records
-
-fold-ascends : (fields pairs : Fields) → IsStrictlySortedBy text_cmp (keys_of fields) → IsStrictlySortedBy text_cmp (keys_of (fold with_field fields pairs))
-fold-ascends fields [] h = h
-fold-ascends fields (f ∷ fs) h = fold-ascends (with_field fields f) fs (ascending-insert_entry nat_list_cmp_total fields f.0 f.1 h)
-
--- the fields of a record that is written ascend by name
-pub fields_of-ascends : (pairs : Fields) → IsStrictlySortedBy text_cmp (keys_of (fields_of pairs))
-fields_of-ascends pairs = fold-ascends [] pairs (no_pair_ascends {V = Value} text_cmp [] refl)
 
 lookup-append : (test : List ℕ → Bool) (xs ys : Fields) → lookup test (xs ++ ys) ≡ option_or (lookup test xs) (lookup test ys)
 lookup-append test [] ys = refl

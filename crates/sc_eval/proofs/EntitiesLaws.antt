@@ -1,23 +1,19 @@
 -- What `has` and `is` with more than one part stand for.
-use Rattle.std.proofs.Common.{◌≡◌, ℕ, List, [], ◌∷◌, Bool, true, false, if◌then◌else◌, Option, Some, None, is_some, Result, Ok, Err, refl, sym, ap, ◌∙◌}
+use Rattle.std.proofs.Common.{◌≡◌, ℕ, List, [], ◌∷◌, Bool, true, false, if◌then◌else◌, Result, Ok, Err, refl, sym, ap, ◌∙◌}
 use Rattle.sc_ast.specs.declared.expr.Expr.{Expr}
 use Rattle.sc_ast.specs.declared.expr.Expr.TheVariants as expr
 use Rattle.sc_ast.specs.declared.expr.TypeName.{TypeName}
 use Rattle.sc_ast.specs.declared.operator.BinaryOperator.TheVariants.{In}
 use Rattle.sc_ast.specs.declared.place.Place.{Place}
-use Rattle.sc_values.specs.declared.value.Value.{Value, Value-F, out-Value}
-use Rattle.sc_values.specs.declared.value.Value.TheOpen as v
-use Rattle.sc_values.specs.Records.{field}
+use Rattle.sc_values.specs.declared.value.Value.{Value, out-Value}
 use Rattle.sc_values.proofs.OutLaws.{out_Bool}
-use Rattle.sc_world.specs.declared.entity.EntityData.{EntityData}
 use Rattle.sc_world.specs.declared.world.World.{World}
-use Rattle.sc_world.specs.Stores.{stored}
 use Rattle.sc_eval.specs.declared.error.EvalError.{EvalError}
 use Rattle.sc_eval.specs.Outcomes.{Outcome, ◌>>=◌, bool_in, decide, of_bool}
-use Rattle.sc_eval.specs.Entities.{or_missing, attr_of, access_in, access, has_attr, has_in, has, has_path, is_of, is_in}
+use Rattle.sc_eval.specs.Entities.{access, has, has_path, is_of, is_in}
 use Rattle.sc_eval.specs.Eval.{eval}
 use Rattle.sc_eval.specs.Written.{and_has, has_each}
-use Rattle.sc_eval.proofs.EvalLaws.{eval_And, eval_Has, eval_Is, eval_IsIn, eval_Binary, eval_Access}
+use Rattle.sc_eval.specs.ConstructLaws.{eval_And, eval_Has, eval_Is, eval_IsIn, eval_Binary, eval_Access, has_path-one}
 
 -- ---- Bools that are asked for
 
@@ -30,29 +26,6 @@ pub asked_again : (r : Result Bool EvalError) → decide (r >>= of_bool) of_bool
 asked_again r = decided r of_bool
 
 -- ---- paths of names
-
--- where there is an attribute, it has a value
-there : (o : Option Value) → (if is_some o then (or_missing o >>= λ y. Ok true) else Ok false) ≡ Ok (is_some o)
-there None = refl
-there (Some x) = refl
-
-there_of : (name : List ℕ) (o : Option EntityData) → (if has_attr name o then (attr_of name o >>= λ y. Ok true) else Ok false) ≡ Ok (has_attr name o)
-there_of name None = refl
-there_of name (Some e) = there (field name e.attrs)
-
-one_name : (name : List ℕ) (w : World) (x : Value-F Value) → (has_in name w x >>= λ p. if p then (access_in name w x >>= λ y. Ok true) else Ok false) ≡ has_in name w x
-one_name name w (v.Bool b) = refl
-one_name name w (v.Long n) = refl
-one_name name w (v.String text) = refl
-one_name name w (v.Entity u) = there_of name (stored u w.store)
-one_name name w (v.Set members) = refl
-one_name name w (v.Record fields) = there (field name fields)
-one_name name w (v.Decimal n) = refl
-one_name name w (v.Ip a) = refl
-
--- a path of one name is that name
-pub has_path-one : (name : List ℕ) (w : World) (x : Value) → has_path (name ∷ []) w x ≡ has name w x
-has_path-one name w x = one_name name w (out-Value x)
 
 then_has : (o : Outcome) (r : Value → Result Bool EvalError) → (o >>= r >>= of_bool) ≡ (o >>= λ x. r x >>= of_bool)
 then_has (Ok x) r = refl

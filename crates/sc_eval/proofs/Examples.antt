@@ -27,7 +27,7 @@ use Rattle.sc_eval.specs.Collections.{members_of}
 use Rattle.sc_eval.specs.Operators.{binary, unary, is_like}
 use Rattle.sc_eval.specs.Eval.{eval}
 use Rattle.sc_eval.specs.Written.{has_each}
-use Rattle.sc_eval.proofs.EvalLaws.{eval_Binary, eval_Unary, eval_Literal}
+use Rattle.sc_eval.specs.ConstructLaws.{eval_Binary, eval_Unary, eval_Literal}
 
 abbrev at : Place
 at = record { offset = 0 }

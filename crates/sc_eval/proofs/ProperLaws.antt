@@ -46,7 +46,7 @@ use Rattle.sc_eval.specs.Eval.{Meaning, all_values, all_fields, eval_step, eval}
 use Rattle.sc_eval.specs.Written.{constants_step, constants, HasProperConstants}
 use Rattle.sc_eval.proofs.TestLaws.{le-decides}
 use Rattle.sc_eval.proofs.AddressLaws.{text_is_ip}
-use Rattle.sc_eval.proofs.CollectionsLaws.{members_of-set, fields_of-ascends}
+use Rattle.sc_eval.specs.CollectionLaws.{members_of-set, fields_of-ascends}
 
 abbrev IsProperOutcome : Outcome → Type 0
 IsProperOutcome o = IfOk o IsProper

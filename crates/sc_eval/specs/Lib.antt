@@ -4,3 +4,5 @@ pub mod Collections
 pub mod Operators
 pub mod Eval
 pub mod Written
+pub mod ConstructLaws
+pub mod CollectionLaws

@@ -1,13 +1,17 @@
 -- What an expression writes: the expressions that `has` with several names is short for, and constants.
 use Rattle.std.specs.Prelude.{ℕ, List, [], ◌∷◌, ◌++◌}
 use Rattle.std.specs.List.{AllByRecursion, flat_map}
+use Rattle.std.specs.Str.{IsUtf8}
+use Rattle.sc_ast.specs.Conditions.{condition}
+use Rattle.sc_ast.specs.declared.policy.Policy.{Policy}
 use Rattle.sc_ast.specs.declared.expr.Expr.{Expr, Expr-F, fold-Expr}
 use Rattle.sc_ast.specs.declared.expr.Expr.TheOpen as e
 use Rattle.sc_ast.specs.declared.expr.Expr.TheVariants as expr
+use Rattle.sc_ast.specs.declared.literal.EntityLiteral.{EntityLiteral}
 use Rattle.sc_ast.specs.declared.place.Place.{Place}
 use Rattle.sc_values.specs.declared.value.Value.{Value}
 use Rattle.sc_values.specs.declared.value.Value.TheVariants as value
-use Rattle.sc_values.specs.Proper.{IsProper}
+use Rattle.sc_values.specs.Proper.{IsProper, IsUidText}
 use Rattle.sc_eval.specs.Operators.{literal_value}
 
 -- `front && x has b && x.b has c`
@@ -46,3 +50,19 @@ constants = fold-Expr (List Value) constants_step
 -- numbers are in range, and texts of scalar values, as they are by their types
 abbrev pub HasProperConstants : Expr → Type 0
 HasProperConstants x = AllByRecursion IsProper (constants x)
+
+-- the same of each policy
+abbrev pub HaveProperConstants : List Policy → Type 0
+HaveProperConstants ps = AllByRecursion (λ p. HasProperConstants (condition p)) ps
+
+-- a policy with such a condition
+unfoldable pub IsProperPolicy : Policy → Type 0
+IsProperPolicy p = HasProperConstants (condition p)
+
+-- a field's name is of scalar values
+unfoldable pub HasTextName : List ℕ × Expr → Type 0
+HasTextName f = IsUtf8 f.0
+
+-- so is a uid that a scope writes
+unfoldable pub HasTextUid : EntityLiteral → Type 0
+HasTextUid l = IsUidText l.uid

@@ -1,7 +1,10 @@
 //! What the definitions of evaluation come to.
-ghost use Rattle.std.specs.Prelude.{◌≡◌, ◌↔◌, ◌∷◌, [], ℕ, List, map, reverse, Ok, Contains, IsTrue, IfOk};
+ghost use Rattle.std.specs.Prelude.{◌≡◌, ◌↔◌, ◌∷◌, [], ℕ, List, map, reverse, Ok, Some, Contains, IsTrue, IfOk};
 ghost use Rattle.std.specs.List.Sorted.{IsStrictlySortedBy};
 ghost use Rattle.std.specs.Map.{keys_of};
+ghost use Rattle.sc_ip.specs.Addresses.{IsIp};
+ghost use Rattle.sc_ip.specs.IpValue.{ip_of};
+ghost use Rattle.sc_ip.specs.declared.ip.Ip.{Ip as AnyIp};
 ghost use Rattle.sc_names.specs.Uids.{text_cmp};
 ghost use Rattle.sc_ast.specs.declared.expr.Expr.{Expr as AnyExpr};
 ghost use Rattle.sc_ast.specs.declared.expr.Expr.TheVariants as expr;
@@ -59,7 +62,8 @@ pub fn construct_laws()
 {}
 
 /// `x has a.b.c` is `x has a && x.a has b && x.a.b has c`, and `x is T in b` is `x is T && x in b`, by
-/// value and by error. Where the world and the constants are made of values, so is what comes out.
+/// value and by error. Where the world and the constants are made of values, so is what comes out; the address
+/// that a text spells is within its version's bits.
 pub fn eval_laws()
     ensures one_name { (name : List ℕ) (w : AnyWorld) (x : AnyValue) → has_path (name ∷ []) w x ≡ has name w x }
     ensures has { (place : AnyPlace) (x : AnyExpr) (name : List ℕ) (names : List (List ℕ)) (w : AnyWorld) →
@@ -69,6 +73,7 @@ pub fn eval_laws()
         ≡ eval (expr.And place (expr.Is place x t) (expr.Binary in_place In x b)) w }
     ensures proper { (w : AnyWorld) (x : AnyExpr) →
         IsProperWorld w → HasProperConstants x → IfOk (eval x w) IsProper }
+    ensures address { (text : List ℕ) (a : AnyIp) → ip_of text ≡ Some a → IsIp a }
 {}
 
 /// Equality and membership are those of values. A set that is written has just its members, each once,

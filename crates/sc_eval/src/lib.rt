@@ -5,6 +5,7 @@
 mod addresses;
 mod arithmetic;
 mod comparison;
+mod constants;
 mod entities;
 mod error;
 mod evaluation;
@@ -17,6 +18,7 @@ mod records;
 mod sets;
 mod texts;
 
+pub use constants::constant_laws;
 pub use error::EvalError;
 pub use evaluation::evaluate;
 pub use laws::{collection_laws, construct_laws, eval_laws};

@@ -70,7 +70,7 @@ pub(crate) fn is_empty(x: &Value) -> Result<Value, EvalError>
 }
 
 /// The set of these members.
-#[tactic(auto, using(crate::proofs::CollectionsLaws::set_is))]
+#[tactic(auto, using(crate::specs::CollectionLaws::set_is))]
 pub(crate) fn set_value(alloc: Global, members: &[Value]) -> Result<Value, AllocError>
     ensures { IfOk result (λ v. v ≡ set_value members.now) }
 {

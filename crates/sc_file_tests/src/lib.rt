@@ -1,5 +1,5 @@
-//! Tests of whole runs over files and a sink in memory, by what lies outside: commands, files, worlds, logs, generated
-//! policies, and what is said where a file can't be read or a line can't be written. There is no code here but tests.
+//! Tests of whole runs over files and a sink in memory, by what lies outside: words, commands, files, worlds, logs,
+//! generated policies, and what is said where a file can't be read or a line can't be written. There is no code here but tests.
 #![tactic(auto)]
 
 #[cfg(test)]
@@ -14,3 +14,5 @@ mod logs;
 mod outside;
 #[cfg(test)]
 mod replays;
+#[cfg(test)]
+mod words;

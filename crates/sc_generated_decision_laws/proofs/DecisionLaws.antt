@@ -18,7 +18,7 @@ use Rattle.sc_eval.specs.Entities.{access}
 use Rattle.sc_eval.specs.Eval.{eval}
 use Rattle.sc_eval.specs.Operators as operators
 use Rattle.sc_eval.specs.Outcomes.{Outcome, ◌>>=◌, decide, of_bool}
-use Rattle.sc_eval.proofs.EvalLaws.{eval_Access, eval_And, eval_Binary, eval_Literal, eval_Variable}
+use Rattle.sc_eval.specs.ConstructLaws.{eval_Access, eval_And, eval_Binary, eval_Literal, eval_Variable}
 use Rattle.sc_auth.specs.Decisions.{allows, is_forbidding, is_permitting, is_true, satisfied}
 use Rattle.sc_lexer.specs.Pieces.{string_of}
 use Rattle.sc_generated_laws.specs.Items.{lexemes_of}

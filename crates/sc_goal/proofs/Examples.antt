@@ -17,7 +17,7 @@ use Rattle.sc_eval.specs.Outcomes.{◌>>=◌, bool_in, decide, of_bool}
 use Rattle.sc_eval.specs.Entities.{or_missing}
 use Rattle.sc_eval.specs.Operators.{binary, unary}
 use Rattle.sc_eval.specs.Eval.{eval}
-use Rattle.sc_eval.proofs.EvalLaws.{eval_Or, eval_And, eval_Binary, eval_Unary, eval_Literal}
+use Rattle.sc_eval.specs.ConstructLaws.{eval_Or, eval_And, eval_Binary, eval_Unary, eval_Literal}
 use Rattle.sc_auth.specs.Decisions.{true_in, is_true, allows, errs}
 use Rattle.sc_auth.proofs.Examples.{at, when, mfa, condition-when, eval-context, satisfied-mfa}
 use Rattle.sc_question.specs.declared.question.Question.TheVariants.{NeverErrors, AlwaysAllows, AlwaysDenies, Implies, Equivalent, Disjoint}

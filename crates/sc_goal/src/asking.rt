@@ -3,10 +3,12 @@ ghost use Rattle.std.specs.Prelude.{◌≡◌, ◌↔◌, ◌⊎◌, [], Contain
 ghost use Rattle.std.specs.Option.{option_copied};
 ghost use Rattle.sc_names.specs.declared.uid.Uid.{Uid as AnyUid};
 ghost use Rattle.sc_ast.specs.Literals.{literals as uids_of};
+ghost use Rattle.sc_eval.specs.Written.{HaveProperConstants};
 ghost use Rattle.sc_question.specs.Questions.{takes_two};
 
 use crate::queries::Query;
 use sc_ast::{PolicySet, literals};
+use sc_eval::constant_laws;
 use sc_names::{Lits, lits_union};
 use sc_question::Question;
 use std::alloc::{AllocError, Global};
@@ -26,12 +28,24 @@ pub fn query<'a>(
         ↔ (Contains (uids_of first.now) u ⊎ Contains (uids_of (unwrap_or (option_copied against.entry) [])) u)) }
 {
     let literals = written(alloc, first, against)?;
+    constant_laws(first);
+    second_constants(against);
     Ok(Query {
         question,
         first,
         against,
         literals,
     })
+}
+
+/// The constants of the second set are values, if there is one.
+fn second_constants(against: Option<&PolicySet>)
+    ensures { HaveProperConstants (unwrap_or (option_copied against.entry) []) }
+{
+    match against {
+        Some(policies) => constant_laws(policies),
+        None => {}
+    }
 }
 
 /// The uids that the sets write.

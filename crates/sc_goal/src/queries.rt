@@ -66,8 +66,8 @@ impl<'a> Query<'a> {
         &self.literals
     }
 
-    /// There is a second set exactly where the question takes two, and the uids are those that the sets
-    /// write, whichever query it is.
+    /// There is a second set exactly where the question takes two, the uids are those that the sets
+    /// write, and the constants of the sets are values, whichever query it is.
     pub fn laws(&self)
         ensures { IsAsked self.now }
     {

@@ -67,6 +67,7 @@ module _ (s : Declarations) (env : Env) (w : World) (Named : Uid → Type 0) (ac
     text = λ x p. (kept.text x tt, plain_leaf (leafs.Literal (literal.String x)) tt);
     decimal_number = λ n p. (kept.decimal_number n p, plain_leaf (leafs.Literal (literal.Decimal n)) tt);
     address = λ ip p. (kept.address ip p, plain_leaf (leafs.Literal (literal.Ip ip)) tt);
+    address_text = λ text ip e. (kept.address_text text ip e, plain_leaf (leafs.Literal (literal.Ip ip)) tt);
     uid = λ u p. (kept.uid u tt, plain_leaf (leafs.Literal (literal.Entity u (choices_of s u.type_name))) p);
     action = (kept.action, plain_leaf (leafs.Literal (literal.Entity env.action (choices_of s env.action.type_name))) acting);
     principal = (kept.principal, plain_leaf (leafs.Principal (entity_sort s env.principal)) tt);

@@ -5,14 +5,13 @@ use Rattle.std.specs.List.{AllByRecursion}
 use Rattle.sc_lists.proofs.ListLaws.{all_of_elements, contains_first, contains_rest, contains_joined}
 use Rattle.sc_names.specs.declared.uid.Uid.{Uid}
 use Rattle.sc_ast.specs.declared.policy.Policy.{Policy}
-use Rattle.sc_ast.specs.Conditions.{condition}
 use Rattle.sc_ast.specs.Literals.{policy_uids, literals}
 use Rattle.sc_schema.specs.declared.declarations.EntityType.{EntityType}
 use Rattle.sc_schema.specs.declared.declarations.Env.{Env}
 use Rattle.sc_schema.specs.Declarations.{Declarations, environments, is_action_type, action, entity_type}
 use Rattle.sc_schema.specs.Lawful.{IsLawful}
 use Rattle.sc_world.specs.Named.{IsDeclared}
-use Rattle.sc_eval.specs.Written.{HasProperConstants}
+use Rattle.sc_eval.specs.Written.{HaveProperConstants}
 use Rattle.sc_typing.specs.Checking.{fault_from}
 use Rattle.sc_typing.specs.Names.{name_fault}
 use Rattle.sc_sorts.specs.declared.node.Node.{Node}
@@ -27,7 +26,7 @@ use Rattle.sc_goal_tests.specs.Checked.{IsChecked, IsGoalAt}
 
 pub none_checked : (s : Declarations) → IsChecked s []
 unfolding fault_from
-none_checked s = record { types = refl; names = refl; constants = tt }
+none_checked s = record { types = refl; names = refl }
 
 -- ---- what is declared passes the test
 
@@ -44,10 +43,10 @@ declared_by s u false e h = shaped (entity_type s u.type_name) (rw e at h.of_typ
 abbrev AreDeclared : Declarations → Type 0
 AreDeclared s = (ps : List Policy) (u : Uid) → name_fault s ps ≡ None → Contains (literals ps) u → IsDeclared s u
 
-within_set : (lits : List Uid) (ps : List Policy) → ((u : Uid) → Contains (literals ps) u → Contains lits u) → AllByRecursion (λ p. HasProperConstants (condition p)) ps → AllByRecursion (IsWritten lits) ps
+within_set : (lits : List Uid) (ps : List Policy) → ((u : Uid) → Contains (literals ps) u → Contains lits u) → HaveProperConstants ps → AllByRecursion (IsWritten lits) ps
 within_set lits ps f h = each ps h (λ p among. all_of_elements (Contains lits) (policy_uids p) (λ u has. f u (contains_joined policy_uids ps p u among has)))
   where
-    each : (qs : List Policy) → AllByRecursion (λ p. HasProperConstants (condition p)) qs → ((p : Policy) → Contains qs p → AllByRecursion (Contains lits) (policy_uids p)) → AllByRecursion (IsWritten lits) qs
+    each : (qs : List Policy) → HaveProperConstants qs → ((p : Policy) → Contains qs p → AllByRecursion (Contains lits) (policy_uids p)) → AllByRecursion (IsWritten lits) qs
     each [] h g = tt
     each (q ∷ qs) h g = (record { uids = g q (contains_first q qs); constants = h.0 }, each qs h.1 (λ p among. g p (contains_rest q qs p among)))
 
@@ -71,7 +70,7 @@ module _ (s : Declarations) (env : Env) (q : Asked) (lawful : IsLawful s) (here 
   posed_by law xs n (Some t) e h k = record {
     within = k.within;
     goal = subst (IsGoal s env q.literals) (sym k.is)
-        (law q.literals t setting (within_set q.literals q.first (λ u has. (asked.written u).1 (inl has)) first.constants) (within_set q.literals (second q) (λ u has. (asked.written u).1 (inr has)) later.constants) e);
+        (law q.literals t setting (within_set q.literals q.first (λ u has. (asked.written u).1 (inl has)) asked.first_proper) (within_set q.literals (second q) (λ u has. (asked.written u).1 (inr has)) asked.second_proper) e);
   }
 
   pub posed_at : ((lits : List Uid) (question : Question) (a b : List Policy) (t : Tree) → IsSetting s env lits → AllByRecursion (IsWritten lits) a → AllByRecursion (IsWritten lits) b → goal_term s env question a b ≡ Some t → IsGoal s env lits t)

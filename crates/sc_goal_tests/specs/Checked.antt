@@ -1,10 +1,7 @@
 -- Policies that a file spells and that pass the checks, and goals in a table of terms.
 use Rattle.std.specs.Prelude.{◌≡◌, ◌<◌, ℕ, List, None, length}
-use Rattle.std.specs.List.{AllByRecursion}
 use Rattle.sc_ast.specs.declared.policy.Policy.{Policy}
-use Rattle.sc_ast.specs.Conditions.{condition}
 use Rattle.sc_closure_rules.specs.Goals.{IsGoal}
-use Rattle.sc_eval.specs.Written.{HasProperConstants}
 use Rattle.sc_names.specs.declared.uid.Uid.{Uid}
 use Rattle.sc_sorts.specs.declared.node.Node.{Node}
 use Rattle.sc_schema.specs.declared.declarations.Env.{Env}
@@ -13,11 +10,10 @@ use Rattle.sc_terms.specs.Tables.{tree}
 use Rattle.sc_typing.specs.Checking.{type_fault}
 use Rattle.sc_typing.specs.Names.{name_fault}
 
--- they have types, write declared names alone, and their constants are values
+-- they have types, and write declared names alone
 pub record IsChecked (s : Declarations) (ps : List Policy) : Type 0 where
   pub types : type_fault s ps ≡ None
   pub names : name_fault s ps ≡ None
-  pub constants : AllByRecursion (λ p. HasProperConstants (condition p)) ps
 
 -- a term of the table is what closure asks of a goal
 pub record IsGoalAt (s : Declarations) (env : Env) (literals : List Uid) (xs : List Node) (n : ℕ) : Type 0 where

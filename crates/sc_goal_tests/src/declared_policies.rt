@@ -1,16 +1,11 @@
 //! Policies by their text, with names and types checked, and the schema that they are checked under.
-ghost use Rattle.std.specs.Prelude.{◌≡◌, List, None, IfOk, OnOk};
-ghost use Rattle.std.specs.List.{AllByRecursion};
-ghost use Rattle.sc_ast.specs.declared.policy.Policy.{Policy as AnyPolicy};
-ghost use Rattle.sc_ast.specs.Conditions.{condition};
-ghost use Rattle.sc_eval.specs.Written.{HasProperConstants};
+ghost use Rattle.std.specs.Prelude.{◌≡◌, None, IfOk, OnOk};
 ghost use Rattle.sc_typing.specs.Checking.{type_fault};
 ghost use Rattle.sc_typing.specs.Names.{name_fault};
 ghost use Rattle.sc_goal_tests.specs.Checked.{IsChecked};
 
 use sc_ast::PolicySet;
 use sc_parser::read_policies;
-use sc_parser_laws::constant_laws;
 use sc_schema::Schema;
 use sc_schema_json::read_schema;
 use sc_typing::{check_names, check_types};
@@ -34,10 +29,7 @@ pub(crate) fn schema(alloc: Global) -> Result<Schema, AllocError> {
 }
 
 /// The policies of a file. That it isn't read counts as want of memory.
-fn policies(alloc: Global, file: &str) -> Result<PolicySet, AllocError>
-    ensures { IfOk result (λ (ps : List AnyPolicy). AllByRecursion (λ p. HasProperConstants (condition p)) ps) }
-{
-    constant_laws();
+fn policies(alloc: Global, file: &str) -> Result<PolicySet, AllocError> {
     match read_policies(alloc, file.as_bytes()) {
         Ok(policies) => Ok(policies),
         Err(_) => Err(AllocError),

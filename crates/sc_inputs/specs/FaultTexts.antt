@@ -1,5 +1,5 @@
--- The faults of files as text: a fault's name, and its place where it has one, in bytes of a policy file or as a path in a
--- schema file or a world file.
+-- The faults of files as text: a fault's name, and its place where it has one, in bytes of a policy file or as a path
+-- in a schema file or a world file.
 use Rattle.std.specs.Prelude.{ℕ, List, ◌++◌, codes}
 use Rattle.std.specs.Fmt.{decimal}
 use Rattle.sc_ast.specs.declared.place.Place.{Place}
@@ -91,4 +91,6 @@ rule_name rule.NotIp = codes "NotIp"
 
 -- a policy without a type: which one, the environment, the rule that it breaks there, and its place
 unfoldable pub type_fault_text : IllTyped → List ℕ
-type_fault_text f = codes "policy" ++ (decimal f.policy ++ (codes " " ++ (env_text f.env ++ (codes " " ++ placed (rule_name f.fault.rule) f.fault.at))))
+type_fault_text f = codes "policy"
+    ++ (decimal f.policy ++ (codes " "
+    ++ (env_text f.env ++ (codes " " ++ placed (rule_name f.fault.rule) f.fault.at))))

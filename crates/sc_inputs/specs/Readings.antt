@@ -26,17 +26,20 @@ use Rattle.sc_inputs.specs.declared.refusal.Refusal.TheVariants.{ReadFault}
 
 -- ---- a command whose files are read
 
--- the words are a command to ask this question for this aim, its files were read and spell a schema and these policies, which write
--- declared names alone and are typed in each environment, and the environment that is named is one of the schema; the budget allows some work, and
--- there is a second set where the question takes two, unless the first is to be reduced
-pub record ReadsAll (content : spec.Content) (words : List (List ℕ)) (s : Declarations) (question : Question) (first : List Policy) (against : Option (List Policy)) (aim : Aim) : Type 0 where
+-- the words are a command to ask this question for this aim, its files were read and spell a schema and these
+-- policies, which write declared names alone and are typed in each environment, and the environment that is named is
+-- one of the schema; the budget allows some work, and there is a second set where the question takes two, unless the
+-- first is to be reduced
+pub record ReadsAll (content : spec.Content) (words : List (List ℕ)) (s : Declarations) (question : Question)
+    (first : List Policy) (against : Option (List Policy)) (aim : Aim) : Type 0 where
   pub reached : spec.ReachesAim content words s question first against aim
   pub units : HasUnits aim
   pub sets : is_some against ≡ has_second aim question
 
 -- the words are a command to replay a world, its files were read and spell a schema, policies and the world, and the
 -- policies write declared names alone
-pub record ReadsWorld (content : spec.Content) (words : List (List ℕ)) (s : Declarations) (ps : List Policy) (w : World) : Type 0 where
+pub record ReadsWorld (content : spec.Content) (words : List (List ℕ)) (s : Declarations) (ps : List Policy)
+    (w : World) : Type 0 where
   pub name : List ℕ
   pub reaches : spec.ReachesWorld content words s ps name
   pub spelled : spec.HasWorld content name w
@@ -104,7 +107,8 @@ ReadsRest content c s (Logged i) = ReadsAsking content c s (logging i.analysis.b
 ReadsRest content c s (Checked i) = ReadsAsking content c s (checking i.environment i.log.now) i.asking
 ReadsRest content c s (Reduced i) = ReadsAsking content c s (reducing i.budget) i.asking
 ReadsRest content c s (Generated size) = ⊥
-ReadsRest content c s (Replayed x) = (name : List ℕ) × (c.task ≡ replaying name) × ReadsScene content c.policies name s x
+ReadsRest content c s (Replayed x) = (name : List ℕ) × (c.task ≡ replaying name)
+    × ReadsScene content c.policies name s x
 
 -- all files are read
 pub record ReadsInputs (content : spec.Content) (c : Command) (i : Inputs) : Type 0 where
@@ -128,18 +132,32 @@ IsRead content words (Replayed x) = ReadsWorld content words x.schema x.policies
 -- ---- why the files of a command are refused, where the schema is read
 
 -- the policy files of a question
-pub data RefusesSets (content : spec.Content) (policies : List ℕ) (against : Option (List ℕ)) (rose : Type 0) : spec.Refusal → Type 0 where
-  by_first : (a : spec.Refusal) → spec.RefusesPolicies content policies spec.policies_side rose a → RefusesSets content policies against rose a
-  by_against : (a : spec.Refusal) (first : List Policy) (name : List ℕ) → spec.HasPolicies content policies first → against ≡ Some name → spec.RefusesPolicies content name spec.against_side rose a → RefusesSets content policies against rose a
+pub data RefusesSets (content : spec.Content) (policies : List ℕ) (against : Option (List ℕ))
+    (failed : List ℕ → Type 0) : spec.Refusal → Type 0 where
+  by_first : (a : spec.Refusal) → spec.RefusesPolicies content policies spec.policies_side failed a
+      → RefusesSets content policies against failed a
+  by_against : (a : spec.Refusal) (first : List Policy) (name : List ℕ) → spec.HasPolicies content policies first
+      → against ≡ Some name → spec.RefusesPolicies content name spec.against_side failed a
+      → RefusesSets content policies against failed a
 
-pub data RefusesAsking (content : spec.Content) (policies : List ℕ) (against : Option (List ℕ)) (aim : Aim) (rose : Type 0) (s : Declarations) : spec.Refusal → Type 0 where
-  by_files : (a : spec.Refusal) → RefusesSets content policies against rose a → RefusesAsking content policies against aim rose s a
-  by_question : (a : spec.Refusal) (first : List Policy) (second : Option (List Policy)) → spec.HasPolicies content policies first → spec.HasAgainst content against second
-      → spec.RefusesQuestion s first second a → RefusesAsking content policies against aim rose s a
-  by_place : (a : spec.Refusal) (first : List Policy) (second : Option (List Policy)) → spec.HasPolicies content policies first → spec.HasAgainst content against second
-      → spec.AreServed s first second → spec.RefusesPlace s aim a → RefusesAsking content policies against aim rose s a
+pub data RefusesAsking (content : spec.Content) (policies : List ℕ) (against : Option (List ℕ)) (aim : Aim)
+    (failed : List ℕ → Type 0) (s : Declarations) : spec.Refusal → Type 0 where
+  by_files : (a : spec.Refusal) → RefusesSets content policies against failed a
+      → RefusesAsking content policies against aim failed s a
+  by_question : (a : spec.Refusal) (first : List Policy) (second : Option (List Policy))
+      → spec.HasPolicies content policies first → spec.HasAgainst content against second
+      → spec.RefusesQuestion s first second a → RefusesAsking content policies against aim failed s a
+  by_place : (a : spec.Refusal) (first : List Policy) (second : Option (List Policy))
+      → spec.HasPolicies content policies first → spec.HasAgainst content against second
+      → spec.AreServed s first second → spec.RefusesPlace s aim a
+      → RefusesAsking content policies against aim failed s a
 
-pub data RefusesScene (content : spec.Content) (policies name : List ℕ) (rose : Type 0) (s : Declarations) : spec.Refusal → Type 0 where
-  by_policies : (a : spec.Refusal) → spec.RefusesPolicies content policies spec.policies_side rose a → RefusesScene content policies name rose s a
-  by_world : (a : spec.Refusal) (ps : List Policy) → spec.HasPolicies content policies ps → spec.RefusesWorld content name rose a → RefusesScene content policies name rose s a
-  by_names : (f : NameFault) (ps : List Policy) (w : World) → spec.HasPolicies content policies ps → spec.HasWorld content name w → name_fault s ps ≡ Some f → RefusesScene content policies name rose s (spec.unknown_name spec.policies_side f)
+pub data RefusesScene (content : spec.Content) (policies name : List ℕ) (failed : List ℕ → Type 0)
+    (s : Declarations) : spec.Refusal → Type 0 where
+  by_policies : (a : spec.Refusal) → spec.RefusesPolicies content policies spec.policies_side failed a
+      → RefusesScene content policies name failed s a
+  by_world : (a : spec.Refusal) (ps : List Policy) → spec.HasPolicies content policies ps
+      → spec.RefusesWorld content name failed a → RefusesScene content policies name failed s a
+  by_names : (f : NameFault) (ps : List Policy) (w : World) → spec.HasPolicies content policies ps
+      → spec.HasWorld content name w → name_fault s ps ≡ Some f
+      → RefusesScene content policies name failed s (spec.unknown_name spec.policies_side f)

@@ -15,7 +15,7 @@ use Rattle.sc_typing.specs.Names.{name_fault}
 use Rattle.sc_world.specs.declared.world.World.{World}
 use Rattle.sc_world_json.specs.declared.fault.WorldFault.{WorldFault}
 use Rattle.sc_world_json.specs.Reading as world
-use Rattle.sc_inputs.specs.Serving.{Aim, Command, IsNoCommand, Serves, asking, checking, place_in, replaying}
+use Rattle.sc_inputs.specs.Serving.{Aim, Command, IsNoCommand, Serves, asking, checking, place_in, replaying, against_in, log_in, world_in}
 use Rattle.sc_inputs.specs.FaultTexts.{fault_text, schema_fault_text, world_fault_text, name_fault_text, type_fault_text}
 use Rattle.sc_question.specs.declared.question.Question.{Question}
 
@@ -69,7 +69,8 @@ on_side front side text = front ++ (side_name side ++ (codes " " ++ (text ++ cod
 
 -- a place that is none of so many environments
 unfoldable pub place_text : ℕ → ℕ → List ℕ
-place_text place count = codes "error 16 environment " ++ (decimal place ++ (codes " of " ++ (decimal count ++ codes "\n")))
+place_text place count = codes "error 16 environment "
+    ++ (decimal place ++ (codes " of " ++ (decimal count ++ codes "\n")))
 
 abbrev pub refusal_text : Refusal → List ℕ
 refusal_text usage = codes "error 10 usage\n"
@@ -83,6 +84,14 @@ refusal_text (read_fault f) = codes "error 20 " ++ file_name f ++ codes "\n"
 refusal_text (too_long f) = codes "error 22 " ++ file_name f ++ codes "\n"
 
 -- ---- files
+
+-- the name of a file of a command, where it has one
+abbrev pub name_of : Command → File → Option (List ℕ)
+name_of c schema_file = Some c.schema
+name_of c (policy_file policies_side) = Some c.policies
+name_of c (policy_file against_side) = against_in c.task
+name_of c world_file = world_in c.task
+name_of c log_file = log_in c.task
 
 -- how long a file may be, but for a log
 abbrev pub limit : ℕ
@@ -133,9 +142,10 @@ HasAgainst content None (Some ps) = ⊥
 HasAgainst content (Some name) None = ⊥
 HasAgainst content (Some name) (Some ps) = HasPolicies content name ps
 
--- the words are the command to ask a question, for an aim, of the policies `first`, and of `against` where it takes two sets; its
--- schema file and policy files are read
-pub record ReachesQuestion (content : Content) (words : List (List ℕ)) (s : Declarations) (question : Question) (first : List Policy) (against : Option (List Policy)) (aim : Aim) : Type 0 where
+-- the words are the command to ask a question, for an aim, of the policies `first`, and of `against` where it takes
+-- two sets; its schema file and policy files are read
+pub record ReachesQuestion (content : Content) (words : List (List ℕ)) (s : Declarations) (question : Question)
+    (first : List Policy) (against : Option (List Policy)) (aim : Aim) : Type 0 where
   pub command : Command
   pub commands : Serves words command
   pub name : Option (List ℕ)
@@ -144,8 +154,10 @@ pub record ReachesQuestion (content : Content) (words : List (List ℕ)) (s : De
   pub policies : HasPolicies content command.policies first
   pub others : HasAgainst content name against
 
--- the words are the command to replay the world of the file of this name, whose other files spell the schema and the policies
-pub record ReachesWorld (content : Content) (words : List (List ℕ)) (s : Declarations) (ps : List Policy) (name : List ℕ) : Type 0 where
+-- the words are the command to replay the world of the file of this name, whose other files spell the schema and the
+-- policies
+pub record ReachesWorld (content : Content) (words : List (List ℕ)) (s : Declarations) (ps : List Policy)
+    (name : List ℕ) : Type 0 where
   pub command : Command
   pub commands : Serves words command
   pub task : command.task ≡ replaying name
@@ -161,7 +173,8 @@ abbrev pub in_against : {F : Type 0} → (List Policy → Option F) → Option (
 in_against fault None = None
 in_against fault (Some ps) = on against_side (fault ps)
 
-abbrev pub first_fault : {F : Type 0} → (List Policy → Option F) → List Policy → Option (List Policy) → Option (Side × F)
+abbrev pub first_fault : {F : Type 0} → (List Policy → Option F) → List Policy → Option (List Policy)
+    → Option (Side × F)
 first_fault fault first against = option_or (on policies_side (fault first)) (in_against fault against)
 
 -- the first name that isn't declared, and the first policy without a type
@@ -180,60 +193,86 @@ pub record AreServed (s : Declarations) (first : List Policy) (against : Option 
 abbrev pub HasEnvironment : Declarations → Aim → Type 0
 HasEnvironment s aim = IfSome (place_in aim) (λ place. place < length (environments s))
 
--- the words are the command to ask a question, for an aim, of policies that are read, write declared names alone, and are typed in each
--- environment, of a schema with the environment that is named
-pub record ReachesAim (content : Content) (words : List (List ℕ)) (s : Declarations) (question : Question) (first : List Policy) (against : Option (List Policy)) (aim : Aim) : Type 0 where
+-- the words are the command to ask a question, for an aim, of policies that are read, write declared names alone, and
+-- are typed in each environment, of a schema with the environment that is named
+pub record ReachesAim (content : Content) (words : List (List ℕ)) (s : Declarations) (question : Question)
+    (first : List Policy) (against : Option (List Policy)) (aim : Aim) : Type 0 where
   pub reaches : ReachesQuestion content words s question first against aim
   pub served : AreServed s first against
   pub environment : HasEnvironment s aim
 
--- ---- refusals; `rose` says that the count of read faults rose
+-- ---- refusals; `failed` says of the name of a file that a call for it failed, and was the last that did
 
--- a file isn't read: the count rose, or it is too long
-pub data RefusesFile (content : Content) (name : List ℕ) (rose : Type 0) (file : File) : Refusal → Type 0 where
-  unread : rose → RefusesFile content name rose file (read_fault file)
-  long : IsTooLong content name → RefusesFile content name rose file (too_long file)
+-- a file isn't read: the call for it failed, or it is too long
+pub data RefusesFile (content : Content) (name : List ℕ) (failed : List ℕ → Type 0) (file : File) : Refusal
+    → Type 0 where
+  unread : failed name → RefusesFile content name failed file (read_fault file)
+  long : IsTooLong content name → RefusesFile content name failed file (too_long file)
 
 -- the schema file isn't read, or spells no schema
-pub data RefusesSchema (content : Content) (c : Command) (rose : Type 0) : Refusal → Type 0 where
-  schema_unread : (a : Refusal) → RefusesFile content c.schema rose schema_file a → RefusesSchema content c rose a
-  schema_faulty : (f : SchemaFault) (bytes : List ℕ) → IsContent content c.schema bytes → schema.HasFault bytes f → RefusesSchema content c rose (schema_text f)
+pub data RefusesSchema (content : Content) (c : Command) (failed : List ℕ → Type 0) : Refusal → Type 0 where
+  schema_unread : (a : Refusal) → RefusesFile content c.schema failed schema_file a → RefusesSchema content c failed a
+  schema_faulty : (f : SchemaFault) (bytes : List ℕ) → IsContent content c.schema bytes → schema.HasFault bytes f
+      → RefusesSchema content c failed (schema_text f)
 
 -- the policy file of this name isn't read, or spells no policies
-pub data RefusesPolicies (content : Content) (name : List ℕ) (side : Side) (rose : Type 0) : Refusal → Type 0 where
-  policies_unread : (a : Refusal) → RefusesFile content name rose (policy_file side) a → RefusesPolicies content name side rose a
-  policies_faulty : (f : PolicyFault) (bytes : List ℕ) → IsContent content name bytes → HasFault bytes f → RefusesPolicies content name side rose (policy_text side f)
+pub data RefusesPolicies (content : Content) (name : List ℕ) (side : Side) (failed : List ℕ → Type 0) : Refusal
+    → Type 0 where
+  policies_unread : (a : Refusal) → RefusesFile content name failed (policy_file side) a
+      → RefusesPolicies content name side failed a
+  policies_faulty : (f : PolicyFault) (bytes : List ℕ) → IsContent content name bytes → HasFault bytes f
+      → RefusesPolicies content name side failed (policy_text side f)
 
 -- the world file of this name isn't read, or spells no world
-pub data RefusesWorld (content : Content) (name : List ℕ) (rose : Type 0) : Refusal → Type 0 where
-  world_unread : (a : Refusal) → RefusesFile content name rose world_file a → RefusesWorld content name rose a
-  world_faulty : (f : WorldFault) (bytes : List ℕ) → IsContent content name bytes → world.HasFault bytes f → RefusesWorld content name rose (world_text f)
+pub data RefusesWorld (content : Content) (name : List ℕ) (failed : List ℕ → Type 0) : Refusal → Type 0 where
+  world_unread : (a : Refusal) → RefusesFile content name failed world_file a → RefusesWorld content name failed a
+  world_faulty : (f : WorldFault) (bytes : List ℕ) → IsContent content name bytes → world.HasFault bytes f
+      → RefusesWorld content name failed (world_text f)
 
 -- the log in the file of this name isn't read whole
-pub data RefusesLog (content : Content) (name : List ℕ) (rose : Type 0) : Refusal → Type 0 where
-  log_unread : rose → RefusesLog content name rose (read_fault log_file)
-  log_long : IsLongLog content name → RefusesLog content name rose (too_long log_file)
+pub data RefusesLog (content : Content) (name : List ℕ) (failed : List ℕ → Type 0) : Refusal → Type 0 where
+  log_unread : failed name → RefusesLog content name failed (read_fault log_file)
+  log_long : IsLongLog content name → RefusesLog content name failed (too_long log_file)
 
--- all policy files of a question are read, and its policies are refused: a name isn't declared; or all are, and a policy has no type
-pub data RefusesQuestion (s : Declarations) (first : List Policy) (against : Option (List Policy)) : Refusal → Type 0 where
-  undeclared : (side : Side) (f : NameFault) → names_fault s first against ≡ Some (side, f) → RefusesQuestion s first against (unknown_name side f)
-  untyped : (side : Side) (f : IllTyped) → names_fault s first against ≡ None → types_fault s first against ≡ Some (side, f) → RefusesQuestion s first against (ill_typed side f)
+-- all policy files of a question are read, and its policies are refused: a name isn't declared; or all are, and a
+-- policy has no type
+pub data RefusesQuestion (s : Declarations) (first : List Policy) (against : Option (List Policy)) : Refusal
+    → Type 0 where
+  undeclared : (side : Side) (f : NameFault) → names_fault s first against ≡ Some (side, f)
+      → RefusesQuestion s first against (unknown_name side f)
+  untyped : (side : Side) (f : IllTyped) → names_fault s first against ≡ None
+      → types_fault s first against ≡ Some (side, f) → RefusesQuestion s first against (ill_typed side f)
 
 -- the environment that is named is none of the schema
 pub data RefusesPlace (s : Declarations) (aim : Aim) : Refusal → Type 0 where
-  misplaced : (place : ℕ) → place_in aim ≡ Some place → length (environments s) ≤ place → RefusesPlace s aim (no_environment place (length (environments s)))
+  misplaced : (place : ℕ) → place_in aim ≡ Some place → length (environments s) ≤ place
+      → RefusesPlace s aim (no_environment place (length (environments s)))
 
--- the words are no command; or a file is refused, where those before it are read; or, where all files are read, the policies of a
--- replay write a name that isn't declared, or those of a question are refused, or the environment that is named is none; or
--- the log that is to be checked is refused, where all else is read
-pub data IsRefusal (content : Content) (words : List (List ℕ)) (rose : Type 0) : Refusal → Type 0 where
-  no_command : IsNoCommand words → IsRefusal content words rose usage
-  of_schema : (a : Refusal) (c : Command) → Serves words c → RefusesSchema content c rose a → IsRefusal content words rose a
-  of_policies : (a : Refusal) (c : Command) (s : Declarations) → Serves words c → ReadsSchema content c s → RefusesPolicies content c.policies policies_side rose a → IsRefusal content words rose a
-  of_against : (a : Refusal) (c : Command) (s : Declarations) (question : Question) (name : List ℕ) (aim : Aim) (first : List Policy) → Serves words c → c.task ≡ asking question (Some name) aim → ReadsSchema content c s
-      → HasPolicies content c.policies first → RefusesPolicies content name against_side rose a → IsRefusal content words rose a
-  of_world : (a : Refusal) (s : Declarations) (ps : List Policy) (name : List ℕ) → ReachesWorld content words s ps name → RefusesWorld content name rose a → IsRefusal content words rose a
-  of_names : (f : NameFault) (s : Declarations) (ps : List Policy) (name : List ℕ) (w : World) → ReachesWorld content words s ps name → HasWorld content name w → name_fault s ps ≡ Some f → IsRefusal content words rose (unknown_name policies_side f)
-  of_question : (a : Refusal) (s : Declarations) (question : Question) (first : List Policy) (against : Option (List Policy)) (aim : Aim) → ReachesQuestion content words s question first against aim → RefusesQuestion s first against a → IsRefusal content words rose a
-  of_place : (a : Refusal) (s : Declarations) (question : Question) (first : List Policy) (against : Option (List Policy)) (aim : Aim) → ReachesQuestion content words s question first against aim → AreServed s first against → RefusesPlace s aim a → IsRefusal content words rose a
-  of_log : (a : Refusal) (s : Declarations) (question : Question) (first : List Policy) (against : Option (List Policy)) (place : ℕ) (name : List ℕ) → ReachesAim content words s question first against (checking place name) → RefusesLog content name rose a → IsRefusal content words rose a
+-- the words are no command; or a file is refused, where those before it are read; or, where all files are read, the
+-- policies of a replay write a name that isn't declared, or those of a question are refused, or the environment that
+-- is named is none; or the log that is to be checked is refused, where all else is read
+pub data IsRefusal (content : Content) (words : List (List ℕ)) (failed : List ℕ → Type 0) : Refusal → Type 0 where
+  no_command : IsNoCommand words → IsRefusal content words failed usage
+  of_schema : (a : Refusal) (c : Command) → Serves words c → RefusesSchema content c failed a
+      → IsRefusal content words failed a
+  of_policies : (a : Refusal) (c : Command) (s : Declarations) → Serves words c → ReadsSchema content c s
+      → RefusesPolicies content c.policies policies_side failed a → IsRefusal content words failed a
+  of_against : (a : Refusal) (c : Command) (s : Declarations) (question : Question) (name : List ℕ) (aim : Aim)
+      (first : List Policy) → Serves words c → c.task ≡ asking question (Some name) aim → ReadsSchema content c s
+      → HasPolicies content c.policies first → RefusesPolicies content name against_side failed a
+      → IsRefusal content words failed a
+  of_world : (a : Refusal) (s : Declarations) (ps : List Policy) (name : List ℕ)
+      → ReachesWorld content words s ps name → RefusesWorld content name failed a → IsRefusal content words failed a
+  of_names : (f : NameFault) (s : Declarations) (ps : List Policy) (name : List ℕ) (w : World)
+      → ReachesWorld content words s ps name → HasWorld content name w → name_fault s ps ≡ Some f
+      → IsRefusal content words failed (unknown_name policies_side f)
+  of_question : (a : Refusal) (s : Declarations) (question : Question) (first : List Policy)
+      (against : Option (List Policy)) (aim : Aim) → ReachesQuestion content words s question first against aim
+      → RefusesQuestion s first against a → IsRefusal content words failed a
+  of_place : (a : Refusal) (s : Declarations) (question : Question) (first : List Policy)
+      (against : Option (List Policy)) (aim : Aim) → ReachesQuestion content words s question first against aim
+      → AreServed s first against → RefusesPlace s aim a → IsRefusal content words failed a
+  of_log : (a : Refusal) (s : Declarations) (question : Question) (first : List Policy)
+      (against : Option (List Policy)) (place : ℕ) (name : List ℕ)
+      → ReachesAim content words s question first against (checking place name) → RefusesLog content name failed a
+      → IsRefusal content words failed a

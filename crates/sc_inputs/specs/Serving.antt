@@ -73,7 +73,8 @@ abbrev pub MayWork : Task → Type 0
 MayWork (asking question against a) = HasUnits a
 MayWork (replaying world) = ⊤
 
--- whether a second file is named: the question takes two sets; but policies that are to be fewer are compared with themselves
+-- whether a second file is named: the question takes two sets; but policies that are to be fewer are compared with
+-- themselves
 abbrev pub has_second : Aim → Question → Bool
 has_second (reporting budget) question = takes_two question
 has_second (logging budget place) question = takes_two question
@@ -90,6 +91,25 @@ place_in (reporting budget) = None
 place_in (logging budget place) = Some place
 place_in (checking place log) = Some place
 place_in (reducing budget) = None
+
+-- the second policy file, the world file and the log file that are named, where one is
+abbrev pub against_in : Task → Option (List ℕ)
+against_in (asking question against a) = against
+against_in (replaying world) = None
+
+abbrev pub world_in : Task → Option (List ℕ)
+world_in (asking question against a) = None
+world_in (replaying world) = Some world
+
+abbrev pub log_of : Aim → Option (List ℕ)
+log_of (reporting budget) = None
+log_of (logging budget place) = None
+log_of (checking place log) = Some log
+log_of (reducing budget) = None
+
+abbrev pub log_in : Task → Option (List ℕ)
+log_in (asking question against a) = log_of a
+log_in (replaying world) = None
 
 abbrev pub aim_view : aim_code.Aim → Aim
 aim_view (aim.Report budget) = reporting budget

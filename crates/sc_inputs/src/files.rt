@@ -1,6 +1,6 @@
 //! Reads a file, and what its bytes spell.
 ghost use Rattle.std.specs.Prelude.{◌≡◌, ◌<◌, ◌≤◌, ℕ, List, IfOk, IfErr};
-ghost use Rattle.sc_outside.specs.Counts.{Rose};
+ghost use Rattle.sc_outside.specs.Failures.{FailsAt};
 ghost use Rattle.sc_parser.specs.Spelling.{Spells};
 ghost use Rattle.sc_schema_json.specs.Spelling.{Spells as SpellsSchema};
 ghost use Rattle.sc_world_json.specs.Reading.{SpellsWorld};
@@ -30,8 +30,8 @@ pub fn content_of<F: Files>(
     file: FileName,
 ) -> Result<Vec<u8>, Fault<Refusal>>
     ensures found { IfOk result (λ v. IsContent (F.content files.old) name.now v.items) }
-    ensures fails { IfErr result (FailsWith (RefusesFile (F.content files.old) name.now (Rose (F.faults files.old)
-        (F.faults files.new)) (file_view file))) }
+    ensures fails { IfErr result (FailsWith (RefusesFile (F.content files.old) name.now
+        (FailsAt F.Files files.old files.new) (file_view file))) }
     ensures keeps { (other : List ℕ) → F.content files.new other ≡ F.content files.old other }
     ensures later { F.faults files.old ≤ F.faults files.new }
     ensures told { F.faults files.old < F.faults files.new → IsUnread result }

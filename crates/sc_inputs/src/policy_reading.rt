@@ -1,6 +1,6 @@
 //! Reads the policy files of a command.
 ghost use Rattle.std.specs.Prelude.{◌≡◌, ◌<◌, ◌≤◌, ℕ, List, IfOk, IfErr, option_map};
-ghost use Rattle.sc_outside.specs.Counts.{Rose};
+ghost use Rattle.sc_outside.specs.Failures.{FailsAt};
 ghost use Rattle.sc_ast.specs.declared.policy.Policy.{Policy as AnyPolicy};
 ghost use Rattle.sc_inputs.specs.Readings.{FailsWith, RefusesSets, IsUnread};
 ghost use Rattle.sc_inputs.specs.Refusals.{HasPolicies, HasAgainst, RefusesPolicies};
@@ -21,8 +21,8 @@ pub fn policies_of<F: Files>(
     side: Side,
 ) -> Result<PolicySet, Fault<Refusal>>
     ensures reads { IfOk result (λ policies. HasPolicies (F.content files.old) name.now policies) }
-    ensures fails { IfErr result (FailsWith (RefusesPolicies (F.content files.old) name.now (side_view side) (Rose
-        (F.faults files.old) (F.faults files.new)))) }
+    ensures fails { IfErr result (FailsWith (RefusesPolicies (F.content files.old) name.now (side_view side)
+        (FailsAt F.Files files.old files.new))) }
     ensures keeps { (other : List ℕ) → F.content files.new other ≡ F.content files.old other }
     ensures later { F.faults files.old ≤ F.faults files.new }
     ensures told { F.faults files.old < F.faults files.new → IsUnread result }
@@ -42,8 +42,8 @@ fn others_of<F: Files>(
     ensures reads { IfOk result (HasAgainst (F.content files.old) (option_map (λ n. n.now) name.entry)) }
     ensures fails { IfErr result (λ fault. (file : List ℕ) (ps : List AnyPolicy)
         → HasPolicies (F.content files.old) file ps
-        → FailsWith (RefusesSets (F.content files.old) file (option_map (λ n. n.now) name.entry) (Rose
-        (F.faults files.old) (F.faults files.new))) fault) }
+        → FailsWith (RefusesSets (F.content files.old) file (option_map (λ n. n.now) name.entry)
+        (FailsAt F.Files files.old files.new)) fault) }
     ensures keeps { (other : List ℕ) → F.content files.new other ≡ F.content files.old other }
     ensures later { F.faults files.old ≤ F.faults files.new }
     ensures told { F.faults files.old < F.faults files.new → IsUnread result }
@@ -68,7 +68,7 @@ pub fn sets_of<F: Files>(
     ensures second { IfOk result (λ sets. HasAgainst (F.content files.old)
         (option_map (λ n. n.now) against.entry) sets.1) }
     ensures fails { IfErr result (FailsWith (RefusesSets (F.content files.old) policies.now (option_map
-        (λ n. n.now) against.entry) (Rose (F.faults files.old) (F.faults files.new)))) }
+        (λ n. n.now) against.entry) (FailsAt F.Files files.old files.new))) }
     ensures keeps { (other : List ℕ) → F.content files.new other ≡ F.content files.old other }
     ensures later { F.faults files.old ≤ F.faults files.new }
     ensures told { F.faults files.old < F.faults files.new → IsUnread result }

@@ -1,6 +1,6 @@
 //! Reads what a command names.
 ghost use Rattle.std.specs.Prelude.{◌≡◌, ◌<◌, ◌≤◌, ℕ, List, Option, IfOk, IfErr, OnOk, option_map};
-ghost use Rattle.sc_outside.specs.Counts.{Rose};
+ghost use Rattle.sc_outside.specs.Failures.{FailsAt};
 ghost use Rattle.sc_command.specs.CommandLine.{words_view};
 ghost use Rattle.sc_schema.specs.Declarations.{Declarations};
 ghost use Rattle.sc_inputs.specs.Serving.{Command as AnyServed, Serves, aim_view, served_view};
@@ -36,7 +36,7 @@ fn checked_sets<F: Files>(
     ensures served { IfOk result (λ sets. AreServed schema.now sets.0 sets.1) }
     ensures environment { OnOk result (HasEnvironment schema.now (aim_view aim.entry)) }
     ensures fails { IfErr result (FailsWith (RefusesAsking (F.content files.old) policies.now (option_map
-        (λ n. n.now) against.entry) (aim_view aim.entry) (Rose (F.faults files.old) (F.faults files.new)) schema.now)) }
+        (λ n. n.now) against.entry) (aim_view aim.entry) (FailsAt F.Files files.old files.new) schema.now)) }
     ensures keeps { (other : List ℕ) → F.content files.new other ≡ F.content files.old other }
     ensures later { F.faults files.old ≤ F.faults files.new }
     ensures told { F.faults files.old < F.faults files.new → IsUnread result }
@@ -71,7 +71,7 @@ fn asking_of<F: Files>(
     ensures served { IfOk result (λ i. AreServed schema i.policies i.against) }
     ensures environment { OnOk result (HasEnvironment schema (aim_view aim.entry)) }
     ensures fails { IfErr result (FailsWith (RefusesAsking (F.content files.old) policies.now (option_map
-        (λ n. n.now) against.entry) (aim_view aim.entry) (Rose (F.faults files.old) (F.faults files.new)) schema)) }
+        (λ n. n.now) against.entry) (aim_view aim.entry) (FailsAt F.Files files.old files.new) schema)) }
     ensures keeps { (other : List ℕ) → F.content files.new other ≡ F.content files.old other }
     ensures later { F.faults files.old ≤ F.faults files.new }
     ensures told { F.faults files.old < F.faults files.new → IsUnread result }
@@ -117,7 +117,7 @@ fn with_schema<'w, F: Files>(
     ensures reads { IfOk result (ReadsRest (F.content files.old) (served_view command.now) schema) }
     ensures fails { IfErr result (λ fault. (words : List (List ℕ)) → Serves words (served_view command.now)
         → ReadsSchema (F.content files.old) (served_view command.now) schema
-        → FailsWith (IsRefusal (F.content files.old) words (Rose (F.faults files.old) (F.faults files.new))) fault) }
+        → FailsWith (IsRefusal (F.content files.old) words (FailsAt F.Files files.old files.new)) fault) }
     ensures keeps { (other : List ℕ) → F.content files.new other ≡ F.content files.old other }
     ensures later { F.faults files.old ≤ F.faults files.new }
     ensures told { F.faults files.old < F.faults files.new → IsUnread result }
@@ -152,7 +152,7 @@ fn with_command<'w, F: Files>(
 ) -> Result<Inputs<'w>, Fault<Refusal>>
     ensures reads { IfOk result (ReadsInputs (F.content files.old) (served_view command.now)) }
     ensures fails { IfErr result (λ fault. (words : List (List ℕ)) → Serves words (served_view command.now)
-        → FailsWith (IsRefusal (F.content files.old) words (Rose (F.faults files.old) (F.faults files.new))) fault) }
+        → FailsWith (IsRefusal (F.content files.old) words (FailsAt F.Files files.old files.new)) fault) }
     ensures keeps { (other : List ℕ) → F.content files.new other ≡ F.content files.old other }
     ensures later { F.faults files.old ≤ F.faults files.new }
     ensures told { F.faults files.old < F.faults files.new → IsUnread result }
@@ -173,8 +173,8 @@ pub fn inputs_of<'w, F: Files>(
     files: &mut F,
 ) -> Result<Inputs<'w>, Fault<Refusal>>
     ensures reads { IfOk result (IsRead (F.content files.old) (words_view words.now)) }
-    ensures fails { IfErr result (FailsWith (IsRefusal (F.content files.old) (words_view words.now) (Rose
-        (F.faults files.old) (F.faults files.new)))) }
+    ensures fails { IfErr result (FailsWith (IsRefusal (F.content files.old) (words_view words.now)
+        (FailsAt F.Files files.old files.new))) }
     ensures keeps { (other : List ℕ) → F.content files.new other ≡ F.content files.old other }
     ensures later { F.faults files.old ≤ F.faults files.new }
     ensures told { F.faults files.old < F.faults files.new → IsUnread result }

@@ -1,6 +1,6 @@
 //! Reads the policies and the world that a command replays.
 ghost use Rattle.std.specs.Prelude.{◌≡◌, ◌<◌, ◌≤◌, ℕ, List, None, IfOk, IfErr, OnOk};
-ghost use Rattle.sc_outside.specs.Counts.{Rose};
+ghost use Rattle.sc_outside.specs.Failures.{FailsAt};
 ghost use Rattle.sc_typing.specs.Names.{name_fault};
 ghost use Rattle.sc_inputs.specs.Readings.{FailsWith, ReadsScene, RefusesScene, IsUnread};
 ghost use Rattle.sc_inputs.specs.Refusals.{HasPolicies, HasWorld, RefusesWorld};
@@ -20,8 +20,8 @@ use std::alloc::Global;
 /// The world of a file.
 fn world_of<F: Files>(alloc: Global, files: &mut F, name: &str) -> Result<World, Fault<Refusal>>
     ensures reads { IfOk result (HasWorld (F.content files.old) name.now) }
-    ensures fails { IfErr result (FailsWith (RefusesWorld (F.content files.old) name.now (Rose (F.faults files.old)
-        (F.faults files.new)))) }
+    ensures fails { IfErr result (FailsWith (RefusesWorld (F.content files.old) name.now
+        (FailsAt F.Files files.old files.new))) }
     ensures keeps { (other : List ℕ) → F.content files.new other ≡ F.content files.old other }
     ensures later { F.faults files.old ≤ F.faults files.new }
     ensures told { F.faults files.old < F.faults files.new → IsUnread result }
@@ -43,8 +43,8 @@ fn world_for<F: Files>(
     ensures reads { IfOk result (HasWorld (F.content files.old) name.now) }
     ensures names { OnOk result (name_fault schema.now policies.now ≡ None) }
     ensures fails { IfErr result (λ fault. (file : List ℕ) → HasPolicies (F.content files.old) file policies.now
-        → FailsWith (RefusesScene (F.content files.old) file name.now (Rose (F.faults files.old)
-        (F.faults files.new)) schema.now) fault) }
+        → FailsWith (RefusesScene (F.content files.old) file name.now
+        (FailsAt F.Files files.old files.new) schema.now) fault) }
     ensures keeps { (other : List ℕ) → F.content files.new other ≡ F.content files.old other }
     ensures later { F.faults files.old ≤ F.faults files.new }
     ensures told { F.faults files.old < F.faults files.new → IsUnread result }
@@ -69,8 +69,8 @@ fn parts_of<F: Files>(
     ensures policies { IfOk result (λ parts. HasPolicies (F.content files.old) policies.now parts.0) }
     ensures world { IfOk result (λ parts. HasWorld (F.content files.old) world.now parts.1) }
     ensures names { IfOk result (λ parts. name_fault schema.now parts.0 ≡ None) }
-    ensures fails { IfErr result (FailsWith (RefusesScene (F.content files.old) policies.now world.now (Rose
-        (F.faults files.old) (F.faults files.new)) schema.now)) }
+    ensures fails { IfErr result (FailsWith (RefusesScene (F.content files.old) policies.now world.now
+        (FailsAt F.Files files.old files.new) schema.now)) }
     ensures keeps { (other : List ℕ) → F.content files.new other ≡ F.content files.old other }
     ensures later { F.faults files.old ≤ F.faults files.new }
     ensures told { F.faults files.old < F.faults files.new → IsUnread result }
@@ -93,8 +93,8 @@ pub fn scene_of<F: Files>(
     schema: Schema,
 ) -> Result<Scene, Fault<Refusal>>
     ensures reads { IfOk result (ReadsScene (F.content files.old) policies.now world.now schema) }
-    ensures fails { IfErr result (FailsWith (RefusesScene (F.content files.old) policies.now world.now (Rose
-        (F.faults files.old) (F.faults files.new)) schema)) }
+    ensures fails { IfErr result (FailsWith (RefusesScene (F.content files.old) policies.now world.now
+        (FailsAt F.Files files.old files.new) schema)) }
     ensures keeps { (other : List ℕ) → F.content files.new other ≡ F.content files.old other }
     ensures later { F.faults files.old ≤ F.faults files.new }
     ensures told { F.faults files.old < F.faults files.new → IsUnread result }

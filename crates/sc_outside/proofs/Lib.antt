@@ -1,2 +1,4 @@
 pub mod CountLaws
+pub mod FailureLaws
 pub mod PieceLaws
+pub mod WriteLaws

@@ -22,6 +22,11 @@ abbrev pub Starts : Option (List ℕ) → Left → Left → Result Unit FileFaul
 Starts content old new (Ok _) = new ≡ Some content
 Starts content old new (Err _) = new ≡ old
 
+-- The file of this name is started. Where none is, the one that was started stays so.
+abbrev pub StartsAt : List ℕ → Option (List ℕ) → Option (List ℕ) → Result Unit FileFault → Type 0
+StartsAt name old new (Ok _) = new ≡ Some name
+StartsAt name old new (Err _) = new ≡ old
+
 -- a front of what is left, of at most `max` bytes, and empty at the end alone; what follows it is left
 pub record IsPiece (old new : Left) (max : ℕ) (piece : List ℕ) : Type 0 where
   pub front : old ≡ behind piece new
@@ -37,6 +42,10 @@ Takes old new max (Err _) = new ≡ old
 abbrev pub left_in : (List ℕ → Option (List ℕ)) → Option Started → Left
 left_in content started = option_map
     (λ s. option_map (λ bytes. drop s.taken bytes) (content (string_bytes s.name))) started
+
+-- its name
+abbrev pub started_in : Option Started → Option (List ℕ)
+started_in started = option_map (λ s. string_bytes s.name) started
 
 -- what is left of a file that is open, of which nothing is told
 abbrev pub untold_left : {X : Type 0} → Option X → Left

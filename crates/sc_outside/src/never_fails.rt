@@ -2,7 +2,8 @@
 ghost use Rattle.std.specs.Prelude.{◌≡◌, [], None, Some, unwrap_or};
 ghost use Rattle.std.proofs.Common.{rules};
 ghost use Rattle.sc_outside.specs.Memory.{content_in};
-ghost use Rattle.sc_outside.specs.Pieces.{left_in};
+ghost use Rattle.sc_outside.specs.Pieces.{left_in, started_in};
+ghost use Rattle.sc_outside.specs.Writes.{text_told};
 
 use crate::faults::{FileFault, SinkFault};
 use crate::memory::{bytes_in, copy_within};
@@ -42,9 +43,13 @@ impl<T> NeverFails<T> {
 impl Files for NeverFails<BTreeMap<String, Vec<u8>>> {
     ghost content = { λ s name. Some (unwrap_or (content_in s.inner name) []) };
 
+    ghost started = { λ s. started_in s.started };
+
     ghost left = { λ s. left_in (λ name. Some (unwrap_or (content_in s.inner name) [])) s.started };
 
     ghost faults = { λ _. 0 };
+
+    ghost failed = { λ _. None };
 
     ghost bounded = { λ _. Prim.search rules };
 
@@ -53,7 +58,7 @@ impl Files for NeverFails<BTreeMap<String, Vec<u8>>> {
     }
 
     fn start(&mut self, alloc: Global, name: &str) -> Result<(), FileFault> {
-        self.started = Some(Started::new(alloc, name)?);
+        self.started = Some(Started::new(String::from_str(alloc, name)?));
         Ok(())
     }
 
@@ -68,12 +73,13 @@ impl Files for NeverFails<BTreeMap<String, Vec<u8>>> {
 }
 
 impl Sink for NeverFails<Vec<u8>> {
-    ghost written = { λ s. Some s.inner.items };
+    ghost written = { λ s. text_told s.inner.items };
 
     ghost faults = { λ _. 0 };
 
     ghost bounded = { λ _. Prim.search rules };
 
+    #[tactic(auto, using(crate::proofs::WriteLaws::text_more, crate::proofs::WriteLaws::text_same))]
     fn write(&mut self, piece: &[u8]) -> Result<(), SinkFault> {
         self.inner.extend_from_slice(piece)?;
         Ok(())

@@ -13,13 +13,11 @@ pub(crate) struct Started {
 
 impl Started {
     /// The file of this name, of which nothing was taken.
-    pub(crate) fn new(alloc: Global, name: &str) -> Result<Started, AllocError>
-        ensures { IfOk result (λ s. (string_bytes s.name ≡ name.now) × (s.taken ≡ 0)) }
+    pub(crate) fn new(name: String) -> Started
+        ensures name { result.name ≡ name }
+        ensures taken { result.taken ≡ 0 }
     {
-        Ok(Started {
-            name: String::from_str(alloc, name)?,
-            taken: 0,
-        })
+        Started { name, taken: 0 }
     }
 
     /// The name.

@@ -22,6 +22,11 @@ fn has_text(sink: &MemSink, text: &[u8]) -> bool {
     sink.text() == text
 }
 
+/// Whether these are the lengths of the pieces that were written.
+fn has_lengths(sink: &MemSink, lengths: &[usize]) -> bool {
+    sink.lengths() == lengths
+}
+
 #[test]
 fn writes_to_a_sink_in_memory(rt: HostRuntime) -> Result<(), Fail> {
     let alloc = rt.alloc();
@@ -36,6 +41,7 @@ fn writes_to_a_sink_in_memory(rt: HostRuntime) -> Result<(), Fail> {
         has_text(&sink, b"one\ntw!\nend"),
         "more than the piece has"
     );
+    assert!(rt; has_lengths(&sink, &[4, 2, 2, 3]));
     Ok(())
 }
 

@@ -1,4 +1,7 @@
-pub mod TokenLaws
-pub mod ConstantLaws
-pub mod ExpressionLaws
-pub mod PolicyLaws
+pub mod ChoiceLaws
+pub mod TokenTestLaws
+pub mod NameEndLaws
+pub mod ExpressionEndLaws
+pub mod FileEndLaws
+pub mod LexingLaws
+pub mod TotalLaws

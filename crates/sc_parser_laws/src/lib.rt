@@ -1,7 +1,6 @@
-//! The law of what a policy file writes: the policies that it spells have proper constants, so numbers of 64 bits,
-//! and texts and uids of scalar values.
+//! The law that the reading of policy files is total: each file spells policies or has a first fault.
 #![tactic(auto)]
 
-mod laws;
+mod reading;
 
-pub use laws::constant_laws;
+pub use reading::totality_laws;

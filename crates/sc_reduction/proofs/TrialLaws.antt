@@ -110,7 +110,7 @@ from_first s q asked may u c =
 pub trial_closes : Goals → Declaring → (s : Declarations) (env : Env) (q : Query) (left right : List Bool) (budget : ℕ) (t : Tree) → IsLawful s → Contains (environments s) env → IsAsked q → MayBeReduced s q
     → IsGoal (trial s q left right budget) env t → closing.IsGoal s env q.literals t
 trial_closes goals declaring s env q left right budget t lawful among asked may goal =
-    let written = set_written q.literals q.first (λ u c. (asked.written u).1 (inl c)) may.proper in
+    let written = set_written q.literals q.first (λ u c. (asked.written u).1 (inl c)) asked.first_proper in
     goals s env q.literals Equivalent (selected left q.first) (selected right q.first) t
     (record { lawful = lawful; environment = among; declared = λ u c. declared_passes s u (declaring s q.first u may.declared (from_first s q asked may u c)) })
     (all_of_selected (IsWritten q.literals) left q.first written) (all_of_selected (IsWritten q.literals) right q.first written) goal.is

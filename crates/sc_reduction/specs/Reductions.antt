@@ -1,11 +1,9 @@
 -- Reductions: which policies of a set stay, and why.
 use Rattle.std.specs.Prelude.{◌≡◌, ℕ, List, Bool, true, false, map, length, Some, None, slice_get, slice_set, ⊤}
 use Rattle.std.specs.List.{AllByRecursion}
-use Rattle.sc_ast.specs.Conditions.{condition}
 use Rattle.sc_ast.specs.Literals.{literals}
 use Rattle.sc_ast.specs.declared.policy.Policy.{Policy}
 use Rattle.sc_auth.specs.Decisions.{allows}
-use Rattle.sc_eval.specs.Written.{HasProperConstants}
 use Rattle.sc_schema.specs.declared.declarations.Env.{Env}
 use Rattle.sc_schema.specs.Declarations.{Declarations, environments}
 use Rattle.sc_typing.specs.Checking.{type_fault}
@@ -28,14 +26,12 @@ pub record Asked : Type 0 where
 abbrev pub asked_of : Declarations → Query → ℕ → Asked
 asked_of s q budget = record { schema = s; policies = q.first; budget = budget }
 
--- the query compares a set with itself, and the set writes declared names alone, is typed in each environment, and
--- its constants are values
+-- the query compares a set with itself, and the set writes declared names alone and is typed in each environment
 pub record MayBeReduced (s : Declarations) (q : Query) : Type 0 where
   pub question : q.question ≡ Equivalent
   pub itself : q.against ≡ Some q.first
   pub declared : name_fault s q.first ≡ None
   pub typed : type_fault s q.first ≡ None
-  pub proper : AllByRecursion (λ p. HasProperConstants (condition p)) q.first
 
 -- ---- what stays
 

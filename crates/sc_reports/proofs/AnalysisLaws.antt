@@ -18,11 +18,10 @@ use Rattle.sc_goal.specs.Goals.{all_compiled, goal_term}
 use Rattle.sc_goal.specs.Properties.{has}
 use Rattle.sc_goal.specs.Queries.{Asked as Query, IsAsked, second}
 use Rattle.sc_inputs.specs.Readings.{ReadsAll}
-use Rattle.sc_inputs.specs.Refusals.{Content, Side, policies_side, against_side, on, in_against, first_fault, AreServed, HasAgainst}
+use Rattle.sc_inputs.specs.Refusals.{Content, Side, policies_side, against_side, on, in_against, first_fault, AreServed}
 use Rattle.sc_inputs.specs.Serving.{Aim, has_second}
 use Rattle.sc_inputs.specs.declared.inputs.Asking.{Asking}
 use Rattle.sc_names.specs.declared.uid.Uid.{Uid}
-use Rattle.sc_parser.specs.Spelling.{Spells}
 use Rattle.sc_question.specs.Questions.{takes_two}
 use Rattle.sc_question.specs.declared.question.Question.{Question}
 use Rattle.sc_schema.specs.declared.declarations.Env.{Env}
@@ -38,7 +37,7 @@ use Rattle.sc_typing.specs.Names.{name_fault}
 use Rattle.sc_world.specs.declared.world.World.{World}
 use Rattle.sc_world.specs.Named.{IsDeclared}
 use Rattle.sc_world.specs.WellFormed.{IsWellFormed}
-use Rattle.sc_reports.specs.Analyses.{asked, asked_of, asked_within, HaveProper, IsAnswer, IsGoalOf, IsQueryOf, MayBeAsked, MayBePosed}
+use Rattle.sc_reports.specs.Analyses.{asked, asked_of, asked_within, IsAnswer, IsGoalOf, IsQueryOf, MayBeAsked, MayBePosed}
 use Rattle.sc_reports.specs.View.{IsPrintable}
 use Rattle.sc_reports.specs.declared.analysing.EnvAnswer.{EnvAnswer}
 use Rattle.sc_reports.specs.declared.analysing.EnvAnswer.TheVariants.{Holds, Violated, Spent, OverLimit}
@@ -186,27 +185,10 @@ spent-undecided q env p log is spent = (refl, record { posed = p; is_problem = i
 
 -- ---- what a command asks
 
--- the constants of policies that a file spells are values
-abbrev Spelled : Type 0
-Spelled = (bytes : List ℕ) (ps : List Policy) → Spells bytes ps → HaveProper ps
-
-against-proper : Spelled → (content : Content) (name : Option (List ℕ)) (against : Option (List Policy)) → HasAgainst content name against → HaveProper (unwrap_or against [])
-against-proper spelled content None None h = tt
-against-proper spelled content None (Some ps) h = absurd h
-against-proper spelled content (Some name) None h = absurd h
-against-proper spelled content (Some name) (Some ps) h = spelled h.bytes ps h.spelled
-
 -- what is read for an aim that asks the question as it stands may be asked
-pub may-be-asked : Spelled → (content : Content) (words : List (List ℕ)) (i : Asking) (aim : Aim) → has_second aim i.question ≡ takes_two i.question
+pub may-be-asked : (content : Content) (words : List (List ℕ)) (i : Asking) (aim : Aim) → has_second aim i.question ≡ takes_two i.question
     → ReadsAll content words i.schema i.question i.policies i.against aim → MayBeAsked i
-may-be-asked spelled content words i aim plain read =
-    let reaches = read.reached.reaches in
-    record {
-      served = read.reached.served;
-      sets = read.sets ∙ plain;
-      first_proper = spelled reaches.policies.bytes i.policies reaches.policies.spelled;
-      second_proper = against-proper spelled content reaches.name i.against reaches.others;
-    }
+may-be-asked content words i aim plain read = record { served = read.reached.served; sets = read.sets ∙ plain }
 
 -- the query of a command asks what the command does
 pub asked-same : (i : Asking) (budget : ℕ) (q : Query) → IsQueryOf i q → asked_of i.schema q budget ≡ asked_within i budget
@@ -218,12 +200,6 @@ asked-same i budget q is =
 pub query-served : (i : Asking) (q : Query) → IsQueryOf i q → MayBeAsked i → AreServed i.schema q.first q.against
 query-served i q is may =
     subst (λ ps. AreServed i.schema ps q.against) (sym is.first) (subst (λ o. AreServed i.schema i.policies o) (sym is.against) may.served)
-
-pub query-first : (i : Asking) (q : Query) → IsQueryOf i q → MayBeAsked i → HaveProper q.first
-query-first i q is may = subst HaveProper (sym is.first) may.first_proper
-
-pub query-second : (i : Asking) (q : Query) → IsQueryOf i q → MayBeAsked i → HaveProper (second q)
-query-second i q is may = subst (λ (o : Option (List Policy)). HaveProper (unwrap_or o [])) (sym is.against) may.second_proper
 
 pub query-answered : (i : Asking) (budget : ℕ) (q : Query) (env : Env) (a : EnvAnswer) → IsQueryOf i q → IsAnswer (asked_of i.schema q budget) env a → IsAnswer (asked_within i budget) env a
 query-answered i budget q env a is answer = subst (λ x. IsAnswer x env a) (asked-same i budget q is) answer

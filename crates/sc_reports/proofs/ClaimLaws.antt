@@ -7,7 +7,7 @@ use Rattle.sc_checker.specs.declared.checking.Verdict.TheVariants.{Refuted, Reje
 use Rattle.sc_footprint.specs.Problems.{IsPosed, Posed}
 use Rattle.sc_footprint.specs.Problems as problem
 use Rattle.sc_solver.specs.Theories.{HasRule, rule_clause}
-use Rattle.sc_outside.specs.Writes.{appended, Writes}
+use Rattle.sc_outside.specs.Writes.{Written, Writes, appended}
 use Rattle.sc_outside.specs.declared.faults.SinkFault.TheVariants.{Failed}
 use Rattle.sc_schema.specs.declared.declarations.Env.{Env}
 use Rattle.sc_reports.proofs.AnalysisLaws.{asked-same}
@@ -58,12 +58,12 @@ claims-named content i q at env other a is e f h =
 
 -- ---- what is put out
 
-pub said : (content : Option (List ℕ)) (q : Asked) (at : Option Env) (env other : Env) (a : Answer) (text : List ℕ) (old new : Option (List ℕ)) (rose : Type 0) (code : ℕ) → at ≡ Some env → at ≡ Some other → IsShort content → Claims content q other a
+pub said : (content : Option (List ℕ)) (q : Asked) (at : Option Env) (env other : Env) (a : Answer) (text : List ℕ) (old new : Written) (rose : Type 0) (code : ℕ) → at ≡ Some env → at ≡ Some other → IsShort content → Claims content q other a
     → text ≡ answer_text env a → new ≡ appended old text → code ≡ answer_code a → Checked content q other old new rose code
 said content q at env other a text old new rose code e f short claims is put done =
     answer_whole a short claims done (put ∙ ap (appended old) (is ∙ ap (λ x. answer_text x a) (one-of at env other e f)))
 
-pub said-cut : (content : Option (List ℕ)) (q : Asked) (at : Option Env) (env other : Env) (a : Answer) (text : List ℕ) (old new : Option (List ℕ)) (rose : Type 0) → at ≡ Some env → at ≡ Some other → IsShort content → Claims content q other a
+pub said-cut : (content : Option (List ℕ)) (q : Asked) (at : Option Env) (env other : Env) (a : Answer) (text : List ℕ) (old new : Written) (rose : Type 0) → at ≡ Some env → at ≡ Some other → IsShort content → Claims content q other a
     → text ≡ answer_text env a → rose → Writes old new text (Err Failed) → Checked content q other old new rose 21
 said-cut content q at env other a text old new rose e f short claims is risen w =
     answer_front a w.0 short claims risen refl (w.2 ∙ ap (λ t. appended old (take w.0 t)) (is ∙ ap (λ x. answer_text x a) (one-of at env other e f)))

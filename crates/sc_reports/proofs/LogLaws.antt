@@ -1,7 +1,7 @@
 -- What a run writes of the log of an environment.
 use Rattle.std.proofs.Common.{◌≡◌, ◌≢◌, ◌∙◌, ℕ, List, [], ◌∷◌, ◌++◌, Option, Some, Result, Ok, Err, length, get_or, ◌<◌, take, refl, sym, ap, subst}
 use Rattle.std.proofs.lemmas.List.{get_or-map, length-map}
-use Rattle.sc_outside.specs.Writes.{appended}
+use Rattle.sc_outside.specs.Writes.{Written, all_appended, appended}
 use Rattle.sc_outside.specs.declared.faults.SinkFault.{SinkFault}
 use Rattle.sc_outside.specs.declared.faults.SinkFault.TheVariants.{Failed, NoMemory}
 use Rattle.sc_schema.specs.declared.declarations.Env.{Env}
@@ -14,7 +14,7 @@ use Rattle.sc_reports.proofs.ClaimLaws.{one-of}
 use Rattle.sc_reports.proofs.LineLaws.{lines-cut, lines-stop}
 use Rattle.sc_reports.proofs.ReportLaws.{PutsAnswer, counted-within, counts-more, logs-nil}
 use Rattle.sc_reports.specs.Analyses.{IsAnswer, IsFound, IsQueryOf, asked_of, asked_within}
-use Rattle.sc_reports.specs.Lines.{PutsLines, text_of}
+use Rattle.sc_reports.specs.Lines.{PutsLines}
 use Rattle.sc_reports.specs.Logs.{Logged, Shows, log_first, log_front, log_lines, log_status, log_whole, other_front, other_whole, step_lines, unlogged}
 use Rattle.sc_reports.specs.Progress.{Counts, IsFresh, Puts, status_after}
 use Rattle.sc_reports.specs.Reports.{Asked, Line, has_counterexample, holds, line_text, log_of, status_by}
@@ -31,13 +31,13 @@ pub step-lines-within : (steps : List Step) (i : ℕ) → i < length steps → i
 step-lines-within steps i h = subst (λ (n : ℕ). i < n) (sym (length-map steps (λ (x : Step). step_line x ++ 10 ∷ []))) h
 
 -- the line of a step isn't put out, or a front of it is
-pub step-stop : (lines : List (List ℕ)) (i : ℕ) (d line : List ℕ) (old mid new : Option (List ℕ)) (step rose : Type 0) → (step → rose) → i < length lines → mid ≡ appended old (text_of (take i lines)) → get_or lines i d ≡ line
+pub step-stop : (lines : List (List ℕ)) (i : ℕ) (d line : List ℕ) (old mid new : Written) (step rose : Type 0) → (step → rose) → i < length lines → mid ≡ all_appended old (take i lines) → get_or lines i d ≡ line
     → (e : SinkFault) → Puts mid new line step (Err e) → PutsLines lines old new rose (Err e)
 step-stop lines i d line old mid new step rose since h p is Failed w = (since w.0, lines-cut lines i d old mid new w.1.0 h p (w.1.1 ∙ ap (λ (l : List ℕ). appended mid (take w.1.0 l)) (sym is)))
 step-stop lines i d line old mid new step rose since h p is NoMemory w = lines-stop lines i old mid new p w
 
 -- the lines of a log are put out
-pub log-put : (q : Asked) (env : Env) (log : List Step) (old new : Option (List ℕ)) (rose : Type 0) (r : Result Unit SinkFault) (code : ℕ) (spent : List (List Step)) → Shows q env log → PutsLines (log_lines log) old new rose r
+pub log-put : (q : Asked) (env : Env) (log : List Step) (old new : Written) (rose : Type 0) (r : Result Unit SinkFault) (code : ℕ) (spent : List (List Step)) → Shows q env log → PutsLines (log_lines log) old new rose r
     → code ≡ log_status r → spent ≡ [] → Logged q env old new rose code spent
 log-put q env log old new rose (Ok x) code spent shows h c s = log_whole log shows c h s
 log-put q env log old new rose (Err Failed) code spent shows h c s = log_front log h.1.whole h.1.next h.1.rest h.1.kept shows h.1.in_order h.0 c h.1.text s
@@ -51,7 +51,7 @@ line_of q env a = record { env = env; verdict = verdict_view q.budget a }
 fresh-counts : (t : Tally) → IsFresh t → Counts [] t
 fresh-counts t fresh = record { counterexample = fresh.counterexample; undecided = fresh.undecided; spent = fresh.spent }
 
-pub other-put : (q : Asked) (env : Env) (a : EnvAnswer) (b : ℕ) (t u : Tally) (old new : Option (List ℕ)) (text : List ℕ) (rose : Type 0) (r : Result Unit SinkFault) (code : ℕ) → IsFresh t → text ≡ line_text (line_of q env a)
+pub other-put : (q : Asked) (env : Env) (a : EnvAnswer) (b : ℕ) (t u : Tally) (old new : Written) (text : List ℕ) (rose : Type 0) (r : Result Unit SinkFault) (code : ℕ) → IsFresh t → text ≡ line_text (line_of q env a)
     → IsAnswer q env a → verdict_view q.budget a ≢ holds → PutsAnswer b a t u old new text rose r → code ≡ status_after u r → Logged q env old new rose code u.spent.items
 other-put q env a b t u old new text rose (Ok x) code fresh is answer other h c =
     let l = line_of q env a in
@@ -76,5 +76,5 @@ not-holds budget OverLimit h = λ e. absurd cc
 pub found-of-query : (i : Asking) (budget : ℕ) (q : Query) (env : Env) (a : EnvAnswer) → IsQueryOf i q → IsFound (asked_of i.schema q budget) env a → IsFound (asked_within i budget) env a
 found-of-query i budget q env a is found = subst (λ x. IsFound x env a) (asked-same i budget q is) found
 
-pub logged-named : (q : Asked) (at : Option Env) (env other : Env) (old new : Option (List ℕ)) (rose : Type 0) (code : ℕ) (spent : List (List Step)) → at ≡ Some env → at ≡ Some other → Logged q env old new rose code spent → Logged q other old new rose code spent
+pub logged-named : (q : Asked) (at : Option Env) (env other : Env) (old new : Written) (rose : Type 0) (code : ℕ) (spent : List (List Step)) → at ≡ Some env → at ≡ Some other → Logged q env old new rose code spent → Logged q other old new rose code spent
 logged-named q at env other old new rose code spent e f h = subst (λ x. Logged q x old new rose code spent) (one-of at env other e f) h

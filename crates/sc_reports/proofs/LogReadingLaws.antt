@@ -131,9 +131,9 @@ piece-far left next piece room e h = subst (λ (l : Left). IfSome l (λ told. If
 
 -- ---- the log of a file
 
-pub log-fails : (content : Content) (name : List ℕ) (left : Left) (risen rose : Type 0) → (risen → rose) → left ≡ Some (content name) → (a : Refusal) → RefusesPiece left log_limit risen a → RefusesLog content name rose a
-log-fails content name left risen rose since e _ (piece_unread h) = log_unread (since h)
-log-fails content name left risen rose since e _ (piece_long far) = log_long (subst (λ (l : Left). IfSome l (λ told. IfSome told (λ rest. log_limit < length rest))) e far)
+pub log-fails : (content : Content) (name : List ℕ) (left : Left) (risen : Type 0) (failed : List ℕ → Type 0) → (risen → failed name) → left ≡ Some (content name) → (a : Refusal) → RefusesPiece left log_limit risen a → RefusesLog content name failed a
+log-fails content name left risen failed since e _ (piece_unread h) = log_unread (since h)
+log-fails content name left risen failed since e _ (piece_long far) = log_long (subst (λ (l : Left). IfSome l (λ told. IfSome told (λ rest. log_limit < length rest))) e far)
 
 pub fed-same : (held : Held) (old new : Checker AllRules) → held ≡ Some old → new.problem ≡ old.problem → SameProblem held (Some new)
 fed-same held old new is kept = subst (λ (h : Held). SameProblem h (Some new)) (sym is) kept

@@ -1,7 +1,5 @@
 -- What analysing an environment asks, and what its answer means.
-use Rattle.sc_ast.specs.Conditions.{condition}
-use Rattle.sc_eval.specs.Written.{HasProperConstants}
-use Rattle.std.specs.List.{AllByRecursion, Contains}
+use Rattle.std.specs.List.{Contains}
 use Rattle.std.specs.Prelude.{◌≡◌, ◌≤◌, ℕ, List, [], IsSome, None, Option, Some, is_some, length, unwrap_or, ⊤}
 use Rattle.sc_checker.specs.Verdicts.{IsAccepted}
 use Rattle.sc_clauses.specs.declared.step.Step.{Step}
@@ -70,16 +68,10 @@ asked_within i budget = asked i.schema i.question i.policies i.against budget
 abbrev pub asked_in : Analysis → Asked
 asked_in i = asked_within i.asking i.budget
 
--- the constants of policies are values: numbers of 64 bits, and texts of scalar values
-abbrev pub HaveProper : List Policy → Type 0
-HaveProper ps = AllByRecursion (λ p. HasProperConstants (condition p)) ps
-
 -- these may be asked
 pub record MayBeAsked (i : Asking) : Type 0 where
   pub served : AreServed i.schema i.policies i.against
   pub sets : is_some i.against ≡ takes_two i.question
-  pub first_proper : HaveProper i.policies
-  pub second_proper : HaveProper (unwrap_or i.against [])
 
 -- the query of these inputs
 pub record IsQueryOf (i : Asking) (q : Query) : Type 0 where

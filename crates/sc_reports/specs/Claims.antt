@@ -1,7 +1,7 @@
 -- What is said of a log that is checked for an environment.
 use Rattle.std.specs.Prelude.{◌≡◌, ◌≤◌, ◌++◌, ℕ, List, Option, IfSome, length, codes, take}
 use Rattle.std.specs.Fmt.{decimal}
-use Rattle.sc_outside.specs.Writes.{appended}
+use Rattle.sc_outside.specs.Writes.{Written, appended}
 use Rattle.sc_checker.specs.Streams.{HasVerdict, IsAcceptedText}
 use Rattle.sc_checker.specs.declared.checking.Reason.{Reason}
 use Rattle.sc_checker.specs.declared.checking.Reason.TheVariants as reason
@@ -84,7 +84,7 @@ says_of (Rejected step why) = rejected step why
 
 -- How checking a log ends, of a log file with this content, where that is told: the log isn't too long, and what is
 -- said of it is written whole; or the sink failed, and a front of it is; or memory ran out, and nothing is written.
-pub data Checked (content : Option (List ℕ)) (q : Asked) (env : Env) (old new : Option (List ℕ)) (rose : Type 0)
+pub data Checked (content : Option (List ℕ)) (q : Asked) (env : Env) (old new : Written) (rose : Type 0)
     (code : ℕ) : Type 0 where
   answer_whole : (a : Answer) → IsShort content → Claims content q env a → code ≡ answer_code a
       → new ≡ appended old (answer_text env a) → Checked content q env old new rose code

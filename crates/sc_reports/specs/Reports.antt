@@ -112,12 +112,17 @@ verdict_text over_limit = codes "over limit"
 unfoldable pub line_text : Line → List ℕ
 line_text l = env_text l.env ++ codes ": " ++ verdict_text l.verdict ++ codes "\n"
 
-abbrev pub lines_text : List Line → List ℕ
-lines_text lines = flat_map line_text lines
+-- the texts of lines, each with its newline
+abbrev pub line_texts : List Line → List (List ℕ)
+line_texts lines = map line_text lines
 
-abbrev pub report_text : List Line → List ℕ
-report_text [] = codes "no environments\n"
-report_text (l ∷ ls) = lines_text (l ∷ ls)
+-- the one line where there are no environments
+abbrev pub no_environments : List ℕ
+no_environments = codes "no environments\n"
+
+abbrev pub report_texts : List Line → List (List ℕ)
+report_texts [] = no_environments ∷ []
+report_texts (l ∷ ls) = line_texts (l ∷ ls)
 
 abbrev pub is_counterexample : Verdict → Bool
 is_counterexample (counterexample w) = true
@@ -140,7 +145,8 @@ status_by true left = 1
 status_by false true = 2
 status_by false false = 0
 
--- 1 where some line is a counterexample; else 2 where some line is neither that nor tells that the property holds; else 0
+-- 1 where some line is a counterexample; else 2 where some line is neither that nor tells that the property holds;
+-- else 0
 abbrev pub status_of : List Line → ℕ
 status_of lines = status_by (has_counterexample lines) (has_open lines)
 

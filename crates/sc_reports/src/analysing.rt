@@ -2,9 +2,8 @@
 ghost use Rattle.std.specs.Prelude.{IfOk, IfErr};
 ghost use Rattle.sc_footprint.specs.Atoms.{IsRefused};
 ghost use Rattle.sc_footprint.specs.Problems.{IsProblemOf};
-ghost use Rattle.sc_goal.specs.Queries.{second};
 ghost use Rattle.sc_terms.specs.Trees.{Tree};
-ghost use Rattle.sc_reports.specs.Analyses.{asked_of, HaveProper, IsAnswer, IsFound, IsGoalOf, MayBePosed};
+ghost use Rattle.sc_reports.specs.Analyses.{asked_of, IsAnswer, IsFound, IsGoalOf, MayBePosed};
 ghost use Rattle.sc_reports.specs.Reports.{IsProblem};
 
 use sc_checker::Log;
@@ -40,9 +39,7 @@ pub(crate) fn problem_of<'a>(
     env: &'a Env,
     query: &'a Query<'_>,
 ) -> Result<Problem<'a>, Fault<OverLimit>>
-    requires posed { MayBePosed schema.now env.now query.now }
-    requires first_proper { HaveProper query.now.first }
-    requires second_proper { HaveProper (second query.now) }
+    requires { MayBePosed schema.now env.now query.now }
     ensures ok { IfOk result (λ p. (t : Tree) → IsGoalOf schema.now env.now query.now t
         → IsProblemOf schema.now env.now query.now.literals t p) }
     ensures err { IfErr result (λ fault. (t : Tree) → IsGoalOf schema.now env.now query.now t
@@ -67,9 +64,7 @@ pub fn analyse_env(
     query: &Query<'_>,
     budget: u64,
 ) -> Result<EnvAnswer, AllocError>
-    requires posed { MayBePosed schema.now env.now query.now }
-    requires first_proper { HaveProper query.now.first }
-    requires second_proper { HaveProper (second query.now) }
+    requires { MayBePosed schema.now env.now query.now }
     ensures answer { IfOk result (IsAnswer (asked_of schema.now query.now budget) env.now) }
     ensures found { IfOk result (IsFound (asked_of schema.now query.now budget) env.now) }
 {

@@ -3,7 +3,7 @@ ghost use Rattle.std.specs.Prelude.{◌≡◌, ◌<◌, ◌≤◌, Some, length,
 ghost use Rattle.sc_footprint.specs.Truths.{IsUnsatisfiable};
 ghost use Rattle.sc_inputs.specs.Readings.{FailsWith, IsUnread};
 ghost use Rattle.sc_inputs.specs.Refusals.{RefusesLog};
-ghost use Rattle.sc_outside.specs.Counts.{Rose};
+ghost use Rattle.sc_outside.specs.Failures.{FailsAt};
 ghost use Rattle.sc_schema.specs.Declarations.{environments};
 ghost use Rattle.sc_schema.specs.declared.declarations.Env.{Env as AnyEnv};
 ghost use Rattle.sc_reports.specs.Analyses.{asked_of, asked_within, MayBeAsked};
@@ -57,8 +57,8 @@ fn checked<F: Files>(
     ensures verdict { IfOk result (λ v. IfSome (F.content files.old name.now) (λ text. IsChecked problem.now text v)) }
     ensures sound { IfOk result (λ v. v ≡ Verdict.Refuted → IsUnsatisfiable problem.now) }
     ensures short { OnOk result (IsShort (F.content files.old name.now)) }
-    ensures fails { IfErr result (FailsWith (RefusesLog (F.content files.old) name.now (Rose (F.faults files.old)
-        (F.faults files.new)))) }
+    ensures fails { IfErr result (FailsWith (RefusesLog (F.content files.old) name.now
+        (FailsAt F.Files files.old files.new))) }
     ensures later { F.faults files.old ≤ F.faults files.new }
     ensures told { F.faults files.old < F.faults files.new → IsUnread result }
 {
@@ -84,8 +84,8 @@ fn checked<F: Files>(
 fn unchecked<F: Files>(alloc: Global, files: &mut F, name: &str) -> Result<Answer, Fault<Refusal>>
     ensures answer { IfOk result (λ a. a ≡ Answer.OverLimit) }
     ensures short { OnOk result (IsShort (F.content files.old name.now)) }
-    ensures fails { IfErr result (FailsWith (RefusesLog (F.content files.old) name.now (Rose (F.faults files.old)
-        (F.faults files.new)))) }
+    ensures fails { IfErr result (FailsWith (RefusesLog (F.content files.old) name.now
+        (FailsAt F.Files files.old files.new))) }
     ensures later { F.faults files.old ≤ F.faults files.new }
     ensures told { F.faults files.old < F.faults files.new → IsUnread result }
 {
@@ -109,8 +109,8 @@ fn check_problem<F: Files>(
     ensures claims { IfOk result (λ a. Claims (F.content files.old name.now) (asked_of schema.now query.now 0) env.now
         (answer_view a)) }
     ensures short { OnOk result (IsShort (F.content files.old name.now)) }
-    ensures fails { IfErr result (FailsWith (RefusesLog (F.content files.old) name.now (Rose (F.faults files.old)
-        (F.faults files.new)))) }
+    ensures fails { IfErr result (FailsWith (RefusesLog (F.content files.old) name.now
+        (FailsAt F.Files files.old files.new))) }
     ensures later { F.faults files.old ≤ F.faults files.new }
     ensures told { F.faults files.old < F.faults files.new → IsUnread result }
 {
@@ -138,7 +138,7 @@ pub fn check_claim<F: Files>(
         → Claims (F.content files.old claim.now.log.now) (asked_within claim.now.asking 0) env (answer_view a)) }
     ensures short { OnOk result (IsShort (F.content files.old claim.now.log.now)) }
     ensures fails { IfErr result (FailsWith (RefusesLog (F.content files.old) claim.now.log.now
-        (Rose (F.faults files.old) (F.faults files.new)))) }
+        (FailsAt F.Files files.old files.new))) }
     ensures later { F.faults files.old ≤ F.faults files.new }
     ensures told { F.faults files.old < F.faults files.new → IsUnread result }
 {

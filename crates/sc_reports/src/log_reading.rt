@@ -2,7 +2,7 @@
 ghost use Rattle.std.specs.Prelude.{◌≡◌, ◌+◌, ◌<◌, ◌≤◌, ℕ, List, [], length, IfErr, IfOk, IfSome, IsSome, OnOk};
 ghost use Rattle.sc_inputs.specs.Readings.{FailsWith, IsUnread};
 ghost use Rattle.sc_inputs.specs.Refusals.{RefusesLog, log_limit};
-ghost use Rattle.sc_outside.specs.Counts.{Rose};
+ghost use Rattle.sc_outside.specs.Failures.{FailsAt, FailsOn};
 ghost use Rattle.sc_outside.specs.Pieces.{IsEnd, behind};
 ghost use Rattle.sc_reports.specs.LogReading.{ComesTo, HasRead, HasReadAll, RefusesPiece, SameProblem};
 
@@ -29,8 +29,9 @@ fn next_piece<F: Files>(
     ensures front { IfOk result (λ piece. F.left files.old ≡ behind piece.items (F.left files.new)) }
     ensures room { IfOk result (λ piece. room.old ≡ room.new + length piece.items) }
     ensures ends { IfOk result (λ piece. length piece.items ≡ 0 → IsEnd (F.left files.old)) }
-    ensures fails { IfErr result (FailsWith (RefusesPiece (F.left files.old) room.old (Rose (F.faults files.old)
-        (F.faults files.new)))) }
+    ensures fails { IfErr result (FailsWith (RefusesPiece (F.left files.old) room.old
+        (FailsOn F.Files files.old files.new))) }
+    ensures stays { F.started files.new ≡ F.started files.old }
     ensures keeps { (other : List ℕ) → F.content files.new other ≡ F.content files.old other }
     ensures later { F.faults files.old ≤ F.faults files.new }
     ensures told { F.faults files.old < F.faults files.new → IsUnread result }
@@ -70,8 +71,8 @@ fn read_all<F: Files>(
     requires { IsSome (F.left files.old) }
     ensures problem { OnOk result (SameProblem checker.old checker.new) }
     ensures read { OnOk result (HasReadAll (F.left files.old) checker.old checker.new) }
-    ensures fails { IfErr result (FailsWith (RefusesPiece (F.left files.old) log_limit (Rose (F.faults files.old)
-        (F.faults files.new)))) }
+    ensures fails { IfErr result (FailsWith (RefusesPiece (F.left files.old) log_limit
+        (FailsOn F.Files files.old files.new))) }
     ensures keeps { (other : List ℕ) → F.content files.new other ≡ F.content files.old other }
     ensures later { F.faults files.old ≤ F.faults files.new }
     ensures told { F.faults files.old < F.faults files.new → IsUnread result }
@@ -101,8 +102,8 @@ pub(crate) fn read_log<F: Files>(
 ) -> Result<(), Fault<Refusal>>
     ensures problem { OnOk result (SameProblem checker.old checker.new) }
     ensures read { OnOk result (IfSome (F.content files.old name.now) (HasRead checker.old checker.new)) }
-    ensures fails { IfErr result (FailsWith (RefusesLog (F.content files.old) name.now (Rose (F.faults files.old)
-        (F.faults files.new)))) }
+    ensures fails { IfErr result (FailsWith (RefusesLog (F.content files.old) name.now
+        (FailsAt F.Files files.old files.new))) }
     ensures later { F.faults files.old ≤ F.faults files.new }
     ensures told { F.faults files.old < F.faults files.new → IsUnread result }
 {

@@ -24,7 +24,7 @@ use Rattle.sc_reports.specs.Logs.{Logged, log_first, log_front, log_whole, other
 use Rattle.sc_reports.specs.Progress.{Reported, whole, cut, cut_none, stopped}
 use Rattle.sc_run.specs.Replays.{Replayed, told_whole, told_front, told_first, untold}
 use Rattle.sc_reports.specs.Reports.{Asked}
-use Rattle.sc_run.specs.Runs.{Run, HasRisen, Ends, refused, refusal_cut, generated, reduced, reported, replayed, wrote_log, checked_log, no_memory, scene, IsReadable, IsServed, IsWhole, IsWholeFor, LogIsLong, LogIsTold, MustBe, PlaceIsMissing, SchemaTold, PoliciesTold, AgainstTold, no_file, told_file, AgainstNamed, AllSpelled, WorldTold, WorldSpelled, QuestionSpelled, SchemaIsLong, SchemaIsFaulty, PoliciesAreLong, PoliciesAreFaulty, AgainstIsLong, AgainstIsFaulty, WorldIsLong, WorldIsFaulty, NamesAreUnknown, PoliciesAreUntyped, IsReplayable, IsReplayed, LogIsRight, LogIsWrong, MustSay, ReadsLog, asked_of_log}
+use Rattle.sc_run.specs.Runs.{Run, HasRisen, Ends, refused, refusal_cut, generated, reduced, reported, replayed, wrote_log, checked_log, no_memory, scene, IsReadable, IsServed, IsWhole, IsWholeFor, LogIsLong, LogIsTold, MustBe, PlaceIsMissing, SchemaTold, PoliciesTold, AgainstTold, no_file, told_file, AgainstNamed, AllSpelled, WorldTold, WorldSpelled, QuestionSpelled, SchemaIsLong, SchemaIsFaulty, PoliciesAreLong, PoliciesAreFaulty, AgainstIsLong, AgainstIsFaulty, WorldIsLong, WorldIsFaulty, NamesAreUnknown, PoliciesAreUntyped, IsReplayable, IsReplayed, LogIsRight, LogIsWrong, MustSay, ReadsLog, asked_of_log, FailsFor}
 use Rattle.sc_command.specs.CommandLine.{generate}
 use Rattle.sc_run.specs.Reduces.{Reduced, to_reduce}
 use Rattle.sc_run.proofs.ReductionLaws.{reduction-codes}
@@ -51,19 +51,19 @@ world-spelled : (content : Content) (name b : List ℕ) (w : World) → content 
 world-spelled content name b w at h = subst (λ bytes. world.SpellsWorld bytes w) (content-is content name b h.bytes at h.told).0 h.spelled
 
 -- a file that is told, short enough and spelled isn't refused
-file-read : (content : Content) (name b : List ℕ) (ps : List Policy) (side : Side) (rose : Type 0) → content name ≡ Some b → length b ≤ limit → Spells b ps → (rose → ⊥) → (a : Refusal) → RefusesPolicies content name side rose a → ⊥
-file-read content name b ps side rose at short spells calm _ (policies_unread _ (unread risen)) = calm risen
-file-read content name b ps side rose at short spells calm _ (policies_unread _ (long is)) = let far = long-is content name b at is in omega (arith, short, far)
-file-read content name b ps side rose at short spells calm _ (policies_faulty f bytes is has) = not_both spells (subst (λ b. HasFault b f) (content-is content name b bytes at is).0 has)
+file-read : (content : Content) (name b : List ℕ) (ps : List Policy) (side : Side) (failed : List ℕ → Type 0) → content name ≡ Some b → length b ≤ limit → Spells b ps → ((file : List ℕ) → failed file → ⊥) → (a : Refusal) → RefusesPolicies content name side failed a → ⊥
+file-read content name b ps side failed at short spells calm _ (policies_unread _ (unread here)) = calm name here
+file-read content name b ps side failed at short spells calm _ (policies_unread _ (long is)) = let far = long-is content name b at is in omega (arith, short, far)
+file-read content name b ps side failed at short spells calm _ (policies_faulty f bytes is has) = not_both spells (subst (λ b. HasFault b f) (content-is content name b bytes at is).0 has)
 
 -- ---- a second policy file
 
 -- it isn't refused
-against-file-read : (content : Content) (m : Option (List ℕ)) (o : Option (List Policy)) (name : List ℕ) (rose : Type 0) → AgainstTold content m o → m ≡ Some name → (rose → ⊥) → (a : Refusal) → RefusesPolicies content name against_side rose a → ⊥
-against-file-read content _ _ name rose no_file is calm a h = absurd cc
-against-file-read content _ _ name rose (told_file file bytes ps at short spells) is calm a h =
+against-file-read : (content : Content) (m : Option (List ℕ)) (o : Option (List Policy)) (name : List ℕ) (failed : List ℕ → Type 0) → AgainstTold content m o → m ≡ Some name → ((file : List ℕ) → failed file → ⊥) → (a : Refusal) → RefusesPolicies content name against_side failed a → ⊥
+against-file-read content _ _ name failed no_file is calm a h = absurd cc
+against-file-read content _ _ name failed (told_file file bytes ps at short spells) is calm a h =
     let same : file ≡ name = cc in
-    file-read content name bytes ps against_side rose (subst (λ n. content n ≡ Some bytes) same at) short spells calm a h
+    file-read content name bytes ps against_side failed (subst (λ n. content n ≡ Some bytes) same at) short spells calm a h
 
 -- and it spells one set
 one-against : (content : Content) (m n : Option (List ℕ)) (o p : Option (List Policy)) → AgainstTold content m o → m ≡ n → HasAgainst content n p → p ≡ o
@@ -108,15 +108,15 @@ HasShortLog content (reducing budget) = ⊤
 -- a run must end with a status, where each refusal that may come has it, and no report comes
 record Only (r : Run) (n : ℕ) : Type 0 where
   pub words : IsNoCommand r.words → 10 ≡ n
-  pub schema : (a : Refusal) (c : Command) → Serves r.words c → RefusesSchema r.content c (HasRisen r.reads) a → code_of a ≡ n
-  pub policies : (a : Refusal) (c : Command) (s : Declarations) → Serves r.words c → ReadsSchema r.content c s → RefusesPolicies r.content c.policies policies_side (HasRisen r.reads) a → code_of a ≡ n
+  pub schema : (a : Refusal) (c : Command) → Serves r.words c → RefusesSchema r.content c (FailsFor r) a → code_of a ≡ n
+  pub policies : (a : Refusal) (c : Command) (s : Declarations) → Serves r.words c → ReadsSchema r.content c s → RefusesPolicies r.content c.policies policies_side (FailsFor r) a → code_of a ≡ n
   pub others : (a : Refusal) (c : Command) (s : Declarations) (question : Question) (name : List ℕ) (aim : Aim) (first : List Policy) → Serves r.words c → c.task ≡ asking question (Some name) aim → ReadsSchema r.content c s
-      → HasPolicies r.content c.policies first → RefusesPolicies r.content name against_side (HasRisen r.reads) a → code_of a ≡ n
-  pub world : (a : Refusal) (s : Declarations) (ps : List Policy) (name : List ℕ) → ReachesWorld r.content r.words s ps name → RefusesWorld r.content name (HasRisen r.reads) a → code_of a ≡ n
+      → HasPolicies r.content c.policies first → RefusesPolicies r.content name against_side (FailsFor r) a → code_of a ≡ n
+  pub world : (a : Refusal) (s : Declarations) (ps : List Policy) (name : List ℕ) → ReachesWorld r.content r.words s ps name → RefusesWorld r.content name (FailsFor r) a → code_of a ≡ n
   pub names : (f : NameFault) (s : Declarations) (ps : List Policy) (name : List ℕ) (w : World) → ReachesWorld r.content r.words s ps name → HasWorld r.content name w → name_fault s ps ≡ Some f → 13 ≡ n
   pub question : (a : Refusal) (s : Declarations) (question : Question) (first : List Policy) (against : Option (List Policy)) (aim : Aim) → ReachesQuestion r.content r.words s question first against aim → RefusesQuestion s first against a → code_of a ≡ n
   pub place : (a : Refusal) (s : Declarations) (question : Question) (first : List Policy) (against : Option (List Policy)) (aim : Aim) → ReachesQuestion r.content r.words s question first against aim → AreServed s first against → RefusesPlace s aim a → code_of a ≡ n
-  pub log : (a : Refusal) (s : Declarations) (question : Question) (first : List Policy) (against : Option (List Policy)) (place : ℕ) (name : List ℕ) → ReachesAim r.content r.words s question first against (checking place name) → RefusesLog r.content name (HasRisen r.reads) a → code_of a ≡ n
+  pub log : (a : Refusal) (s : Declarations) (question : Question) (first : List Policy) (against : Option (List Policy)) (place : ℕ) (name : List ℕ) → ReachesAim r.content r.words s question first against (checking place name) → RefusesLog r.content name (FailsFor r) a → code_of a ≡ n
   pub report : (s : Declarations) (question : Question) (first : List Policy) (against : Option (List Policy)) (aim : Aim) → ReadsAll r.content r.words s question first against aim → HasShortLog r.content aim → ⊥
   pub replay : (s : Declarations) (ps : List Policy) (w : World) → ReadsWorld r.content r.words s ps w → ⊥
   pub made : (size : ℕ) → Generates r.words size → ⊥
@@ -128,7 +128,7 @@ module _ (r : Run) (spent : List (List Step)) where
   policies-at : (c d : Command) (b : List ℕ) → Serves r.words d → r.content d.policies ≡ Some b → Serves r.words c → r.content c.policies ≡ Some b
   policies-at c d b k told h = ap r.content (same_policies r.words c d h k) ∙ told
 
-  refused-as : (n : ℕ) → Only r n → (a : Refusal) → IsRefusal r.content r.words (HasRisen r.reads) a → code_of a ≡ n
+  refused-as : (n : ℕ) → Only r n → (a : Refusal) → IsRefusal r.content r.words (FailsFor r) a → code_of a ≡ n
   refused-as n x _ (no_command none) = x.words none
   refused-as n x _ (of_schema a c h i) = x.schema a c h i
   refused-as n x _ (of_policies a c s h reads i) = x.policies a c s h reads i
@@ -175,7 +175,7 @@ module _ (r : Run) (spent : List (List Step)) where
 
   -- where no schema is read, what comes is what the schema file is refused for
   at-schema : (n : ℕ) (d : Command) → Serves r.words d → ((c : Command) → Serves r.words c → (s : Declarations) → ReadsSchema r.content c s → ⊥)
-      → ((a : Refusal) (c : Command) → Serves r.words c → RefusesSchema r.content c (HasRisen r.reads) a → code_of a ≡ n) → Only r n
+      → ((a : Refusal) (c : Command) → Serves r.words c → RefusesSchema r.content c (FailsFor r) a → code_of a ≡ n) → Only r n
   at-schema n d k unread_schema refuses = record {
     words = λ none. absurd (none (as_command d) k);
     schema = refuses;
@@ -194,8 +194,8 @@ module _ (r : Run) (spent : List (List Step)) where
   long-unread : (t : SchemaTold r) → limit < length t.bytes → (c : Command) → Serves r.words c → (bytes : List ℕ) → IsContent r.content c.schema bytes → ⊥
   long-unread t far c h bytes is = omega (arith, far, (content-is r.content c.schema t.bytes bytes (schema-at c t.command t.bytes t.commands t.told h) is).1)
 
-  schema-long-case : (t : SchemaTold r) → limit < length t.bytes → (HasRisen r.reads → ⊥) → (a : Refusal) (c : Command) → Serves r.words c → RefusesSchema r.content c (HasRisen r.reads) a → code_of a ≡ 22
-  schema-long-case t far calm _ c h (schema_unread _ (unread rose)) = absurd (calm rose)
+  schema-long-case : (t : SchemaTold r) → limit < length t.bytes → (HasRisen r.reads → ⊥) → (a : Refusal) (c : Command) → Serves r.words c → RefusesSchema r.content c (FailsFor r) a → code_of a ≡ 22
+  schema-long-case t far calm _ c h (schema_unread _ (unread here)) = absurd (calm here.rose)
   schema-long-case t far calm _ c h (schema_unread _ (long is)) = refl
   schema-long-case t far calm _ c h (schema_faulty f bytes is has) = absurd (long-unread t far c h bytes is)
 
@@ -206,8 +206,8 @@ module _ (r : Run) (spent : List (List Step)) where
   not-read : (x : SchemaIsFaulty r) → (c : Command) → Serves r.words c → (s : Declarations) → ReadsSchema r.content c s → ⊥
   not-read x c h s reads = x.2 s (schema-spelled r.content c x.0.bytes s (schema-at c x.0.command x.0.bytes x.0.commands x.0.told h) reads)
 
-  schema-faulty-case : (x : SchemaIsFaulty r) → (HasRisen r.reads → ⊥) → (a : Refusal) (c : Command) → Serves r.words c → RefusesSchema r.content c (HasRisen r.reads) a → code_of a ≡ 12
-  schema-faulty-case x calm _ c h (schema_unread _ (unread rose)) = absurd (calm rose)
+  schema-faulty-case : (x : SchemaIsFaulty r) → (HasRisen r.reads → ⊥) → (a : Refusal) (c : Command) → Serves r.words c → RefusesSchema r.content c (FailsFor r) a → code_of a ≡ 12
+  schema-faulty-case x calm _ c h (schema_unread _ (unread here)) = absurd (calm here.rose)
   schema-faulty-case x calm _ c h (schema_unread _ (long is)) =
       absurd (omega (arith, x.1, long-is r.content c.schema x.0.bytes (schema-at c x.0.command x.0.bytes x.0.commands x.0.told h) is))
   schema-faulty-case x calm _ c h (schema_faulty f bytes is has) = refl
@@ -227,8 +227,8 @@ module _ (r : Run) (spent : List (List Step)) where
 
   module _ (settled : (bytes : List ℕ) → json.IsSettled bytes) where
     -- the schema file isn't refused where it spells a schema
-    schema-read : (t : PoliciesTold r) → (HasRisen r.reads → ⊥) → (a : Refusal) (c : Command) → Serves r.words c → RefusesSchema r.content c (HasRisen r.reads) a → ⊥
-    schema-read t calm _ c h (schema_unread _ (unread rose)) = calm rose
+    schema-read : (t : PoliciesTold r) → (HasRisen r.reads → ⊥) → (a : Refusal) (c : Command) → Serves r.words c → RefusesSchema r.content c (FailsFor r) a → ⊥
+    schema-read t calm _ c h (schema_unread _ (unread here)) = calm here.rose
     schema-read t calm _ c h (schema_unread _ (long is)) =
         omega (arith, t.schema_short, long-is r.content c.schema t.schema_bytes (schema-at c t.command t.schema_bytes t.commands t.schema_told h) is)
     schema-read t calm _ c h (schema_faulty f bytes is has) =
@@ -242,7 +242,7 @@ module _ (r : Run) (spent : List (List Step)) where
     -- where no policies are read, what comes is what the policy file is refused for
     at-policies : (n : ℕ) (t : PoliciesTold r) → (HasRisen r.reads → ⊥)
         → ((c : Command) → Serves r.words c → (bytes : List ℕ) → IsContent r.content c.policies bytes → (ps : List Policy) → Spells bytes ps → ⊥)
-        → ((a : Refusal) (c : Command) (s : Declarations) → Serves r.words c → ReadsSchema r.content c s → RefusesPolicies r.content c.policies policies_side (HasRisen r.reads) a → code_of a ≡ n) → Only r n
+        → ((a : Refusal) (c : Command) (s : Declarations) → Serves r.words c → ReadsSchema r.content c s → RefusesPolicies r.content c.policies policies_side (FailsFor r) a → code_of a ≡ n) → Only r n
     at-policies n t calm unread_policies refuses = record {
       words = λ none. absurd (none (as_command t.command) t.commands);
       schema = λ a c h i. absurd (schema-read t calm a c h i);
@@ -258,8 +258,8 @@ module _ (r : Run) (spent : List (List Step)) where
       made = λ size h. not_generated r.words t.command size t.commands h;
     }
 
-    policies-long-case : (t : PoliciesTold r) → limit < length t.bytes → (HasRisen r.reads → ⊥) → (a : Refusal) (c : Command) (s : Declarations) → Serves r.words c → ReadsSchema r.content c s → RefusesPolicies r.content c.policies policies_side (HasRisen r.reads) a → code_of a ≡ 22
-    policies-long-case t far calm _ c s h reads (policies_unread _ (unread rose)) = absurd (calm rose)
+    policies-long-case : (t : PoliciesTold r) → limit < length t.bytes → (HasRisen r.reads → ⊥) → (a : Refusal) (c : Command) (s : Declarations) → Serves r.words c → ReadsSchema r.content c s → RefusesPolicies r.content c.policies policies_side (FailsFor r) a → code_of a ≡ 22
+    policies-long-case t far calm _ c s h reads (policies_unread _ (unread here)) = absurd (calm here.rose)
     policies-long-case t far calm _ c s h reads (policies_unread _ (long is)) = refl
     policies-long-case t far calm _ c s h reads (policies_faulty f bytes is has) = absurd (omega (arith, far, (policies-content t c h bytes is).1))
 
@@ -270,8 +270,8 @@ module _ (r : Run) (spent : List (List Step)) where
     unspelled : (x : PoliciesAreFaulty r) → (c : Command) → Serves r.words c → (bytes : List ℕ) → IsContent r.content c.policies bytes → (ps : List Policy) → Spells bytes ps → ⊥
     unspelled x c h bytes is ps spells = x.2 ps (subst (λ b. Spells b ps) (policies-content x.0 c h bytes is).0 spells)
 
-    faulty-case : (x : PoliciesAreFaulty r) → (HasRisen r.reads → ⊥) → (a : Refusal) (c : Command) (s : Declarations) → Serves r.words c → ReadsSchema r.content c s → RefusesPolicies r.content c.policies policies_side (HasRisen r.reads) a → code_of a ≡ 11
-    faulty-case x calm _ c s h reads (policies_unread _ (unread rose)) = absurd (calm rose)
+    faulty-case : (x : PoliciesAreFaulty r) → (HasRisen r.reads → ⊥) → (a : Refusal) (c : Command) (s : Declarations) → Serves r.words c → ReadsSchema r.content c s → RefusesPolicies r.content c.policies policies_side (FailsFor r) a → code_of a ≡ 11
+    faulty-case x calm _ c s h reads (policies_unread _ (unread here)) = absurd (calm here.rose)
     faulty-case x calm _ c s h reads (policies_unread _ (long is)) = absurd (no-long-policies x.0 x.1 c h is)
     faulty-case x calm _ c s h reads (policies_faulty f bytes is has) = refl
 
@@ -281,8 +281,8 @@ module _ (r : Run) (spent : List (List Step)) where
     -- ---- a policy file that spells policies
 
     -- it isn't refused
-    policies-read : (t : PoliciesTold r) → length t.bytes ≤ limit → (ps : List Policy) → Spells t.bytes ps → (HasRisen r.reads → ⊥) → (a : Refusal) (c : Command) → Serves r.words c → RefusesPolicies r.content c.policies policies_side (HasRisen r.reads) a → ⊥
-    policies-read t short ps spells calm _ c h (policies_unread _ (unread rose)) = calm rose
+    policies-read : (t : PoliciesTold r) → length t.bytes ≤ limit → (ps : List Policy) → Spells t.bytes ps → (HasRisen r.reads → ⊥) → (a : Refusal) (c : Command) → Serves r.words c → RefusesPolicies r.content c.policies policies_side (FailsFor r) a → ⊥
+    policies-read t short ps spells calm _ c h (policies_unread _ (unread here)) = calm here.rose
     policies-read t short ps spells calm _ c h (policies_unread _ (long is)) = no-long-policies t short c h is
     policies-read t short ps spells calm _ c h (policies_faulty f bytes is has) = not_both spells (subst (λ b. HasFault b f) (policies-content t c h bytes is).0 has)
 
@@ -296,7 +296,7 @@ module _ (r : Run) (spent : List (List Step)) where
 
     -- ---- policies of which a question is asked
 
-    question-read : (t : QuestionSpelled r) → (HasRisen r.reads → ⊥) → (a : Refusal) (c : Command) → Serves r.words c → RefusesPolicies r.content c.policies policies_side (HasRisen r.reads) a → ⊥
+    question-read : (t : QuestionSpelled r) → (HasRisen r.reads → ⊥) → (a : Refusal) (c : Command) → Serves r.words c → RefusesPolicies r.content c.policies policies_side (FailsFor r) a → ⊥
     question-read t calm a c h i = policies-read t.before t.short t.policies t.spelled calm a c h i
 
     -- no world is replayed
@@ -324,14 +324,14 @@ module _ (r : Run) (spent : List (List Step)) where
 
     -- where no second file is read, what comes is what it is refused for
     at-against : (n : ℕ) (t : AgainstNamed r) → (HasRisen r.reads → ⊥) → ((ps : List Policy) → HasPolicies r.content t.file ps → ⊥)
-        → ((a : Refusal) → RefusesPolicies r.content t.file against_side (HasRisen r.reads) a → code_of a ≡ n) → Only r n
+        → ((a : Refusal) → RefusesPolicies r.content t.file against_side (FailsFor r) a → code_of a ≡ n) → Only r n
     at-against n t calm unread_file refuses = record {
       words = λ none. absurd (none (as_command t.before.before.command) t.before.before.commands);
       schema = λ a c h i. absurd (schema-read t.before.before calm a c h i);
       policies = λ a c s h reads i. absurd (question-read t.before calm a c h i);
       others = λ a c s question name aim first h task reads has i.
           let same : name ≡ t.file = one-file t c question name aim h task in
-          refuses a (subst (λ file. RefusesPolicies r.content file against_side (HasRisen r.reads) a) same i);
+          refuses a (subst (λ file. RefusesPolicies r.content file against_side (FailsFor r) a) same i);
       world = λ a s ps name reaches i. absurd (no-replay t.before s ps name reaches);
       names = λ f s ps name w reaches has is. absurd (no-replay t.before s ps name reaches);
       question = λ a s question first against aim reaches i. absurd (no-question t unread_file s question first against aim reaches);
@@ -345,8 +345,8 @@ module _ (r : Run) (spent : List (List Step)) where
     against-content : (t : AgainstNamed r) (bytes : List ℕ) → IsContent r.content t.file bytes → (bytes ≡ t.bytes) × (length t.bytes ≤ limit)
     against-content t bytes is = content-is r.content t.file t.bytes bytes t.told is
 
-    against-long-case : (t : AgainstNamed r) → limit < length t.bytes → (HasRisen r.reads → ⊥) → (a : Refusal) → RefusesPolicies r.content t.file against_side (HasRisen r.reads) a → code_of a ≡ 22
-    against-long-case t far calm _ (policies_unread _ (unread rose)) = absurd (calm rose)
+    against-long-case : (t : AgainstNamed r) → limit < length t.bytes → (HasRisen r.reads → ⊥) → (a : Refusal) → RefusesPolicies r.content t.file against_side (FailsFor r) a → code_of a ≡ 22
+    against-long-case t far calm _ (policies_unread _ (unread here)) = absurd (calm here.rose)
     against-long-case t far calm _ (policies_unread _ (long is)) = refl
     against-long-case t far calm _ (policies_faulty f bytes is has) = absurd (omega (arith, far, (against-content t bytes is).1))
 
@@ -354,8 +354,8 @@ module _ (r : Run) (spent : List (List Step)) where
     against-is-long ends x calm =
         must-be 22 ends (at-against 22 x.0 calm (λ ps has. omega (arith, x.1, (against-content x.0 has.bytes has.told).1)) (against-long-case x.0 x.1 calm))
 
-    against-faulty-case : (t : AgainstNamed r) → length t.bytes ≤ limit → (HasRisen r.reads → ⊥) → (a : Refusal) → RefusesPolicies r.content t.file against_side (HasRisen r.reads) a → code_of a ≡ 11
-    against-faulty-case t short calm _ (policies_unread _ (unread rose)) = absurd (calm rose)
+    against-faulty-case : (t : AgainstNamed r) → length t.bytes ≤ limit → (HasRisen r.reads → ⊥) → (a : Refusal) → RefusesPolicies r.content t.file against_side (FailsFor r) a → code_of a ≡ 11
+    against-faulty-case t short calm _ (policies_unread _ (unread here)) = absurd (calm here.rose)
     against-faulty-case t short calm _ (policies_unread _ (long is)) = absurd (let far = long-is r.content t.file t.bytes t.told is in omega (arith, short, far))
     against-faulty-case t short calm _ (policies_faulty f bytes is has) = refl
 
@@ -385,9 +385,9 @@ module _ (r : Run) (spent : List (List Step)) where
     has-some t find s question first against aim some x e = some (found-in t find None s question first against aim x e)
 
     against-read : (t : AllSpelled r) → (HasRisen r.reads → ⊥) → (a : Refusal) (c : Command) (question : Question) (name : List ℕ) (aim : Aim) → Serves r.words c → c.task ≡ asking question (Some name) aim
-        → RefusesPolicies r.content name against_side (HasRisen r.reads) a → ⊥
+        → RefusesPolicies r.content name against_side (FailsFor r) a → ⊥
     against-read t calm a c question name aim h task i =
-        against-file-read r.content t.before.name t.others name (HasRisen r.reads) t.against (one-name t.before c question (Some name) aim h task) calm a i
+        against-file-read r.content t.before.name t.others name (FailsFor r) t.against (one-name t.before c question (Some name) aim h task) (λ file here. calm here.rose) a i
 
     -- where a question is asked, what comes is what its policies are refused for
     at-question : (n : ℕ) (t : AllSpelled r) → (HasRisen r.reads → ⊥)
@@ -453,7 +453,7 @@ module _ (r : Run) (spent : List (List Step)) where
     -- where policies are served, what comes is what the place or the log is refused for
     at-aim : (n : ℕ) (x : IsServed r) → (HasRisen r.reads → ⊥)
         → ((a : Refusal) → RefusesPlace x.0.before.before.schema x.0.before.aim a → code_of a ≡ n)
-        → ((a : Refusal) (place : ℕ) (name : List ℕ) → x.0.before.aim ≡ checking place name → HasEnvironment x.0.before.before.schema x.0.before.aim → RefusesLog r.content name (HasRisen r.reads) a → code_of a ≡ n)
+        → ((a : Refusal) (place : ℕ) (name : List ℕ) → x.0.before.aim ≡ checking place name → HasEnvironment x.0.before.before.schema x.0.before.aim → RefusesLog r.content name (FailsFor r) a → code_of a ≡ n)
         → (HasEnvironment x.0.before.before.schema x.0.before.aim → HasShortLog r.content x.0.before.aim → ⊥) → Only r n
     at-aim n x calm placeless unread-log done = record {
       words = λ none. absurd (none (as_command x.0.before.before.command) x.0.before.before.commands);
@@ -490,9 +490,9 @@ module _ (r : Run) (spent : List (List Step)) where
         must-be 16 ends (at-aim 16 x.served calm (misplaced-code s aim) (λ a place name is has i. absurd (not-within s aim x.place x.named x.beyond has)) (λ has short. not-within s aim x.place x.named x.beyond has))
 
     -- a log that is too long
-    log-long-case : (content : Content) (name : List ℕ) (rose : Type 0) → (rose → ⊥) → (a : Refusal) → RefusesLog content name rose a → code_of a ≡ 22
-    log-long-case content name rose calm _ (log_unread risen) = absurd (calm risen)
-    log-long-case content name rose calm _ (log_long is) = refl
+    log-long-case : (content : Content) (name : List ℕ) (failed : List ℕ → Type 0) → ((file : List ℕ) → failed file → ⊥) → (a : Refusal) → RefusesLog content name failed a → code_of a ≡ 22
+    log-long-case content name failed calm _ (log_unread here) = absurd (calm name here)
+    log-long-case content name failed calm _ (log_long is) = refl
 
     log-short : (content : Content) (name bytes : List ℕ) → content name ≡ Some bytes → IsShort (content name) → length bytes ≤ log_limit
     log-short content name bytes told short = subst (λ (o : Option (List ℕ)). IsShort o) told short
@@ -505,17 +505,17 @@ module _ (r : Run) (spent : List (List Step)) where
         let s = x.served.0.before.before.schema in
         let aim = x.served.0.before.aim in
         let has : HasEnvironment s aim = subst (λ (m : Aim). HasEnvironment s m) (sym x.aim_is) x.within in
-        must-be 22 ends (at-aim 22 x.served calm (λ a i. absurd (well-placed s aim has a i)) (λ a place name is h i. log-long-case r.content name (HasRisen r.reads) calm a i)
+        must-be 22 ends (at-aim 22 x.served calm (λ a i. absurd (well-placed s aim has a i)) (λ a place name is h i. log-long-case r.content name (FailsFor r) (λ file here. calm here.rose) a i)
         (λ h short. let within = log-short r.content x.name x.bytes x.told (subst (HasShortLog r.content) x.aim_is short) in let far = x.long in omega (arith, within, far)))
 
     -- ---- where all of a question is readable
 
-    log-read : (content : Content) (aim : Aim) (place : ℕ) (name : List ℕ) (rose : Type 0) → LogIsTold content aim → aim ≡ checking place name → (rose → ⊥) → (a : Refusal) → RefusesLog content name rose a → ⊥
-    log-read content aim place name rose told is calm _ (log_unread risen) = calm risen
-    log-read content aim place name rose told is calm _ (log_long beyond) =
+    log-read : (content : Content) (aim : Aim) (place : ℕ) (name : List ℕ) (failed : List ℕ → Type 0) → LogIsTold content aim → aim ≡ checking place name → ((file : List ℕ) → failed file → ⊥) → (a : Refusal) → RefusesLog content name failed a → ⊥
+    log-read content aim place name failed told is calm _ (log_unread here) = calm name here
+    log-read content aim place name failed told is calm _ (log_long beyond) =
         let t = subst (LogIsTold content) is told in let far = long-log content name t.0 t.1 beyond in let near = t.2 in omega (arith, far, near)
 
-    none-refused : (x : IsReadable r) → (HasRisen r.reads → ⊥) → (a : Refusal) → IsRefusal r.content r.words (HasRisen r.reads) a → ⊥
+    none-refused : (x : IsReadable r) → (HasRisen r.reads → ⊥) → (a : Refusal) → IsRefusal r.content r.words (FailsFor r) a → ⊥
     none-refused x calm _ (no_command none) = none (as_command x.served.0.before.before.command) x.served.0.before.before.commands
     none-refused x calm _ (of_schema a c h i) = schema-read x.served.0.before.before calm a c h i
     none-refused x calm _ (of_policies a c s h reads i) = question-read x.served.0.before calm a c h i
@@ -527,7 +527,7 @@ module _ (r : Run) (spent : List (List Step)) where
         well-placed x.served.0.before.before.schema x.served.0.before.aim x.environment a
         (subst (λ d. RefusesPlace d x.served.0.before.aim a) (reached-schema-is x.served.0 s question first against aim reaches) (subst (λ (m : Aim). RefusesPlace s m a) (sym (one-aim x.served.0 s question first against aim reaches)) i))
     none-refused x calm _ (of_log a s question first against place name reaches i) =
-        log-read r.content x.served.0.before.aim place name (HasRisen r.reads) x.log (one-aim x.served.0 s question first against (checking place name) reaches.reaches) calm a i
+        log-read r.content x.served.0.before.aim place name (FailsFor r) x.log (one-aim x.served.0 s question first against (checking place name) reaches.reaches) (λ file here. calm here.rose) a i
 
     whole-code : (code : ℕ) → code ≤ 2 → IsWhole code
     whole-code zero most = inl refl
@@ -676,7 +676,7 @@ module _ (r : Run) (spent : List (List Step)) where
       told = t.policies_told;
     }
 
-    world-schema : (t : WorldTold r) → (HasRisen r.reads → ⊥) → (a : Refusal) (c : Command) → Serves r.words c → RefusesSchema r.content c (HasRisen r.reads) a → ⊥
+    world-schema : (t : WorldTold r) → (HasRisen r.reads → ⊥) → (a : Refusal) (c : Command) → Serves r.words c → RefusesSchema r.content c (FailsFor r) a → ⊥
     world-schema t calm a c h i = schema-read (policies_told t) calm a c h i
 
     -- no question is asked where the words are a command to replay
@@ -686,7 +686,7 @@ module _ (r : Run) (spent : List (List Step)) where
     none-asked : (t : WorldTold r) (s : Declarations) (question : Question) (first : List Policy) (against : Option (List Policy)) (aim : Aim) → ReachesQuestion r.content r.words s question first against aim → ⊥
     none-asked t s question first against aim x = no-report t x.command x.commands question x.name aim x.task
 
-    world-policies : (t : WorldTold r) → (HasRisen r.reads → ⊥) → (a : Refusal) (c : Command) → Serves r.words c → RefusesPolicies r.content c.policies policies_side (HasRisen r.reads) a → ⊥
+    world-policies : (t : WorldTold r) → (HasRisen r.reads → ⊥) → (a : Refusal) (c : Command) → Serves r.words c → RefusesPolicies r.content c.policies policies_side (FailsFor r) a → ⊥
     unfolding policies_told
     world-policies t calm a c h i = policies-read (policies_told t) t.policies_short t.policies t.policies_spelled calm a c h i
 
@@ -709,7 +709,7 @@ module _ (r : Run) (spent : List (List Step)) where
     -- where no world is read, what comes is what the world file is refused for
     at-world : (n : ℕ) (t : WorldTold r) → (HasRisen r.reads → ⊥)
         → ((s : Declarations) (ps : List Policy) (name : List ℕ) → ReachesWorld r.content r.words s ps name → (w : World) → HasWorld r.content name w → ⊥)
-        → ((a : Refusal) (s : Declarations) (ps : List Policy) (name : List ℕ) → ReachesWorld r.content r.words s ps name → RefusesWorld r.content name (HasRisen r.reads) a → code_of a ≡ n) → Only r n
+        → ((a : Refusal) (s : Declarations) (ps : List Policy) (name : List ℕ) → ReachesWorld r.content r.words s ps name → RefusesWorld r.content name (FailsFor r) a → code_of a ≡ n) → Only r n
     at-world n t calm unread_world refuses = record {
       words = λ none. absurd (none (as_command t.command) t.commands);
       schema = λ a c h i. absurd (world-schema t calm a c h i);
@@ -725,8 +725,8 @@ module _ (r : Run) (spent : List (List Step)) where
       made = λ size h. not_generated r.words t.command size t.commands h;
     }
 
-    world-long-case : (t : WorldTold r) → limit < length t.bytes → (HasRisen r.reads → ⊥) → (a : Refusal) (s : Declarations) (ps : List Policy) (name : List ℕ) → ReachesWorld r.content r.words s ps name → RefusesWorld r.content name (HasRisen r.reads) a → code_of a ≡ 22
-    world-long-case t far calm _ s ps name reaches (world_unread _ (unread rose)) = absurd (calm rose)
+    world-long-case : (t : WorldTold r) → limit < length t.bytes → (HasRisen r.reads → ⊥) → (a : Refusal) (s : Declarations) (ps : List Policy) (name : List ℕ) → ReachesWorld r.content r.words s ps name → RefusesWorld r.content name (FailsFor r) a → code_of a ≡ 22
+    world-long-case t far calm _ s ps name reaches (world_unread _ (unread here)) = absurd (calm here.rose)
     world-long-case t far calm _ s ps name reaches (world_unread _ (long is)) = refl
     world-long-case t far calm _ s ps name reaches (world_faulty f bytes is has) =
         absurd (omega (arith, far, (content-is r.content name t.bytes bytes (world-at t s ps name reaches) is).1))
@@ -736,8 +736,8 @@ module _ (r : Run) (spent : List (List Step)) where
         must-be 22 ends (at-world 22 x.0 calm
         (λ s ps name reaches w has. omega (arith, x.1, (content-is r.content name x.0.bytes has.bytes (world-at x.0 s ps name reaches) has.told).1)) (world-long-case x.0 x.1 calm))
 
-    world-faulty-case : (t : WorldTold r) → length t.bytes ≤ limit → (HasRisen r.reads → ⊥) → (a : Refusal) (s : Declarations) (ps : List Policy) (name : List ℕ) → ReachesWorld r.content r.words s ps name → RefusesWorld r.content name (HasRisen r.reads) a → code_of a ≡ 17
-    world-faulty-case t short calm _ s ps name reaches (world_unread _ (unread rose)) = absurd (calm rose)
+    world-faulty-case : (t : WorldTold r) → length t.bytes ≤ limit → (HasRisen r.reads → ⊥) → (a : Refusal) (s : Declarations) (ps : List Policy) (name : List ℕ) → ReachesWorld r.content r.words s ps name → RefusesWorld r.content name (FailsFor r) a → code_of a ≡ 17
+    world-faulty-case t short calm _ s ps name reaches (world_unread _ (unread here)) = absurd (calm here.rose)
     world-faulty-case t short calm _ s ps name reaches (world_unread _ (long is)) = absurd (omega (arith, short, long-is r.content name t.bytes (world-at t s ps name reaches) is))
     world-faulty-case t short calm _ s ps name reaches (world_faulty f bytes is has) = refl
 
@@ -748,8 +748,8 @@ module _ (r : Run) (spent : List (List Step)) where
     -- ---- where bytes spell one world at most, and have no fault then
 
     module _ (worlds : (bytes : List ℕ) → world.IsSettled bytes) where
-      world-read : (t : WorldSpelled r) → (HasRisen r.reads → ⊥) → (a : Refusal) (s : Declarations) (ps : List Policy) (name : List ℕ) → ReachesWorld r.content r.words s ps name → RefusesWorld r.content name (HasRisen r.reads) a → ⊥
-      world-read t calm _ s ps name reaches (world_unread _ (unread rose)) = calm rose
+      world-read : (t : WorldSpelled r) → (HasRisen r.reads → ⊥) → (a : Refusal) (s : Declarations) (ps : List Policy) (name : List ℕ) → ReachesWorld r.content r.words s ps name → RefusesWorld r.content name (FailsFor r) a → ⊥
+      world-read t calm _ s ps name reaches (world_unread _ (unread here)) = calm here.rose
       world-read t calm _ s ps name reaches (world_unread _ (long is)) = omega (arith, t.short, long-is r.content name t.before.bytes (world-at t.before s ps name reaches) is)
       world-read t calm _ s ps name reaches (world_faulty f bytes is has) =
           let same = (content-is r.content name t.before.bytes bytes (world-at t.before s ps name reaches) is).0 in
@@ -784,7 +784,7 @@ module _ (r : Run) (spent : List (List Step)) where
 
       -- ---- where all of a replay is readable
 
-      replayable : (x : IsReplayable r) → (HasRisen r.reads → ⊥) → (a : Refusal) → IsRefusal r.content r.words (HasRisen r.reads) a → ⊥
+      replayable : (x : IsReplayable r) → (HasRisen r.reads → ⊥) → (a : Refusal) → IsRefusal r.content r.words (FailsFor r) a → ⊥
       replayable x calm _ (no_command none) = none (as_command x.0.before.command) x.0.before.commands
       replayable x calm _ (of_schema a c h i) = world-schema x.0.before calm a c h i
       replayable x calm _ (of_policies a c s h reads i) = world-policies x.0.before calm a c h i

@@ -12,13 +12,13 @@ use Rattle.sc_inputs.specs.Refusals.{against_side, first_fault, on, policies_sid
 use Rattle.sc_inputs.specs.declared.inputs.Asking.{Asking}
 use Rattle.sc_clauses.specs.declared.step.Step.{Step}
 use Rattle.sc_outside.specs.Counts.{Rose}
-use Rattle.sc_outside.specs.Writes.{appended}
+use Rattle.sc_outside.specs.Writes.{Written, appended}
 use Rattle.sc_outside.specs.declared.faults.SinkFault.{SinkFault}
 use Rattle.sc_outside.specs.declared.faults.SinkFault.TheVariants.{Failed}
 use Rattle.sc_parser.specs.Spelling.{Spells}
 use Rattle.sc_question.specs.declared.question.Question.{Question}
 use Rattle.sc_question.specs.declared.question.Question.TheVariants.{Equivalent}
-use Rattle.sc_reports.specs.Analyses.{HaveProper, MayBeAsked, asked}
+use Rattle.sc_reports.specs.Analyses.{MayBeAsked, asked}
 use Rattle.sc_reports.specs.Progress.{Reported}
 use Rattle.sc_reports.specs.Reports.{Asked}
 use Rattle.sc_schema.specs.Declarations.{Declarations}
@@ -40,9 +40,6 @@ BackwardSpelled = (n : ℕ) → n ≤ 10000 → Spells (backward n) (policies_in
 
 abbrev Alike : Type 0
 Alike = (w : World) (m n : ℕ) (xs : List ℕ) → allows w (policies_in m xs) ≡ allows w (policies_in n (reverse xs))
-
-abbrev Fitting : Type 0
-Fitting = (bytes : List ℕ) (ps : List Policy) → Spells bytes ps → HaveProper ps
 
 -- ---- the policies in order and in reverse
 
@@ -77,37 +74,35 @@ abbrev Typed : Type 0
 Typed = (whole : ℕ) (xs : List ℕ) → type_fault declared (policies_in whole xs) ≡ None
 
 -- these may be asked about
-asked_generated : ForwardSpelled → BackwardSpelled → Fitting → Named → Typed → (size : ℕ) → size ≤ 1000
+asked_generated : Named → Typed → (size : ℕ)
     → MayBeAsked (record { schema = declared; question = Equivalent; policies = in_order size; against = Some (in_reverse size) })
-asked_generated first second fit named typed size most = record {
+asked_generated named typed size = record {
   served = record {
     declared = both_none (name_fault declared) (in_order size) (in_reverse size) (named _ _) (named _ _);
     typed = both_none (type_fault declared) (in_order size) (in_reverse size) (typed _ _) (typed _ _);
   };
   sets = refl;
-  first_proper = fit (forward size) (in_order size) (first size (within size most));
-  second_proper = fit (backward size) (in_reverse size) (second size (within size most));
 }
 
-pub may_be_asked : ForwardSpelled → BackwardSpelled → Fitting → Named → Typed → (size : ℕ) → size ≤ 1000 → (s : Declarations) (ps qs : List Policy) → s ≡ declared → ps ≡ in_order size → qs ≡ in_reverse size
+pub may_be_asked : Named → Typed → (size : ℕ) → (s : Declarations) (ps qs : List Policy) → s ≡ declared → ps ≡ in_order size → qs ≡ in_reverse size
     → MayBeAsked (record { schema = s; question = Equivalent; policies = ps; against = Some qs })
-may_be_asked first second fit named typed size most s ps qs e f h =
+may_be_asked named typed size s ps qs e f h =
     let asking : Declarations → List Policy → List Policy → Asking = λ t us vs. record { schema = t; question = Equivalent; policies = us; against = Some vs } in
     let there : asking s ps qs ≡ asking declared (in_order size) (in_reverse size) = λ i. asking (e i) (f i) (h i) in
-    subst MayBeAsked (sym there) (asked_generated first second fit named typed size most)
+    subst MayBeAsked (sym there) (asked_generated named typed size)
 
 -- ---- how it is written
 
 -- the summary is written whole, no write failed, and then the report as it comes
-pub after_summary : (size : ℕ) (q : Asked) (old mid new : Option (List ℕ)) (line : List ℕ) (before mid_count now : ℕ) (code : ℕ) (spent : List (List Step)) → line ≡ summary size → IsGenerated size q → mid ≡ appended old line → before ≡ mid_count
+pub after_summary : (size : ℕ) (q : Asked) (old mid new : Written) (line : List ℕ) (before mid_count now : ℕ) (code : ℕ) (spent : List (List Step)) → line ≡ summary size → IsGenerated size q → mid ≡ appended old line → before ≡ mid_count
     → Reported q mid new (Rose mid_count now) code spent → Summed size old new (Rose before now) code spent
 after_summary size q old mid new line before mid_count now code spent is generated text still report =
     summed q generated
-    (subst (λ (o : Option (List ℕ)). Reported q o new (Rose before now) code spent) (text ∙ ap (appended old) is)
+    (subst (λ (o : Written). Reported q o new (Rose before now) code spent) (text ∙ ap (appended old) is)
     (subst (λ (k : ℕ). Reported q mid new (Rose k now) code spent) (sym still) report))
 
 -- or a front of it is
-pub cut_summary : (size : ℕ) (old new : Option (List ℕ)) (line : List ℕ) (rose : Type 0) (code : ℕ) (spent : List (List Step)) → line ≡ summary size → ((n : ℕ) × (n ≤ length line) × (new ≡ appended old (take n line)))
+pub cut_summary : (size : ℕ) (old new : Written) (line : List ℕ) (rose : Type 0) (code : ℕ) (spent : List (List Step)) → line ≡ summary size → ((n : ℕ) × (n ≤ length line) × (new ≡ appended old (take n line)))
     → rose → code ≡ 21 → spent ≡ [] → Summed size old new rose code spent
 cut_summary size old new line rose code spent is h risen c none = summary_cut h.0 risen c (h.2 ∙ ap (λ (text : List ℕ). appended old (take h.0 text)) is) none
 

@@ -11,17 +11,15 @@ use Rattle.sc_typing.specs.Names.{name_fault}
 use Rattle.sc_ast.specs.declared.policy.Policy.{Policy}
 use Rattle.sc_goal.specs.Queries.{Asked as Query}
 use Rattle.sc_question.specs.declared.question.Question.TheVariants.{Equivalent}
-use Rattle.sc_reports.specs.Analyses.{HaveProper}
 use Rattle.sc_reports.proofs.AnalysisLaws.{first-none}
-use Rattle.sc_parser.specs.Spelling.{Spells}
 use Rattle.sc_inputs.specs.Readings.{ReadsAll}
 use Rattle.sc_inputs.specs.Refusals.{Content}
 use Rattle.sc_inputs.specs.Serving.{Aim}
 use Rattle.sc_inputs.specs.declared.inputs.Asking.{Asking}
-use Rattle.sc_outside.specs.Writes.{appended}
+use Rattle.sc_outside.specs.Writes.{Written, all_appended}
 use Rattle.sc_outside.specs.declared.faults.SinkFault.{SinkFault}
 use Rattle.sc_outside.specs.declared.faults.SinkFault.TheVariants.{Failed, NoMemory}
-use Rattle.sc_reports.specs.Lines.{PutsLines, text_of}
+use Rattle.sc_reports.specs.Lines.{PutsLines}
 use Rattle.sc_reduction.specs.Lines.{is_open, log_of, logs_of, status_by, status_of}
 use Rattle.sc_reduction.specs.Reductions.{Asked, IsReduction, MayBeReduced, asked_of, kept, without}
 use Rattle.sc_reduction.specs.Trials.{IsUndecided}
@@ -39,7 +37,7 @@ by-test : (b : Bool) (code : ℕ) → code ≡ status_by b → (code ≡ 0) ⊎ 
 by-test true code c = inr c
 by-test false code c = inl c
 
-pub reduction-codes : (x : Asked) (old new : Option (List ℕ)) (rose : Type 0) (code : ℕ) (spent : List (List Step)) → Reduced x old new rose code spent → ReducedCode code rose
+pub reduction-codes : (x : Asked) (old new : Written) (rose : Type 0) (code : ℕ) (spent : List (List Step)) → Reduced x old new rose code spent → ReducedCode code rose
 reduction-codes x old new rose code spent (reduced_whole fates is c text logs) = inl (by-test (list_any is_open fates) code c)
 reduction-codes x old new rose code spent (reduced_front fates lines next rest n is order risen c text logs) = inr (inl (c, risen))
 reduction-codes x old new rose code spent (reduced_first fates lines rest is order c text logs) = inr (inr c)
@@ -93,7 +91,7 @@ log-of x fates log is among =
       undecided = env.2;
     }
 
-pub fate-logged : (x : Asked) (old new : Option (List ℕ)) (rose : Type 0) (code : ℕ) (spent : List (List Step)) → Reduced x old new rose code spent → (log : List Step) → Contains spent log → FateLog x log
+pub fate-logged : (x : Asked) (old new : Written) (rose : Type 0) (code : ℕ) (spent : List (List Step)) → Reduced x old new rose code spent → (log : List Step) → Contains spent log → FateLog x log
 fate-logged x old new rose code spent (reduced_whole fates is c text logs) log among = log-of x fates log is (subst (λ (ls : List (List Step)). Contains ls log) logs among)
 fate-logged x old new rose code spent (reduced_front fates lines next rest n is order risen c text logs) log among = log-of x fates log is (subst (λ (ls : List (List Step)). Contains ls log) logs among)
 fate-logged x old new rose code spent (reduced_first fates lines rest is order c text logs) log among = log-of x fates log is (subst (λ (ls : List (List Step)). Contains ls log) logs among)
@@ -101,9 +99,9 @@ fate-logged x old new rose code spent (unreduced c text none) log among = absurd
 
 -- ---- how lines are put out
 
-pub reduction-told : (x : Asked) (fates : List Fate) (lines : List (List ℕ)) (old new : Option (List ℕ)) (rose : Type 0) (r : Result Unit SinkFault) (code whole : ℕ) (spent : List (List Step))
+pub reduction-told : (x : Asked) (fates : List Fate) (lines : List (List ℕ)) (old new : Written) (rose : Type 0) (r : Result Unit SinkFault) (code whole : ℕ) (spent : List (List Step))
     → IsReduction x fates → lines ≡ lines_of x fates → whole ≡ status_of fates → code ≡ code_after whole r → spent ≡ logs_of fates → PutsLines lines old new rose r → Reduced x old new rose code spent
-reduction-told x fates lines old new rose (Ok y) code whole spent is e w c logs h = reduced_whole fates is (c ∙ w) (h ∙ ap (λ ls. appended old (text_of ls)) e) logs
+reduction-told x fates lines old new rose (Ok y) code whole spent is e w c logs h = reduced_whole fates is (c ∙ w) (h ∙ ap (all_appended old) e) logs
 reduction-told x fates lines old new rose (Err Failed) code whole spent is e w c logs h = reduced_front fates h.1.whole h.1.next h.1.rest h.1.kept is (h.1.in_order ∙ e) h.0 c h.1.text logs
 reduction-told x fates lines old new rose (Err NoMemory) code whole spent is e w c logs h = reduced_first fates h.whole h.rest is (h.in_order ∙ e) c h.text logs
 
@@ -116,22 +114,15 @@ may-be-reduced s ps q asked first against h = record {
   itself = against ∙ ap Some (sym first);
   declared = subst (λ (qs : List Policy). name_fault s qs ≡ None) (sym first) h.declared;
   typed = subst (λ (qs : List Policy). type_fault s qs ≡ None) (sym first) h.typed;
-  proper = subst HaveProper (sym first) h.proper;
 }
 
 -- the reduction of a query is that of its set
 pub reduction-of : (s : Declarations) (ps : List Policy) (q : Query) (budget : ℕ) (fates : List Fate) → q.first ≡ ps → IsReduction (asked_of s q budget) fates → IsReduction (to_reduce s ps budget) fates
 reduction-of s ps q budget fates first h = subst (λ (qs : List Policy). IsReduction (to_reduce s qs budget) fates) first h
 
-abbrev Spelled : Type 0
-Spelled = (bytes : List ℕ) (ps : List Policy) → Spells bytes ps → HaveProper ps
-
 -- what is read may be reduced
-pub reducible : Spelled → (content : Content) (words : List (List ℕ)) (i : Asking) (aim : Aim) → ReadsAll content words i.schema i.question i.policies i.against aim → IsReducible i.schema i.policies
-reducible spelled content words i aim read =
-    let reaches = read.reached.reaches in
-    record {
-      declared = first-none (name_fault i.schema) i.policies i.against read.reached.served.declared;
-      typed = first-none (type_fault i.schema) i.policies i.against read.reached.served.typed;
-      proper = spelled reaches.policies.bytes i.policies reaches.policies.spelled;
-    }
+pub reducible : (content : Content) (words : List (List ℕ)) (i : Asking) (aim : Aim) → ReadsAll content words i.schema i.question i.policies i.against aim → IsReducible i.schema i.policies
+reducible content words i aim read = record {
+  declared = first-none (name_fault i.schema) i.policies i.against read.reached.served.declared;
+  typed = first-none (type_fault i.schema) i.policies i.against read.reached.served.typed;
+}

@@ -19,7 +19,7 @@ use Rattle.sc_world.specs.WellFormed.{IsWellFormed}
 use Rattle.sc_replay.specs.Breaks.{IsFirstBreak}
 use Rattle.sc_replay.specs.declared.breaks.Break.{Break}
 use Rattle.sc_world_json.specs.Reading as world
-use Rattle.sc_inputs.specs.Serving.{Aim, Command, Generates, IsNoCommand, Serves, checking, logging, reducing, reporting}
+use Rattle.sc_inputs.specs.Serving.{Aim, Command, Generates, IsNoCommand, Serves, checking, logging, reducing, reporting, against_in, world_in, log_in}
 use Rattle.sc_inputs.proofs.ReadingLaws.{log_rises}
 use Rattle.sc_inputs.specs.declared.inputs.Claim.{Claim}
 use Rattle.sc_inputs.specs.Refusals.{Content}
@@ -31,23 +31,22 @@ use Rattle.sc_inputs.specs.View.{refusal_view}
 use Rattle.sc_inputs.specs.declared.refusal.Refusal as answer
 use Rattle.sc_inputs.specs.declared.refusal.Refusal.TheVariants as refusal
 use Rattle.sc_lists.specs.declared.fault.Fault.TheVariants.{Told}
-use Rattle.sc_inputs.specs.Refusals.{Refusal, policies_side, against_side, usage, schema_text, policy_text, world_text, unknown_name, ill_typed, read_fault, too_long, IsRefusal, no_command, of_schema, of_policies, of_against, of_world, of_names, of_log, of_place, of_question, no_environment, AreServed, ReachesAim, RefusesLog, log_unread, RefusesPlace, misplaced, RefusesQuestion, unread, long, RefusesSchema, schema_unread, schema_faulty, RefusesPolicies, policies_unread, RefusesWorld, world_unread, world_faulty, code_of, ReadsSchema, ReachesQuestion, ReachesWorld}
+use Rattle.sc_inputs.specs.Refusals.{Refusal, refusal_text, policies_side, against_side, usage, schema_text, policy_text, world_text, unknown_name, ill_typed, read_fault, too_long, IsRefusal, no_command, of_schema, of_policies, of_against, of_world, of_names, of_log, of_place, of_question, no_environment, AreServed, ReachesAim, RefusesLog, log_unread, RefusesPlace, misplaced, RefusesQuestion, unread, long, RefusesSchema, schema_unread, schema_faulty, RefusesPolicies, policies_unread, RefusesWorld, world_unread, world_faulty, code_of, ReadsSchema, ReachesQuestion, ReachesWorld}
 use Rattle.sc_inputs.specs.Refusals as spec
 use Rattle.sc_reports.specs.Analyses.{asked}
 use Rattle.sc_reports.specs.Claims.{Answer, Checked, Claims, IsShort, accepted, answer_code, answer_front, answer_text, answer_whole, rejected, too_large, unchecked}
 use Rattle.sc_reports.specs.Logs.{Logged, log_first, log_front, log_whole, other_front, other_whole, unlogged}
-use Rattle.sc_reports.proofs.ReportLaws.{append-nil}
 use Rattle.sc_reports.specs.Progress.{Reported, whole, cut, cut_none, stopped}
 use Rattle.sc_command.specs.CommandLine.{generate}
 use Rattle.sc_run.specs.Generates.{IsGenerated, Summed, summary, summary_cut, summed, unsummed}
 use Rattle.sc_run.specs.Reduces.{Reduced, to_reduce, reduced_whole, reduced_front, reduced_first, unreduced}
 use Rattle.sc_run.proofs.ReductionLaws.{ReducedCode, fate-logged, reduction-codes}
 use Rattle.sc_run.specs.Replays.{Replayed, told_whole, told_front, told_first, untold}
-use Rattle.sc_outside.specs.Writes.{appended}
-use Rattle.sc_reports.specs.Reports.{Asked, IsReport, line_text, report_text, Line, Verdict, holds, counterexample, unknown, over_limit, IsLine, AlwaysHas, Violates, IsUndecided, is_counterexample, is_open, has_counterexample, has_open, status_by, status_of, log_of, logs_of}
-use Rattle.sc_run.specs.Runs.{Run, HasRisen, Ends, refused, refusal_cut, generated, reduced, reported, replayed, wrote_log, checked_log, no_memory, scene, asked_about, asked_for, listed, IsReporting, IsLogging, IsChecking, IsReducing, AsksFor, ChecksLog, WritesLog, ReducesSet, SetIsReduced, SomeLeft, AsksGenerated, GeneratedHold, GeneratedOpen, GeneratedReports, IsGeneratedLogged, IsOfGenerated, IsOfLog, LogIsAccepted, LogIsRejected, LogIsWritten, SaysOf, IsMisplaced, log_long, Refuses, MustBe, Reports, AllHold, Tells, IsWell, AllWell, AsksQuestion, ReplaysWorld, SomeFails, SomeOpen, IsLogged, IsBroken, ReachesAgainst, TooLong, schema_long, policies_long, against_long, world_long, IsFaulty, policies_faulty, against_faulty, IsFaultySchema, IsFaultyWorld, IsUntyped, undeclared, untyped}
+use Rattle.sc_outside.specs.Writes.{Written, all_appended, appended}
+use Rattle.sc_reports.specs.Reports.{Asked, IsReport, line_text, report_texts, Line, Verdict, holds, counterexample, unknown, over_limit, IsLine, AlwaysHas, Violates, IsUndecided, is_counterexample, is_open, has_counterexample, has_open, status_by, status_of, log_of, logs_of}
+use Rattle.sc_run.specs.Runs.{Run, HasRisen, Ends, refused, refusal_cut, generated, reduced, reported, replayed, wrote_log, checked_log, no_memory, scene, asked_about, asked_for, listed, IsReporting, IsLogging, IsChecking, IsReducing, AsksFor, ChecksLog, WritesLog, ReducesSet, SetIsReduced, SomeLeft, AsksGenerated, GeneratedHold, GeneratedOpen, GeneratedReports, IsGeneratedLogged, IsOfGenerated, IsOfLog, LogIsAccepted, LogIsRejected, LogIsWritten, SaysOf, IsMisplaced, log_long, Refuses, MustBe, Reports, AllHold, Tells, IsWell, AllWell, AsksQuestion, ReplaysWorld, SomeFails, SomeOpen, IsLogged, IsBroken, ReachesAgainst, TooLong, schema_long, policies_long, against_long, world_long, IsFaulty, policies_faulty, against_faulty, IsFaultySchema, IsFaultyWorld, IsUntyped, undeclared, untyped, FailsFor, IsUnread, IsUnreadFile}
 
-pub refusal-ends : (r : Run) (spent : List (List Step)) (a : Refusal) (n : ℕ) → IsRefusal r.content r.words (HasRisen r.reads) a → Refuses a r.before r.after (HasRisen r.writes) n → r.code ≡ n → spent ≡ [] → Ends r spent
+pub refusal-ends : (r : Run) (spent : List (List Step)) (a : Refusal) (n : ℕ) → IsRefusal r.content r.words (FailsFor r) a → Refuses a r.before r.after (HasRisen r.writes) n → r.code ≡ n → spent ≡ [] → Ends r spent
 refusal-ends r spent a n h e is none =
     ⊎_elim (λ w. refused a h (is ∙ w.0) w.1 none) (λ s. ⊎_elim (λ f. refusal_cut a f.2.0 h f.0 (is ∙ f.1) f.2.1 none) (λ m. no_memory (is ∙ m.0) m.1 none) s) e
 
@@ -60,9 +59,9 @@ log-ends r spent s question first against place name env n reads at report is no
     checked_log s question first against place name env reads at (subst (λ (k : ℕ). Checked (r.content name) (asked s question first against 0) env r.before r.after (HasRisen r.writes) k) (sym is) report) none
 
 -- a check of a log ends with what is said of it, or the log is refused
-pub claim-ends : (r : Run) (spent : List (List Step)) (claim : Claim) (env : Env) (content : Content) (risen : Type 0) (n : ℕ)
+pub claim-ends : (r : Run) (spent : List (List Step)) (claim : Claim) (env : Env) (content : Content) (risen : List ℕ → Type 0) (n : ℕ)
     → ReadsAll r.content r.words claim.asking.schema claim.asking.question claim.asking.policies claim.asking.against (checking claim.environment claim.log.now)
-    → slice_get (environments claim.asking.schema) claim.environment ≡ Some env → ((file : List ℕ) → content file ≡ r.content file) → (risen → HasRisen r.reads)
+    → slice_get (environments claim.asking.schema) claim.environment ≡ Some env → ((file : List ℕ) → content file ≡ r.content file) → ((file : List ℕ) → risen file → FailsFor r file)
     → ChecksClaim claim env content risen r.before r.after (HasRisen r.writes) n → r.code ≡ n → spent ≡ [] → Ends r spent
 claim-ends r spent claim env content risen n reads at same since h is none =
     let i = claim.asking in
@@ -80,7 +79,7 @@ found-at (x ∷ xs) zero h = (x, refl)
 found-at (x ∷ xs) (suc k) h = found-at xs k (omega (arith, h))
 
 -- a refusal ends with its status, unless the write failed or memory ran out
-pub refused-must : (a : Refusal) (old new : Option (List ℕ)) (rose : Type 0) (n : ℕ) → Refuses a old new rose n → MustBe (code_of a) n
+pub refused-must : (a : Refusal) (old new : Written) (rose : Type 0) (n : ℕ) → Refuses a old new rose n → MustBe (code_of a) n
 refused-must a old new rose n h = ⊎_elim (λ w. inl w.0) (λ s. ⊎_elim (λ f. inr (inl f.1)) (λ m. inr (inr m.0)) s) h
 
 -- the status of a file that couldn't be read
@@ -95,7 +94,7 @@ unread-code (refusal.NoEnvironment place count) h = absurd h
 unread-code (refusal.ReadFault f) h = refl
 unread-code (refusal.TooLong f) h = absurd h
 
-pub unread-must : (r : answer.Refusal) (old new : Option (List ℕ)) (rose : Type 0) (n code : ℕ) → IsReadFault (Told r) → Refuses (refusal_view r) old new rose n → code ≡ n → MustBe 20 code
+pub unread-must : (r : answer.Refusal) (old new : Written) (rose : Type 0) (n code : ℕ) → IsReadFault (Told r) → Refuses (refusal_view r) old new rose n → code ≡ n → MustBe 20 code
 unread-must r old new rose n code h refuses is =
     subst (λ (k : ℕ). MustBe 20 k) (sym is) (subst (λ (k : ℕ). MustBe k n) (unread-code r h) (refused-must (refusal_view r) old new rose n refuses))
 
@@ -234,7 +233,7 @@ among-logs q lines spent log is t among = logged-in q lines log t (subst (λ log
 none-spent : (spent : List (List Step)) (log : List Step) → spent ≡ [] → Contains spent log → ⊥
 none-spent spent log is among = let none = subst (λ logs. Contains logs log) is among in omega (arith, none.1)
 
-logged-reported : (q : Asked) (old new : Option (List ℕ)) (rose : Type 0) (code : ℕ) (spent : List (List Step)) (log : List Step) → Reported q old new rose code spent → Contains spent log → LogOf q (environments q.schema) log
+logged-reported : (q : Asked) (old new : Written) (rose : Type 0) (code : ℕ) (spent : List (List Step)) (log : List Step) → Reported q old new rose code spent → Contains spent log → LogOf q (environments q.schema) log
 logged-reported q old new rose code spent log (whole lines report c text logs) among = logged-among q (envs_of lines) (environments q.schema) log report.in_order (among-logs q lines spent log logs report.lines_true among)
 logged-reported q old new rose code spent log (cut lines next n front risen c text logs) among =
     let here = among-logs q lines spent log logs (front-true q lines (next ∷ []) front.lines_true) among in
@@ -304,10 +303,10 @@ logged r spent (no_memory c t none) log among = absurd (none-spent spent log non
 -- ---- what is written of one environment
 
 -- where a log is to be written, a whole report is written, or the write failed, or memory ran out
-abbrev Written : ℕ → Type 0 → Type 0
-Written code rose = (code ≤ 2) ⊎ (((code ≡ 21) × rose) ⊎ (code ≡ 30))
+abbrev WrittenCode : ℕ → Type 0 → Type 0
+WrittenCode code rose = (code ≤ 2) ⊎ (((code ≡ 21) × rose) ⊎ (code ≡ 30))
 
-logged-codes : (q : Asked) (env : Env) (old new : Option (List ℕ)) (rose : Type 0) (code : ℕ) (spent : List (List Step)) → Logged q env old new rose code spent → Written code rose
+logged-codes : (q : Asked) (env : Env) (old new : Written) (rose : Type 0) (code : ℕ) (spent : List (List Step)) → Logged q env old new rose code spent → WrittenCode code rose
 logged-codes q env old new rose code spent (log_whole log shows c text none) = inl (omega (arith, c))
 logged-codes q env old new rose code spent (log_front log lines next rest n shows order risen c text none) = inr (inl (c, risen))
 logged-codes q env old new rose code spent (log_first log lines rest shows order c text none) = inr (inr c)
@@ -315,14 +314,14 @@ logged-codes q env old new rose code spent (other_whole l other c text logs) = i
 logged-codes q env old new rose code spent (other_front l n other risen c text none) = inr (inl (c, risen))
 logged-codes q env old new rose code spent (unlogged c text none) = inr (inr c)
 
-reported-codes : (q : Asked) (old new : Option (List ℕ)) (rose : Type 0) (code : ℕ) (spent : List (List Step)) → Reported q old new rose code spent → Written code rose
+reported-codes : (q : Asked) (old new : Written) (rose : Type 0) (code : ℕ) (spent : List (List Step)) → Reported q old new rose code spent → WrittenCode code rose
 reported-codes q old new rose code spent (whole lines report c text logs) = inl (status-code lines code c)
 reported-codes q old new rose code spent (cut lines next n front risen c text logs) = inr (inl (c, risen))
 reported-codes q old new rose code spent (cut_none n none risen c text logs) = inr (inl (c, risen))
 reported-codes q old new rose code spent (stopped lines front c text logs) = inr (inr c)
 
 -- the same of generated policies
-summed-codes : (size : ℕ) (old new : Option (List ℕ)) (rose : Type 0) (code : ℕ) (spent : List (List Step)) → Summed size old new rose code spent → Written code rose
+summed-codes : (size : ℕ) (old new : Written) (rose : Type 0) (code : ℕ) (spent : List (List Step)) → Summed size old new rose code spent → WrittenCode code rose
 summed-codes size old new rose code spent (summed q is report) = reported-codes q (appended old (summary size)) new rose code spent report
 summed-codes size old new rose code spent (summary_cut n risen c text none) = inr (inl (c, risen))
 summed-codes size old new rose code spent (unsummed c text none) = inr (inr c)
@@ -336,13 +335,13 @@ answer-codes accepted code c = inr (inl c)
 answer-codes (rejected step why) code c = inl c
 answer-codes too_large code c = inr (inr c)
 
-checked-codes : (content : Option (List ℕ)) (q : Asked) (env : Env) (old new : Option (List ℕ)) (rose : Type 0) (code : ℕ) → Checked content q env old new rose code → Said code rose
+checked-codes : (content : Option (List ℕ)) (q : Asked) (env : Env) (old new : Written) (rose : Type 0) (code : ℕ) → Checked content q env old new rose code → Said code rose
 checked-codes content q env old new rose code (answer_whole a short claims c text) = inl (answer-codes a code c)
 checked-codes content q env old new rose code (answer_front a n short claims risen c text) = inr (inl (c, risen))
 checked-codes content q env old new rose code (unchecked c text) = inr (inr c)
 
 -- a status that isn't among these
-none-written : (code : ℕ) (rose : Type 0) → Written code rose → 3 ≤ code → (code ≡ 21 → ⊥) → (code ≡ 30 → ⊥) → ⊥
+none-written : (code : ℕ) (rose : Type 0) → WrittenCode code rose → 3 ≤ code → (code ≡ 21 → ⊥) → (code ≡ 30 → ⊥) → ⊥
 none-written code rose w least f g = ⊎_elim (λ (h : code ≤ 2). omega (arith, h, least)) (λ x. ⊎_elim (λ (h : (code ≡ 21) × rose). f h.0) g x) w
 
 none-said : (code : ℕ) (rose : Type 0) → Said code rose → (code ≡ 14 → ⊥) → (code ≡ 0 → ⊥) → (code ≡ 2 → ⊥) → (code ≡ 21 → ⊥) → (code ≡ 30 → ⊥) → ⊥
@@ -357,7 +356,7 @@ reduced-rose code rose w e =
     ⊎_elim (λ x. absurd (⊎_elim (λ (h : code ≡ 0). omega (arith, h, e)) (λ (h : code ≡ 2). omega (arith, h, e)) x))
     (λ x. ⊎_elim (λ (h : (code ≡ 21) × rose). h.1) (λ (h : code ≡ 30). absurd (omega (arith, h, e))) x) w
 
-written-rose : (code : ℕ) (rose : Type 0) → Written code rose → code ≡ 21 → rose
+written-rose : (code : ℕ) (rose : Type 0) → WrittenCode code rose → code ≡ 21 → rose
 written-rose code rose w e = ⊎_elim (λ (h : code ≤ 2). absurd (omega (arith, h, e))) (λ x. ⊎_elim (λ (h : (code ≡ 21) × rose). h.1) (λ (h : code ≡ 30). absurd (omega (arith, h, e))) x) w
 
 said-rose : (code : ℕ) (rose : Type 0) → Said code rose → code ≡ 21 → rose
@@ -376,13 +375,13 @@ abbrev pub Stored : Type 0
 Stored = (bytes : List ℕ) (w : World) → world.SpellsWorld bytes w → IsMap w.store
 
 -- with a status below 10 a report is whole
-record Whole (q : Asked) (old new : Option (List ℕ)) (code : ℕ) : Type 0 where
+record Whole (q : Asked) (old new : Written) (code : ℕ) : Type 0 where
   pub lines : List Line
   pub report : IsReport q (environments q.schema) lines
   pub is : code ≡ status_of lines
-  pub text : new ≡ appended old (report_text lines)
+  pub text : new ≡ all_appended old (report_texts lines)
 
-whole-reported : (q : Asked) (old new : Option (List ℕ)) (rose : Type 0) (code : ℕ) (spent : List (List Step)) → Reported q old new rose code spent → code < 10 → Whole q old new code
+whole-reported : (q : Asked) (old new : Written) (rose : Type 0) (code : ℕ) (spent : List (List Step)) → Reported q old new rose code spent → code < 10 → Whole q old new code
 whole-reported q old new rose code spent (whole lines report c text logs) e = record { lines = lines; report = report; is = c; text = text }
 whole-reported q old new rose code spent (cut lines next n front risen c text logs) e = absurd (omega (arith, c, e))
 whole-reported q old new rose code spent (cut_none n none risen c text logs) e = absurd (omega (arith, c, e))
@@ -406,7 +405,7 @@ module _ (r : Run) (spent : List (List Step)) where
     reads = reads;
     lines = l ∷ [];
     report = record { in_order = ap (λ e. e ∷ []) is ∙ about; lines_true = (true_line, tt) };
-    text = text ∙ ap (appended r.before) (sym (append-nil (line_text l)));
+    text = text;
   }
 
   hold-reported : (s : Declarations) (question : Question) (first : List Policy) (against : Option (List Policy)) (budget : ℕ) → ReadsAll r.content r.words s question first against (reporting budget)
@@ -684,20 +683,20 @@ replay-two None code c = inl c
 replay-two (Some b) code c = inr c
 
 -- with another status than 0 and 3 memory ran out, or the write failed
-replayed-other : (s : Declarations) (ps : List Policy) (w : World) (old new : Option (List ℕ)) (rose : Type 0) (code : ℕ) → Replayed (scene s ps w) old new rose code
+replayed-other : (s : Declarations) (ps : List Policy) (w : World) (old new : Written) (rose : Type 0) (code : ℕ) → Replayed (scene s ps w) old new rose code
     → (code ≡ 0 → ⊥) → (code ≡ 3 → ⊥) → (code ≡ 30) ⊎ ((code ≡ 21) × rose)
 replayed-other s ps w old new rose code (told_whole found finds c text) f g = absurd (⊎_elim f g (replay-two found code c))
 replayed-other s ps w old new rose code (told_front found lines next rest n finds order risen c text) f g = inr (c, risen)
 replayed-other s ps w old new rose code (told_first found lines rest finds order c text) f g = inl c
 replayed-other s ps w old new rose code (untold c text) f g = inl c
 
-reported-high : (q : Asked) (old new : Option (List ℕ)) (rose : Type 0) (code : ℕ) (spent : List (List Step)) → Reported q old new rose code spent → 10 ≤ code → (code ≡ 21 → ⊥) → (code ≡ 30 → ⊥) → ⊥
+reported-high : (q : Asked) (old new : Written) (rose : Type 0) (code : ℕ) (spent : List (List Step)) → Reported q old new rose code spent → 10 ≤ code → (code ≡ 21 → ⊥) → (code ≡ 30 → ⊥) → ⊥
 reported-high q old new rose code spent (whole lines report c text logs) e f g = let most = status-code lines code c in omega (arith, most, e)
 reported-high q old new rose code spent (cut lines next n front risen c text logs) e f g = f c
 reported-high q old new rose code spent (cut_none n none risen c text logs) e f g = f c
 reported-high q old new rose code spent (stopped lines front c text logs) e f g = g c
 
-replayed-high : (s : Declarations) (ps : List Policy) (w : World) (old new : Option (List ℕ)) (rose : Type 0) (code : ℕ) → Replayed (scene s ps w) old new rose code → 10 ≤ code → (code ≡ 21 → ⊥) → (code ≡ 30 → ⊥) → ⊥
+replayed-high : (s : Declarations) (ps : List Policy) (w : World) (old new : Written) (rose : Type 0) (code : ℕ) → Replayed (scene s ps w) old new rose code → 10 ≤ code → (code ≡ 21 → ⊥) → (code ≡ 30 → ⊥) → ⊥
 replayed-high s ps w old new rose code report e f g =
     ⊎_elim (λ (h : code ≡ 30). g h) (λ (h : (code ≡ 21) × rose). f h.0)
     (replayed-other s ps w old new rose code report (λ h. omega (arith, h, e)) (λ h. omega (arith, h, e)))
@@ -728,14 +727,14 @@ by-lines true open-ones code none c = absurd (none refl)
 by-lines false true code none c = inr (inl c)
 by-lines false false code none c = inl c
 
-reported-status : NeverViolated → (size : ℕ) (q : Asked) → size ≤ 1000 → IsGenerated size q → (old new : Option (List ℕ)) (rose : Type 0) (code : ℕ) (spent : List (List Step)) → Reported q old new rose code spent → IsOfGenerated code
+reported-status : NeverViolated → (size : ℕ) (q : Asked) → size ≤ 1000 → IsGenerated size q → (old new : Written) (rose : Type 0) (code : ℕ) (spent : List (List Step)) → Reported q old new rose code spent → IsOfGenerated code
 reported-status never size q within is old new rose code spent (whole lines report c text logs) =
     by-lines (has_counterexample lines) (has_open lines) code (λ e. none-printed never size q within is lines report.lines_true e) c
 reported-status never size q within is old new rose code spent (cut lines next n front risen c text logs) = inr (inr (inl c))
 reported-status never size q within is old new rose code spent (cut_none n none risen c text logs) = inr (inr (inl c))
 reported-status never size q within is old new rose code spent (stopped lines front c text logs) = inr (inr (inr c))
 
-summed-status : NeverViolated → (size : ℕ) → size ≤ 1000 → (old new : Option (List ℕ)) (rose : Type 0) (code : ℕ) (spent : List (List Step)) → Summed size old new rose code spent → IsOfGenerated code
+summed-status : NeverViolated → (size : ℕ) → size ≤ 1000 → (old new : Written) (rose : Type 0) (code : ℕ) (spent : List (List Step)) → Summed size old new rose code spent → IsOfGenerated code
 summed-status never size within old new rose code spent (summed q is report) = reported-status never size q within is (appended old (summary size)) new rose code spent report
 summed-status never size within old new rose code spent (summary_cut n risen c text none) = inr (inr (inl c))
 summed-status never size within old new rose code spent (unsummed c text none) = inr (inr (inr c))
@@ -817,11 +816,12 @@ module _ (r : Run) (spent : List (List Step)) where
 
 record RefusedAs (r : Run) (n : ℕ) : Type 0 where
   pub refusal : Refusal
-  pub is : IsRefusal r.content r.words (HasRisen r.reads) refusal
+  pub is : IsRefusal r.content r.words (FailsFor r) refusal
   pub code : code_of refusal ≡ n
+  pub text : r.after ≡ appended r.before (refusal_text refusal)
 
 by-code : (r : Run) (spent : List (List Step)) (n : ℕ) → Ends r spent → r.code ≡ n → 10 ≤ n → (n ≡ 14 → ⊥) → (n ≡ 21 → ⊥) → (n ≡ 30 → ⊥) → RefusedAs r n
-by-code r spent n (refused a h c t none) e l p f g = record { refusal = a; is = h; code = sym c ∙ e }
+by-code r spent n (refused a h c t none) e l p f g = record { refusal = a; is = h; code = sym c ∙ e; text = t }
 by-code r spent n (refusal_cut a k h rose c t none) e l p f g = absurd (f (sym e ∙ c))
 by-code r spent n (reported s question first against budget reads report) e l p f g =
     absurd (reported-high (asked s question first against budget) r.before r.after (HasRisen r.writes) r.code spent report (omega (arith, e, l)) (λ h. f (sym e ∙ h)) (λ h. g (sym e ∙ h)))
@@ -848,26 +848,26 @@ CauseOf r (world_text f) = IsFaultyWorld r
 CauseOf r (unknown_name side f) = IsUntyped r
 CauseOf r (ill_typed side f) = IsUntyped r
 CauseOf r (no_environment place count) = IsMisplaced r
-CauseOf r (read_fault f) = (HasRisen r.reads)
+CauseOf r (read_fault f) = IsUnreadFile r f
 CauseOf r (too_long f) = TooLong r
 
-schema-cause : (r : Run) (c : Command) → Serves r.words c → (a : Refusal) → RefusesSchema r.content c (HasRisen r.reads) a → CauseOf r a
-schema-cause r c h _ (schema_unread _ (unread rose)) = rose
+schema-cause : (r : Run) (c : Command) → Serves r.words c → (a : Refusal) → RefusesSchema r.content c (FailsFor r) a → CauseOf r a
+schema-cause r c h _ (schema_unread _ (unread at)) = record { command = c; commands = h; name = c.schema; named = refl; failed = at }
 schema-cause r c h _ (schema_unread _ (long is)) = schema_long c h is
 schema-cause r c h _ (schema_faulty f bytes is has) = record { command = c; commands = h; bytes = bytes; told = is; fault = f; has = has }
 
-policies-cause : (r : Run) (c : Command) (s : Declarations) → Serves r.words c → ReadsSchema r.content c s → (a : Refusal) → RefusesPolicies r.content c.policies policies_side (HasRisen r.reads) a → CauseOf r a
-policies-cause r c s h reads _ (policies_unread _ (unread rose)) = rose
+policies-cause : (r : Run) (c : Command) (s : Declarations) → Serves r.words c → ReadsSchema r.content c s → (a : Refusal) → RefusesPolicies r.content c.policies policies_side (FailsFor r) a → CauseOf r a
+policies-cause r c s h reads _ (policies_unread _ (unread at)) = record { command = c; commands = h; name = c.policies; named = refl; failed = at }
 policies-cause r c s h reads _ (policies_unread _ (long is)) = policies_long c h s reads is
 policies-cause r c s h reads _ (spec.policies_faulty f bytes is has) = policies_faulty c h s reads bytes is f has
 
-against-cause : (r : Run) (name : List ℕ) → ReachesAgainst r.content r.words name → (a : Refusal) → RefusesPolicies r.content name against_side (HasRisen r.reads) a → CauseOf r a
-against-cause r name reaches _ (policies_unread _ (unread rose)) = rose
+against-cause : (r : Run) (name : List ℕ) → ReachesAgainst r.content r.words name → (a : Refusal) → RefusesPolicies r.content name against_side (FailsFor r) a → CauseOf r a
+against-cause r name reaches _ (policies_unread _ (unread at)) = record { command = reaches.command; commands = reaches.commands; name = name; named = ap against_in reaches.task; failed = at }
 against-cause r name reaches _ (policies_unread _ (long is)) = against_long name reaches is
 against-cause r name reaches _ (spec.policies_faulty f bytes is has) = against_faulty name reaches bytes is f has
 
-world-cause : (r : Run) (s : Declarations) (ps : List Policy) (name : List ℕ) → ReachesWorld r.content r.words s ps name → (a : Refusal) → RefusesWorld r.content name (HasRisen r.reads) a → CauseOf r a
-world-cause r s ps name reaches _ (world_unread _ (unread rose)) = rose
+world-cause : (r : Run) (s : Declarations) (ps : List Policy) (name : List ℕ) → ReachesWorld r.content r.words s ps name → (a : Refusal) → RefusesWorld r.content name (FailsFor r) a → CauseOf r a
+world-cause r s ps name reaches _ (world_unread _ (unread at)) = record { command = reaches.command; commands = reaches.commands; name = name; named = ap world_in reaches.task; failed = at }
 world-cause r s ps name reaches _ (world_unread _ (long is)) = world_long s ps name reaches is
 world-cause r s ps name reaches _ (world_faulty f bytes is has) = record { schema = s; policies = ps; name = name; reaches = reaches; bytes = bytes; told = is; fault = f; has = has }
 
@@ -884,11 +884,13 @@ place-cause r s question first against aim reaches served _ (misplaced place is 
     record { schema = s; question = question; first = first; against = against; aim = aim; reaches = reaches; served = served; place = place; named = is; beyond = beyond }
 
 log-cause : (r : Run) (s : Declarations) (question : Question) (first : List Policy) (against : Option (List Policy)) (place : ℕ) (name : List ℕ) → ReachesAim r.content r.words s question first against (checking place name)
-    → (a : Refusal) → RefusesLog r.content name (HasRisen r.reads) a → CauseOf r a
-log-cause r s question first against place name reaches _ (log_unread rose) = rose
+    → (a : Refusal) → RefusesLog r.content name (FailsFor r) a → CauseOf r a
+log-cause r s question first against place name reaches _ (log_unread at) =
+    let command = reaches.reaches in
+    record { command = command.command; commands = command.commands; name = name; named = ap log_in command.task; failed = at }
 log-cause r s question first against place name reaches _ (spec.log_long is) = log_long s question first against place name reaches is
 
-cause-of : (r : Run) (a : Refusal) → IsRefusal r.content r.words (HasRisen r.reads) a → CauseOf r a
+cause-of : (r : Run) (a : Refusal) → IsRefusal r.content r.words (FailsFor r) a → CauseOf r a
 cause-of r _ (no_command none) = none
 cause-of r _ (of_schema a c h i) = schema-cause r c h a i
 cause-of r _ (of_policies a c s h reads i) = policies-cause r c s h reads a i
@@ -912,29 +914,29 @@ Cause r n =
     (either (n == 11) (IsFaulty r)
     (either (n == 17) (IsFaultyWorld r)
     (either (n == 13) (IsUntyped r)
-    (either (n == 20) (HasRisen r.reads)
+    (either (n == 20) (IsUnread r)
     (either (n == 22) (TooLong r)
     (either (n == 16) (IsMisplaced r) ⊤)))))))
 
-cause-at : (r : Run) (a : Refusal) → CauseOf r a → Cause r (code_of a)
-cause-at r usage h = h
-cause-at r (schema_text f) h = h
-cause-at r (policy_text side f) h = h
-cause-at r (world_text f) h = h
-cause-at r (unknown_name side f) h = h
-cause-at r (ill_typed side f) h = h
-cause-at r (no_environment place count) h = h
-cause-at r (read_fault f) h = h
-cause-at r (too_long f) h = h
+cause-at : (r : Run) (a : Refusal) → r.after ≡ appended r.before (refusal_text a) → CauseOf r a → Cause r (code_of a)
+cause-at r usage says h = h
+cause-at r (schema_text f) says h = h
+cause-at r (policy_text side f) says h = h
+cause-at r (world_text f) says h = h
+cause-at r (unknown_name side f) says h = h
+cause-at r (ill_typed side f) says h = h
+cause-at r (no_environment place count) says h = h
+cause-at r (read_fault f) says h = (f, h, says)
+cause-at r (too_long f) says h = h
 
 told-by : (r : Run) (spent : List (List Step)) (n : ℕ) → Ends r spent → r.code ≡ n → 10 ≤ n → (n ≡ 14 → ⊥) → (n ≡ 21 → ⊥) → (n ≡ 30 → ⊥) → Cause r n
-told-by r spent n ends e l p f g = let w = by-code r spent n ends e l p f g in subst (Cause r) w.code (cause-at r w.refusal (cause-of r w.refusal w.is))
+told-by r spent n ends e l p f g = let w = by-code r spent n ends e l p f g in subst (Cause r) w.code (cause-at r w.refusal w.text (cause-of r w.refusal w.is))
 
 pub no-command : (r : Run) (spent : List (List Step)) → Ends r spent → r.code ≡ 10 → IsNoCommand r.words
 no-command r spent ends e = told-by r spent 10 ends e (omega arith) (λ h. omega (arith, h)) (λ h. omega (arith, h)) (λ h. omega (arith, h))
 
-pub read-rose : (r : Run) (spent : List (List Step)) → Ends r spent → r.code ≡ 20 → HasRisen r.reads
-read-rose r spent ends e = told-by r spent 20 ends e (omega arith) (λ h. omega (arith, h)) (λ h. omega (arith, h)) (λ h. omega (arith, h))
+pub is-unread : (r : Run) (spent : List (List Step)) → Ends r spent → r.code ≡ 20 → IsUnread r
+is-unread r spent ends e = told-by r spent 20 ends e (omega arith) (λ h. omega (arith, h)) (λ h. omega (arith, h)) (λ h. omega (arith, h))
 
 pub is-too-long : (r : Run) (spent : List (List Step)) → Ends r spent → r.code ≡ 22 → TooLong r
 is-too-long r spent ends e = told-by r spent 22 ends e (omega arith) (λ h. omega (arith, h)) (λ h. omega (arith, h)) (λ h. omega (arith, h))
@@ -954,13 +956,13 @@ is-untyped r spent ends e = told-by r spent 13 ends e (omega arith) (λ h. omega
 pub is-misplaced : (r : Run) (spent : List (List Step)) → Ends r spent → r.code ≡ 16 → IsMisplaced r
 is-misplaced r spent ends e = told-by r spent 16 ends e (omega arith) (λ h. omega (arith, h)) (λ h. omega (arith, h)) (λ h. omega (arith, h))
 
-reported-rose : (q : Asked) (old new : Option (List ℕ)) (rose : Type 0) (code : ℕ) (spent : List (List Step)) → Reported q old new rose code spent → code ≡ 21 → rose
+reported-rose : (q : Asked) (old new : Written) (rose : Type 0) (code : ℕ) (spent : List (List Step)) → Reported q old new rose code spent → code ≡ 21 → rose
 reported-rose q old new rose code spent (whole lines report c text logs) e = absurd (let most = status-code lines code c in omega (arith, most, e))
 reported-rose q old new rose code spent (cut lines next n front risen c text logs) e = risen
 reported-rose q old new rose code spent (cut_none n none risen c text logs) e = risen
 reported-rose q old new rose code spent (stopped lines front c text logs) e = absurd (omega (arith, c, e))
 
-replayed-rose : (s : Declarations) (ps : List Policy) (w : World) (old new : Option (List ℕ)) (rose : Type 0) (code : ℕ) → Replayed (scene s ps w) old new rose code → code ≡ 21 → rose
+replayed-rose : (s : Declarations) (ps : List Policy) (w : World) (old new : Written) (rose : Type 0) (code : ℕ) → Replayed (scene s ps w) old new rose code → code ≡ 21 → rose
 replayed-rose s ps w old new rose code report e =
     ⊎_elim (λ (h : code ≡ 30). absurd (omega (arith, h, e))) (λ (h : (code ≡ 21) × rose). h.1)
     (replayed-other s ps w old new rose code report (λ h. omega (arith, h, e)) (λ h. omega (arith, h, e)))
@@ -983,7 +985,7 @@ write-rose r spent (no_memory c t none) e = absurd (omega (arith, c, e))
 
 module _ (r : Run) (spent : List (List Step)) where
   -- they are refused for nothing
-  none-refused : (size : ℕ) → Generates r.words size → (a : Refusal) → IsRefusal r.content r.words (HasRisen r.reads) a → ⊥
+  none-refused : (size : ℕ) → Generates r.words size → (a : Refusal) → IsRefusal r.content r.words (FailsFor r) a → ⊥
   none-refused size h _ (no_command none) = none (generate (record { size = size })) h
   none-refused size h _ (of_schema a c k i) = not_generated r.words c size k h
   none-refused size h _ (of_policies a c s k reads i) = not_generated r.words c size k h

@@ -1,9 +1,9 @@
 -- What a run asks of generated policies, and what it writes of them.
-use Rattle.std.specs.Prelude.{◌≡◌, ℕ, List, [], ◌++◌, take, length, codes, Option}
+use Rattle.std.specs.Prelude.{◌≡◌, ℕ, List, [], ◌++◌, take, length, codes}
 use Rattle.std.specs.Fmt.{decimal}
 use Rattle.sc_clauses.specs.declared.step.Step.{Step}
 use Rattle.sc_generated.specs.Generated.{backward, forward, schema_text}
-use Rattle.sc_outside.specs.Writes.{appended}
+use Rattle.sc_outside.specs.Writes.{Written, appended}
 use Rattle.sc_parser.specs.Spelling.{Spells}
 use Rattle.sc_question.specs.declared.question.Question.TheVariants.{Equivalent}
 use Rattle.sc_reports.specs.Progress.{Reported}
@@ -29,7 +29,7 @@ summary size = summary_text size (length (forward size))
 
 -- How reporting on generated policies ends: their summary is written, and then the report as it comes; or the sink
 -- failed, and a front of the summary is written; or memory ran out, and nothing is.
-pub data Summed (n : ℕ) (old new : Option (List ℕ)) (rose : Type 0) (code : ℕ) (spent : List (List Step)) : Type 0 where
+pub data Summed (n : ℕ) (old new : Written) (rose : Type 0) (code : ℕ) (spent : List (List Step)) : Type 0 where
   summed : (q : Asked) → IsGenerated n q → Reported q (appended old (summary n)) new rose code spent
       → Summed n old new rose code spent
   summary_cut : (k : ℕ) → rose → code ≡ 21 → new ≡ appended old (take k (summary n)) → spent ≡ []

@@ -3,7 +3,8 @@ use Rattle.std.specs.Prelude.{◌≡◌, ◌≢◌, ◌≤◌, ◌<◌, ◌⊎�
 use Rattle.std.specs.Global.{Global}
 use Rattle.std.specs.List.{Contains}
 use Rattle.sc_outside.specs.Counts.{Rose}
-use Rattle.sc_outside.specs.Writes.{appended}
+use Rattle.sc_outside.specs.Failures.{FailedAt}
+use Rattle.sc_outside.specs.Writes.{Written, all_appended, appended}
 use Rattle.sc_outside.specs.declared.traits.Files as files
 use Rattle.sc_outside.specs.declared.traits.Sink as sink
 use Rattle.sc_command.specs.CommandLine.{words_view}
@@ -32,7 +33,6 @@ use Rattle.sc_checker.specs.declared.checking.Reason.{Reason}
 use Rattle.sc_reports.specs.Analyses.{asked, asked_within}
 use Rattle.sc_reports.specs.Claims.{Answer, Checked, Claims, IsShort, IsShown, accepted, answer_text, rejected}
 use Rattle.sc_reports.specs.Logs.{Logged, Shows, log_lines}
-use Rattle.sc_reports.specs.Lines.{text_of}
 use Rattle.sc_reports.specs.Progress.{Reported}
 use Rattle.sc_reduction.specs.Lines.{status_of as reduction_status}
 use Rattle.sc_reduction.specs.Reductions.{IsReduction, kept, without}
@@ -41,8 +41,8 @@ use Rattle.sc_reduction.specs.declared.fate.Fate.{Fate}
 use Rattle.sc_run.specs.Generates.{IsGenerated, Summed, summary}
 use Rattle.sc_run.specs.Reduces.{Reduced, lines_of as reduced_lines, to_reduce}
 use Rattle.sc_run.specs.Replays.{Finds, Replayed, lines_of}
-use Rattle.sc_inputs.specs.Refusals.{Refusal, Side, IsRefusal, code_of, refusal_text, Content, IsContent, IsTooLong, ReadsSchema, HasPolicies, HasWorld, HasEnvironment, IsLongLog, RefusesLog, ReachesAim, ReachesQuestion, ReachesWorld, names_fault, types_fault, AreServed, limit, log_limit}
-use Rattle.sc_reports.specs.Reports.{Asked, Line, counterexample, IsReport, AlwaysHas, Violates, IsUndecided, has_counterexample, has_open, report_text}
+use Rattle.sc_inputs.specs.Refusals.{File, Refusal, Side, name_of, read_fault, IsRefusal, code_of, refusal_text, Content, IsContent, IsTooLong, ReadsSchema, HasPolicies, HasWorld, HasEnvironment, IsLongLog, RefusesLog, ReachesAim, ReachesQuestion, ReachesWorld, names_fault, types_fault, AreServed, limit, log_limit}
+use Rattle.sc_reports.specs.Reports.{Asked, Line, counterexample, IsReport, AlwaysHas, Violates, IsUndecided, has_counterexample, has_open, report_texts}
 use Rattle.sc_inputs.specs.declared.inputs.Claim.{Claim}
 use Rattle.sc_inputs.specs.declared.inputs.Scene.{Scene}
 
@@ -58,15 +58,16 @@ HasRisen c = Rose c.before c.now
 abbrev pub WentUp : Change → Type 0
 WentUp c = c.before < c.now
 
--- What a run sees and does: what the files hold, the words, the counts of read faults and of write faults, what was written
--- before it and is written after it, and the status.
+-- What a run sees and does: what the files hold, the words, the counts of read faults and of write faults, the name
+-- of the file of the call that failed last, what was written before it and is written after it, and the status.
 pub record Run : Type 0 where
   pub content : Content
   pub words : List (List ℕ)
   pub reads : Change
+  pub failed : Option (List ℕ)
   pub writes : Change
-  pub before : Option (List ℕ)
-  pub after : Option (List ℕ)
+  pub before : Written
+  pub after : Written
   pub code : ℕ
 
 -- a run over files and a sink, each before it and after it
@@ -75,11 +76,16 @@ run_of source out files files' written written' words code = record {
   content = source.content files;
   words = words_view words;
   reads = record { before = source.faults files; now = source.faults files' };
+  failed = source.failed files';
   writes = record { before = out.faults written; now = out.faults written' };
   before = out.written written;
   after = out.written written';
   code = code;
 }
+
+-- a call for the file of this name failed, and was the last one that did
+abbrev pub FailsFor : Run → List ℕ → Type 0
+FailsFor r = FailedAt r.reads.before r.reads.now r.failed
 
 -- what is replayed
 abbrev pub scene : Declarations → List Policy → World → Scene
@@ -108,19 +114,32 @@ budget_in (reducing budget) = budget
 abbrev pub asked_for : Declarations → Question → List Policy → Option (List Policy) → Aim → Asked
 asked_for s question first against aim = asked s question first against (budget_in aim)
 
--- a refusal's line is written whole, or a front of it; or a report, a log or what is said of one is written, as far as it came; or memory
--- ran out before anything was written. The logs are those of the lines that say `unknown`.
+-- a refusal's line is written whole, or a front of it; or a report, a log or what is said of one is written, as far
+-- as it came; or memory ran out before anything was written. The logs are those of the lines that say `unknown`.
 pub data Ends (r : Run) (spent : List (List Step)) : Type 0 where
-  refused : (a : Refusal) → IsRefusal r.content r.words (HasRisen r.reads) a → r.code ≡ code_of a → r.after ≡ appended r.before (refusal_text a) → spent ≡ [] → Ends r spent
-  refusal_cut : (a : Refusal) (n : ℕ) → IsRefusal r.content r.words (HasRisen r.reads) a → HasRisen r.writes → r.code ≡ 21 → r.after ≡ appended r.before (take n (refusal_text a)) → spent ≡ [] → Ends r spent
-  reported : (s : Declarations) (question : Question) (first : List Policy) (against : Option (List Policy)) (budget : ℕ) → ReadsAll r.content r.words s question first against (reporting budget)
-      → Reported (asked s question first against budget) r.before r.after (HasRisen r.writes) r.code spent → Ends r spent
-  wrote_log : (s : Declarations) (question : Question) (first : List Policy) (against : Option (List Policy)) (budget place : ℕ) (env : Env) → ReadsAll r.content r.words s question first against (logging budget place)
-      → slice_get (environments s) place ≡ Some env → Logged (asked s question first against budget) env r.before r.after (HasRisen r.writes) r.code spent → Ends r spent
-  checked_log : (s : Declarations) (question : Question) (first : List Policy) (against : Option (List Policy)) (place : ℕ) (name : List ℕ) (env : Env) → ReadsAll r.content r.words s question first against (checking place name)
-      → slice_get (environments s) place ≡ Some env → Checked (r.content name) (asked s question first against 0) env r.before r.after (HasRisen r.writes) r.code → spent ≡ [] → Ends r spent
-  replayed : (s : Declarations) (ps : List Policy) (w : World) → ReadsWorld r.content r.words s ps w → Replayed (scene s ps w) r.before r.after (HasRisen r.writes) r.code → spent ≡ [] → Ends r spent
-  reduced : (s : Declarations) (question : Question) (first : List Policy) (against : Option (List Policy)) (budget : ℕ) → ReadsAll r.content r.words s question first against (reducing budget)
+  refused : (a : Refusal) → IsRefusal r.content r.words (FailsFor r) a → r.code ≡ code_of a
+      → r.after ≡ appended r.before (refusal_text a) → spent ≡ [] → Ends r spent
+  refusal_cut : (a : Refusal) (n : ℕ) → IsRefusal r.content r.words (FailsFor r) a → HasRisen r.writes → r.code ≡ 21
+      → r.after ≡ appended r.before (take n (refusal_text a)) → spent ≡ [] → Ends r spent
+  reported : (s : Declarations) (question : Question) (first : List Policy) (against : Option (List Policy))
+      (budget : ℕ) → ReadsAll r.content r.words s question first against (reporting budget)
+      → Reported (asked s question first against budget) r.before r.after (HasRisen r.writes) r.code spent
+      → Ends r spent
+  wrote_log : (s : Declarations) (question : Question) (first : List Policy) (against : Option (List Policy))
+      (budget place : ℕ) (env : Env) → ReadsAll r.content r.words s question first against (logging budget place)
+      → slice_get (environments s) place ≡ Some env
+      → Logged (asked s question first against budget) env r.before r.after (HasRisen r.writes) r.code spent
+      → Ends r spent
+  checked_log : (s : Declarations) (question : Question) (first : List Policy) (against : Option (List Policy))
+      (place : ℕ) (name : List ℕ) (env : Env)
+      → ReadsAll r.content r.words s question first against (checking place name)
+      → slice_get (environments s) place ≡ Some env
+      → Checked (r.content name) (asked s question first against 0) env r.before r.after (HasRisen r.writes)
+      r.code → spent ≡ [] → Ends r spent
+  replayed : (s : Declarations) (ps : List Policy) (w : World) → ReadsWorld r.content r.words s ps w
+      → Replayed (scene s ps w) r.before r.after (HasRisen r.writes) r.code → spent ≡ [] → Ends r spent
+  reduced : (s : Declarations) (question : Question) (first : List Policy) (against : Option (List Policy))
+      (budget : ℕ) → ReadsAll r.content r.words s question first against (reducing budget)
       → Reduced (to_reduce s first budget) r.before r.after (HasRisen r.writes) r.code spent → Ends r spent
   generated : (size : ℕ) → Generates r.words size → Summed size r.before r.after (HasRisen r.writes) r.code spent
       → Ends r spent
@@ -161,7 +180,7 @@ pub record Reports (r : Run) : Type 0 where
   pub reads : ReadsAll r.content r.words schema question first against aim
   pub lines : List Line
   pub report : IsReport (asked_for schema question first against aim) (asked_about schema aim) lines
-  pub text : r.after ≡ appended r.before (report_text lines)
+  pub text : r.after ≡ all_appended r.before (report_texts lines)
 
 abbrev pub asked_by : {r : Run} → Reports r → Asked
 asked_by x = asked_for x.schema x.question x.first x.against x.aim
@@ -205,10 +224,10 @@ pub record Tells (r : Run) (found : Option Break) : Type 0 where
   pub world : World
   pub reads : ReadsWorld r.content r.words schema policies world
   pub first : Finds (scene schema policies world) found
-  pub text : r.after ≡ appended r.before (text_of (lines_of (scene schema policies world) found))
+  pub text : r.after ≡ all_appended r.before (lines_of (scene schema policies world) found)
 
--- a whole report tells that nothing keeps a world from being well-formed, and the world is well-formed for an environment of
--- the schema and the uids that the policies write
+-- a whole report tells that nothing keeps a world from being well-formed, and the world is well-formed for an
+-- environment of the schema and the uids that the policies write
 pub record IsWell (r : Run) : Type 0 where
   pub told : Tells r None
   pub env : Env
@@ -242,7 +261,8 @@ pub record ReplaysWorld (r : Run) : Type 0 where
   pub name : List ℕ
   pub task : command.task ≡ replaying name
 
--- the log of the environment that is named is written whole, and shows that each of its well-formed worlds has the property
+-- the log of the environment that is named is written whole, and shows that each of its well-formed worlds has the
+-- property
 pub record LogIsWritten (r : Run) : Type 0 where
   pub schema : Declarations
   pub question : Question
@@ -255,7 +275,7 @@ pub record LogIsWritten (r : Run) : Type 0 where
   pub named : slice_get (environments schema) place ≡ Some env
   pub log : List Step
   pub shows : Shows (asked schema question first against budget) env log
-  pub text : r.after ≡ appended r.before (text_of (log_lines log))
+  pub text : r.after ≡ all_appended r.before (log_lines log)
 
 -- this is said of the log of the environment that is named
 pub record SaysOf (r : Run) (a : Answer) : Type 0 where
@@ -272,8 +292,8 @@ pub record SaysOf (r : Run) (a : Answer) : Type 0 where
   pub claims : Claims (r.content name) (asked schema question first against 0) env a
   pub text : r.after ≡ appended r.before (answer_text env a)
 
--- a log is accepted: each well-formed world of the environment that is named has the property, whatever bytes the log file has, and where
--- these are told, they are the text of a log that shows it
+-- a log is accepted: each well-formed world of the environment that is named has the property, whatever bytes the log
+-- file has, and where these are told, they are the text of a log that shows it
 abbrev pub LogIsAccepted : Run → Type 0
 LogIsAccepted r = SaysOf r accepted
 
@@ -285,8 +305,9 @@ LogIsRejected r = (step : ℕ) × (why : Reason) × SaysOf r (rejected step why)
 abbrev pub ReducesSet : Run → Type 0
 ReducesSet r = AsksFor IsReducing r
 
--- what becomes of each policy of the file is written whole, and is so: those that stay decide as all do in each environment, and each line of
--- one that is kept prints a well-formed world in which those that stay decide otherwise without it
+-- what becomes of each policy of the file is written whole, and is so: those that stay decide as all do in each
+-- environment, and each line of one that is kept prints a well-formed world in which those that stay decide otherwise
+-- without it
 pub record SetIsReduced (r : Run) : Type 0 where
   pub schema : Declarations
   pub question : Question
@@ -297,7 +318,7 @@ pub record SetIsReduced (r : Run) : Type 0 where
   pub fates : List Fate
   pub is_reduction : IsReduction (to_reduce schema policies budget) fates
   pub status : r.code ≡ reduction_status fates
-  pub text : r.after ≡ appended r.before (text_of (reduced_lines (to_reduce schema policies budget) fates))
+  pub text : r.after ≡ all_appended r.before (reduced_lines (to_reduce schema policies budget) fates)
 
 -- the words are a command to ask whether so many generated policies are equivalent to the same in reverse order
 abbrev pub AsksGenerated : Run → Type 0
@@ -311,7 +332,7 @@ pub record GeneratedReports (r : Run) : Type 0 where
   pub is_generated : IsGenerated size asks
   pub lines : List Line
   pub report : IsReport asks (environments asks.schema) lines
-  pub text : r.after ≡ appended (appended r.before (summary size)) (report_text lines)
+  pub text : r.after ≡ all_appended (appended r.before (summary size)) (report_texts lines)
 
 -- each environment is reported to hold: in every well-formed world of it the policies decide the same in either order
 pub record GeneratedHold (r : Run) : Type 0 where
@@ -333,13 +354,13 @@ pub record IsGeneratedLogged (r : Run) (log : List Step) : Type 0 where
   pub listed : Contains (environments asks.schema) env
   pub undecided : IsUndecided asks env 1000000 log
 
--- the statuses of generated policies: it is found that all holds, or it isn't known of some environment; or the write failed, or memory ran
--- out. A counterexample there is none.
+-- the statuses of generated policies: it is found that all holds, or it isn't known of some environment; or the write
+-- failed, or memory ran out. A counterexample there is none.
 abbrev pub IsOfGenerated : ℕ → Type 0
 IsOfGenerated code = (code ≡ 0) ⊎ ((code ≡ 2) ⊎ ((code ≡ 21) ⊎ (code ≡ 30)))
 
--- status 0: a question's property holds in each environment, or a world is replayed that is well-formed, or a log is written or accepted, or
--- a policy set is reduced, or generated policies are equivalent
+-- status 0: a question's property holds in each environment, or a world is replayed that is well-formed, or a log is
+-- written or accepted, or a policy set is reduced, or generated policies are equivalent
 abbrev pub AllWell : Run → Type 0
 AllWell r = AllHold r ⊎ (IsWell r ⊎ (LogIsWritten r ⊎ (LogIsAccepted r ⊎ (SetIsReduced r ⊎ GeneratedHold r))))
 
@@ -347,7 +368,8 @@ AllWell r = AllHold r ⊎ (IsWell r ⊎ (LogIsWritten r ⊎ (LogIsAccepted r ⊎
 abbrev pub SomeLeft : Run → Type 0
 SomeLeft r = SomeOpen r ⊎ (SetIsReduced r ⊎ GeneratedOpen r)
 
--- a log of just as many units as the budget, of the problem whether those policies that stay decide otherwise without one of them
+-- a log of just as many units as the budget, of the problem whether those policies that stay decide otherwise without
+-- one of them
 pub record IsFateLogged (r : Run) (log : List Step) : Type 0 where
   pub schema : Declarations
   pub question : Question
@@ -403,7 +425,8 @@ pub record QuestionSpelled (r : Run) : Type 0 where
 -- the file of this name, where there is one, is told and short enough, and spells the policies
 pub data AgainstTold (content : Content) : Option (List ℕ) → Option (List Policy) → Type 0 where
   no_file : AgainstTold content None None
-  told_file : (name bytes : List ℕ) (ps : List Policy) → content name ≡ Some bytes → length bytes ≤ limit → Spells bytes ps → AgainstTold content (Some name) (Some ps)
+  told_file : (name bytes : List ℕ) (ps : List Policy) → content name ≡ Some bytes → length bytes ≤ limit
+      → Spells bytes ps → AgainstTold content (Some name) (Some ps)
 
 -- all policy files of a question are told, short enough and spelled
 pub record AllSpelled (r : Run) : Type 0 where
@@ -411,8 +434,8 @@ pub record AllSpelled (r : Run) : Type 0 where
   pub others : Option (List Policy)
   pub against : AgainstTold r.content before.name others
 
--- the words are a command to ask a question, its schema file and policy files are told and short enough, they spell a schema and policies,
--- and the policies write declared names alone and are typed in each environment
+-- the words are a command to ask a question, its schema file and policy files are told and short enough, they spell a
+-- schema and policies, and the policies write declared names alone and are typed in each environment
 abbrev pub IsServed : Run → Type 0
 IsServed r = (t : AllSpelled r) × AreServed t.before.before.schema t.before.policies t.others
 
@@ -423,8 +446,8 @@ LogIsTold content (logging budget place) = ⊤
 LogIsTold content (reducing budget) = ⊤
 LogIsTold content (checking place name) = (bytes : List ℕ) × (content name ≡ Some bytes) × (length bytes ≤ log_limit)
 
--- the same, the schema has the environment that is named, where one is, and the log that is to be checked, where one is, is told and short
--- enough
+-- the same, the schema has the environment that is named, where one is, and the log that is to be checked, where one
+-- is, is told and short enough
 pub record IsReadable (r : Run) : Type 0 where
   pub served : IsServed r
   pub environment : HasEnvironment served.0.before.before.schema served.0.before.aim
@@ -448,8 +471,8 @@ pub record LogIsLong (r : Run) : Type 0 where
   pub told : r.content name ≡ Some bytes
   pub long : log_limit < length bytes
 
--- a log is to be checked: all files are as for a question, the schema has the environment that is named, and the log file is told and
--- short enough
+-- a log is to be checked: all files are as for a question, the schema has the environment that is named, and the log
+-- file is told and short enough
 pub record ReadsLog (r : Run) : Type 0 where
   pub served : IsServed r
   pub place : ℕ
@@ -462,7 +485,8 @@ pub record ReadsLog (r : Run) : Type 0 where
   pub short : length bytes ≤ log_limit
 
 abbrev pub asked_of_log : {r : Run} → ReadsLog r → Asked
-asked_of_log x = asked x.served.0.before.before.schema x.served.0.before.question x.served.0.before.policies x.served.0.others 0
+asked_of_log x =
+    asked x.served.0.before.before.schema x.served.0.before.question x.served.0.before.policies x.served.0.others 0
 
 -- what the log file holds is the text of an accepted log of the environment's problem, or it isn't
 abbrev pub LogIsRight : Run → Type 0
@@ -490,7 +514,8 @@ IsWholeFor (reducing budget) code = (code ≡ 0) ⊎ ((code ≡ 2) ⊎ (code ≡
 abbrev pub MustBe : ℕ → ℕ → Type 0
 MustBe n code = (code ≡ n) ⊎ ((code ≡ 21) ⊎ (code ≡ 30))
 
--- the words are a command to compare two sets of policies, the second in the file of this name, and the files before that are read
+-- the words are a command to compare two sets of policies, the second in the file of this name, and the files before
+-- that are read
 pub record ReachesAgainst (content : Content) (words : List (List ℕ)) (name : List ℕ) : Type 0 where
   pub command : Command
   pub commands : Serves words command
@@ -502,13 +527,29 @@ pub record ReachesAgainst (content : Content) (words : List (List ℕ)) (name : 
   pub first : List Policy
   pub policies : HasPolicies content command.policies first
 
+-- a call for this file of the command failed, and was the last one that did
+pub record IsUnreadFile (r : Run) (file : File) : Type 0 where
+  pub command : Command
+  pub commands : Serves r.words command
+  pub name : List ℕ
+  pub named : name_of command file ≡ Some name
+  pub failed : FailsFor r name
+
+-- a file of the command is unread, and the line names it
+abbrev pub IsUnread : Run → Type 0
+IsUnread r = (file : File) × IsUnreadFile r file × (r.after ≡ appended r.before (refusal_text (read_fault file)))
+
 -- a file of the command is told and longer than its limit, and the files before it are read
 pub data TooLong (r : Run) : Type 0 where
   schema_long : (c : Command) → Serves r.words c → IsTooLong r.content c.schema → TooLong r
-  policies_long : (c : Command) → Serves r.words c → (s : Declarations) → ReadsSchema r.content c s → IsTooLong r.content c.policies → TooLong r
+  policies_long : (c : Command) → Serves r.words c → (s : Declarations) → ReadsSchema r.content c s
+      → IsTooLong r.content c.policies → TooLong r
   against_long : (name : List ℕ) → ReachesAgainst r.content r.words name → IsTooLong r.content name → TooLong r
-  log_long : (s : Declarations) (question : Question) (first : List Policy) (against : Option (List Policy)) (place : ℕ) (name : List ℕ) → ReachesAim r.content r.words s question first against (checking place name) → IsLongLog r.content name → TooLong r
-  world_long : (s : Declarations) (ps : List Policy) (name : List ℕ) → ReachesWorld r.content r.words s ps name → IsTooLong r.content name → TooLong r
+  log_long : (s : Declarations) (question : Question) (first : List Policy) (against : Option (List Policy))
+      (place : ℕ) (name : List ℕ) → ReachesAim r.content r.words s question first against (checking place name)
+      → IsLongLog r.content name → TooLong r
+  world_long : (s : Declarations) (ps : List Policy) (name : List ℕ) → ReachesWorld r.content r.words s ps name
+      → IsTooLong r.content name → TooLong r
 
 -- the environment that is named is none of the schema, and all that is asked for is read and served
 pub record IsMisplaced (r : Run) : Type 0 where
@@ -534,8 +575,10 @@ pub record IsFaultySchema (r : Run) : Type 0 where
 
 -- a policy file of the command spells no policies, its first fault is told, and the files before it are read
 pub data IsFaulty (r : Run) : Type 0 where
-  policies_faulty : (c : Command) → Serves r.words c → (s : Declarations) → ReadsSchema r.content c s → (bytes : List ℕ) → IsContent r.content c.policies bytes → (f : PolicyFault) → HasFault bytes f → IsFaulty r
-  against_faulty : (name : List ℕ) → ReachesAgainst r.content r.words name → (bytes : List ℕ) → IsContent r.content name bytes → (f : PolicyFault) → HasFault bytes f → IsFaulty r
+  policies_faulty : (c : Command) → Serves r.words c → (s : Declarations) → ReadsSchema r.content c s
+      → (bytes : List ℕ) → IsContent r.content c.policies bytes → (f : PolicyFault) → HasFault bytes f → IsFaulty r
+  against_faulty : (name : List ℕ) → ReachesAgainst r.content r.words name → (bytes : List ℕ)
+      → IsContent r.content name bytes → (f : PolicyFault) → HasFault bytes f → IsFaulty r
 
 -- the world file of the command spells no world, its first fault is told, and the files before it are read
 pub record IsFaultyWorld (r : Run) : Type 0 where
@@ -559,11 +602,12 @@ pub record HasUnknownName (r : Run) : Type 0 where
   pub fault : NameFault
   pub is : name_fault schema policies ≡ Some fault
 
--- all files of a question are read, and its policies write a name that isn't declared, or one of them has no type in an environment:
--- the first one, of the first set that has one, is told
+-- all files of a question are read, and its policies write a name that isn't declared, or one of them has no type in
+-- an environment: the first one, of the first set that has one, is told
 pub data IsIllTyped (s : Declarations) (first : List Policy) (against : Option (List Policy)) : Type 0 where
   undeclared : (side : Side) (f : NameFault) → names_fault s first against ≡ Some (side, f) → IsIllTyped s first against
-  untyped : (side : Side) (f : IllTyped) → names_fault s first against ≡ None → types_fault s first against ≡ Some (side, f) → IsIllTyped s first against
+  untyped : (side : Side) (f : IllTyped) → names_fault s first against ≡ None
+      → types_fault s first against ≡ Some (side, f) → IsIllTyped s first against
 
 pub record IsUntypedQuestion (r : Run) : Type 0 where
   pub schema : Declarations
@@ -601,7 +645,8 @@ abbrev pub SchemaIsLong : Run → Type 0
 SchemaIsLong r = (t : SchemaTold r) × (limit < length t.bytes)
 
 abbrev pub SchemaIsFaulty : Run → Type 0
-SchemaIsFaulty r = (t : SchemaTold r) × (length t.bytes ≤ limit) × ((s : Declarations) → schema_file.Spells t.bytes s → ⊥)
+SchemaIsFaulty r = (t : SchemaTold r) × (length t.bytes ≤ limit)
+    × ((s : Declarations) → schema_file.Spells t.bytes s → ⊥)
 
 abbrev pub PoliciesAreLong : Run → Type 0
 PoliciesAreLong r = (t : PoliciesTold r) × (limit < length t.bytes)
@@ -645,7 +690,8 @@ NamesAreUnknown r =
 -- a question is asked of policies that write declared names alone, and one of them isn't typed
 abbrev pub PoliciesAreUntyped : Run → Type 0
 PoliciesAreUntyped r =
-    (t : AllSpelled r) × (names_fault t.before.before.schema t.before.policies t.others ≡ None) × (types_fault t.before.before.schema t.before.policies t.others ≢ None)
+    (t : AllSpelled r) × (names_fault t.before.before.schema t.before.policies t.others ≡ None)
+    × (types_fault t.before.before.schema t.before.policies t.others ≢ None)
 
 abbrev pub IsReplayable : Run → Type 0
 IsReplayable r = (t : WorldSpelled r) × (name_fault t.before.schema t.before.policies ≡ None)
@@ -653,18 +699,19 @@ IsReplayable r = (t : WorldSpelled r) × (name_fault t.before.schema t.before.po
 -- the whole report on the world is written, and the status says whether it is well-formed; or memory ran out
 abbrev pub IsReplayed : (r : Run) → IsReplayable r → Type 0
 IsReplayed r x =
-    ((found : Option Break) × Finds (scene x.0.before.schema x.0.before.policies x.0.world) found × (r.code ≡ status_of found)
-    × (r.after ≡ appended r.before (text_of (lines_of (scene x.0.before.schema x.0.before.policies x.0.world) found))))
+    ((found : Option Break) × Finds (scene x.0.before.schema x.0.before.policies x.0.world) found
+    × (r.code ≡ status_of found)
+    × (r.after ≡ all_appended r.before (lines_of (scene x.0.before.schema x.0.before.policies x.0.world) found)))
     ⊎ (r.code ≡ 30)
 
 -- how a refusal ends: its line is written whole, or a front of it, or memory runs out and nothing is written
-abbrev pub Refuses : Refusal → Option (List ℕ) → Option (List ℕ) → Type 0 → ℕ → Type 0
+abbrev pub Refuses : Refusal → Written → Written → Type 0 → ℕ → Type 0
 Refuses a old new rose code =
     ((code ≡ code_of a) × (new ≡ appended old (refusal_text a)))
     ⊎ ((rose × (code ≡ 21) × ((n : ℕ) × (new ≡ appended old (take n (refusal_text a))))) ⊎ ((code ≡ 30) × (new ≡ old)))
 
 -- how checking the log of a claim ends: what is said of it is written, as far as it came; or it is refused
-abbrev pub ChecksClaim : Claim → Env → Content → Type 0 → Option (List ℕ) → Option (List ℕ) → Type 0 → ℕ → Type 0
-ChecksClaim claim env content risen old new rose code =
+abbrev pub ChecksClaim : Claim → Env → Content → (List ℕ → Type 0) → Written → Written → Type 0 → ℕ → Type 0
+ChecksClaim claim env content failed old new rose code =
     Checked (content claim.log.now) (asked_within claim.asking 0) env old new rose code
-    ⊎ ((a : Refusal) × RefusesLog content claim.log.now risen a × Refuses a old new rose code)
+    ⊎ ((a : Refusal) × RefusesLog content claim.log.now failed a × Refuses a old new rose code)

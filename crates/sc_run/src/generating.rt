@@ -11,7 +11,6 @@ use sc_generated_typing_laws::generated_typing_laws;
 use sc_inputs::put::{put, put_number};
 use sc_inputs::{Analysis, Asking};
 use sc_outside::{Sink, SinkFault};
-use sc_parser_laws::constant_laws;
 use sc_question::Question;
 use sc_reports::{Status, report};
 use std::alloc::{AllocError, Global};
@@ -49,7 +48,6 @@ fn generated_analysis(alloc: Global, size: u64) -> Result<Analysis, AllocError>
     ensures asked { IfOk result (λ i. IsGenerated size (asked_in i)) }
     ensures allowed { IfOk result (λ i. MayBeAsked i.asking) }
 {
-    constant_laws();
     generated_laws();
     generated_typing_laws();
     let schema = generated_schema(alloc)?;

@@ -1,6 +1,7 @@
 //! The top call.
 ghost use Rattle.std.specs.Prelude.{◌≡◌, ◌<◌, Some, length, slice_get};
 ghost use Rattle.sc_outside.specs.Counts.{Rose};
+ghost use Rattle.sc_outside.specs.Failures.{FailsAt};
 ghost use Rattle.sc_schema.specs.Declarations.{environments};
 ghost use Rattle.sc_schema.specs.declared.declarations.Env.{Env as AnyEnv};
 ghost use Rattle.sc_reports.specs.Analyses.{MayBeAsked};
@@ -16,7 +17,6 @@ use sc_generated_laws::generated_laws;
 use sc_inputs::{Claim, Inputs, Refusal, code, inputs_of, text_of};
 use sc_lists::Fault;
 use sc_outside::{Files, Sink, SinkFault};
-use sc_parser_laws::constant_laws;
 use sc_replay::break_laws;
 use sc_reports::{Status, check_claim, put_said, report, report_log, verdict_law};
 use sc_schema_json::spelling_laws;
@@ -44,7 +44,7 @@ fn check<F: Files, O: Sink>(alloc: Global, claim: &Claim<'_>, files: &mut F, out
     requires environment { claim.now.environment < length (environments claim.now.asking.schema) }
     requires allowed { MayBeAsked claim.now.asking }
     ensures checks { (env : AnyEnv) → slice_get (environments claim.now.asking.schema) claim.now.environment ≡ Some env
-        → ChecksClaim claim.now env (F.content files.old) (Rose (F.faults files.old) (F.faults files.new))
+        → ChecksClaim claim.now env (F.content files.old) (FailsAt F.Files files.old files.new)
         (O.written out.old) (O.written out.new) (Rose (O.faults out.old) (O.faults out.new)) result }
     ensures read_told { F.faults files.old < F.faults files.new → MustBe 20 result }
     ensures write_told { O.faults out.old < O.faults out.new → result ≡ 21 }
@@ -63,7 +63,6 @@ fn ends<F: Files, O: Sink>(alloc: Global, words: &[String], files: &mut F, out: 
     ensures read_told { F.faults files.old < F.faults files.new → MustBe 20 result.code }
     ensures write_told { O.faults out.old < O.faults out.new → result.code ≡ 21 }
 {
-    constant_laws();
     let read = inputs_of(alloc, words, files);
     match &read {
         Ok(Inputs::Asked(analysis)) => report(alloc, analysis, out),

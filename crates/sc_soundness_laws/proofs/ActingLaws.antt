@@ -20,7 +20,7 @@ use Rattle.sc_eval.specs.Entities.{access, has_path, is_of, is_in}
 use Rattle.sc_eval.specs.Collections.{set_value, record_value}
 use Rattle.sc_eval.specs.Operators.{binary, unary, is_like, variable_value}
 use Rattle.sc_eval.specs.Eval.{Meaning, all_values, all_fields, eval_step, eval}
-use Rattle.sc_eval.proofs.EvalLaws.{eval_Literal, eval_Variable}
+use Rattle.sc_eval.specs.ConstructLaws.{eval_Literal, eval_Variable}
 use Rattle.sc_typing.specs.Policies.{acting_variable, acting_step, acting}
 use Rattle.sc_soundness_laws.proofs.ListLaws.{split, joined}
 

@@ -11,7 +11,7 @@ use Rattle.sc_eval.specs.Entities.{access, has_path, is_of, is_in}
 use Rattle.sc_eval.specs.Collections.{set_value, record_value}
 use Rattle.sc_eval.specs.Operators.{binary, unary, is_like}
 use Rattle.sc_eval.specs.Eval.{Meaning, all_values, all_fields, eval_step, eval}
-use Rattle.sc_eval.proofs.EvalLaws.{eval_If, eval_Or, eval_And, eval_Binary, eval_Has, eval_Like, eval_Is, eval_IsIn, eval_Unary, eval_Access, eval_Literal, eval_Variable, eval_Set, eval_Record}
+use Rattle.sc_eval.specs.ConstructLaws.{eval_If, eval_Or, eval_And, eval_Binary, eval_Has, eval_Like, eval_Is, eval_IsIn, eval_Unary, eval_Access, eval_Literal, eval_Variable, eval_Set, eval_Record}
 use Rattle.sc_typed.specs.Capabilities.{nowhere, bare_name, bare_step, bare}
 
 module _ (w : World) where

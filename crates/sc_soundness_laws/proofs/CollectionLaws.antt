@@ -28,7 +28,7 @@ use Rattle.sc_world.specs.Conforms.{Test, conforms, is_set_of, passes, shape_of}
 use Rattle.sc_world.specs.WellFormed.{NamesStored, NamesStoredLevel}
 use Rattle.sc_world.proofs.ConformsLaws.{conforms_Record}
 use Rattle.sc_eval.specs.Collections.{members_of, set_value, with_field, fields_of, record_value}
-use Rattle.sc_eval.proofs.CollectionsLaws.{members_of-set, fields_of-ascends}
+use Rattle.sc_eval.specs.CollectionLaws.{members_of-set, fields_of-ascends}
 use Rattle.sc_typed.specs.declared.typed_expr.TypedExpr.{TypedExpr}
 use Rattle.sc_typed.specs.Types.{Field, join}
 use Rattle.sc_typed.specs.Outcomes.{ty}

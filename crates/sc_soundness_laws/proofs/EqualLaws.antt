@@ -19,7 +19,7 @@ use Rattle.sc_eval.specs.Outcomes.{Outcome}
 use Rattle.sc_eval.specs.Collections.{is_same}
 use Rattle.sc_eval.specs.Operators.{literal_value}
 use Rattle.sc_eval.specs.Eval.{Meaning, eval_step, eval}
-use Rattle.sc_eval.proofs.CollectionsLaws.{is_same-decides}
+use Rattle.sc_eval.specs.CollectionLaws.{is_same-decides}
 use Rattle.sc_typed.specs.Types.{entity_name, entity_name_in, only_if, same_name, join_step, join}
 use Rattle.sc_typed.specs.Literals.{literal_in, literal_of}
 

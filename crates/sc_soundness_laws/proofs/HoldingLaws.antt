@@ -14,8 +14,7 @@ use Rattle.sc_eval.specs.Outcomes.{Outcome, ◌>>=◌, of_bool}
 use Rattle.sc_eval.specs.Entities.{has, has_path}
 use Rattle.sc_eval.specs.Operators.{binary}
 use Rattle.sc_eval.specs.Eval.{eval}
-use Rattle.sc_eval.proofs.EvalLaws.{eval_Has, eval_Binary}
-use Rattle.sc_eval.proofs.EntitiesLaws.{has_path-one}
+use Rattle.sc_eval.specs.ConstructLaws.{eval_Has, eval_Binary, has_path-one}
 use Rattle.sc_typed.specs.declared.capability.Capability.{Capability}
 use Rattle.sc_typed.specs.Capabilities.{Capabilities, nowhere, bare, tag_of, same, is_known, common}
 use Rattle.sc_typing_rules.specs.Paths.{named}

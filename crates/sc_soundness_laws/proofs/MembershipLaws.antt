@@ -34,7 +34,7 @@ use Rattle.sc_eval.specs.Outcomes.{Outcome, ◌>>=◌}
 use Rattle.sc_eval.specs.Entities.{same_uid, ancestors_of, is_or_in, all_entities, entities_in, is_in}
 use Rattle.sc_eval.specs.Collections.{members_of}
 use Rattle.sc_eval.specs.Eval.{Meaning, all_values, eval_step, eval}
-use Rattle.sc_eval.proofs.CollectionsLaws.{members_of-set}
+use Rattle.sc_eval.specs.CollectionLaws.{members_of-set}
 use Rattle.sc_typed.specs.declared.typed_expr.TypedExpr.{TypedExpr}
 use Rattle.sc_typed.specs.Types.{entity_name, entity_name_in, group, group_in, member, member_in, truth}
 use Rattle.sc_typed.specs.Capabilities.{Capabilities}

@@ -18,7 +18,7 @@ use Rattle.sc_eval.specs.declared.error.EvalError.{EvalError}
 use Rattle.sc_eval.specs.Outcomes.{Outcome, ◌>>=◌}
 use Rattle.sc_eval.specs.Entities.{access, has, has_path}
 use Rattle.sc_eval.specs.Eval.{eval}
-use Rattle.sc_eval.proofs.EvalLaws.{eval_Access}
+use Rattle.sc_eval.specs.ConstructLaws.{eval_Access}
 use Rattle.sc_typed.specs.declared.fault.TypeFault.{TypeFault}
 use Rattle.sc_typing_rules.specs.declared.path.Path.{Path}
 use Rattle.sc_typed.specs.Types.{Field, is_record, is_required, attributes, attribute}

@@ -33,7 +33,7 @@ use Rattle.sc_eval.specs.Outcomes.{Outcome, ◌>>=◌}
 use Rattle.sc_eval.specs.Collections.{set_value, record_value}
 use Rattle.sc_eval.specs.Operators.{literal_value, variable_value}
 use Rattle.sc_eval.specs.Eval.{all_values, all_fields, eval}
-use Rattle.sc_eval.proofs.EvalLaws as evaluated
+use Rattle.sc_eval.specs.ConstructLaws as evaluated
 use Rattle.sc_typed.specs.declared.outcome.Typed.{Typed}
 use Rattle.sc_typed.specs.declared.typed_expr.TypedExpr.{TypedExpr}
 use Rattle.sc_typed.specs.declared.typed_expr.TypedExpr.TheVariants as typed

@@ -15,7 +15,7 @@ use Rattle.sc_world.specs.declared.world.World.{World}
 use Rattle.sc_eval.specs.declared.error.EvalError.{EvalError}
 use Rattle.sc_eval.specs.Outcomes.{Outcome, ◌>>=◌, as_bool, decide, of_bool}
 use Rattle.sc_eval.specs.Eval.{eval}
-use Rattle.sc_eval.proofs.EvalLaws.{eval_And, eval_Literal}
+use Rattle.sc_eval.specs.ConstructLaws.{eval_And, eval_Literal}
 use Rattle.sc_auth.specs.Decisions.{true_in, is_true, satisfied as is_satisfied, errs, permits, allows}
 use Rattle.sc_terms.specs.Trees.{Tree}
 use Rattle.sc_terms.specs.Values.{Val, val, it, yes, truth, and_value}

@@ -36,7 +36,7 @@ use Rattle.sc_eval.specs.Collections.{set_value}
 use Rattle.sc_eval.specs.Operators.{is_like, literal_value, variable_value}
 use Rattle.sc_eval.specs.Entities.{is_of, is_or_in, all_entities, entities_in, is_in}
 use Rattle.sc_eval.specs.Eval.{Meaning, all_values, eval_step, eval}
-use Rattle.sc_eval.proofs.EvalLaws as evaluated
+use Rattle.sc_eval.specs.ConstructLaws as evaluated
 use Rattle.sc_typed.specs.declared.outcome.Typed.{Typed}
 use Rattle.sc_typed.specs.declared.typed_expr.TypedExpr.{TypedExpr}
 use Rattle.sc_typed.specs.declared.typed_expr.TypedExpr.TheVariants as typed

@@ -16,7 +16,7 @@ use Rattle.sc_world.specs.Conforms as conform
 use Rattle.sc_eval.specs.Outcomes.{Outcome, ◌>>=◌, of_bool}
 use Rattle.sc_eval.specs.Collections.{is_same}
 use Rattle.sc_eval.specs.Operators.{literal_value}
-use Rattle.sc_eval.proofs.CollectionsLaws.{is_same-decides}
+use Rattle.sc_eval.specs.CollectionLaws.{is_same-decides}
 use Rattle.sc_typed.specs.Types.{is_boolean, is_boolean_in}
 use Rattle.sc_sorts.specs.declared.sort.Sort.{Sort}
 use Rattle.sc_sorts.specs.declared.sort.Sort.TheVariants as sort

@@ -22,7 +22,7 @@ use Rattle.sc_eval.specs.declared.error.EvalError.{EvalError}
 use Rattle.sc_eval.specs.Outcomes.{Outcome, ◌>>=◌, of_bool}
 use Rattle.sc_eval.specs.Collections.{is_same}
 use Rattle.sc_eval.specs.Entities.{same_uid, ancestors_of, is_or_in, all_entities, entities_in, is_in}
-use Rattle.sc_eval.proofs.CollectionsLaws.{is_same-decides}
+use Rattle.sc_eval.specs.CollectionLaws.{is_same-decides}
 use Rattle.sc_typed.specs.declared.typed_expr.TypedExpr.{TypedExpr}
 use Rattle.sc_typed.specs.Types.{is_true, entity_name, entity_name_in, member_in, group, group_in}
 use Rattle.sc_typed.specs.Outcomes.{ty}

@@ -11,6 +11,9 @@ use Rattle.sc_ast.specs.declared.policy.Policy.{Policy}
 use Rattle.sc_ast.specs.Conditions.{condition}
 use Rattle.sc_ast.specs.Literals.{expr_uids, policy_uids}
 use Rattle.sc_eval.specs.Written.{constants, HasProperConstants}
+use Rattle.sc_ip.specs.declared.ip.Ip.{Ip}
+use Rattle.sc_ip.specs.Addresses.{IsIp}
+use Rattle.sc_ip.specs.IpValue.{ip_of}
 use Rattle.sc_names.specs.declared.uid.Uid.{Uid}
 use Rattle.sc_names.specs.Uids.{text_cmp}
 use Rattle.sc_pattern.specs.declared.part.Part.{Part}
@@ -61,7 +64,7 @@ use Rattle.sc_symeval_laws.proofs.PolicyLaws.{typed_as}
 use Rattle.sc_symeval_laws.proofs.SortedLaws.{AreFields, string_plain, entity_plain}
 use Rattle.sc_symeval_laws.proofs.TypeSortLaws.{boolean_sort}
 
--- what constructors that fold make of terms are terms
+-- what constructors that fold make of terms are terms, and the addresses that texts spell are addresses
 pub record Made : Type 0 where
   pub negation : (s : Declarations) (env : Env) (written : List Uid) (a : Tree) → IsTermOf s env written sort.Bool a → IsTermOf s env written sort.Bool (not_term a)
   pub both : (s : Declarations) (env : Env) (written : List Uid) (a b : Tree) → IsTermOf s env written sort.Bool a → IsTermOf s env written sort.Bool b → IsTermOf s env written sort.Bool (and_term a b)
@@ -74,6 +77,7 @@ pub record Made : Type 0 where
   pub bit : (s : Declarations) (env : Env) (written : List Uid) (k : Sort) (i : ℕ) (a : Tree) → HasPlace k i → IsTermOf s env written k a → IsTermOf s env written sort.Bool (bit_term a i)
   pub like : (s : Declarations) (env : Env) (written : List Uid) (p : List Part) (a : Tree) → IsTermOf s env written sort.String a → IsTermOf s env written sort.Bool (like_term a p)
   pub all : (s : Declarations) (env : Env) (written : List Uid) (ts : List Tree) → All (IsTermOf s env written sort.Bool) ts → IsTermOf s env written sort.Bool (all_of ts)
+  pub address : (text : List ℕ) (ip : Ip) → ip_of text ≡ Some ip → IsIp ip
 
 -- a uid that policies write, or a declared action
 abbrev pub IsNamed : Declarations → List Uid → Uid → Type 0
@@ -225,6 +229,7 @@ module _ (made : Made) (s : Declarations) (env : Env) (written : List Uid) (sett
     text = λ x p. record { term = judged.of_text x (text_proper x p); lawful_sort = string_sort };
     decimal_number = λ n p. record { term = judged.of_decimal_number n p; lawful_sort = decimal_sort };
     address = λ ip p. record { term = judged.of_address ip p; lawful_sort = ip_sort };
+    address_text = λ text ip e. record { term = judged.of_address ip (made.address text ip e); lawful_sort = ip_sort };
     uid = λ u p. record { term = judged.of_uid u p; lawful_sort = entity_lawful u.type_name (uid_declared u p) };
     action = record { term = judged.of_uid env.action (inr action_named); lawful_sort = entity_lawful env.action.type_name (declared_action s lawful env.action action_named) };
     principal = record { term = judged.of_principal; lawful_sort = entity_lawful env.principal (inl place.principal) };

@@ -31,12 +31,10 @@ use Rattle.sc_decimal.specs.DecimalValue.{decimal_of}
 use Rattle.sc_decimal.proofs.ValueLaws.{decimal_of_decides}
 use Rattle.sc_eval.specs.Operators.{literal_value}
 use Rattle.sc_eval.specs.Written.{constants_step, constants}
-use Rattle.sc_eval.proofs.AddressLaws.{text_is_ip}
 use Rattle.sc_ip.specs.declared.ip.Ip.{Ip}
 use Rattle.sc_ip.specs.declared.ip.Ip.TheVariants.{V4, V6}
 use Rattle.sc_ip.specs.Addresses.{IsIp}
 use Rattle.sc_ip.specs.IpValue.{ip_of}
-use Rattle.sc_ip.proofs.ValueLaws.{ip_of_decides}
 use Rattle.sc_names.specs.declared.uid.Uid.{Uid}
 use Rattle.sc_names.specs.Uids.{text_cmp}
 use Rattle.sc_pattern.specs.declared.part.Part.{Part}
@@ -115,6 +113,7 @@ pub record Keeps (s : Declarations) (env : Env) (Is : Sort → Tree → Type 0) 
   pub text : (x : List ℕ) → Proper (value.String x) → Is sort.String (literal_term (literal.String x))
   pub decimal_number : (n : ℤ) → FitsSigned w64 n → Is sort.Decimal (literal_term (literal.Decimal n))
   pub address : (ip : Ip) → IsIp ip → Is sort.Ip (literal_term (literal.Ip ip))
+  pub address_text : (text : List ℕ) (ip : Ip) → ip_of text ≡ Some ip → Is sort.Ip (literal_term (literal.Ip ip))
   pub uid : (u : Uid) → Named u → Is (entity_sort s u.type_name) (entity_term s u)
   pub action : Is (entity_sort s env.action.type_name) (entity_term s env.action)
   pub principal : Is (entity_sort s env.principal) (leaf (leafs.Principal (entity_sort s env.principal)))
@@ -681,7 +680,7 @@ module _ (s : Declarations) (env : Env) (Is : Sort → Tree → Type 0) (Proper 
         let q = written_as (written.String text) (text_is m text e) in
         moved sort.Ip _ _ (sym (rolled_sort s types.Ip t.Ip rolls-Ip))
         (subst (λ (o : _). AreTerms sort.Ip (spelled_code o)) (sym (spelled_is literal.Ip ip_of x q.0 text ip q.1 r))
-        (always_is sort.Ip _ (kept.address ip (text_is_ip text ip ((ip_of_decides text ip).0 r)))))
+        (always_is sort.Ip _ (kept.address_text text ip r)))
 
   -- ---- literals and variables
 

@@ -16,7 +16,7 @@ use Rattle.sc_eval.specs.declared.error.EvalError.{EvalError}
 use Rattle.sc_eval.specs.Outcomes.{Outcome, ◌>>=◌}
 use Rattle.sc_eval.specs.Collections.{set_value, with_field, fields_of, record_value}
 use Rattle.sc_eval.specs.Eval.{Meaning, all_values, all_fields}
-use Rattle.sc_eval.proofs.CollectionsLaws.{set_is}
+use Rattle.sc_eval.specs.CollectionLaws.{set_is}
 use Rattle.sc_sorts.specs.declared.node.ManyOp.TheVariants as manys
 use Rattle.sc_terms.specs.Trees.{Tree, Labelled, parts_of}
 use Rattle.sc_terms.specs.Folds.{truth_term, and_term}

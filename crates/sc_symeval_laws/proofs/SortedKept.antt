@@ -64,6 +64,7 @@ module _ (s : Declarations) (env : Env) (w : World) where
     text = λ x p. literal_is w (literal.String x) string_plain;
     decimal_number = λ n p. literal_is w (literal.Decimal n) decimal_plain;
     address = λ ip p. literal_is w (literal.Ip ip) ip_plain;
+    address_text = λ text ip e. literal_is w (literal.Ip ip) ip_plain;
     uid = λ u p. literal_is w (literal.Entity u (choices_of s u.type_name)) (entity_plain u.type_name (choices_of s u.type_name));
     action = literal_is w (literal.Entity env.action (choices_of s env.action.type_name)) (entity_plain env.action.type_name (choices_of s env.action.type_name));
     principal = principal_is w (entity_sort s env.principal) (entity_plain env.principal (choices_of s env.principal));

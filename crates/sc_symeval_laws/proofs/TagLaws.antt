@@ -24,7 +24,7 @@ use Rattle.sc_eval.specs.Outcomes.{Outcome, ◌>>=◌, as_text, text_in, of_bool
 use Rattle.sc_eval.specs.Collections.{is_same}
 use Rattle.sc_eval.specs.Entities.{has_tag, tag_of, tag_or_missing}
 use Rattle.sc_eval.specs.Operators.{tagged}
-use Rattle.sc_eval.proofs.CollectionsLaws.{is_same-decides}
+use Rattle.sc_eval.specs.CollectionLaws.{is_same-decides}
 use Rattle.sc_typed.specs.Types.{is_string, entity_name}
 use Rattle.sc_sorts.specs.declared.node.UnaryOp.TheVariants as unary
 use Rattle.sc_sorts.specs.declared.node.BinaryOp.TheVariants as binary

@@ -26,6 +26,7 @@ ghost use Rattle.sc_symeval.specs.Compiling.{policy_code};
 ghost use Rattle.sc_symeval_laws.specs.TypeSorts.{sort_in};
 ghost use Rattle.sc_symeval_laws.specs.Written.{IsSetting, IsWritten, IsWrittenExpr};
 
+use sc_eval::eval_laws;
 use sc_soundness_laws::expression_laws;
 use sc_term_laws::made_laws;
 use sc_typing_laws::derivation_laws;
@@ -56,6 +57,7 @@ pub fn compile_laws()
         IsTermOf s env written sorts.Bool c.ok × IsTermOf s env written sorts.Bool c.val }
 {
     derivation_laws();
+    eval_laws();
     expression_laws();
     made_laws();
 }

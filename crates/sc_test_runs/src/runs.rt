@@ -1,8 +1,9 @@
 //! Runs over files and a sink in memory.
 use sc_outside::{MemFiles, MemSink};
-use sc_run::{Status, run};
+use sc_run::{Status, exit_code, run};
 use std::alloc::{AllocError, Global};
 use std::collections::BTreeMap;
+use std::process::ExitCode;
 use std::str;
 
 /// Which call of a run fails, the calls being counted from 0.
@@ -205,6 +206,19 @@ pub fn written(
         return Ok(Vec::new(alloc));
     }
     Ok(ended.text)
+}
+
+/// Whether a process with these words, over these files, ends with this status and writes these lines.
+pub fn exits(
+    alloc: Global,
+    words: &Result<Vec<String>, AllocError>,
+    held: &[(&str, &[u8])],
+    told: (u8, &str),
+) -> Result<bool, AllocError> {
+    let mut files = held_files(alloc, held, Failing::Nothing)?;
+    let mut out = MemSink::new(alloc, Vec::new(alloc));
+    let code = exit_code(alloc, words, &mut files, &mut out);
+    Ok(code == ExitCode::from(told.0) && lines_in(out.text()) == told.1)
 }
 
 /// The text that bytes are, and else none.

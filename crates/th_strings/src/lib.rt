@@ -10,4 +10,5 @@ mod signs;
 mod texts;
 mod theory;
 
+pub use sc_languages::strings_of;
 pub use theory::Strings;

@@ -1,4 +1,4 @@
-use Rattle.sc_eval.proofs.EvalLaws.{eval_Record}
+use Rattle.sc_eval.specs.ConstructLaws.{eval_Record}
 use Rattle.sc_eval.proofs.evaluation.+evaluate.Goals as goal
 
 pub evaluate-returns-in-Record : goal.evaluate-returns-in-Record

@@ -1,4 +1,5 @@
-use Rattle.sc_eval.proofs.CollectionsLaws.{is_same-decides, is_member-decides, members_of-set, fields_of-ascends, fields_of-names, fields_of-field}
+use Rattle.sc_eval.specs.CollectionLaws.{is_same-decides, is_member-decides, members_of-set, fields_of-ascends}
+use Rattle.sc_eval.proofs.CollectionsLaws.{fields_of-names, fields_of-field}
 use Rattle.sc_eval.proofs.laws.collection_laws.Goals as goal
 
 pub returns-clause-same : goal.returns-clause-same

@@ -1,4 +1,4 @@
-use Rattle.sc_eval.proofs.EvalLaws.{eval_If, eval_Or, eval_And, eval_Binary, eval_Has, eval_Like, eval_Is, eval_IsIn, eval_Unary, eval_Access, eval_Literal, eval_Variable, eval_Set, eval_Record}
+use Rattle.sc_eval.specs.ConstructLaws.{eval_If, eval_Or, eval_And, eval_Binary, eval_Has, eval_Like, eval_Is, eval_IsIn, eval_Unary, eval_Access, eval_Literal, eval_Variable, eval_Set, eval_Record}
 use Rattle.sc_eval.proofs.laws.construct_laws.Goals as goal
 
 pub returns-clause-of_if : goal.returns-clause-of_if

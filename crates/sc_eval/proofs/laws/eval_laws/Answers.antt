@@ -1,5 +1,8 @@
-use Rattle.sc_eval.proofs.EntitiesLaws.{has_path-one, has_each-is, is_in-and}
+use Rattle.sc_eval.specs.ConstructLaws.{has_path-one}
+use Rattle.sc_eval.proofs.EntitiesLaws.{has_each-is, is_in-and}
+use Rattle.sc_eval.proofs.AddressLaws.{text_is_ip}
 use Rattle.sc_eval.proofs.ProperLaws.{eval-proper}
+use Rattle.sc_ip.proofs.ValueLaws.{ip_of_decides}
 use Rattle.sc_eval.proofs.laws.eval_laws.Goals as goal
 
 pub returns-clause-one_name : goal.returns-clause-one_name
@@ -13,3 +16,6 @@ returns-clause-is_in c = is_in-and
 
 pub returns-clause-proper : goal.returns-clause-proper
 returns-clause-proper c = λ w x world constants. eval-proper w world x constants
+
+pub returns-clause-address : goal.returns-clause-address
+returns-clause-address c = λ text a e. text_is_ip text a ((ip_of_decides text a).0 e)

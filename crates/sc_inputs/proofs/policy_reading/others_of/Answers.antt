@@ -1,5 +1,5 @@
 use Rattle.std.proofs.Common.{refl}
-use Rattle.sc_outside.specs.Counts.{Rose}
+use Rattle.sc_outside.specs.Failures.{FailsAt}
 use Rattle.sc_inputs.specs.Readings.{RefusesSets, by_against}
 use Rattle.sc_inputs.specs.Refusals.{RefusesPolicies, against_side}
 use Rattle.sc_inputs.proofs.ReadingLaws.{fails_so}
@@ -9,5 +9,5 @@ pub returns-in-Err-clause-fails : goal.returns-in-Err-clause-fails
 returns-in-Err-clause-fails g c =
     λ file ps has.
     let content = g.F.Files.content c.args.files.now in
-    let rose = Rose (g.F.Files.faults c.args.files.now) (g.F.Files.faults c.policies_of.new.files) in
-    fails_so (RefusesPolicies content c.in-Some.name.now against_side rose) (RefusesSets content file _ rose) (λ a h. by_against a ps c.in-Some.name.now has (rw c.in-Some.is refl) h) c.in-Err.fault c.in-Err.ensures.fails
+    let failed = FailsAt g.F.Files c.args.files.now c.policies_of.new.files in
+    fails_so (RefusesPolicies content c.in-Some.name.now against_side failed) (RefusesSets content file _ failed) (λ a h. by_against a ps c.in-Some.name.now has (rw c.in-Some.is refl) h) c.in-Err.fault c.in-Err.ensures.fails

@@ -1,6 +1,6 @@
 use Rattle.std.proofs.Common.{List, ℕ, IfOk, IfErr, subst}
 use Rattle.sc_ast.specs.declared.policy.Policy.{Policy}
-use Rattle.sc_outside.specs.Counts.{Rose}
+use Rattle.sc_outside.specs.Failures.{FailsAt}
 use Rattle.sc_parser.specs.Spelling.{Spells}
 use Rattle.sc_inputs.specs.Readings.{FailsWith, IsNoPolicies}
 use Rattle.sc_inputs.specs.Refusals.{RefusesFile, RefusesPolicies, policy_file, policies_unread}
@@ -15,11 +15,11 @@ returns-in-Ok-clause-reads g c =
 
 pub returns-in-Ok-clause-fails : goal.returns-in-Ok-clause-fails
 returns-in-Ok-clause-fails g c =
-    policies_fail (g.F.Files.content c.args.files.now) c.args.name.now c.in-Ok.bytes.items (side_view c.args.side) (Rose (g.F.Files.faults c.args.files.now) (g.F.Files.faults c.content_of.new.files)) c.in-Ok.ensures.found c.policies_in.result
+    policies_fail (g.F.Files.content c.args.files.now) c.args.name.now c.in-Ok.bytes.items (side_view c.args.side) (FailsAt g.F.Files c.args.files.now c.content_of.new.files) c.in-Ok.ensures.found c.policies_in.result
     (subst (λ (bytes : List ℕ). IfErr c.policies_in.result (FailsWith (IsNoPolicies bytes (side_view c.args.side)))) c.deref.ensures.value c.policies_in.ensures.fails)
 
 pub returns-in-Err-clause-fails : goal.returns-in-Err-clause-fails
 returns-in-Err-clause-fails g c =
     let content = g.F.Files.content c.args.files.now in
-    let rose = Rose (g.F.Files.faults c.args.files.now) (g.F.Files.faults c.content_of.new.files) in
-    fails_so (RefusesFile content c.args.name.now rose (policy_file (side_view c.args.side))) (RefusesPolicies content c.args.name.now (side_view c.args.side) rose) (λ a h. policies_unread a h) c.in-Err.fault c.in-Err.ensures.fails
+    let failed = FailsAt g.F.Files c.args.files.now c.content_of.new.files in
+    fails_so (RefusesFile content c.args.name.now failed (policy_file (side_view c.args.side))) (RefusesPolicies content c.args.name.now (side_view c.args.side) failed) (λ a h. policies_unread a h) c.in-Err.fault c.in-Err.ensures.fails

@@ -1,8 +1,8 @@
 use Rattle.std.proofs.Common.{option_map, Bor, List, ℕ}
-use Rattle.sc_outside.specs.Counts.{Rose}
+use Rattle.sc_outside.specs.Failures.{FailsAt}
 use Rattle.sc_inputs.specs.Readings.{RefusesSets, by_first}
 use Rattle.sc_inputs.specs.Refusals.{RefusesPolicies, policies_side}
-use Rattle.sc_outside.proofs.CountLaws.{rose_before, stands, told_later}
+use Rattle.sc_outside.proofs.CountLaws.{failed_before, stands, told_later}
 use Rattle.sc_inputs.proofs.ReadingLaws.{sets_later, against_later, fails_so}
 use Rattle.sc_inputs.proofs.policy_reading.sets_of.Goals as goal
 
@@ -13,14 +13,14 @@ returns-in-Ok-others_of-clause-second g c =
 pub returns-in-Err-others_of-clause-fails : goal.returns-in-Err-others_of-clause-fails
 returns-in-Err-others_of-clause-fails g c =
     sets_later (g.F.Files.content c.args.files.now) (g.F.Files.content c.policies_of.new.files) c.args.policies.now _ _ _ c.in-Ok.policies c.in-Ok.ensures.keeps
-    (rose_before (g.F.Files.faults c.args.files.now) (g.F.Files.faults c.policies_of.new.files) (g.F.Files.faults c.others_of.new.files) c.in-Ok.ensures.later)
+    (failed_before (g.F.Files.faults c.args.files.now) (g.F.Files.faults c.policies_of.new.files) (g.F.Files.faults c.others_of.new.files) (g.F.Files.failed c.others_of.new.files) c.in-Ok.ensures.later)
     c.in-Ok.ensures.reads c.in-Err-others_of.fault c.in-Err-others_of.ensures.fails
 
 pub returns-in-Err-clause-fails : goal.returns-in-Err-clause-fails
 returns-in-Err-clause-fails g c =
     let content = g.F.Files.content c.args.files.now in
-    let rose = Rose (g.F.Files.faults c.args.files.now) (g.F.Files.faults c.policies_of.new.files) in
-    fails_so (RefusesPolicies content c.args.policies.now policies_side rose) (RefusesSets content c.args.policies.now (option_map (λ (n : Bor (List ℕ)). n.now) c.args.against) rose) (λ a h. by_first a h) c.in-Err.fault c.in-Err.ensures.fails
+    let failed = FailsAt g.F.Files c.args.files.now c.policies_of.new.files in
+    fails_so (RefusesPolicies content c.args.policies.now policies_side failed) (RefusesSets content c.args.policies.now (option_map (λ (n : Bor (List ℕ)). n.now) c.args.against) failed) (λ a h. by_first a h) c.in-Err.fault c.in-Err.ensures.fails
 
 pub returns-in-Ok-others_of-clause-told : goal.returns-in-Ok-others_of-clause-told
 returns-in-Ok-others_of-clause-told g c =

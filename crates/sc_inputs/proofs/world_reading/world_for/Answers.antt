@@ -1,4 +1,4 @@
-use Rattle.sc_outside.specs.Counts.{Rose}
+use Rattle.sc_outside.specs.Failures.{FailsAt}
 use Rattle.sc_inputs.specs.Readings.{RefusesScene, by_world}
 use Rattle.sc_inputs.specs.Refusals.{RefusesWorld}
 use Rattle.std.proofs.Common.{Err}
@@ -14,5 +14,5 @@ pub returns-in-Err-clause-fails : goal.returns-in-Err-clause-fails
 returns-in-Err-clause-fails g c =
     λ file has.
     let content = g.F.Files.content c.args.files.now in
-    let rose = Rose (g.F.Files.faults c.args.files.now) (g.F.Files.faults c.world_of.new.files) in
-    fails_so (RefusesWorld content c.args.name.now rose) (RefusesScene content file c.args.name.now rose c.args.schema.now) (λ a h. by_world a c.args.policies.now has h) c.in-Err.fault c.in-Err.ensures.fails
+    let failed = FailsAt g.F.Files c.args.files.now c.world_of.new.files in
+    fails_so (RefusesWorld content c.args.name.now failed) (RefusesScene content file c.args.name.now failed c.args.schema.now) (λ a h. by_world a c.args.policies.now has h) c.in-Err.fault c.in-Err.ensures.fails

@@ -7,17 +7,17 @@ use Rattle.sc_reports.proofs.PosedLaws.{query-goal}
 use Rattle.sc_reports.proofs.analysing.problem_of.Goals as goal
 
 pub goal-requires : goal.goal-requires
-goal-requires c = c.requires.posed.typed
+goal-requires c = c.requires.typed
 
 pub close-requires-clause-within : goal.close-requires-clause-within
-close-requires-clause-within c = let stands = goal-stands _ _ _ c.requires.posed.typed c.in_ok-goal.ensures.ok in stands.2.within
+close-requires-clause-within c = let stands = goal-stands _ _ _ c.requires.typed c.in_ok-goal.ensures.ok in stands.2.within
 
 pub close-requires-clause-goal : goal.close-requires-clause-goal
 close-requires-clause-goal c =
     let s = c.args.schema.now in
     let env = c.args.env.now in
     let q = c.args.query.now in
-    let stands = goal-stands _ _ _ c.requires.posed.typed c.in_ok-goal.ensures.ok in
+    let stands = goal-stands _ _ _ c.requires.typed c.in_ok-goal.ensures.ok in
     subst (λ (us : List Uid). IsGoal s env us (tree c.goal.new.terms c.in_ok-goal.goal)) (sym c.lits.ensures)
     (subst (IsGoal s env q.literals) (sym stands.2.is)
-    (query-goal c.posed_goals.ensures.goal s env q stands.0 c.laws-2.ensures.lawful c.requires.posed.environment c.laws.ensures (query-declared c.declared_laws.ensures s env q c.laws.ensures c.requires.posed) c.requires.first_proper c.requires.second_proper stands.1))
+    (query-goal c.posed_goals.ensures.goal s env q stands.0 c.laws-2.ensures.lawful c.requires.environment c.laws.ensures (query-declared c.declared_laws.ensures s env q c.laws.ensures c.requires) stands.1))

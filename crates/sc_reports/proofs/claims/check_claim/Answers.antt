@@ -2,25 +2,19 @@ use Rattle.std.proofs.Common.{slice_get, sym, subst}
 use Rattle.std.proofs.lemmas.Result.{IfOk-weaker}
 use Rattle.sc_lists.proofs.ListLaws.{contains_place}
 use Rattle.sc_schema.specs.Declarations.{environments}
-use Rattle.sc_reports.proofs.AnalysisLaws.{may-be-posed, query-first, query-posed, query-problem, query-second, query-served, query-too-large, some-goal}
+use Rattle.sc_reports.proofs.AnalysisLaws.{may-be-posed, query-posed, query-problem, query-served, query-too-large, some-goal}
 use Rattle.sc_reports.proofs.ClaimLaws.{claims-named}
 use Rattle.sc_reports.specs.Analyses.{asked_of}
 use Rattle.sc_reports.specs.Claims.{Claims, answer_view}
 use Rattle.sc_reports.specs.declared.claims.Answer as code
 use Rattle.sc_reports.proofs.claims.check_claim.Goals as goal
 
-pub problem_of-requires-clause-posed : goal.problem_of-requires-clause-posed
-problem_of-requires-clause-posed g c =
+pub problem_of-requires : goal.problem_of-requires
+problem_of-requires g c =
     let i = c.args.claim.now.asking in
     let env = c.environment_at-env.result.now in
     may-be-posed c.goal_laws.ensures.posed c.goal_laws.ensures.both i.schema env c.in-Ok.query (query-served i c.in-Ok.query c.in-Ok.ensures c.requires.allowed)
     (contains_place (environments i.schema) c.args.claim.now.environment env c.environment_at-env.ensures)
-
-pub problem_of-requires-clause-first_proper : goal.problem_of-requires-clause-first_proper
-problem_of-requires-clause-first_proper g c = query-first c.args.claim.now.asking c.in-Ok.query c.in-Ok.ensures c.requires.allowed
-
-pub problem_of-requires-clause-second_proper : goal.problem_of-requires-clause-second_proper
-problem_of-requires-clause-second_proper g c = query-second c.args.claim.now.asking c.in-Ok.query c.in-Ok.ensures c.requires.allowed
 
 pub check_problem-requires : goal.check_problem-requires
 check_problem-requires g c =

@@ -7,4 +7,4 @@ pub returns-then-count-room-clause-fails : goal.returns-then-count-room-clause-f
 returns-then-count-room-clause-fails g c = piece_long (piece-far (g.F.Files.left c.args.files.now) (g.F.Files.left c.more.new.self) c.in-Ok.piece.items c.args.room.now c.in-Ok.ensures.takes.front (omega arith))
 
 pub returns-in-Err-Failed-clause-fails : goal.returns-in-Err-Failed-clause-fails
-returns-in-Err-Failed-clause-fails g c = piece_unread (search rules)
+returns-in-Err-Failed-clause-fails g c = piece_unread (search rules, search rules)

@@ -8,6 +8,7 @@ invariant-loop-piece g l = record {
   same : SameProblem l.initial.checker l.checker;
   way : IsOnTheWay (g.F.Files.left l.initial.files) l.initial.checker l.checker l.room (g.F.Files.left l.files);
   keeps : (other : List ℕ) → g.F.Files.content l.files other ≡ g.F.Files.content l.initial.files other;
+  stays : g.F.Files.started l.files ≡ g.F.Files.started l.initial.files;
   calm : g.F.Files.faults l.initial.files ≡ g.F.Files.faults l.files;
 }
 

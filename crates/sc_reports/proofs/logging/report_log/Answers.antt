@@ -2,22 +2,16 @@ use Rattle.std.proofs.Common.{slice_get}
 use Rattle.sc_lists.proofs.ListLaws.{contains_place}
 use Rattle.sc_schema.specs.Declarations.{environments}
 use Rattle.sc_reports.specs.Analyses.{asked_in}
-use Rattle.sc_reports.proofs.AnalysisLaws.{may-be-posed, query-first, query-second, query-served}
+use Rattle.sc_reports.proofs.AnalysisLaws.{may-be-posed, query-served}
 use Rattle.sc_reports.proofs.LogLaws.{logged-named}
 use Rattle.sc_reports.proofs.logging.report_log.Goals as goal
 
-pub analyse_env-requires-clause-posed : goal.analyse_env-requires-clause-posed
-analyse_env-requires-clause-posed g c =
+pub analyse_env-requires : goal.analyse_env-requires
+analyse_env-requires g c =
     let i = c.args.inputs.now.analysis.asking in
     let env = c.environment_at-env.result.now in
     may-be-posed c.goal_laws.ensures.posed c.goal_laws.ensures.both i.schema env c.in-Ok.query (query-served i c.in-Ok.query c.in-Ok.ensures c.requires.allowed)
     (contains_place (environments i.schema) c.args.inputs.now.environment env c.environment_at-env.ensures)
-
-pub analyse_env-requires-clause-first_proper : goal.analyse_env-requires-clause-first_proper
-analyse_env-requires-clause-first_proper g c = query-first c.args.inputs.now.analysis.asking c.in-Ok.query c.in-Ok.ensures c.requires.allowed
-
-pub analyse_env-requires-clause-second_proper : goal.analyse_env-requires-clause-second_proper
-analyse_env-requires-clause-second_proper g c = query-second c.args.inputs.now.analysis.asking c.in-Ok.query c.in-Ok.ensures c.requires.allowed
 
 pub returns-in-Ok-analyse_env-clause-reports : goal.returns-in-Ok-analyse_env-clause-reports
 returns-in-Ok-analyse_env-clause-reports g c = λ env at.

@@ -1,19 +1,13 @@
 use Rattle.std.proofs.Common.{◌∙◌}
 use Rattle.sc_reports.specs.Analyses.{asked_in, asked_of}
-use Rattle.sc_reports.proofs.AnalysisLaws.{may-be-posed, query-first, query-second, query-served, query-answered, answer-printable}
+use Rattle.sc_reports.proofs.AnalysisLaws.{may-be-posed, query-served, query-answered, answer-printable}
 use Rattle.sc_reports.proofs.ReportLaws.{env-reported}
 use Rattle.sc_reports.proofs.reporting.report_env.Goals as goal
 
-pub analyse_env-requires-clause-posed : goal.analyse_env-requires-clause-posed
-analyse_env-requires-clause-posed g c =
+pub analyse_env-requires : goal.analyse_env-requires
+analyse_env-requires g c =
     let i = c.args.inputs.now.asking in
     may-be-posed c.goal_laws.ensures.posed c.goal_laws.ensures.both i.schema c.args.env.now c.args.query.now (query-served i c.args.query.now c.requires.asked c.requires.allowed) c.requires.environment
-
-pub analyse_env-requires-clause-first_proper : goal.analyse_env-requires-clause-first_proper
-analyse_env-requires-clause-first_proper g c = query-first c.args.inputs.now.asking c.args.query.now c.requires.asked c.requires.allowed
-
-pub analyse_env-requires-clause-second_proper : goal.analyse_env-requires-clause-second_proper
-analyse_env-requires-clause-second_proper g c = query-second c.args.inputs.now.asking c.args.query.now c.requires.asked c.requires.allowed
 
 pub line_of-requires : goal.line_of-requires
 line_of-requires g c = answer-printable (asked_of c.args.inputs.now.asking.schema c.args.query.now c.args.inputs.now.budget) c.args.env.now c.in-Ok.answer c.in-Ok.ensures.answer

@@ -8,5 +8,5 @@ returns-clause-asked c =
 
 pub returns-clause-allowed : goal.returns-clause-allowed
 returns-clause-allowed c =
-    may_be_asked c.generated_laws.ensures.forward c.generated_laws.ensures.backward c.constant_laws.ensures c.generated_typing_laws.ensures.names c.generated_typing_laws.ensures.types c.args.size c.requires.size
+    may_be_asked c.generated_typing_laws.ensures.names c.generated_typing_laws.ensures.types c.args.size
     c.in_ok-schema.schema c.in_ok-policies.policies c.in_ok-others.others c.in_ok-schema.ensures c.in_ok-policies.ensures c.in_ok-others.ensures

@@ -2,8 +2,8 @@ use Rattle.std.proofs.Common.{◌∙◌, ℕ, refl, subst, sym}
 use Rattle.sc_command.specs.CommandLine.{words_view}
 use Rattle.sc_inputs.specs.Readings.{FailsWith, IsRead, IsReadFault}
 use Rattle.sc_inputs.specs.Refusals.{IsRefusal}
-use Rattle.sc_outside.proofs.CountLaws.{rose_before, stands, told_later}
-use Rattle.sc_outside.specs.Counts.{Rose}
+use Rattle.sc_outside.proofs.CountLaws.{failed_before, stands, told_later}
+use Rattle.sc_outside.specs.Failures.{FailsAt}
 use Rattle.sc_schema.specs.Declarations.{environments}
 use Rattle.sc_run.specs.Runs.{MustBe, generated, reduced, reported, wrote_log}
 use Rattle.sc_inputs.specs.Serving.{checking, logging, reducing, reporting}
@@ -17,7 +17,7 @@ pub report-requires : goal.report-requires
 report-requires g c =
     let i = c.in-Ok-Asked.analysis in
     record {
-      allowed = may-be-asked c.constant_laws.ensures (g.F.Files.content c.args.files.now) (words_view c.args.words.now) i.asking (reporting i.budget) refl
+      allowed = may-be-asked (g.F.Files.content c.args.files.now) (words_view c.args.words.now) i.asking (reporting i.budget) refl
           (subst (IsRead (g.F.Files.content c.args.files.now) (words_view c.args.words.now)) (rw c.in-Ok-Asked.is at c.in-Ok-Asked.field-0-is) (rw c.in-Ok-Asked.is at c.inputs_of-read.ensures.reads));
     }
 
@@ -36,8 +36,8 @@ returns-in-Ok-Replayed-clause-ends g c =
 
 pub returns-in-Err-Told-clause-ends : goal.returns-in-Err-Told-clause-ends
 returns-in-Err-Told-clause-ends g c =
-    let rose = Rose (g.F.Files.faults c.args.files.now) (g.F.Files.faults c.inputs_of-read.new.files) in
-    let fails = FailsWith (IsRefusal (g.F.Files.content c.args.files.now) (words_view c.args.words.now) rose) in
+    let failed = FailsAt g.F.Files c.args.files.now c.inputs_of-read.new.files in
+    let fails = FailsWith (IsRefusal (g.F.Files.content c.args.files.now) (words_view c.args.words.now) failed) in
     refusal-ends _ _ _ c.refuse.result
     (subst fails (rw c.in-Err-Told.is at c.in-Err-Told.field-0-is) (rw c.in-Err-Told.is at c.inputs_of-read.ensures.fails))
     c.refuse.ensures.refuses c.without_logs-in-Err-Told.ensures.code c.without_logs-in-Err-Told.ensures.spent
@@ -54,7 +54,7 @@ report_log-requires-clause-environment g c =
 pub report_log-requires-clause-allowed : goal.report_log-requires-clause-allowed
 report_log-requires-clause-allowed g c =
     let i = c.in-Ok-Logged.logging in
-    may-be-asked c.constant_laws.ensures (g.F.Files.content c.args.files.now) (words_view c.args.words.now) i.analysis.asking (logging i.analysis.budget i.environment) refl
+    may-be-asked (g.F.Files.content c.args.files.now) (words_view c.args.words.now) i.analysis.asking (logging i.analysis.budget i.environment) refl
     (subst (IsRead (g.F.Files.content c.args.files.now) (words_view c.args.words.now)) (rw c.in-Ok-Logged.is at c.in-Ok-Logged.field-0-is) (rw c.in-Ok-Logged.is at c.inputs_of-read.ensures.reads))
 
 pub returns-in-Ok-Logged-clause-ends : goal.returns-in-Ok-Logged-clause-ends
@@ -72,7 +72,7 @@ check-requires-clause-environment g c =
 pub check-requires-clause-allowed : goal.check-requires-clause-allowed
 check-requires-clause-allowed g c =
     let i = c.in-Ok-Checked.claim in
-    may-be-asked c.constant_laws.ensures (g.F.Files.content c.args.files.now) (words_view c.args.words.now) i.asking (checking i.environment i.log.now) refl
+    may-be-asked (g.F.Files.content c.args.files.now) (words_view c.args.words.now) i.asking (checking i.environment i.log.now) refl
     (subst (IsRead (g.F.Files.content c.args.files.now) (words_view c.args.words.now)) (rw c.in-Ok-Checked.is at c.in-Ok-Checked.field-0-is) (rw c.in-Ok-Checked.is at c.inputs_of-read.ensures.reads))
 
 pub returns-in-Ok-Checked-clause-ends : goal.returns-in-Ok-Checked-clause-ends
@@ -81,8 +81,8 @@ returns-in-Ok-Checked-clause-ends g c =
     let i = c.in-Ok-Checked.claim in
     let reads = subst (IsRead (g.F.Files.content c.args.files.now) (words_view c.args.words.now)) (rw c.in-Ok-Checked.is at c.in-Ok-Checked.field-0-is) (rw c.in-Ok-Checked.is at c.inputs_of-read.ensures.reads) in
     let here = found-at (environments i.asking.schema) i.environment reads.reached.environment in
-    claim-ends _ _ i here.0 (g.F.Files.content c.inputs_of-read.new.files) (Rose (faults c.inputs_of-read.new.files) (faults c.check.new.files)) c.check.result reads here.1 c.inputs_of-read.ensures.keeps
-    (rose_before (faults c.args.files.now) (faults c.inputs_of-read.new.files) (faults c.check.new.files) c.inputs_of-read.ensures.later)
+    claim-ends _ _ i here.0 (g.F.Files.content c.inputs_of-read.new.files) (FailsAt g.F.Files c.inputs_of-read.new.files c.check.new.files) c.check.result reads here.1 c.inputs_of-read.ensures.keeps
+    (failed_before (faults c.args.files.now) (faults c.inputs_of-read.new.files) (faults c.check.new.files) (g.F.Files.failed c.check.new.files) c.inputs_of-read.ensures.later)
     (c.check.ensures.checks here.0 here.1) c.without_logs.ensures.code c.without_logs.ensures.spent
 
 pub returns-in-Ok-Checked-clause-read_told : goal.returns-in-Ok-Checked-clause-read_told
@@ -99,7 +99,7 @@ pub report_reduction-requires : goal.report_reduction-requires
 report_reduction-requires g c =
     let i = c.in-Ok-Reduced.analysis in
     record {
-      allowed = reducible c.constant_laws.ensures (g.F.Files.content c.args.files.now) (words_view c.args.words.now) i.asking (reducing i.budget)
+      allowed = reducible (g.F.Files.content c.args.files.now) (words_view c.args.words.now) i.asking (reducing i.budget)
           (subst (IsRead (g.F.Files.content c.args.files.now) (words_view c.args.words.now)) (rw c.in-Ok-Reduced.is at c.in-Ok-Reduced.field-0-is) (rw c.in-Ok-Reduced.is at c.inputs_of-read.ensures.reads));
     }
 

@@ -1,4 +1,4 @@
-use Rattle.sc_run.proofs.StatusLaws.{all-well, all-hold, well-formed, some-fails, some-left, set-is-reduced, generated-held, generated-is-open, generated-status, logged, is-broken, no-command, is-faulty-schema, is-faulty, is-faulty-world, is-untyped, read-rose, write-rose, is-too-long, is-misplaced, is-rejected, log-is-accepted, log-is-written}
+use Rattle.sc_run.proofs.StatusLaws.{all-well, all-hold, well-formed, some-fails, some-left, set-is-reduced, generated-held, generated-is-open, generated-status, logged, is-broken, no-command, is-faulty-schema, is-faulty, is-faulty-world, is-untyped, write-rose, is-too-long, is-misplaced, is-rejected, log-is-accepted, log-is-written, is-unread}
 use Rattle.sc_run.proofs.DeterminedLaws.{complete, complete-replay, unusable, schema-is-long, schema-is-faulty, policies-are-long, against-is-long, against-is-faulty, policies-are-faulty, world-is-long, world-is-faulty, names-are-unknown, policies-are-untyped, place-is-missing, log-is-long, right-log, wrong-log}
 use Rattle.sc_run.proofs.GenerationLaws.{never_violated}
 use Rattle.sc_run.proofs.running.run.Goals as goal
@@ -45,7 +45,7 @@ returns g c = record {
   untyped = is-untyped _ _ c.ends.ensures.ends;
   misplaced = is-misplaced _ _ c.ends.ensures.ends;
   world_fault = is-faulty-world _ _ c.ends.ensures.ends;
-  read_fault = read-rose _ _ c.ends.ensures.ends;
+  read_fault = is-unread _ _ c.ends.ensures.ends;
   write_fault = write-rose _ _ c.ends.ensures.ends;
   too_long = is-too-long _ _ c.ends.ensures.ends;
 }

@@ -19,6 +19,7 @@ returns-clause-terms c = expression_terms c.derivation_laws.ensures.literal c.de
   bit = c.made_laws.ensures.bit;
   like = c.made_laws.ensures.like;
   all = c.made_laws.ensures.all;
+  address = c.eval_laws.ensures.address;
 })
 
 pub returns-clause-policies : goal.returns-clause-policies
@@ -38,4 +39,5 @@ returns-clause-policy_terms c = policy_is_terms c.derivation_laws.ensures.litera
   bit = c.made_laws.ensures.bit;
   like = c.made_laws.ensures.like;
   all = c.made_laws.ensures.all;
+  address = c.eval_laws.ensures.address;
 })

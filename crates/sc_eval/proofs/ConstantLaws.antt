@@ -1,7 +1,6 @@
 -- The constants of an expression are proper where those of its parts are.
 use Rattle.std.proofs.Common.{◌≡◌, ℕ, List, [], ◌∷◌, ◌++◌, map, flat_map, sym, subst}
 use Rattle.std.specs.List.{AllByRecursion}
-use Rattle.std.specs.Str.{IsUtf8}
 use Rattle.sc_lists.proofs.ListLaws.{all_append}
 use Rattle.sc_pattern.specs.declared.part.Part.{Part}
 use Rattle.sc_values.specs.declared.value.Value.{Value}
@@ -19,12 +18,7 @@ use Rattle.sc_ast.specs.declared.operator.BinaryOperator.{BinaryOperator}
 use Rattle.sc_ast.specs.declared.operator.UnaryOperator.{UnaryOperator}
 use Rattle.sc_ast.specs.declared.place.Place.{Place}
 use Rattle.sc_eval.specs.Operators.{literal_value}
-use Rattle.sc_eval.specs.Written.{constants_step, constants, HasProperConstants}
-
--- a field with a name of scalar values, whose expression has proper constants
-pub record IsProperField (f : List ℕ × Expr) : Type 0 where
-  pub name : IsUtf8 f.0
-  pub constants : HasProperConstants f.1
+use Rattle.sc_eval.specs.Written.{constants_step, constants, HasProperConstants, HasTextName}
 
 by_layer : (x : Expr) (y : Expr-F Expr) → roll-Expr y ≡ x → AllByRecursion IsProper (constants_step (map-Expr Expr (List Value) constants y)) → HasProperConstants x
 unfolding constants
@@ -76,9 +70,10 @@ members (x ∷ xs) h = all_append IsProper (constants x) _ h.0 (members xs h.1)
 pub proper_Set : (place : Place) (xs : List Expr) → AllByRecursion HasProperConstants xs → HasProperConstants (expr.Set place xs)
 proper_Set place xs h = by_layer (expr.Set place xs) (layer.Set place xs) (rolls-Set place xs) (members xs h)
 
-entries : (fs : List (List ℕ × Expr)) → AllByRecursion IsProperField fs → AllByRecursion IsProper (flat_map (λ (f : List ℕ × List Value). value.String f.0 ∷ f.1) (map (λ (f : List ℕ × Expr). (f.0, constants f.1)) fs))
-entries [] h = tt
-entries (f ∷ fs) h = ((in_String IsProperLevel f.0).1 h.0.name, all_append IsProper (constants f.1) _ h.0.constants (entries fs h.1))
+entries : (fs : List (List ℕ × Expr)) → AllByRecursion HasTextName fs → AllByRecursion (λ (f : List ℕ × Expr). HasProperConstants f.1) fs → AllByRecursion IsProper (flat_map (λ (f : List ℕ × List Value). value.String f.0 ∷ f.1) (map (λ (f : List ℕ × Expr). (f.0, constants f.1)) fs))
+unfolding HasTextName
+entries [] h k = tt
+entries (f ∷ fs) h k = ((in_String IsProperLevel f.0).1 h.0, all_append IsProper (constants f.1) _ k.0 (entries fs h.1 k.1))
 
-pub proper_Record : (place : Place) (fs : List (List ℕ × Expr)) → AllByRecursion IsProperField fs → HasProperConstants (expr.Record place fs)
-proper_Record place fs h = by_layer (expr.Record place fs) (layer.Record place fs) (rolls-Record place fs) (entries fs h)
+pub proper_Record : (place : Place) (fs : List (List ℕ × Expr)) → AllByRecursion HasTextName fs → AllByRecursion (λ (f : List ℕ × Expr). HasProperConstants f.1) fs → HasProperConstants (expr.Record place fs)
+proper_Record place fs h k = by_layer (expr.Record place fs) (layer.Record place fs) (rolls-Record place fs) (entries fs h k)
